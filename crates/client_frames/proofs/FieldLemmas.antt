@@ -1,0 +1,114 @@
+-- Cutting the first field off a text.
+use Rattle.std.proofs.Common.{◌≡◌, ℕ, suc, ◌+◌, ◌≤◌, ◌<◌, Bool, true, false, not, cond, List, [], ◌∷◌, length, take, drop, refl, ap, sym, ◌∙◌, arith, subst, take_all, Option, Some, None}
+use Rattle.std.specs.Prelude.{filter, position, nat_lt}
+use Rattle.std.specs.List.{slice_split, onto_first, position_or_len}
+use Rattle.std.proofs.lemmas.Bool.Decides.{nat_tests}
+use Rattle.std.proofs.Math.Numerals.{one-add}
+use Rattle.std.proofs.lemmas.List.{drop_all}
+use Rattle.subj.specs.Names.{is_empty}
+use Rattle.client_frames.specs.Fields.{is_blank, is_field_byte, fields, begins_with_blank}
+
+-- ---- where the first passes
+
+pub not_below : (a b : ℕ) → cond (nat_lt a b) (Some a) None ≡ None → b ≤ a
+not_below a b e = grind (arith, nat_tests)
+
+below : (a b i : ℕ) → cond (nat_lt a b) (Some a) None ≡ Some i → (i < b) × (a ≡ i)
+below a b i e = grind (arith, nat_tests)
+
+pub position-below : (p : ℕ → Bool) (xs : List ℕ) (i : ℕ) → position p xs ≡ Some i → (i < length xs) × (position_or_len p xs ≡ i)
+position-below p xs i e = below (position_or_len p xs) (length xs) i e
+
+-- ---- the pieces that are fields
+
+abbrev pub kept : List (List ℕ) → List (List ℕ)
+kept pieces = filter (λ piece. not (is_empty piece)) pieces
+
+-- blanks in front make no field
+pub skip : (text : List ℕ) → fields text ≡ fields (drop (position_or_len is_field_byte text) text)
+skip [] = refl
+skip (x ∷ xs) =
+    (elim (is_blank x) as (λ b. is_blank x ≡ b → kept (cond b ([] ∷ slice_split is_blank xs) (onto_first x (slice_split is_blank xs)))
+    ≡ kept (slice_split is_blank (drop (cond (not (not b)) (1 + position_or_len is_field_byte xs) 0) (x ∷ xs)))) [
+      | true ↦ λ e. skip xs ∙ sym (ap (λ n. fields (drop n (x ∷ xs))) (one-add (position_or_len is_field_byte xs)))
+      | false ↦ λ e. sym (ap (λ b. kept (cond b ([] ∷ slice_split is_blank xs) (onto_first x (slice_split is_blank xs)))) e)
+    ]) refl
+
+-- the first piece, and what the others are the fields of
+record Splits (text : List ℕ) (end : ℕ) : Type 0 where
+  rest : List (List ℕ)
+  is : slice_split is_blank text ≡ take end text ∷ rest
+  others : kept rest ≡ fields (drop end text)
+
+splits_on : (x : ℕ) (xs : List ℕ) (b : Bool) → is_blank x ≡ b → Splits xs (position_or_len is_blank xs) → Splits (x ∷ xs) (cond (not b) (1 + position_or_len is_blank xs) 0)
+splits_on x xs true e behind = record {
+  rest = slice_split is_blank xs;
+  is = ap (λ b. cond b ([] ∷ slice_split is_blank xs) (onto_first x (slice_split is_blank xs))) e;
+  others = sym (ap (λ b. kept (cond b ([] ∷ slice_split is_blank xs) (onto_first x (slice_split is_blank xs)))) e);
+}
+splits_on x xs false e behind =
+    let n = position_or_len is_blank xs in record {
+      rest = behind.rest;
+      is = ap (λ b. cond b ([] ∷ slice_split is_blank xs) (onto_first x (slice_split is_blank xs))) e ∙ ap (onto_first x) behind.is ∙ sym (ap (λ k. take k (x ∷ xs) ∷ behind.rest) (one-add n));
+      others = behind.others ∙ sym (ap (λ k. fields (drop k (x ∷ xs))) (one-add n));
+    }
+
+splits : (text : List ℕ) → Splits text (position_or_len is_blank text)
+splits [] = record { rest = []; is = refl; others = refl }
+splits (x ∷ xs) = splits_on x xs (is_blank x) refl (splits xs)
+
+-- a text that begins with no blank begins with a field
+pub record BeginsField (text : List ℕ) : Type 0 where
+  pub head : ℕ
+  pub tail : List ℕ
+  pub is : text ≡ head ∷ tail
+  pub other : is_blank head ≡ false
+
+starts_on : (x : ℕ) (xs : List ℕ) (b : Bool) → is_blank x ≡ b → (position_or_len is_field_byte xs < length xs → BeginsField (drop (position_or_len is_field_byte xs) xs)) → cond (not (not b)) (1 + position_or_len is_field_byte xs) 0 < suc (length xs) → BeginsField (drop (cond (not (not b)) (1 + position_or_len is_field_byte xs) 0) (x ∷ xs))
+starts_on x xs true e behind l =
+    let n = position_or_len is_field_byte xs in
+    let P : ℕ → Type 0 = λ k. BeginsField (drop k (x ∷ xs)) in
+    subst P (sym (one-add n)) (behind (omega arith))
+starts_on x xs false e behind l = record { head = x; tail = xs; is = refl; other = e }
+
+pub starts : (text : List ℕ) → position_or_len is_field_byte text < length text → BeginsField (drop (position_or_len is_field_byte text) text)
+starts [] l = absurd (omega arith)
+starts (x ∷ xs) l = starts_on x xs (is_blank x) refl (starts xs) l
+
+-- the piece in front is a field
+fields_on : (x : ℕ) (xs : List ℕ) → is_blank x ≡ false → fields (x ∷ xs) ≡ take (position_or_len is_blank (x ∷ xs)) (x ∷ xs) ∷ fields (drop (position_or_len is_blank (x ∷ xs)) (x ∷ xs))
+fields_on x xs e =
+    let n = position_or_len is_blank xs in
+    let at : position_or_len is_blank (x ∷ xs) ≡ suc n = ap (λ b. cond (not b) (1 + n) 0) e ∙ one-add n in
+    let parts = splits (x ∷ xs) in
+    let P : ℕ → Type 0 = λ k. kept (take k (x ∷ xs) ∷ parts.rest) ≡ take k (x ∷ xs) ∷ kept parts.rest in
+    ap kept parts.is ∙ subst P (sym at) refl ∙ ap (λ others. take (position_or_len is_blank (x ∷ xs)) (x ∷ xs) ∷ others) parts.others
+
+pub in_front : (text : List ℕ) → BeginsField text → fields text ≡ take (position_or_len is_blank text) text ∷ fields (drop (position_or_len is_blank text) text)
+in_front text begins =
+    let P : List ℕ → Type 0 = λ t. fields t ≡ take (position_or_len is_blank t) t ∷ fields (drop (position_or_len is_blank t) t) in
+    subst P (sym begins.is) (fields_on begins.head begins.tail begins.other)
+
+-- ---- as the code cuts
+
+pub no_field : (text : List ℕ) → position is_field_byte text ≡ None → fields text ≡ []
+no_field text none = skip text ∙ ap fields (drop_all _ text (not_below _ _ none))
+
+-- what begins with a field, once the blanks in front are cut off
+rest_begins : (text rest : List ℕ) (start : ℕ) → position is_field_byte text ≡ Some start → rest ≡ drop start text → BeginsField rest × (fields text ≡ fields rest)
+rest_begins text rest start found is =
+    let at = position-below is_field_byte text start found in
+    let same : drop (position_or_len is_field_byte text) text ≡ rest = ap (λ n. drop n text) at.1 ∙ sym is in
+    (subst BeginsField same (starts text (omega arith)), skip text ∙ ap fields same)
+
+pub last_field : (text rest : List ℕ) (start : ℕ) → position is_field_byte text ≡ Some start → rest ≡ drop start text → position is_blank rest ≡ None → fields text ≡ rest ∷ []
+last_field text rest start found is none =
+    let begins = rest_begins text rest start found is in
+    let past = not_below (position_or_len is_blank rest) (length rest) none in
+    begins.1 ∙ in_front rest begins.0 ∙ ap (λ t. t ∷ fields (drop (position_or_len is_blank rest) rest)) (take_all _ rest past) ∙ ap (λ t. rest ∷ fields t) (drop_all _ rest past)
+
+pub first_field : (text rest front behind : List ℕ) (start end : ℕ) → position is_field_byte text ≡ Some start → rest ≡ drop start text → position is_blank rest ≡ Some end → front ≡ take end rest → behind ≡ drop end rest → fields text ≡ front ∷ fields behind
+first_field text rest front behind start end found is some front_is behind_is =
+    let begins = rest_begins text rest start found is in
+    let at = position-below is_blank rest end some in
+    begins.1 ∙ in_front rest begins.0 ∙ ap (λ n. take n rest ∷ fields (drop n rest)) at.1 ∙ ap (λ t. t ∷ fields (drop end rest)) (sym front_is) ∙ ap (λ t. front ∷ fields t) (sym behind_is)

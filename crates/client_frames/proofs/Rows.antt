@@ -1,0 +1,57 @@
+-- What the definition of stream commands says of whole streams: the wanted items were worked out by hand.
+use Rattle.std.proofs.Common.{◌≡◌, ℕ, List, [], ◌∷◌, ◌++◌, refl, Option, None, Some}
+use Rattle.std.specs.Prelude.{codes}
+use Rattle.wire_cut.specs.Cut.{first_cr_lf}
+use Rattle.wire_cut.specs.declared.fault.CutFault.TheVariants.{PayloadTooLong, NoCrLfAfterPayload}
+use Rattle.client_frames.specs.declared.client_line.ClientLine.{ClientLine}
+use Rattle.client_frames.specs.declared.client_line.ClientLine.TheVariants.{Sub, Ping}
+use Rattle.client_frames.specs.declared.client_line.PubHead.{PubHead}
+use Rattle.client_frames.specs.declared.faults.LineFault.TheVariants.{UnknownOp, BadArgs, BadSubject}
+use Rattle.client_frames.specs.Streams.{StreamItem, asked, published, refused, unreadable, reading_within, stream_commands}
+
+abbrev head : List ℕ → Option (List ℕ) → ℕ → PubHead
+head subject reply size = record { subject = subject; reply = reply; size = size }
+
+-- a subscription and a publication
+first_message : stream_commands (codes "SUB foo 1\r\nPUB foo 5\r\nhello\r\n") ≡ asked (Sub (codes "foo") None (codes "1")) ∷ published (head (codes "foo") None 5) (codes "hello") ∷ []
+unfolding reading_within first_cr_lf
+first_message = refl
+
+-- a bad subject is told behind its payload, and the stream goes on
+bad_subject : stream_commands (codes "PUB foo.* 1\r\nx\r\nPING\r\nSUB foo. 9\r\nPING\r\n") ≡ refused BadSubject ∷ asked Ping ∷ refused BadSubject ∷ asked Ping ∷ []
+unfolding reading_within first_cr_lf
+bad_subject = refl
+
+-- no CR LF behind a payload, which comes before its bad subject
+no_cr_lf : stream_commands (codes "PUB foo.* 1\r\nxXXPING\r\n") ≡ unreadable NoCrLfAfterPayload ∷ []
+unfolding reading_within first_cr_lf
+no_cr_lf = refl
+
+-- a size above the limit is told at once, and also of a bad subject
+above_the_limit : stream_commands (codes "PING\r\nPUB foo. 1048577\r\n") ≡ asked Ping ∷ unreadable PayloadTooLong ∷ []
+unfolding reading_within first_cr_lf
+above_the_limit = refl
+
+-- nothing is read behind a refusal that closes
+closed : stream_commands (codes "FOO\r\nPING\r\n") ≡ refused UnknownOp ∷ []
+unfolding reading_within first_cr_lf
+closed = refl
+
+bad_size : stream_commands (codes "PUB foo.* 1x\r\nPING\r\n") ≡ refused BadArgs ∷ []
+unfolding reading_within first_cr_lf
+bad_size = refl
+
+-- what is no whole frame tells nothing
+unfinished : stream_commands (codes "PUB foo r 5\r\nhel") ≡ []
+unfolding reading_within first_cr_lf
+unfinished = refl
+
+-- a payload may hold lines
+lines_in_payload : stream_commands (codes "PUB foo r 6\r\nPING\r\n\r\nPING\r") ≡ published (head (codes "foo") (Some (codes "r")) 6) (codes "PING\r\n") ∷ []
+unfolding reading_within first_cr_lf
+lines_in_payload = refl
+
+-- an empty line
+empty_line : stream_commands (codes "\r\n") ≡ refused UnknownOp ∷ []
+unfolding reading_within first_cr_lf
+empty_line = refl

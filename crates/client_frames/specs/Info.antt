@@ -1,0 +1,30 @@
+-- What a server tells of itself.
+use Rattle.std.specs.Prelude.{ℕ, false, List, ◌++◌, codes, decimal}
+use Rattle.serde_json.specs.Data.{Data, Members, number, unsigned, string, boolean, object, member, no_members}
+use Rattle.serde_json.specs.Written.{compact_text}
+use Rattle.subj.specs.declared.limits.TheConstants.{MAX_PAYLOAD}
+use Rattle.client_frames.specs.declared.info.InfoData.{InfoData}
+
+-- the server's name, `-`, its incarnation (profile)
+abbrev pub server_id : InfoData → List ℕ
+server_id info = info.name ++ (codes "-" ++ decimal info.inc)
+
+abbrev pub counted : ℕ → Data
+counted n = number (unsigned n)
+
+-- NATS documentation, "Client Protocol", "INFO"; the keys stand in the order of their bytes (profile)
+abbrev pub info_data : InfoData → Data
+info_data info = object (
+    member (codes "client_id") (counted info.client_id) (
+    member (codes "headers") (boolean false) (
+    member (codes "host") (string (codes "127.0.0.1")) (
+    member (codes "max_payload") (counted MAX_PAYLOAD) (
+    member (codes "port") (counted info.port) (
+    member (codes "proto") (counted 1) (
+    member (codes "server_id") (string (server_id info)) (
+    member (codes "server_name") (string info.name) (
+    member (codes "version") (string (codes "1.0.0")) no_members)))))))))
+
+-- as JSON without a blank
+abbrev pub info_json : InfoData → List ℕ
+info_json info = compact_text (info_data info)

@@ -1,0 +1,10 @@
+pub mod Fields
+pub mod Operations
+pub mod Lines
+pub mod Faults
+pub mod ErrTexts
+pub mod Info
+pub mod Messages
+pub mod Frames
+pub mod Streams
+pub mod Spelling

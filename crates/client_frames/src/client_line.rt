@@ -1,0 +1,50 @@
+//! What a control line of a client asks for.
+
+use subj::{Pattern, QueueName, Reply, Sid, Subject};
+
+/// What a client has chosen for its connection. (NATS documentation, "Client Protocol": `CONNECT`.)
+#[derive(Clone, Copy, Debug, PartialEq, Eq)]
+pub struct Options {
+    /// Whether each well-formed command is answered by `+OK`.
+    pub verbose: bool,
+    /// Whether the client's own publications are delivered to its own subscriptions.
+    pub echo: bool,
+}
+
+/// The line of a publication, whose payload follows.
+#[derive(Debug, Drop)]
+pub struct PubHead {
+    pub subject: Subject,
+    pub reply: Option<Reply>,
+    /// The bytes of the payload, up to ten digits; it may be above the limit of a payload.
+    pub size: u64,
+}
+
+/// What a control line asks for. (NATS documentation, "Client Protocol".)
+#[derive(Debug, Drop)]
+pub enum ClientLine {
+    /// `CONNECT`, which no line is read as yet.
+    Connect(Options),
+    /// `PUB`, whose payload follows.
+    Pub(PubHead),
+    /// `PUB` with a bad subject or reply: its payload follows too and is dropped, and then
+    /// `BadSubject` is answered. (Profile.)
+    PubBad {
+        size: u64,
+    },
+    /// `SUB`; none with the name of a queue group is read yet.
+    Sub {
+        pattern: Pattern,
+        queue: Option<QueueName>,
+        sid: Sid,
+    },
+    /// `UNSUB`, which no line is read as yet.
+    Unsub {
+        sid: Sid,
+        max: Option<u64>,
+    },
+    /// `PING`, which `PONG` answers.
+    Ping,
+    /// `PONG`, which nothing answers.
+    Pong,
+}

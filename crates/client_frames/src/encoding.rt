@@ -1,0 +1,77 @@
+//! Writing what a server sends.
+
+ghost use Rattle.std.specs.Prelude.{◌≡◌, ◌+◌, ◌≤◌, ◌++◌, length, is_ok, vec_len, vec_capacity, if◌then◌else◌, IfOk};
+ghost use Rattle.client_frames.specs.Frames.{frame_bytes, reply_line as line_of_reply};
+ghost use Rattle.client_frames.specs.declared.server_frames.ServerFrame.TheVariants.{Reply, Msg};
+
+use crate::info::info_text;
+use crate::message_lines::message_line;
+use crate::server_frames::{Delivery, ReplyFrame, ServerFrame};
+use std::alloc::{AllocError, Global};
+
+const CR_LF: &[u8] = b"\r\n";
+
+/// The line of an answer, without its CR LF.
+pub fn reply_line(alloc: Global, reply: &ReplyFrame) -> Result<Vec<u8>, AllocError>
+    ensures { IfOk result (λ line. line.items ≡ line_of_reply reply.now) }
+{
+    match reply {
+        ReplyFrame::Info(info) => {
+            let text = info_text(alloc, info)?;
+            let mut line = Vec::from_slice(alloc, b"INFO ")?;
+            line.extend_from_slice(text.as_bytes())?;
+            Ok(line)
+        }
+        ReplyFrame::Pong => Vec::from_slice(alloc, b"PONG"),
+        ReplyFrame::Ok => Vec::from_slice(alloc, b"+OK"),
+        ReplyFrame::Err(text) => Vec::from_slice(alloc, text.line()),
+    }
+}
+
+/// Appends bytes for which there is room.
+fn append_reserved(out: &mut Vec<u8>, bytes: &[u8])
+    requires { vec_len out.old + length bytes.now ≤ vec_capacity out.old }
+    ensures items { out.new.items ≡ out.old.items ++ bytes.now }
+    ensures len { vec_len out.new ≡ vec_len out.old + length bytes.now }
+    ensures capacity { vec_capacity out.old ≤ vec_capacity out.new }
+{
+    let appended = out.extend_from_slice(bytes);
+    prove!(appended.is_ok());
+}
+
+fn encode_reply(reply: &ReplyFrame, out: &mut Vec<u8>) -> Result<(), AllocError>
+    ensures { out.new.items
+        ≡ (if is_ok result then out.old.items ++ frame_bytes (Reply reply.now) else out.old.items) }
+{
+    let line = reply_line(*out.allocator(), reply)?;
+    out.reserve(line.len() + CR_LF.len())?;
+    append_reserved(out, &line);
+    append_reserved(out, CR_LF);
+    Ok(())
+}
+
+fn encode_delivery(delivery: &Delivery, out: &mut Vec<u8>) -> Result<(), AllocError>
+    ensures { out.new.items
+        ≡ (if is_ok result then out.old.items ++ frame_bytes (Msg delivery.now) else out.old.items) }
+{
+    let line = message_line(*out.allocator(), &delivery.message, &delivery.sid)?;
+    let payload = delivery.message.payload().as_slice();
+    out.reserve(line.len() + CR_LF.len() + payload.len() + CR_LF.len())?;
+    append_reserved(out, &line);
+    append_reserved(out, CR_LF);
+    append_reserved(out, payload);
+    append_reserved(out, CR_LF);
+    Ok(())
+}
+
+/// Appends what a server sends, in the form of the client protocol. After want of memory the bytes
+/// are as they were.
+pub fn encode(frame: &ServerFrame, out: &mut Vec<u8>) -> Result<(), AllocError>
+    ensures { out.new.items
+        ≡ (if is_ok result then out.old.items ++ frame_bytes frame.now else out.old.items) }
+{
+    match frame {
+        ServerFrame::Reply(reply) => encode_reply(reply, out),
+        ServerFrame::Msg(delivery) => encode_delivery(delivery, out),
+    }
+}

@@ -1,0 +1,26 @@
+//! Why a line is refused.
+
+ghost use Rattle.std.specs.Prelude.{◌≡◌};
+ghost use Rattle.client_frames.specs.Faults.{line_fault_number};
+
+/// Why a control line of a client is refused. (Profile.)
+#[derive(Clone, Copy, Debug, PartialEq, Eq)]
+pub enum LineFault {
+    /// The line is empty or begins with a blank, or its first field is no operation.
+    UnknownOp = 20,
+    /// Too few or too many fields, or a size, a subscription id or the name of a queue group that is none.
+    BadArgs = 21,
+    /// The text of a `CONNECT` is no JSON object, or one of its members is of another kind.
+    BadJson = 22,
+    /// The pattern of a `SUB` is none, or the subject or the reply of a `PUB`.
+    BadSubject = 23,
+}
+
+impl LineFault {
+    /// The number that the router tells of this refusal, 20 to 23.
+    pub fn number(self) -> u16
+        ensures { result ≡ line_fault_number self }
+    {
+        self as u16
+    }
+}

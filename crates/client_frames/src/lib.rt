@@ -1,0 +1,27 @@
+//! What clients and a server say to each other: lines are read, and replies and messages written.
+#![tactic(auto)]
+
+mod client_line;
+mod decoding;
+mod digits;
+mod encoding;
+mod err_texts;
+mod faults;
+mod fields;
+mod info;
+mod laws;
+mod message_lines;
+mod operation;
+mod server_frames;
+#[cfg(test)]
+mod tests;
+
+pub use client_line::{ClientLine, Options, PubHead};
+pub use decoding::decode_line;
+pub use encoding::{encode, reply_line};
+pub use err_texts::ErrText;
+pub use faults::LineFault;
+pub use info::{InfoData, info_text};
+pub use laws::{line_has_one_meaning, stream_is_read_in_parts};
+pub use message_lines::{MAX_MESSAGE_LINE, MessageLines, message_line};
+pub use server_frames::{Delivery, ReplyFrame, ServerFrame};

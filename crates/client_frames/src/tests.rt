@@ -1,0 +1,414 @@
+//! Lines and frames whose meaning and bytes were worked out by hand from the client protocol.
+
+use crate::{
+    ClientLine, Delivery, ErrText, InfoData, LineFault, MessageLines, ReplyFrame, ServerFrame,
+    decode_line, encode, info_text, message_line, reply_line,
+};
+use bytes::Bytes;
+use std::alloc::{AllocError, Global};
+use std::test::Fail;
+use subj::{ConnId, Failure, Incarnation, Message, NodeId, Sid, Subject};
+use wire_cut::CutFault;
+
+fn joined(alloc: Global, words: &[&[u8]]) -> Result<Vec<u8>, AllocError> {
+    let mut text = Vec::new(alloc);
+    for word in words {
+        if !text.is_empty() {
+            text.extend_from_slice(b" ")?;
+        }
+        text.extend_from_slice(word)?;
+    }
+    Ok(text)
+}
+
+/// What a line means, in words: a bar stands where there is no reply or queue name.
+fn told(alloc: Global, line: &[u8]) -> Result<Vec<u8>, AllocError> {
+    match decode_line(alloc, line) {
+        Ok(ClientLine::Pub(head)) => {
+            let reply = match &head.reply {
+                None => b"|",
+                Some(reply) => reply.bytes(),
+            };
+            let size = head.size.to_string(alloc)?;
+            joined(
+                alloc,
+                &[b"pub", head.subject.bytes(), reply, size.as_bytes()],
+            )
+        }
+        Ok(ClientLine::PubBad { size }) => {
+            let size = size.to_string(alloc)?;
+            joined(alloc, &[b"bad", size.as_bytes()])
+        }
+        Ok(
+            ClientLine::Sub {
+                pattern,
+                queue,
+                sid,
+            },
+        ) => {
+            let queue = match &queue {
+                None => b"|",
+                Some(name) => name.bytes(),
+            };
+            joined(alloc, &[b"sub", pattern.bytes(), queue, sid.bytes()])
+        }
+        Ok(ClientLine::Ping) => joined(alloc, &[b"ping"]),
+        Ok(ClientLine::Pong) => joined(alloc, &[b"pong"]),
+        Ok(ClientLine::Connect(_)) => joined(alloc, &[b"connect"]),
+        Ok(ClientLine::Unsub { .. }) => joined(alloc, &[b"unsub"]),
+        Err(Failure::Refused(fault)) => {
+            let number = fault.number().to_string(alloc)?;
+            joined(alloc, &[b"refused", number.as_bytes()])
+        }
+        Err(Failure::OutOfMemory) => Err(AllocError),
+    }
+}
+
+static COMMANDS: [(&[u8], &[u8]); 33] = [
+    (b"SUB foo 1", b"sub foo | 1"),
+    (b"sub\tfoo  7", b"sub foo | 7"),
+    (b"SuB \t foo\t \t1 \t", b"sub foo | 1"),
+    (b"SUB foo.* 1", b"sub foo.* | 1"),
+    (b"SUB > *", b"sub > | *"),
+    (b"SUB fo* a.b", b"sub fo* | a.b"),
+    (b"SUB \xc3\xa9\xff\x80 \xff", b"sub \xc3\xa9\xff\x80 | \xff"),
+    (b"SUB \x01 \x7f", b"sub \x01 | \x7f"),
+    (b"PUB foo 5", b"pub foo | 5"),
+    (b"PUB foo bar 5", b"pub foo bar 5"),
+    (b"pUb\tfoo\t\t5\t\t", b"pub foo | 5"),
+    (b"PUB foo 0", b"pub foo | 0"),
+    (b"PUB foo 0000000005", b"pub foo | 5"),
+    (b"PUB foo 1048576", b"pub foo | 1048576"),
+    (b"PUB foo 1048577", b"pub foo | 1048577"),
+    (b"PUB foo 9999999999", b"pub foo | 9999999999"),
+    (b"PUB \xfe 1", b"pub \xfe | 1"),
+    (b"PUB 1 2 3", b"pub 1 2 3"),
+    (b"PUB foo.* 1", b"bad 1"),
+    (b"PUB > 12", b"bad 12"),
+    (b"PUB foo. 1", b"bad 1"),
+    (b"PUB a..b 0", b"bad 0"),
+    (b"PUB a\x00b 9999999999", b"bad 9999999999"),
+    (b"PUB a\rb 1", b"bad 1"),
+    (b"PUB a\nb 1", b"bad 1"),
+    (b"PUB foo *.a 3", b"bad 3"),
+    (b"PUB foo a..b 3", b"bad 3"),
+    (b"PUB * * 3", b"bad 3"),
+    (b"PING", b"ping"),
+    (b"ping foo \r \n \x00 bar", b"ping"),
+    (b"PiNg\t", b"ping"),
+    (b"PONG", b"pong"),
+    (b"pong 1 2 3 4", b"pong"),
+];
+
+#[test]
+fn lines_mean_commands(rt: HostRuntime) -> Result<(), Fail> {
+    for (line, want) in &COMMANDS {
+        let got = told(rt.alloc(), line)?;
+        assert_eq!(rt; got.as_slice(), *want, "{line:?}");
+    }
+    Ok(())
+}
+
+static REFUSALS: [(&[u8], &[u8]); 62] = [
+    // No operation.
+    (b"", b"refused 20"),
+    (b" ", b"refused 20"),
+    (b"\t \t", b"refused 20"),
+    (b" PING", b"refused 20"),
+    (b"\tSUB foo 1", b"refused 20"),
+    (b"FOO", b"refused 20"),
+    (b"PIN", b"refused 20"),
+    (b"PINGS", b"refused 20"),
+    (b"PUBfoo 1", b"refused 20"),
+    (b"SUBfoo 1", b"refused 20"),
+    (b"CONNECT{}", b"refused 20"),
+    (b"UNSUB1", b"refused 20"),
+    (b"PING\r", b"refused 20"),
+    (b"\rPING", b"refused 20"),
+    (b"PING\n", b"refused 20"),
+    (b"\nPING", b"refused 20"),
+    (b"PING\x00", b"refused 20"),
+    (b"P\x00NG", b"refused 20"),
+    (b"\xd0PING", b"refused 20"),
+    (b"+OK", b"refused 20"),
+    (b"-ERR 'x'", b"refused 20"),
+    (b"INFO {}", b"refused 20"),
+    (b"MSG foo 1 1", b"refused 20"),
+    (b"HPUB foo 12 14", b"refused 20"),
+    // Too few or too many fields.
+    (b"PUB", b"refused 21"),
+    (b"PUB \t", b"refused 21"),
+    (b"PUB foo", b"refused 21"),
+    (b"PUB 5", b"refused 21"),
+    (b"PUB foo a b 5", b"refused 21"),
+    (b"PUB foo a b c 5", b"refused 21"),
+    (b"SUB", b"refused 21"),
+    (b"SUB foo", b"refused 21"),
+    (b"SUB foo. ", b"refused 21"),
+    (b"SUB foo q 1 2", b"refused 21"),
+    // Sizes.
+    (b"PUB foo 12345678901", b"refused 21"),
+    (b"PUB foo 00000000001", b"refused 21"),
+    (b"PUB foo x", b"refused 21"),
+    (b"PUB foo 1a", b"refused 21"),
+    (b"PUB foo +1", b"refused 21"),
+    (b"PUB foo -1", b"refused 21"),
+    (b"PUB foo 1.0", b"refused 21"),
+    (b"PUB foo 1\r", b"refused 21"),
+    (b"PUB foo \n1", b"refused 21"),
+    (b"PUB foo \xb2", b"refused 21"),
+    (b"PUB foo.* 1a", b"refused 21"),
+    (b"PUB foo *.a 12345678901", b"refused 21"),
+    // Subscription ids.
+    (b"SUB foo 1\r", b"refused 21"),
+    (b"SUB foo \n", b"refused 21"),
+    (b"SUB foo \x00", b"refused 21"),
+    (b"SUB foo. \x00", b"refused 21"),
+    // Not served yet.
+    (b"SUB foo q 1", b"refused 21"),
+    (b"SUB foo. q 1", b"refused 21"),
+    (b"CONNECT {}", b"refused 21"),
+    (b"connect", b"refused 21"),
+    (b"UNSUB 1", b"refused 21"),
+    (b"unsub 1 2", b"refused 21"),
+    // Patterns.
+    (b"SUB foo. 9", b"refused 23"),
+    (b"SUB a.>.b 1", b"refused 23"),
+    (b"SUB a..b 1", b"refused 23"),
+    (b"SUB a\x00b 1", b"refused 23"),
+    (b"SUB a\rb 1", b"refused 23"),
+    (b"SUB a\nb 1", b"refused 23"),
+];
+
+#[test]
+fn lines_are_refused(rt: HostRuntime) -> Result<(), Fail> {
+    for (line, want) in &REFUSALS {
+        let got = told(rt.alloc(), line)?;
+        assert_eq!(rt; got.as_slice(), *want, "{line:?}");
+    }
+    Ok(())
+}
+
+#[test]
+fn names_have_limits(rt: HostRuntime) -> Result<(), Fail> {
+    let rows: [(usize, usize, &[u8]); 4] = [
+        (1_024, 64, b"sub"),
+        (1_025, 64, b"refused 23"),
+        (1_024, 65, b"refused 21"),
+        (1_025, 65, b"refused 21"),
+    ];
+    for (pattern_len, sid_len, want) in rows {
+        let pattern = vec![in rt.alloc(); b'a'; pattern_len]?;
+        let sid = vec![in rt.alloc(); b'1'; sid_len]?;
+        let line = joined(rt.alloc(), &[b"SUB", &pattern, &sid])?;
+        let got = told(rt.alloc(), &line)?;
+        assert!(rt; got.starts_with(want), "{pattern_len} {sid_len}");
+    }
+    Ok(())
+}
+
+#[test]
+fn refusals_have_numbers_and_texts(rt: HostRuntime) {
+    let lines: [(LineFault, u16, ErrText); 4] = [
+        (LineFault::UnknownOp, 20, ErrText::UnknownProtocolOperation),
+        (LineFault::BadArgs, 21, ErrText::ParserError),
+        (LineFault::BadJson, 22, ErrText::ParserError),
+        (LineFault::BadSubject, 23, ErrText::InvalidSubject),
+    ];
+    for (fault, number, text) in lines {
+        assert_eq!(rt; fault.number(), number);
+        assert_eq!(rt; ErrText::of_line(fault), text);
+    }
+    let cuts: [(CutFault, ErrText); 3] = [
+        (CutFault::LineTooLong, ErrText::MaximumControlLineExceeded),
+        (CutFault::PayloadTooLong, ErrText::MaximumPayloadViolation),
+        (CutFault::NoCrLfAfterPayload, ErrText::ParserError),
+    ];
+    for (fault, text) in cuts {
+        assert_eq!(rt; ErrText::of_cut(fault), text);
+    }
+}
+
+#[test]
+fn errors_have_lines(rt: HostRuntime) {
+    let rows: [(ErrText, &[u8], bool); 9] = [
+        (
+            ErrText::MaximumControlLineExceeded,
+            b"-ERR 'Maximum Control Line Exceeded'",
+            true,
+        ),
+        (
+            ErrText::MaximumPayloadViolation,
+            b"-ERR 'Maximum Payload Violation'",
+            true,
+        ),
+        (ErrText::ParserError, b"-ERR 'Parser Error'", true),
+        (
+            ErrText::UnknownProtocolOperation,
+            b"-ERR 'Unknown Protocol Operation'",
+            true,
+        ),
+        (ErrText::SlowConsumer, b"-ERR 'Slow Consumer'", true),
+        (ErrText::InvalidSubject, b"-ERR 'Invalid Subject'", false),
+        (
+            ErrText::TooManyQueueGroups,
+            b"-ERR 'Too Many Queue Groups'",
+            false,
+        ),
+        (
+            ErrText::TooManySubscriptions,
+            b"-ERR 'Too Many Subscriptions'",
+            false,
+        ),
+        (ErrText::NumbersSpent, b"-ERR 'Numbers Spent'", false),
+    ];
+    for (text, line, closes) in rows {
+        assert_eq!(rt; text.line(), line);
+        assert_eq!(rt; text.closes(), closes);
+    }
+}
+
+fn info() -> Result<InfoData, Fail> {
+    Ok(InfoData {
+        name: NodeId::read(b"n1")?,
+        inc: Incarnation::new(1).ok_or("no incarnation")?,
+        client_id: ConnId::new(1),
+        port: 0,
+    })
+}
+
+const INFO: &str =
+    "{\"client_id\":1,\"headers\":false,\"host\":\"127.0.0.1\",\"max_payload\":1048576,\"port\":0,\"proto\":1,\"server_id\":\"n1-1\",\"server_name\":\"n1\",\"version\":\"1.0.0\"}";
+
+const OTHER_INFO: &str =
+    "{\"client_id\":999999999999999,\"headers\":false,\"host\":\"127.0.0.1\",\"max_payload\":1048576,\"port\":65535,\"proto\":1,\"server_id\":\"Node_2-b-9007199254740991\",\"server_name\":\"Node_2-b\",\"version\":\"1.0.0\"}";
+
+#[test]
+fn a_server_tells_of_itself(rt: HostRuntime) -> Result<(), Fail> {
+    let text = info_text(rt.alloc(), &info()?)?;
+    assert_eq!(rt; text.as_str(), INFO);
+    let other = InfoData {
+        name: NodeId::read(b"Node_2-b")?,
+        inc: Incarnation::new(9_007_199_254_740_991).ok_or("no incarnation")?,
+        client_id: ConnId::new(999_999_999_999_999),
+        port: 65_535,
+    };
+    let text = info_text(rt.alloc(), &other)?;
+    assert_eq!(rt; text.as_str(), OTHER_INFO);
+    Ok(())
+}
+
+fn message(
+    alloc: Global,
+    subject: &[u8],
+    reply: Option<&[u8]>,
+    payload: &[u8],
+) -> Result<Message, Fail> {
+    let subject = Subject::read(alloc, subject)?;
+    let reply = match reply {
+        None => None,
+        Some(reply) => Some(Subject::read(alloc, reply)?),
+    };
+    let payload = Bytes::copy_from_slice(alloc, payload)?;
+    let message = Message::new(subject, reply, payload).ok_or("a payload above the limit")?;
+    Ok(message)
+}
+
+fn delivery(message: Message, sid: Sid) -> ServerFrame {
+    ServerFrame::Msg(Delivery { message, sid })
+}
+
+/// What a frame adds behind other bytes.
+fn added(alloc: Global, frame: &ServerFrame) -> Result<Vec<u8>, AllocError> {
+    let mut out = Vec::from_slice(alloc, b"before ")?;
+    encode(frame, &mut out)?;
+    Ok(out)
+}
+
+#[test]
+fn replies_have_bytes(rt: HostRuntime) -> Result<(), Fail> {
+    let rows: [(ReplyFrame, &[u8], &[u8]); 3] = [
+        (ReplyFrame::Pong, b"PONG", b"before PONG\r\n"),
+        (ReplyFrame::Ok, b"+OK", b"before +OK\r\n"),
+        (
+            ReplyFrame::Err(ErrText::InvalidSubject),
+            b"-ERR 'Invalid Subject'",
+            b"before -ERR 'Invalid Subject'\r\n",
+        ),
+    ];
+    for (reply, line, bytes) in rows {
+        let got = reply_line(rt.alloc(), &reply)?;
+        assert_eq!(rt; got.as_slice(), line);
+        let got = added(rt.alloc(), &ServerFrame::Reply(reply))?;
+        assert_eq!(rt; got.as_slice(), bytes);
+    }
+    Ok(())
+}
+
+#[test]
+fn info_has_bytes(rt: HostRuntime) -> Result<(), Fail> {
+    let got = added(rt.alloc(), &ServerFrame::Reply(ReplyFrame::Info(info()?)))?;
+    let want = format!(in rt.alloc(); "before INFO {}\r\n", INFO)?;
+    assert_eq!(rt; got.as_slice(), want.as_bytes());
+    Ok(())
+}
+
+#[test]
+fn messages_have_bytes(rt: HostRuntime) -> Result<(), Fail> {
+    let rows: [(&[u8], Option<&[u8]>, &[u8], &[u8], &[u8]); 3] = [
+        (
+            b"foo",
+            None,
+            b"1",
+            b"hello",
+            b"before MSG foo 1 5\r\nhello\r\n",
+        ),
+        (
+            b"a.b",
+            Some(b"r.1"),
+            b"22",
+            b"hi",
+            b"before MSG a.b 22 r.1 2\r\nhi\r\n",
+        ),
+        (b"foo", None, b"+|", b"", b"before MSG foo +| 0\r\n\r\n"),
+    ];
+    for (subject, reply, sid, payload, bytes) in rows {
+        let message = message(rt.alloc(), subject, reply, payload)?;
+        let sid = Sid::read(rt.alloc(), sid)?;
+        let got = added(rt.alloc(), &delivery(message, sid))?;
+        assert_eq!(rt; got.as_slice(), bytes);
+    }
+    Ok(())
+}
+
+#[test]
+fn messages_have_lines(rt: HostRuntime) -> Result<(), Fail> {
+    let message = message(rt.alloc(), b"a.b", Some(b"r"), b"hello world")?;
+    let first = Sid::read(rt.alloc(), b"7")?;
+    let second = Sid::read(rt.alloc(), b"x")?;
+    let line = message_line(rt.alloc(), &message, &first)?;
+    assert_eq!(rt; line.as_slice(), b"MSG a.b 7 r 11".as_slice());
+    let lines = MessageLines::new(rt.alloc(), &message)?;
+    let line = lines.line(&first)?;
+    assert_eq!(rt; line.as_slice(), b"MSG a.b 7 r 11".as_slice());
+    let line = lines.line(&second)?;
+    assert_eq!(rt; line.as_slice(), b"MSG a.b x r 11".as_slice());
+    Ok(())
+}
+
+/// Want of memory leaves the bytes as they were, and the call can be made again.
+#[test]
+fn want_of_memory_leaves_the_bytes(rt: HostRuntime) -> Result<(), Fail> {
+    let message = message(rt.alloc(), b"foo", None, b"hello")?;
+    let frame = delivery(message, Sid::read(rt.alloc(), b"1")?);
+    let mut out = Vec::from_slice(rt.alloc(), b"before ")?;
+    if encode(&frame, &mut out).is_err() {
+        assert_eq!(rt; out.as_slice(), b"before ".as_slice());
+        encode(&frame, &mut out)?;
+    }
+    assert_eq!(rt;
+        out.as_slice(),
+        b"before MSG foo 1 5\r\nhello\r\n".as_slice()
+    );
+    Ok(())
+}

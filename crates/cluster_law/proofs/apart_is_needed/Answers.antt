@@ -1,0 +1,5 @@
+use Rattle.cluster_law.proofs.WithoutFrameRules.{apart_is_needed}
+use Rattle.cluster_law.proofs.apart_is_needed.Goals as goal
+
+pub returns : goal.returns
+returns c = apart_is_needed

@@ -1,0 +1,5 @@
+use Rattle.cluster_law.proofs.Growth.{turns_stay}
+use Rattle.cluster_law.proofs.finished_turns_stay.Goals as goal
+
+pub returns : goal.returns
+returns c = λ k w es w' before r. turns_stay k w es w' before r

@@ -1,0 +1,7 @@
+use Rattle.std.proofs.Common.{[], refl}
+use Rattle.cluster_law.specs.Cluster.{begin}
+use Rattle.cluster_law.proofs.Growth.{path_reached}
+use Rattle.cluster_law.proofs.lifted.Goals as goal
+
+pub returns : goal.returns
+returns c = λ k ws p. path_reached k (begin k) ws (record { events = []; run = refl }) p

@@ -1,0 +1,5 @@
+use Rattle.cluster_law.proofs.WithoutClaimRules.{once_is_needed}
+use Rattle.cluster_law.proofs.once_is_needed.Goals as goal
+
+pub returns : goal.returns
+returns c = once_is_needed

@@ -1,0 +1,5 @@
+use Rattle.cluster_law.proofs.Whole.{reached, lines_of}
+use Rattle.cluster_law.proofs.ordered_lines.Goals as goal
+
+pub returns : goal.returns
+returns c = λ k w r. lines_of k w (reached k w r)

@@ -1,0 +1,15 @@
+pub mod Lists
+pub mod Names
+pub mod Interest
+pub mod Messages
+pub mod Config
+pub mod History
+pub mod Hub
+pub mod Race
+pub mod Shard
+pub mod Node
+pub mod Cluster
+pub mod Headline
+pub mod Counterexamples
+pub mod Runs
+pub mod Example

@@ -1,0 +1,29 @@
+-- Words for histories, which are lists that only grow: the oldest entry stands first.
+use Rattle.std.specs.Prelude.{◌≡◌, ◌⊎◌, ℕ, Bool, true, false, List, [], ◌∷◌, slice_get, Some}
+
+-- It is an entry of the list.
+abbrev pub In : {A : Type 0} → A → List A → Type 0
+In x [] = ⊥
+In x (y ∷ ys) = (x ≡ y) ⊎ In x ys
+
+-- Every entry is so.
+abbrev pub Each : {A : Type 0} → (A → Type 0) → List A → Type 0
+Each {A} P xs = (x : A) → In x xs → P x
+
+-- Each two entries stand so to one another: R older newer.
+abbrev pub Pairs : {A : Type 0} → (A → A → Type 0) → List A → Type 0
+Pairs R [] = Unit {0}
+Pairs R (x ∷ xs) = Each (R x) xs × Pairs R xs
+
+-- Nothing stands at two places of the list.
+abbrev pub NoRepeat : {A : Type 0} → List A → Type 0
+NoRepeat {A} xs = (i j : ℕ) (x : A) → slice_get xs i ≡ Some x → slice_get xs j ≡ Some x → i ≡ j
+
+-- Nothing stands in both lists.
+abbrev pub Disjoint : {A : Type 0} → List A → List A → Type 0
+Disjoint {A} xs ys = (x : A) → In x xs → In x ys → ⊥
+
+-- A rule that holds where it is switched on.
+abbrev pub Where : Bool → Type 0 → Type 0
+Where true P = P
+Where false P = Unit {0}

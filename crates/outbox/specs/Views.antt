@@ -1,0 +1,63 @@
+-- An entry and an outbox as other crates see them.
+use Rattle.std.specs.Prelude.{ℕ, ◌+◌, Bool, true, false, not, ◌&&◌, nat_lt, nat_le, List, [], ◌∷◌, ◌++◌, length, take, drop, sum_by}
+use Rattle.outbox.specs.declared.entries.Tag.{Tag}
+use Rattle.outbox.specs.declared.entries.Tag.TheVariants.{Reply, Msg}
+use Rattle.outbox.specs.declared.entries.Mode.{Mode}
+use Rattle.subj.specs.declared.identities.PubId.{PubId}
+use Rattle.subj.specs.declared.identities.SubId.{SubId}
+use Rattle.outbox.specs.Bytes.{bytes_of, line_end}
+use Rattle.std.specs.Prelude.{Some, None}
+
+-- an entry: what it is, and all its bytes
+pub record Written : Type 0 where
+  pub tag : Tag
+  pub bytes : List ℕ
+
+-- an answer, or a last line
+abbrev pub reply_entry : List ℕ → Written
+reply_entry line = record { tag = Reply; bytes = bytes_of line None }
+
+abbrev pub message_entry : PubId → SubId → Mode → List ℕ → List ℕ → Written
+message_entry id sub mode line payload = record { tag = Msg id sub mode; bytes = bytes_of line (Some payload) }
+
+-- the entries that wait, in order, and whether the last line was put (profile)
+pub record Shelf : Type 0 where
+  pub entries : List Written
+  pub shut : Bool
+
+-- what waits; what will wait once all that was staged is shown; the places set aside; the limits
+pub record Waiting : Type 0 where
+  pub shown : Shelf
+  pub next : Shelf
+  pub reserved : ℕ
+  pub max_entries : ℕ
+  pub max_bytes : ℕ
+
+abbrev pub empty_shelf : Shelf
+empty_shelf = record { entries = []; shut = false }
+
+abbrev pub empty_outbox : ℕ → ℕ → Waiting
+empty_outbox max_entries max_bytes =
+    record { shown = empty_shelf; next = empty_shelf; reserved = 0; max_entries = max_entries; max_bytes = max_bytes }
+
+abbrev pub size_of : List Written → ℕ
+size_of entries = sum_by (λ entry. length entry.bytes) entries
+
+-- an entry of this many bytes may be put: not behind the last line, and within both limits (profile)
+abbrev pub has_room : ℕ → ℕ → ℕ → Shelf → Bool
+has_room max_entries max_bytes len shelf =
+    not shelf.shut && (nat_lt (length shelf.entries) max_entries && nat_le (size_of shelf.entries + len) max_bytes)
+
+abbrev pub with_entry : Written → Shelf → Shelf
+with_entry entry shelf = record { entries = shelf.entries ++ entry ∷ []; shut = shelf.shut }
+
+-- the last line goes beyond both limits (profile)
+abbrev pub with_last : List ℕ → Shelf → Shelf
+with_last line shelf = record { entries = shelf.entries ++ reply_entry line ∷ []; shut = true }
+
+abbrev pub without_first : ℕ → Shelf → Shelf
+without_first count shelf = record { entries = drop count shelf.entries; shut = shelf.shut }
+
+-- nothing is staged
+abbrev pub on_both : (Shelf → Shelf) → Waiting → Waiting
+on_both change box = record box { shown = change box.shown; next = change box.next }

@@ -1,0 +1,257 @@
+//! The outbox of a client.
+
+ghost use Rattle.std.specs.Prelude.{◌≡◌, ℕ, ◌+◌, ◌-◌, ◌≤◌, ◌<◌, ◌++◌, ◌==◌, vec_len, vec_capacity, length, take, drop, [], true, false, IfOk, OnOk, OnErr, IsTrue, None, ◌^◌};
+ghost use Rattle.outbox.specs.Bytes.{bytes_of};
+ghost use Rattle.std.specs.VecDeque.{deque_capacity};
+ghost use Rattle.outbox.specs.Views.{Waiting, Shelf, empty_outbox, size_of, has_room, with_entry, with_last, without_first, on_both};
+
+use crate::entries::{Entry, LINE_END};
+use std::alloc::{AllocError, Global};
+use std::collections::VecDeque;
+use std::marker::Model;
+use std::mem;
+use subj::LAST_LINE;
+
+/// The most bytes of a last line, without its CR LF.
+pub const LAST_LINE_TEXT: usize = LAST_LINE - 2;
+
+/// Moves the first entries, and takes their bytes off the count.
+fn move_front(from: &mut VecDeque<Entry>, to: &mut Vec<Entry>, count: usize, bytes: &mut usize)
+    requires there { count ≤ length from.old.items }
+    requires room { vec_len to.old + count ≤ vec_capacity to.old }
+    ensures to { to.new.items ≡ to.old.items ++ take count from.old.items }
+    ensures from { from.new.items ≡ drop count from.old.items }
+    ensures bytes { bytes.new ≡ bytes.old - size_of (take count from.old.items) }
+    ensures capacity { deque_capacity from.new ≡ deque_capacity from.old }
+{
+    for moved in 0..count {
+        if let Some(entry) = from.pop_front() {
+            *bytes = bytes.saturating_sub(entry.len());
+            to.push_reserved(entry);
+        }
+    }
+}
+
+/// What waits to be written to a client: a list of entries within a limit of entries and one of bytes.
+/// A last line may be put beyond both; behind it nothing is put any more. (Profile.)
+///
+/// Entries may also be staged: put behind what waits, unseen, until [`Outbox::commit`] shows all of
+/// them or [`Outbox::rollback`] drops them.
+///
+/// Seen as what waits, what will wait once all that was staged is shown, the number of places set
+/// aside, and the two limits.
+#[derive(Drop)]
+pub struct Outbox {
+    alloc: Global,
+    /// What waits, and behind it what was staged.
+    entries: VecDeque<Entry>,
+    /// How many of the entries wait.
+    shown: usize,
+    /// The bytes of the entries that wait, and of all entries, while there is no last line.
+    shown_bytes: usize,
+    bytes: usize,
+    /// Whether a last line waits, and whether one waits or was staged.
+    shut: bool,
+    closing: bool,
+    /// The places set aside.
+    reserved: usize,
+    /// The memory of the last line.
+    last_line: Vec<u8>,
+    max_entries: usize,
+    max_bytes: usize,
+}
+
+impl Model for Outbox {
+    ghost use Rattle.outbox.specs.Views.{Waiting};
+
+    ghost Value = { Waiting };
+
+    ghost use Rattle.std.specs.Prelude.{take, vec_capacity};
+    ghost use Rattle.std.specs.VecDeque.{deque_capacity};
+    ghost use Rattle.outbox.specs.Sound.{IsSound, HasLastLine};
+
+    ghost view = { λ b. record {
+      shown = record { entries = take b.shown b.entries.items; shut = b.shut };
+      next = record { entries = b.entries.items; shut = b.closing };
+      reserved = b.reserved;
+      max_entries = b.max_entries;
+      max_bytes = b.max_bytes;
+    } };
+
+    ghost invariant = { λ b. IsSound b.entries.items (deque_capacity b.entries) b.shown b.shown_bytes b.bytes b.shut b.closing b.reserved b.max_bytes × HasLastLine b.shut b.last_line.items (vec_capacity b.last_line) };
+}
+
+impl Outbox {
+    /// An empty outbox with these limits. The room of its last line is taken here.
+    pub fn new(alloc: Global, max_entries: usize, max_bytes: usize) -> Result<Outbox, AllocError>
+        ensures { IfOk result (λ outbox. outbox ≡ empty_outbox max_entries max_bytes) }
+    {
+        let entries = VecDeque::with_capacity(alloc, 1)?;
+        let last_line = Vec::with_capacity(alloc, LAST_LINE_TEXT)?;
+        Ok(Outbox {
+            alloc,
+            entries,
+            shown: 0,
+            shown_bytes: 0,
+            bytes: 0,
+            shut: false,
+            closing: false,
+            reserved: 0,
+            last_line,
+            max_entries,
+            max_bytes,
+        })
+    }
+
+    /// How many entries wait.
+    pub fn len(&self) -> usize
+        ensures { result ≡ length self.now.shown.entries }
+    {
+        self.shown
+    }
+
+    /// Whether nothing waits.
+    pub fn is_empty(&self) -> bool
+        ensures { result ≡ (length self.now.shown.entries == 0) }
+    {
+        self.shown == 0
+    }
+
+    /// Whether the last line was put.
+    pub fn is_shut(&self) -> bool
+        ensures { result ≡ self.now.shown.shut }
+    {
+        self.shut
+    }
+
+    /// Whether the last line was put or staged.
+    pub fn is_closing(&self) -> bool
+        ensures { result ≡ self.now.next.shut }
+    {
+        self.closing
+    }
+
+    /// Whether an entry of this many bytes may be put behind all that was put or staged: none where
+    /// there is a last line, and none beyond a limit.
+    pub fn room(&self, len: usize) -> bool
+        ensures { result ≡ has_room self.now.max_entries self.now.max_bytes len self.now.next }
+    {
+        !self.closing
+            && self.entries.len() < self.max_entries
+            && len <= self.max_bytes
+            && self.bytes <= self.max_bytes - len
+    }
+
+    /// Whether an answer of this line, given without its CR LF, may be put behind all that was put or
+    /// staged.
+    pub fn room_for(&self, line: &[u8]) -> bool
+        ensures room { result ≡ has_room self.now.max_entries self.now.max_bytes (length (bytes_of line.now None)) self.now.next }
+        ensures fits { IsTrue result → length line.now + 2 < 2 ^ 64 }
+    {
+        match line.len().checked_add(LINE_END.len()) {
+            None => false,
+            Some(len) => self.room(len),
+        }
+    }
+
+    /// Sets a place aside for an entry of this many bytes. Want of memory sets none aside.
+    pub fn reserve(&mut self, len: usize) -> Result<(), AllocError>
+        requires { IsTrue (has_room self.old.max_entries self.old.max_bytes len self.old.next) }
+        ensures ok { OnOk result (self.new ≡ record self.old { reserved = self.old.reserved + 1 }) }
+        ensures err { OnErr result (self.new ≡ self.old) }
+    {
+        let _ = len;
+        self.entries.reserve(self.reserved + 2)?;
+        self.reserved += 1;
+        Ok(())
+    }
+
+    /// Puts an entry into a place that was set aside. Takes no memory.
+    pub fn push_reserved(&mut self, entry: Entry)
+        requires settled { self.old.next ≡ self.old.shown }
+        requires reserved { 0 < self.old.reserved }
+        requires room { IsTrue (has_room self.old.max_entries self.old.max_bytes (length entry.bytes) self.old.shown) }
+        ensures { self.new ≡ record (on_both (with_entry entry) self.old) { reserved = self.old.reserved - 1 } }
+    {
+        self.bytes += entry.len();
+        self.entries.push_back_reserved(entry);
+        self.reserved -= 1;
+        self.shown = self.entries.len();
+        self.shown_bytes = self.bytes;
+    }
+
+    /// Puts the last line, given without its CR LF, beyond both limits. Takes no memory.
+    pub fn shut(&mut self, line: &[u8])
+        requires settled { self.old.next ≡ self.old.shown }
+        requires once { self.old.shown.shut ≡ false }
+        requires small { length line.now ≤ LAST_LINE_TEXT }
+        ensures { self.new ≡ on_both (with_last line.now) self.old }
+    {
+        let mut text = mem::replace(&mut self.last_line, Vec::new(self.alloc));
+        let _ = text.extend_from_slice(line);
+        self.entries.push_back_reserved(Entry::reply(text));
+        self.shown = self.entries.len();
+        self.shut = true;
+        self.closing = true;
+    }
+
+    /// Puts an entry behind all that was put or staged, unseen. Want of memory leaves all as it was.
+    pub fn stage(&mut self, entry: Entry) -> Result<(), AllocError>
+        requires { IsTrue (has_room self.old.max_entries self.old.max_bytes (length entry.bytes) self.old.next) }
+        ensures ok { OnOk result (self.new ≡ record self.old { next = with_entry entry self.old.next }) }
+        ensures err { OnErr result (self.new ≡ self.old) }
+    {
+        let size = entry.len();
+        self.entries.reserve(self.reserved + 2)?;
+        self.entries.push_back_reserved(entry);
+        self.bytes += size;
+        Ok(())
+    }
+
+    /// Puts the last line, given without its CR LF, beyond both limits, unseen. Want of memory leaves
+    /// all as it was.
+    pub fn stage_last(&mut self, line: &[u8]) -> Result<(), AllocError>
+        requires { length line.now ≤ LAST_LINE_TEXT }
+        ensures ok { OnOk result (self.new ≡ record self.old { next = with_last line.now self.old.next }) }
+        ensures err { OnErr result (self.new ≡ self.old) }
+    {
+        let text = Vec::from_slice(self.alloc, line)?;
+        self.entries.push_back(Entry::reply(text))?;
+        self.closing = true;
+        Ok(())
+    }
+
+    /// Shows what was staged. Takes no memory.
+    pub fn commit(&mut self)
+        ensures { self.new ≡ record self.old { shown = self.old.next } }
+    {
+        self.shown = self.entries.len();
+        self.shown_bytes = self.bytes;
+        self.shut = self.closing;
+    }
+
+    /// Drops what was staged. Takes no memory.
+    pub fn rollback(&mut self)
+        ensures { self.new ≡ record self.old { next = self.old.shown } }
+    {
+        self.entries.truncate(self.shown);
+        self.bytes = self.shown_bytes;
+        self.closing = self.shut;
+    }
+
+    /// Gives and removes the first entries that wait, or all where there are fewer. Want of memory
+    /// leaves all as it was.
+    pub fn take(&mut self, count: usize) -> Result<Vec<Entry>, AllocError>
+        requires { self.old.next ≡ self.old.shown }
+        ensures entries { IfOk result (λ entries. entries.items ≡ take count self.old.shown.entries) }
+        ensures ok { OnOk result (self.new ≡ on_both (without_first count) self.old) }
+        ensures err { OnErr result (self.new ≡ self.old) }
+    {
+        let count = count.min(self.entries.len());
+        let mut taken = Vec::with_capacity(self.alloc, count)?;
+        move_front(&mut self.entries, &mut taken, count, &mut self.bytes);
+        self.shown = self.entries.len();
+        self.shown_bytes = self.bytes;
+        Ok(taken)
+    }
+}

@@ -1,0 +1,11 @@
+//! What waits to be written to a client: a list of entries within limits.
+#![tactic(auto)]
+
+mod boxes;
+mod entries;
+
+pub use boxes::{LAST_LINE_TEXT, Outbox};
+pub use entries::{Entry, Mode, Tag};
+
+#[cfg(test)]
+mod tests;

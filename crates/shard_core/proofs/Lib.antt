@@ -1,0 +1,7 @@
+mod Places
+mod Each
+mod Clients
+mod Walks
+mod Due
+mod Counts
+mod Written

@@ -1,0 +1,34 @@
+//! Why a shard refuses.
+
+ghost use Rattle.std.specs.Prelude.{◌≡◌};
+ghost use Rattle.shard_core.specs.Faults.{shard_fault_number};
+
+/// Why a shard refuses an event. (Profile.)
+#[derive(Clone, Copy, Debug, PartialEq, Eq)]
+pub enum ShardFault {
+    /// The connection is not there, or it is shut.
+    NoConn = 50,
+    /// A job is in hand already.
+    JobInHand = 51,
+    /// No job is in hand.
+    NoJob = 52,
+    /// The job's turn is not the one behind the last that was finished.
+    WrongTurn = 53,
+    /// The open subscriptions have come to the shard's share of a limit.
+    TooManySubs = 54,
+    /// The queue name is not the next one of the job in hand.
+    BadIndex = 55,
+    /// Not every queue name of the job in hand was tried.
+    NotAllTried = 56,
+    /// A counter has come to its limit.
+    Spent = 57,
+}
+
+impl ShardFault {
+    /// The number that the router tells of this refusal.
+    pub fn number(self) -> u16
+        ensures { result ≡ shard_fault_number self }
+    {
+        self as u16
+    }
+}

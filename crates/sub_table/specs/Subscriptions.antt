@@ -1,0 +1,63 @@
+-- Lists of open subscriptions.
+use Rattle.std.specs.Prelude.{ℕ, Bool, not, ◌&&◌, nat_eq, List, [], ◌∷◌, map, filter, length, sum_by, ◌+◌, Option, Some, None, if◌then◌else◌}
+use Rattle.std.specs.Option.{option_map}
+use Rattle.std.specs.List.{find}
+use Rattle.std.specs.Str.{bytes_eq}
+use Rattle.subj.specs.declared.keys.Key.{Key}
+use Rattle.subj.specs.declared.limits.TheConstants.{SUBSCRIPTION_COST}
+use Rattle.subj.specs.Matching.{subject_matches}
+use Rattle.sub_table.specs.declared.Subscription.{Subscription}
+
+-- NATS documentation, "Client Protocol": a subscription gets what its pattern matches
+abbrev pub gets : List ℕ → Subscription → Bool
+gets subject sub = subject_matches sub.key.pattern subject
+
+abbrev pub is_of : ℕ → Subscription → Bool
+is_of conn sub = nat_eq sub.conn conn
+
+abbrev pub is_of_another : ℕ → Subscription → Bool
+is_of_another conn sub = not (is_of conn sub)
+
+abbrev pub has_serial : ℕ → Subscription → Bool
+has_serial serial sub = nat_eq sub.serial serial
+
+-- what the connection calls by this id
+abbrev pub is_called : ℕ → List ℕ → Subscription → Bool
+is_called conn sid sub = is_of conn sub && bytes_eq sub.sid sid
+
+abbrev pub serial_of : Subscription → ℕ
+serial_of sub = sub.serial
+
+-- the serial of what the connection calls by this id
+abbrev pub serial_called : ℕ → List ℕ → List Subscription → Option ℕ
+serial_called conn sid subs = option_map serial_of (find (is_called conn sid) subs)
+
+abbrev pub serials_of : ℕ → List Subscription → List ℕ
+serials_of conn subs = map serial_of (filter (is_of conn) subs)
+
+-- the list without the one of this serial
+abbrev pub without_serial : ℕ → List Subscription → List Subscription
+without_serial serial [] = []
+without_serial serial (sub ∷ subs) = if has_serial serial sub then subs else sub ∷ without_serial serial subs
+
+-- the list with a change to the one of this serial
+abbrev pub with_changed : ℕ → (Subscription → Subscription) → List Subscription → List Subscription
+with_changed serial change [] = []
+with_changed serial change (sub ∷ subs) = if has_serial serial sub then change sub ∷ subs else sub ∷ with_changed serial change subs
+
+abbrev pub with_delivered : ℕ → ℕ → List Subscription → List Subscription
+with_delivered serial delivered subs = with_changed serial (λ sub. record sub { delivered = delivered }) subs
+
+abbrev pub with_max : ℕ → Option ℕ → List Subscription → List Subscription
+with_max serial max subs = with_changed serial (λ sub. record sub { max = max }) subs
+
+-- what a subscription counts against the limit of bytes (profile)
+abbrev pub queue_len : Option (List ℕ) → ℕ
+queue_len None = 0
+queue_len (Some name) = length name
+
+abbrev pub cost_of : Key → ℕ
+cost_of key = length key.pattern + queue_len key.queue + SUBSCRIPTION_COST
+
+abbrev pub total_cost : List Subscription → ℕ
+total_cost subs = sum_by (λ sub. cost_of sub.key) subs

@@ -1,0 +1,217 @@
+//! The open subscriptions of a shard: what any table of them keeps, and the plain list.
+#![tactic(auto)]
+
+ghost use Rattle.std.specs.Prelude.{◌≡◌, ◌<◌, ◌≤◌, ◌+◌, nat_le, [], ◌∷◌, ◌++◌, length, map, filter, position, IfOk, OnOk, OnErr, All};
+ghost use Rattle.std.specs.List.{find as find_in};
+ghost use Rattle.std.specs.Option.{option_copied};
+ghost use Rattle.sub_table.specs.Subscriptions.{cost_of as cost_of_key, total_cost, gets, is_of_another, has_serial, without_serial, serial_called, serials_of, with_delivered, with_max};
+
+use std::alloc::{AllocError, Global};
+use subj::{ConnId, Key, MAX_QUEUE_NAME, MAX_SUBJECT, SUBSCRIPTION_COST, Sid, Subject};
+
+/// The most that one subscription can count.
+pub const MAX_COST: u64 = (MAX_SUBJECT + MAX_QUEUE_NAME) as u64 + SUBSCRIPTION_COST;
+
+/// An open subscription. (NATS documentation, "Client Protocol": `SUB`.)
+#[derive(Debug, Drop)]
+pub struct Subscription {
+    /// Its place in the order of opening, counted from 1 in each shard.
+    pub serial: u64,
+    /// The connection that it belongs to.
+    pub conn: ConnId,
+    /// What it asks for, and as a member of which queue group.
+    pub key: Key,
+    /// What its client calls it.
+    pub sid: Sid,
+    /// How many messages were delivered to it.
+    pub delivered: u64,
+    /// How many messages it is to get in all, where there is a limit.
+    pub max: Option<u64>,
+}
+
+/// What a subscription to this key counts against the limit of bytes: the bytes of its pattern and of
+/// its queue name, and [`SUBSCRIPTION_COST`]. (Profile.)
+pub fn cost_of(key: &Key) -> u64
+    ensures same { result ≡ cost_of_key key.now }
+    ensures small { result ≤ MAX_COST }
+{
+    let queue = match &key.queue {
+        None => 0,
+        Some(name) => name.bytes().len(),
+    };
+    (key.pattern.bytes().len() + queue) as u64 + SUBSCRIPTION_COST
+}
+
+/// The open subscriptions of a shard, however they are kept.
+///
+/// Seen as their list in order of opening, which is that of their serials.
+pub trait SubTable: Sized + Drop {
+    ghost use Rattle.std.specs.Prelude.{List};
+    ghost use Rattle.sub_table.specs.declared.Subscription.{Subscription};
+
+    /// In order of opening.
+    ghost contents: { Self → List Subscription };
+
+    /// A table without subscriptions.
+    fn new(alloc: Global) -> Result<Self, AllocError>
+        ensures { IfOk result (λ table. contents table ≡ []) };
+
+    /// How many are open.
+    fn len(&self) -> usize
+        ensures { result ≡ length (contents self.now) };
+
+    /// Whether the open subscriptions and one more that counts so much count at most so many bytes
+    /// together. Takes no memory.
+    fn fits(&self, cost: u64, limit: u64) -> bool
+        ensures { result ≡ nat_le (total_cost (contents self.now) + cost) limit };
+
+    /// Opens one more, whose serial is above all others. Want of memory leaves the table as it was.
+    fn add(&mut self, sub: Subscription) -> Result<(), AllocError>
+        requires { All (λ other. other.serial < sub.serial) (contents self.old) }
+        ensures ok { OnOk result (contents self.new ≡ contents self.old ++ sub ∷ []) }
+        ensures err { OnErr result (contents self.new ≡ contents self.old) };
+
+    /// The one of this serial. Takes no memory.
+    fn get(&self, serial: u64) -> Option<&Subscription>
+        ensures { option_copied result ≡ find_in (has_serial serial) (contents self.now) };
+
+    /// The serial of what the connection calls by this id. Takes no memory.
+    fn find(&self, conn: ConnId, sid: &Sid) -> Option<u64>
+        ensures { result ≡ serial_called conn sid.now (contents self.now) };
+
+    /// Those whose pattern matches the subject, in order of opening.
+    fn matching(&self, subject: &Subject) -> Result<Vec<&Subscription>, AllocError>
+        ensures { IfOk result (λ subs. map (λ sub. sub.now) subs.items ≡ filter (gets subject.now) (contents self.now)) };
+
+    /// Puts the serials of a connection's subscriptions behind those that are there, in order of
+    /// opening.
+    fn serials_of(&self, conn: ConnId, serials: &mut Vec<u64>) -> Result<(), AllocError>
+        ensures { OnOk result (serials.new.items ≡ serials.old.items ++ serials_of conn (contents self.now)) };
+
+    /// Notes how many messages the one of this serial got. Takes no memory.
+    fn set_count(&mut self, serial: u64, delivered: u64)
+        ensures { contents self.new ≡ with_delivered serial delivered (contents self.old) };
+
+    /// Notes how many messages the one of this serial is to get. Takes no memory.
+    fn set_max(&mut self, serial: u64, max: Option<u64>)
+        ensures { contents self.new ≡ with_max serial max (contents self.old) };
+
+    /// Closes the one of this serial, and gives it. Takes no memory.
+    fn remove(&mut self, serial: u64) -> Option<Subscription>
+        ensures closed { result ≡ find_in (has_serial serial) (contents self.old) }
+        ensures rest { contents self.new ≡ without_serial serial (contents self.old) };
+
+    /// Closes those of a connection. Takes no memory.
+    fn close(&mut self, conn: ConnId)
+        ensures { contents self.new ≡ filter (is_of_another conn) (contents self.old) };
+}
+
+/// Where the subscription of this serial stands.
+fn place_of(subs: &[Subscription], serial: u64) -> Option<usize>
+    ensures { result ≡ position (has_serial serial) subs.now }
+{
+    subs.iter().position(|sub| sub.serial == serial)
+}
+
+/// A list that is scanned.
+#[derive(Drop)]
+pub struct ListTable {
+    alloc: Global,
+    subs: Vec<Subscription>,
+}
+
+impl SubTable for ListTable {
+    ghost contents = { λ table. table.subs.items };
+
+    fn new(alloc: Global) -> Result<Self, AllocError> {
+        Ok(ListTable {
+            alloc,
+            subs: Vec::new(alloc),
+        })
+    }
+
+    fn len(&self) -> usize {
+        self.subs.len()
+    }
+
+    fn fits(&self, cost: u64, limit: u64) -> bool {
+        let Some(mut left) = limit.checked_sub(cost) else {
+            return false;
+        };
+        for sub in &self.subs {
+            let Some(rest) = left.checked_sub(cost_of(&sub.key)) else {
+                return false;
+            };
+            left = rest;
+        }
+        true
+    }
+
+    fn add(&mut self, sub: Subscription) -> Result<(), AllocError> {
+        self.subs.push(sub)?;
+        Ok(())
+    }
+
+    fn get(&self, serial: u64) -> Option<&Subscription> {
+        self.subs.iter().find(|sub| sub.serial == serial)
+    }
+
+    fn find(&self, conn: ConnId, sid: &Sid) -> Option<u64> {
+        for sub in &self.subs {
+            if sub.conn == conn && sub.sid.bytes() == sid.bytes() {
+                return Some(sub.serial);
+            }
+        }
+        None
+    }
+
+    fn matching(&self, subject: &Subject) -> Result<Vec<&Subscription>, AllocError> {
+        let mut subs = Vec::new(self.alloc);
+        for sub in &self.subs {
+            if sub.key.pattern.matches(subject) {
+                subs.push(sub)?;
+            }
+        }
+        Ok(subs)
+    }
+
+    fn serials_of(&self, conn: ConnId, serials: &mut Vec<u64>) -> Result<(), AllocError> {
+        for sub in &self.subs {
+            if sub.conn == conn {
+                serials.push(sub.serial)?;
+            }
+        }
+        Ok(())
+    }
+
+    #[tactic(auto, using(crate::proofs::Places::changed_none, crate::proofs::Places::changed_some))]
+    fn set_count(&mut self, serial: u64, delivered: u64) {
+        if let Some(place) = place_of(&self.subs, serial) {
+            let sub = &mut self.subs[place];
+            sub.delivered = delivered;
+        }
+    }
+
+    #[tactic(auto, using(crate::proofs::Places::changed_none, crate::proofs::Places::changed_some))]
+    fn set_max(&mut self, serial: u64, max: Option<u64>) {
+        if let Some(place) = place_of(&self.subs, serial) {
+            let sub = &mut self.subs[place];
+            sub.max = max;
+        }
+    }
+
+    #[tactic(auto, using(crate::proofs::Places::without_none, crate::proofs::Places::without_some, crate::proofs::Places::find_none, crate::proofs::Places::find_some))]
+    fn remove(&mut self, serial: u64) -> Option<Subscription> {
+        match place_of(&self.subs, serial) {
+            None => None,
+            Some(place) => Some(self.subs.remove(place)),
+        }
+    }
+
+    fn close(&mut self, conn: ConnId) {
+        self.subs.retain(|sub| sub.conn != conn);
+    }
+}
+
+#[cfg(test)]
+mod tests;

@@ -1,0 +1,4 @@
+mod Tokens
+mod Matches
+mod Padded
+mod Fits

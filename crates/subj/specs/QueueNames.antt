@@ -1,0 +1,24 @@
+-- Lists of queue names.
+use Rattle.std.specs.Prelude.{ℕ, Bool, true, ◌&&◌, nat_le, List, [], ◌∷◌, length, Option, Some, None, if◌then◌else◌}
+use Rattle.std.specs.Cmp.Lexicographic.{slice_cmp}
+use Rattle.std.specs.Ordering.{is_lt, nat_cmp}
+use Rattle.subj.specs.declared.limits.TheConstants.{MAX_QUEUE_NAMES}
+
+-- the order of bytes
+abbrev pub is_before : List ℕ → List ℕ → Bool
+is_before a b = is_lt (slice_cmp nat_cmp a b)
+
+abbrev pub is_before_first : List ℕ → List (List ℕ) → Bool
+is_before_first name [] = true
+is_before_first name (other ∷ others) = is_before name other
+
+abbrev pub are_rising : List (List ℕ) → Bool
+are_rising [] = true
+are_rising (name ∷ others) = is_before_first name others && are_rising others
+
+-- the queue names of one publication (profile)
+abbrev pub are_queue_names : List (List ℕ) → Bool
+are_queue_names names = nat_le (length names) MAX_QUEUE_NAMES && are_rising names
+
+abbrev pub queue_names_of : List (List ℕ) → Option (List (List ℕ))
+queue_names_of names = if are_queue_names names then Some names else None

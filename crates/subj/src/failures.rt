@@ -1,0 +1,36 @@
+//! How a call that can be refused, and that takes memory, fails.
+
+use std::alloc::{AllocError, AllocFailed};
+
+/// Why a call did not do what it was asked.
+///
+/// A call tells a refusal wherever it has a cause for one, and want of memory only where it has none.
+#[derive(Clone, Copy, Debug, PartialEq, Eq, Drop)]
+pub enum Failure<R> {
+    /// A named refusal of the crate that answers.
+    Refused(R),
+    /// The allocator gave no memory.
+    OutOfMemory,
+}
+
+impl<R> From<AllocError> for Failure<R> {
+    ghost use Rattle.std.specs.Prelude.{◌≡◌};
+    ghost use Rattle.subj.specs.declared.failures.Failure.TheVariants.{OutOfMemory};
+
+    ghost from_gives = { λ _ failure. failure ≡ OutOfMemory };
+
+    fn from(_: AllocError) -> Failure<R> {
+        Failure::OutOfMemory
+    }
+}
+
+impl<R, T: Drop> From<AllocFailed<T>> for Failure<R> {
+    ghost use Rattle.std.specs.Prelude.{◌≡◌};
+    ghost use Rattle.subj.specs.declared.failures.Failure.TheVariants.{OutOfMemory};
+
+    ghost from_gives = { λ _ failure. failure ≡ OutOfMemory };
+
+    fn from(_: AllocFailed<T>) -> Failure<R> {
+        Failure::OutOfMemory
+    }
+}

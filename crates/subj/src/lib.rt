@@ -1,0 +1,39 @@
+//! Names, subjects and matching, and the values that the crates of the router share.
+#![tactic(auto)]
+
+mod failures;
+mod identities;
+mod jobs;
+mod keys;
+mod limits;
+mod messages;
+mod names;
+mod node_ids;
+mod patterns;
+mod queue_names;
+mod sids;
+mod subjects;
+mod turns;
+
+pub use failures::Failure;
+pub use identities::{ConnId, Incarnation, PubId, SubId};
+pub use jobs::{Job, QueueNames};
+pub use keys::Key;
+pub use limits::{
+    CLIENT_LINE, JOIN_EVENTS, LAST_LINE, MAX_COUNTER, MAX_INCARNATION, MAX_KEYS, MAX_NODE_NAME,
+    MAX_NODES, MAX_PAYLOAD, MAX_QUEUE_NAME, MAX_QUEUE_NAMES, MAX_SERIAL, MAX_SESSIONS, MAX_SHARDS,
+    MAX_SID, MAX_SNAPSHOT, MAX_SUBJECT, MAX_WEIGHT, OUTBOX_BYTES, OUTBOX_ENTRIES, READ_BYTES,
+    ROUTE_FRAMES, ROUTE_LINE, SCRIPT_BYTES, SCRIPT_EVENTS, SUBSCRIPTION_BYTES, SUBSCRIPTION_COST,
+    SUBSCRIPTIONS, WINDOW,
+};
+pub use messages::{Message, Pub};
+pub use names::NameFault;
+pub use node_ids::NodeId;
+pub use patterns::Pattern;
+pub use queue_names::QueueName;
+pub use sids::Sid;
+pub use subjects::{Reply, Subject};
+pub use turns::{Busy, Finished, Turn};
+
+#[cfg(test)]
+mod tests;

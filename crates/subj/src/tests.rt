@@ -1,0 +1,298 @@
+//! Examples: the matching table, the order of the refusals, the limits, and each call that takes memory.
+
+use crate::{
+    Busy, ConnId, Finished, Incarnation, Job, Key, MAX_COUNTER, MAX_INCARNATION, MAX_NODE_NAME,
+    MAX_PAYLOAD, MAX_QUEUE_NAME, MAX_SHARDS, MAX_SID, MAX_SUBJECT, Message, NodeId, Pattern, Pub,
+    PubId, QueueName, QueueNames, Sid, SubId, Subject, Turn,
+};
+use bytes::Bytes;
+use std::test::Fail;
+
+/// The number of the refusal of a pattern, 0 where it is none.
+fn pattern_refusal(text: &[u8]) -> u16 {
+    Pattern::fault(text).map_or(0, |fault| fault.number())
+}
+
+fn subject_refusal(text: &[u8]) -> u16 {
+    Subject::fault(text).map_or(0, |fault| fault.number())
+}
+
+fn queue_name_refusal(text: &[u8]) -> u16 {
+    QueueName::fault(text).map_or(0, |fault| fault.number())
+}
+
+fn sid_refusal(text: &[u8]) -> u16 {
+    Sid::fault(text).map_or(0, |fault| fault.number())
+}
+
+fn node_name_refusal(text: &[u8]) -> u16 {
+    NodeId::fault(text).map_or(0, |fault| fault.number())
+}
+
+#[test]
+fn matching_table(rt: HostRuntime) -> Result<(), Fail> {
+    let table: [(&[u8], &[u8], bool); 20] = [
+        (b"foo.*", b"foo", false),
+        (b"foo.>", b"foo", false),
+        (b"foo.>", b"foo.a.b", true),
+        (b"fo*", b"fo*b", false),
+        (b"fo*", b"fo*", true),
+        (b"fo>", b"fo>", true),
+        (b"**", b"a", false),
+        (b"foo", b"foo", true),
+        (b"foo", b"fooo", false),
+        (b"foo", b"fo", false),
+        (b"foo", b"Foo", false),
+        (b"foo.bar", b"foo", false),
+        (b"foo", b"foo.bar", false),
+        (b"*", b"foo", true),
+        (b"*", b"foo.bar", false),
+        (b">", b"foo", true),
+        (b">", b"foo.bar.baz", true),
+        (b"*.bar", b"foo.bar", true),
+        (b"*.*.>", b"a.b", false),
+        (b"*.*.>", b"a.b.c.d", true),
+    ];
+    for (pattern, subject, matches) in table {
+        let pattern = Pattern::read(rt.alloc(), pattern)?;
+        let subject = Subject::read(rt.alloc(), subject)?;
+        assert_eq!(rt;
+            pattern.matches(&subject),
+            matches,
+            "{pattern:?} {subject:?}"
+        );
+    }
+    Ok(())
+}
+
+#[test]
+fn refusals_of_patterns_and_subjects(rt: HostRuntime) {
+    let spaces = [b' '; MAX_SUBJECT + 1];
+    let letters = [b'a'; MAX_SUBJECT + 1];
+    let table: [(&[u8], u16, u16); 24] = [
+        (b"", 1, 1),
+        (&spaces, 4, 4),
+        (&letters, 4, 4),
+        (&letters[1..], 0, 0),
+        (b"a b.", 3, 3),
+        (b"a\tb", 3, 3),
+        (b"a\rb", 3, 3),
+        (b"a\nb", 3, 3),
+        (b"a\0b", 3, 3),
+        (b"foo.", 2, 2),
+        (b".foo", 2, 2),
+        (b"a..b", 2, 2),
+        (b".", 2, 2),
+        (b"a..>.b", 2, 2),
+        (b"a.>.b", 5, 6),
+        (b"a.>", 0, 6),
+        (b">", 0, 6),
+        (b">.a", 5, 6),
+        (b">.>", 5, 6),
+        (b"a.*", 0, 6),
+        (b"*.a", 0, 6),
+        (b"a.**.b>", 0, 0),
+        (b"\x01\x7f\xff", 0, 0),
+        (b"a.b.c", 0, 0),
+    ];
+    for (text, pattern, subject) in table {
+        assert_eq!(rt; pattern_refusal(text), pattern, "{text:?}");
+        assert_eq!(rt; subject_refusal(text), subject, "{text:?}");
+    }
+}
+
+#[test]
+fn refusals_of_short_names(rt: HostRuntime) {
+    let long = [b'q'; MAX_SID + 1];
+    prove!(MAX_SID == MAX_QUEUE_NAME);
+    let table: [(&[u8], u16); 8] = [
+        (b"", 1),
+        (&long, 4),
+        (&long[1..], 0),
+        (b"a b", 3),
+        (b"a\tb", 3),
+        (b"\0", 3),
+        (b".*>+|", 0),
+        (b"caf\xc3\xa9", 0),
+    ];
+    for (text, refusal) in table {
+        assert_eq!(rt; sid_refusal(text), refusal, "{text:?}");
+        assert_eq!(rt; queue_name_refusal(text), refusal, "{text:?}");
+    }
+}
+
+#[test]
+fn refusals_of_node_names(rt: HostRuntime) {
+    let long = [b'n'; MAX_NODE_NAME + 1];
+    let spaces = [b' '; MAX_NODE_NAME + 1];
+    let table: [(&[u8], u16); 8] = [
+        (b"", 1),
+        (&long, 4),
+        (&spaces, 4),
+        (&long[1..], 0),
+        (b"n-1_Z", 0),
+        (b"a.b", 3),
+        (b"n 1", 3),
+        (b"caf\xc3\xa9", 3),
+    ];
+    for (text, refusal) in table {
+        assert_eq!(rt; node_name_refusal(text), refusal, "{text:?}");
+    }
+}
+
+#[test]
+fn names_keep_their_bytes(rt: HostRuntime) -> Result<(), Fail> {
+    let pattern = Pattern::read(rt.alloc(), b"a.*.>")?;
+    assert_eq!(rt; pattern.try_clone(rt.alloc())?.bytes(), b"a.*.>".as_slice());
+    let subject = Subject::read(rt.alloc(), b"a.b")?;
+    assert_eq!(rt; subject.try_clone(rt.alloc())?.bytes(), b"a.b".as_slice());
+    let queue = QueueName::read(rt.alloc(), b"work")?;
+    assert_eq!(rt; queue.try_clone(rt.alloc())?.bytes(), b"work".as_slice());
+    let sid = Sid::read(rt.alloc(), b"7")?;
+    assert_eq!(rt; sid.try_clone(rt.alloc())?.bytes(), b"7".as_slice());
+    let key = Key {
+        pattern,
+        queue: Some(queue),
+    };
+    let copy = key.try_clone(rt.alloc())?;
+    assert_eq!(rt; copy.pattern.bytes(), b"a.*.>".as_slice());
+    assert_eq!(rt; copy.queue.map_or(0, |name| name.bytes().len()), 4);
+    let node = NodeId::read(b"n1").ok().expect(&rt, "a node name");
+    assert_eq!(rt; node.bytes(), b"n1".as_slice());
+    assert!(rt; NodeId::read(b"n 1").is_err());
+    Ok(())
+}
+
+#[test]
+fn incarnations_and_turns_have_limits(rt: HostRuntime) {
+    assert_eq!(rt; Incarnation::new(0), None);
+    assert_eq!(rt; Incarnation::new(MAX_INCARNATION + 1), None);
+    for number in [1, 4, MAX_INCARNATION] {
+        assert_eq!(rt; Incarnation::new(number).map_or(0, |inc| inc.get()), number);
+    }
+    assert_eq!(rt; Turn::zero().get(), 0);
+    assert_eq!(rt; Turn::new(MAX_COUNTER + 1), None);
+    for (number, next) in [
+        (0, 1),
+        (1, 2),
+        (MAX_COUNTER - 1, MAX_COUNTER),
+        (MAX_COUNTER, 0),
+    ] {
+        let turn = Turn::new(number).expect(&rt, "a turn");
+        assert_eq!(rt; turn.get(), number);
+        assert_eq!(rt; turn.next().map_or(0, |turn| turn.get()), next);
+    }
+    assert_eq!(rt; ConnId::new(7).get(), 7);
+    assert_eq!(rt; ConnId::new(0) == ConnId::new(1), false);
+}
+
+#[test]
+fn finished_turns_are_kept_by_shard(rt: HostRuntime) {
+    let mut finished = Finished::new();
+    let turn = Turn::new(33).expect(&rt, "a turn");
+    finished.set(2, turn);
+    for (shard, number) in [
+        (0, 0),
+        (1, 0),
+        (2, 33),
+        (3, 0),
+        (MAX_SHARDS, 0),
+        (MAX_SHARDS + 1, 0),
+    ] {
+        assert_eq!(rt; finished.of(shard).get(), number, "{shard}");
+    }
+    let busy = Busy {
+        shard: 2,
+        finished: finished.of(2),
+    };
+    assert_eq!(rt; busy.finished.get(), 33);
+}
+
+#[test]
+fn queue_names_rise(rt: HostRuntime) -> Result<(), Fail> {
+    let table: [(&[&[u8]], bool); 7] = [
+        (&[], true),
+        (&[b"q"], true),
+        (&[b"q1", b"q2"], true),
+        (&[b"q", b"q1"], true),
+        (&[b"q2", b"q1"], false),
+        (&[b"q1", b"q1"], false),
+        (&[b"q1", b"q2", b"q2"], false),
+    ];
+    for (texts, rising) in table {
+        let mut names = Vec::new(rt.alloc());
+        for text in texts {
+            names.push(QueueName::read(rt.alloc(), text)?)?;
+        }
+        let names = QueueNames::from_names(names);
+        assert_eq!(rt; names.is_some(), rising, "{texts:?}");
+        if let Some(names) = names {
+            assert_eq!(rt; names.as_slice().len(), texts.len());
+        }
+    }
+    for (count, fits) in [(64, true), (65, false)] {
+        let mut names = Vec::new(rt.alloc());
+        for number in 0..count {
+            let text = [b'q', b'0' + number / 10, b'0' + number % 10];
+            names.push(QueueName::read(rt.alloc(), &text)?)?;
+        }
+        assert_eq!(rt; QueueNames::from_names(names).is_some(), fits, "{count}");
+    }
+    Ok(())
+}
+
+#[test]
+fn payloads_have_a_limit(rt: HostRuntime) -> Result<(), Fail> {
+    for (size, fits) in [(0, true), (MAX_PAYLOAD, true), (MAX_PAYLOAD + 1, false)] {
+        let subject = Subject::read(rt.alloc(), b"foo")?;
+        let payload = Bytes::from_vec(vec![in rt.alloc(); b'x'; size]?)?;
+        let publication = Pub::new(subject, None, payload, true);
+        assert_eq!(rt; publication.is_some(), fits, "{size}");
+    }
+    Ok(())
+}
+
+#[test]
+fn jobs_are_copied_whole(rt: HostRuntime) -> Result<(), Fail> {
+    let subject = Subject::read(rt.alloc(), b"foo")?;
+    let reply = Subject::read(rt.alloc(), b"r.1")?;
+    let payload = Bytes::from_static(b"hello");
+    let message = Message::new(subject, Some(reply), payload).ok_or("a message")?;
+    let id = PubId {
+        origin: NodeId::read(b"n1").ok().ok_or("a node name")?,
+        inc: Incarnation::new(4).ok_or("an incarnation")?,
+        number: 9,
+    };
+    let job = Job {
+        turn: Turn::new(3).ok_or("a turn")?,
+        id,
+        message,
+        publisher: Some(ConnId::new(5)),
+        echo: false,
+        queues: QueueNames::new(rt.alloc()),
+    };
+    let copy = job.try_clone(rt.alloc())?;
+    assert_eq!(rt; copy.turn.get(), 3);
+    assert_eq!(rt; copy.id, id);
+    assert_eq!(rt; copy.message.subject().bytes(), b"foo".as_slice());
+    assert_eq!(rt;
+        copy.message.reply().map_or(0, |reply| reply.bytes().len()),
+        3
+    );
+    assert_eq!(rt; copy.message.payload().as_slice(), b"hello".as_slice());
+    assert_eq!(rt; copy.publisher, Some(ConnId::new(5)));
+    assert_eq!(rt; copy.echo, false);
+    assert_eq!(rt; copy.queues.as_slice().len(), 0);
+    let sub = SubId {
+        shard: 1,
+        serial: 2,
+    };
+    assert_eq!(rt;
+        sub == SubId {
+            shard: 1,
+            serial: 3
+        },
+        false
+    );
+    Ok(())
+}

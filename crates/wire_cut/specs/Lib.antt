@@ -1,0 +1,10 @@
+pub mod Fault
+pub mod Cut
+pub mod Stream
+pub mod Search
+pub mod Window
+pub mod Answers
+pub mod Shown
+pub mod Flow
+pub mod Memory
+pub mod Raw

@@ -1,0 +1,74 @@
+//! Why a stream cannot be cut.
+ghost use Rattle.std.specs.Prelude.{◌≡◌};
+ghost use Rattle.wire_cut.specs.declared.fault.FeedFault.TheVariants as feed;
+ghost use Rattle.wire_cut.specs.declared.fault.FillFault.TheVariants as fill;
+
+use crate::source::ReadFailed;
+use std::alloc::AllocError;
+
+/// Why a stream cannot be cut any further. A cutter that has told one answers it to every later
+/// call.
+#[derive(Clone, Copy, Debug, PartialEq, Eq)]
+pub enum CutFault {
+    /// The next `line_max + 2` bytes hold no CR LF.
+    LineTooLong = 10,
+    /// The announced payload is above the cutter's limit.
+    PayloadTooLong = 11,
+    /// The two bytes behind a payload are not CR LF.
+    NoCrLfAfterPayload = 12,
+}
+
+impl CutFault {
+    ghost use Rattle.wire_cut.specs.Fault.{fault_number};
+
+    /// The number of the refusal, 10 to 12.
+    pub fn number(self) -> u8
+        ensures { result ≡ fault_number self }
+    {
+        self as u8
+    }
+}
+
+/// Why bytes were not taken in.
+#[derive(Clone, Copy, Debug, PartialEq, Eq)]
+pub enum FeedFault {
+    /// The cutter told this fault before, and keeps nothing any more.
+    Cut(CutFault),
+    /// No memory was left for the bytes. Nothing has changed.
+    OutOfMemory,
+}
+
+/// Why a read brought no bytes. The cutter is as it was.
+#[derive(Clone, Copy, Debug, PartialEq, Eq)]
+pub enum FillFault {
+    /// The cutter told this fault before, and nothing was read.
+    Cut(CutFault),
+    /// The source's read failed.
+    Read,
+    /// No memory was left for the bytes, and nothing was read.
+    OutOfMemory,
+}
+
+impl From<AllocError> for FeedFault {
+    ghost from_gives = { λ _ fault. fault ≡ feed.OutOfMemory };
+
+    fn from(_error: AllocError) -> FeedFault {
+        FeedFault::OutOfMemory
+    }
+}
+
+impl From<AllocError> for FillFault {
+    ghost from_gives = { λ _ fault. fault ≡ fill.OutOfMemory };
+
+    fn from(_error: AllocError) -> FillFault {
+        FillFault::OutOfMemory
+    }
+}
+
+impl From<ReadFailed> for FillFault {
+    ghost from_gives = { λ _ fault. fault ≡ fill.Read };
+
+    fn from(_failed: ReadFailed) -> FillFault {
+        FillFault::Read
+    }
+}

@@ -1,0 +1,27 @@
+//! Cuts a stream of bytes into lines and payloads, and names where the bytes come from and go to.
+#![tactic(auto)]
+
+mod count;
+mod cutter;
+mod fault;
+mod laws;
+mod mem_sink;
+mod mem_source;
+mod piece;
+mod raw;
+mod sink;
+mod source;
+#[cfg(test)]
+mod tests;
+mod window;
+
+pub use count::Count;
+pub use cutter::Cutter;
+pub use fault::{CutFault, FeedFault, FillFault};
+pub use laws::{law_any_feeds, law_pieces_so_far};
+pub use mem_sink::MemSink;
+pub use mem_source::MemSource;
+pub use piece::Piece;
+pub use raw::Raw;
+pub use sink::{Sink, WriteFailed};
+pub use source::{ReadFailed, Source};
