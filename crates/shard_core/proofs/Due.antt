@@ -11,12 +11,12 @@ pub walk_of_matching : (job : Job) (shard : ℕ) (subs : List Subscription) (w :
 walk_of_matching job shard [] w = refl
 walk_of_matching job shard (sub ∷ subs) w =
     elim (gets job.message.subject sub) as (λ b. walk_matching job shard (cond b (sub ∷ filter (gets job.message.subject) subs) (filter (gets job.message.subject) subs)) w ≡ walk job shard (cond (b && (is_plain sub && is_permitted job sub)) (sub ∷ filter (is_due job) subs) (filter (is_due job) subs)) w) [
-      true ↦ matched (is_plain sub && is_permitted job sub) (walk_of_matching job shard subs)
-    | false ↦ walk_of_matching job shard subs w
+      | true ↦ matched (is_plain sub && is_permitted job sub) (walk_of_matching job shard subs)
+      | false ↦ walk_of_matching job shard subs w
     ] where
-  matched : (b : Bool) → ((v : Walk) → walk_matching job shard (filter (gets job.message.subject) subs) v ≡ walk job shard (filter (is_due job) subs) v) → walk_matching job shard (filter (gets job.message.subject) subs) (cond b (put_one job shard w sub) w) ≡ walk job shard (cond b (sub ∷ filter (is_due job) subs) (filter (is_due job) subs)) w
-  matched true more = more (put_one job shard w sub)
-  matched false more = more w
+      matched : (b : Bool) → ((v : Walk) → walk_matching job shard (filter (gets job.message.subject) subs) v ≡ walk job shard (filter (is_due job) subs) v) → walk_matching job shard (filter (gets job.message.subject) subs) (cond b (put_one job shard w sub) w) ≡ walk job shard (cond b (sub ∷ filter (is_due job) subs) (filter (is_due job) subs)) w
+      matched true more = more (put_one job shard w sub)
+      matched false more = more w
 
 -- the names of subscriptions, by their serials
 pub ids_of_serials : (shard : ℕ) (subs : List Subscription) → map (id_of shard) (map serial_of subs) ≡ map (sub_id shard) subs

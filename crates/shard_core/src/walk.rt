@@ -182,7 +182,15 @@ pub fn stage<T: SubTable>(
     let matching = table.matching(job.message.subject())?;
     let mut placed = Vec::new(alloc);
     let mut closed = Vec::new(alloc);
-    stage_all(conns, &matching, job, shard, alloc, &mut placed, &mut closed)?;
+    stage_all(
+        conns,
+        &matching,
+        job,
+        shard,
+        alloc,
+        &mut placed,
+        &mut closed,
+    )?;
     let ended = ended(alloc, shard, table, &closed)?;
     Ok(Begun {
         placed,

@@ -188,8 +188,9 @@ impl Cutter {
         }
     }
 
-    /// Announces that a payload of `size` bytes follows the line given last; a second call replaces
-    /// the size. A size above the cutter's limit is the fault `PayloadTooLong`, which stays.
+    /// Announces that a payload of `size` bytes follows the line given last, as `after_line` tells; a
+    /// second call replaces the size. A fault that was told is answered again, and a size above the
+    /// cutter's limit is the fault `PayloadTooLong`, which stays.
     pub fn expect(&mut self, size: u64) -> Result<(), CutFault>
         requires { IsTrue self.old.after_line }
         ensures answer { result_err result ≡ expect_fault self.old.fault self.old.payload_max size }
