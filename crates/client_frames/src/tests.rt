@@ -381,18 +381,23 @@ fn messages_have_bytes(rt: HostRuntime) -> Result<(), Fail> {
     Ok(())
 }
 
+fn lines_for(alloc: Global, message: &Message, sid: &[u8]) -> Result<[Vec<u8>; 2], Fail> {
+    let sid = Sid::read(alloc, sid)?;
+    let alone = message_line(alloc, message, &sid)?;
+    let lines = MessageLines::new(alloc, message)?;
+    let shared = lines.line(&sid)?;
+    Ok([alone, shared])
+}
+
 #[test]
 fn messages_have_lines(rt: HostRuntime) -> Result<(), Fail> {
+    let rows: [(&[u8], &[u8]); 2] = [(b"7", b"MSG a.b 7 r 11"), (b"x", b"MSG a.b x r 11")];
     let message = message(rt.alloc(), b"a.b", Some(b"r"), b"hello world")?;
-    let first = Sid::read(rt.alloc(), b"7")?;
-    let second = Sid::read(rt.alloc(), b"x")?;
-    let line = message_line(rt.alloc(), &message, &first)?;
-    assert_eq!(rt; line.as_slice(), b"MSG a.b 7 r 11".as_slice());
-    let lines = MessageLines::new(rt.alloc(), &message)?;
-    let line = lines.line(&first)?;
-    assert_eq!(rt; line.as_slice(), b"MSG a.b 7 r 11".as_slice());
-    let line = lines.line(&second)?;
-    assert_eq!(rt; line.as_slice(), b"MSG a.b x r 11".as_slice());
+    for (sid, want) in rows {
+        let lines = lines_for(rt.alloc(), &message, sid)?;
+        assert_eq!(rt; lines[0].as_slice(), want);
+        assert_eq!(rt; lines[1].as_slice(), want);
+    }
     Ok(())
 }
 
