@@ -3,8 +3,6 @@
 
 mod pipe;
 mod pipe_client;
-#[cfg(test)]
-mod tests;
 
 use pipe::{PipeEnd, PipeFault, pipe_run};
 use std::alloc::Global;
