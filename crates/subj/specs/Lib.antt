@@ -6,3 +6,4 @@ pub mod Padding
 pub mod Messages
 pub mod Publications
 pub mod QueueNames
+pub mod Keys

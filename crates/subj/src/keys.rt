@@ -1,10 +1,15 @@
 //! What a server's clients are interested in.
 
 ghost use Rattle.std.specs.Prelude.{◌≡◌, IfOk};
+ghost use Rattle.std.specs.Cmp.Lexicographic.{slice_cmp};
+ghost use Rattle.std.specs.Option.{option_cmp};
+ghost use Rattle.std.specs.Ordering.{nat_cmp};
+ghost use Rattle.subj.specs.Keys.{key_cmp};
 
 use crate::patterns::Pattern;
 use crate::queue_names::QueueName;
 use std::alloc::{AllocError, Global};
+use std::cmp::Ordering;
 
 /// A pattern, with the name of a queue group or without: what subscriptions of one kind share.
 /// (NATS documentation, "Cluster Protocol": `RS+`.)
@@ -25,5 +30,28 @@ impl Key {
             Some(name) => Some(name.try_clone(alloc)?),
         };
         Ok(Key { pattern, queue })
+    }
+
+    /// How the key stands to another: by the bytes of the pattern, then no queue name first, then by
+    /// the bytes of the queue name. (Profile.)
+    pub fn order(&self, other: &Key) -> Ordering
+        ensures { result ≡ key_cmp self.now other.now }
+    {
+        self.pattern
+            .bytes()
+            .cmp(other.pattern.bytes())
+            .then(queue_order(&self.queue, &other.queue))
+    }
+}
+
+/// No queue name first, then by bytes.
+fn queue_order(a: &Option<QueueName>, b: &Option<QueueName>) -> Ordering
+    ensures { result ≡ option_cmp (slice_cmp nat_cmp) a.now b.now }
+{
+    match (a, b) {
+        (None, None) => Ordering::Equal,
+        (None, Some(_)) => Ordering::Less,
+        (Some(_), None) => Ordering::Greater,
+        (Some(a), Some(b)) => a.bytes().cmp(b.bytes()),
     }
 }

@@ -6,6 +6,7 @@ use crate::{
     PubId, QueueName, QueueNames, Sid, SubId, Subject, Turn,
 };
 use bytes::Bytes;
+use std::alloc::Global;
 use std::test::Fail;
 
 /// The number of the refusal of a pattern, 0 where it is none.
@@ -237,6 +238,35 @@ fn queue_names_rise(rt: HostRuntime) -> Result<(), Fail> {
             names.push(QueueName::read(rt.alloc(), &text)?)?;
         }
         assert_eq!(rt; QueueNames::from_names(names).is_some(), fits, "{count}");
+    }
+    Ok(())
+}
+
+fn key(alloc: Global, pattern: &[u8], queue: Option<&[u8]>) -> Result<Key, Fail> {
+    let queue = match queue {
+        None => None,
+        Some(name) => Some(QueueName::read(alloc, name)?),
+    };
+    let pattern = Pattern::read(alloc, pattern)?;
+    Ok(Key { pattern, queue })
+}
+
+#[test]
+fn keys_are_ordered_by_pattern_then_queue(rt: HostRuntime) -> Result<(), Fail> {
+    let rising: [(&[u8], Option<&[u8]>); 6] = [
+        (b"a.b", Some(b"z")),
+        (b"foo", None),
+        (b"foo", Some(b"a")),
+        (b"foo", Some(b"b")),
+        (b"foo.*", None),
+        (b"foo.bar", Some(b"a")),
+    ];
+    for (at, (pattern, queue)) in rising.iter().enumerate() {
+        let left = key(rt.alloc(), pattern, *queue)?;
+        for (other_at, (pattern, queue)) in rising.iter().enumerate() {
+            let right = key(rt.alloc(), pattern, *queue)?;
+            assert_eq!(rt; left.order(&right), at.cmp(&other_at), "{at} {other_at}");
+        }
     }
     Ok(())
 }
