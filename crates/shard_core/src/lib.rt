@@ -11,3 +11,6 @@ mod walk;
 pub use calls::{BeginFault, Begun, Placed, Subscribed};
 pub use faults::ShardFault;
 pub use shard::Shard;
+
+#[cfg(test)]
+mod tests;
