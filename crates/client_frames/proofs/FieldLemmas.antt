@@ -1,12 +1,12 @@
 -- Cutting the first field off a text.
-use Rattle.std.proofs.Common.{◌≡◌, ℕ, suc, ◌+◌, ◌≤◌, ◌<◌, Bool, true, false, not, cond, List, [], ◌∷◌, length, take, drop, refl, ap, sym, ◌∙◌, arith, subst, take_all, Option, Some, None}
+use Rattle.std.proofs.Common.{◌≡◌, ℕ, suc, ◌+◌, ◌≤◌, ◌<◌, Bool, true, false, not, cond, List, [], ◌∷◌, length, take, drop, refl, ap, sym, ◌∙◌, arith, subst, take_all, Some, None}
 use Rattle.std.specs.Prelude.{filter, position, nat_lt}
 use Rattle.std.specs.List.{slice_split, onto_first, position_or_len}
 use Rattle.std.proofs.lemmas.Bool.Decides.{nat_tests}
 use Rattle.std.proofs.Math.Numerals.{one-add}
 use Rattle.std.proofs.lemmas.List.{drop_all}
 use Rattle.subj.specs.Names.{is_empty}
-use Rattle.client_frames.specs.Fields.{is_blank, is_field_byte, fields, begins_with_blank}
+use Rattle.client_frames.specs.Fields.{is_blank, is_field_byte, fields}
 
 -- ---- where the first passes
 

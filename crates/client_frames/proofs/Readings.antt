@@ -1,11 +1,11 @@
 -- A stream is read alike however its bytes come.
-use Rattle.std.proofs.Common.{◌≡◌, ℕ, zero, suc, ◌+◌, ◌<◌, ◌≤◌, Bool, true, false, cond, List, [], ◌∷◌, ◌++◌, length, drop, Option, Some, None, Result, Ok, Err, refl, ap, sym, ◌∙◌, arith, append_assoc, length-append, length-drop}
+use Rattle.std.proofs.Common.{◌≡◌, ℕ, zero, suc, ◌+◌, ◌<◌, ◌≤◌, Bool, true, false, cond, List, ◌++◌, length, drop, Option, Some, None, Ok, Err, refl, ap, sym, ◌∙◌, arith, append_assoc, length-append, length-drop}
 use Rattle.std.proofs.lemmas.List.{drop-append-le}
 use Rattle.subj.specs.declared.limits.TheConstants.{CLIENT_LINE, MAX_PAYLOAD}
 use Rattle.wire_cut.specs.declared.fault.CutFault.{CutFault}
-use Rattle.wire_cut.specs.Cut.{Answer, CutterState, StreamPiece, bytes_of, cut_of, fed}
+use Rattle.wire_cut.specs.Cut.{Answer, CutterState, StreamPiece, bytes_of, cut_of}
 use Rattle.wire_cut.proofs.CutLemmas.{cut_of-piece_length, cut_of-fed_piece, cut_of-fed_fault}
-use Rattle.client_frames.specs.Streams.{StreamItem, unreadable, Awaited, a_line, a_payload, a_lost_payload, Told, going_on, ending, piece_told, cut_awaited, Found, nothing, something, the_end, found_before, found_by, found, Reading, waiting, with_items, ended_by, reading_after, reading_within, reading_from, read_on, ReadsInParts, looked_at, ReadsByLooks, WaitsForMore}
+use Rattle.client_frames.specs.Streams.{StreamItem, unreadable, Awaited, a_line, a_payload, a_lost_payload, Told, going_on, ending, piece_told, cut_awaited, Found, nothing, something, the_end, found_before, found_by, found, Reading, with_items, reading_after, reading_within, reading_from, read_on, ReadsInParts, looked_at, ReadsByLooks, WaitsForMore}
 
 -- ---- a look at the bytes as a cutter's
 

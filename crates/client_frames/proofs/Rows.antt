@@ -1,13 +1,12 @@
 -- What the definition of stream commands says of whole streams: the wanted items were worked out by hand.
-use Rattle.std.proofs.Common.{◌≡◌, ℕ, List, [], ◌∷◌, ◌++◌, refl, Option, None, Some}
+use Rattle.std.proofs.Common.{◌≡◌, ℕ, List, [], ◌∷◌, refl, Option, None, Some}
 use Rattle.std.specs.Prelude.{codes}
 use Rattle.wire_cut.specs.Cut.{first_cr_lf}
 use Rattle.wire_cut.specs.declared.fault.CutFault.TheVariants.{PayloadTooLong, NoCrLfAfterPayload}
-use Rattle.client_frames.specs.declared.client_line.ClientLine.{ClientLine}
 use Rattle.client_frames.specs.declared.client_line.ClientLine.TheVariants.{Sub, Ping}
 use Rattle.client_frames.specs.declared.client_line.PubHead.{PubHead}
 use Rattle.client_frames.specs.declared.faults.LineFault.TheVariants.{UnknownOp, BadArgs, BadSubject}
-use Rattle.client_frames.specs.Streams.{StreamItem, asked, published, refused, unreadable, reading_within, stream_commands}
+use Rattle.client_frames.specs.Streams.{asked, published, refused, unreadable, reading_within, stream_commands}
 
 abbrev head : List ℕ → Option (List ℕ) → ℕ → PubHead
 head subject reply size = record { subject = subject; reply = reply; size = size }

@@ -1,5 +1,5 @@
 -- A line means what it spells.
-use Rattle.std.proofs.Common.{◌≡◌, ℕ, Bool, true, false, cond, List, [], ◌∷◌, ◌++◌, refl, ap, sym, ◌∙◌, subst, Option, Some, None, Result, Ok, Err}
+use Rattle.std.proofs.Common.{◌≡◌, ℕ, Bool, true, false, cond, List, [], ◌∷◌, refl, ap, sym, ◌∙◌, subst, Option, Some, None, Ok, Err}
 use Rattle.std.specs.Prelude.{codes, is_some}
 use Rattle.std.specs.Str.{bytes_eq, str_to_ascii_lowercase}
 use Rattle.std.proofs.lemmas.Slice.Eq.{bytes_eq-Decides}
@@ -12,7 +12,7 @@ use Rattle.client_frames.specs.declared.faults.LineFault.{LineFault}
 use Rattle.client_frames.specs.declared.faults.LineFault.TheVariants.{BadArgs, BadSubject}
 use Rattle.client_frames.specs.Fields.{Arguments, two_or_three, line_fields, size_of}
 use Rattle.client_frames.specs.Operations.{is_word, operation_of}
-use Rattle.client_frames.specs.Lines.{Meaning, line_meaning, fields_meaning, operation_meaning, publication, publication_fault, publication_of, publication_sized, subscription_of, plain_subscription}
+use Rattle.client_frames.specs.Lines.{Meaning, line_meaning, fields_meaning, operation_meaning, publication_fault, publication_of, publication_sized, subscription_of, plain_subscription}
 use Rattle.client_frames.specs.Spelling.{NamesOperation, outer_fields, SpellsPub, SpellsBadPub, SpellsSub, FieldsSpell, Spells, MeansWhatItSpells, SpellsWhatItMeans, SpellsOneCommand, IsItsRefusal, IsRefusedOnce}
 use Rattle.client_frames.proofs.SpellingFields.{line_fields_are, begins_with_fields}
 

@@ -1,6 +1,6 @@
 -- The fields of a line are those that it is put together from.
-use Rattle.std.proofs.Common.{◌≡◌, ℕ, suc, ◌+◌, ◌≤◌, ◌<◌, Bool, true, false, not, ◌&&◌, ◌||◌, cond, List, [], ◌∷◌, ◌++◌, length, take, drop, refl, ap, sym, ◌∙◌, arith, subst, append_assoc, take-append-drop, take_all, ◌⊎◌, inl, inr, Option, Some, None}
-use Rattle.std.specs.Prelude.{filter, position, nat_lt}
+use Rattle.std.proofs.Common.{◌≡◌, ℕ, ◌+◌, ◌≤◌, ◌<◌, Bool, true, false, not, ◌&&◌, ◌||◌, cond, List, [], ◌∷◌, ◌++◌, length, take, drop, refl, ap, sym, ◌∙◌, arith, subst, take-append-drop, take_all, ◌⊎◌, inl, inr}
+use Rattle.std.specs.Prelude.{nat_lt}
 use Rattle.std.specs.List.{slice_split, onto_first, position_or_len, list_all, list_any}
 use Rattle.std.proofs.Math.Numerals.{one-add}
 use Rattle.std.proofs.lemmas.List.{drop_all}
@@ -8,7 +8,7 @@ use Rattle.std.proofs.lemmas.Bool.Decides.{nat_tests}
 use Rattle.subj.specs.Names.{is_empty}
 use Rattle.client_frames.specs.Fields.{is_blank, is_field_byte, fields, begins_with_blank, line_fields}
 use Rattle.client_frames.specs.Spelling.{AreBlanks, IsGap, IsField, Begins, ComesNext, FieldsFollow}
-use Rattle.client_frames.proofs.FieldLemmas.{kept, BeginsField, starts, skip, in_front, position-below, not_below, no_field}
+use Rattle.client_frames.proofs.FieldLemmas.{kept, BeginsField, starts, skip, in_front}
 
 -- the end of a line, or a blank
 abbrev stops : List ℕ → Bool

@@ -1,6 +1,6 @@
 -- What a server tells of itself.
 use Rattle.std.specs.Prelude.{ℕ, false, List, ◌++◌, codes, decimal}
-use Rattle.serde_json.specs.Data.{Data, Members, number, unsigned, string, boolean, object, member, no_members}
+use Rattle.serde_json.specs.Data.{Data, number, unsigned, string, boolean, object, member, no_members}
 use Rattle.serde_json.specs.Written.{compact_text}
 use Rattle.subj.specs.declared.limits.TheConstants.{MAX_PAYLOAD}
 use Rattle.client_frames.specs.declared.info.InfoData.{InfoData}

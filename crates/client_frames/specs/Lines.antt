@@ -1,6 +1,6 @@
 -- Client spelling: what a control line of a client asks for, or why it is refused.
 -- NATS documentation, "Client Protocol": the operations and their fields. The refusals are this project's profile.
-use Rattle.std.specs.Prelude.{ℕ, Bool, List, [], ◌∷◌, Option, Some, None, Result, Ok, Err, is_some, if◌then◌else◌, ◌≡◌, ⊤}
+use Rattle.std.specs.Prelude.{ℕ, List, [], ◌∷◌, Option, Some, None, Result, Ok, Err, is_some, if◌then◌else◌, ◌≡◌, ⊤}
 use Rattle.std.specs.Option.{option_or}
 use Rattle.std.specs.Result.{result_err}
 use Rattle.subj.specs.Names.{subject_fault, pattern_fault, sid_fault}

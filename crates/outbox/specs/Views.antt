@@ -1,11 +1,11 @@
 -- An entry and an outbox as other crates see them.
-use Rattle.std.specs.Prelude.{ℕ, ◌+◌, Bool, true, false, not, ◌&&◌, nat_lt, nat_le, List, [], ◌∷◌, ◌++◌, length, take, drop, sum_by}
+use Rattle.std.specs.Prelude.{ℕ, ◌+◌, Bool, true, false, not, ◌&&◌, nat_lt, nat_le, List, [], ◌∷◌, ◌++◌, length, drop, sum_by}
 use Rattle.outbox.specs.declared.entries.Tag.{Tag}
 use Rattle.outbox.specs.declared.entries.Tag.TheVariants.{Reply, Msg}
 use Rattle.outbox.specs.declared.entries.Mode.{Mode}
 use Rattle.subj.specs.declared.identities.PubId.{PubId}
 use Rattle.subj.specs.declared.identities.SubId.{SubId}
-use Rattle.outbox.specs.Bytes.{bytes_of, line_end}
+use Rattle.outbox.specs.Bytes.{bytes_of}
 use Rattle.std.specs.Prelude.{Some, None}
 
 -- an entry: what it is, and all its bytes

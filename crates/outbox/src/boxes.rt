@@ -211,7 +211,8 @@ impl Outbox {
     /// Puts the last line, given without its CR LF, beyond both limits, unseen. Want of memory leaves
     /// all as it was.
     pub fn stage_last(&mut self, line: &[u8]) -> Result<(), AllocError>
-        requires { length line.now ≤ LAST_LINE_TEXT }
+        requires once { self.old.next.shut ≡ false }
+        requires small { length line.now ≤ LAST_LINE_TEXT }
         ensures ok { OnOk result (self.new ≡ record self.old { next = with_last line.now self.old.next }) }
         ensures err { OnErr result (self.new ≡ self.old) }
     {

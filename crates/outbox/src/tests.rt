@@ -348,6 +348,7 @@ fn a_staged_last_line_is_unseen_until_shown(rt: HostRuntime) -> Result<(), Fail>
     for (shown, bytes) in table {
         let mut outbox = filled(&rt, alloc, 3, 100, 1)?;
         stage(&rt, alloc, &mut outbox, b"a")?;
+        assert!(rt; !outbox.is_closing());
         outbox.stage_last(SLOW)?;
         assert_eq!(rt; outbox.len(), 1);
         assert_eq!(rt; outbox.is_shut(), false);

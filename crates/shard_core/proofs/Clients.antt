@@ -10,7 +10,7 @@ use Rattle.outbox.specs.Views.{Waiting, Shelf, on_both}
 use Rattle.shard_core.specs.declared.conns.Conn.{Conn}
 use Rattle.shard_core.specs.State.{Client, client_at, place}
 use Rattle.shard_core.specs.Steps.{changed, changed_at, changed_in}
-use Rattle.shard_core.specs.Views.{shown_of, next_of}
+use Rattle.shard_core.specs.Views.{number_of, shown_of, next_of}
 use Rattle.shard_core.proofs.Places.{position-map}
 
 pub place_is : (n : ℕ) (conns : List Conn) → place n (map shown_of conns) ≡ position (λ (x : Conn). x.number == n) conns
@@ -70,3 +70,7 @@ unchanged conns i r box same = map-set_same shown_of conns i (record { number = 
 pub not_shut : (b : Bool) → not b ≡ true → b ≡ false
 not_shut true e = cc
 not_shut false e = refl
+
+-- an outbox that changes leaves the numbers
+pub numbers_kept : (conns : List Conn) (i : ℕ) (r : Conn) (box : Waiting) → map number_of (slice_set conns i (record { number = (slice_index_or conns i r).number; outbox = box })) ≡ map number_of conns
+numbers_kept conns i r box = map-set_same number_of conns i (record { number = (slice_index_or conns i r).number; outbox = box }) r refl

@@ -1,10 +1,10 @@
 -- What is due, as the code comes to it.
-use Rattle.std.proofs.Common.{◌≡◌, ℕ, ◌&&◌, Bool, true, false, cond, List, [], ◌∷◌, ◌++◌, map, filter, refl, ap}
+use Rattle.std.proofs.Common.{◌≡◌, ℕ, ◌&&◌, Bool, true, false, cond, List, [], ◌∷◌, map, filter, refl, ap}
 use Rattle.sub_table.specs.Subscriptions.{gets, serial_of}
 use Rattle.sub_table.specs.declared.Subscription.{Subscription}
 use Rattle.subj.specs.declared.jobs.Job.{Job}
 use Rattle.shard_core.specs.Walk.{Walk, walk, put_one, is_due, is_plain, is_permitted, sub_id}
-use Rattle.shard_core.specs.Views.{walk_matching, put_if_due, id_of}
+use Rattle.shard_core.specs.Views.{walk_matching, id_of}
 
 -- the walk over what matches is the walk over what is due
 pub walk_of_matching : (job : Job) (shard : ℕ) (subs : List Subscription) (w : Walk) → walk_matching job shard (filter (gets job.message.subject) subs) w ≡ walk job shard (filter (is_due job) subs) w

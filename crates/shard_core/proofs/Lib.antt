@@ -5,3 +5,5 @@ mod Walks
 mod Due
 mod Counts
 mod Written
+mod Numbers
+mod Staged

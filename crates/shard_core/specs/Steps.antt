@@ -2,11 +2,8 @@
 use Rattle.std.specs.Prelude.{◌≡◌, ℕ, ◌+◌, ◌/◌, Bool, false, not, ◌||◌, nat_eq, nat_lt, nat_le, List, [], ◌∷◌, ◌++◌, length, filter, take, Option, Some, None, is_some, slice_get, slice_set, if◌then◌else◌}
 use Rattle.client_frames.specs.ErrTexts.{err_line}
 use Rattle.client_frames.specs.Frames.{reply_line}
-use Rattle.client_frames.specs.declared.server_frames.ReplyFrame.{ReplyFrame}
-use Rattle.client_frames.specs.declared.err_texts.ErrText.{ErrText}
 use Rattle.outbox.specs.Views.{Written, Shelf, empty_shelf, reply_entry, with_entry, with_last, without_first}
 use Rattle.sub_table.specs.Subscriptions.{is_of_another, serial_called, cost_of, total_cost}
-use Rattle.sub_table.specs.declared.Subscription.{Subscription}
 use Rattle.subj.specs.declared.identities.SubId.{SubId}
 use Rattle.subj.specs.declared.jobs.Job.{Job}
 use Rattle.subj.specs.declared.keys.Key.{Key}

@@ -12,11 +12,17 @@ use Rattle.shard_core.specs.Walk.{Walk, is_plain, is_permitted, put_one}
 abbrev pub shown_of : Conn → Client
 shown_of conn = record { number = conn.number; outbox = conn.outbox.shown; max_entries = conn.outbox.max_entries; max_bytes = conn.outbox.max_bytes }
 
+abbrev pub number_of : Conn → ℕ
+number_of conn = conn.number
+
 abbrev pub next_of : Conn → Client
 next_of conn = record { number = conn.number; outbox = conn.outbox.next; max_entries = conn.outbox.max_entries; max_bytes = conn.outbox.max_bytes }
 
 abbrev pub walk_of : List Conn → List Placed → List ℕ → Walk
 walk_of conns placed closed = record { clients = map next_of conns; placed = placed; closed = closed }
+
+abbrev pub shown_walk : List Conn → List Placed → List ℕ → Walk
+shown_walk conns placed closed = record { clients = map shown_of conns; placed = placed; closed = closed }
 
 -- the subscriptions that a look at the references gives
 abbrev pub behind : List (Bor Subscription) → List Subscription

@@ -1,11 +1,11 @@
 -- What a shard owes at Begin.
-use Rattle.std.specs.Prelude.{ℕ, Bool, true, false, not, ◌&&◌, ◌||◌, nat_eq, List, [], ◌∷◌, ◌++◌, length, filter, flat_map, map, Option, Some, None, is_none, slice_get, slice_set, if◌then◌else◌}
+use Rattle.std.specs.Prelude.{ℕ, Bool, false, not, ◌&&◌, ◌||◌, nat_eq, List, [], ◌∷◌, ◌++◌, length, filter, flat_map, map, Option, Some, None, is_none, slice_get, slice_set, if◌then◌else◌}
 use Rattle.client_frames.specs.ErrTexts.{err_line}
-use Rattle.client_frames.specs.Messages.{due_line, due_bytes}
+use Rattle.client_frames.specs.Messages.{due_line}
 use Rattle.client_frames.specs.declared.err_texts.ErrText.TheVariants.{SlowConsumer}
-use Rattle.outbox.specs.Views.{Written, Shelf, message_entry, with_entry, with_last, has_room}
+use Rattle.outbox.specs.Views.{Written, message_entry, with_entry, with_last, has_room}
 use Rattle.outbox.specs.declared.entries.Mode.TheVariants.{Plain}
-use Rattle.sub_table.specs.Subscriptions.{gets, is_of, is_of_another, serial_of}
+use Rattle.sub_table.specs.Subscriptions.{gets, is_of, is_of_another}
 use Rattle.sub_table.specs.declared.Subscription.{Subscription}
 use Rattle.subj.specs.declared.identities.SubId.{SubId}
 use Rattle.subj.specs.declared.jobs.Job.{Job}

@@ -9,11 +9,9 @@ ghost use Rattle.shard_core.specs.Answers.{answer_of, IsAnsweredOrBack};
 ghost use Rattle.subj.specs.Answers.{IsAnswered, IsDecided};
 
 use crate::calls::{BeginFault, Begun, Subscribed};
-use crate::conns::{
-    Conn, attach, commit_all, has_room_for, put, rollback_all, shut_with, take_from, takes_events,
-};
+use crate::conns::{Conn, attach, has_room_for, put, shut_with, take_from, takes_events};
 use crate::faults::ShardFault;
-use crate::walk::{close_all, ended, stage};
+use crate::walk::{close_all, ended, place};
 use client_frames::{ErrText, ReplyFrame, reply_line};
 use outbox::{Entry, LAST_LINE_TEXT};
 use std::alloc::{AllocError, Global};
@@ -42,6 +40,8 @@ pub struct Shard<T: SubTable> {
     finished: Turn,
     hand: Option<Job>,
     conns: Vec<Conn>,
+    /// Where the last walk staged entries; kept for its memory.
+    places: Vec<usize>,
     table: T,
 }
 
@@ -86,6 +86,7 @@ impl<T: SubTable> Shard<T> {
             finished: Turn::zero(),
             hand: None,
             conns: Vec::new(alloc),
+            places: Vec::new(alloc),
             table,
         })
     }
@@ -239,17 +240,19 @@ impl<T: SubTable> Shard<T> {
                 cause: Failure::Refused(ShardFault::WrongTurn),
             });
         }
-        let begun = match stage(self.alloc, self.shard, &mut self.conns, &self.table, &job) {
-            Ok(begun) => begun,
-            Err(_) => {
-                rollback_all(&mut self.conns);
-                return Err(BeginFault {
-                    job,
-                    cause: Failure::OutOfMemory,
-                });
-            }
+        let Ok(begun) = place(
+            self.alloc,
+            self.shard,
+            &mut self.conns,
+            &self.table,
+            &job,
+            &mut self.places,
+        ) else {
+            return Err(BeginFault {
+                job,
+                cause: Failure::OutOfMemory,
+            });
         };
-        commit_all(&mut self.conns);
         close_all(&mut self.table, &begun.closed);
         self.hand = Some(job);
         Ok(begun)

@@ -3,12 +3,13 @@
 ghost use Rattle.std.specs.Prelude.{◌≡◌, [], map, filter, length, ◌&&◌, ◌++◌, IfOk, OnOk, OnErr};
 ghost use Rattle.client_frames.specs.Messages.{line_parts};
 ghost use Rattle.shard_core.specs.State.{Client};
-ghost use Rattle.shard_core.specs.Views.{shown_of, walk_of, behind, put_if_due, walk_matching};
+ghost use Rattle.shard_core.specs.Sound.{AreRising, IsStagedWithin};
+ghost use Rattle.shard_core.specs.Views.{number_of, next_of, shown_of, walk_of, shown_walk, behind, put_if_due, walk_matching};
 ghost use Rattle.shard_core.specs.Walk.{is_due, is_plain, is_permitted, due_entry as entry_due, put_one, walk, ended_with, without, sub_id};
 ghost use Rattle.sub_table.specs.Subscriptions.{is_of};
 
 use crate::calls::{Begun, Placed};
-use crate::conns::{Conn, place_of};
+use crate::conns::{Conn, commit, place_of, rollback};
 use client_frames::{ErrText, MessageLines};
 use outbox::{Entry, Mode};
 use std::alloc::{AllocError, Global};
@@ -42,6 +43,7 @@ fn due_entry(
 }
 
 /// One step of the walk, unseen.
+#[tactic(auto, using(crate::proofs::Clients::numbers_kept, crate::proofs::Staged::staged_at, crate::proofs::Staged::place_added))]
 fn stage_one(
     conns: &mut [Conn],
     sub: &Subscription,
@@ -51,14 +53,20 @@ fn stage_one(
     alloc: Global,
     placed: &mut Vec<Placed>,
     closed: &mut Vec<ConnId>,
+    places: &mut Vec<usize>,
 ) -> Result<(), AllocError>
-    requires { lines.now ≡ line_parts job.now.message }
+    requires lines { lines.now ≡ line_parts job.now.message }
+    requires rising { AreRising conns.old }
+    requires within { IsStagedWithin places.old.items conns.old }
+    ensures within { IsStagedWithin places.new.items conns.new }
     ensures same { map shown_of conns.new ≡ map shown_of conns.old }
+    ensures numbers { map number_of conns.new ≡ map number_of conns.old }
     ensures ok { OnOk result (walk_of conns.new placed.new.items closed.new.items ≡ put_one job.now shard (walk_of conns.old placed.old.items closed.old.items) sub.now) }
 {
     let Some(place) = place_of(conns, sub.conn.get()) else {
         return Ok(());
     };
+    places.push(place)?;
     let conn = &mut conns[place];
     if conn.outbox.is_closing() {
         return Ok(());
@@ -88,15 +96,20 @@ fn stage_if_due(
     alloc: Global,
     placed: &mut Vec<Placed>,
     closed: &mut Vec<ConnId>,
+    places: &mut Vec<usize>,
 ) -> Result<(), AllocError>
-    requires { lines.now ≡ line_parts job.now.message }
+    requires lines { lines.now ≡ line_parts job.now.message }
+    requires rising { AreRising conns.old }
+    requires within { IsStagedWithin places.old.items conns.old }
+    ensures within { IsStagedWithin places.new.items conns.new }
     ensures same { map shown_of conns.new ≡ map shown_of conns.old }
+    ensures numbers { map number_of conns.new ≡ map number_of conns.old }
     ensures ok { OnOk result (walk_of conns.new placed.new.items closed.new.items ≡ put_if_due job.now shard (walk_of conns.old placed.old.items closed.old.items) sub.now) }
 {
     if !may_get(job, sub) {
         return Ok(());
     }
-    stage_one(conns, sub, job, lines, shard, alloc, placed, closed)
+    stage_one(conns, sub, job, lines, shard, alloc, placed, closed, places)
 }
 
 /// The whole walk, unseen.
@@ -108,13 +121,20 @@ fn stage_all(
     alloc: Global,
     placed: &mut Vec<Placed>,
     closed: &mut Vec<ConnId>,
+    places: &mut Vec<usize>,
 ) -> Result<(), AllocError>
+    requires rising { AreRising conns.old }
+    requires within { IsStagedWithin places.old.items conns.old }
+    ensures within { IsStagedWithin places.new.items conns.new }
     ensures same { map shown_of conns.new ≡ map shown_of conns.old }
+    ensures numbers { map number_of conns.new ≡ map number_of conns.old }
     ensures ok { OnOk result (walk_of conns.new placed.new.items closed.new.items ≡ walk_matching job.now shard (behind matching.now) (walk_of conns.old placed.old.items closed.old.items)) }
 {
     let lines = MessageLines::new(alloc, &job.message)?;
     for sub in matching {
-        stage_if_due(conns, sub, job, &lines, shard, alloc, placed, closed)?;
+        stage_if_due(
+            conns, sub, job, &lines, shard, alloc, placed, closed, places,
+        )?;
     }
     Ok(())
 }
@@ -168,14 +188,19 @@ pub fn close_all<T: SubTable>(table: &mut T, conns: &[ConnId])
 
 /// What a begin does, unseen, and all that it will answer.
 #[tactic(auto, using(crate::proofs::Due::walk_of_matching))]
-pub fn stage<T: SubTable>(
+fn stage<T: SubTable>(
     alloc: Global,
     shard: u64,
     conns: &mut [Conn],
     table: &T,
     job: &Job,
+    places: &mut Vec<usize>,
 ) -> Result<Begun, AllocError>
+    requires rising { AreRising conns.old }
+    requires within { IsStagedWithin places.old.items conns.old }
+    ensures within { IsStagedWithin places.new.items conns.new }
     ensures same { map shown_of conns.new ≡ map shown_of conns.old }
+    ensures numbers { map number_of conns.new ≡ map number_of conns.old }
     ensures walked { IfOk result (λ begun. walk_of conns.new begun.placed.items begun.closed.items ≡ walk job.now shard (filter (is_due job.now) (T.contents table.now)) (walk_of conns.old [] [])) }
     ensures ended { IfOk result (λ begun. begun.ended.items ≡ ended_with shard begun.closed.items (T.contents table.now)) }
 {
@@ -190,6 +215,7 @@ pub fn stage<T: SubTable>(
         alloc,
         &mut placed,
         &mut closed,
+        places,
     )?;
     let ended = ended(alloc, shard, table, &closed)?;
     Ok(Begun {
@@ -197,4 +223,35 @@ pub fn stage<T: SubTable>(
         closed,
         ended,
     })
+}
+
+/// Places a job for the subscriptions that it is due to, and shows what was placed. Want of memory
+/// leaves what waits as it was. The places are kept for their memory alone.
+pub fn place<T: SubTable>(
+    alloc: Global,
+    shard: u64,
+    conns: &mut [Conn],
+    table: &T,
+    job: &Job,
+    places: &mut Vec<usize>,
+) -> Result<Begun, AllocError>
+    requires rising { AreRising conns.old }
+    requires settled { map next_of conns.old ≡ map shown_of conns.old }
+    ensures numbers { map number_of conns.new ≡ map number_of conns.old }
+    ensures settled { map next_of conns.new ≡ map shown_of conns.new }
+    ensures err { OnErr result (map shown_of conns.new ≡ map shown_of conns.old) }
+    ensures walked { IfOk result (λ begun. shown_walk conns.new begun.placed.items begun.closed.items ≡ walk job.now shard (filter (is_due job.now) (T.contents table.now)) (shown_walk conns.old [] [])) }
+    ensures ended { IfOk result (λ begun. begun.ended.items ≡ ended_with shard begun.closed.items (T.contents table.now)) }
+{
+    places.clear();
+    match stage(alloc, shard, conns, table, job, places) {
+        Ok(begun) => {
+            commit(conns, places);
+            Ok(begun)
+        }
+        Err(fault) => {
+            rollback(conns, places);
+            Err(fault)
+        }
+    }
 }

@@ -1,6 +1,6 @@
-use Rattle.std.proofs.Common.{◌≡◌, ◌==◌, true, length, Some, None, sym, ap, ◌∙◌, subst}
+use Rattle.std.proofs.Common.{◌≡◌, ◌==◌, length, Some, sym, ap, ◌∙◌, subst}
 use Rattle.std.specs.Prelude.{IsTrue, position, slice_index_or}
-use Rattle.outbox.specs.Views.{Waiting, with_entry, has_room, on_both}
+use Rattle.outbox.specs.Views.{with_entry, has_room, on_both}
 use Rattle.shard_core.specs.declared.conns.Conn.{Conn}
 use Rattle.shard_core.specs.Steps.{entry_fits}
 use Rattle.shard_core.proofs.Clients.{client_some, there, settled_box, changed_none, changed_is, shows_change, stays_settled, still_settled, committed}

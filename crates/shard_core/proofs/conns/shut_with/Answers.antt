@@ -1,6 +1,6 @@
-use Rattle.std.proofs.Common.{◌≡◌, ◌==◌, Some, None, sym, ap, ◌∙◌}
+use Rattle.std.proofs.Common.{◌≡◌, ◌==◌, Some, sym, ap, ◌∙◌}
 use Rattle.std.specs.Prelude.{position, slice_index_or}
-use Rattle.outbox.specs.Views.{Waiting, with_last}
+use Rattle.outbox.specs.Views.{with_last}
 use Rattle.shard_core.specs.declared.conns.Conn.{Conn}
 use Rattle.shard_core.specs.State.{takes_events}
 use Rattle.shard_core.proofs.Clients.{client_some, there, settled_box, changed_none, changed_is, shows_change, stays_settled, still_settled, not_shut}

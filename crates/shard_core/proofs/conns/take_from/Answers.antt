@@ -1,7 +1,7 @@
-use Rattle.std.proofs.Common.{◌≡◌, ◌==◌, take, Some, None, refl, sym, ap, ◌∙◌}
+use Rattle.std.proofs.Common.{◌≡◌, ◌==◌, take, Some, refl, sym, ap, ◌∙◌}
 use Rattle.std.specs.Prelude.{position, slice_index_or}
 use Rattle.std.proofs.lemmas.Result.{err_from_is_err_and}
-use Rattle.outbox.specs.Views.{Waiting, without_first}
+use Rattle.outbox.specs.Views.{without_first}
 use Rattle.shard_core.specs.declared.conns.Conn.{Conn}
 use Rattle.shard_core.specs.Steps.{known_refusal, entries_of}
 use Rattle.shard_core.proofs.Clients.{client_none, client_some, there, settled_box, changed_is, shows_change, stays_settled, still_settled, unchanged}
@@ -15,7 +15,7 @@ take-requires c =
     let conns = c.args.conns.now in
     let i = c.in-Some.place in
     let at : position (λ (x : Conn). x.number == c.args.number) conns ≡ Some i = sym c.place_of.ensures ∙ c.in-Some.is in
-    settled_box conns i _ c.requires (there conns c.args.number i c.index-conns-place.result at)
+    settled_box conns i _ c.requires.settled (there conns c.args.number i c.index-conns-place.result at)
 
 pub returns-in_err-entries-clause-answered : goal.returns-in_err-entries-clause-answered
 returns-in_err-entries-clause-answered c =
@@ -53,4 +53,4 @@ returns-clause-settled c =
     let change = without_first c.args.count in
     let at : position (λ (x : Conn). x.number == c.args.number) conns ≡ Some i = sym c.place_of.ensures ∙ c.in-Some.is in
     let is = there conns c.args.number i r at in
-    still_settled conns i (record { number = x.number; outbox = c.take.new.self }) c.requires (stays_settled x c.take.new.self change c.in_ok-entries.ensures.ok (settled_box conns i x c.requires is))
+    still_settled conns i (record { number = x.number; outbox = c.take.new.self }) c.requires.settled (stays_settled x c.take.new.self change c.in_ok-entries.ensures.ok (settled_box conns i x c.requires.settled is))

@@ -1,4 +1,4 @@
-use Rattle.std.proofs.Common.{◌≡◌, ◌++◌, map, filter, take, ap, ◌∙◌}
+use Rattle.std.proofs.Common.{◌++◌, map, filter, ap, ◌∙◌}
 use Rattle.sub_table.specs.Subscriptions.{is_of, serial_of}
 use Rattle.std.proofs.lemmas.List.{take_all}
 use Rattle.shard_core.specs.Views.{id_of}

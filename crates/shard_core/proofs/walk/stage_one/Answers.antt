@@ -1,5 +1,5 @@
 use Rattle.std.proofs.Common.{◌≡◌, ℕ, ◌==◌, true, false, List, Some, length, refl, sym, ap, ◌∙◌}
-use Rattle.std.specs.Prelude.{position, slice_get, slice_set, slice_index_or, map}
+use Rattle.std.specs.Prelude.{position, slice_set, slice_index_or, map}
 use Rattle.std.proofs.Math.Seq.{map-set_same}
 use Rattle.outbox.specs.Views.{Waiting, has_room, with_entry, with_last}
 use Rattle.shard_core.specs.declared.conns.Conn.{Conn}
@@ -41,7 +41,7 @@ returns-in_ok-stage-clause-ok c =
     let at : position (λ (x : Conn). x.number == c.args.sub.now.conn) conns ≡ Some i = ap (λ n. position (λ (x : Conn). x.number == n) c.args.conns.now) (sym c.get.ensures) ∙ sym c.place_of.ensures ∙ c.in-Some.is in
     let room : has_room x.outbox.max_entries x.outbox.max_bytes (length c.in_ok-entry.entry.bytes) x.outbox.next ≡ true = ap (λ n. has_room x.outbox.max_entries x.outbox.max_bytes n x.outbox.next) (sym c.len.ensures) ∙ sym c.room.ensures ∙ c.if-room.true in
     put_due c.args.job.now c.args.shard conns c.args.placed.now.items c.args.closed.now.items c.args.sub.now i x at (there conns c.args.sub.now.conn i r at) (sym c.is_closing.ensures ∙ c.if-is_closing.false)
-    c.in_ok-entry.entry c.in_ok-copy.copy c.stage.new.self c.push.new.self.items (c.in_ok-entry.ensures (next_of x)) c.in_ok-copy.ensures room c.in_ok-stage.ensures.ok c.in_ok-push.ensures.items
+    c.in_ok-entry.entry c.in_ok-copy.copy c.stage.new.self c.push-then-room.new.self.items (c.in_ok-entry.ensures (next_of x)) c.in_ok-copy.ensures room c.in_ok-stage.ensures.ok c.in_ok-push-2.ensures.items
 
 pub returns-in_ok-stage_last-clause-same : goal.returns-in_ok-stage_last-clause-same
 returns-in_ok-stage_last-clause-same c =
@@ -58,4 +58,4 @@ returns-in_ok-stage_last-clause-ok c =
     let at : position (λ (x : Conn). x.number == c.args.sub.now.conn) conns ≡ Some i = ap (λ n. position (λ (x : Conn). x.number == n) c.args.conns.now) (sym c.get.ensures) ∙ sym c.place_of.ensures ∙ c.in-Some.is in
     let room : has_room x.outbox.max_entries x.outbox.max_bytes (length c.in_ok-entry.entry.bytes) x.outbox.next ≡ false = ap (λ n. has_room x.outbox.max_entries x.outbox.max_bytes n x.outbox.next) (sym c.len.ensures) ∙ sym c.room.ensures ∙ c.if-room.false in
     put_last c.args.job.now c.args.shard conns c.args.placed.now.items c.args.closed.now.items c.args.sub.now i x at (there conns c.args.sub.now.conn i r at) (sym c.is_closing.ensures ∙ c.if-is_closing.false)
-    c.in_ok-entry.entry c.line.result.now c.stage_last.new.self c.push-else-room.new.self.items (c.in_ok-entry.ensures (next_of x)) c.line.ensures.same room c.in_ok-stage_last.ensures.ok c.in_ok-push-2.ensures.items
+    c.in_ok-entry.entry c.line.result.now c.stage_last.new.self c.push-else-room.new.self.items (c.in_ok-entry.ensures (next_of x)) c.line.ensures.same room c.in_ok-stage_last.ensures.ok c.in_ok-push-3.ensures.items

@@ -1,0 +1,11 @@
+use Rattle.std.proofs.Common.{◌≡◌, map, drop}
+use Rattle.shard_core.specs.Sound.{IsStagedWithin}
+use Rattle.shard_core.specs.Views.{number_of, next_of}
+use Rattle.shard_core.proofs.conns.commit.Given as goal
+
+abbrev pub invariant-loop-place : goal.invariant-loop-place
+invariant-loop-place l = record {
+  next : map next_of l.conns ≡ map next_of l.fn.conns;
+  numbers : map number_of l.conns ≡ map number_of l.fn.conns;
+  within : IsStagedWithin (drop l.place-index l.places) l.conns;
+}
