@@ -3,6 +3,8 @@
 
 mod pipe;
 mod pipe_client;
+#[cfg(test)]
+mod tests;
 
 use pipe::{PipeEnd, PipeFault, pipe_run};
 use std::alloc::Global;

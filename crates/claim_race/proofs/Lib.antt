@@ -1,0 +1,4 @@
+mod Behind
+mod Turns
+mod Table
+mod Steps

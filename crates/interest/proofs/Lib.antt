@@ -1,0 +1,6 @@
+mod Calls
+mod KeyOrder
+mod Places
+mod Entries
+mod Deltas
+mod Told

@@ -1,0 +1,10 @@
+use Rattle.std.proofs.Common.{◌<◌, length, subst}
+use Rattle.interest.specs.Counts.{Counts}
+use Rattle.interest.proofs.Entries.{counted_at}
+use Rattle.interest.proofs.counts.Local.weight.Goals as goal
+
+pub returns-in-Ok-clause-most : goal.returns-in-Ok-clause-most
+returns-in-Ok-clause-most c =
+    let entries = c.self.inside.entries.items in
+    let below : c.in-Ok.place < length entries = subst (λ (counts : Counts). c.in-Ok.place < length counts) c.deref.ensures.value c.in-Ok.ensures.within in
+    rw c.index.ensures (counted_at entries c.in-Ok.place c.index.result.now c.self.invariant.0 below).1

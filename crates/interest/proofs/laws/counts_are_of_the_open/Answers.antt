@@ -1,0 +1,5 @@
+use Rattle.interest.proofs.Told.{counts_open}
+use Rattle.interest.proofs.laws.counts_are_of_the_open.Goals as goal
+
+pub returns : goal.returns
+returns c = counts_open

@@ -1,0 +1,205 @@
+//! How many subscriptions of each key are open.
+
+ghost use Rattle.std.specs.Prelude.{◌≡◌, ◌^◌, ◌<◌, ◌≤◌, [], MatchResult, IfOk, OnErr};
+ghost use Rattle.std.specs.List.{list_any};
+ghost use Rattle.std.specs.BTreeMap.{insert_entry};
+ghost use Rattle.std.specs.List.Sorted.{IsStrictlySortedBy};
+ghost use Rattle.std.specs.Map.{keys_of};
+ghost use Rattle.interest.specs.Places.{IsPlaceOf, IsGapFor};
+ghost use Rattle.subj.specs.Answers.{IsAnswered};
+ghost use Rattle.subj.specs.Keys.{key_cmp};
+ghost use Rattle.interest.specs.KeysLeft.{keys_left};
+ghost use Rattle.interest.specs.Counts.{cost_of, count_after, with_count, count_of, change_between, is_plain_match, IsInterest, is_full, too_many_if, counts_after, delta_fault, change_of};
+
+use crate::changes::{Change, Delta};
+use crate::faults::InterestFault;
+use crate::key_lists::Keys;
+use std::alloc::{AllocError, Global};
+use std::marker::Model;
+use subj::{Failure, Key, MAX_KEYS, MAX_WEIGHT, SUBSCRIPTION_BYTES, SUBSCRIPTION_COST, Subject};
+
+/// What a key counts towards the limit of bytes.
+fn cost(key: &Key) -> u64
+    ensures same { result ≡ cost_of key.now }
+    ensures small { result ≤ SUBSCRIPTION_BYTES }
+{
+    let queue = key.queue.as_ref().map_or(0, |name| name.bytes().len());
+    (key.pattern.bytes().len() + queue) as u64 + SUBSCRIPTION_COST
+}
+
+/// The number of a key's open subscriptions once one more has opened, or one has closed.
+fn number_after(up: bool, count: u64) -> u64
+    requires open { 1 ≤ count }
+    requires fits { count < 2 ^ 63 }
+    ensures { result ≡ count_after up count }
+{
+    if up { count + 1 } else { count - 1 }
+}
+
+/// What the other servers are told where the number of a key's open subscriptions changes.
+fn change(alloc: Global, key: &Key, before: u64, after: u64) -> Result<Option<Change>, AllocError>
+    ensures { IfOk result (λ change. change ≡ change_between key.now before after) }
+{
+    if after == 0 {
+        let key = key.try_clone(alloc)?;
+        return Ok(Some(Change::Gone { key }));
+    }
+    if key.queue.is_none() && 0 < before {
+        return Ok(None);
+    }
+    let key = key.try_clone(alloc)?;
+    Ok(Some(Change::Up { key, weight: after }))
+}
+
+/// The place of the key, or the one where it would stand.
+fn place_of(entries: &[(Key, u64)], key: &Key) -> Result<usize, usize>
+    requires { IsStrictlySortedBy key_cmp (keys_of entries.now) }
+    ensures { MatchResult result (IsPlaceOf key_cmp key.now entries.now) (IsGapFor key_cmp key.now entries.now) }
+{
+    entries.binary_search_by(|entry| entry.0.order(key))
+}
+
+/// How many subscriptions of each key are open, by the deltas that it was told.
+///
+/// Seen as the list of the keys with an open subscription, each with the number of them, in the order
+/// of [`Key::order`]. It has at most [`MAX_KEYS`] keys, at most [`MAX_WEIGHT`] open subscriptions of
+/// each, and the bytes of its keys' patterns and queue names, with [`SUBSCRIPTION_COST`] for each key,
+/// come to at most [`SUBSCRIPTION_BYTES`]. (Profile.)
+#[derive(Debug, Drop)]
+pub struct Local {
+    alloc: Global,
+    entries: Vec<(Key, u64)>,
+    /// What the keys count together.
+    bytes: u64,
+}
+
+impl Model for Local {
+    ghost use Rattle.std.specs.Prelude.{◌≡◌, ℕ, List};
+    ghost use Rattle.subj.specs.declared.keys.Key.{Key};
+    ghost use Rattle.interest.specs.KeysLeft.{keys_left};
+    ghost use Rattle.interest.specs.Counts.{IsInterest, total_cost};
+
+    ghost Value = { List (Key × ℕ) };
+
+    ghost view = { λ local. local.entries.items };
+
+    ghost invariant = { λ local. IsInterest local.entries.items × (local.bytes ≡ total_cost local.entries.items) };
+}
+
+impl Local {
+    /// No subscription is open.
+    pub fn new(alloc: Global) -> Local
+        ensures { result ≡ [] }
+    {
+        Local {
+            alloc,
+            entries: Vec::new(alloc),
+            bytes: 0,
+        }
+    }
+
+    /// Counts one subscription that opened or closed, and answers what the other servers are told.
+    ///
+    /// A plain key is told of on its first opening and on its last closing; a key with a queue name
+    /// each time, with the number now open, or as gone. (NATS documentation, "Cluster Protocol".)
+    ///
+    /// Refused: 43 where an opening would make a key beyond [`MAX_KEYS`], or a number beyond
+    /// [`MAX_WEIGHT`], or keys of more bytes than [`SUBSCRIPTION_BYTES`]; 42 where a closing is of a
+    /// key that has no open subscription. Any `Err` leaves all as it was.
+    pub fn apply(&mut self, delta: &Delta) -> Result<Option<Change>, Failure<InterestFault>>
+        ensures { IsAnswered (delta_fault self.old delta.now) (λ change. (change ≡ change_of self.old delta.now) × (self.new ≡ counts_after self.old delta.now)) (self.new ≡ self.old) result }
+    {
+        match (place_of(&self.entries, &delta.key), delta.up) {
+            (Err(place), true) => self.add(place, &delta.key),
+            (Err(_), false) => Err(Failure::Refused(InterestFault::UnknownKey)),
+            (Ok(place), _) => self.recount(place, delta),
+        }
+    }
+
+    /// The first opening of a key.
+    fn add(&mut self, place: usize, key: &Key) -> Result<Option<Change>, Failure<InterestFault>>
+        requires { IsGapFor key_cmp key.now self.old place }
+        ensures { IsAnswered (too_many_if (is_full self.old key.now)) (λ change. (change ≡ change_between key.now 0 1) × (self.new ≡ insert_entry key_cmp self.old key.now 1)) (self.new ≡ self.old) result }
+    {
+        let bytes = self.bytes + cost(key);
+        if self.entries.len() as u64 >= MAX_KEYS || bytes > SUBSCRIPTION_BYTES {
+            return Err(Failure::Refused(InterestFault::TooManyKeys));
+        }
+        let change = change(self.alloc, key, 0, 1)?;
+        let key = key.try_clone(self.alloc)?;
+        self.entries.insert(place, (key, 1))?;
+        self.bytes = bytes;
+        Ok(change)
+    }
+
+    /// Another opening, or a closing, of a key that is there.
+    fn recount(
+        &mut self,
+        place: usize,
+        delta: &Delta,
+    ) -> Result<Option<Change>, Failure<InterestFault>>
+        requires { IsPlaceOf key_cmp delta.now.key self.old place }
+        ensures { IsAnswered (delta_fault self.old delta.now) (λ change. (change ≡ change_of self.old delta.now) × (self.new ≡ counts_after self.old delta.now)) (self.new ≡ self.old) result }
+    {
+        let count = self.entries[place].1;
+        if delta.up && count >= MAX_WEIGHT {
+            return Err(Failure::Refused(InterestFault::TooManyKeys));
+        }
+        let count = number_after(delta.up, count);
+        let change = self.set_count(place, &delta.key, count)?;
+        Ok(change)
+    }
+
+    /// Another number for a key that is there.
+    fn set_count(
+        &mut self,
+        place: usize,
+        key: &Key,
+        count: u64,
+    ) -> Result<Option<Change>, AllocError>
+        requires place { IsPlaceOf key_cmp key.now self.old place }
+        requires most { count ≤ MAX_WEIGHT }
+        ensures ok { IfOk result (λ change. (change ≡ change_between key.now (count_of self.old key.now) count) × (self.new ≡ with_count self.old key.now count)) }
+        ensures err { OnErr result (self.new ≡ self.old) }
+    {
+        let before = self.entries[place].1;
+        let change = change(self.alloc, key, before, count)?;
+        if count == 0 {
+            let (gone, _) = self.entries.remove(place);
+            self.bytes -= cost(&gone);
+            return Ok(change);
+        }
+        self.entries[place].1 = count;
+        Ok(change)
+    }
+
+    /// The number of open subscriptions of the key: its weight where it has a queue name.
+    pub fn weight(&self, key: &Key) -> u64
+        ensures weight { result ≡ count_of self.now key.now }
+        ensures most { result ≤ MAX_WEIGHT }
+    {
+        match place_of(&self.entries, key) {
+            Ok(place) => self.entries[place].1,
+            Err(_) => 0,
+        }
+    }
+
+    /// Whether a plain key matches the subject: whether some subscription without a queue name wants
+    /// what is published there.
+    pub fn has_plain(&self, subject: &Subject) -> bool
+        ensures { result ≡ list_any (is_plain_match subject.now) self.now }
+    {
+        self.entries.iter().any(|(key, _)| key.queue.is_none() && key.pattern.matches(subject))
+    }
+
+    /// The keys that have an open subscription, each with the number of them, in the order of
+    /// [`Key::order`].
+    pub fn keys(&self) -> Keys<'_>
+        ensures same { keys_left result ≡ self.now }
+        ensures valid { IsInterest self.now }
+    {
+        Keys {
+            left: &self.entries,
+        }
+    }
+}

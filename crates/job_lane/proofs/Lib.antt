@@ -1,0 +1,2 @@
+pub mod Numbering
+mod Moves

@@ -1,0 +1,16 @@
+use Rattle.std.proofs.Common.{ap}
+use Rattle.job_lane.proofs.Moves.{pops, learns_all}
+use Rattle.job_lane.proofs.steps.drain.Goals as goal
+
+pub len_as-waiting-requires-clause-rule : goal.len_as-waiting-requires-clause-rule
+len_as-waiting-requires-clause-rule g c = learns_all _ _ c.requires.both.0 c.requires.both.1
+
+pub pop_as-requires-clause-rule : goal.pop_as-requires-clause-rule
+pop_as-requires-clause-rule g c =
+    let kept = c.loop-taken.invariant in
+    (pops _ _ (ap (λ known. known.may_pop) kept.1), learns_all _ _ (ap (λ known. known.may_push) kept.1) (ap (λ known. known.may_pop) kept.1))
+
+pub learn_as-requires-clause-rule : goal.learn_as-requires-clause-rule
+learn_as-requires-clause-rule g c =
+    let kept = c.loop-taken.invariant in
+    learns_all _ _ (ap (λ known. known.may_push) kept.1) (ap (λ known. known.may_pop) kept.1)

@@ -1,0 +1,10 @@
+use Rattle.std.proofs.Common.{◌≡◌}
+use Rattle.job_lane.proofs.tests.push_in_time.Given as goal
+
+abbrev pub invariant-loop : goal.invariant-loop
+invariant-loop g l =
+    (goal.iterator-loop g).can_next l.iterator'
+    × (goal.iterator-loop g).is_finite l.iterator'
+    × (l.job ≡ l.fn.job)
+    × (l.writer.lane ≡ l.initial.writer.lane)
+    × (l.writer.pushed ≡ l.initial.writer.pushed)
