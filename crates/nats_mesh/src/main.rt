@@ -1,6 +1,8 @@
 //! The program: `pipe` serves one client on standard input and output.
 #![tactic(auto)]
 
+#[cfg(test)]
+mod fault_tests;
 mod pipe;
 mod pipe_client;
 #[cfg(test)]

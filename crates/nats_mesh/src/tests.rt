@@ -7,15 +7,18 @@ use std::test::Fail;
 use wire_cut::{MemSink, MemSource};
 
 /// What comes first.
-const INFO: &[u8] =
+pub const INFO: &[u8] =
     b"INFO {\"client_id\":1,\"headers\":false,\"host\":\"127.0.0.1\",\"max_payload\":1048576,\"port\":0,\"proto\":1,\"server_id\":\"n1-1\",\"server_name\":\"n1\",\"version\":\"1.0.0\"}\r\n";
 
-const FIRST_MESSAGE: &[u8] = b"SUB foo 1\r\nPUB foo 5\r\nhello\r\n";
+pub const FIRST_MESSAGE: &[u8] = b"SUB foo 1\r\nPUB foo 5\r\nhello\r\n";
 
-const FIRST_ANSWER: &[u8] = b"+OK\r\n+OK\r\nMSG foo 1 5\r\nhello\r\n";
+pub const FIRST_ANSWER: &[u8] = b"+OK\r\n+OK\r\nMSG foo 1 5\r\nhello\r\n";
 
 /// Runs a pipe, and gives its end and all that it wrote.
-fn run(alloc: Global, source: MemSource) -> Result<(Result<PipeEnd, PipeFault>, Vec<u8>), Fail> {
+pub fn run(
+    alloc: Global,
+    source: MemSource,
+) -> Result<(Result<PipeEnd, PipeFault>, Vec<u8>), Fail> {
     let mut source = source;
     let mut sink = MemSink::new(alloc);
     let end = pipe_run(alloc, &mut source, &mut sink);
@@ -23,12 +26,12 @@ fn run(alloc: Global, source: MemSource) -> Result<(Result<PipeEnd, PipeFault>, 
     Ok((end, written))
 }
 
-fn source(alloc: Global, input: &[u8]) -> Result<MemSource, Fail> {
+pub fn source(alloc: Global, input: &[u8]) -> Result<MemSource, Fail> {
     Ok(MemSource::new(Vec::from_slice(alloc, input)?))
 }
 
 /// Runs the input whole, and compares the end and what comes behind INFO.
-fn check<R: Abort + Alloc<A = Global>>(
+pub fn check<R: Abort + Alloc<A = Global>>(
     rt: &R,
     input: &[u8],
     answer: &[u8],
@@ -187,22 +190,5 @@ fn any_cut_of_the_input(rt: HostRuntime) -> Result<(), Fail> {
         assert_eq!(rt; written.as_slice(), expected.as_slice(), "{most}");
         assert_eq!(rt; end, Ok(PipeEnd::Ended), "{most}");
     }
-    Ok(())
-}
-
-#[test]
-fn failing_reader_and_writer(rt: HostRuntime) -> Result<(), Fail> {
-    let failing = source(rt.alloc(), FIRST_MESSAGE)?.failing_at(2);
-    let (end, written) = run(rt.alloc(), failing)?;
-    let mut expected = Vec::from_slice(rt.alloc(), INFO)?;
-    expected.extend_from_slice(FIRST_ANSWER)?;
-    assert_eq!(rt; end, Err(PipeFault::Read));
-    assert_eq!(rt; written.as_slice(), expected.as_slice());
-
-    let mut reader = source(rt.alloc(), FIRST_MESSAGE)?;
-    let mut writer = MemSink::new(rt.alloc()).failing_at(2);
-    let end = pipe_run(rt.alloc(), &mut reader, &mut writer);
-    assert_eq!(rt; end, Err(PipeFault::Write));
-    assert_eq!(rt; writer.bytes(), INFO);
     Ok(())
 }
