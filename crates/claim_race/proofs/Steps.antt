@@ -2,7 +2,7 @@
 use Rattle.std.proofs.Common.{◌≡◌, ◌≢◌, ℕ, zero, suc, ◌∷◌, ◌+◌, ◌-◌, ◌*◌, ◌%◌, ◌<◌, ◌≤◌, true, false, ◌&&◌, cond, List, length, map, get_or, set, Option, Some, None, refl, ap, sym, ◌∙◌, subst, arith, ◌⊎◌, inl, inr, lit<, length-set, get_or-set_same, get_or-set_other}
 use Rattle.std.specs.Prelude.{nat_eq, nat_lt, is_none, replicate}
 use Rattle.std.proofs.lemmas.Bool.Decides.{nat_tests}
-use Rattle.std.proofs.lemmas.List.{map-set, set-get_or, get_or-map}
+use Rattle.std.proofs.lemmas.List.{map-set, set-get_or, get_or-map, length-replicate}
 use Rattle.std.proofs.lemmas.Option.{same_Some}
 use Rattle.subj.specs.declared.limits.TheConstants.{WINDOW, MAX_QUEUE_NAMES}
 use Rattle.claim_race.specs.declared.plain_race.Progress.{Progress}
@@ -216,3 +216,19 @@ begins shards issued progress table start issued_is progress_is finished_is next
 
 pub turn_is : (most issued turn : ℕ) → cond (nat_lt most (issued + 1)) None (Some (issued + 1)) ≡ Some turn → turn ≡ issued + 1
 turn_is most issued turn is = grind (arith, nat_tests)
+
+nothing_at : (size place : ℕ) → get_or (replicate size (let free : Option Claimed = None in free)) place None ≡ None
+nothing_at zero place = refl
+nothing_at (suc size) zero = refl
+nothing_at (suc size) (suc place) = nothing_at size place
+
+-- the table at the start
+pub starts : (size issued : ℕ) (finished : List ℕ) (table : List (Option Claimed)) → issued ≡ 0 → table ≡ replicate size None → size ≡ WINDOW * MAX_QUEUE_NAMES → IsTable issued finished table
+starts size issued finished table none same wide = record {
+  width = ap length same ∙ length-replicate size None ∙ wide;
+  placed = λ place claimed at. absurd (nobody_there claimed (sym (nothing_at size place) ∙ sym (ap (λ l. get_or l place None) same) ∙ at));
+  near = λ place below. omega arith;
+}
+  where
+    nobody_there : (claimed : Claimed) → ¬ (None ≡ Some claimed)
+    nobody_there claimed e = cc

@@ -1,0 +1,15 @@
+mod Lists
+mod Turns
+mod LawKept
+mod WordsKept
+mod SeatedKept
+mod Opening
+mod Moves
+mod SeatsKept
+mod Behind
+mod Rounds
+mod Issuing
+mod Wins
+mod OneSeats
+mod Examples
+mod Gathering

@@ -1,0 +1,8 @@
+use Rattle.std.proofs.Common.{sym, subst}
+use Rattle.claim_cells.specs.Steps.{part_of}
+use Rattle.claim_cells.specs.Seats.{ShardShown, HasTurn}
+use Rattle.claim_cells.proofs.SeatsKept.{sighted}
+use Rattle.claim_cells.proofs.cells.Cells.finish.Goals as goal
+
+pub finish_at-requires-clause-seen : goal.finish_at-requires-clause-seen
+finish_at-requires-clause-seen c = sighted (part_of c.seat.inside.place.me) (subst (λ (v : ShardShown). HasTurn v.part) (sym c.seat.view_is) c.requires.turn)

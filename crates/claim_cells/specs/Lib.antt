@@ -1,0 +1,6 @@
+pub mod Rule
+pub mod Steps
+pub mod Seats
+pub mod Calls
+pub mod OneSeat
+pub mod Examples

@@ -1,0 +1,24 @@
+//! The race of a server's shards without a lock: one table of words, on which each shard steps with a
+//! seat of its own.
+//!
+//! What is proved holds between any two steps, whatever threads make them and in whatever order they come.
+//! Which shard wins a pair, that a thread gets on, and one common order of all steps are not said.
+#![tactic(auto)]
+
+mod cells;
+mod closing;
+mod one_seat;
+mod parts;
+mod plays;
+mod seats;
+mod steps;
+
+pub use cells::Cells;
+pub use closing::Closed;
+pub use one_seat::CellsRace;
+pub use parts::{HubPart, ShardPart};
+pub use seats::{HubSeat, ShardSeat};
+pub use subj::{Busy, Finished, Turn};
+
+#[cfg(test)]
+mod tests;
