@@ -1,0 +1,86 @@
+-- What a numbered frame's canonical spelling means: each part of it is read as that part again.
+use Rattle.std.proofs.Common.{◌≡◌, ℕ, ◌+◌, ◌*◌, ◌^◌, ◌≤◌, ◌<◌, Bool, true, false, not, ◌&&◌, ◌||◌, cond, List, [], ◌∷◌, ◌++◌, length, refl, ap, sym, ◌∙◌, subst, arith, append_assoc, Option, Some, None, Result, Ok, Err}
+use Rattle.std.specs.Prelude.{nat_lt, nat_le, nat_eq, decimal, codes, is_some, is_none}
+use Rattle.std.specs.Option.{ok_or, option_to_list}
+use Rattle.std.proofs.lemmas.Bool.{le-leb}
+use Rattle.std.proofs.lemmas.Bool.Decides.{nat_tests}
+use Rattle.line_fields.specs.Fields.{number_of, line_fields}
+use Rattle.line_fields.specs.Spelling.{IsField}
+use Rattle.subj.specs.declared.limits.TheConstants.{MAX_INCARNATION, MAX_COUNTER, MAX_WEIGHT}
+use Rattle.subj.specs.declared.keys.Key.{Key}
+use Rattle.subj.specs.declared.names.NameFault.{NameFault}
+use Rattle.subj.specs.Names.{node_name_fault, pattern_fault, subject_fault, queue_name_fault}
+use Rattle.subj.specs.Numbers.{incarnation_of}
+use Rattle.route_frames.specs.declared.faults.RouteFault.{RouteFault}
+use Rattle.route_frames.specs.declared.faults.RouteFault.TheVariants.{BadArgs, BadNumber}
+use Rattle.route_frames.specs.declared.common.TheConstants.{INCARNATION_DIGITS, NUMBER_DIGITS}
+use Rattle.route_frames.specs.declared.common.Digits.{Digits}
+use Rattle.route_frames.specs.declared.common.Numbers.{Numbers}
+use Rattle.route_frames.specs.declared.line_reading.TheConstants.{WEIGHT_DIGITS, SIZE_DIGITS}
+use Rattle.route_frames.specs.Meaning.{Meaning, ◌>>=◌}
+use Rattle.route_frames.specs.CommonFields.{CommonFields, digits_of, within, node_of, numbers_of, numbers_in_range}
+use Rattle.route_frames.specs.NumberedLines.{pattern_of, subject_of, queue_of, optional, key_of}
+use Rattle.route_frames.specs.Snapshots.{Weighted, is_weight, weighted_key}
+use Rattle.route_frames.specs.Valid.{IsQueue, IsKey, IsWeighted, IsIncarnation}
+use Rattle.route_frames.proofs.SpeltFields.{number_again}
+
+-- ---- numbers
+
+pub digits_again : (most n : ℕ) → 0 < most → n < 10 ^ most → n < 2 ^ 64 → digits_of most (decimal n) ≡ Ok n
+digits_again most n some short small = ap (λ number. ok_or number BadArgs) (number_again most n some short small)
+
+pub within_again : (least most n : ℕ) → least ≤ n → n ≤ most → within least most n ≡ Ok n
+within_again least most n low high = ap (λ b. cond (b && nat_le n most) (Ok n) (Err BadNumber)) (le-leb least n low) ∙ ap (λ b. cond b (Ok n) (Err BadNumber)) (le-leb n most high)
+
+inc_test : (n : ℕ) (zero above : Bool) → nat_eq n 0 ≡ zero → nat_lt MAX_INCARNATION n ≡ above → 1 ≤ n → n ≤ MAX_INCARNATION → (zero || above) ≡ false
+inc_test n zero above z a low high = grind (arith, nat_tests)
+
+incarnation_again : (n : ℕ) → IsIncarnation n → ok_or (incarnation_of n) BadNumber ≡ Ok n
+incarnation_again n is = ap (λ b. ok_or (cond b None (Some n)) BadNumber) (inc_test n _ _ refl refl is.least is.most)
+
+abbrev pub digits_spelt : ℕ → ℕ → ℕ → Digits
+digits_spelt inc to_inc number = record { inc = inc; to_inc = to_inc; number = number }
+
+abbrev pub numbers_spelt : ℕ → ℕ → ℕ → Numbers
+numbers_spelt inc to_inc number = record { inc = inc; to_inc = to_inc; number = number }
+
+abbrev pub common_spelt : List ℕ → ℕ → List ℕ → ℕ → ℕ → CommonFields
+common_spelt from inc to to_inc number = record { from = from; inc = decimal inc; to = to; to_inc = decimal to_inc; number = decimal number }
+
+pub numbers_again : (from to : List ℕ) (inc to_inc number : ℕ) → IsIncarnation inc → IsIncarnation to_inc → number ≤ MAX_COUNTER → numbers_of (common_spelt from inc to to_inc number) ≡ Ok (digits_spelt inc to_inc number)
+unfolding numbers_of
+numbers_again from to inc to_inc number is is_too most =
+    let one = digits_again INCARNATION_DIGITS inc (omega arith) (let m = is.most in omega arith) (let m = is.most in omega arith) in
+    let two = digits_again INCARNATION_DIGITS to_inc (omega arith) (let m = is_too.most in omega arith) (let m = is_too.most in omega arith) in
+    let three = digits_again NUMBER_DIGITS number (omega arith) (omega arith) (omega arith) in
+    rw (one, two, three) refl
+
+pub in_range_again : (least inc to_inc number : ℕ) → IsIncarnation inc → IsIncarnation to_inc → least ≤ number → number ≤ MAX_COUNTER → numbers_in_range least (digits_spelt inc to_inc number) ≡ Ok (numbers_spelt inc to_inc number)
+unfolding numbers_in_range
+in_range_again least inc to_inc number is is_too low high =
+    rw (incarnation_again inc is, incarnation_again to_inc is_too, within_again least MAX_COUNTER number low high) refl
+
+-- ---- names
+
+pub node_again : (name : List ℕ) → node_name_fault name ≡ None → node_of name ≡ Ok name
+node_again name is = ap (λ fault. cond (is_some fault) (Err BadArgs) (Ok name)) is
+
+pub subject_again : (text : List ℕ) → subject_fault text ≡ None → subject_of text ≡ Ok text
+subject_again text is = ap (λ fault. cond (is_some fault) (Err BadArgs) (Ok text)) is
+
+pub pattern_again : (text : List ℕ) → pattern_fault text ≡ None → pattern_of text ≡ Ok text
+pattern_again text is = ap (λ fault. cond (is_some fault) (Err BadArgs) (Ok text)) is
+
+pub queue_again : (text : List ℕ) → queue_name_fault text ≡ None → queue_of text ≡ Ok text
+queue_again text is = ap (λ fault. cond (is_some fault) (Err BadArgs) (Ok text)) is
+
+optional_queue_again : (queue : Option (List ℕ)) → IsQueue queue → optional queue_of queue ≡ Ok queue
+optional_queue_again None is = refl
+optional_queue_again (Some queue) is = ap (λ read. read >>= λ value. Ok (Some value)) (queue_again queue is)
+
+pub key_again : (key : Key) → IsKey key → key_of key.pattern key.queue ≡ Ok key
+unfolding key_of
+key_again key is = rw (pattern_again key.pattern is.pattern, optional_queue_again key.queue is.queue) refl
+
+pub weighted_again : (weighted : Weighted) → is_weight weighted.0 weighted.1 ≡ true → ok_or (weighted_key weighted.0 weighted.1) BadArgs ≡ Ok weighted
+weighted_again weighted is = ap (λ b. ok_or (cond b (Some weighted) None) BadArgs) is

@@ -1,0 +1,41 @@
+-- What the line of a route means: what its frame says so far, or why it is refused.
+-- NATS documentation, "Cluster Protocol": the operations. The common fields and the refusals are this project's profile.
+use Rattle.std.specs.Prelude.{ℕ, List, [], ◌∷◌, length, drop, Option, Some, None, Result, Ok, Err}
+use Rattle.std.specs.Option.{ok_or}
+use Rattle.line_fields.specs.Fields.{line_fields}
+use Rattle.route_frames.specs.declared.faults.RouteFault.TheVariants.{UnknownOp, BadArgs}
+use Rattle.route_frames.specs.declared.operation.Operation.{Operation}
+use Rattle.route_frames.specs.declared.operation.Operation.TheVariants as operation
+use Rattle.route_frames.specs.declared.lines.NumberedLine.{NumberedLine}
+use Rattle.route_frames.specs.declared.lines.RouteLine.{RouteLine}
+use Rattle.route_frames.specs.declared.lines.RouteLine.TheVariants.{Info, Connect, Numbered}
+use Rattle.route_frames.specs.Meaning.{Meaning, ◌>>=◌}
+use Rattle.route_frames.specs.Operations.{operation_of}
+use Rattle.route_frames.specs.CommonFields.{CommonFields, common_fields}
+use Rattle.route_frames.specs.NumberedLines.{plus_line, minus_line, snapshot_line, message_line}
+use Rattle.route_frames.specs.Greetings.{info_of, connect_text_of}
+
+-- the line of a numbered frame, by what stands behind its common fields
+abbrev pub numbered : (CommonFields → List (List ℕ) → Meaning NumberedLine) → List (List ℕ) → Meaning RouteLine
+numbered behind fields = do
+  split ← ok_or (common_fields fields) BadArgs
+  line ← behind split.0 split.1
+  Ok (Numbered line)
+
+-- by the operation, the text behind it, and the fields of that
+abbrev pub operation_meaning : Option Operation → List ℕ → List (List ℕ) → Meaning RouteLine
+operation_meaning None text fields = Err UnknownOp
+operation_meaning (Some operation.Info) text fields = info_of text >>= λ info. Ok (Info info)
+operation_meaning (Some operation.Connect) text fields = connect_text_of text >>= λ connect. Ok (Connect connect)
+operation_meaning (Some operation.Plus) text fields = numbered plus_line fields
+operation_meaning (Some operation.Minus) text fields = numbered minus_line fields
+operation_meaning (Some operation.Snapshot) text fields = numbered snapshot_line fields
+operation_meaning (Some operation.Msg) text fields = numbered message_line fields
+
+abbrev pub fields_meaning : List ℕ → List (List ℕ) → Meaning RouteLine
+fields_meaning line [] = Err UnknownOp
+fields_meaning line (field ∷ fields) = operation_meaning (operation_of field) (drop (length field) line) fields
+
+-- what a line means, which has no CR LF
+abbrev pub line_meaning : List ℕ → Meaning RouteLine
+line_meaning line = fields_meaning line (line_fields line)

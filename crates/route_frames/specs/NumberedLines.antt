@@ -1,0 +1,129 @@
+-- What the line of a numbered frame means. The order in which causes are looked for: the number of fields, too many queue names, numbers that are no digits, numbers out of their ranges, all else (profile).
+use Rattle.std.specs.Prelude.{ℕ, List, [], ◌∷◌, length, codes, nat_lt, Option, Some, None, Result, Ok, Err, is_some, if◌then◌else◌}
+use Rattle.std.specs.Option.{ok_or}
+use Rattle.std.specs.Str.{bytes_eq}
+use Rattle.subj.specs.declared.keys.Key.{Key}
+use Rattle.subj.specs.declared.limits.TheConstants.{MAX_QUEUE_NAMES, MAX_WEIGHT, MAX_SNAPSHOT, MAX_PAYLOAD}
+use Rattle.subj.specs.Names.{pattern_fault, subject_fault, queue_name_fault}
+use Rattle.subj.specs.QueueNames.{queue_names_of}
+use Rattle.route_frames.specs.declared.faults.RouteFault.TheVariants.{BadArgs, TooManyQueues}
+use Rattle.route_frames.specs.declared.line_reading.TheConstants.{WEIGHT_DIGITS, SIZE_DIGITS}
+use Rattle.route_frames.specs.declared.lines.LineBody.{LineBody}
+use Rattle.route_frames.specs.declared.lines.LineBody.TheVariants.{Plus, Minus, Snapshot, Msg}
+use Rattle.route_frames.specs.declared.lines.NumberedLine.{NumberedLine}
+use Rattle.route_frames.specs.Meaning.{Meaning, ◌>>=◌}
+use Rattle.route_frames.specs.CommonFields.{CommonFields, digits_of, within, node_of, numbers_of, numbers_in_range}
+use Rattle.route_frames.specs.Arguments.{PlusFields, MinusFields, Form, MessageFields, plus_fields, minus_fields, snapshot_field, message_fields}
+use Rattle.route_frames.specs.Snapshots.{weighted_key}
+
+-- ---- fields that are no numbers
+
+-- NATS documentation, "Cluster Protocol": the account; profile: it is always the global one
+abbrev pub account_of : List ℕ → Meaning (Unit {0})
+account_of field = if bytes_eq field (codes "$G") then Ok tt else Err BadArgs
+
+abbrev pub pattern_of : List ℕ → Meaning (List ℕ)
+pattern_of field = if is_some (pattern_fault field) then Err BadArgs else Ok field
+
+abbrev pub subject_of : List ℕ → Meaning (List ℕ)
+subject_of field = if is_some (subject_fault field) then Err BadArgs else Ok field
+
+abbrev pub queue_of : List ℕ → Meaning (List ℕ)
+queue_of field = if is_some (queue_name_fault field) then Err BadArgs else Ok field
+
+abbrev pub optional : (List ℕ → Meaning (List ℕ)) → Option (List ℕ) → Meaning (Option (List ℕ))
+optional read None = Ok None
+optional read (Some field) = do
+  value ← read field
+  Ok (Some value)
+
+unfoldable pub key_of : List ℕ → Option (List ℕ) → Meaning Key
+key_of pattern queue = do
+  pattern ← pattern_of pattern
+  queue ← optional queue_of queue
+  Ok (record { pattern = pattern; queue = queue })
+
+-- each a queue name
+abbrev pub are_names : List (List ℕ) → Meaning (List (List ℕ))
+are_names [] = Ok []
+are_names (field ∷ fields) = do
+  name ← queue_of field
+  others ← are_names fields
+  Ok (name ∷ others)
+
+-- and in strictly rising order
+unfoldable pub queue_names_in : List (List ℕ) → Meaning (List (List ℕ))
+queue_names_in fields = do
+  names ← are_names fields
+  ok_or (queue_names_of names) BadArgs
+
+-- ---- RS+: a key without a queue name weighs 1
+
+abbrev pub weight_digits : Option (List ℕ) → Meaning ℕ
+weight_digits None = Ok 1
+weight_digits (Some field) = digits_of WEIGHT_DIGITS field
+
+unfoldable pub plus_line : CommonFields → List (List ℕ) → Meaning NumberedLine
+plus_line common fields = do
+  fields ← ok_or (plus_fields fields) BadArgs
+  digits ← numbers_of common
+  weight ← weight_digits fields.weight
+  numbers ← numbers_in_range 1 digits
+  weight ← within 1 MAX_WEIGHT weight
+  account ← account_of fields.account
+  from ← node_of common.from
+  to ← node_of common.to
+  key ← key_of fields.pattern fields.queue
+  weighted ← ok_or (weighted_key key weight) BadArgs
+  Ok (record { from = from; to = to; numbers = numbers; body = Plus weighted })
+
+-- ---- RS-
+
+unfoldable pub minus_line : CommonFields → List (List ℕ) → Meaning NumberedLine
+minus_line common fields = do
+  fields ← ok_or (minus_fields fields) BadArgs
+  digits ← numbers_of common
+  numbers ← numbers_in_range 1 digits
+  account ← account_of fields.account
+  from ← node_of common.from
+  to ← node_of common.to
+  key ← key_of fields.pattern fields.queue
+  Ok (record { from = from; to = to; numbers = numbers; body = Minus key })
+
+-- ---- RSS: its number may be 0
+
+unfoldable pub snapshot_line : CommonFields → List (List ℕ) → Meaning NumberedLine
+snapshot_line common fields = do
+  field ← ok_or (snapshot_field fields) BadArgs
+  digits ← numbers_of common
+  size ← digits_of SIZE_DIGITS field
+  numbers ← numbers_in_range 0 digits
+  size ← within 0 MAX_SNAPSHOT size
+  from ← node_of common.from
+  to ← node_of common.to
+  Ok (record { from = from; to = to; numbers = numbers; body = Snapshot size })
+
+-- ---- RMSG
+
+abbrev pub few_names : MessageFields → Meaning MessageFields
+few_names fields = if nat_lt MAX_QUEUE_NAMES (length fields.form.names) then Err TooManyQueues else Ok fields
+
+unfoldable pub message_fields_in : List (List ℕ) → Meaning MessageFields
+message_fields_in fields = do
+  fields ← ok_or (message_fields fields) BadArgs
+  few_names fields
+
+unfoldable pub message_line : CommonFields → List (List ℕ) → Meaning NumberedLine
+message_line common fields = do
+  fields ← message_fields_in fields
+  digits ← numbers_of common
+  size ← digits_of SIZE_DIGITS fields.form.size
+  numbers ← numbers_in_range 1 digits
+  size ← within 0 MAX_PAYLOAD size
+  account ← account_of fields.account
+  from ← node_of common.from
+  to ← node_of common.to
+  subject ← subject_of fields.subject
+  reply ← optional subject_of fields.form.reply
+  queues ← queue_names_in fields.form.names
+  Ok (record { from = from; to = to; numbers = numbers; body = Msg subject reply queues size })

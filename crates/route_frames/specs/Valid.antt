@@ -1,0 +1,64 @@
+-- Frames that hold only what can be spelt, as the values of the types do.
+use Rattle.std.specs.Prelude.{◌≡◌, ℕ, ◌≤◌, true, List, [], ◌∷◌, length, Option, Some, None}
+use Rattle.subj.specs.declared.limits.TheConstants.{MAX_INCARNATION, MAX_PAYLOAD}
+use Rattle.subj.specs.declared.keys.Key.{Key}
+use Rattle.subj.specs.Messages.{Content}
+use Rattle.subj.specs.Names.{node_name_fault, pattern_fault, subject_fault, queue_name_fault}
+use Rattle.subj.specs.QueueNames.{are_queue_names}
+use Rattle.route_frames.specs.declared.bodies.Body.{Body}
+use Rattle.route_frames.specs.declared.bodies.Body.TheVariants.{Plus, Minus, Snapshot, Msg}
+use Rattle.route_frames.specs.Frames.{Frame, is_number}
+use Rattle.route_frames.specs.Snapshots.{Weighted, is_weight, are_snapshot_keys}
+
+abbrev pub IsQueue : Option (List ℕ) → Type 0
+IsQueue None = Unit {0}
+IsQueue (Some queue) = queue_name_fault queue ≡ None
+
+pub record IsKey (key : Key) : Type 0 where
+  pub pattern : pattern_fault key.pattern ≡ None
+  pub queue : IsQueue key.queue
+
+pub record IsWeighted (weighted : Weighted) : Type 0 where
+  pub key : IsKey weighted.0
+  pub weight : is_weight weighted.0 weighted.1 ≡ true
+
+abbrev pub AreWeighted : List Weighted → Type 0
+AreWeighted [] = Unit {0}
+AreWeighted (weighted ∷ others) = IsWeighted weighted × AreWeighted others
+
+pub record AreSnapshotKeys (keys : List Weighted) : Type 0 where
+  pub each : AreWeighted keys
+  pub ordered : are_snapshot_keys keys ≡ true
+
+abbrev pub AreNames : List (List ℕ) → Type 0
+AreNames [] = Unit {0}
+AreNames (name ∷ names) = (queue_name_fault name ≡ None) × AreNames names
+
+abbrev pub IsReply : Option (List ℕ) → Type 0
+IsReply None = Unit {0}
+IsReply (Some reply) = subject_fault reply ≡ None
+
+pub record IsMessage (message : Content) (queues : List (List ℕ)) : Type 0 where
+  pub subject : subject_fault message.subject ≡ None
+  pub reply : IsReply message.reply
+  pub payload : length message.payload ≤ MAX_PAYLOAD
+  pub names : AreNames queues
+  pub ordered : are_queue_names queues ≡ true
+
+abbrev pub IsBody : Body → Type 0
+IsBody (Plus weighted) = IsWeighted weighted
+IsBody (Minus key) = IsKey key
+IsBody (Snapshot keys) = AreSnapshotKeys keys
+IsBody (Msg message queues) = IsMessage message queues
+
+pub record IsIncarnation (inc : ℕ) : Type 0 where
+  pub least : 1 ≤ inc
+  pub most : inc ≤ MAX_INCARNATION
+
+pub record IsFrame (frame : Frame) : Type 0 where
+  pub from : node_name_fault frame.from ≡ None
+  pub inc : IsIncarnation frame.inc
+  pub to : node_name_fault frame.to ≡ None
+  pub to_inc : IsIncarnation frame.to_inc
+  pub number : is_number frame.number frame.body ≡ true
+  pub body : IsBody frame.body

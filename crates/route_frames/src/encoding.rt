@@ -1,0 +1,315 @@
+//! Writing the frames of a route.
+
+ghost use Rattle.std.specs.Prelude.{◌≡◌, ◌+◌, ◌≤◌, ◌∷◌, ◌++◌, length, decimal, is_ok, vec_len, vec_capacity, if◌then◌else◌, IfOk, OnOk, string_bytes, map};
+ghost use Rattle.serde_json.specs.View.{view};
+ghost use Rattle.serde_json.specs.Written.{compact_text};
+ghost use Rattle.route_frames.specs.Canonical.{info_json, connect_json, spaced, operation_word, common_of, member_fields, form_fields, body_fields, numbered_line, canonical_line, frame_bytes, body_payload, payload_bytes};
+ghost use Rattle.route_frames.specs.declared.frames.RouteFrame.TheVariants.{Info, Connect};
+ghost use Rattle.route_frames.specs.declared.frames.RouteFrame.TheVariants as route;
+ghost use Rattle.route_frames.specs.declared.bodies.Body.TheVariants.{Plus, Minus, Snapshot, Msg};
+ghost use Rattle.route_frames.specs.Snapshots.{snapshot_text as text_of_snapshot, key_line as line_of_key, line_end};
+ghost use Rattle.std.specs.Option.{option_copied};
+
+use crate::bodies::Body;
+use crate::connect::RouteConnect;
+use crate::frames::{Numbered, RouteFrame};
+use crate::info::RouteInfo;
+use crate::snapshots::{SnapshotKeys, WeightedKey};
+use itoa::Buffer;
+use serde_json::{Value, json};
+use std::alloc::{AllocError, Global};
+use subj::{Key, MAX_SNAPSHOT, Message, NodeId, QueueName, QueueNames, Subject};
+
+const CR_LF: &[u8] = b"\r\n";
+
+const BLANK: &[u8] = b" ";
+
+/// The one account that there is. (Profile.)
+const ACCOUNT: &[u8] = b"$G";
+
+/// The name of a server as text.
+#[tactic(auto, using(crate::proofs::NameBytes::name_is_text))]
+fn name_text(name: &NodeId) -> &str
+    ensures { result.now ≡ name.now }
+{
+    match str::from_utf8(name.bytes()) {
+        Ok(text) => text,
+        Err(_) => unreachable!(),
+    }
+}
+
+fn info_value(alloc: Global, info: &RouteInfo) -> Result<Value, AllocError>
+    ensures { IfOk result (λ value. view value ≡ info_json info.now) }
+{
+    let server_name = info.server_name();
+    json!(in alloc; {
+        "inc": info.inc().get(),
+        "server_name": name_text(&server_name),
+    })
+}
+
+fn connect_value(alloc: Global, connect: &RouteConnect) -> Result<Value, AllocError>
+    ensures { IfOk result (λ value. view value ≡ connect_json connect.now) }
+{
+    let server_name = connect.server_name();
+    let to = connect.to();
+    json!(in alloc; {
+        "inc": connect.inc().get(),
+        "serial": connect.serial(),
+        "server_name": name_text(&server_name),
+        "to": name_text(&to),
+        "to_inc": connect.to_inc().get(),
+    })
+}
+
+fn info_line(alloc: Global, info: &RouteInfo) -> Result<Vec<u8>, AllocError>
+    ensures { IfOk result (λ line. line.items ≡ canonical_line (Info info.now)) }
+{
+    let value = info_value(alloc, info)?;
+    let text = value.to_string(alloc)?;
+    let mut line = Vec::from_slice(alloc, b"INFO ")?;
+    line.extend_from_slice(text.as_bytes())?;
+    Ok(line)
+}
+
+fn connect_line(alloc: Global, connect: &RouteConnect) -> Result<Vec<u8>, AllocError>
+    ensures { IfOk result (λ line. line.items ≡ canonical_line (Connect connect.now)) }
+{
+    let value = connect_value(alloc, connect)?;
+    let text = value.to_string(alloc)?;
+    let mut line = Vec::from_slice(alloc, b"CONNECT ")?;
+    line.extend_from_slice(text.as_bytes())?;
+    Ok(line)
+}
+
+/// Appends a blank and a field.
+fn put_field(line: &mut Vec<u8>, field: &[u8]) -> Result<(), AllocError>
+    ensures { OnOk result (line.new.items ≡ line.old.items ++ (32 ∷ field.now)) }
+{
+    line.extend_from_slice(BLANK)?;
+    line.extend_from_slice(field)?;
+    Ok(())
+}
+
+/// Appends a blank and a number.
+fn put_number(line: &mut Vec<u8>, number: u64) -> Result<(), AllocError>
+    ensures { OnOk result (line.new.items ≡ line.old.items ++ (32 ∷ decimal number)) }
+{
+    let mut buffer = Buffer::new();
+    put_field(line, buffer.format(number).as_bytes())
+}
+
+/// Appends the queue names, each with a blank in front.
+fn put_names(line: &mut Vec<u8>, names: &[QueueName]) -> Result<(), AllocError>
+    ensures { OnOk result (line.new.items ≡ line.old.items ++ spaced names.now) }
+{
+    for name in names {
+        put_field(line, name.bytes())?;
+    }
+    Ok(())
+}
+
+/// Appends the fields that all numbered frames have.
+fn put_common(line: &mut Vec<u8>, frame: &Numbered) -> Result<(), AllocError>
+    ensures { OnOk result (line.new.items ≡ line.old.items ++ spaced (common_of frame.now)) }
+{
+    put_field(line, frame.from().bytes())?;
+    put_number(line, frame.inc().get())?;
+    put_field(line, frame.to().bytes())?;
+    put_number(line, frame.to_inc().get())?;
+    put_number(line, frame.number())?;
+    Ok(())
+}
+
+fn put_plus(line: &mut Vec<u8>, weighted: &WeightedKey) -> Result<(), AllocError>
+    ensures { OnOk result (line.new.items ≡ line.old.items ++ spaced (body_fields (Plus weighted.now))) }
+{
+    put_field(line, ACCOUNT)?;
+    put_field(line, weighted.key().pattern.bytes())?;
+    if let Some(queue) = &weighted.key().queue {
+        put_field(line, queue.bytes())?;
+        put_number(line, weighted.weight())?;
+    }
+    Ok(())
+}
+
+fn put_minus(line: &mut Vec<u8>, key: &Key) -> Result<(), AllocError>
+    ensures { OnOk result (line.new.items ≡ line.old.items ++ spaced (body_fields (Minus key.now))) }
+{
+    put_field(line, ACCOUNT)?;
+    put_field(line, key.pattern.bytes())?;
+    if let Some(queue) = &key.queue {
+        put_field(line, queue.bytes())?;
+    }
+    Ok(())
+}
+
+/// Appends the reply and the queue names in the form that has them.
+fn put_form(
+    line: &mut Vec<u8>,
+    reply: Option<&Subject>,
+    names: &[QueueName],
+) -> Result<(), AllocError>
+    ensures { OnOk result (line.new.items ≡ line.old.items ++ spaced (form_fields (option_copied reply.entry) names.now)) }
+{
+    if names.is_empty() {
+        if let Some(reply) = reply {
+            put_field(line, reply.bytes())?;
+        }
+        return Ok(());
+    }
+    match reply {
+        None => put_field(line, b"|")?,
+        Some(reply) => {
+            put_field(line, b"+")?;
+            put_field(line, reply.bytes())?;
+        }
+    }
+    put_names(line, names)
+}
+
+fn put_message(line: &mut Vec<u8>, message: &Message, queues: &QueueNames) -> Result<(), AllocError>
+    ensures { OnOk result (line.new.items ≡ line.old.items ++ spaced (body_fields (Msg message.now queues.now))) }
+{
+    put_field(line, ACCOUNT)?;
+    put_field(line, message.subject().bytes())?;
+    put_form(line, message.reply(), queues.as_slice())?;
+    put_number(line, message.payload().len() as u64)
+}
+
+/// Appends the line of a key of a snapshot, with its CR LF.
+#[tactic(auto, unfolding(crate::specs::Snapshots::key_line))]
+fn put_key(text: &mut Vec<u8>, entry: &WeightedKey) -> Result<(), AllocError>
+    ensures { OnOk result (text.new.items ≡ text.old.items ++ line_of_key entry.now) }
+{
+    text.extend_from_slice(entry.key().pattern.bytes())?;
+    if let Some(queue) = &entry.key().queue {
+        put_field(text, queue.bytes())?;
+        put_number(text, entry.weight())?;
+    }
+    text.extend_from_slice(CR_LF)?;
+    Ok(())
+}
+
+/// The text of a snapshot.
+fn snapshot_text(alloc: Global, keys: &SnapshotKeys) -> Result<Vec<u8>, AllocError>
+    ensures same { IfOk result (λ text. text.items ≡ text_of_snapshot keys.now) }
+    ensures short { IfOk result (λ text. length text.items ≤ MAX_SNAPSHOT) }
+{
+    let mut text = Vec::new(alloc);
+    for entry in keys.as_slice() {
+        put_key(&mut text, entry)?;
+    }
+    Ok(text)
+}
+
+/// Appends bytes for which there is room.
+fn append_reserved(out: &mut Vec<u8>, bytes: &[u8])
+    requires { vec_len out.old + length bytes.now ≤ vec_capacity out.old }
+    ensures items { out.new.items ≡ out.old.items ++ bytes.now }
+    ensures len { vec_len out.new ≡ vec_len out.old + length bytes.now }
+    ensures capacity { vec_capacity out.old ≤ vec_capacity out.new }
+{
+    let appended = out.extend_from_slice(bytes);
+    prove!(appended.is_ok());
+}
+
+/// Appends a line and its CR LF.
+fn append_line(line: &[u8], out: &mut Vec<u8>) -> Result<(), AllocError>
+    ensures { out.new.items ≡ (if is_ok result then out.old.items ++ (line.now ++ line_end) else out.old.items) }
+{
+    out.reserve(line.len() + CR_LF.len())?;
+    append_reserved(out, line);
+    append_reserved(out, CR_LF);
+    Ok(())
+}
+
+/// Appends a line and a payload, each with its CR LF.
+fn append_frame(line: &[u8], payload: &[u8], out: &mut Vec<u8>) -> Result<(), AllocError>
+    requires { length payload.now ≤ MAX_SNAPSHOT }
+    ensures { out.new.items ≡ (if is_ok result then out.old.items ++ (line.now ++ (line_end ++ (payload.now ++ line_end))) else out.old.items) }
+{
+    out.reserve(line.len() + CR_LF.len() + payload.len() + CR_LF.len())?;
+    append_reserved(out, line);
+    append_reserved(out, CR_LF);
+    append_reserved(out, payload);
+    append_reserved(out, CR_LF);
+    Ok(())
+}
+
+fn operation(body: &Body) -> &'static [u8]
+    ensures { result.now ≡ operation_word body.now }
+{
+    match body {
+        Body::Plus(_) => b"RS+",
+        Body::Minus(_) => b"RS-",
+        Body::Snapshot(_) => b"RSS",
+        Body::Msg { .. } => b"RMSG",
+    }
+}
+
+/// Appends the number of bytes of a snapshot's text.
+fn put_snapshot_len(line: &mut Vec<u8>, keys: &SnapshotKeys) -> Result<(), AllocError>
+    ensures { OnOk result (line.new.items ≡ line.old.items ++ spaced (body_fields (Snapshot keys.now))) }
+{
+    let text = snapshot_text(*line.allocator(), keys)?;
+    put_number(line, text.len() as u64)
+}
+
+fn put_body(line: &mut Vec<u8>, body: &Body) -> Result<(), AllocError>
+    ensures { OnOk result (line.new.items ≡ line.old.items ++ spaced (body_fields body.now)) }
+{
+    match body {
+        Body::Plus(weighted) => put_plus(line, weighted),
+        Body::Minus(key) => put_minus(line, key),
+        Body::Snapshot(keys) => put_snapshot_len(line, keys),
+        Body::Msg { message, queues } => put_message(line, message, queues),
+    }
+}
+
+#[tactic(auto, unfolding(crate::specs::Canonical::numbered_line))]
+fn line_of_numbered(alloc: Global, frame: &Numbered) -> Result<Vec<u8>, AllocError>
+    ensures { IfOk result (λ line. line.items ≡ numbered_line frame.now) }
+{
+    let mut line = Vec::from_slice(alloc, operation(frame.body()))?;
+    put_common(&mut line, frame)?;
+    put_body(&mut line, frame.body())?;
+    Ok(line)
+}
+
+fn encode_numbered(frame: &Numbered, out: &mut Vec<u8>) -> Result<(), AllocError>
+    ensures { out.new.items
+        ≡ (if is_ok result then out.old.items ++ frame_bytes (route.Numbered frame.now) else out.old.items) }
+{
+    let alloc = *out.allocator();
+    let line = line_of_numbered(alloc, frame)?;
+    match frame.body() {
+        Body::Plus(_) | Body::Minus(_) => append_line(&line, out),
+        Body::Snapshot(keys) => {
+            let text = snapshot_text(alloc, keys)?;
+            append_frame(&line, &text, out)
+        }
+        Body::Msg { message, .. } => append_frame(&line, message.payload().as_slice(), out),
+    }
+}
+
+/// Appends the canonical spelling of a frame: upper case, one space between fields, no leading zeros,
+/// compact JSON with its keys in the order of their bytes; the line and, where there is one, the
+/// payload are each ended by CR LF. After want of memory the bytes are as they were. (NATS
+/// documentation, "Cluster Protocol"; profile.)
+pub fn encode(frame: &RouteFrame, out: &mut Vec<u8>) -> Result<(), AllocError>
+    ensures { out.new.items
+        ≡ (if is_ok result then out.old.items ++ frame_bytes frame.now else out.old.items) }
+{
+    match frame {
+        RouteFrame::Info(info) => {
+            let line = info_line(*out.allocator(), info)?;
+            append_line(&line, out)
+        }
+        RouteFrame::Connect(connect) => {
+            let line = connect_line(*out.allocator(), connect)?;
+            append_line(&line, out)
+        }
+        RouteFrame::Numbered(frame) => encode_numbered(frame, out),
+    }
+}

@@ -1,0 +1,59 @@
+//! What a line of a route says alone.
+
+ghost use Rattle.std.specs.Prelude.{◌≡◌};
+ghost use Rattle.route_frames.specs.Announced.{announced_size};
+
+use crate::common::Numbers;
+use crate::connect::RouteConnect;
+use crate::info::RouteInfo;
+use crate::snapshots::WeightedKey;
+use subj::{Key, NodeId, QueueNames, Reply, Subject};
+
+/// What the line of a numbered frame says behind the common fields.
+#[derive(Debug, Drop)]
+pub(crate) enum LineBody {
+    Plus(WeightedKey),
+    Minus(Key),
+    /// A snapshot of so many bytes follows.
+    Snapshot(u64),
+    /// A payload of so many bytes follows.
+    Msg {
+        subject: Subject,
+        reply: Option<Reply>,
+        queues: QueueNames,
+        size: u64,
+    },
+}
+
+/// The line of a numbered frame.
+#[derive(Debug, Drop)]
+pub(crate) struct NumberedLine {
+    pub(crate) from: NodeId,
+    pub(crate) to: NodeId,
+    pub(crate) numbers: Numbers,
+    pub(crate) body: LineBody,
+}
+
+/// The line of a frame.
+#[derive(Debug, Drop)]
+pub(crate) enum RouteLine {
+    Info(RouteInfo),
+    Connect(RouteConnect),
+    Numbered(NumberedLine),
+}
+
+impl RouteLine {
+    /// How many bytes of payload the line announces, where it announces any.
+    pub(crate) fn announced(&self) -> Option<u64>
+        ensures { result ≡ announced_size self.now }
+    {
+        match self {
+            RouteLine::Info(_) | RouteLine::Connect(_) => None,
+            RouteLine::Numbered(line) => match &line.body {
+                LineBody::Plus(_) | LineBody::Minus(_) => None,
+                LineBody::Snapshot(size) => Some(*size),
+                LineBody::Msg { size, .. } => Some(*size),
+            },
+        }
+    }
+}

@@ -1,0 +1,123 @@
+//! Reading the texts of snapshots.
+
+ghost use Rattle.std.specs.Prelude.{◌≡◌, ◌∷◌, [], nat_eq, position, MatchOption};
+ghost use Rattle.std.specs.Option.{option_copied};
+ghost use Rattle.route_frames.specs.Meaning.{Means, MeansBy};
+ghost use Rattle.route_frames.specs.SnapshotTexts.{pieces, plain_key, queue_key, weighted_of, before_cr as before_the_cr, key_line_of, keys_in, snapshot_in};
+
+use crate::common::spelt_number;
+use crate::faults::RouteFault;
+use crate::line_reading::{WEIGHT_DIGITS, key};
+use crate::snapshots::{SnapshotKeys, WeightedKey};
+use std::alloc::Global;
+use subj::Failure;
+
+fn first_of(text: &[u8], byte: u8) -> Option<usize>
+    ensures { result ≡ position (λ b. nat_eq b byte) text.now }
+{
+    text.iter().position(|b| *b == byte)
+}
+
+/// What stands before the first such byte of a text, and behind it.
+fn split_at_byte(text: &[u8], byte: u8) -> Option<(&[u8], &[u8])>
+    ensures { MatchOption result (pieces byte text.now ≡ text.now ∷ [])
+        (λ split. pieces byte text.now ≡ split.0.now ∷ pieces byte split.1.now) }
+{
+    let Some(place) = first_of(text, byte) else {
+        return None;
+    };
+    let (piece, _) = text.split_at(place);
+    let (_, behind) = text.split_at(place + 1);
+    Some((piece, behind))
+}
+
+#[tactic(auto, unfolding(crate::specs::SnapshotTexts::plain_key))]
+fn read_plain(alloc: Global, pattern: &[u8]) -> Result<WeightedKey, Failure<RouteFault>>
+    ensures { Means (plain_key pattern.now) result }
+{
+    let key = key(alloc, pattern, None)?;
+    let weighted = WeightedKey::new(key, 1).ok_or(RouteFault::BadArgs)?;
+    Ok(weighted)
+}
+
+#[tactic(auto, unfolding(crate::specs::SnapshotTexts::queue_key))]
+fn read_queue(
+    alloc: Global,
+    pattern: &[u8],
+    queue: &[u8],
+    weight: &[u8],
+) -> Result<WeightedKey, Failure<RouteFault>>
+    ensures { Means (queue_key pattern.now queue.now weight.now) result }
+{
+    let weight = spelt_number(weight, WEIGHT_DIGITS)?;
+    let key = key(alloc, pattern, Some(queue))?;
+    let weighted = WeightedKey::new(key, weight).ok_or(RouteFault::BadArgs)?;
+    Ok(weighted)
+}
+
+/// The key of a line without its CR LF.
+fn read_weighted(alloc: Global, line: &[u8]) -> Result<WeightedKey, Failure<RouteFault>>
+    ensures { Means (weighted_of (pieces 32 line.now)) result }
+{
+    let Some((pattern, behind)) = split_at_byte(line, b' ') else {
+        return read_plain(alloc, line);
+    };
+    let Some((queue, weight)) = split_at_byte(behind, b' ') else {
+        return Err(Failure::Refused(RouteFault::BadArgs));
+    };
+    match split_at_byte(weight, b' ') {
+        None => read_queue(alloc, pattern, queue, weight),
+        Some(_) => Err(Failure::Refused(RouteFault::BadArgs)),
+    }
+}
+
+/// What stands before the CR at the end.
+fn before_cr(text: &[u8]) -> Option<&[u8]>
+    ensures { option_copied result ≡ before_the_cr text.now }
+{
+    let (line, end) = text.split_at(text.len().saturating_sub(1));
+    if end == b"\r".as_slice() {
+        Some(line)
+    } else {
+        None
+    }
+}
+
+/// The key of a line with its CR.
+#[tactic(auto, unfolding(crate::specs::SnapshotTexts::key_line_of))]
+fn read_key_line(alloc: Global, text: &[u8]) -> Result<WeightedKey, Failure<RouteFault>>
+    ensures { Means (key_line_of text.now) result }
+{
+    let line = before_cr(text).ok_or(RouteFault::BadArgs)?;
+    read_weighted(alloc, line)
+}
+
+/// The keys of all lines of a text.
+fn read_keys(alloc: Global, text: &[u8]) -> Result<Vec<WeightedKey>, Failure<RouteFault>>
+    ensures { MeansBy (λ keys. keys.items) (keys_in (pieces 10 text.now)) result }
+{
+    let mut keys = Vec::new(alloc);
+    let mut rest = text;
+    while let Some((line, behind)) = split_at_byte(rest, b'\n') {
+        let key = read_key_line(alloc, line)?;
+        keys.push(key)?;
+        rest = behind;
+    }
+    if !rest.is_empty() {
+        return Err(Failure::Refused(RouteFault::BadArgs));
+    }
+    Ok(keys)
+}
+
+/// The keys of the text of a snapshot.
+#[tactic(auto, unfolding(crate::specs::SnapshotTexts::snapshot_in))]
+pub(crate) fn read_snapshot_keys(
+    alloc: Global,
+    text: &[u8],
+) -> Result<SnapshotKeys, Failure<RouteFault>>
+    ensures { Means (snapshot_in text.now) result }
+{
+    let keys = read_keys(alloc, text)?;
+    let keys = SnapshotKeys::from_keys(keys).ok_or(RouteFault::BadArgs)?;
+    Ok(keys)
+}

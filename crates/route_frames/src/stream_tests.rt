@@ -1,0 +1,133 @@
+//! Frames as they stand in a stream, in one part and byte by byte.
+
+use crate::{decode, encode, payload_size};
+use bytes::Bytes;
+use std::alloc::Global;
+use std::test::Fail;
+use subj::{MAX_SNAPSHOT, ROUTE_LINE};
+use wire_cut::{Cutter, Piece};
+
+/// A line, and what comes behind it.
+#[derive(Debug, Drop)]
+struct Pending {
+    line: Vec<u8>,
+    size: Option<u64>,
+}
+
+/// Reads the frame of a line and its payload, and appends its spelling.
+fn spell(alloc: Global, line: &[u8], payload: &[u8], out: &mut Vec<u8>) -> Result<(), Fail> {
+    let payload = Bytes::copy_from_slice(alloc, payload)?;
+    let frame = decode(alloc, line, payload).ok().ok_or("a frame")?;
+    encode(&frame, out)?;
+    Ok(())
+}
+
+/// The bytes of the next piece, and whether it is a line.
+fn next_piece(alloc: Global, cutter: &mut Cutter) -> Result<Option<Vec<u8>>, Fail> {
+    match cutter.next() {
+        Ok(None) => Ok(None),
+        Ok(Some(Piece::Line(bytes) | Piece::Payload(bytes))) => {
+            Ok(Some(Vec::from_slice(alloc, bytes)?))
+        }
+        Err(_) => Err("a stream that is cut".into()),
+    }
+}
+
+/// Announces a payload to the cutter.
+fn expect(cutter: &mut Cutter, size: u64) -> Result<(), Fail> {
+    if !cutter.after_line() {
+        return Err("a line before a payload".into());
+    }
+    Ok(cutter.expect(size).ok().ok_or("a size")?)
+}
+
+/// Takes the frames that are whole, and appends their spellings.
+fn take_frames(
+    alloc: Global,
+    cutter: &mut Cutter,
+    pending: &mut Pending,
+    out: &mut Vec<u8>,
+) -> Result<(), Fail> {
+    for _ in 0..u64::MAX {
+        let Some(bytes) = next_piece(alloc, cutter)? else {
+            return Ok(());
+        };
+        if pending.size.take().is_some() {
+            spell(alloc, &pending.line, &bytes, out)?;
+            continue;
+        }
+        let size = payload_size(alloc, &bytes).ok().ok_or("a line")?;
+        match size {
+            None => spell(alloc, &bytes, b"", out)?,
+            Some(announced) => {
+                expect(cutter, announced)?;
+                pending.line = bytes;
+                pending.size = size;
+            }
+        }
+    }
+    Ok(())
+}
+
+/// The spellings of the frames of a stream that comes in parts of so many bytes.
+fn respelt(alloc: Global, stream: &[u8], part: usize) -> Result<Vec<u8>, Fail> {
+    let mut cutter = Cutter::new(alloc, ROUTE_LINE, MAX_SNAPSHOT as u64);
+    let mut pending = Pending {
+        line: Vec::new(alloc),
+        size: None,
+    };
+    let mut out = Vec::new(alloc);
+    for bytes in stream.chunks(part.max(1)) {
+        cutter.feed(bytes).ok().ok_or("a stream that goes on")?;
+        take_frames(alloc, &mut cutter, &mut pending, &mut out)?;
+    }
+    Ok(out)
+}
+
+/// Frames in their canonical spelling.
+static VECTORS: [&[u8]; 9] = [
+    b"RS+ n2 4 n1 1 1 $G foo q 1\r\n",
+    b"RS- n2 4 n1 1 2 $G foo q\r\n",
+    b"RSS n2 4 n1 1 3 14\r\na.* q 2\r\nfoo\r\n\r\n",
+    b"RSS n2 4 n1 1 0 0\r\n\r\n",
+    b"RMSG n1 1 n2 4 9 $G a.b + r.1 q1 q2 2\r\nhi\r\n",
+    b"RMSG n1 1 n2 4 9 $G a.b | q1 q2 2\r\nhi\r\n",
+    b"RMSG n1 1 n2 4 9 $G a.b r.1 2\r\nhi\r\n",
+    b"INFO {\"inc\":4,\"server_name\":\"n2\"}\r\n",
+    b"CONNECT {\"inc\":1,\"serial\":1,\"server_name\":\"n1\",\"to\":\"n2\",\"to_inc\":4}\r\n",
+];
+
+#[test]
+fn vectors_are_read_and_written(rt: HostRuntime) -> Result<(), Fail> {
+    for vector in VECTORS {
+        let whole = respelt(rt.alloc(), vector, vector.len().max(1))?;
+        assert_eq!(rt; whole.as_slice(), vector);
+        let by_bytes = respelt(rt.alloc(), vector, 1)?;
+        assert_eq!(rt; by_bytes.as_slice(), vector);
+    }
+    Ok(())
+}
+
+#[test]
+fn a_beginning_of_a_vector_is_no_frame(rt: HostRuntime) -> Result<(), Fail> {
+    for vector in VECTORS {
+        for len in 0..vector.len() {
+            let out = respelt(rt.alloc(), &vector[..len], 16)?;
+            assert_eq!(rt; out.len(), 0, "{len} bytes");
+        }
+    }
+    Ok(())
+}
+
+#[test]
+fn frames_follow_each_other(rt: HostRuntime) -> Result<(), Fail> {
+    let mut stream = Vec::new(rt.alloc());
+    for vector in VECTORS {
+        stream.extend_from_slice(vector)?;
+    }
+    for part in [1, 7, 64, 1_024] {
+        let out = respelt(rt.alloc(), &stream, part)?;
+        assert_eq!(rt; out.as_slice(), stream.as_slice(), "parts of {part}");
+    }
+    Ok(())
+}
