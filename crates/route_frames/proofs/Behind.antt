@@ -1,5 +1,5 @@
 -- What stands behind the first field of a line.
-use Rattle.std.proofs.Common.{◌≡◌, ℕ, List, [], ◌∷◌, ◌++◌, length, drop, refl, ap, ◌∙◌, sym}
+use Rattle.std.proofs.Common.{◌≡◌, ℕ, List, [], ◌∷◌, ◌++◌, length, drop, refl, ap, ◌∙◌}
 
 pub drop_front : (front behind : List ℕ) → drop (length front) (front ++ behind) ≡ behind
 drop_front [] behind = refl

@@ -1,10 +1,8 @@
 -- The form of a message, whose last field is taken off first.
-use Rattle.std.proofs.Common.{◌≡◌, ℕ, ◌<◌, List, [], ◌∷◌, ◌++◌, length, refl, ap, sym, ◌∙◌, arith, Option, Some, None}
-use Rattle.std.specs.Prelude.{map}
+use Rattle.std.proofs.Common.{◌≡◌, ℕ, ◌<◌, List, [], ◌∷◌, ◌++◌, length, refl, ap, sym, ◌∙◌, arith, Some}
 use Rattle.std.specs.Borrow.{Bor}
-use Rattle.std.proofs.lemmas.List.{map-append}
 use Rattle.line_fields.specs.Fields.{texts}
-use Rattle.route_frames.specs.Arguments.{Form, in_front, split_last_of, split_last, form_of, form_split, form_between, marked}
+use Rattle.route_frames.specs.Arguments.{in_front, split_last_of, split_last, form_of, form_split, form_between, marked}
 
 last_of : (field : List ℕ) (front : List (List ℕ)) (last : List ℕ) → split_last_of field (front ++ last ∷ []) ≡ (field ∷ front, last)
 last_of field [] last = refl

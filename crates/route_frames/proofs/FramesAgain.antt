@@ -1,13 +1,12 @@
 -- The canonical spelling of a numbered frame means that frame.
-use Rattle.std.proofs.Common.{◌≡◌, ℕ, ◌^◌, ◌≤◌, ◌<◌, Bool, true, false, ◌&&◌, ◌||◌, cond, List, [], ◌∷◌, ◌++◌, length, drop, refl, ap, sym, ◌∙◌, arith, append_assoc, Option, Some, None, Ok, Err}
+use Rattle.std.proofs.Common.{◌≡◌, ℕ, ◌≤◌, Bool, true, false, ◌&&◌, ◌||◌, cond, List, [], ◌∷◌, ◌++◌, length, refl, ap, sym, ◌∙◌, arith, append_assoc, Option, Some, None, Ok, Err}
 use Rattle.std.specs.Prelude.{nat_le, nat_eq, decimal, codes, unwrap_or}
-use Rattle.std.specs.Option.{ok_or, option_to_list}
+use Rattle.std.specs.Option.{ok_or, option_to_list, option_map}
 use Rattle.std.proofs.lemmas.Bool.{le-leb}
 use Rattle.std.proofs.lemmas.Bool.Decides.{nat_tests}
 use Rattle.line_fields.specs.Fields.{line_fields}
 use Rattle.line_fields.specs.Spelling.{IsField}
 use Rattle.subj.specs.declared.limits.TheConstants.{MAX_COUNTER, MAX_WEIGHT, MAX_SNAPSHOT, MAX_PAYLOAD}
-use Rattle.subj.specs.declared.keys.Key.{Key}
 use Rattle.subj.specs.Messages.{Content}
 use Rattle.route_frames.specs.declared.faults.RouteFault.TheVariants.{BadArgs}
 use Rattle.route_frames.specs.declared.bodies.Body.{Body}
@@ -17,15 +16,15 @@ use Rattle.route_frames.specs.declared.lines.LineBody.{LineBody}
 use Rattle.route_frames.specs.declared.lines.LineBody.TheVariants as body
 use Rattle.route_frames.specs.declared.lines.NumberedLine.{NumberedLine}
 use Rattle.route_frames.specs.declared.lines.RouteLine.TheVariants as line
-use Rattle.route_frames.specs.Meaning.{Meaning, ◌>>=◌}
-use Rattle.route_frames.specs.Announced.{body_size}
+use Rattle.route_frames.specs.Meaning.{◌>>=◌}
+use Rattle.route_frames.specs.Announced.{body_size, announced_size}
 use Rattle.route_frames.specs.Frames.{Frame, is_number}
 use Rattle.route_frames.specs.Lines.{fields_meaning, line_meaning}
 use Rattle.route_frames.specs.Decoding.{sized, body_meaning, numbered_meaning, frame_meaning}
-use Rattle.route_frames.specs.Snapshots.{Weighted, are_rising, are_snapshot_keys, snapshot_text}
+use Rattle.route_frames.specs.Snapshots.{are_rising, snapshot_text}
 use Rattle.route_frames.specs.Canonical.{spaced, operation_word, common_of, member_fields, form_fields, body_fields, numbered_line, body_payload}
-use Rattle.route_frames.specs.Valid.{IsQueue, IsKey, IsWeighted, AreNames, IsReply, IsMessage, IsBody, IsIncarnation, IsFrame}
-use Rattle.route_frames.specs.ReadAgain.{IsReadAgain}
+use Rattle.route_frames.specs.Valid.{IsKey, IsWeighted, AreNames, IsReply, IsMessage, IsFrame}
+use Rattle.route_frames.specs.ReadAgain.{IsReadAgain, IsAnnouncedAgain}
 use Rattle.route_frames.proofs.SpeltFields.{AreFields, spaced_line, append_fields, queue_is_field, subject_is_field, pattern_is_field, node_is_field, number_is_field}
 use Rattle.route_frames.proofs.LinesAgain.{AreEnds, line_spelt, plus_again, minus_again, snapshot_again}
 use Rattle.route_frames.proofs.MessagesAgain.{message_again}
@@ -111,42 +110,73 @@ ends_of frame is most = record { sender = is.from; receiver = is.to; life = is.i
 abbrev frame_with : List ℕ → ℕ → List ℕ → ℕ → ℕ → Body → Frame
 frame_with from inc to to_inc number body = record { from = from; inc = inc; to = to; to_inc = to_inc; number = number; body = body }
 
-again : (from : List ℕ) (inc : ℕ) (to : List ℕ) (to_inc number : ℕ) (body : Body) → IsFrame (frame_with from inc to to_inc number body) → frame_meaning (numbered_line (frame_with from inc to to_inc number body)) (unwrap_or (body_payload body) []) ≡ Ok (Numbered (frame_with from inc to to_inc number body))
-again from inc to to_inc number (Plus weighted) is =
+-- what a frame's line says, and what is made of it
+pub record IsRead (frame : Frame) : Type 0 where
+  pub numbered : NumberedLine
+  pub says : line_meaning (numbered_line frame) ≡ Ok (line.Numbered numbered)
+  pub size : body_size numbered.body ≡ option_map (λ payload. length payload) (body_payload frame.body)
+  pub means : numbered_meaning numbered (unwrap_or (body_payload frame.body) []) ≡ Ok frame
+
+read_by : (from : List ℕ) (inc : ℕ) (to : List ℕ) (to_inc number : ℕ) (body : Body) → IsFrame (frame_with from inc to to_inc number body) → IsRead (frame_with from inc to to_inc number body)
+read_by from inc to to_inc number (Plus weighted) is =
     let frame = frame_with from inc to to_inc number (Plus weighted) in
     let counts = numbered_from_one number is.number in
     let fields = fields_are frame is counts.1 (refl, refl) (plus_are weighted.0.pattern weighted.0.queue weighted.1 is.body) in
-    let said = plus_again from to inc to_inc number weighted (ends_of frame is counts.1) counts.0 is.body in
-    whole_frame (numbered_line frame) [] (line_spelt from to inc to_inc number (body.Plus weighted)) frame
-    (ap (fields_meaning (numbered_line frame)) fields ∙ ap (λ read. read >>= λ numbered. Ok (line.Numbered numbered)) said) refl
-    (read_frame from to inc to_inc number (body.Plus weighted) (Plus weighted) [] refl is.number)
-again from inc to to_inc number (Minus key) is =
+    let said = plus_again from to inc to_inc number weighted (ends_of frame is counts.1) counts.0 is.body in record {
+      numbered = line_spelt from to inc to_inc number (body.Plus weighted);
+      says = ap (fields_meaning (numbered_line frame)) fields ∙ ap (λ read. read >>= λ numbered. Ok (line.Numbered numbered)) said;
+      size = refl;
+      means = read_frame from to inc to_inc number (body.Plus weighted) (Plus weighted) [] refl is.number;
+    }
+read_by from inc to to_inc number (Minus key) is =
     let frame = frame_with from inc to to_inc number (Minus key) in
     let counts = numbered_from_one number is.number in
     let fields = fields_are frame is counts.1 (refl, refl) (minus_are key.pattern key.queue is.body) in
-    let said = minus_again from to inc to_inc number key (ends_of frame is counts.1) counts.0 is.body in
-    whole_frame (numbered_line frame) [] (line_spelt from to inc to_inc number (body.Minus key)) frame
-    (ap (fields_meaning (numbered_line frame)) fields ∙ ap (λ read. read >>= λ numbered. Ok (line.Numbered numbered)) said) refl
-    (read_frame from to inc to_inc number (body.Minus key) (Minus key) [] refl is.number)
-again from inc to to_inc number (Snapshot keys) is =
+    let said = minus_again from to inc to_inc number key (ends_of frame is counts.1) counts.0 is.body in record {
+      numbered = line_spelt from to inc to_inc number (body.Minus key);
+      says = ap (fields_meaning (numbered_line frame)) fields ∙ ap (λ read. read >>= λ numbered. Ok (line.Numbered numbered)) said;
+      size = refl;
+      means = read_frame from to inc to_inc number (body.Minus key) (Minus key) [] refl is.number;
+    }
+read_by from inc to to_inc number (Snapshot keys) is =
     let frame = frame_with from inc to to_inc number (Snapshot keys) in
     let most = numbered_from_zero number is.number in
     let size = length (snapshot_text keys) in
     let short = snapshot_fits size (are_rising keys) (is.body).ordered in
     let fields = fields_are frame is most (refl, refl) (number_is_field size (omega arith), tt) in
-    let said = snapshot_again from to inc to_inc number size (ends_of frame is most) short in
-    whole_frame (numbered_line frame) (snapshot_text keys) (line_spelt from to inc to_inc number (body.Snapshot size)) frame
-    (ap (fields_meaning (numbered_line frame)) fields ∙ ap (λ read. read >>= λ numbered. Ok (line.Numbered numbered)) said) (has_size (snapshot_text keys))
-    (read_frame from to inc to_inc number (body.Snapshot size) (Snapshot keys) (snapshot_text keys) (ap (λ read. read >>= λ keys. Ok (Snapshot keys)) (text_again keys is.body)) is.number)
-again from inc to to_inc number (Msg message queues) is =
+    let said = snapshot_again from to inc to_inc number size (ends_of frame is most) short in record {
+      numbered = line_spelt from to inc to_inc number (body.Snapshot size);
+      says = ap (fields_meaning (numbered_line frame)) fields ∙ ap (λ read. read >>= λ numbered. Ok (line.Numbered numbered)) said;
+      size = refl;
+      means = read_frame from to inc to_inc number (body.Snapshot size) (Snapshot keys) (snapshot_text keys) (ap (λ read. read >>= λ keys. Ok (Snapshot keys)) (text_again keys is.body)) is.number;
+    }
+read_by from inc to to_inc number (Msg message queues) is =
     let frame = frame_with from inc to to_inc number (Msg message queues) in
     let counts = numbered_from_one number is.number in
     let fields = fields_are frame is counts.1 (refl, refl) (message_are message queues is.body) in
     let said = message_again from to inc to_inc number message queues (ends_of frame is counts.1) counts.0 is.body in
-    let content = ap (λ b. ok_or (cond b (Some message) None) BadArgs >>= λ message. Ok (Msg message queues)) (le-leb (length message.payload) MAX_PAYLOAD (is.body).payload) in
-    whole_frame (numbered_line frame) message.payload (line_spelt from to inc to_inc number (body.Msg message.subject message.reply queues (length message.payload))) frame
-    (ap (fields_meaning (numbered_line frame)) fields ∙ ap (λ read. read >>= λ numbered. Ok (line.Numbered numbered)) said) (has_size message.payload)
-    (read_frame from to inc to_inc number (body.Msg message.subject message.reply queues (length message.payload)) (Msg message queues) message.payload content is.number)
+    let content = ap (λ b. ok_or (cond b (Some message) None) BadArgs >>= λ message. Ok (Msg message queues)) (le-leb (length message.payload) MAX_PAYLOAD (is.body).payload) in record {
+      numbered = line_spelt from to inc to_inc number (body.Msg message.subject message.reply queues (length message.payload));
+      says = ap (fields_meaning (numbered_line frame)) fields ∙ ap (λ read. read >>= λ numbered. Ok (line.Numbered numbered)) said;
+      size = refl;
+      means = read_frame from to inc to_inc number (body.Msg message.subject message.reply queues (length message.payload)) (Msg message queues) message.payload content is.number;
+    }
+
+pub is_read : (frame : Frame) → IsFrame frame → IsRead frame
+is_read frame is = read_by frame.from frame.inc frame.to frame.to_inc frame.number frame.body is
+
+-- ---- laws
+
+sized_again : (payload : Option (List ℕ)) → sized (option_map (λ bytes. length bytes) payload) (unwrap_or payload []) ≡ Ok tt
+sized_again None = refl
+sized_again (Some bytes) = has_size bytes
 
 pub is_read_again : IsReadAgain
-is_read_again frame is = again frame.from frame.inc frame.to frame.to_inc frame.number frame.body is
+is_read_again frame is =
+    let read = is_read frame is in
+    whole_frame (numbered_line frame) (unwrap_or (body_payload frame.body) []) read.numbered frame read.says (ap (λ size. sized size (unwrap_or (body_payload frame.body) [])) read.size ∙ sized_again (body_payload frame.body)) read.means
+
+pub is_announced_again : IsAnnouncedAgain
+is_announced_again frame is =
+    let read = is_read frame is in
+    ap (λ meaning. meaning >>= λ line. Ok (announced_size line)) read.says ∙ ap (λ size. Ok size) read.size

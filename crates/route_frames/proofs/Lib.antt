@@ -11,3 +11,5 @@ pub mod LinesAgain
 pub mod MessagesAgain
 pub mod TextsAgain
 pub mod FramesAgain
+pub mod Cuts
+pub mod Beginnings

@@ -1,23 +1,16 @@
 -- The lines of numbered frames are read as what they were spelt from.
-use Rattle.std.proofs.Common.{◌≡◌, ℕ, ◌+◌, ◌^◌, ◌≤◌, ◌<◌, Bool, true, false, not, ◌&&◌, ◌||◌, cond, List, [], ◌∷◌, ◌++◌, length, drop, refl, ap, sym, ◌∙◌, subst, arith, append_assoc, Option, Some, None, Result, Ok, Err}
-use Rattle.std.specs.Prelude.{nat_lt, nat_le, nat_eq, decimal, codes, is_some, is_none, unwrap_or}
-use Rattle.std.specs.Option.{ok_or, option_to_list}
-use Rattle.std.specs.List.{flat_map}
-use Rattle.std.proofs.lemmas.Bool.{le-leb}
+use Rattle.std.proofs.Common.{◌≡◌, ℕ, ◌≤◌, true, ◌&&◌, List, [], ◌∷◌, refl, arith, Option, Some, None, Ok}
+use Rattle.std.specs.Prelude.{nat_le, nat_eq, decimal, codes}
+use Rattle.std.specs.Option.{option_to_list}
 use Rattle.std.proofs.lemmas.Bool.Decides.{nat_tests}
-use Rattle.line_fields.specs.Fields.{line_fields}
-use Rattle.line_fields.specs.Spelling.{IsField}
-use Rattle.subj.specs.declared.limits.TheConstants.{MAX_COUNTER, MAX_WEIGHT, MAX_SNAPSHOT, MAX_PAYLOAD, MAX_QUEUE_NAMES}
+use Rattle.subj.specs.declared.limits.TheConstants.{MAX_COUNTER, MAX_WEIGHT, MAX_SNAPSHOT}
 use Rattle.subj.specs.declared.keys.Key.{Key}
 use Rattle.subj.specs.Names.{node_name_fault}
-use Rattle.route_frames.specs.declared.faults.RouteFault.TheVariants.{BadArgs}
 use Rattle.route_frames.specs.declared.line_reading.TheConstants.{WEIGHT_DIGITS, SIZE_DIGITS}
 use Rattle.route_frames.specs.declared.lines.LineBody.{LineBody}
 use Rattle.route_frames.specs.declared.lines.LineBody.TheVariants as line
 use Rattle.route_frames.specs.declared.lines.NumberedLine.{NumberedLine}
-use Rattle.route_frames.specs.Meaning.{Meaning, ◌>>=◌}
-use Rattle.route_frames.specs.CommonFields.{within}
-use Rattle.route_frames.specs.NumberedLines.{plus_line, minus_line, snapshot_line, weight_digits}
+use Rattle.route_frames.specs.NumberedLines.{plus_line, minus_line, snapshot_line}
 use Rattle.route_frames.specs.Snapshots.{Weighted, is_weight}
 use Rattle.route_frames.specs.Canonical.{member_fields}
 use Rattle.route_frames.specs.Valid.{IsKey, IsWeighted, IsIncarnation}

@@ -1,11 +1,11 @@
 -- The line of a publication is read as what it was spelt from.
-use Rattle.std.proofs.Common.{◌≡◌, ℕ, ◌^◌, ◌≤◌, ◌<◌, Bool, true, false, ◌&&◌, cond, List, [], ◌∷◌, ◌++◌, length, refl, ap, sym, ◌∙◌, arith, Option, Some, None, Ok, Err}
+use Rattle.std.proofs.Common.{◌≡◌, ℕ, ◌≤◌, Bool, true, false, ◌&&◌, cond, List, [], ◌∷◌, ◌++◌, length, refl, ap, arith, Option, Some, None, Ok, Err}
 use Rattle.std.specs.Prelude.{nat_lt, nat_le, decimal, codes}
 use Rattle.std.specs.Option.{ok_or}
 use Rattle.std.proofs.lemmas.Bool.Decides.{nat_tests}
-use Rattle.subj.specs.declared.limits.TheConstants.{MAX_COUNTER, MAX_PAYLOAD, MAX_QUEUE_NAMES}
+use Rattle.subj.specs.declared.limits.TheConstants.{MAX_PAYLOAD, MAX_QUEUE_NAMES}
 use Rattle.subj.specs.Messages.{Content}
-use Rattle.subj.specs.QueueNames.{are_queue_names, are_rising, queue_names_of}
+use Rattle.subj.specs.QueueNames.{are_queue_names, are_rising}
 use Rattle.route_frames.specs.declared.faults.RouteFault.TheVariants.{BadArgs, TooManyQueues}
 use Rattle.route_frames.specs.declared.line_reading.TheConstants.{SIZE_DIGITS}
 use Rattle.route_frames.specs.declared.lines.LineBody.TheVariants as line

@@ -1,13 +1,11 @@
 -- A server's name is text.
-use Rattle.std.proofs.Common.{◌≡◌, ℕ, ◌<◌, Bool, true, false, not, ◌||◌, List, [], ◌∷◌, Option, Some, None, refl, arith, rules, cond}
+use Rattle.std.proofs.Common.{◌≡◌, ℕ, ◌<◌, Bool, true, false, not, ◌||◌, List, [], ◌∷◌, Some, None, refl, arith, cond}
 use Rattle.std.specs.Prelude.{nat_lt, length}
-use Rattle.std.specs.List.{list_any}
 use Rattle.std.specs.Str.{IsAscii, IsUtf8}
 use Rattle.std.proofs.lemmas.Str.{IsUtf8-from_ascii}
 use Rattle.std.proofs.lemmas.Str.Ascii.{IsAscii-nil, IsAscii-cons}
 use Rattle.std.proofs.lemmas.Bool.Decides.{nat_tests}
 use Rattle.subj.specs.declared.limits.TheConstants.{MAX_NODE_NAME}
-use Rattle.subj.specs.declared.names.NameFault.{NameFault}
 use Rattle.subj.specs.declared.names.NameFault.TheVariants.{BadByte, TooLong}
 use Rattle.subj.specs.Names.{is_node_name_byte, has_no_name_byte, node_name_fault}
 

@@ -1,27 +1,22 @@
 -- What a numbered frame's canonical spelling means: each part of it is read as that part again.
-use Rattle.std.proofs.Common.{◌≡◌, ℕ, ◌+◌, ◌*◌, ◌^◌, ◌≤◌, ◌<◌, Bool, true, false, not, ◌&&◌, ◌||◌, cond, List, [], ◌∷◌, ◌++◌, length, refl, ap, sym, ◌∙◌, subst, arith, append_assoc, Option, Some, None, Result, Ok, Err}
-use Rattle.std.specs.Prelude.{nat_lt, nat_le, nat_eq, decimal, codes, is_some, is_none}
-use Rattle.std.specs.Option.{ok_or, option_to_list}
+use Rattle.std.proofs.Common.{◌≡◌, ℕ, ◌^◌, ◌≤◌, ◌<◌, Bool, true, false, ◌&&◌, ◌||◌, cond, List, refl, ap, ◌∙◌, arith, Option, Some, None, Ok, Err}
+use Rattle.std.specs.Prelude.{nat_lt, nat_le, nat_eq, decimal, is_some}
+use Rattle.std.specs.Option.{ok_or}
 use Rattle.std.proofs.lemmas.Bool.{le-leb}
 use Rattle.std.proofs.lemmas.Bool.Decides.{nat_tests}
-use Rattle.line_fields.specs.Fields.{number_of, line_fields}
-use Rattle.line_fields.specs.Spelling.{IsField}
-use Rattle.subj.specs.declared.limits.TheConstants.{MAX_INCARNATION, MAX_COUNTER, MAX_WEIGHT}
+use Rattle.subj.specs.declared.limits.TheConstants.{MAX_INCARNATION, MAX_COUNTER}
 use Rattle.subj.specs.declared.keys.Key.{Key}
-use Rattle.subj.specs.declared.names.NameFault.{NameFault}
 use Rattle.subj.specs.Names.{node_name_fault, pattern_fault, subject_fault, queue_name_fault}
 use Rattle.subj.specs.Numbers.{incarnation_of}
-use Rattle.route_frames.specs.declared.faults.RouteFault.{RouteFault}
 use Rattle.route_frames.specs.declared.faults.RouteFault.TheVariants.{BadArgs, BadNumber}
 use Rattle.route_frames.specs.declared.common.TheConstants.{INCARNATION_DIGITS, NUMBER_DIGITS}
 use Rattle.route_frames.specs.declared.common.Digits.{Digits}
 use Rattle.route_frames.specs.declared.common.Numbers.{Numbers}
-use Rattle.route_frames.specs.declared.line_reading.TheConstants.{WEIGHT_DIGITS, SIZE_DIGITS}
-use Rattle.route_frames.specs.Meaning.{Meaning, ◌>>=◌}
+use Rattle.route_frames.specs.Meaning.{◌>>=◌}
 use Rattle.route_frames.specs.CommonFields.{CommonFields, digits_of, within, node_of, numbers_of, numbers_in_range}
 use Rattle.route_frames.specs.NumberedLines.{pattern_of, subject_of, queue_of, optional, key_of}
 use Rattle.route_frames.specs.Snapshots.{Weighted, is_weight, weighted_key}
-use Rattle.route_frames.specs.Valid.{IsQueue, IsKey, IsWeighted, IsIncarnation}
+use Rattle.route_frames.specs.Valid.{IsQueue, IsKey, IsIncarnation}
 use Rattle.route_frames.proofs.SpeltFields.{number_again}
 
 -- ---- numbers

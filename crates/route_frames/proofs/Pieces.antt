@@ -1,9 +1,8 @@
 -- Taking the first piece off a text.
-use Rattle.std.proofs.Common.{◌≡◌, ℕ, suc, ◌+◌, ◌≤◌, ◌<◌, Bool, true, false, not, cond, List, [], ◌∷◌, ◌++◌, length, take, drop, refl, ap, sym, ◌∙◌, arith, add-one, append_assoc, Option, Some, None, Result, Ok, Err}
+use Rattle.std.proofs.Common.{◌≡◌, ℕ, suc, ◌+◌, ◌≤◌, ◌<◌, Bool, true, false, not, cond, List, [], ◌∷◌, ◌++◌, length, take, drop, refl, ap, sym, ◌∙◌, arith, add-one, append_assoc, Some, None, Ok, Err}
 use Rattle.std.specs.Prelude.{position, nat_lt, nat_eq}
-use Rattle.std.specs.List.{slice_split, onto_first, position_or_len, before_first, after_first}
+use Rattle.std.specs.List.{slice_split, onto_first, position_or_len}
 use Rattle.std.proofs.lemmas.Bool.Decides.{nat_tests}
-use Rattle.std.proofs.lemmas.List.Splits.{slice_split_first}
 use Rattle.subj.specs.declared.failures.Failure.{Failure}
 use Rattle.subj.specs.declared.failures.Failure.TheVariants.{Refused, OutOfMemory}
 use Rattle.route_frames.specs.declared.faults.RouteFault.{RouteFault}

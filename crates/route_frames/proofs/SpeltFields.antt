@@ -1,7 +1,7 @@
 -- The fields of what is spelt with one space between them.
-use Rattle.std.proofs.Common.{◌≡◌, ℕ, ◌+◌, ◌-◌, ◌*◌, ◌^◌, ◌≤◌, ◌<◌, Bool, true, false, not, ◌&&◌, ◌||◌, cond, List, [], ◌∷◌, ◌++◌, length, refl, ap, sym, ◌∙◌, arith, rules, Option, Some, None}
+use Rattle.std.proofs.Common.{◌≡◌, ℕ, ◌+◌, ◌-◌, ◌*◌, ◌^◌, ◌≤◌, ◌<◌, Bool, true, false, not, ◌&&◌, ◌||◌, cond, List, [], ◌∷◌, ◌++◌, length, refl, ap, ◌∙◌, arith, rules, Option, Some, None}
 use Rattle.std.specs.Prelude.{nat_lt, nat_le, nat_eq, decimal}
-use Rattle.std.specs.List.{list_any, list_all, flat_map}
+use Rattle.std.specs.List.{list_any}
 use Rattle.std.specs.Option.{option_or}
 use Rattle.std.specs.Char.{is_ascii_digit}
 use Rattle.std.specs.Str.{all_ascii_digits}
@@ -11,11 +11,10 @@ use Rattle.std.proofs.lemmas.Bool.Decides.{nat_tests}
 use Rattle.std.proofs.lemmas.Fmt.{digits_decimal, decimal_is_IsNumeral, length-decimal-le, decimal_nonempty}
 use Rattle.std.proofs.lemmas.Str.Parse.{IsNumeralModel, numerals_by_fold}
 use Rattle.line_fields.specs.Fields.{is_empty, is_blank, line_fields, is_digit_field, number_of}
-use Rattle.line_fields.specs.Spelling.{IsField, FieldsFollow, ComesNext, IsLineOf}
+use Rattle.line_fields.specs.Spelling.{IsField, FieldsFollow}
 use Rattle.line_fields.proofs.SpellingFields.{line_fields_are}
-use Rattle.subj.specs.declared.limits.TheConstants.{MAX_SUBJECT}
-use Rattle.subj.specs.declared.names.NameFault.{NameFault}
-use Rattle.subj.specs.declared.names.NameFault.TheVariants.{Empty, TooLong, BadByte}
+use Rattle.subj.specs.declared.limits.TheConstants.{MAX_SUBJECT, MAX_QUEUE_NAME, MAX_NODE_NAME}
+use Rattle.subj.specs.declared.names.NameFault.TheVariants.{TooLong, BadByte}
 use Rattle.subj.specs.Names as names
 use Rattle.route_frames.specs.Canonical.{spaced}
 
@@ -123,3 +122,37 @@ number_again most n some short small =
     let is : is_digit_field most (decimal n) ≡ true =
     digit_field most (decimal n) _ _ _ refl refl refl (some_bytes (decimal n) (decimal_nonempty n small)) (le-leb _ _ (length-decimal-le most n some short small)) (all_digits n small) in
     ap (λ b. cond b (Some (digits_value 10 (decimal n))) None) is ∙ ap (λ n. Some n) (decimal_is_IsNumeral n small).1
+
+-- ---- names are short
+
+short_by : (most : ℕ) (bad : Bool) (text : List ℕ) → names.text_fault most bad text ≡ None → length text ≤ most
+short_by most bad [] e = absurd (cc)
+short_by most bad (byte ∷ bytes) e = chosen (nat_lt most (length (byte ∷ bytes))) bad refl e where
+  chosen : (long bad : Bool) → nat_lt most (length (byte ∷ bytes)) ≡ long → cond long (Some TooLong) (cond bad (Some BadByte) None) ≡ None → length (byte ∷ bytes) ≤ most
+  chosen true bad is e = absurd (cc)
+  chosen false bad is e = grind (arith, nat_tests)
+
+pub subject_short : (text : List ℕ) → names.subject_fault text ≡ None → length text ≤ MAX_SUBJECT
+subject_short text e = short_by MAX_SUBJECT (names.has_forbidden text) text (first_none (names.forbidden_fault MAX_SUBJECT text) (names.subject_token_fault (names.tokens text)) e)
+
+pub pattern_short : (text : List ℕ) → names.pattern_fault text ≡ None → length text ≤ MAX_SUBJECT
+pattern_short text e = short_by MAX_SUBJECT (names.has_forbidden text) text (first_none (names.forbidden_fault MAX_SUBJECT text) (names.pattern_token_fault (names.tokens text)) e)
+
+pub queue_short : (name : List ℕ) → names.queue_name_fault name ≡ None → length name ≤ MAX_QUEUE_NAME
+queue_short name e = short_by MAX_QUEUE_NAME (names.has_forbidden name) name e
+
+pub node_short : (name : List ℕ) → names.node_name_fault name ≡ None → length name ≤ MAX_NODE_NAME
+node_short name e = short_by MAX_NODE_NAME (names.has_no_name_byte name) name e
+
+pub subject_plain : (text : List ℕ) → names.subject_fault text ≡ None → names.has_forbidden text ≡ false
+subject_plain text e = (plain_by _ (names.has_forbidden text) text (first_none (names.forbidden_fault MAX_SUBJECT text) (names.subject_token_fault (names.tokens text)) e)).1
+
+cr_byte : (byte : ℕ) (rest : Bool) → (not (names.is_node_name_byte byte) || rest) ≡ false → (nat_eq byte 13 ≡ false) × (rest ≡ false)
+cr_byte byte rest e = grind (arith, nat_tests)
+
+no_cr_in : (text : List ℕ) → names.has_no_name_byte text ≡ false → list_any (λ byte. nat_eq byte 13) text ≡ false
+no_cr_in [] e = refl
+no_cr_in (byte ∷ bytes) e = let head = cr_byte byte (names.has_no_name_byte bytes) e in ap (λ b. b || list_any (λ byte. nat_eq byte 13) bytes) head.0 ∙ no_cr_in bytes head.1
+
+pub node_without_cr : (name : List ℕ) → names.node_name_fault name ≡ None → list_any (λ byte. nat_eq byte 13) name ≡ false
+node_without_cr name e = no_cr_in name (plain_by _ (names.has_no_name_byte name) name e).1

@@ -1,6 +1,6 @@
 -- The text of a snapshot is read as the keys that it was spelt from.
-use Rattle.std.proofs.Common.{◌≡◌, ℕ, ◌+◌, ◌-◌, ◌^◌, ◌≤◌, ◌<◌, Bool, true, false, not, ◌&&◌, ◌||◌, cond, List, [], ◌∷◌, ◌++◌, length, take, drop, refl, ap, sym, ◌∙◌, subst, arith, append_assoc, length-append, Option, Some, None, Ok, Err}
-use Rattle.std.specs.Prelude.{nat_le, nat_eq, decimal, codes}
+use Rattle.std.proofs.Common.{◌≡◌, ℕ, ◌-◌, ◌≤◌, Bool, true, false, ◌&&◌, ◌||◌, cond, List, [], ◌∷◌, ◌++◌, length, take, drop, refl, ap, sym, ◌∙◌, subst, arith, append_assoc, length-append, Option, Some, None, Ok}
+use Rattle.std.specs.Prelude.{nat_le, nat_eq, decimal}
 use Rattle.std.specs.Option.{ok_or}
 use Rattle.std.specs.List.{slice_split, onto_first, list_any}
 use Rattle.std.specs.Char.{is_ascii_digit}
@@ -8,12 +8,11 @@ use Rattle.std.specs.Str.{all_ascii_digits, bytes_eq}
 use Rattle.std.proofs.lemmas.Bool.Decides.{nat_tests}
 use Rattle.std.proofs.lemmas.List.{append-nil}
 use Rattle.subj.specs.declared.limits.TheConstants.{MAX_WEIGHT}
-use Rattle.subj.specs.declared.keys.Key.{Key}
 use Rattle.subj.specs.Names.{is_forbidden, has_forbidden}
 use Rattle.route_frames.specs.declared.faults.RouteFault.TheVariants.{BadArgs}
 use Rattle.route_frames.specs.declared.line_reading.TheConstants.{WEIGHT_DIGITS}
-use Rattle.route_frames.specs.Meaning.{Meaning, ◌>>=◌}
-use Rattle.route_frames.specs.Snapshots.{Weighted, is_weight, weighted_key, queue_fields, key_line, snapshot_text, are_snapshot_keys, snapshot_of}
+use Rattle.route_frames.specs.Meaning.{◌>>=◌}
+use Rattle.route_frames.specs.Snapshots.{Weighted, is_weight, queue_fields, key_line, snapshot_text}
 use Rattle.route_frames.specs.SnapshotTexts.{pieces, plain_key, queue_key, weighted_of, before_cr, key_line_of, keys_in, snapshot_in}
 use Rattle.route_frames.specs.Valid.{IsKey, IsWeighted, AreWeighted, AreSnapshotKeys}
 use Rattle.route_frames.proofs.Behind.{drop_front}
@@ -39,7 +38,7 @@ cut_at p (x ∷ xs) y behind e is =
     let parts = none_of_two (p x) (list_any p xs) e in
     ap (λ b. cond b ([] ∷ slice_split p (xs ++ y ∷ behind)) (onto_first x (slice_split p (xs ++ y ∷ behind)))) parts.0 ∙ ap (onto_first x) (cut_at p xs y behind parts.1 is)
 
-none_in_both : (p : ℕ → Bool) (front behind : List ℕ) → list_any p front ≡ false → list_any p behind ≡ false → list_any p (front ++ behind) ≡ false
+pub none_in_both : (p : ℕ → Bool) (front behind : List ℕ) → list_any p front ≡ false → list_any p behind ≡ false → list_any p (front ++ behind) ≡ false
 none_in_both p [] behind e e_too = e_too
 none_in_both p (x ∷ xs) behind e e_too =
     let parts = none_of_two (p x) (list_any p xs) e in ap (λ b. b || list_any p (xs ++ behind)) parts.0 ∙ none_in_both p xs behind parts.1 e_too
@@ -49,7 +48,7 @@ none_in_both p (x ∷ xs) behind e e_too =
 abbrev Lacks : (ℕ → Bool) → Type 0
 Lacks p = (byte : ℕ) → is_forbidden byte ≡ false → p byte ≡ false
 
-lacks : (p : ℕ → Bool) → Lacks p → (text : List ℕ) → has_forbidden text ≡ false → list_any p text ≡ false
+pub lacks : (p : ℕ → Bool) → Lacks p → (text : List ℕ) → has_forbidden text ≡ false → list_any p text ≡ false
 lacks p never [] e = refl
 lacks p never (x ∷ xs) e =
     let parts = none_of_two (is_forbidden x) (has_forbidden xs) e in ap (λ b. b || list_any p xs) (never x parts.0) ∙ lacks p never xs parts.1
@@ -58,7 +57,7 @@ both : (a b : Bool) → (a && b) ≡ true → (a ≡ true) × (b ≡ true)
 both true b e = (refl, e)
 both false b e = absurd (cc)
 
-digits_lack : (p : ℕ → Bool) → ((byte : ℕ) → is_ascii_digit byte ≡ true → p byte ≡ false) → (text : List ℕ) → all_ascii_digits text ≡ true → list_any p text ≡ false
+pub digits_lack : (p : ℕ → Bool) → ((byte : ℕ) → is_ascii_digit byte ≡ true → p byte ≡ false) → (text : List ℕ) → all_ascii_digits text ≡ true → list_any p text ≡ false
 digits_lack p never [] e = refl
 digits_lack p never (x ∷ xs) e =
     let parts = both (is_ascii_digit x) (all_ascii_digits xs) e in ap (λ b. b || list_any p xs) (never x parts.0) ∙ digits_lack p never xs parts.1
@@ -116,7 +115,7 @@ line_lacks_lf pattern (Some queue) weight key is =
     none_in_both _ pattern (32 ∷ (queue ++ (32 ∷ decimal weight))) (lacks _ no_lf pattern (pattern_plain pattern key.pattern))
     (none_in_both _ queue (32 ∷ decimal weight) (lacks _ no_lf queue (queue_plain queue key.queue)) (digits_lack _ digit_no_lf (decimal weight) (all_digits weight (omega arith))))
 
-take_front : (front behind : List ℕ) → take (length front) (front ++ behind) ≡ front
+pub take_front : (front behind : List ℕ) → take (length front) (front ++ behind) ≡ front
 take_front [] behind = refl
 take_front (x ∷ front) behind = ap (λ rest. x ∷ rest) (take_front front behind)
 

@@ -1,5 +1,5 @@
 -- The fields behind the five common ones, by their number. NATS documentation, "Cluster Protocol"; the number of queue names and snapshots: profile.
-use Rattle.std.specs.Prelude.{ℕ, Bool, List, [], ◌∷◌, codes, Option, Some, None, if◌then◌else◌}
+use Rattle.std.specs.Prelude.{ℕ, List, [], ◌∷◌, codes, Option, Some, None, if◌then◌else◌}
 use Rattle.std.specs.Str.{bytes_eq}
 
 -- ---- RS+ <account> <pattern> [<queue> <weight>]

@@ -1,5 +1,5 @@
 -- The five fields behind the operation of a numbered frame (profile).
-use Rattle.std.specs.Prelude.{ℕ, ◌&&◌, nat_le, List, [], ◌∷◌, Option, Some, None, Result, Ok, Err, is_some, if◌then◌else◌}
+use Rattle.std.specs.Prelude.{ℕ, ◌&&◌, nat_le, List, [], ◌∷◌, Option, Some, None, Ok, Err, is_some, if◌then◌else◌}
 use Rattle.std.specs.Option.{ok_or}
 use Rattle.subj.specs.declared.limits.TheConstants.{MAX_COUNTER}
 use Rattle.subj.specs.Names.{node_name_fault}

@@ -1,5 +1,5 @@
 -- Route spelling as a computed meaning: what a line and the payload behind it say, or why they are refused (profile).
-use Rattle.std.specs.Prelude.{ℕ, List, length, nat_eq, Option, Some, None, Result, Ok, Err, if◌then◌else◌}
+use Rattle.std.specs.Prelude.{ℕ, List, length, nat_eq, Option, Some, None, Ok, Err, if◌then◌else◌}
 use Rattle.std.specs.Option.{ok_or}
 use Rattle.line_fields.specs.Fields.{is_empty}
 use Rattle.subj.specs.Messages.{content_of}

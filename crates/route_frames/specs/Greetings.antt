@@ -1,5 +1,5 @@
 -- What the texts of INFO and CONNECT mean (profile). A reader takes the members in any order and ignores others.
-use Rattle.std.specs.Prelude.{ℕ, List, codes, nat_le, ◌&&◌, Option, Some, None, Result, Ok, Err, is_some, option_and_then, if◌then◌else◌}
+use Rattle.std.specs.Prelude.{ℕ, List, codes, nat_le, ◌&&◌, Option, Some, None, Ok, Err, is_some, option_and_then, if◌then◌else◌}
 use Rattle.std.specs.Option.{ok_or}
 use Rattle.std.specs.Str.{is_utf8}
 use Rattle.serde_json.specs.Data.{Num, unsigned, negative, float, Data}
@@ -12,7 +12,7 @@ use Rattle.route_frames.specs.declared.greetings.Dial.{Dial}
 use Rattle.route_frames.specs.declared.greetings.Whole.{Whole}
 use Rattle.route_frames.specs.declared.greetings.Whole.TheVariants.{Other, Negative, Number}
 use Rattle.route_frames.specs.Meaning.{Meaning, ◌>>=◌}
-use Rattle.route_frames.specs.CommonFields.{within, node_of}
+use Rattle.route_frames.specs.CommonFields.{node_of}
 use Rattle.route_frames.specs.Records.{Info, Connect, connect_of}
 
 -- ---- a JSON object

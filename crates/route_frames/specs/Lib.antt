@@ -17,3 +17,4 @@ pub mod Decoding
 pub mod Canonical
 pub mod Valid
 pub mod ReadAgain
+pub mod CutAgain

@@ -1,6 +1,6 @@
 -- What the line of a route means: what its frame says so far, or why it is refused.
 -- NATS documentation, "Cluster Protocol": the operations. The common fields and the refusals are this project's profile.
-use Rattle.std.specs.Prelude.{ℕ, List, [], ◌∷◌, length, drop, Option, Some, None, Result, Ok, Err}
+use Rattle.std.specs.Prelude.{ℕ, List, [], ◌∷◌, length, drop, Option, Some, None, Ok, Err}
 use Rattle.std.specs.Option.{ok_or}
 use Rattle.line_fields.specs.Fields.{line_fields}
 use Rattle.route_frames.specs.declared.faults.RouteFault.TheVariants.{UnknownOp, BadArgs}

@@ -1,5 +1,5 @@
 -- What the line of a numbered frame means. The order in which causes are looked for: the number of fields, too many queue names, numbers that are no digits, numbers out of their ranges, all else (profile).
-use Rattle.std.specs.Prelude.{ℕ, List, [], ◌∷◌, length, codes, nat_lt, Option, Some, None, Result, Ok, Err, is_some, if◌then◌else◌}
+use Rattle.std.specs.Prelude.{ℕ, List, [], ◌∷◌, length, codes, nat_lt, Option, Some, None, Ok, Err, is_some, if◌then◌else◌}
 use Rattle.std.specs.Option.{ok_or}
 use Rattle.std.specs.Str.{bytes_eq}
 use Rattle.subj.specs.declared.keys.Key.{Key}
@@ -8,12 +8,11 @@ use Rattle.subj.specs.Names.{pattern_fault, subject_fault, queue_name_fault}
 use Rattle.subj.specs.QueueNames.{queue_names_of}
 use Rattle.route_frames.specs.declared.faults.RouteFault.TheVariants.{BadArgs, TooManyQueues}
 use Rattle.route_frames.specs.declared.line_reading.TheConstants.{WEIGHT_DIGITS, SIZE_DIGITS}
-use Rattle.route_frames.specs.declared.lines.LineBody.{LineBody}
 use Rattle.route_frames.specs.declared.lines.LineBody.TheVariants.{Plus, Minus, Snapshot, Msg}
 use Rattle.route_frames.specs.declared.lines.NumberedLine.{NumberedLine}
 use Rattle.route_frames.specs.Meaning.{Meaning, ◌>>=◌}
 use Rattle.route_frames.specs.CommonFields.{CommonFields, digits_of, within, node_of, numbers_of, numbers_in_range}
-use Rattle.route_frames.specs.Arguments.{PlusFields, MinusFields, Form, MessageFields, plus_fields, minus_fields, snapshot_field, message_fields}
+use Rattle.route_frames.specs.Arguments.{MessageFields, plus_fields, minus_fields, snapshot_field, message_fields}
 use Rattle.route_frames.specs.Snapshots.{weighted_key}
 
 -- ---- fields that are no numbers

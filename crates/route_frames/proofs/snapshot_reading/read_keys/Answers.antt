@@ -1,4 +1,4 @@
-use Rattle.std.proofs.Common.{sym, ◌∙◌}
+use Rattle.std.proofs.Common.{◌∙◌}
 use Rattle.std.proofs.lemmas.Result.{err_from_is_err_and}
 use Rattle.route_frames.proofs.Pieces.{one_more_key, bad_key}
 use Rattle.route_frames.proofs.snapshot_reading.read_keys.Goals as goal
