@@ -1,10 +1,17 @@
 //! One client on a reader and a writer.
 
-use crate::pipe_client::{Next, PipeClient};
+ghost use Rattle.std.specs.Prelude.{◌≡◌, IsTrue, IfOk, OnOk, OnErr};
+ghost use Rattle.wire_cut.specs.Flow.{AppendsFront};
+ghost use Rattle.wire_cut.specs.Cut.{expect_fault, after_expect};
+ghost use Rattle.nats_mesh.specs.PipeTheorem.{Pipes, CountsReads, CountsFailedWrites};
+ghost use Rattle.nats_mesh.specs.PipeStates.{IsReady};
+ghost use Rattle.nats_mesh.specs.PipeRuns.{IsInStep, IsFlushed, CountsWrites, Announced, HasLooked, Works};
+
+use crate::pipe_client::{Flow, Next, PipeClient};
 use client_frames::ErrText;
 use std::alloc::{AllocError, AllocFailed, Global};
 use subj::{CLIENT_LINE, MAX_PAYLOAD, READ_BYTES};
-use wire_cut::{CutFault, Cutter, FillFault, Piece, Sink, Source, WriteFailed};
+use wire_cut::{Cutter, FillFault, Piece, Sink, Source, WriteFailed};
 
 /// How a pipe ended.
 #[derive(Clone, Copy, Debug, PartialEq, Eq)]
@@ -27,31 +34,24 @@ pub enum PipeFault {
 }
 
 impl From<AllocError> for PipeFault {
+    ghost use Rattle.std.specs.Prelude.{◌≡◌};
+    ghost use Rattle.nats_mesh.specs.declared.pipe.PipeFault.TheVariants.{OutOfMemory};
+
+    ghost from_gives = { λ _ fault. fault ≡ OutOfMemory };
+
     fn from(_: AllocError) -> PipeFault {
         PipeFault::OutOfMemory
     }
 }
 
 impl From<WriteFailed> for PipeFault {
+    ghost use Rattle.std.specs.Prelude.{◌≡◌};
+    ghost use Rattle.nats_mesh.specs.declared.pipe.PipeFault.TheVariants.{Write};
+
+    ghost from_gives = { λ _ fault. fault ≡ Write };
+
     fn from(_: WriteFailed) -> PipeFault {
         PipeFault::Write
-    }
-}
-
-/// How far the pieces at hand led.
-enum Worked {
-    /// More bytes are needed.
-    Starved,
-    /// A closing text was put.
-    Closed,
-}
-
-/// The text that a fault of the stream is answered with.
-fn text_of(fault: CutFault) -> ErrText {
-    match fault {
-        CutFault::LineTooLong => ErrText::MaximumControlLineExceeded,
-        CutFault::PayloadTooLong => ErrText::MaximumPayloadViolation,
-        CutFault::NoCrLfAfterPayload => ErrText::ParserError,
     }
 }
 
@@ -61,79 +61,92 @@ pub fn pipe_run<S: Source, W: Sink>(
     alloc: Global,
     source: &mut S,
     sink: &mut W,
-) -> Result<PipeEnd, PipeFault> {
+) -> Result<PipeEnd, PipeFault>
+    ensures text { Pipes result (S.remaining source.old) (S.remaining source.new) (W.written sink.old) (W.written sink.new) }
+    ensures reads { CountsReads result (S.reads source.old) (S.reads source.new) (S.failures source.old) (S.failures source.new) }
+    ensures writes { CountsFailedWrites result (W.failures sink.old) (W.failures sink.new) }
+{
     let mut client = PipeClient::new(alloc)?;
     let mut cutter = Cutter::new(alloc, CLIENT_LINE, MAX_PAYLOAD as u64);
+    flush(&mut client, sink)?;
     for _ in 0..u64::MAX {
-        flush(&mut client, sink)?;
         let count = match cutter.read_from(source, READ_BYTES) {
             Ok(count) => count,
             Err(FillFault::OutOfMemory) => return Err(PipeFault::OutOfMemory),
             Err(FillFault::Read) => return Err(PipeFault::Read),
-            Err(FillFault::Cut(fault)) => {
-                client.shut(text_of(fault))?;
-                flush(&mut client, sink)?;
-                return Ok(PipeEnd::Closed);
-            }
+            Err(FillFault::Cut(_)) => unreachable!(),
         };
         if count == 0 {
             return Ok(PipeEnd::Ended);
         }
-        match work(&mut cutter, &mut client, sink)? {
-            Worked::Starved => {}
-            Worked::Closed => {
-                flush(&mut client, sink)?;
-                return Ok(PipeEnd::Closed);
-            }
+        let flow = work(&mut cutter, &mut client, sink)?;
+        flush(&mut client, sink)?;
+        match flow {
+            Flow::Open => {}
+            Flow::Closed => return Ok(PipeEnd::Closed),
         }
     }
     Err(PipeFault::Read)
 }
 
 /// Writes what was put.
-fn flush<W: Sink>(client: &mut PipeClient, sink: &mut W) -> Result<(), PipeFault> {
+fn flush<W: Sink>(client: &mut PipeClient, sink: &mut W) -> Result<(), PipeFault>
+    ensures ok { OnOk result (IsFlushed client.old (W.written sink.old) client.new (W.written sink.new)) }
+    ensures err { OnErr result (AppendsFront (W.written sink.old) (W.written sink.new) client.old.output.items) }
+    ensures failures { CountsWrites result (W.failures sink.old) (W.failures sink.new) }
+{
     sink.write_all(client.output())?;
     client.clear_output();
     Ok(())
 }
 
-/// Works off the pieces that are there.
+/// Works off the pieces that are there. What was put is written as soon as it is [`READ_BYTES`] long.
 fn work<W: Sink>(
     cutter: &mut Cutter,
     client: &mut PipeClient,
     sink: &mut W,
-) -> Result<Worked, PipeFault> {
-    for _ in 0..u64::MAX {
-        let next = match cutter.next() {
-            Ok(None) => return Ok(Worked::Starved),
-            Ok(Some(Piece::Line(line))) => client.line(line)?,
-            Ok(Some(Piece::Payload(payload))) => client.payload(payload)?,
-            Err(fault) => Next::Close(text_of(fault)),
-        };
-        let closing = match next {
-            Next::Line => None,
-            Next::Payload(size) => announce(cutter, size),
-            Next::Close(text) => Some(text),
-            Next::Closed => return Ok(Worked::Closed),
-        };
-        if let Some(text) = closing {
-            client.shut(text)?;
-            return Ok(Worked::Closed);
+) -> Result<Flow, PipeFault>
+    requires { IsInStep client.old cutter.old }
+    ensures works { Works result client.old cutter.old (W.written sink.old) client.new cutter.new (W.written sink.new) }
+    ensures failures { CountsWrites result (W.failures sink.old) (W.failures sink.new) }
+{
+    loop {
+        match look(cutter, client)? {
+            None => return Ok(Flow::Open),
+            Some(Flow::Closed) => return Ok(Flow::Closed),
+            Some(Flow::Open) => {}
         }
         if client.output().len() >= READ_BYTES {
             flush(client, sink)?;
         }
     }
-    Ok(Worked::Starved)
 }
 
-/// Announces a payload to the cutter, and gives the text where it is too large.
-fn announce(cutter: &mut Cutter, size: u64) -> Option<ErrText> {
-    if !cutter.after_line() {
-        return None;
+/// Works off the next piece. None where more bytes are needed for one.
+fn look(cutter: &mut Cutter, client: &mut PipeClient) -> Result<Option<Flow>, AllocError>
+    requires { IsInStep client.old cutter.old }
+    ensures { IfOk result (λ looked. HasLooked looked client.old cutter.old client.new cutter.new) }
+{
+    match cutter.next() {
+        Ok(None) => Ok(None),
+        Ok(Some(Piece::Line(line))) => match client.line(line)? {
+            Next::Answered(flow) => Ok(Some(flow)),
+            Next::Payload(size) => Ok(Some(announce(cutter, client, size)?)),
+        },
+        Ok(Some(Piece::Payload(payload))) => Ok(Some(client.payload(payload)?)),
+        Err(fault) => Ok(Some(client.refuse(ErrText::of_cut(fault))?)),
     }
+}
+
+/// Announces a payload to the cutter; one that is too large is refused at once.
+fn announce(cutter: &mut Cutter, client: &mut PipeClient, size: u64) -> Result<Flow, AllocError>
+    requires ready { IsReady client.old }
+    requires behind_line { IsTrue cutter.old.after_line }
+    ensures announced { IfOk result (λ flow. Announced (expect_fault cutter.old.fault cutter.old.payload_max size) client.old flow client.new) }
+    ensures expects { cutter.new ≡ after_expect cutter.old size }
+{
     match cutter.expect(size) {
-        Ok(()) => None,
-        Err(fault) => Some(text_of(fault)),
+        Ok(()) => Ok(Flow::Open),
+        Err(fault) => client.refuse(ErrText::of_cut(fault)),
     }
 }

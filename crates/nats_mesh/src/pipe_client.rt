@@ -1,27 +1,43 @@
 //! The one client of a pipe, and the shard that serves it.
 
+ghost use Rattle.std.specs.Prelude.{◌≡◌, ◌≤◌, ◌++◌, Some, None, true, ◌+◌, [], IsSome, length, IfOk, OnOk};
+ghost use Rattle.subj.specs.declared.limits.TheConstants.{MAX_PAYLOAD};
+ghost use Rattle.client_frames.specs.ErrTexts.{text_closes};
+ghost use Rattle.client_frames.specs.Lines.{line_meaning};
+ghost use Rattle.client_frames.specs.declared.server_frames.ReplyFrame.TheVariants as frame;
+ghost use Rattle.shard_core.specs.Steps.{new_shard};
+ghost use Rattle.nats_mesh.specs.PipeText.{at_first, at_rest, answered, refusal, placed, placing, opening, and_then};
+ghost use Rattle.nats_mesh.specs.PipeStates.{served, waiting_bytes, emptied, is_short, is_there, IsNew, IsReady, HasSaid, HasAnswered, DoesCommand, DoesLine, payload_said};
+
 use bytes::Bytes;
-use client_frames::{ClientLine, ErrText, InfoData, LineFault, PubHead, ReplyFrame, decode_line};
+use client_frames::{
+    ClientLine, ErrText, InfoData, PubHead, ReplyFrame, ServerFrame, decode_line, encode,
+};
 use shard_core::{BeginFault, Shard, ShardFault};
 use std::alloc::{AllocError, Global};
 use sub_table::ListTable;
 use subj::{ConnId, Failure, Incarnation, Job, Key, Message, NodeId, PubId, QueueNames, Sid, Turn};
 
-/// What the stream goes on with.
-pub enum Next {
-    /// A control line.
-    Line,
-    /// A payload of so many bytes.
-    Payload(u64),
-    /// Nothing: this text is to be put, and closes.
-    Close(ErrText),
-    /// Nothing: a closing text was put.
+/// Whether the connection goes on.
+#[derive(Clone, Copy, Debug, PartialEq, Eq)]
+pub enum Flow {
+    /// A control line is due.
+    Open,
+    /// A closing text was put.
     Closed,
+}
+
+/// What a control line led to.
+pub enum Next {
+    /// A payload of so many bytes is announced.
+    Payload(u64),
+    /// All answers to it were put.
+    Answered(Flow),
 }
 
 /// The publication whose payload is awaited.
 #[derive(Drop)]
-enum Awaited {
+pub enum Awaited {
     Publication(PubHead),
     /// One with a bad subject or reply.
     Bad,
@@ -41,9 +57,40 @@ pub struct PipeClient {
     output: Vec<u8>,
 }
 
+/// Moves what waits for the connection to what is to be written.
+fn take(shard: &mut Shard<ListTable>, conn: ConnId, output: &mut Vec<u8>) -> Result<(), AllocError>
+    requires { is_there conn shard.old ≡ true }
+    ensures text { OnOk result (output.new.items ≡ output.old.items ++ waiting_bytes conn shard.old) }
+    ensures taken { OnOk result (shard.new ≡ emptied conn shard.old) }
+{
+    let entries = match shard.take(conn, usize::MAX) {
+        Ok(entries) => entries,
+        Err(Failure::Refused(_)) => unreachable!(),
+        Err(Failure::OutOfMemory) => return Err(AllocError),
+    };
+    for entry in &entries {
+        entry.append_to(output)?;
+    }
+    Ok(())
+}
+
+/// The one connection of a new shard.
+fn attach(shard: &mut Shard<ListTable>) -> Result<ConnId, AllocError>
+    requires { shard.old ≡ new_shard 1 1 }
+    ensures { IfOk result (λ conn. (conn ≡ 1) × (shard.new ≡ at_rest at_first)) }
+{
+    match shard.attach() {
+        Ok(conn) => Ok(conn),
+        Err(Failure::OutOfMemory) => Err(AllocError),
+        Err(Failure::Refused(_)) => unreachable!(),
+    }
+}
+
 impl PipeClient {
     /// The client of a server `n1` in its first life, with its INFO put.
-    pub fn new(alloc: Global) -> Result<PipeClient, AllocError> {
+    pub fn new(alloc: Global) -> Result<PipeClient, AllocError>
+        ensures { IfOk result IsNew }
+    {
         let Ok(origin) = NodeId::read(b"n1") else {
             unreachable!()
         };
@@ -51,12 +98,16 @@ impl PipeClient {
             unreachable!()
         };
         let mut shard = Shard::new(alloc, 1, 1)?;
-        let conn = match shard.attach() {
-            Ok(conn) => conn,
-            Err(Failure::OutOfMemory) => return Err(AllocError),
-            Err(Failure::Refused(_)) => unreachable!(),
+        let conn = attach(&mut shard)?;
+        let info = InfoData {
+            name: origin,
+            inc,
+            client_id: conn,
+            port: 0,
         };
-        let mut client = PipeClient {
+        let mut output = Vec::new(alloc);
+        encode(&ServerFrame::Reply(ReplyFrame::Info(info)), &mut output)?;
+        Ok(PipeClient {
             alloc,
             shard,
             conn,
@@ -64,70 +115,93 @@ impl PipeClient {
             inc,
             turn: Turn::zero(),
             awaited: None,
-            output: Vec::new(alloc),
-        };
-        client.put(ReplyFrame::Info(InfoData {
-            name: origin,
-            inc,
-            client_id: conn,
-            port: 0,
-        }))?;
-        Ok(client)
+            output,
+        })
     }
 
     /// What is to be written.
-    pub fn output(&self) -> &[u8] {
+    pub fn output(&self) -> &[u8]
+        ensures { result.now ≡ self.now.output.items }
+    {
         self.output.as_slice()
     }
 
     /// What was to be written was written.
-    pub fn clear_output(&mut self) {
+    pub fn clear_output(&mut self)
+        ensures text { self.new.output.items ≡ [] }
+        ensures same { self.new ≡ record self.old { output = self.new.output } }
+    {
         self.output.clear();
     }
 
-    /// Puts the text that closes the connection.
-    pub fn shut(&mut self, text: ErrText) -> Result<(), AllocError> {
-        match self.shard.shut(self.conn, text) {
-            Ok(_) | Err(Failure::Refused(_)) => self.take(),
-            Err(Failure::OutOfMemory) => Err(AllocError),
-        }
-    }
-
     /// Works off a control line.
-    pub fn line(&mut self, line: &[u8]) -> Result<Next, AllocError> {
+    pub fn line(&mut self, line: &[u8]) -> Result<Next, AllocError>
+        requires ready { IsReady self.old }
+        requires due { self.old.awaited ≡ None }
+        ensures { IfOk result (λ next. DoesLine (line_meaning line.now) self.old next self.new) }
+    {
         match decode_line(self.alloc, line) {
             Ok(command) => self.command(command),
-            Err(Failure::Refused(fault)) => self.refuse(fault),
+            Err(Failure::Refused(fault)) => Ok(Next::Answered(self.refuse(ErrText::of_line(
+                fault,
+            ))?)),
             Err(Failure::OutOfMemory) => Err(AllocError),
         }
     }
 
     /// Works off the payload of the publication that was announced.
-    pub fn payload(&mut self, payload: &[u8]) -> Result<Next, AllocError> {
+    pub fn payload(&mut self, payload: &[u8]) -> Result<Flow, AllocError>
+        requires ready { IsReady self.old }
+        requires due { IsSome self.old.awaited }
+        requires fits { length payload.now ≤ MAX_PAYLOAD }
+        ensures { IfOk result (λ flow. HasAnswered (payload_said self.old payload.now) (record self.old { awaited = None }) flow self.new) }
+    {
         match self.awaited.take() {
-            None => Ok(Next::Line),
-            Some(Awaited::Bad) => self.answer(ReplyFrame::Err(ErrText::InvalidSubject)),
+            None => unreachable!(),
+            Some(Awaited::Bad) => self.refuse(ErrText::InvalidSubject),
             Some(Awaited::Publication(head)) => self.publish(head, payload),
         }
     }
 
-    fn refuse(&mut self, fault: LineFault) -> Result<Next, AllocError> {
-        match fault {
-            LineFault::UnknownOp => Ok(Next::Close(ErrText::UnknownProtocolOperation)),
-            LineFault::BadArgs | LineFault::BadJson => Ok(Next::Close(ErrText::ParserError)),
-            LineFault::BadSubject => self.answer(ReplyFrame::Err(ErrText::InvalidSubject)),
+    /// Puts the text of a refusal.
+    pub fn refuse(&mut self, text: ErrText) -> Result<Flow, AllocError>
+        requires { IsReady self.old }
+        ensures { IfOk result (λ flow. HasAnswered (refusal text (served self.old)) self.old flow self.new) }
+    {
+        if text.closes() {
+            self.shut(text)
+        } else {
+            self.answer(ReplyFrame::Err(text))
         }
     }
 
-    fn command(&mut self, command: ClientLine) -> Result<Next, AllocError> {
+    /// Puts the text that closes the connection.
+    fn shut(&mut self, text: ErrText) -> Result<Flow, AllocError>
+        requires ready { IsReady self.old }
+        requires closes { text_closes text ≡ true }
+        ensures { IfOk result (λ flow. HasAnswered (refusal text (served self.old)) self.old flow self.new) }
+    {
+        match self.shard.shut(self.conn, text) {
+            Ok(_) => {}
+            Err(Failure::Refused(_)) => unreachable!(),
+            Err(Failure::OutOfMemory) => return Err(AllocError),
+        }
+        take(&mut self.shard, self.conn, &mut self.output)?;
+        Ok(Flow::Closed)
+    }
+
+    fn command(&mut self, command: ClientLine) -> Result<Next, AllocError>
+        requires { IsReady self.old }
+        ensures { IfOk result (λ next. DoesCommand command self.old next self.new) }
+    {
         match command {
-            ClientLine::Ping => self.answer(ReplyFrame::Pong),
-            ClientLine::Pong => Ok(Next::Line),
+            ClientLine::Ping => Ok(Next::Answered(self.answer(ReplyFrame::Pong)?)),
+            ClientLine::Pong => Ok(Next::Answered(Flow::Open)),
             ClientLine::Sub {
                 pattern,
                 queue,
                 sid,
-            } => self.subscribe(Key { pattern, queue }, sid),
+            } => Ok(Next::Answered(self.subscribe(Key { pattern, queue }, sid)?)),
             ClientLine::Pub(head) => {
                 let size = head.size;
                 self.awaited = Some(Awaited::Publication(head));
@@ -138,35 +212,58 @@ impl PipeClient {
                 Ok(Next::Payload(size))
             }
             ClientLine::Connect(_) | ClientLine::Unsub { .. } => {
-                Ok(Next::Close(ErrText::ParserError))
+                Ok(Next::Answered(self.refuse(ErrText::ParserError)?))
             }
         }
     }
 
     /// `+OK` comes before the subscription is opened, and a refusal behind it.
-    fn subscribe(&mut self, key: Key, sid: Sid) -> Result<Next, AllocError> {
+    fn subscribe(&mut self, key: Key, sid: Sid) -> Result<Flow, AllocError>
+        requires { IsReady self.old }
+        ensures { IfOk result (λ flow. HasAnswered (and_then (answered frame.Ok (served self.old)) (opening key sid)) self.old flow self.new) }
+    {
         self.put(ReplyFrame::Ok)?;
+        self.open(key, sid)
+    }
+
+    /// Opens a subscription, or tells why it is not opened.
+    fn open(&mut self, key: Key, sid: Sid) -> Result<Flow, AllocError>
+        requires { IsReady self.old }
+        ensures { IfOk result (λ flow. HasAnswered (opening key sid (served self.old)) self.old flow self.new) }
+    {
         match self.shard.subscribe(self.conn, key, sid) {
-            Ok(_) => Ok(Next::Line),
+            Ok(_) => Ok(Flow::Open),
             Err(Failure::Refused(ShardFault::TooManySubs)) => {
-                self.answer(ReplyFrame::Err(ErrText::TooManySubscriptions))
+                self.refuse(ErrText::TooManySubscriptions)
             }
-            Err(Failure::Refused(_)) => self.answer(ReplyFrame::Err(ErrText::NumbersSpent)),
+            Err(Failure::Refused(_)) => self.refuse(ErrText::NumbersSpent),
             Err(Failure::OutOfMemory) => Err(AllocError),
         }
     }
 
     /// `+OK` is written before the publication is placed, and takes no room from it.
-    fn publish(&mut self, head: PubHead, payload: &[u8]) -> Result<Next, AllocError> {
+    fn publish(&mut self, head: PubHead, payload: &[u8]) -> Result<Flow, AllocError>
+        requires ready { IsReady self.old }
+        requires fits { length payload.now ≤ MAX_PAYLOAD }
+        ensures { IfOk result (λ flow. HasAnswered (and_then (answered frame.Ok (served self.old)) (placing head payload.now)) self.old flow self.new) }
+    {
         self.put(ReplyFrame::Ok)?;
+        self.make(head, payload)
+    }
+
+    /// Makes a job of the publication, and places it.
+    fn make(&mut self, head: PubHead, payload: &[u8]) -> Result<Flow, AllocError>
+        requires ready { IsReady self.old }
+        requires fits { length payload.now ≤ MAX_PAYLOAD }
+        ensures { IfOk result (λ flow. HasAnswered (placing head payload.now (served self.old)) self.old flow self.new) }
+    {
         let Some(turn) = self.turn.next() else {
-            return self.answer(ReplyFrame::Err(ErrText::NumbersSpent));
+            return self.refuse(ErrText::NumbersSpent);
         };
         let payload = Bytes::copy_from_slice(self.alloc, payload)?;
         let Some(message) = Message::new(head.subject, head.reply, payload) else {
-            return Ok(Next::Close(ErrText::MaximumPayloadViolation));
+            unreachable!()
         };
-        self.turn = turn;
         self.place(Job {
             turn,
             id: PubId {
@@ -182,7 +279,13 @@ impl PipeClient {
     }
 
     /// Has the shard work off a job of the next turn.
-    fn place(&mut self, job: Job) -> Result<Next, AllocError> {
+    fn place(&mut self, job: Job) -> Result<Flow, AllocError>
+        requires ready { IsReady self.old }
+        requires next { job.turn ≡ self.old.turn + 1 }
+        requires all_tried { length job.queues ≡ 0 }
+        ensures { IfOk result (λ flow. HasAnswered (placed job (served self.old)) self.old flow self.new) }
+    {
+        let turn = job.turn;
         let begun = match self.shard.begin(job) {
             Ok(begun) => begun,
             Err(
@@ -191,41 +294,42 @@ impl PipeClient {
                     ..
                 },
             ) => return Err(AllocError),
-            Err(_) => return Ok(Next::Line),
+            Err(_) => unreachable!(),
         };
-        let _ = self.shard.end();
-        self.take()?;
+        match self.shard.end() {
+            Ok(()) => {}
+            Err(_) => unreachable!(),
+        }
+        self.turn = turn;
+        take(&mut self.shard, self.conn, &mut self.output)?;
         if begun.closed.is_empty() {
-            Ok(Next::Line)
+            Ok(Flow::Open)
         } else {
-            Ok(Next::Closed)
+            Ok(Flow::Closed)
         }
     }
 
     /// Puts an answer, behind which a control line is due.
-    fn answer(&mut self, frame: ReplyFrame) -> Result<Next, AllocError> {
+    fn answer(&mut self, frame: ReplyFrame) -> Result<Flow, AllocError>
+        requires ready { IsReady self.old }
+        requires short { is_short frame ≡ true }
+        ensures { IfOk result (λ flow. HasAnswered (answered frame (served self.old)) self.old flow self.new) }
+    {
         self.put(frame)?;
-        Ok(Next::Line)
+        Ok(Flow::Open)
     }
 
-    fn put(&mut self, frame: ReplyFrame) -> Result<(), AllocError> {
+    fn put(&mut self, frame: ReplyFrame) -> Result<(), AllocError>
+        requires ready { IsReady self.old }
+        requires short { is_short frame ≡ true }
+        ensures { OnOk result (HasSaid (answered frame (served self.old)) self.old self.new) }
+    {
         match self.shard.reply(self.conn, &frame) {
-            Ok(_) | Err(Failure::Refused(_)) => self.take(),
-            Err(Failure::OutOfMemory) => Err(AllocError),
+            Ok(_) => {}
+            Err(Failure::Refused(_)) => unreachable!(),
+            Err(Failure::OutOfMemory) => return Err(AllocError),
         }
-    }
-
-    /// Moves what waits for the client to what is to be written.
-    fn take(&mut self) -> Result<(), AllocError> {
-        match self.shard.take(self.conn, usize::MAX) {
-            Ok(entries) => {
-                for entry in &entries {
-                    entry.append_to(&mut self.output)?;
-                }
-                Ok(())
-            }
-            Err(Failure::Refused(_)) => Ok(()),
-            Err(Failure::OutOfMemory) => Err(AllocError),
-        }
+        take(&mut self.shard, self.conn, &mut self.output)?;
+        Ok(())
     }
 }

@@ -1,0 +1,4 @@
+pub mod PipeText
+pub mod PipeStates
+pub mod PipeRuns
+pub mod PipeTheorem
