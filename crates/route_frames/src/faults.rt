@@ -5,8 +5,9 @@ ghost use Rattle.route_frames.specs.Faults.{route_fault_number};
 
 use subj::Failure;
 
-/// Why a frame of a route is refused. Of several causes the one is told that stands first here, save
-/// that too many queue names are told before a number that is none. (Profile.)
+/// Why a frame of a route is refused. Causes are looked for in this order: the operation, the number of
+/// fields, too many queue names, numbers that are no digits, numbers out of their ranges, all else.
+/// (Profile.)
 #[derive(Clone, Copy, Debug, PartialEq, Eq)]
 pub enum RouteFault {
     /// The line is empty or begins with a blank, or its first field is no operation.
