@@ -65,3 +65,21 @@ unfinished = refl
 unfinished_stays : (said (codes "PUB foo 5\r\nhel")).closed ≡ false
 unfolding items_said reading_within first_cr_lf digits
 unfinished_stays = refl
+
+-- a SUB with a queue name, CONNECT and UNSUB are refused
+group_member : (said (codes "SUB foo q 1\r\nPING\r\n")).text ≡ codes "-ERR 'Parser Error'\r\n"
+unfolding items_said reading_within first_cr_lf digits
+group_member = refl
+
+connect : (said (codes "CONNECT {}\r\nPING\r\n")).text ≡ codes "-ERR 'Parser Error'\r\n"
+unfolding items_said reading_within first_cr_lf digits
+connect = refl
+
+unsubscribe : (said (codes "UNSUB 1\r\nPING\r\n")).text ≡ codes "-ERR 'Parser Error'\r\n"
+unfolding items_said reading_within first_cr_lf digits
+unsubscribe = refl
+
+-- and closes
+unsubscribe_closes : (said (codes "UNSUB 1\r\nPING\r\n")).closed ≡ true
+unfolding items_said reading_within first_cr_lf digits
+unsubscribe_closes = refl

@@ -109,7 +109,8 @@ placed_or_not head payload s (Some turn) = placed (job_of head payload turn) s
 abbrev pub placing : PubHead → List ℕ → Served → Spoken
 placing head payload s = placed_or_not head payload s (next_turn s.jobs)
 
--- ---- all that a stream tells; CONNECT and UNSUB are not served yet, and no PUB is told without its payload
+-- ---- all that a stream tells; CONNECT and UNSUB are not served yet, and the meaning of a line refuses them before they
+-- are told; no PUB is told without its payload
 
 abbrev pub command_said : ClientLine → Served → Spoken
 command_said Ping s = answered reply.Pong s

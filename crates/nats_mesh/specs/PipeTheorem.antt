@@ -38,7 +38,8 @@ pub record Pipes (result : Result PipeEnd PipeFault) (before left was is : Optio
 abbrev pub all_reads : ℕ
 all_reads = 2 ^ 64 - 1
 
--- the reader failed, or did not come to its end by all reads, just where the answer is `Read`
+-- The reader failed just where the answer is `Read`, but where all reads were made. So nothing is read or written behind a
+-- failure; and since each read may fail, and then all that is due was written, each read finds all of it written.
 abbrev pub CountsReads : Result PipeEnd PipeFault → ℕ → ℕ → ℕ → ℕ → Type 0
 CountsReads (Err Read) reads reads_after failures failures_after =
     (failures_after ≡ failures + 1) ⊎ ((failures_after ≡ failures) × (reads_after ≡ reads + all_reads))

@@ -42,6 +42,12 @@ fn a_reader_fails_at_each_read(rt: HostRuntime) -> Result<(), Fail> {
         let len = answer_to(call - 1);
         assert_eq!(rt; Some(written.as_slice()), text.get(..len), "{call}");
     }
+    let late = source(rt.alloc(), FIRST_MESSAGE)?
+        .at_most(1)
+        .failing_at(READS + 1);
+    let (end, written) = run(rt.alloc(), late)?;
+    assert_eq!(rt; end, Ok(PipeEnd::Ended));
+    assert_eq!(rt; written.as_slice(), text.as_slice());
     Ok(())
 }
 

@@ -1,9 +1,9 @@
 //! One client on a reader and a writer.
 
-ghost use Rattle.std.specs.Prelude.{◌≡◌, IsTrue, IfOk, OnOk, OnErr};
+ghost use Rattle.std.specs.Prelude.{◌≡◌, ◌≤◌, ◌+◌, IsTrue, IfOk, OnOk, OnErr};
 ghost use Rattle.wire_cut.specs.Flow.{AppendsFront};
 ghost use Rattle.wire_cut.specs.Cut.{expect_fault, after_expect};
-ghost use Rattle.nats_mesh.specs.PipeTheorem.{Pipes, CountsReads, CountsFailedWrites};
+ghost use Rattle.nats_mesh.specs.PipeTheorem.{Pipes, CountsReads, CountsFailedWrites, all_reads};
 ghost use Rattle.nats_mesh.specs.PipeStates.{IsReady};
 ghost use Rattle.nats_mesh.specs.PipeRuns.{IsInStep, IsFlushed, CountsWrites, Announced, HasLooked, Works};
 
@@ -63,6 +63,7 @@ pub fn pipe_run<S: Source, W: Sink>(
     sink: &mut W,
 ) -> Result<PipeEnd, PipeFault>
     ensures text { Pipes result (S.remaining source.old) (S.remaining source.new) (W.written sink.old) (W.written sink.new) }
+    ensures most_reads { S.reads source.new ≤ S.reads source.old + all_reads }
     ensures reads { CountsReads result (S.reads source.old) (S.reads source.new) (S.failures source.old) (S.failures source.new) }
     ensures writes { CountsFailedWrites result (W.failures sink.old) (W.failures sink.new) }
 {

@@ -142,9 +142,10 @@ impl PipeClient {
     {
         match decode_line(self.alloc, line) {
             Ok(command) => self.command(command),
-            Err(Failure::Refused(fault)) => Ok(Next::Answered(self.refuse(ErrText::of_line(
-                fault,
-            ))?)),
+            Err(Failure::Refused(fault)) => {
+                let flow = self.refuse(ErrText::of_line(fault))?;
+                Ok(Next::Answered(flow))
+            }
             Err(Failure::OutOfMemory) => Err(AllocError),
         }
     }
