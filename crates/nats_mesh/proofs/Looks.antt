@@ -1,10 +1,9 @@
 -- What a look at the next piece leads to.
-use Rattle.std.proofs.Common.{◌≡◌, ℕ, ◌+◌, ◌<◌, ◌≤◌, Bool, true, false, cond, nat_lt, nat_le, List, [], ◌∷◌, ◌++◌, length, drop, Option, Some, None, Ok, Err, refl, ap, sym, ◌∙◌, subst, arith, unwrap_or, take, append-nil, length-drop}
-use Rattle.std.proofs.lemmas.Bool.{ltb-true, lt-ltb}
+use Rattle.std.proofs.Common.{◌≡◌, ℕ, ◌+◌, ◌<◌, ◌≤◌, Bool, true, false, cond, nat_lt, nat_le, List, [], ◌∷◌, ◌++◌, length, drop, Option, Some, None, Ok, Err, refl, ap, sym, ◌∙◌, subst, arith, take, append-nil, length-drop}
 use Rattle.std.proofs.lemmas.Bool.Decides.{nat_tests}
 use Rattle.std.specs.Prelude.{if◌then◌else◌}
 use Rattle.subj.specs.declared.limits.TheConstants.{CLIENT_LINE, MAX_PAYLOAD}
-use Rattle.wire_cut.specs.Cut.{CutterState, StreamPiece, line, payload, bytes_of, is_line, cut_of, cut_unless, cut_expected, cut_line, cut_line_at, cut_long_line, first_cr_lf, cut_payload, cut_payload_at, cr_lf_at, after_answer, after_next, after_expect, after_refusal, expect_fault}
+use Rattle.wire_cut.specs.Cut.{CutterState, StreamPiece, line, payload, bytes_of, is_line, cut_of, cut_unless, cut_expected, cut_line, cut_line_at, cut_long_line, first_cr_lf, cut_payload_at, cr_lf_at, after_answer, after_next, after_expect, after_refusal, expect_fault}
 use Rattle.wire_cut.specs.declared.fault.CutFault.{CutFault}
 use Rattle.wire_cut.specs.declared.fault.CutFault.TheVariants.{LineTooLong, PayloadTooLong, NoCrLfAfterPayload}
 use Rattle.wire_cut.proofs.CutLemmas.{cut_of-piece_length}
@@ -21,12 +20,11 @@ use Rattle.client_frames.specs.Streams.{StreamItem, asked, published, refused, u
 use Rattle.nats_mesh.specs.declared.pipe_client.Awaited.{Awaited}
 use Rattle.nats_mesh.specs.declared.pipe_client.Awaited.TheVariants.{Publication, Bad}
 use Rattle.nats_mesh.specs.declared.pipe_client.Flow.{Flow}
-use Rattle.nats_mesh.specs.declared.pipe_client.Flow.TheVariants.{Open, Closed}
 use Rattle.nats_mesh.specs.declared.pipe_client.Next.TheVariants.{Payload, Answered}
 use Rattle.nats_mesh.specs.declared.pipe_client.PipeClient.{PipeClient}
-use Rattle.nats_mesh.specs.PipeText.{Served, Spoken, refusal, item_said}
-use Rattle.nats_mesh.specs.PipeStates.{IsReady, IsServed, HasSaid, HasAnswered, HasDone, DoesLine, DoesCommand, served, flow_of, payload_answer, payload_said}
-use Rattle.nats_mesh.specs.PipeRuns.{Standing, standing, awaited_by, size_awaited, IsInStep, Announced, HasLooked, HasWorked, HasClosed, IsStarved, GoesOn}
+use Rattle.nats_mesh.specs.PipeText.{Served, refusal, item_said}
+use Rattle.nats_mesh.specs.PipeStates.{IsReady, IsServed, HasAnswered, HasDone, DoesLine, DoesCommand, served, flow_of, payload_answer, payload_said}
+use Rattle.nats_mesh.specs.PipeRuns.{Standing, standing, awaited_by, size_awaited, IsInStep, Announced, HasLooked, HasWorked, GoesOn}
 use Rattle.nats_mesh.proofs.Said.{goes_by_item, goes_in_silence, ends_by_item, ends_at_item, waits_there}
 
 -- ---- what the cutter gives, as a look at the stream

@@ -1,10 +1,10 @@
 -- The one connection of a pipe's shard, between two events and behind one.
-use Rattle.std.proofs.Common.{◌≡◌, ℕ, suc, ◌+◌, ◌≤◌, ◌<◌, ◌⊎◌, inl, inr, Bool, true, false, cond, not, ◌==◌, ◌&&◌, nat_eq, nat_lt, nat_le, List, [], ◌∷◌, ◌++◌, length, take, drop, filter, Option, Some, None, Result, Ok, Err, IfOk, is_some, refl, ap, sym, ◌∙◌, subst, arith, append_assoc, append-nil, zero-add, length-append}
+use Rattle.std.proofs.Common.{◌≡◌, ℕ, suc, ◌+◌, ◌≤◌, ◌<◌, ◌⊎◌, inl, inr, Bool, true, false, cond, not, ◌==◌, nat_eq, nat_lt, nat_le, List, [], ◌∷◌, ◌++◌, length, take, drop, filter, Option, Some, None, Result, Ok, Err, IfOk, is_some, refl, ap, sym, ◌∙◌, subst, arith, append_assoc, append-nil, zero-add, length-append}
 use Rattle.std.proofs.lemmas.List.{take_all, drop_all}
 use Rattle.std.proofs.lemmas.Bool.{ltb-true, and_parts}
 use Rattle.std.proofs.lemmas.Bool.Decides.{nat_tests}
 use Rattle.std.specs.Result.{result_err}
-use Rattle.std.specs.Prelude.{codes, flat_map, slice_get, if◌then◌else◌}
+use Rattle.std.specs.Prelude.{codes, flat_map, if◌then◌else◌}
 use Rattle.subj.specs.declared.limits.TheConstants.{OUTBOX_ENTRIES, OUTBOX_BYTES}
 use Rattle.subj.specs.declared.jobs.Job.{Job}
 use Rattle.client_frames.specs.declared.server_frames.ReplyFrame.{ReplyFrame}
@@ -13,14 +13,12 @@ use Rattle.client_frames.specs.declared.faults.LineFault.{LineFault}
 use Rattle.client_frames.specs.declared.err_texts.ErrText.{ErrText}
 use Rattle.client_frames.specs.ErrTexts.{line_fault_text}
 use Rattle.client_frames.specs.Lines.{Meaning}
-use Rattle.client_frames.specs.Streams.{refused}
 use Rattle.client_frames.specs.Frames.{reply_line}
-use Rattle.outbox.specs.Views.{Written, reply_entry, with_entry, with_last, without_first, has_room}
+use Rattle.outbox.specs.Views.{Written, reply_entry, without_first}
 use Rattle.sub_table.specs.declared.Subscription.{Subscription}
-use Rattle.shard_core.specs.declared.calls.Placed.{Placed}
-use Rattle.shard_core.specs.Events.{Reply, Shut, Subscribe, Begin, End}
+use Rattle.shard_core.specs.Events.{Reply, Begin, End}
 use Rattle.shard_core.specs.State.{State, Client, place, client_at, is_open}
-use Rattle.shard_core.specs.Walk.{Walk, due_entry, put_one, put_at, put_in, walk, walked, room_of, is_due, slow_consumer}
+use Rattle.shard_core.specs.Walk.{Walk, due_entry, put_one, put_at, walk, walked, room_of, is_due, slow_consumer}
 use Rattle.shard_core.specs.Steps.{new_client, shard_after, answer_fits, was_shut, changed, entries_of}
 use Rattle.nats_mesh.specs.declared.pipe_client.PipeClient.{PipeClient}
 use Rattle.nats_mesh.specs.declared.pipe_client.Flow.{Flow}

@@ -1,5 +1,5 @@
 -- What the definition of the pipe's text says of whole streams: the wanted bytes were worked out by hand.
-use Rattle.std.proofs.Common.{◌≡◌, ℕ, List, [], ◌++◌, true, false, refl}
+use Rattle.std.proofs.Common.{◌≡◌, ℕ, List, [], true, false, refl}
 use Rattle.std.specs.Prelude.{codes}
 use Rattle.std.specs.Fmt.{digits}
 use Rattle.wire_cut.specs.Cut.{first_cr_lf}

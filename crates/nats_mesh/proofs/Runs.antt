@@ -1,18 +1,15 @@
 -- What was written of what was said, step by step.
-use Rattle.std.proofs.Common.{◌≡◌, ℕ, ◌+◌, ◌<◌, Bool, true, false, List, [], ◌∷◌, ◌++◌, length, take, drop, Option, Some, None, Result, Ok, Err, refl, ap, sym, ◌∙◌, subst, arith, append_assoc, append-nil, take-append-drop}
+use Rattle.std.proofs.Common.{◌≡◌, ℕ, true, false, List, [], ◌++◌, take, drop, Option, Result, Ok, Err, ap, sym, ◌∙◌, subst, append_assoc, append-nil, take-append-drop}
 use Rattle.std.specs.Prelude.{IsErr}
-use Rattle.std.specs.Io.KnownBytes.{Appends, Consumes, Keeps, IsAtEnd}
-use Rattle.std.proofs.KnownBytes.{Appends-nil, Appends-trans, Consumes-nil, Consumes-trans, Consumes-kept}
+use Rattle.std.proofs.KnownBytes.{Appends-nil, Appends-trans}
 use Rattle.wire_cut.specs.Cut.{CutterState}
 use Rattle.wire_cut.specs.Flow.{AppendsFront}
-use Rattle.client_frames.specs.Streams.{a_line, reading_from}
 use Rattle.nats_mesh.specs.declared.pipe.PipeFault.{PipeFault}
 use Rattle.nats_mesh.specs.declared.pipe_client.Flow.{Flow}
 use Rattle.nats_mesh.specs.declared.pipe_client.PipeClient.{PipeClient}
-use Rattle.nats_mesh.specs.PipeText.{Served, Spoken, silent, behind, at_first, answer_bytes, pipe_info, pipe_said, pipe_text, pipe_closes, items_said}
-use Rattle.nats_mesh.specs.PipeStates.{IsReady, IsNew, served}
-use Rattle.nats_mesh.specs.PipeRuns.{Standing, said_from, standing, Waits, GoesOn, Ends, IsInStep, HasLooked, HasWorked, HasClosed, IsStarved, IsFlushed, HasMoved, HasStarved, HasEnded, HasBegun, Works}
-use Rattle.nats_mesh.proofs.Said.{goes_nowhere, goes_further, ends_further, behind-behind}
+use Rattle.nats_mesh.specs.PipeStates.{IsReady}
+use Rattle.nats_mesh.specs.PipeRuns.{said_from, standing, GoesOn, IsInStep, HasWorked, HasClosed, IsStarved, IsFlushed, HasMoved, HasStarved, HasEnded, HasBegun, Works}
+use Rattle.nats_mesh.proofs.Said.{goes_nowhere, goes_further, ends_further}
 
 -- ---- work
 

@@ -1,5 +1,5 @@
 -- What is said of a stream, look by look.
-use Rattle.std.proofs.Common.{◌≡◌, ℕ, ◌+◌, Bool, true, false, cond, List, [], ◌∷◌, ◌++◌, length, drop, refl, ap, sym, ◌∙◌, subst, append_assoc, append-nil}
+use Rattle.std.proofs.Common.{◌≡◌, ℕ, true, false, cond, List, [], ◌∷◌, ◌++◌, refl, ap, sym, ◌∙◌, append_assoc, append-nil}
 use Rattle.client_frames.specs.Streams as stream
 use Rattle.client_frames.specs.Streams.{StreamItem, Found, nothing, something, the_end, found, reading_from, looked_at}
 use Rattle.client_frames.proofs.Readings.{reads_by_looks, waits_for_more}

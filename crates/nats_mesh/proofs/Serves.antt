@@ -1,24 +1,23 @@
 -- A pipe's text so far.
-use Rattle.std.proofs.Common.{◌≡◌, ℕ, ◌+◌, ◌<◌, ◌≤◌, Bool, true, false, List, [], ◌∷◌, ◌++◌, length, take, drop, Option, Some, None, Result, Ok, Err, refl, ap, sym, ◌∙◌, subst, arith, append_assoc, append-nil, take-append-drop}
-use Rattle.std.specs.Prelude.{IsErr}
+use Rattle.std.proofs.Common.{◌≡◌, ℕ, true, false, List, [], ◌∷◌, ◌++◌, length, take, drop, Option, None, Result, Ok, Err, refl, ap, sym, ◌∙◌, subst, arith, append_assoc, append-nil, take-append-drop}
 use Rattle.std.specs.Result.{IsErrAnd}
-use Rattle.std.specs.Io.KnownBytes.{Appends, Consumes, Keeps, IsAtEnd}
-use Rattle.std.proofs.KnownBytes.{Appends-nil, Appends-trans, Consumes-nil, Consumes-trans, Consumes-kept}
+use Rattle.std.specs.Io.KnownBytes.{Appends, Consumes}
+use Rattle.std.proofs.KnownBytes.{Appends-nil, Appends-trans, Consumes-nil, Consumes-trans}
 use Rattle.subj.specs.declared.limits.TheConstants.{CLIENT_LINE, MAX_PAYLOAD}
 use Rattle.wire_cut.specs.Cut.{CutterState, new_cutter, first_cr_lf}
 use Rattle.wire_cut.specs.Flow.{AppendsFront, Gains}
-use Rattle.client_frames.specs.Streams.{a_line, found, nothing, reading_from}
+use Rattle.client_frames.specs.Streams.{a_line, reading_from}
 use Rattle.nats_mesh.specs.declared.pipe.PipeEnd.{PipeEnd}
 use Rattle.nats_mesh.specs.declared.pipe.PipeFault.{PipeFault}
 use Rattle.nats_mesh.specs.declared.pipe.PipeFault.TheVariants.{Read, Write, OutOfMemory}
 use Rattle.nats_mesh.specs.declared.pipe_client.Flow.{Flow}
 use Rattle.nats_mesh.specs.declared.pipe_client.Flow.TheVariants.{Open, Closed}
 use Rattle.nats_mesh.specs.declared.pipe_client.PipeClient.{PipeClient}
-use Rattle.nats_mesh.specs.PipeText.{Served, Spoken, silent, behind, at_first, answer_bytes, pipe_info, pipe_said, pipe_text, pipe_closes, items_said}
-use Rattle.nats_mesh.specs.PipeStates.{IsReady, IsNew, served}
-use Rattle.nats_mesh.specs.PipeRuns.{Standing, said_from, standing, awaited_by, size_awaited, Waits, GoesOn, Ends, IsInStep, IsFlushed, HasMoved, HasStarved, HasEnded, HasBegun, CountsWrites, Works}
+use Rattle.nats_mesh.specs.PipeText.{behind, at_first, answer_bytes, pipe_info, pipe_said, pipe_text, pipe_closes, items_said}
+use Rattle.nats_mesh.specs.PipeStates.{IsNew}
+use Rattle.nats_mesh.specs.PipeRuns.{Standing, said_from, standing, awaited_by, size_awaited, Waits, GoesOn, Ends, IsInStep, IsFlushed, HasStarved, HasEnded, HasBegun, CountsWrites, Works}
 use Rattle.nats_mesh.specs.PipeTheorem.{AppendsBeginning, WritesText, Pipes, CountsReads, CountsFailedWrites}
-use Rattle.nats_mesh.proofs.Said.{waits_there, fed_further, behind-behind}
+use Rattle.nats_mesh.proofs.Said.{waits_there, behind-behind}
 use Rattle.nats_mesh.proofs.Runs.{in_step_still, stands_still}
 
 -- ---- what was read tells this text, and then what is said from there

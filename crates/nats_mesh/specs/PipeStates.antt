@@ -1,5 +1,5 @@
 -- What the client of a pipe is between two pieces of its stream, and what its calls do.
-use Rattle.std.specs.Prelude.{◌≡◌, ℕ, ◌^◌, ◌-◌, Bool, true, false, nat_le, List, [], ◌++◌, length, flat_map, take, codes, Option, Some, None, is_some, Ok, Err}
+use Rattle.std.specs.Prelude.{◌≡◌, ℕ, ◌^◌, ◌-◌, Bool, true, false, nat_le, List, ◌++◌, length, flat_map, take, codes, Option, Some, None, is_some, Ok, Err}
 use Rattle.subj.specs.declared.limits.TheConstants.{OUTBOX_BYTES}
 use Rattle.client_frames.specs.Streams.{StreamItem, asked, published, refused}
 use Rattle.client_frames.specs.Lines.{Meaning}

@@ -1,7 +1,7 @@
 -- The pipe's text: what one client is written, of what was read of it.
 -- NATS documentation, "Client Protocol": INFO comes first, PONG answers PING, `+OK` each well-formed SUB and PUB, and
 -- `-ERR` what is refused. The order of the answers, and when a connection closes, are this project's profile.
-use Rattle.std.specs.Prelude.{ℕ, ◌+◌, Bool, true, false, not, List, [], ◌∷◌, ◌++◌, flat_map, codes, Option, Some, None, if◌then◌else◌}
+use Rattle.std.specs.Prelude.{ℕ, Bool, true, false, not, List, [], ◌∷◌, ◌++◌, flat_map, codes, Option, Some, None, if◌then◌else◌}
 use Rattle.subj.specs.Numbers.{next_turn}
 use Rattle.subj.specs.declared.jobs.Job.{Job}
 use Rattle.subj.specs.declared.keys.Key.{Key}

@@ -1,4 +1,4 @@
-use Rattle.std.proofs.Common.{refl, ap, sym, ◌∙◌}
+use Rattle.std.proofs.Common.{refl, sym}
 use Rattle.nats_mesh.proofs.Looks.{starved, line_looked, ready_announced, payload_announced, payload_looked, fault_ends}
 use Rattle.nats_mesh.proofs.pipe.look.Goals as goal
 

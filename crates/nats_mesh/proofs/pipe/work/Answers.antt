@@ -1,4 +1,4 @@
-use Rattle.std.proofs.Common.{refl, sym, ◌∙◌}
+use Rattle.std.proofs.Common.{refl, ◌∙◌}
 use Rattle.nats_mesh.proofs.Runs.{nothing_moved, moved_further, moved_and_flushed, moved_to_end, begun_by_moves, begun_by_front, works_begun}
 use Rattle.nats_mesh.proofs.pipe.work.Goals as goal
 
