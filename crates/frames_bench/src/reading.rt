@@ -43,9 +43,7 @@ fn read_pieces(alloc: Global, cutter: &mut Cutter, read: &mut Read) -> io::Resul
             }
         };
         if let Some(size) = size {
-            if cutter.after_line() {
-                cutter.expect(size).map_err(|_| invalid())?;
-            }
+            cutter.expect(size).map_err(|_| invalid())?;
         }
     }
     Ok(())
