@@ -5,7 +5,7 @@ use Rattle.std.specs.List.{slice_split, onto_first, position_or_len}
 use Rattle.std.proofs.lemmas.Bool.Decides.{nat_tests}
 use Rattle.std.proofs.Math.Numerals.{one-add}
 use Rattle.std.proofs.lemmas.List.{drop_all, append-nil}
-use Rattle.line_fields.specs.Fields.{is_empty, is_blank, is_field_byte, fields, begins_with_blank, begins_with_field}
+use Rattle.line_fields.specs.Fields.{is_empty, is_blank, is_field_byte, fields, begins_with_field}
 
 -- ---- where the first passes
 

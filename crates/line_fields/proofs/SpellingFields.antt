@@ -10,7 +10,7 @@ use Rattle.line_fields.specs.Spelling.{AreBlanks, IsGap, IsField, Begins, ComesN
 use Rattle.line_fields.proofs.FieldLemmas.{kept, BeginsField, starts, skip, in_front}
 
 -- the end of a line, or a blank
-abbrev stops : List ℕ → Bool
+abbrev pub stops : List ℕ → Bool
 stops [] = true
 stops (x ∷ xs) = is_blank x
 

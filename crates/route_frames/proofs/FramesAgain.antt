@@ -79,32 +79,32 @@ message_are message queues is =
 
 -- ---- from the line to the frame
 
-read_frame : (from to : List ℕ) (inc to_inc number : ℕ) (said : LineBody) (body : Body) (payload : List ℕ) → body_meaning said payload ≡ Ok body → is_number number body ≡ true
+pub read_frame : (from to : List ℕ) (inc to_inc number : ℕ) (said : LineBody) (body : Body) (payload : List ℕ) → body_meaning said payload ≡ Ok body → is_number number body ≡ true
     → numbered_meaning (line_spelt from to inc to_inc number said) payload ≡ Ok (record { from = from; inc = inc; to = to; to_inc = to_inc; number = number; body = body })
 unfolding numbered_meaning
 read_frame from to inc to_inc number said body payload read is =
     rw read (ap (λ b. ok_or (cond b (Some (record { from = from; inc = inc; to = to; to_inc = to_inc; number = number; body = body })) None) BadArgs) is)
 
-whole_frame : (text payload : List ℕ) (numbered : NumberedLine) (frame : Frame) → line_meaning text ≡ Ok (line.Numbered numbered) → sized (body_size numbered.body) payload ≡ Ok tt → numbered_meaning numbered payload ≡ Ok frame → frame_meaning text payload ≡ Ok (Numbered frame)
+pub whole_frame : (text payload : List ℕ) (numbered : NumberedLine) (frame : Frame) → line_meaning text ≡ Ok (line.Numbered numbered) → sized (body_size numbered.body) payload ≡ Ok tt → numbered_meaning numbered payload ≡ Ok frame → frame_meaning text payload ≡ Ok (Numbered frame)
 unfolding frame_meaning
 whole_frame text payload numbered frame says fits means = rw (says, fits, means) refl
 
 of_size : (n : ℕ) (same : Bool) → nat_eq n n ≡ same → same ≡ true
 of_size n same is = grind (arith, nat_tests)
 
-has_size : (payload : List ℕ) → sized (Some (length payload)) payload ≡ Ok tt
+pub has_size : (payload : List ℕ) → sized (Some (length payload)) payload ≡ Ok tt
 has_size payload = ap (λ b. cond b (Ok tt) (Err BadArgs)) (of_size (length payload) _ refl)
 
-numbered_from_one : (n : ℕ) → (nat_le n MAX_COUNTER && (nat_le 1 n || false)) ≡ true → (1 ≤ n) × (n ≤ MAX_COUNTER)
+pub numbered_from_one : (n : ℕ) → (nat_le n MAX_COUNTER && (nat_le 1 n || false)) ≡ true → (1 ≤ n) × (n ≤ MAX_COUNTER)
 numbered_from_one n is = grind (arith, nat_tests)
 
-numbered_from_zero : (n : ℕ) → (nat_le n MAX_COUNTER && (nat_le 1 n || true)) ≡ true → n ≤ MAX_COUNTER
+pub numbered_from_zero : (n : ℕ) → (nat_le n MAX_COUNTER && (nat_le 1 n || true)) ≡ true → n ≤ MAX_COUNTER
 numbered_from_zero n is = grind (arith, nat_tests)
 
 snapshot_fits : (len : ℕ) (rising : Bool) → (nat_le len MAX_SNAPSHOT && rising) ≡ true → len ≤ MAX_SNAPSHOT
 snapshot_fits len rising is = grind (arith, nat_tests)
 
-ends_of : (frame : Frame) → IsFrame frame → frame.number ≤ MAX_COUNTER → AreEnds frame.from frame.to frame.inc frame.to_inc frame.number
+pub ends_of : (frame : Frame) → IsFrame frame → frame.number ≤ MAX_COUNTER → AreEnds frame.from frame.to frame.inc frame.to_inc frame.number
 ends_of frame is most = record { sender = is.from; receiver = is.to; life = is.inc; other_life = is.to_inc; most = most }
 
 abbrev frame_with : List ℕ → ℕ → List ℕ → ℕ → ℕ → Body → Frame

@@ -29,10 +29,10 @@ line_spelt from to inc to_inc number body = record { from = from; to = to; numbe
 
 -- ---- RS+
 
-plain_weight : (weight : ℕ) → nat_eq weight 1 ≡ true → weight ≡ 1
+pub plain_weight : (weight : ℕ) → nat_eq weight 1 ≡ true → weight ≡ 1
 plain_weight weight is = grind (arith, nat_tests)
 
-queue_weight : (weight : ℕ) → (nat_le 1 weight && nat_le weight MAX_WEIGHT) ≡ true → (1 ≤ weight) × (weight ≤ MAX_WEIGHT)
+pub queue_weight : (weight : ℕ) → (nat_le 1 weight && nat_le weight MAX_WEIGHT) ≡ true → (1 ≤ weight) × (weight ≤ MAX_WEIGHT)
 queue_weight weight is = grind (arith, nat_tests)
 
 plus_by : (from to : List ℕ) (inc to_inc number : ℕ) (pattern : List ℕ) (queue : Option (List ℕ)) (weight : ℕ) → AreEnds from to inc to_inc number → 1 ≤ number → IsKey (record { pattern = pattern; queue = queue }) → is_weight (record { pattern = pattern; queue = queue }) weight ≡ true

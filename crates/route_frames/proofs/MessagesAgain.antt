@@ -20,7 +20,7 @@ use Rattle.route_frames.proofs.LinesAgain.{AreEnds, line_spelt}
 
 -- ---- the form
 
-abbrev fields_spelt : List ℕ → List ℕ → Option (List ℕ) → List (List ℕ) → List ℕ → MessageFields
+abbrev pub fields_spelt : List ℕ → List ℕ → Option (List ℕ) → List (List ℕ) → List ℕ → MessageFields
 fields_spelt account subject reply names size = record { account = account; subject = subject; form = record { reply = reply; names = names; size = size } }
 
 form_again : (account subject : List ℕ) (reply : Option (List ℕ)) (names : List (List ℕ)) (size : List ℕ) → message_fields (account ∷ subject ∷ (form_fields reply names ++ size ∷ [])) ≡ Some (fields_spelt account subject reply names size)
@@ -32,7 +32,7 @@ form_again account subject (Some reply) (name ∷ names) size = ap (λ split. me
 few : (count : ℕ) (fits rising above : Bool) → nat_le count MAX_QUEUE_NAMES ≡ fits → nat_lt MAX_QUEUE_NAMES count ≡ above → (fits && rising) ≡ true → above ≡ false
 few count fits rising above f a is = grind (arith, nat_tests)
 
-fields_again : (account subject : List ℕ) (reply : Option (List ℕ)) (names : List (List ℕ)) (size : List ℕ) → are_queue_names names ≡ true → message_fields_in (account ∷ subject ∷ (form_fields reply names ++ size ∷ [])) ≡ Ok (fields_spelt account subject reply names size)
+pub fields_again : (account subject : List ℕ) (reply : Option (List ℕ)) (names : List (List ℕ)) (size : List ℕ) → are_queue_names names ≡ true → message_fields_in (account ∷ subject ∷ (form_fields reply names ++ size ∷ [])) ≡ Ok (fields_spelt account subject reply names size)
 unfolding message_fields_in
 fields_again account subject reply names size are =
     rw (form_again account subject reply names size) (ap (λ b. cond b (Err TooManyQueues) (Ok (fields_spelt account subject reply names size))) (few (length names) _ (are_rising names) _ refl refl are))
@@ -43,11 +43,11 @@ names_again : (names : List (List ℕ)) → AreNames names → are_names names �
 names_again [] is = refl
 names_again (name ∷ names) is = rw (queue_again name is.0, names_again names is.1) refl
 
-queues_again : (names : List (List ℕ)) → AreNames names → are_queue_names names ≡ true → queue_names_in names ≡ Ok names
+pub queues_again : (names : List (List ℕ)) → AreNames names → are_queue_names names ≡ true → queue_names_in names ≡ Ok names
 unfolding queue_names_in
 queues_again names is are = rw (names_again names is) (ap (λ b. ok_or (cond b (Some names) None) BadArgs) are)
 
-reply_again : (reply : Option (List ℕ)) → IsReply reply → optional subject_of reply ≡ Ok reply
+pub reply_again : (reply : Option (List ℕ)) → IsReply reply → optional subject_of reply ≡ Ok reply
 reply_again None is = refl
 reply_again (Some reply) is = ap (λ read. read >>= λ value. Ok (Some value)) (subject_again reply is)
 

@@ -26,13 +26,13 @@ none_of_two : (a b : Bool) → (a || b) ≡ false → (a ≡ false) × (b ≡ fa
 none_of_two true b e = absurd (cc)
 none_of_two false b e = (refl, e)
 
-cut_none : (p : ℕ → Bool) (text : List ℕ) → list_any p text ≡ false → slice_split p text ≡ text ∷ []
+pub cut_none : (p : ℕ → Bool) (text : List ℕ) → list_any p text ≡ false → slice_split p text ≡ text ∷ []
 cut_none p [] e = refl
 cut_none p (x ∷ xs) e =
     let parts = none_of_two (p x) (list_any p xs) e in
     ap (λ b. cond b ([] ∷ slice_split p xs) (onto_first x (slice_split p xs))) parts.0 ∙ ap (onto_first x) (cut_none p xs parts.1)
 
-cut_at : (p : ℕ → Bool) (front : List ℕ) (y : ℕ) (behind : List ℕ) → list_any p front ≡ false → p y ≡ true → slice_split p (front ++ y ∷ behind) ≡ front ∷ slice_split p behind
+pub cut_at : (p : ℕ → Bool) (front : List ℕ) (y : ℕ) (behind : List ℕ) → list_any p front ≡ false → p y ≡ true → slice_split p (front ++ y ∷ behind) ≡ front ∷ slice_split p behind
 cut_at p [] y behind e is = ap (λ b. cond b ([] ∷ slice_split p behind) (onto_first y (slice_split p behind))) is
 cut_at p (x ∷ xs) y behind e is =
     let parts = none_of_two (p x) (list_any p xs) e in
@@ -62,16 +62,16 @@ digits_lack p never [] e = refl
 digits_lack p never (x ∷ xs) e =
     let parts = both (is_ascii_digit x) (all_ascii_digits xs) e in ap (λ b. b || list_any p xs) (never x parts.0) ∙ digits_lack p never xs parts.1
 
-no_lf : Lacks (λ byte. nat_eq byte 10)
+pub no_lf : Lacks (λ byte. nat_eq byte 10)
 no_lf byte e = grind (arith, nat_tests)
 
-no_space : Lacks (λ byte. nat_eq byte 32)
+pub no_space : Lacks (λ byte. nat_eq byte 32)
 no_space byte e = grind (arith, nat_tests)
 
-digit_no_lf : (byte : ℕ) → is_ascii_digit byte ≡ true → nat_eq byte 10 ≡ false
+pub digit_no_lf : (byte : ℕ) → is_ascii_digit byte ≡ true → nat_eq byte 10 ≡ false
 digit_no_lf byte e = grind (arith, nat_tests)
 
-digit_no_space : (byte : ℕ) → is_ascii_digit byte ≡ true → nat_eq byte 32 ≡ false
+pub digit_no_space : (byte : ℕ) → is_ascii_digit byte ≡ true → nat_eq byte 32 ≡ false
 digit_no_space byte e = grind (arith, nat_tests)
 
 -- ---- one line
@@ -126,7 +126,7 @@ cr_again line =
     ∙ ap (λ text. cond (bytes_eq text (13 ∷ [])) (Some (take (length line) (line ++ 13 ∷ []))) None) (drop_front line (13 ∷ []))
     ∙ ap (λ text. Some text) (take_front line (13 ∷ []))
 
-key_line_again : (line : List ℕ) (weighted : Weighted) → weighted_of (pieces 32 line) ≡ Ok weighted → key_line_of (line ++ 13 ∷ []) ≡ Ok weighted
+pub key_line_again : (line : List ℕ) (weighted : Weighted) → weighted_of (pieces 32 line) ≡ Ok weighted → key_line_of (line ++ 13 ∷ []) ≡ Ok weighted
 unfolding key_line_of
 key_line_again line weighted is = rw (cr_again line) is
 

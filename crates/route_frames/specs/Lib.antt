@@ -16,5 +16,9 @@ pub mod SnapshotTexts
 pub mod Decoding
 pub mod Canonical
 pub mod Valid
+pub mod Spelling
+pub mod Causes
+pub mod Refusals
+pub mod Readings
 pub mod ReadAgain
 pub mod CutAgain

@@ -2,6 +2,7 @@
 
 ghost use Rattle.route_frames.specs.CutAgain.{IsCutAgain, IsPayloadCutAgain};
 ghost use Rattle.route_frames.specs.ReadAgain.{IsAnnouncedAgain, IsReadAgain, BeginsNoOther};
+ghost use Rattle.route_frames.specs.Readings.{SpeltIsRead, ReadIsSpelt, AnnouncedIsTold, ToldIsAnnounced, SpellsOneFrame, AnnouncesOneSize};
 
 /// What is written of a numbered frame is read as that frame again, whatever follows it: its line is
 /// within [`ROUTE_LINE`](subj::ROUTE_LINE) and is cut at its own CR LF, it tells the size of the
@@ -16,4 +17,15 @@ pub fn canonical_is_read_again()
 /// No canonical spelling of a numbered frame begins that of another.
 pub fn spelling_begins_no_other()
     ensures { BeginsNoOther }
+{}
+
+/// What is spelt is what is read: a line and its payload mean a frame just where they spell it, and a
+/// line announces a size just where that is told of it. So no bytes spell two frames.
+pub fn spelt_is_what_is_read()
+    ensures spelt { SpeltIsRead }
+    ensures read { ReadIsSpelt }
+    ensures announced { AnnouncedIsTold }
+    ensures told { ToldIsAnnounced }
+    ensures one_frame { SpellsOneFrame }
+    ensures one_size { AnnouncesOneSize }
 {}

@@ -7,6 +7,7 @@ ghost use Rattle.route_frames.specs.Meaning.{Means};
 ghost use Rattle.route_frames.specs.Decoding.{size_meaning, sized, body_meaning, numbered_meaning, frame_meaning};
 ghost use Rattle.route_frames.specs.NumberedLines.{plus_line, minus_line, snapshot_line, message_line};
 ghost use Rattle.route_frames.specs.Lines.{numbered, line_meaning};
+ghost use Rattle.route_frames.specs.Refusals.{IsSizeOf, IsFrameOf};
 
 use crate::bodies::Body;
 use crate::common::Common;
@@ -73,6 +74,13 @@ fn read_line(alloc: Global, line: &[u8]) -> Result<RouteLine, Failure<RouteFault
     }
 }
 
+fn read_size(alloc: Global, line: &[u8]) -> Result<Option<u64>, Failure<RouteFault>>
+    ensures { Means (size_meaning line.now) result }
+{
+    let line = read_line(alloc, line)?;
+    Ok(line.announced())
+}
+
 /// How many bytes of payload follow a line, where any do; the line has no CR LF. It makes every test
 /// that the line alone allows.
 ///
@@ -86,10 +94,10 @@ fn read_line(alloc: Global, line: &[u8]) -> Result<RouteLine, Failure<RouteFault
 /// its range; then `BadArgs` for a member that is missing or is of another kind. Want of memory may
 /// stand in place of any answer. (Profile.)
 pub fn payload_size(alloc: Global, line: &[u8]) -> Result<Option<u64>, Failure<RouteFault>>
-    ensures { Means (size_meaning line.now) result }
+    ensures spelt { IsSizeOf line.now result }
+    ensures means { Means (size_meaning line.now) result }
 {
-    let line = read_line(alloc, line)?;
-    Ok(line.announced())
+    read_size(alloc, line)
 }
 
 /// Whether a payload has the announced size.
@@ -146,14 +154,8 @@ fn read_numbered(
     Ok(frame)
 }
 
-/// The frame that a line and the payload behind it spell; neither has its CR LF. The payload is shared
-/// and not copied. Where the line announces none, the payload has to be empty.
-///
-/// Refused by what [`payload_size`] tells of the line; then `BadArgs` for a payload of another size
-/// than announced, and for one that is not the text of a snapshot behind `RSS`. Want of memory may
-/// stand in place of any answer. (NATS documentation, "Cluster Protocol"; profile.)
 #[tactic(auto, unfolding(crate::specs::Decoding::frame_meaning))]
-pub fn decode(alloc: Global, line: &[u8], payload: Bytes) -> Result<RouteFrame, Failure<RouteFault>>
+fn read_frame(alloc: Global, line: &[u8], payload: Bytes) -> Result<RouteFrame, Failure<RouteFault>>
     ensures { Means (frame_meaning line.now payload) result }
 {
     let read = read_line(alloc, line)?;
@@ -166,4 +168,17 @@ pub fn decode(alloc: Global, line: &[u8], payload: Bytes) -> Result<RouteFrame, 
             Ok(RouteFrame::Numbered(frame))
         }
     }
+}
+
+/// The frame that a line and the payload behind it spell; neither has its CR LF. The payload is shared
+/// and not copied. Where the line announces none, the payload has to be empty.
+///
+/// Refused by what [`payload_size`] tells of the line; then `BadArgs` for a payload of another size
+/// than announced, and for one that is not the text of a snapshot behind `RSS`. Want of memory may
+/// stand in place of any answer. (NATS documentation, "Cluster Protocol"; profile.)
+pub fn decode(alloc: Global, line: &[u8], payload: Bytes) -> Result<RouteFrame, Failure<RouteFault>>
+    ensures spelt { IsFrameOf line.now payload result }
+    ensures means { Means (frame_meaning line.now payload) result }
+{
+    read_frame(alloc, line, payload)
 }
