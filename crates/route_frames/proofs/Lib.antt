@@ -12,4 +12,7 @@ pub mod MessagesAgain
 pub mod TextsAgain
 pub mod FramesAgain
 pub mod Cuts
+pub mod GreetingTexts
+pub mod GreetingsAgain
+pub mod RoutesAgain
 pub mod Beginnings

@@ -30,7 +30,7 @@ within_again least most n low high = ap (λ b. cond (b && nat_le n most) (Ok n) 
 inc_test : (n : ℕ) (zero above : Bool) → nat_eq n 0 ≡ zero → nat_lt MAX_INCARNATION n ≡ above → 1 ≤ n → n ≤ MAX_INCARNATION → (zero || above) ≡ false
 inc_test n zero above z a low high = grind (arith, nat_tests)
 
-incarnation_again : (n : ℕ) → IsIncarnation n → ok_or (incarnation_of n) BadNumber ≡ Ok n
+pub incarnation_again : (n : ℕ) → IsIncarnation n → ok_or (incarnation_of n) BadNumber ≡ Ok n
 incarnation_again n is = ap (λ b. ok_or (cond b None (Some n)) BadNumber) (inc_test n _ _ refl refl is.least is.most)
 
 abbrev pub digits_spelt : ℕ → ℕ → ℕ → Digits
