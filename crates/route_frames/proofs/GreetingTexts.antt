@@ -1,5 +1,5 @@
 -- The texts of INFO and CONNECT: each byte is ASCII and none is CR, and there are few.
-use Rattle.std.proofs.Common.{◌≡◌, ℕ, ◌+◌, ◌^◌, ◌≤◌, ◌<◌, Bool, true, false, not, ◌||◌, List, [], ◌∷◌, ◌++◌, length, refl, ap, sym, ◌∙◌, arith, length-append, Some, None}
+use Rattle.std.proofs.Common.{◌≡◌, ℕ, ◌+◌, ◌^◌, ◌≤◌, ◌<◌, Bool, true, false, not, ◌||◌, List, [], ◌∷◌, ◌++◌, length, refl, ap, ◌∙◌, arith, length-append, None}
 use Rattle.std.specs.Prelude.{nat_le, nat_eq, decimal, codes}
 use Rattle.std.specs.List.{list_any}
 use Rattle.std.specs.Char.{is_ascii_digit}
@@ -10,9 +10,9 @@ use Rattle.std.proofs.lemmas.Str.{IsUtf8-from_ascii}
 use Rattle.std.proofs.lemmas.Str.Ascii.{IsAscii-nil, IsAscii-cons}
 use Rattle.json.specs.Print.{escape_byte, escape, quoted}
 use Rattle.json.proofs.Printed.Strings.{escape_byte_plain}
-use Rattle.serde_json.specs.Data.{Data, string, object, Members, no_members, member}
+use Rattle.serde_json.specs.Data.{Data, string, Members, no_members, member}
 use Rattle.serde_json.specs.Written.{comma_if, compact_text, members_text}
-use Rattle.subj.specs.declared.limits.TheConstants.{MAX_NODE_NAME, MAX_COUNTER, MAX_INCARNATION}
+use Rattle.subj.specs.declared.limits.TheConstants.{MAX_COUNTER, MAX_INCARNATION}
 use Rattle.subj.specs.Names.{is_node_name_byte, has_no_name_byte, node_name_fault}
 use Rattle.route_frames.specs.Records.{Info, Connect, is_serial}
 use Rattle.route_frames.specs.Canonical.{counted, info_json, connect_json}
@@ -145,14 +145,14 @@ info_text info is =
     both_plain 6 100 200 (codes "INFO " ++ 123 ∷ []) (members_text false (member (codes "inc") (counted info.inc) named)) (record { plain = refl; short = omega arith })
     (member_is_plain false 16 60 100 (codes "inc") (counted info.inc) named keys.inc (incarnation_is_plain info.inc most) name_is (omega arith)) (omega arith)
 
-serial_is_short : (serial : ℕ) → is_serial serial ≡ true → serial ≤ MAX_COUNTER
-serial_is_short serial is = grind (arith, nat_tests)
+pub serial_range : (serial : ℕ) → is_serial serial ≡ true → (1 ≤ serial) × (serial ≤ MAX_COUNTER)
+serial_range serial is = grind (arith, nat_tests)
 
 pub connect_text : (connect : Connect) → IsConnect connect → IsPlainText 300 (codes "CONNECT " ++ compact_text (connect_json connect))
 connect_text connect is =
     let most = (is.inc).most in
     let to_most = (is.to_inc).most in
-    let serial_most = serial_is_short connect.serial is.serial in
+    let serial_most = (serial_range connect.serial is.serial).1 in
     let from_to_inc : Members = member (codes "to_inc") (counted connect.to_inc) no_members in
     let from_to : Members = member (codes "to") (string connect.to) from_to_inc in
     let from_name : Members = member (codes "server_name") (string connect.server_name) from_to in

@@ -1,13 +1,11 @@
 -- The canonical spellings of INFO and CONNECT are read again.
-use Rattle.std.proofs.Common.{◌≡◌, ℕ, ◌^◌, ◌≤◌, ◌<◌, Bool, true, ◌&&◌, cond, List, [], ◌∷◌, ◌++◌, refl, ap, sym, ◌∙◌, arith, append-nil, Option, Some, None, Ok, Err}
-use Rattle.std.specs.Prelude.{nat_le, decimal, codes, option_and_then}
+use Rattle.std.proofs.Common.{◌≡◌, ℕ, ◌≤◌, cond, List, [], ◌∷◌, ◌++◌, refl, ap, sym, ◌∙◌, arith, append-nil, Some, None, Ok}
+use Rattle.std.specs.Prelude.{codes, option_and_then}
 use Rattle.std.specs.Option.{ok_or}
 use Rattle.std.proofs.lemmas.Bool.{le-leb}
-use Rattle.std.proofs.lemmas.Bool.Decides.{nat_tests}
 use Rattle.json.specs.Lex.{lex, tokens}
 use Rattle.json.specs.Json as json
 use Rattle.json.specs.Tree as tree
-use Rattle.json.specs.Print.{print}
 use Rattle.json.proofs.Printed.Tokens.{tokens-print}
 use Rattle.json.proofs.Printed.Trees.{value-json_tokens, ArePrintable-json_tokens}
 use Rattle.json.proofs.Printed.Decimals.{IsNumber-decimal}
@@ -22,14 +20,14 @@ use Rattle.route_frames.specs.declared.greetings.Dial.{Dial}
 use Rattle.route_frames.specs.declared.greetings.Whole.TheVariants.{Number}
 use Rattle.route_frames.specs.declared.lines.RouteLine.TheVariants as line
 use Rattle.route_frames.specs.Meaning.{◌>>=◌}
-use Rattle.route_frames.specs.Records.{Info, Connect, is_serial}
-use Rattle.route_frames.specs.Greetings.{object_in, object_of, whole_in_range, incarnation_in, node_at, info_in, dial_in, connect_in, info_of, connect_text_of}
+use Rattle.route_frames.specs.Records.{Info, Connect}
+use Rattle.route_frames.specs.Greetings.{object_of, whole_in_range, incarnation_in, node_at, info_in, dial_in, connect_in, info_of, connect_text_of}
 use Rattle.route_frames.specs.Lines.{line_meaning}
 use Rattle.route_frames.specs.Canonical.{info_json, connect_json}
 use Rattle.route_frames.specs.Valid.{IsIncarnation, IsInfo, IsConnect}
 use Rattle.route_frames.proofs.Json.{is_json}
 use Rattle.route_frames.proofs.NumberedAgain.{incarnation_again, node_again}
-use Rattle.route_frames.proofs.GreetingTexts.{IsPlainText, plain_is_utf8, info_text, connect_text}
+use Rattle.route_frames.proofs.GreetingTexts.{plain_is_utf8, info_text, connect_text, serial_range}
 
 -- ---- compact JSON is read again, also behind the blank
 
@@ -48,8 +46,8 @@ compact_again d numbers shallow is =
 
 -- ---- numbers
 
-in_range_again : (most n : ℕ) → 1 ≤ n → n ≤ most → whole_in_range most (Number n) ≡ Ok (Number n)
-in_range_again most n low high = rw (le-leb 1 n low, le-leb n most high) refl
+whole_again : (most n : ℕ) → 1 ≤ n → n ≤ most → whole_in_range most (Number n) ≡ Ok (Number n)
+whole_again most n low high = rw (le-leb 1 n low, le-leb n most high) refl
 
 incarnation_is_in : (inc : ℕ) → IsIncarnation inc → incarnation_in (Number inc) ≡ Ok inc
 unfolding incarnation_in
@@ -71,7 +69,7 @@ info_object info is =
 info_members : (info : Info) → IsInfo info → info_in (info_json info) ≡ Ok info
 unfolding info_in node_at
 info_members info is =
-    rw (in_range_again MAX_INCARNATION info.inc (is.inc).least (is.inc).most, incarnation_is_in info.inc is.inc, node_again info.server_name is.server_name) refl
+    rw (whole_again MAX_INCARNATION info.inc (is.inc).least (is.inc).most, incarnation_is_in info.inc is.inc, node_again info.server_name is.server_name) refl
 
 pub info_line : (info : Info) → IsInfo info → line_meaning (codes "INFO " ++ compact_text (info_json info)) ≡ Ok (line.Info info)
 info_line info is =
@@ -99,17 +97,14 @@ connect_object connect is serial_most =
 abbrev dial_of : Connect → Dial
 dial_of connect = record { inc = connect.inc; to_inc = connect.to_inc; serial = connect.serial }
 
-serial_range : (serial : ℕ) → is_serial serial ≡ true → (1 ≤ serial) × (serial ≤ MAX_COUNTER)
-serial_range serial is = grind (arith, nat_tests)
-
 connect_dial : (connect : Connect) → IsConnect connect → dial_in (connect_json connect) ≡ Ok (dial_of connect)
 unfolding dial_in
 connect_dial connect is =
     let serial = serial_range connect.serial is.serial in
     rw (
-      in_range_again MAX_INCARNATION connect.inc (is.inc).least (is.inc).most,
-      in_range_again MAX_INCARNATION connect.to_inc (is.to_inc).least (is.to_inc).most,
-      in_range_again MAX_COUNTER connect.serial serial.0 serial.1,
+      whole_again MAX_INCARNATION connect.inc (is.inc).least (is.inc).most,
+      whole_again MAX_INCARNATION connect.to_inc (is.to_inc).least (is.to_inc).most,
+      whole_again MAX_COUNTER connect.serial serial.0 serial.1,
       incarnation_is_in connect.inc is.inc,
       incarnation_is_in connect.to_inc is.to_inc,
     ) refl

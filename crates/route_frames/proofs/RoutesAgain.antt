@@ -1,12 +1,9 @@
 -- What is written of a frame of a route is cut again, and read as that frame.
-use Rattle.std.proofs.Common.{◌≡◌, ℕ, ◌≤◌, List, [], ◌∷◌, ◌++◌, length, refl, ap, arith, Option, Some, None, Ok}
-use Rattle.std.specs.Prelude.{option_map, unwrap_or}
-use Rattle.subj.specs.declared.limits.TheConstants.{MAX_SNAPSHOT}
+use Rattle.std.proofs.Common.{length, refl, ap, arith, Ok}
 use Rattle.route_frames.specs.declared.bodies.Body.{Body}
 use Rattle.route_frames.specs.declared.bodies.Body.TheVariants.{Plus, Minus, Snapshot, Msg}
 use Rattle.route_frames.specs.declared.frames.RouteFrame.{RouteFrame}
 use Rattle.route_frames.specs.declared.frames.RouteFrame.TheVariants.{Info, Connect, Numbered}
-use Rattle.route_frames.specs.declared.lines.RouteLine.TheVariants as line
 use Rattle.route_frames.specs.Meaning.{◌>>=◌}
 use Rattle.route_frames.specs.Announced.{announced_size}
 use Rattle.route_frames.specs.Decoding.{frame_meaning}
@@ -16,7 +13,7 @@ use Rattle.route_frames.specs.Valid.{IsBody, IsRouteFrame}
 use Rattle.route_frames.specs.CutAgain.{IsShort, AreLines, ArePayloads, IsCutAgain}
 use Rattle.route_frames.specs.ReadAgain.{IsAnnouncedAgain, IsReadAgain}
 use Rattle.route_frames.proofs.Cuts.{IsShortLine, none_is, line_cut, line_short, snapshot_fits}
-use Rattle.route_frames.proofs.GreetingTexts.{IsPlainText, plain_without_cr, info_text, connect_text}
+use Rattle.route_frames.proofs.GreetingTexts.{plain_without_cr, info_text, connect_text}
 use Rattle.route_frames.proofs.GreetingsAgain.{info_line, connect_line}
 use Rattle.route_frames.proofs.FramesAgain.{frame_again, announced_again}
 
