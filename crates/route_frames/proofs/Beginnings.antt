@@ -1,38 +1,34 @@
--- No canonical spelling of a numbered frame begins that of another.
+-- No canonical spelling of a frame begins that of another.
 use Rattle.std.proofs.Common.{◌≡◌, ℕ, List, [], ◌∷◌, ◌++◌, length, take, drop, refl, ap, sym, ◌∙◌, append_assoc, Option, Some, None, Ok}
 use Rattle.std.specs.Prelude.{option_map, unwrap_or}
 use Rattle.wire_cut.specs.Cut.{Answer, line, cut_line}
 use Rattle.subj.specs.declared.limits.TheConstants.{ROUTE_LINE}
-use Rattle.route_frames.specs.declared.frames.RouteFrame.TheVariants.{Numbered}
-use Rattle.route_frames.specs.declared.lines.NumberedLine.{NumberedLine}
-use Rattle.route_frames.specs.declared.lines.RouteLine.TheVariants as said
+use Rattle.route_frames.specs.declared.frames.RouteFrame.{RouteFrame}
 use Rattle.route_frames.specs.Meaning.{Meaning}
-use Rattle.route_frames.specs.Announced.{body_size}
-use Rattle.route_frames.specs.Frames.{Frame}
-use Rattle.route_frames.specs.Lines.{line_meaning}
-use Rattle.route_frames.specs.Decoding.{numbered_meaning}
+use Rattle.route_frames.specs.Decoding.{size_meaning, frame_meaning}
 use Rattle.route_frames.specs.Snapshots.{line_end}
-use Rattle.route_frames.specs.Canonical.{numbered_line, body_payload, payload_bytes, frame_bytes}
+use Rattle.route_frames.specs.Canonical.{canonical_line, canonical_payload, payload_bytes, frame_bytes}
 use Rattle.route_frames.specs.ReadAgain.{BeginsNoOther}
 use Rattle.route_frames.proofs.Behind.{drop_front}
 use Rattle.route_frames.proofs.TextsAgain.{take_front}
-use Rattle.route_frames.proofs.Cuts.{cut_again}
-use Rattle.route_frames.proofs.FramesAgain.{is_read}
+use Rattle.route_frames.proofs.RoutesAgain.{is_cut_again, is_announced_again, is_read_again}
 
-abbrev behind_line : Frame → List ℕ → List ℕ
-behind_line frame rest = payload_bytes (body_payload frame.body) ++ rest
+abbrev behind_line : RouteFrame → List ℕ → List ℕ
+behind_line frame rest = payload_bytes (canonical_payload frame) ++ rest
 
-shape : (frame : Frame) (rest : List ℕ) → frame_bytes (Numbered frame) ++ rest ≡ numbered_line frame ++ (line_end ++ behind_line frame rest)
-shape frame rest = append_assoc (numbered_line frame) (line_end ++ payload_bytes (body_payload frame.body)) rest
+shape : (frame : RouteFrame) (rest : List ℕ) → frame_bytes frame ++ rest ≡ canonical_line frame ++ (line_end ++ behind_line frame rest)
+shape frame rest = append_assoc (canonical_line frame) (line_end ++ payload_bytes (canonical_payload frame)) rest
+
+-- ---- what is cut or read of the same bytes is the same
 
 same_line : (one other : List ℕ) (cut : Answer) → cut ≡ Ok (Some (line one)) → cut ≡ Ok (Some (line other)) → one ≡ other
 same_line one other cut is is_too = cc
 
+same_meaning : {A : Type 0} (one other : A) (meaning : Meaning A) → meaning ≡ Ok one → meaning ≡ Ok other → one ≡ other
+same_meaning one other meaning is is_too = cc
+
 same_behind : (x y z w : ℕ) (one other : List ℕ) → x ∷ y ∷ one ≡ z ∷ w ∷ other → one ≡ other
 same_behind x y z w one other is = cc
-
-same_numbered : (one other : NumberedLine) (text more : List ℕ) → text ≡ more → line_meaning text ≡ Ok (said.Numbered one) → line_meaning more ≡ Ok (said.Numbered other) → one ≡ other
-same_numbered one other text more same is is_too = let both : line_meaning text ≡ line_meaning more = ap line_meaning same in cc
 
 some_length : (a b : ℕ) → Some a ≡ Some b → a ≡ b
 some_length a b is = cc
@@ -46,20 +42,17 @@ same_payload (Some bytes) (Some others) rest more sizes is =
     let whole : bytes ++ (line_end ++ rest) ≡ others ++ (line_end ++ more) = sym (append_assoc bytes line_end rest) ∙ is ∙ append_assoc others line_end more in
     ap (λ b. Some b) (sym (take_front bytes (line_end ++ rest)) ∙ ap (take (length bytes)) whole ∙ ap (λ n. take n (others ++ (line_end ++ more))) len ∙ take_front others (line_end ++ more))
 
-same_frame : (one other : Frame) (meaning : Meaning Frame) → meaning ≡ Ok one → meaning ≡ Ok other → one ≡ other
-same_frame one other meaning is is_too = cc
+-- ---- so the lines are the same, then the payloads, then the frames
 
 pub begins_no_other : BeginsNoOther
 begins_no_other one other rest more is is_too same =
-    let whole : numbered_line one ++ (line_end ++ behind_line one rest) ≡ numbered_line other ++ (line_end ++ behind_line other more) = sym (shape one rest) ∙ same ∙ shape other more in
-    let lines : numbered_line one ≡ numbered_line other =
-    same_line (numbered_line one) (numbered_line other) (cut_line ROUTE_LINE (numbered_line one ++ (line_end ++ behind_line one rest))) (cut_again one (behind_line one rest) is) (ap (cut_line ROUTE_LINE) whole ∙ cut_again other (behind_line other more) is_too) in
+    let whole : canonical_line one ++ (line_end ++ behind_line one rest) ≡ canonical_line other ++ (line_end ++ behind_line other more) = sym (shape one rest) ∙ same ∙ shape other more in
+    let lines : canonical_line one ≡ canonical_line other =
+    same_line (canonical_line one) (canonical_line other) (cut_line ROUTE_LINE (canonical_line one ++ (line_end ++ behind_line one rest))) (is_cut_again one (behind_line one rest) is) (ap (cut_line ROUTE_LINE) whole ∙ is_cut_again other (behind_line other more) is_too) in
     let tails : line_end ++ behind_line one rest ≡ line_end ++ behind_line other more =
-    sym (drop_front (numbered_line one) (line_end ++ behind_line one rest)) ∙ ap (drop (length (numbered_line one))) whole
-    ∙ ap (λ line. drop (length line) (numbered_line other ++ (line_end ++ behind_line other more))) lines ∙ drop_front (numbered_line other) (line_end ++ behind_line other more) in
-    let read = is_read one is in
-    let read_too = is_read other is_too in
-    let numbered = same_numbered read.numbered read_too.numbered (numbered_line one) (numbered_line other) lines read.says read_too.says in
-    let sizes = sym read.size ∙ ap (λ line. body_size line.body) numbered ∙ read_too.size in
-    let payloads = same_payload (body_payload one.body) (body_payload other.body) rest more sizes (same_behind 13 10 13 10 (behind_line one rest) (behind_line other more) tails) in
-    same_frame one other (numbered_meaning read.numbered (unwrap_or (body_payload one.body) [])) read.means (ap (λ line. numbered_meaning line (unwrap_or (body_payload one.body) [])) numbered ∙ ap (λ payload. numbered_meaning read_too.numbered (unwrap_or payload [])) payloads ∙ read_too.means)
+    sym (drop_front (canonical_line one) (line_end ++ behind_line one rest)) ∙ ap (drop (length (canonical_line one))) whole
+    ∙ ap (λ line. drop (length line) (canonical_line other ++ (line_end ++ behind_line other more))) lines ∙ drop_front (canonical_line other) (line_end ++ behind_line other more) in
+    let sizes = same_meaning (option_map (λ payload. length payload) (canonical_payload one)) (option_map (λ payload. length payload) (canonical_payload other)) (size_meaning (canonical_line one)) (is_announced_again one is) (ap size_meaning lines ∙ is_announced_again other is_too) in
+    let payloads = same_payload (canonical_payload one) (canonical_payload other) rest more sizes (same_behind 13 10 13 10 (behind_line one rest) (behind_line other more) tails) in
+    same_meaning one other (frame_meaning (canonical_line one) (unwrap_or (canonical_payload one) [])) (is_read_again one is)
+    (ap (λ text. frame_meaning text (unwrap_or (canonical_payload one) [])) lines ∙ ap (λ payload. frame_meaning (canonical_line other) (unwrap_or payload [])) payloads ∙ is_read_again other is_too)

@@ -19,12 +19,12 @@ use Rattle.route_frames.specs.Frames.{Frame}
 use Rattle.route_frames.specs.Snapshots.{snapshot_text}
 use Rattle.route_frames.specs.Canonical.{spaced, operation_word, common_of, member_fields, form_fields, body_fields, numbered_line}
 use Rattle.route_frames.specs.Valid.{IsKey, IsWeighted, AreNames, IsReply, IsMessage, IsBody, IsFrame}
-use Rattle.route_frames.specs.CutAgain.{IsCutAgain, IsPayloadCutAgain}
+use Rattle.route_frames.specs.CutAgain.{IsPayloadCutAgain}
 use Rattle.route_frames.proofs.Behind.{drop_front}
 use Rattle.route_frames.proofs.SpeltFields.{all_digits, queue_plain, pattern_plain, subject_plain, subject_short, pattern_short, queue_short, node_short, node_without_cr}
 use Rattle.route_frames.proofs.TextsAgain.{lacks, digits_lack, none_in_both, take_front}
 
-abbrev is_cr : ℕ → Bool
+abbrev pub is_cr : ℕ → Bool
 is_cr byte = nat_eq byte 13
 
 no_cr : (byte : ℕ) → names.is_forbidden byte ≡ false → is_cr byte ≡ false
@@ -52,6 +52,13 @@ first_is (x ∷ xs) rest e =
     ap (λ b. cond b (Some 0) (option_map (λ i. suc i) (first_cr_lf (xs ++ 13 ∷ 10 ∷ rest)))) (here x (xs ++ 13 ∷ 10 ∷ rest) parts.0)
     ∙ ap (option_map (λ i. suc i)) (first_is xs rest parts.1)
 
+pub none_is : (text : List ℕ) → list_any is_cr text ≡ false → first_cr_lf text ≡ None
+unfolding first_cr_lf
+none_is [] e = refl
+none_is (x ∷ xs) e =
+    let parts = none_of_two (is_cr x) (list_any is_cr xs) e in
+    ap (λ b. cond b (Some 0) (option_map (λ i. suc i) (first_cr_lf xs))) (here x xs parts.0) ∙ ap (option_map (λ i. suc i)) (none_is xs parts.1)
+
 pub line_cut : (text rest : List ℕ) → list_any is_cr text ≡ false → length text ≤ ROUTE_LINE → cut_line ROUTE_LINE (text ++ 13 ∷ 10 ∷ rest) ≡ Ok (Some (line text))
 line_cut text rest plain short =
     ap (cut_line_at ROUTE_LINE (text ++ 13 ∷ 10 ∷ rest)) (first_is text rest plain)
@@ -68,6 +75,11 @@ payload_cut bytes rest =
     ap (λ b. cond b None (Some (begins_with_cr_lf (drop (length bytes) (bytes ++ 13 ∷ 10 ∷ rest))))) (not_above (length (bytes ++ 13 ∷ 10 ∷ rest)) (length bytes + 2) _ refl (omega (arith, whole)))
     ∙ ap (λ behind. Some (begins_with_cr_lf behind)) (drop_front bytes (13 ∷ 10 ∷ rest)) in
     ap (cut_payload_at (length bytes) (bytes ++ 13 ∷ 10 ∷ rest)) there ∙ ap (λ front. Ok (Some (payload front))) (take_front bytes (13 ∷ 10 ∷ rest))
+
+-- a line that holds no CR and is within its limit
+pub record IsShortLine (text : List ℕ) : Type 0 where
+  pub plain : list_any is_cr text ≡ false
+  pub short : length text ≤ ROUTE_LINE
 
 -- ---- fields, each with a blank in front: they hold no CR, and take so many bytes at most
 
@@ -167,7 +179,7 @@ message_short message queues is =
     both_short 6000 8 6100 (form_fields message.reply queues) (decimal (length message.payload) ∷ []) (form_short message.reply queues is.reply is.names fits)
     (one_more 7 0 8 (decimal (length message.payload)) [] (number_plain (length message.payload) (omega arith)) (length-decimal-le 7 (length message.payload) (omega arith) (omega arith) (omega arith)) (none_short 0) (omega arith)) (omega arith)) (omega arith)) (omega arith)
 
-snapshot_fits : (len : ℕ) (rising : Bool) → (nat_le len MAX_SNAPSHOT && rising) ≡ true → len ≤ MAX_SNAPSHOT
+pub snapshot_fits : (len : ℕ) (rising : Bool) → (nat_le len MAX_SNAPSHOT && rising) ≡ true → len ≤ MAX_SNAPSHOT
 snapshot_fits len rising is = grind (arith, nat_tests)
 
 body_short : (body : Body) → IsBody body → AreShort 8000 (body_fields body)
@@ -193,11 +205,7 @@ word_short (Msg message queues) = record { plain = refl; short = omega arith }
 counted : (n : ℕ) (other : Bool) → (nat_le n MAX_COUNTER && other) ≡ true → n ≤ MAX_COUNTER
 counted n other is = grind (arith, nat_tests)
 
-pub record IsShortLine (frame : Frame) : Type 0 where
-  pub plain : list_any is_cr (numbered_line frame) ≡ false
-  pub short : length (numbered_line frame) ≤ ROUTE_LINE
-
-pub line_short : (frame : Frame) → IsFrame frame → IsShortLine frame
+pub line_short : (frame : Frame) → IsFrame frame → IsShortLine (numbered_line frame)
 unfolding numbered_line
 line_short frame is =
     let word = word_short frame.body in
@@ -212,6 +220,3 @@ line_short frame is =
       plain = none_in_both is_cr (operation_word frame.body) (spaced (common_of frame) ++ spaced (body_fields frame.body)) word.plain (none_in_both is_cr (spaced (common_of frame)) (spaced (body_fields frame.body)) common.plain body.plain);
       short = omega (arith, first, second);
     }
-
-pub cut_again : IsCutAgain
-cut_again frame rest is = let short = line_short frame is in line_cut (numbered_line frame) rest short.plain short.short

@@ -20,11 +20,10 @@ use Rattle.route_frames.specs.Meaning.{◌>>=◌}
 use Rattle.route_frames.specs.Announced.{body_size, announced_size}
 use Rattle.route_frames.specs.Frames.{Frame, is_number}
 use Rattle.route_frames.specs.Lines.{fields_meaning, line_meaning}
-use Rattle.route_frames.specs.Decoding.{sized, body_meaning, numbered_meaning, frame_meaning}
+use Rattle.route_frames.specs.Decoding.{size_meaning, sized, body_meaning, numbered_meaning, frame_meaning}
 use Rattle.route_frames.specs.Snapshots.{are_rising, snapshot_text}
 use Rattle.route_frames.specs.Canonical.{spaced, operation_word, common_of, member_fields, form_fields, body_fields, numbered_line, body_payload}
 use Rattle.route_frames.specs.Valid.{IsKey, IsWeighted, AreNames, IsReply, IsMessage, IsFrame}
-use Rattle.route_frames.specs.ReadAgain.{IsReadAgain, IsAnnouncedAgain}
 use Rattle.route_frames.proofs.SpeltFields.{AreFields, spaced_line, append_fields, queue_is_field, subject_is_field, pattern_is_field, node_is_field, number_is_field}
 use Rattle.route_frames.proofs.LinesAgain.{AreEnds, line_spelt, plus_again, minus_again, snapshot_again}
 use Rattle.route_frames.proofs.MessagesAgain.{message_again}
@@ -111,11 +110,11 @@ abbrev frame_with : List ℕ → ℕ → List ℕ → ℕ → ℕ → Body → F
 frame_with from inc to to_inc number body = record { from = from; inc = inc; to = to; to_inc = to_inc; number = number; body = body }
 
 -- what a frame's line says, and what is made of it
-pub record IsRead (frame : Frame) : Type 0 where
-  pub numbered : NumberedLine
-  pub says : line_meaning (numbered_line frame) ≡ Ok (line.Numbered numbered)
-  pub size : body_size numbered.body ≡ option_map (λ payload. length payload) (body_payload frame.body)
-  pub means : numbered_meaning numbered (unwrap_or (body_payload frame.body) []) ≡ Ok frame
+record IsRead (frame : Frame) : Type 0 where
+  numbered : NumberedLine
+  says : line_meaning (numbered_line frame) ≡ Ok (line.Numbered numbered)
+  size : body_size numbered.body ≡ option_map (λ payload. length payload) (body_payload frame.body)
+  means : numbered_meaning numbered (unwrap_or (body_payload frame.body) []) ≡ Ok frame
 
 read_by : (from : List ℕ) (inc : ℕ) (to : List ℕ) (to_inc number : ℕ) (body : Body) → IsFrame (frame_with from inc to to_inc number body) → IsRead (frame_with from inc to to_inc number body)
 read_by from inc to to_inc number (Plus weighted) is =
@@ -162,7 +161,7 @@ read_by from inc to to_inc number (Msg message queues) is =
       means = read_frame from to inc to_inc number (body.Msg message.subject message.reply queues (length message.payload)) (Msg message queues) message.payload content is.number;
     }
 
-pub is_read : (frame : Frame) → IsFrame frame → IsRead frame
+is_read : (frame : Frame) → IsFrame frame → IsRead frame
 is_read frame is = read_by frame.from frame.inc frame.to frame.to_inc frame.number frame.body is
 
 -- ---- laws
@@ -171,12 +170,12 @@ sized_again : (payload : Option (List ℕ)) → sized (option_map (λ bytes. len
 sized_again None = refl
 sized_again (Some bytes) = has_size bytes
 
-pub is_read_again : IsReadAgain
-is_read_again frame is =
+pub frame_again : (frame : Frame) → IsFrame frame → frame_meaning (numbered_line frame) (unwrap_or (body_payload frame.body) []) ≡ Ok (Numbered frame)
+frame_again frame is =
     let read = is_read frame is in
     whole_frame (numbered_line frame) (unwrap_or (body_payload frame.body) []) read.numbered frame read.says (ap (λ size. sized size (unwrap_or (body_payload frame.body) [])) read.size ∙ sized_again (body_payload frame.body)) read.means
 
-pub is_announced_again : IsAnnouncedAgain
-is_announced_again frame is =
+pub announced_again : (frame : Frame) → IsFrame frame → size_meaning (numbered_line frame) ≡ Ok (option_map (λ payload. length payload) (body_payload frame.body))
+announced_again frame is =
     let read = is_read frame is in
     ap (λ meaning. meaning >>= λ line. Ok (announced_size line)) read.says ∙ ap (λ size. Ok size) read.size

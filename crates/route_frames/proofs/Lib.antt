@@ -12,6 +12,9 @@ pub mod MessagesAgain
 pub mod TextsAgain
 pub mod FramesAgain
 pub mod Cuts
+pub mod GreetingTexts
+pub mod GreetingsAgain
+pub mod RoutesAgain
 pub mod Beginnings
 pub mod Chains
 pub mod FieldsRead

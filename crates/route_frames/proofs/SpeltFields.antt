@@ -154,5 +154,8 @@ no_cr_in : (text : List ℕ) → names.has_no_name_byte text ≡ false → list_
 no_cr_in [] e = refl
 no_cr_in (byte ∷ bytes) e = let head = cr_byte byte (names.has_no_name_byte bytes) e in ap (λ b. b || list_any (λ byte. nat_eq byte 13) bytes) head.0 ∙ no_cr_in bytes head.1
 
+pub node_plain : (name : List ℕ) → names.node_name_fault name ≡ None → names.has_no_name_byte name ≡ false
+node_plain name e = (plain_by _ (names.has_no_name_byte name) name e).1
+
 pub node_without_cr : (name : List ℕ) → names.node_name_fault name ≡ None → list_any (λ byte. nat_eq byte 13) name ≡ false
-node_without_cr name e = no_cr_in name (plain_by _ (names.has_no_name_byte name) name e).1
+node_without_cr name e = no_cr_in name (node_plain name e)
