@@ -10,7 +10,7 @@ use Rattle.route_frames.specs.Snapshots.{line_end}
 use Rattle.route_frames.specs.Canonical.{canonical_line, canonical_payload, payload_bytes, frame_bytes}
 use Rattle.route_frames.specs.ReadAgain.{BeginsNoOther}
 use Rattle.route_frames.proofs.Behind.{drop_front}
-use Rattle.route_frames.proofs.TextsAgain.{take_front}
+use Rattle.route_frames.proofs.Cutting.{take_front}
 use Rattle.route_frames.proofs.RoutesAgain.{is_cut_again, is_announced_again, is_read_again}
 
 abbrev behind_line : RouteFrame → List ℕ → List ℕ

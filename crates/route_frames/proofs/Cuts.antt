@@ -22,7 +22,7 @@ use Rattle.route_frames.specs.Valid.{IsKey, IsWeighted, AreNames, IsReply, IsMes
 use Rattle.route_frames.specs.CutAgain.{IsPayloadCutAgain}
 use Rattle.route_frames.proofs.Behind.{drop_front}
 use Rattle.route_frames.proofs.SpeltFields.{all_digits, queue_plain, pattern_plain, subject_plain, subject_short, pattern_short, queue_short, node_short, node_without_cr}
-use Rattle.route_frames.proofs.TextsAgain.{lacks, digits_lack, none_in_both, take_front}
+use Rattle.route_frames.proofs.Cutting.{lacks, digits_lack, none_in_both, take_front}
 
 abbrev pub is_cr : ℕ → Bool
 is_cr byte = nat_eq byte 13

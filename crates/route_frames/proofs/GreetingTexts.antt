@@ -18,7 +18,7 @@ use Rattle.route_frames.specs.Records.{Info, Connect, is_serial}
 use Rattle.route_frames.specs.Canonical.{counted, info_json, connect_json}
 use Rattle.route_frames.specs.Valid.{IsInfo, IsConnect}
 use Rattle.route_frames.proofs.SpeltFields.{all_digits, node_short, node_plain}
-use Rattle.route_frames.proofs.TextsAgain.{digits_lack, none_in_both}
+use Rattle.route_frames.proofs.Cutting.{digits_lack, none_in_both}
 
 -- what no greeting holds
 abbrev is_other : ℕ → Bool

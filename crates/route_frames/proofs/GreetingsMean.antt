@@ -15,7 +15,7 @@ use Rattle.route_frames.specs.Canonical.{counted}
 use Rattle.route_frames.specs.Greetings.{json_of, object_of, whole_of, whole_at, whole_in_range, incarnation_in, node_at, info_in, dial_in, connect_in, info_of, connect_text_of}
 use Rattle.route_frames.specs.Spelling.{HasInfo, HasConnect}
 use Rattle.route_frames.specs.Valid.{IsIncarnation, IsInfo, IsConnect}
-use Rattle.route_frames.proofs.NumberedAgain.{incarnation_again, node_again}
+use Rattle.route_frames.proofs.PartsMean.{incarnation_again, node_again}
 
 -- ---- members
 

@@ -17,9 +17,9 @@ use Rattle.route_frames.specs.Valid.{IsWeighted, AreWeighted, AreSnapshotKeys}
 use Rattle.route_frames.proofs.Chains.{where_some}
 use Rattle.route_frames.proofs.Pieces.{line_and_more}
 use Rattle.route_frames.proofs.SpeltFields.{pattern_plain, queue_plain}
-use Rattle.route_frames.proofs.NumberedAgain.{key_again, weighted_again}
-use Rattle.route_frames.proofs.LinesAgain.{plain_weight}
-use Rattle.route_frames.proofs.TextsAgain.{cut_none, cut_at, none_in_both, lacks, digits_lack, no_lf, no_space, digit_no_lf, digit_no_space, key_line_again}
+use Rattle.route_frames.proofs.PartsMean.{key_again, weighted_again}
+use Rattle.route_frames.proofs.LinesMean.{plain_weight}
+use Rattle.route_frames.proofs.Cutting.{cut_none, cut_at, none_in_both, lacks, digits_lack, no_lf, no_space, digit_no_lf, digit_no_space, key_line_again}
 
 -- ---- a line
 

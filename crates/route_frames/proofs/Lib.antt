@@ -6,11 +6,10 @@ pub mod Dials
 pub mod Pieces
 pub mod NameBytes
 pub mod SpeltFields
-pub mod NumberedAgain
-pub mod LinesAgain
-pub mod MessagesAgain
-pub mod TextsAgain
-pub mod FramesAgain
+pub mod PartsMean
+pub mod MessageForms
+pub mod Cutting
+pub mod FrameFields
 pub mod Cuts
 pub mod GreetingTexts
 pub mod GreetingsAgain
@@ -33,3 +32,4 @@ pub mod KeysMean
 pub mod GreetingsMean
 pub mod WholeMeans
 pub mod Answered
+pub mod CanonicalSpelt

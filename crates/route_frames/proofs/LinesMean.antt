@@ -1,23 +1,37 @@
 -- The fields of a numbered frame that are spelt mean what they spell.
-use Rattle.std.proofs.Common.{◌≡◌, ℕ, ◌≤◌, List, [], ◌∷◌, ◌++◌, length, refl, ap, arith, Option, Some, None, Ok}
-use Rattle.std.specs.Prelude.{codes}
+use Rattle.std.proofs.Common.{◌≡◌, ℕ, ◌≤◌, List, [], ◌∷◌, ◌++◌, length, refl, ap, arith, Option, Some, None, Ok, true, ◌&&◌, nat_eq}
+use Rattle.std.specs.Prelude.{nat_le, nat_eq, codes}
 use Rattle.std.specs.Option.{ok_or, option_to_list}
-use Rattle.subj.specs.declared.limits.TheConstants.{MAX_WEIGHT, MAX_SNAPSHOT, MAX_PAYLOAD}
+use Rattle.std.proofs.lemmas.Bool.Decides.{nat_tests}
+use Rattle.subj.specs.declared.limits.TheConstants.{MAX_WEIGHT, MAX_SNAPSHOT, MAX_PAYLOAD, MAX_COUNTER}
 use Rattle.subj.specs.declared.keys.Key.{Key}
+use Rattle.subj.specs.Names.{node_name_fault}
 use Rattle.subj.specs.Messages.{Content}
 use Rattle.route_frames.specs.declared.faults.RouteFault.TheVariants.{BadArgs}
 use Rattle.route_frames.specs.declared.common.TheConstants.{INCARNATION_DIGITS, NUMBER_DIGITS}
 use Rattle.route_frames.specs.declared.line_reading.TheConstants.{WEIGHT_DIGITS, SIZE_DIGITS}
+use Rattle.route_frames.specs.declared.lines.LineBody.{LineBody}
 use Rattle.route_frames.specs.declared.lines.LineBody.TheVariants as said
+use Rattle.route_frames.specs.declared.lines.NumberedLine.{NumberedLine}
 use Rattle.route_frames.specs.CommonFields.{CommonFields, digits_of, numbers_of}
 use Rattle.route_frames.specs.NumberedLines.{plus_line, minus_line, snapshot_line, message_line}
 use Rattle.route_frames.specs.Snapshots.{Weighted}
 use Rattle.route_frames.specs.Canonical.{form_fields}
 use Rattle.route_frames.specs.Spelling.{IsNumber, SpellsWeight}
-use Rattle.route_frames.specs.Valid.{IsKey, IsWeighted, IsMessage}
-use Rattle.route_frames.proofs.NumberedAgain.{digits_spelt, within_again, in_range_again, node_again, subject_again, key_again, weighted_again}
-use Rattle.route_frames.proofs.LinesAgain.{AreEnds, line_spelt, plain_weight, queue_weight}
-use Rattle.route_frames.proofs.MessagesAgain.{fields_again, reply_again, queues_again}
+use Rattle.route_frames.specs.Valid.{IsKey, IsWeighted, IsMessage, IsIncarnation}
+use Rattle.route_frames.proofs.PartsMean.{digits_spelt, numbers_spelt, within_again, in_range_again, node_again, subject_again, key_again, weighted_again}
+use Rattle.route_frames.proofs.MessageForms.{fields_again, reply_again, queues_again}
+
+-- what the ends of a frame have to be
+pub record AreEnds (from to : List ℕ) (inc to_inc number : ℕ) : Type 0 where
+  pub sender : node_name_fault from ≡ None
+  pub receiver : node_name_fault to ≡ None
+  pub life : IsIncarnation inc
+  pub other_life : IsIncarnation to_inc
+  pub most : number ≤ MAX_COUNTER
+
+abbrev pub line_spelt : List ℕ → List ℕ → ℕ → ℕ → ℕ → LineBody → NumberedLine
+line_spelt from to inc to_inc number body = record { from = from; to = to; numbers = numbers_spelt inc to_inc number; body = body }
 
 -- the digits of the common fields
 pub record AreDigits (inc to_inc number : ℕ) : Type 0 where
@@ -40,6 +54,12 @@ numbers_mean from to inc to_inc number are =
     rw (digits_mean INCARNATION_DIGITS are.inc_digits inc are.is_inc, digits_mean INCARNATION_DIGITS are.to_inc_digits to_inc are.is_to_inc, digits_mean NUMBER_DIGITS are.number_digits number are.is_number) refl
 
 -- ---- RS+
+
+pub plain_weight : (weight : ℕ) → nat_eq weight 1 ≡ true → weight ≡ 1
+plain_weight weight is = grind (arith, nat_tests)
+
+pub queue_weight : (weight : ℕ) → (nat_le 1 weight && nat_le weight MAX_WEIGHT) ≡ true → (1 ≤ weight) × (weight ≤ MAX_WEIGHT)
+queue_weight weight is = grind (arith, nat_tests)
 
 plus_by : (from to : List ℕ) (inc to_inc number : ℕ) (are : AreDigits inc to_inc number) (pattern : List ℕ) (queue : Option (List ℕ)) (weight : ℕ) (behind : List (List ℕ)) → AreEnds from to inc to_inc number → 1 ≤ number
     → IsWeighted (record { pattern = pattern; queue = queue }, weight) → SpellsWeight queue weight behind

@@ -1,21 +1,20 @@
 -- What is written of a frame of a route is cut again, and read as that frame.
-use Rattle.std.proofs.Common.{length, refl, ap, arith, Ok}
+use Rattle.std.specs.Prelude.{option_map}
+use Rattle.std.proofs.Common.{length, refl, ap, arith, Ok, unwrap_or, ◌≡◌, ◌∙◌, []}
 use Rattle.route_frames.specs.declared.bodies.Body.{Body}
 use Rattle.route_frames.specs.declared.bodies.Body.TheVariants.{Plus, Minus, Snapshot, Msg}
 use Rattle.route_frames.specs.declared.frames.RouteFrame.{RouteFrame}
 use Rattle.route_frames.specs.declared.frames.RouteFrame.TheVariants.{Info, Connect, Numbered}
-use Rattle.route_frames.specs.Meaning.{◌>>=◌}
-use Rattle.route_frames.specs.Announced.{announced_size}
-use Rattle.route_frames.specs.Decoding.{frame_meaning}
-use Rattle.route_frames.specs.Canonical.{canonical_line, body_payload}
+use Rattle.route_frames.specs.Canonical.{canonical_line, body_payload, canonical_payload}
 use Rattle.route_frames.specs.Snapshots.{snapshot_text}
 use Rattle.route_frames.specs.Valid.{IsBody, IsRouteFrame}
 use Rattle.route_frames.specs.CutAgain.{IsShort, AreLines, ArePayloads, IsCutAgain}
 use Rattle.route_frames.specs.ReadAgain.{IsAnnouncedAgain, IsReadAgain}
 use Rattle.route_frames.proofs.Cuts.{IsShortLine, none_is, line_cut, line_short, snapshot_fits}
+use Rattle.route_frames.specs.Spelling.{body_announces, announces}
+use Rattle.route_frames.proofs.CanonicalSpelt.{canonical_is_spelt}
+use Rattle.route_frames.proofs.WholeMeans.{spelt_is_read, announced_is_told}
 use Rattle.route_frames.proofs.GreetingTexts.{plain_without_cr, info_text, connect_text}
-use Rattle.route_frames.proofs.GreetingsAgain.{info_line, connect_line}
-use Rattle.route_frames.proofs.FramesAgain.{frame_again, announced_again}
 
 -- ---- lines and payloads are short
 
@@ -41,15 +40,23 @@ are_payloads (Info info) is = tt
 are_payloads (Connect connect) is = tt
 are_payloads (Numbered frame) is = payload_short frame.body is.body
 
--- ---- a line and its payload are read as the frame
+-- ---- a line and its payload are read as the frame that they spell
+
+body_announced : (body : Body) → body_announces body (unwrap_or (body_payload body) []) ≡ option_map (λ payload. length payload) (body_payload body)
+body_announced (Plus weighted) = refl
+body_announced (Minus key) = refl
+body_announced (Snapshot keys) = refl
+body_announced (Msg message queues) = refl
+
+announced : (frame : RouteFrame) → announces frame (unwrap_or (canonical_payload frame) []) ≡ option_map (λ payload. length payload) (canonical_payload frame)
+announced (Info info) = refl
+announced (Connect connect) = refl
+announced (Numbered frame) = body_announced frame.body
 
 pub is_announced_again : IsAnnouncedAgain
-is_announced_again (Info info) is = ap (λ meaning. meaning >>= λ line. Ok (announced_size line)) (info_line info is)
-is_announced_again (Connect connect) is = ap (λ meaning. meaning >>= λ line. Ok (announced_size line)) (connect_line connect is)
-is_announced_again (Numbered frame) is = announced_again frame is
+is_announced_again frame is =
+    let spelt = canonical_is_spelt frame is in
+    announced_is_told (canonical_line frame) (announces frame (unwrap_or (canonical_payload frame) [])) (frame, spelt.in_line) ∙ ap (λ size. Ok size) (announced frame)
 
 pub is_read_again : IsReadAgain
-unfolding frame_meaning
-is_read_again (Info info) is = rw (info_line info is) refl
-is_read_again (Connect connect) is = rw (connect_line connect is) refl
-is_read_again (Numbered frame) is = frame_again frame is
+is_read_again frame is = spelt_is_read frame (canonical_line frame) (unwrap_or (canonical_payload frame) []) (canonical_is_spelt frame is)

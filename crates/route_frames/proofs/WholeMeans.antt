@@ -1,5 +1,5 @@
 -- What is spelt is read: a line, and a line with its payload.
-use Rattle.std.proofs.Common.{◌≡◌, ℕ, Bool, true, false, not, ◌||◌, cond, List, [], ◌∷◌, ◌++◌, length, refl, ap, sym, ◌∙◌, arith, Option, Some, None, Ok}
+use Rattle.std.proofs.Common.{◌≡◌, ℕ, Bool, true, false, not, ◌||◌, cond, List, [], ◌∷◌, ◌++◌, length, refl, ap, sym, ◌∙◌, arith, Option, Some, None, Ok, nat_eq, nat_le, Err, ◌≤◌, ◌&&◌}
 use Rattle.std.specs.Prelude.{codes, drop}
 use Rattle.std.specs.Option.{ok_or, option_to_list}
 use Rattle.std.specs.List.{list_any}
@@ -11,7 +11,7 @@ use Rattle.std.proofs.lemmas.Slice.Eq.{bytes_eq-Decides}
 use Rattle.line_fields.specs.Fields.{is_empty, is_blank, is_word, fields, begins_with_field, line_fields}
 use Rattle.line_fields.specs.Spelling.{IsField}
 use Rattle.line_fields.proofs.SpellingFields.{stops, follow_fields, line_fields_are}
-use Rattle.subj.specs.declared.limits.TheConstants.{MAX_PAYLOAD}
+use Rattle.subj.specs.declared.limits.TheConstants.{MAX_PAYLOAD, MAX_COUNTER}
 use Rattle.route_frames.specs.declared.faults.RouteFault.TheVariants.{BadArgs}
 use Rattle.route_frames.specs.declared.bodies.Body.{Body}
 use Rattle.route_frames.specs.declared.bodies.Body.TheVariants.{Plus, Minus, Snapshot, Msg}
@@ -30,16 +30,14 @@ use Rattle.route_frames.specs.CommonFields.{CommonFields}
 use Rattle.route_frames.specs.NumberedLines.{plus_line, minus_line, snapshot_line, message_line}
 use Rattle.route_frames.specs.Lines.{numbered, operation_meaning, fields_meaning, line_meaning}
 use Rattle.route_frames.specs.Announced.{announced_size}
-use Rattle.route_frames.specs.Frames.{Frame}
-use Rattle.route_frames.specs.Decoding.{sized, body_meaning, frame_behind, frame_meaning}
+use Rattle.route_frames.specs.Frames.{Frame, is_number}
+use Rattle.route_frames.specs.Decoding.{sized, body_meaning, frame_behind, frame_meaning, numbered_meaning}
 use Rattle.route_frames.specs.Canonical.{operation_word, form_fields}
 use Rattle.route_frames.specs.Spelling.{SpellsBody, SpellsBehind, body_announces, frame_word, SpellsText, SpellsLine, SpellsPayload, announces}
 use Rattle.route_frames.specs.Readings.{SpeltIsRead, AnnouncedIsTold}
 use Rattle.route_frames.specs.Valid.{IsFrame, IsRouteFrame}
 use Rattle.route_frames.proofs.Behind.{drop_front}
-use Rattle.route_frames.proofs.LinesAgain.{line_spelt}
-use Rattle.route_frames.proofs.FramesAgain.{read_frame, has_size, numbered_from_one, numbered_from_zero, ends_of}
-use Rattle.route_frames.proofs.LinesMean.{AreDigits, common_with, plus_means, minus_means, snapshot_means, message_means}
+use Rattle.route_frames.proofs.LinesMean.{AreEnds, line_spelt, AreDigits, common_with, plus_means, minus_means, snapshot_means, message_means}
 use Rattle.route_frames.proofs.KeysMean.{text_means}
 use Rattle.route_frames.proofs.GreetingsMean.{info_means, connect_means}
 
@@ -118,6 +116,27 @@ op_is_field (Msg message queues) = (refl, refl)
 
 abbrev frame_with : List ℕ → ℕ → List ℕ → ℕ → ℕ → Body → Frame
 frame_with from inc to to_inc number body = record { from = from; inc = inc; to = to; to_inc = to_inc; number = number; body = body }
+
+read_frame : (from to : List ℕ) (inc to_inc number : ℕ) (said : LineBody) (body : Body) (payload : List ℕ) → body_meaning said payload ≡ Ok body → is_number number body ≡ true
+    → numbered_meaning (line_spelt from to inc to_inc number said) payload ≡ Ok (record { from = from; inc = inc; to = to; to_inc = to_inc; number = number; body = body })
+unfolding numbered_meaning
+read_frame from to inc to_inc number said body payload read is =
+    rw read (ap (λ b. ok_or (cond b (Some (record { from = from; inc = inc; to = to; to_inc = to_inc; number = number; body = body })) None) BadArgs) is)
+
+of_size : (n : ℕ) (same : Bool) → nat_eq n n ≡ same → same ≡ true
+of_size n same is = grind (arith, nat_tests)
+
+has_size : (payload : List ℕ) → sized (Some (length payload)) payload ≡ Ok tt
+has_size payload = ap (λ b. cond b (Ok tt) (Err BadArgs)) (of_size (length payload) _ refl)
+
+numbered_from_one : (n : ℕ) → (nat_le n MAX_COUNTER && (nat_le 1 n || false)) ≡ true → (1 ≤ n) × (n ≤ MAX_COUNTER)
+numbered_from_one n is = grind (arith, nat_tests)
+
+numbered_from_zero : (n : ℕ) → (nat_le n MAX_COUNTER && (nat_le 1 n || true)) ≡ true → n ≤ MAX_COUNTER
+numbered_from_zero n is = grind (arith, nat_tests)
+
+ends_of : (frame : Frame) → IsFrame frame → frame.number ≤ MAX_COUNTER → AreEnds frame.from frame.to frame.inc frame.to_inc frame.number
+ends_of frame is most = record { sender = is.from; receiver = is.to; life = is.inc; other_life = is.to_inc; most = most }
 
 -- what the text behind an operation says of a frame, and what is made of it and a payload
 record BodyMeans (text : List ℕ) (all : List (List ℕ)) (frame : Frame) (size : Option ℕ) : Type 0 where

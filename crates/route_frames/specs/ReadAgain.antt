@@ -3,6 +3,7 @@ use Rattle.std.specs.Prelude.{◌≡◌, ℕ, List, [], ◌++◌, length, option
 use Rattle.route_frames.specs.declared.frames.RouteFrame.{RouteFrame}
 use Rattle.route_frames.specs.Canonical.{canonical_line, canonical_payload, frame_bytes}
 use Rattle.route_frames.specs.Decoding.{size_meaning, frame_meaning}
+use Rattle.route_frames.specs.Spelling.{Spells}
 use Rattle.route_frames.specs.Valid.{IsRouteFrame}
 
 -- the line of a frame tells the size of the payload behind it, where there is one
@@ -12,6 +13,10 @@ IsAnnouncedAgain = (frame : RouteFrame) → IsRouteFrame frame → size_meaning 
 -- the canonical spelling of a frame means that frame
 abbrev pub IsReadAgain : Type 0
 IsReadAgain = (frame : RouteFrame) → IsRouteFrame frame → frame_meaning (canonical_line frame) (unwrap_or (canonical_payload frame) []) ≡ Ok frame
+
+-- and spells it
+abbrev pub CanonicalIsSpelt : Type 0
+CanonicalIsSpelt = (frame : RouteFrame) → IsRouteFrame frame → Spells frame (canonical_line frame) (unwrap_or (canonical_payload frame) [])
 
 -- no canonical spelling begins that of another frame
 abbrev pub BeginsNoOther : Type 0

@@ -1,7 +1,7 @@
 //! Laws of the definitions, each the contract of a call that does nothing.
 
 ghost use Rattle.route_frames.specs.CutAgain.{AreLines, ArePayloads, IsCutAgain, IsPayloadCutAgain};
-ghost use Rattle.route_frames.specs.ReadAgain.{IsAnnouncedAgain, IsReadAgain, BeginsNoOther};
+ghost use Rattle.route_frames.specs.ReadAgain.{IsAnnouncedAgain, IsReadAgain, CanonicalIsSpelt, BeginsNoOther};
 ghost use Rattle.route_frames.specs.Readings.{SpeltIsRead, ReadIsSpelt, AnnouncedIsTold, ToldIsAnnounced, SpellsOneFrame, AnnouncesOneSize};
 
 /// What is written of a frame is read as that frame again, whatever follows it: its line is within
@@ -15,6 +15,7 @@ pub fn canonical_is_read_again()
     ensures payloads { ArePayloads }
     ensures payload { IsPayloadCutAgain }
     ensures frame { IsReadAgain }
+    ensures spelt { CanonicalIsSpelt }
 {}
 
 /// No canonical spelling of a frame begins that of another.

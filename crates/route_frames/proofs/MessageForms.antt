@@ -1,22 +1,18 @@
--- The line of a publication is read as what it was spelt from.
-use Rattle.std.proofs.Common.{◌≡◌, ℕ, ◌≤◌, Bool, true, false, ◌&&◌, cond, List, [], ◌∷◌, ◌++◌, length, refl, ap, arith, Option, Some, None, Ok, Err}
-use Rattle.std.specs.Prelude.{nat_lt, nat_le, decimal, codes}
+-- The fields of a publication that are spelt mean what they spell.
+use Rattle.std.proofs.Common.{◌≡◌, ℕ, Bool, true, false, ◌&&◌, cond, List, [], ◌∷◌, ◌++◌, length, refl, ap, arith, Option, Some, None, Ok, Err}
+use Rattle.std.specs.Prelude.{nat_lt, nat_le, codes}
 use Rattle.std.specs.Option.{ok_or}
 use Rattle.std.proofs.lemmas.Bool.Decides.{nat_tests}
-use Rattle.subj.specs.declared.limits.TheConstants.{MAX_PAYLOAD, MAX_QUEUE_NAMES}
-use Rattle.subj.specs.Messages.{Content}
+use Rattle.subj.specs.declared.limits.TheConstants.{MAX_QUEUE_NAMES}
 use Rattle.subj.specs.QueueNames.{are_queue_names, are_rising}
 use Rattle.route_frames.specs.declared.faults.RouteFault.TheVariants.{BadArgs, TooManyQueues}
-use Rattle.route_frames.specs.declared.line_reading.TheConstants.{SIZE_DIGITS}
-use Rattle.route_frames.specs.declared.lines.LineBody.TheVariants as line
 use Rattle.route_frames.specs.Meaning.{◌>>=◌}
 use Rattle.route_frames.specs.Arguments.{MessageFields, message_form, form_split, message_fields}
-use Rattle.route_frames.specs.NumberedLines.{subject_of, optional, are_names, queue_names_in, message_fields_in, message_line}
+use Rattle.route_frames.specs.NumberedLines.{subject_of, optional, are_names, queue_names_in, message_fields_in}
 use Rattle.route_frames.specs.Canonical.{form_fields}
-use Rattle.route_frames.specs.Valid.{AreNames, IsReply, IsMessage}
+use Rattle.route_frames.specs.Valid.{AreNames, IsReply}
 use Rattle.route_frames.proofs.Forms.{split_last-append}
-use Rattle.route_frames.proofs.NumberedAgain.{digits_again, within_again, numbers_again, in_range_again, common_spelt, node_again, subject_again, queue_again}
-use Rattle.route_frames.proofs.LinesAgain.{AreEnds, line_spelt}
+use Rattle.route_frames.proofs.PartsMean.{subject_again, queue_again}
 
 -- ---- the form
 
@@ -50,17 +46,3 @@ queues_again names is are = rw (names_again names is) (ap (λ b. ok_or (cond b (
 pub reply_again : (reply : Option (List ℕ)) → IsReply reply → optional subject_of reply ≡ Ok reply
 reply_again None is = refl
 reply_again (Some reply) is = ap (λ read. read >>= λ value. Ok (Some value)) (subject_again reply is)
-
--- ---- the line
-
-pub message_again : (from to : List ℕ) (inc to_inc number : ℕ) (message : Content) (queues : List (List ℕ)) → AreEnds from to inc to_inc number → 1 ≤ number → IsMessage message queues
-    → message_line (common_spelt from inc to to_inc number) (codes "$G" ∷ message.subject ∷ (form_fields message.reply queues ++ decimal (length message.payload) ∷ []))
-    ≡ Ok (line_spelt from to inc to_inc number (line.Msg message.subject message.reply queues (length message.payload)))
-unfolding message_line
-message_again from to inc to_inc number message queues ends some is =
-    let size = length message.payload in
-    let short = is.payload in
-    let fields = fields_again (codes "$G") message.subject message.reply queues (decimal size) is.ordered in
-    let spelt = digits_again SIZE_DIGITS size (omega arith) (omega arith) (omega arith) in
-    let fits = within_again 0 MAX_PAYLOAD size (omega arith) short in
-    rw (fields, numbers_again from to inc to_inc number ends.life ends.other_life ends.most, spelt, in_range_again 1 inc to_inc number ends.life ends.other_life some ends.most, fits, node_again from ends.sender, node_again to ends.receiver, subject_again message.subject is.subject, reply_again message.reply is.reply, queues_again queues is.names is.ordered) refl

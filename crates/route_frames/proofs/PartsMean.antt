@@ -1,6 +1,6 @@
--- What a numbered frame's canonical spelling means: each part of it is read as that part again.
-use Rattle.std.proofs.Common.{◌≡◌, ℕ, ◌^◌, ◌≤◌, ◌<◌, Bool, true, false, ◌&&◌, ◌||◌, cond, List, refl, ap, ◌∙◌, arith, Option, Some, None, Ok, Err}
-use Rattle.std.specs.Prelude.{nat_lt, nat_le, nat_eq, decimal, is_some}
+-- What single fields that are spelt mean.
+use Rattle.std.proofs.Common.{◌≡◌, ℕ, ◌≤◌, Bool, true, false, ◌&&◌, ◌||◌, cond, List, refl, ap, ◌∙◌, arith, Option, Some, None, Ok, Err}
+use Rattle.std.specs.Prelude.{nat_lt, nat_le, nat_eq, is_some}
 use Rattle.std.specs.Option.{ok_or}
 use Rattle.std.proofs.lemmas.Bool.{le-leb}
 use Rattle.std.proofs.lemmas.Bool.Decides.{nat_tests}
@@ -9,20 +9,15 @@ use Rattle.subj.specs.declared.keys.Key.{Key}
 use Rattle.subj.specs.Names.{node_name_fault, pattern_fault, subject_fault, queue_name_fault}
 use Rattle.subj.specs.Numbers.{incarnation_of}
 use Rattle.route_frames.specs.declared.faults.RouteFault.TheVariants.{BadArgs, BadNumber}
-use Rattle.route_frames.specs.declared.common.TheConstants.{INCARNATION_DIGITS, NUMBER_DIGITS}
 use Rattle.route_frames.specs.declared.common.Digits.{Digits}
 use Rattle.route_frames.specs.declared.common.Numbers.{Numbers}
 use Rattle.route_frames.specs.Meaning.{◌>>=◌}
-use Rattle.route_frames.specs.CommonFields.{CommonFields, digits_of, within, node_of, numbers_of, numbers_in_range}
+use Rattle.route_frames.specs.CommonFields.{within, node_of, numbers_in_range}
 use Rattle.route_frames.specs.NumberedLines.{pattern_of, subject_of, queue_of, optional, key_of}
 use Rattle.route_frames.specs.Snapshots.{Weighted, is_weight, weighted_key}
 use Rattle.route_frames.specs.Valid.{IsQueue, IsKey, IsIncarnation}
-use Rattle.route_frames.proofs.SpeltFields.{number_again}
 
 -- ---- numbers
-
-pub digits_again : (most n : ℕ) → 0 < most → n < 10 ^ most → n < 2 ^ 64 → digits_of most (decimal n) ≡ Ok n
-digits_again most n some short small = ap (λ number. ok_or number BadArgs) (number_again most n some short small)
 
 pub within_again : (least most n : ℕ) → least ≤ n → n ≤ most → within least most n ≡ Ok n
 within_again least most n low high = ap (λ b. cond (b && nat_le n most) (Ok n) (Err BadNumber)) (le-leb least n low) ∙ ap (λ b. cond b (Ok n) (Err BadNumber)) (le-leb n most high)
@@ -38,17 +33,6 @@ digits_spelt inc to_inc number = record { inc = inc; to_inc = to_inc; number = n
 
 abbrev pub numbers_spelt : ℕ → ℕ → ℕ → Numbers
 numbers_spelt inc to_inc number = record { inc = inc; to_inc = to_inc; number = number }
-
-abbrev pub common_spelt : List ℕ → ℕ → List ℕ → ℕ → ℕ → CommonFields
-common_spelt from inc to to_inc number = record { from = from; inc = decimal inc; to = to; to_inc = decimal to_inc; number = decimal number }
-
-pub numbers_again : (from to : List ℕ) (inc to_inc number : ℕ) → IsIncarnation inc → IsIncarnation to_inc → number ≤ MAX_COUNTER → numbers_of (common_spelt from inc to to_inc number) ≡ Ok (digits_spelt inc to_inc number)
-unfolding numbers_of
-numbers_again from to inc to_inc number is is_too most =
-    let one = digits_again INCARNATION_DIGITS inc (omega arith) (let m = is.most in omega arith) (let m = is.most in omega arith) in
-    let two = digits_again INCARNATION_DIGITS to_inc (omega arith) (let m = is_too.most in omega arith) (let m = is_too.most in omega arith) in
-    let three = digits_again NUMBER_DIGITS number (omega arith) (omega arith) (omega arith) in
-    rw (one, two, three) refl
 
 pub in_range_again : (least inc to_inc number : ℕ) → IsIncarnation inc → IsIncarnation to_inc → least ≤ number → number ≤ MAX_COUNTER → numbers_in_range least (digits_spelt inc to_inc number) ≡ Ok (numbers_spelt inc to_inc number)
 unfolding numbers_in_range
