@@ -1,19 +1,18 @@
 -- What is written is read again.
 use Rattle.std.specs.Prelude.{◌≡◌, ℕ, List, [], ◌++◌, length, option_map, unwrap_or, Ok}
-use Rattle.route_frames.specs.declared.frames.RouteFrame.TheVariants.{Numbered}
-use Rattle.route_frames.specs.Frames.{Frame}
-use Rattle.route_frames.specs.Canonical.{numbered_line, body_payload, frame_bytes}
+use Rattle.route_frames.specs.declared.frames.RouteFrame.{RouteFrame}
+use Rattle.route_frames.specs.Canonical.{canonical_line, canonical_payload, frame_bytes}
 use Rattle.route_frames.specs.Decoding.{size_meaning, frame_meaning}
-use Rattle.route_frames.specs.Valid.{IsFrame}
+use Rattle.route_frames.specs.Valid.{IsRouteFrame}
 
--- the line of a numbered frame tells the size of the payload behind it, where there is one
+-- the line of a frame tells the size of the payload behind it, where there is one
 abbrev pub IsAnnouncedAgain : Type 0
-IsAnnouncedAgain = (frame : Frame) → IsFrame frame → size_meaning (numbered_line frame) ≡ Ok (option_map (λ payload. length payload) (body_payload frame.body))
+IsAnnouncedAgain = (frame : RouteFrame) → IsRouteFrame frame → size_meaning (canonical_line frame) ≡ Ok (option_map (λ payload. length payload) (canonical_payload frame))
 
--- the canonical spelling of a numbered frame means that frame
+-- the canonical spelling of a frame means that frame
 abbrev pub IsReadAgain : Type 0
-IsReadAgain = (frame : Frame) → IsFrame frame → frame_meaning (numbered_line frame) (unwrap_or (body_payload frame.body) []) ≡ Ok (Numbered frame)
+IsReadAgain = (frame : RouteFrame) → IsRouteFrame frame → frame_meaning (canonical_line frame) (unwrap_or (canonical_payload frame) []) ≡ Ok frame
 
--- no canonical spelling of a numbered frame begins that of another
+-- no canonical spelling begins that of another frame
 abbrev pub BeginsNoOther : Type 0
-BeginsNoOther = (one other : Frame) (rest more : List ℕ) → IsFrame one → IsFrame other → frame_bytes (Numbered one) ++ rest ≡ frame_bytes (Numbered other) ++ more → one ≡ other
+BeginsNoOther = (one other : RouteFrame) (rest more : List ℕ) → IsRouteFrame one → IsRouteFrame other → frame_bytes one ++ rest ≡ frame_bytes other ++ more → one ≡ other

@@ -7,6 +7,9 @@ use Rattle.subj.specs.Names.{node_name_fault, pattern_fault, subject_fault, queu
 use Rattle.subj.specs.QueueNames.{are_queue_names}
 use Rattle.route_frames.specs.declared.bodies.Body.{Body}
 use Rattle.route_frames.specs.declared.bodies.Body.TheVariants.{Plus, Minus, Snapshot, Msg}
+use Rattle.route_frames.specs.declared.frames.RouteFrame.{RouteFrame}
+use Rattle.route_frames.specs.declared.frames.RouteFrame.TheVariants as route
+use Rattle.route_frames.specs.Records.{Info, Connect, is_serial}
 use Rattle.route_frames.specs.Frames.{Frame, is_number}
 use Rattle.route_frames.specs.Snapshots.{Weighted, is_weight, are_snapshot_keys}
 
@@ -62,3 +65,19 @@ pub record IsFrame (frame : Frame) : Type 0 where
   pub to_inc : IsIncarnation frame.to_inc
   pub number : is_number frame.number frame.body ≡ true
   pub body : IsBody frame.body
+
+pub record IsInfo (info : Info) : Type 0 where
+  pub server_name : node_name_fault info.server_name ≡ None
+  pub inc : IsIncarnation info.inc
+
+pub record IsConnect (connect : Connect) : Type 0 where
+  pub server_name : node_name_fault connect.server_name ≡ None
+  pub inc : IsIncarnation connect.inc
+  pub to : node_name_fault connect.to ≡ None
+  pub to_inc : IsIncarnation connect.to_inc
+  pub serial : is_serial connect.serial ≡ true
+
+abbrev pub IsRouteFrame : RouteFrame → Type 0
+IsRouteFrame (route.Info info) = IsInfo info
+IsRouteFrame (route.Connect connect) = IsConnect connect
+IsRouteFrame (route.Numbered frame) = IsFrame frame
