@@ -13,3 +13,4 @@ pub mod TextsAgain
 pub mod FramesAgain
 pub mod Cuts
 pub mod Beginnings
+pub mod InStream

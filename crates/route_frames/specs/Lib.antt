@@ -18,3 +18,4 @@ pub mod Canonical
 pub mod Valid
 pub mod ReadAgain
 pub mod CutAgain
+pub mod InStream

@@ -25,7 +25,7 @@ pub use encoding::encode;
 pub use faults::RouteFault;
 pub use frames::{Numbered, RouteFrame};
 pub use info::RouteInfo;
-pub use laws::{canonical_is_read_again, spelling_begins_no_other};
+pub use laws::{canonical_is_read_again, spelling_begins_no_other, written_is_read_in_any_feeds};
 pub use reading::{decode, payload_size};
 pub use snapshots::{SnapshotKeys, WeightedKey};
 
