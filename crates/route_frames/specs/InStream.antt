@@ -82,8 +82,7 @@ AreRouteFrames (frame ∷ frames) = IsRouteFrame frame × AreRouteFrames frames
 abbrev pub AreCutInAnyFeeds : Type 0
 AreCutInAnyFeeds = (frames : List RouteFrame) (rest : List ℕ) (feeds : List (List ℕ)) → AreRouteFrames frames
     → concat feeds ≡ flat_map frame_bytes frames ++ rest
-    → (let pieces : List StreamPiece = flat_map frame_pieces frames in
-    stream_in feeds ≡ with_pieces pieces (stream_of route_grammar (ready (ends_with_line false pieces) rest)))
+    → stream_in feeds ≡ with_pieces (flat_map frame_pieces frames) (stream_of route_grammar (ready (ends_with_line false (flat_map frame_pieces frames)) rest))
 
 -- the pieces of frames spell these frames
 abbrev pub AreFramesInPieces : Type 0

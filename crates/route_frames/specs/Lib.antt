@@ -15,6 +15,7 @@ pub mod Lines
 pub mod SnapshotTexts
 pub mod Decoding
 pub mod Canonical
+pub mod ValidKeys
 pub mod Valid
 pub mod ReadAgain
 pub mod CutAgain

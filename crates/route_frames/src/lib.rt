@@ -18,6 +18,7 @@ mod operation;
 mod reading;
 mod snapshot_reading;
 mod snapshots;
+mod valid;
 
 pub use bodies::Body;
 pub use connect::RouteConnect;
