@@ -14,3 +14,4 @@ pub mod FramesAgain
 pub mod Cuts
 pub mod Beginnings
 pub mod InStream
+mod Values

@@ -61,7 +61,7 @@ ready after_line unread = record {
   payload_max = MAX_SNAPSHOT;
 }
 
--- whether the piece given last is a line, where one was or none was given before
+-- whether the piece given last is a line; where none was given, it is as before
 abbrev pub ends_with_line : Bool → List StreamPiece → Bool
 ends_with_line before [] = before
 ends_with_line before (piece ∷ pieces) = ends_with_line (is_line piece) pieces

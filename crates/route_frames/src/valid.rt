@@ -3,6 +3,7 @@
 ghost use Rattle.std.specs.Prelude.{◌≡◌, None};
 ghost use Rattle.std.specs.Option.{option_copied};
 ghost use Rattle.subj.specs.Names.{node_name_fault};
+ghost use Rattle.route_frames.specs.InStream.{AreRouteFrames};
 ghost use Rattle.route_frames.specs.Valid.{IsReply, IsMessage, IsBody, IsIncarnation, IsFrame, IsInfo, IsConnect, IsRouteFrame};
 
 use crate::bodies::Body;
@@ -32,6 +33,7 @@ fn is_reply(reply: Option<&Reply>)
     }
 }
 
+#[tactic(auto, using(crate::proofs::Values::names_from_all))]
 fn is_message(message: &Message, queues: &QueueNames)
     ensures { IsMessage message.now queues.now }
 {
@@ -95,6 +97,16 @@ impl RouteFrame {
             RouteFrame::Info(info) => is_info(info),
             RouteFrame::Connect(connect) => is_connect(connect),
             RouteFrame::Numbered(frame) => is_frame(frame),
+        }
+    }
+    /// Any frames hold only what can be spelt. The call walks over them, and changes nothing.
+    pub fn all_can_be_spelt(frames: &[RouteFrame])
+        ensures { AreRouteFrames frames.now }
+    {
+        let mut frames = frames;
+        while let Some((frame, others)) = frames.split_first() {
+            frame.can_be_spelt();
+            frames = others;
         }
     }
 }
