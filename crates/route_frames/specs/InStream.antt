@@ -1,5 +1,5 @@
 -- Frames in a stream: what is written one behind the other is read again, however the bytes come.
-use Rattle.std.specs.Prelude.{◌≡◌, ℕ, Bool, true, false, List, [], ◌∷◌, ◌++◌, Option, Some, None, Ok, Err}
+use Rattle.std.specs.Prelude.{◌≡◌, ℕ, Bool, false, List, [], ◌∷◌, ◌++◌, Option, Some, None, Ok, Err}
 use Rattle.std.specs.List.{concat, flat_map}
 use Rattle.subj.specs.declared.limits.TheConstants.{ROUTE_LINE, MAX_SNAPSHOT}
 use Rattle.wire_cut.specs.Cut.{CutterState, StreamPiece, line, payload, is_line, new_cutter}

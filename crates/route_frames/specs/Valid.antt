@@ -1,9 +1,8 @@
 -- Frames that hold only what can be spelt, as the values of the types do.
 use Rattle.std.specs.Prelude.{◌≡◌, ℕ, ◌≤◌, true, List, [], ◌∷◌, length, Option, Some, None}
 use Rattle.subj.specs.declared.limits.TheConstants.{MAX_INCARNATION, MAX_PAYLOAD}
-use Rattle.subj.specs.declared.keys.Key.{Key}
 use Rattle.subj.specs.Messages.{Content}
-use Rattle.subj.specs.Names.{node_name_fault, pattern_fault, subject_fault, queue_name_fault}
+use Rattle.subj.specs.Names.{node_name_fault, subject_fault, queue_name_fault}
 use Rattle.subj.specs.QueueNames.{are_queue_names}
 use Rattle.route_frames.specs.declared.bodies.Body.{Body}
 use Rattle.route_frames.specs.declared.bodies.Body.TheVariants.{Plus, Minus, Snapshot, Msg}
