@@ -33,3 +33,5 @@ pub mod GreetingsMean
 pub mod WholeMeans
 pub mod Answered
 pub mod CanonicalSpelt
+pub mod InStream
+mod Values

@@ -15,6 +15,7 @@ pub mod Lines
 pub mod SnapshotTexts
 pub mod Decoding
 pub mod Canonical
+pub mod ValidKeys
 pub mod Valid
 pub mod Spelling
 pub mod Causes
@@ -22,3 +23,4 @@ pub mod Refusals
 pub mod Readings
 pub mod ReadAgain
 pub mod CutAgain
+pub mod InStream

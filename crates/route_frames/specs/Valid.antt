@@ -1,9 +1,8 @@
 -- Frames that hold only what can be spelt, as the values of the types do.
 use Rattle.std.specs.Prelude.{◌≡◌, ℕ, ◌≤◌, true, List, [], ◌∷◌, length, Option, Some, None}
 use Rattle.subj.specs.declared.limits.TheConstants.{MAX_INCARNATION, MAX_PAYLOAD}
-use Rattle.subj.specs.declared.keys.Key.{Key}
 use Rattle.subj.specs.Messages.{Content}
-use Rattle.subj.specs.Names.{node_name_fault, pattern_fault, subject_fault, queue_name_fault}
+use Rattle.subj.specs.Names.{node_name_fault, subject_fault, queue_name_fault}
 use Rattle.subj.specs.QueueNames.{are_queue_names}
 use Rattle.route_frames.specs.declared.bodies.Body.{Body}
 use Rattle.route_frames.specs.declared.bodies.Body.TheVariants.{Plus, Minus, Snapshot, Msg}
@@ -11,27 +10,8 @@ use Rattle.route_frames.specs.declared.frames.RouteFrame.{RouteFrame}
 use Rattle.route_frames.specs.declared.frames.RouteFrame.TheVariants as route
 use Rattle.route_frames.specs.Records.{Info, Connect, is_serial}
 use Rattle.route_frames.specs.Frames.{Frame, is_number}
-use Rattle.route_frames.specs.Snapshots.{Weighted, is_weight, are_snapshot_keys}
-
-abbrev pub IsQueue : Option (List ℕ) → Type 0
-IsQueue None = Unit {0}
-IsQueue (Some queue) = queue_name_fault queue ≡ None
-
-pub record IsKey (key : Key) : Type 0 where
-  pub pattern : pattern_fault key.pattern ≡ None
-  pub queue : IsQueue key.queue
-
-pub record IsWeighted (weighted : Weighted) : Type 0 where
-  pub key : IsKey weighted.0
-  pub weight : is_weight weighted.0 weighted.1 ≡ true
-
-abbrev pub AreWeighted : List Weighted → Type 0
-AreWeighted [] = Unit {0}
-AreWeighted (weighted ∷ others) = IsWeighted weighted × AreWeighted others
-
-pub record AreSnapshotKeys (keys : List Weighted) : Type 0 where
-  pub each : AreWeighted keys
-  pub ordered : are_snapshot_keys keys ≡ true
+pub use Rattle.route_frames.specs.ValidKeys.{IsKey, IsWeighted, AreSnapshotKeys}
+unfoldable pub use Rattle.route_frames.specs.ValidKeys.{IsQueue, AreWeighted}
 
 abbrev pub AreNames : List (List ℕ) → Type 0
 AreNames [] = Unit {0}

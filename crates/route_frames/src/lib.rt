@@ -18,6 +18,7 @@ mod operation;
 mod reading;
 mod snapshot_reading;
 mod snapshots;
+mod valid;
 
 pub use bodies::Body;
 pub use connect::RouteConnect;
@@ -25,7 +26,10 @@ pub use encoding::encode;
 pub use faults::RouteFault;
 pub use frames::{Numbered, RouteFrame};
 pub use info::RouteInfo;
-pub use laws::{canonical_is_read_again, spelling_begins_no_other, spelt_is_what_is_read};
+pub use laws::{
+    canonical_is_read_again, spelling_begins_no_other, spelt_is_what_is_read,
+    written_is_read_in_any_feeds,
+};
 pub use reading::{decode, payload_size};
 pub use snapshots::{SnapshotKeys, WeightedKey};
 

@@ -1,6 +1,7 @@
 //! Keys with their weights, and the keys of a snapshot.
 
 ghost use Rattle.std.specs.Prelude.{◌≡◌, ◌^◌, ◌<◌, true, [], length, IfOk};
+ghost use Rattle.route_frames.specs.ValidKeys.{IsKey, IsWeighted, AreWeighted, AreSnapshotKeys};
 ghost use Rattle.route_frames.specs.Snapshots.{is_weight as weighs, weighted_key, queue_fields, key_line, is_before_first as before_first, are_rising as rising, is_short as short, are_snapshot_keys, snapshot_of};
 
 use itoa::Buffer;
@@ -19,15 +20,25 @@ pub struct WeightedKey {
 }
 
 impl Model for WeightedKey {
-    ghost use Rattle.std.specs.Prelude.{◌≡◌, ℕ, true};
+    ghost use Rattle.std.specs.Prelude.{ℕ};
     ghost use Rattle.subj.specs.declared.keys.Key.{Key};
-    ghost use Rattle.route_frames.specs.Snapshots.{is_weight};
+    ghost use Rattle.route_frames.specs.ValidKeys.{IsWeighted};
 
     ghost Value = { Key × ℕ };
 
     ghost view = { λ weighted. (weighted.key, weighted.weight) };
 
-    ghost invariant = { λ weighted. is_weight weighted.key weighted.weight ≡ true };
+    ghost invariant = { λ weighted. IsWeighted (weighted.key, weighted.weight) };
+}
+
+/// A key holds names by its type. The call does nothing: its contract says this.
+pub(crate) fn key_holds_names(key: &Key)
+    ensures { IsKey key.now }
+{
+    let _pattern = key.pattern.bytes();
+    if let Some(queue) = &key.queue {
+        let _queue = queue.bytes();
+    }
 }
 
 /// Whether a key may have the weight.
@@ -46,6 +57,7 @@ impl WeightedKey {
     pub fn new(key: Key, weight: u64) -> Option<WeightedKey>
         ensures { result ≡ weighted_key key weight }
     {
+        key_holds_names(&key);
         if !is_weight(&key, weight) {
             return None;
         }
@@ -54,7 +66,8 @@ impl WeightedKey {
 
     /// The key.
     pub fn key(&self) -> &Key
-        ensures { result.now ≡ self.now.0 }
+        ensures same { result.now ≡ self.now.0 }
+        ensures valid { IsKey self.now.0 }
     {
         &self.key
     }
@@ -116,17 +129,20 @@ fn is_short(keys: &[WeightedKey]) -> bool
 
 /// Whether the key stands before the first of the others.
 fn is_before_first(entry: &WeightedKey, others: &[WeightedKey]) -> bool
-    ensures { result ≡ before_first entry.now others.now }
+    ensures same { result ≡ before_first entry.now others.now }
+    ensures valid { IsWeighted entry.now }
 {
+    let key = &entry.key;
     match others.first() {
         None => true,
-        Some(other) => entry.key.order(&other.key).is_lt(),
+        Some(other) => key.order(&other.key).is_lt(),
     }
 }
 
 /// Whether the keys stand in strictly rising order.
 fn are_rising(keys: &[WeightedKey]) -> bool
-    ensures { result ≡ rising keys.now }
+    ensures same { result ≡ rising keys.now }
+    ensures valid { result ≡ true → AreWeighted keys.now }
 {
     let mut keys = keys;
     while let Some((entry, others)) = keys.split_first() {
@@ -149,15 +165,15 @@ pub struct SnapshotKeys {
 }
 
 impl Model for SnapshotKeys {
-    ghost use Rattle.std.specs.Prelude.{◌≡◌, ℕ, List, true};
+    ghost use Rattle.std.specs.Prelude.{ℕ, List};
     ghost use Rattle.subj.specs.declared.keys.Key.{Key};
-    ghost use Rattle.route_frames.specs.Snapshots.{are_snapshot_keys};
+    ghost use Rattle.route_frames.specs.ValidKeys.{AreSnapshotKeys};
 
     ghost Value = { List (Key × ℕ) };
 
     ghost view = { λ snapshot. snapshot.keys.items };
 
-    ghost invariant = { λ snapshot. are_snapshot_keys snapshot.keys.items ≡ true };
+    ghost invariant = { λ snapshot. AreSnapshotKeys snapshot.keys.items };
 }
 
 impl SnapshotKeys {
@@ -185,6 +201,7 @@ impl SnapshotKeys {
     pub fn as_slice(&self) -> &[WeightedKey]
         ensures same { result.now ≡ self.now }
         ensures valid { are_snapshot_keys self.now ≡ true }
+        ensures keys { AreWeighted self.now }
     {
         self.keys.as_slice()
     }

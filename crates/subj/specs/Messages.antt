@@ -1,5 +1,5 @@
 -- The content of a publication.
-use Rattle.std.specs.Prelude.{ℕ, Bool, nat_le, List, length, Option, Some, None, if◌then◌else◌}
+use Rattle.std.specs.Prelude.{ℕ, nat_le, List, length, Option, Some, None, if◌then◌else◌}
 use Rattle.subj.specs.declared.limits.TheConstants.{MAX_PAYLOAD}
 
 -- NATS documentation, "Client Protocol": what `PUB` publishes and `MSG` delivers

@@ -1,5 +1,5 @@
 -- Numbers within their limits.
-use Rattle.std.specs.Prelude.{ℕ, Bool, nat_lt, nat_le, nat_eq, ◌||◌, ◌+◌, ◌-◌, List, replicate, slice_get, unwrap_or, Option, Some, None, if◌then◌else◌}
+use Rattle.std.specs.Prelude.{ℕ, nat_lt, nat_eq, ◌||◌, ◌+◌, ◌-◌, List, replicate, slice_get, unwrap_or, Option, Some, None, if◌then◌else◌}
 use Rattle.subj.specs.declared.limits.TheConstants.{MAX_INCARNATION, MAX_COUNTER, MAX_SHARDS}
 
 -- an incarnation is 1 to its limit (profile)

@@ -2,7 +2,7 @@
 use Rattle.std.specs.Prelude.{ℕ, Bool, List, Option}
 use Rattle.std.specs.Option.{option_map}
 use Rattle.subj.specs.declared.messages.Pub.{Pub}
-use Rattle.subj.specs.Messages.{Content, content_of}
+use Rattle.subj.specs.Messages.{content_of}
 
 abbrev pub published : List ℕ → Option (List ℕ) → List ℕ → Bool → Option Pub
 published subject reply payload echo = option_map (λ content. record { message = content; echo = echo }) (content_of subject reply payload)

@@ -1,8 +1,9 @@
 -- Lists of queue names.
-use Rattle.std.specs.Prelude.{ℕ, Bool, true, ◌&&◌, nat_le, List, [], ◌∷◌, length, Option, Some, None, if◌then◌else◌}
+use Rattle.std.specs.Prelude.{◌≡◌, ℕ, Bool, true, ◌&&◌, nat_le, List, [], ◌∷◌, length, All, Option, Some, None, if◌then◌else◌}
 use Rattle.std.specs.Cmp.Lexicographic.{slice_cmp}
 use Rattle.std.specs.Ordering.{is_lt, nat_cmp}
 use Rattle.subj.specs.declared.limits.TheConstants.{MAX_QUEUE_NAMES}
+use Rattle.subj.specs.Names.{queue_name_fault}
 
 -- the order of bytes
 abbrev pub is_before : List ℕ → List ℕ → Bool
@@ -22,3 +23,11 @@ are_queue_names names = nat_le (length names) MAX_QUEUE_NAMES && are_rising name
 
 abbrev pub queue_names_of : List (List ℕ) → Option (List (List ℕ))
 queue_names_of names = if are_queue_names names then Some names else None
+
+abbrev pub IsQueueName : List ℕ → Type 0
+IsQueueName name = queue_name_fault name ≡ None
+
+-- they are in order, and each is a queue name
+pub record AreQueueNames (names : List (List ℕ)) : Type 0 where
+  pub ordered : are_queue_names names ≡ true
+  pub each : All IsQueueName names

@@ -1,7 +1,7 @@
 //! A publication on its way through a server.
 
-ghost use Rattle.std.specs.Prelude.{◌≡◌, ◌≤◌, ◌∷◌, [], length, IfOk};
-ghost use Rattle.subj.specs.QueueNames.{are_rising as rising, is_before_first as before_first, queue_names_of};
+ghost use Rattle.std.specs.Prelude.{◌≡◌, ◌≤◌, ◌∷◌, [], length, true, All, IfOk};
+ghost use Rattle.subj.specs.QueueNames.{IsQueueName, are_rising as rising, is_before_first as before_first, are_queue_names, queue_names_of};
 
 use crate::identities::{ConnId, PubId};
 use crate::limits::MAX_QUEUE_NAMES;
@@ -13,17 +13,20 @@ use std::marker::Model;
 
 /// Whether the name stands before the first of the others, in the order of bytes.
 fn is_before_first(name: &QueueName, others: &[QueueName]) -> bool
-    ensures { result ≡ before_first name.now others.now }
+    ensures same { result ≡ before_first name.now others.now }
+    ensures valid { IsQueueName name.now }
 {
+    let bytes = name.bytes();
     match others.first() {
         None => true,
-        Some(other) => name.bytes().cmp(other.bytes()).is_lt(),
+        Some(other) => bytes.cmp(other.bytes()).is_lt(),
     }
 }
 
 /// Whether the names stand in strictly rising order of bytes.
 fn are_rising(names: &[QueueName]) -> bool
-    ensures { result ≡ rising names.now }
+    ensures same { result ≡ rising names.now }
+    ensures valid { result ≡ true → All IsQueueName names.now }
 {
     let mut names = names;
     while let Some((name, others)) = names.split_first() {
@@ -45,14 +48,14 @@ pub struct QueueNames {
 }
 
 impl Model for QueueNames {
-    ghost use Rattle.std.specs.Prelude.{◌≡◌, ℕ, List, true};
-    ghost use Rattle.subj.specs.QueueNames.{are_queue_names};
+    ghost use Rattle.std.specs.Prelude.{ℕ, List};
+    ghost use Rattle.subj.specs.QueueNames.{AreQueueNames};
 
     ghost Value = { List (List ℕ) };
 
     ghost view = { λ names. names.names.items };
 
-    ghost invariant = { λ names. are_queue_names names.names.items ≡ true };
+    ghost invariant = { λ names. AreQueueNames names.names.items };
 }
 
 impl QueueNames {
@@ -78,7 +81,9 @@ impl QueueNames {
 
     /// The names, in order.
     pub fn as_slice(&self) -> &[QueueName]
-        ensures { result.now ≡ self.now }
+        ensures same { result.now ≡ self.now }
+        ensures valid { are_queue_names self.now ≡ true }
+        ensures names { All IsQueueName self.now }
     {
         self.names.as_slice()
     }

@@ -1,10 +1,14 @@
 use Rattle.std.proofs.Common.{◌≡◌, length}
 use Rattle.route_frames.specs.Snapshots.{are_rising}
+use Rattle.route_frames.specs.ValidKeys.{AreWeighted}
 use Rattle.route_frames.proofs.snapshots.are_rising.Given as goal
 
--- what is left decides as the whole does
+-- what is left decides as the whole does, and all have their weights where what is left have
 abbrev pub invariant-loop-entry : goal.invariant-loop-entry
-invariant-loop-entry l = are_rising l.keys ≡ are_rising l.fn.keys
+invariant-loop-entry l = record {
+  decides : are_rising l.keys ≡ are_rising l.fn.keys;
+  weighted : AreWeighted l.keys → AreWeighted l.fn.keys;
+}
 
 abbrev pub decreases-loop-entry : goal.decreases-loop-entry
 decreases-loop-entry l = length l.keys

@@ -1,4 +1,4 @@
-use Rattle.std.proofs.Common.{sym, ◌∙◌}
+use Rattle.std.proofs.Common.{sym}
 use Rattle.subj.proofs.Tokens.{tokens_without_dot, tokens_around_dot}
 use Rattle.subj.proofs.names.split_token.Goals as goal
 
