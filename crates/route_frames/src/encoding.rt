@@ -24,6 +24,9 @@ const CR_LF: &[u8] = b"\r\n";
 
 const BLANK: &[u8] = b" ";
 
+/// How many bytes a line has room for at first; most lines are shorter.
+const LINE_ROOM: usize = 256;
+
 /// The one account that there is. (Profile.)
 const ACCOUNT: &[u8] = b"$G";
 
@@ -248,48 +251,41 @@ fn operation(body: &Body) -> &'static [u8]
     }
 }
 
-/// Appends the number of bytes of a snapshot's text.
-fn put_snapshot_len(line: &mut Vec<u8>, keys: &SnapshotKeys) -> Result<(), AllocError>
-    ensures { OnOk result (line.new.items ≡ line.old.items ++ spaced (body_fields (Snapshot keys.now))) }
+/// The line of a numbered frame as far as all of them are alike.
+fn begun_line(alloc: Global, frame: &Numbered) -> Result<Vec<u8>, AllocError>
+    ensures { IfOk result (λ line. line.items ≡ operation_word frame.now.body ++ spaced (common_of frame.now)) }
 {
-    let text = snapshot_text(*line.allocator(), keys)?;
-    put_number(line, text.len() as u64)
-}
-
-fn put_body(line: &mut Vec<u8>, body: &Body) -> Result<(), AllocError>
-    ensures { OnOk result (line.new.items ≡ line.old.items ++ spaced (body_fields body.now)) }
-{
-    match body {
-        Body::Plus(weighted) => put_plus(line, weighted),
-        Body::Minus(key) => put_minus(line, key),
-        Body::Snapshot(keys) => put_snapshot_len(line, keys),
-        Body::Msg { message, queues } => put_message(line, message, queues),
-    }
-}
-
-#[tactic(auto, unfolding(crate::specs::Canonical::numbered_line))]
-fn line_of_numbered(alloc: Global, frame: &Numbered) -> Result<Vec<u8>, AllocError>
-    ensures { IfOk result (λ line. line.items ≡ numbered_line frame.now) }
-{
-    let mut line = Vec::from_slice(alloc, operation(frame.body()))?;
+    let mut line = Vec::with_capacity(alloc, LINE_ROOM)?;
+    line.extend_from_slice(operation(frame.body()))?;
     put_common(&mut line, frame)?;
-    put_body(&mut line, frame.body())?;
     Ok(line)
 }
 
+#[tactic(auto, unfolding(crate::specs::Canonical::numbered_line))]
 fn encode_numbered(frame: &Numbered, out: &mut Vec<u8>) -> Result<(), AllocError>
     ensures { out.new.items
         ≡ (if is_ok result then out.old.items ++ frame_bytes (route.Numbered frame.now) else out.old.items) }
 {
     let alloc = *out.allocator();
-    let line = line_of_numbered(alloc, frame)?;
+    let mut line = begun_line(alloc, frame)?;
     match frame.body() {
-        Body::Plus(_) | Body::Minus(_) => append_line(&line, out),
+        Body::Plus(weighted) => {
+            put_plus(&mut line, weighted)?;
+            append_line(&line, out)
+        }
+        Body::Minus(key) => {
+            put_minus(&mut line, key)?;
+            append_line(&line, out)
+        }
         Body::Snapshot(keys) => {
             let text = snapshot_text(alloc, keys)?;
+            put_number(&mut line, text.len() as u64)?;
             append_frame(&line, &text, out)
         }
-        Body::Msg { message, .. } => append_frame(&line, message.payload().as_slice(), out),
+        Body::Msg { message, queues } => {
+            put_message(&mut line, message, queues)?;
+            append_frame(&line, message.payload().as_slice(), out)
+        }
     }
 }
 
