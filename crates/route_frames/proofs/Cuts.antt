@@ -1,5 +1,5 @@
 -- Where the canonical spelling of a numbered frame is cut.
-use Rattle.std.proofs.Common.{◌≡◌, ℕ, suc, ◌+◌, ◌*◌, ◌^◌, ◌≤◌, ◌<◌, Bool, true, false, ◌&&◌, ◌||◌, cond, List, [], ◌∷◌, ◌++◌, length, take, drop, refl, ap, sym, ◌∙◌, arith, append_assoc, length-append, Option, Some, None, Ok}
+use Rattle.std.proofs.Common.{◌≡◌, ℕ, suc, ◌+◌, ◌*◌, ◌^◌, ◌≤◌, ◌<◌, Bool, true, false, ◌&&◌, cond, List, [], ◌∷◌, ◌++◌, length, take, drop, refl, ap, ◌∙◌, arith, length-append, Option, Some, None, Ok}
 use Rattle.std.specs.Prelude.{nat_le, nat_lt, nat_eq, decimal, codes}
 use Rattle.std.specs.Option.{option_map, option_to_list}
 use Rattle.std.specs.List.{list_any}
@@ -7,7 +7,7 @@ use Rattle.std.specs.Char.{is_ascii_digit}
 use Rattle.std.proofs.lemmas.Bool.{le-leb}
 use Rattle.std.proofs.lemmas.Bool.Decides.{nat_tests}
 use Rattle.std.proofs.lemmas.Fmt.{length-decimal-le}
-use Rattle.subj.specs.declared.limits.TheConstants.{MAX_COUNTER, MAX_WEIGHT, MAX_SNAPSHOT, MAX_QUEUE_NAMES, MAX_SUBJECT, MAX_QUEUE_NAME, MAX_NODE_NAME, ROUTE_LINE}
+use Rattle.subj.specs.declared.limits.TheConstants.{MAX_COUNTER, MAX_QUEUE_NAMES, MAX_SUBJECT, MAX_QUEUE_NAME, MAX_NODE_NAME, ROUTE_LINE}
 use Rattle.subj.specs.Names as names
 use Rattle.subj.specs.Messages.{Content}
 use Rattle.subj.specs.QueueNames.{are_rising}
@@ -22,7 +22,8 @@ use Rattle.route_frames.specs.Valid.{IsKey, IsWeighted, AreNames, IsReply, IsMes
 use Rattle.route_frames.specs.CutAgain.{IsPayloadCutAgain}
 use Rattle.route_frames.proofs.Behind.{drop_front}
 use Rattle.route_frames.proofs.SpeltFields.{all_digits, queue_plain, pattern_plain, subject_plain, subject_short, pattern_short, queue_short, node_short, node_without_cr}
-use Rattle.route_frames.proofs.Cutting.{lacks, digits_lack, none_in_both, take_front}
+use Rattle.route_frames.proofs.FrameFields.{spaced-append, weight_fits, snapshot_fits}
+use Rattle.route_frames.proofs.Cutting.{none_of_two, lacks, digits_lack, none_in_both, take_front}
 
 abbrev pub is_cr : ℕ → Bool
 is_cr byte = nat_eq byte 13
@@ -39,10 +40,6 @@ here : (x : ℕ) (xs : List ℕ) → is_cr x ≡ false → begins_with_cr_lf (x 
 here x xs e = begins_with_cr_lf-no (x ∷ xs) (λ at. let cr : x ≡ 13 = at.cr in absurd (other x cr e)) where
   other : (x : ℕ) → x ≡ 13 → is_cr x ≡ false → ⊥
   other x cr e = grind (arith, nat_tests)
-
-none_of_two : (a b : Bool) → (a || b) ≡ false → (a ≡ false) × (b ≡ false)
-none_of_two true b e = absurd (cc)
-none_of_two false b e = (refl, e)
 
 first_is : (text rest : List ℕ) → list_any is_cr text ≡ false → first_cr_lf (text ++ 13 ∷ 10 ∷ rest) ≡ Some (length text)
 unfolding first_cr_lf
@@ -96,10 +93,6 @@ one_more most rest all field fields plain short are fits =
     let others = are.short in
     record { plain = none_in_both is_cr (32 ∷ field) (spaced fields) plain are.plain; short = omega (arith, len) }
 
-spaced-append : (front behind : List (List ℕ)) → spaced (front ++ behind) ≡ spaced front ++ spaced behind
-spaced-append [] behind = refl
-spaced-append (field ∷ front) behind = ap (λ rest. (32 ∷ field) ++ rest) (spaced-append front behind) ∙ sym (append_assoc (32 ∷ field) (spaced front) (spaced behind))
-
 both_short : (most rest all : ℕ) (front behind : List (List ℕ)) → AreShort most front → AreShort rest behind → most + rest ≤ all → AreShort all (front ++ behind)
 both_short most rest all front behind are are_too fits =
     let same = spaced-append front behind in
@@ -126,9 +119,6 @@ common_short frame is most =
     one_more 16 20 37 (decimal frame.to_inc) _ (number_plain frame.to_inc (omega arith)) (length-decimal-le 16 frame.to_inc (omega arith) (omega arith) (omega arith)) (
     one_more 15 0 20 (decimal frame.number) [] (number_plain frame.number (omega arith)) (length-decimal-le 15 frame.number (omega arith) (omega arith) (omega arith)) (none_short 0) (omega arith))
     (omega arith)) (omega arith)) (omega arith)) (omega arith)
-
-weight_fits : (weight : ℕ) → (nat_le 1 weight && nat_le weight MAX_WEIGHT) ≡ true → weight ≤ MAX_WEIGHT
-weight_fits weight is = grind (arith, nat_tests)
 
 plus_short : (pattern : List ℕ) (queue : Option (List ℕ)) (weight : ℕ) → IsWeighted (record { pattern = pattern; queue = queue }, weight) → AreShort 8000 (codes "$G" ∷ pattern ∷ member_fields queue weight)
 plus_short pattern None weight is =
@@ -178,9 +168,6 @@ message_short message queues is =
     one_more MAX_SUBJECT 6100 7900 message.subject _ (lacks is_cr no_cr message.subject (subject_plain message.subject is.subject)) (subject_short message.subject is.subject) (
     both_short 6000 8 6100 (form_fields message.reply queues) (decimal (length message.payload) ∷ []) (form_short message.reply queues is.reply is.names fits)
     (one_more 7 0 8 (decimal (length message.payload)) [] (number_plain (length message.payload) (omega arith)) (length-decimal-le 7 (length message.payload) (omega arith) (omega arith) (omega arith)) (none_short 0) (omega arith)) (omega arith)) (omega arith)) (omega arith)
-
-pub snapshot_fits : (len : ℕ) (rising : Bool) → (nat_le len MAX_SNAPSHOT && rising) ≡ true → len ≤ MAX_SNAPSHOT
-snapshot_fits len rising is = grind (arith, nat_tests)
 
 body_short : (body : Body) → IsBody body → AreShort 8000 (body_fields body)
 body_short (Plus weighted) is = plus_short weighted.0.pattern weighted.0.queue weighted.1 is

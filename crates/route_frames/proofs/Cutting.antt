@@ -12,7 +12,7 @@ use Rattle.route_frames.proofs.Behind.{drop_front}
 
 -- ---- cutting a text at a byte
 
-none_of_two : (a b : Bool) → (a || b) ≡ false → (a ≡ false) × (b ≡ false)
+pub none_of_two : (a b : Bool) → (a || b) ≡ false → (a ≡ false) × (b ≡ false)
 none_of_two true b e = absurd (cc)
 none_of_two false b e = (refl, e)
 

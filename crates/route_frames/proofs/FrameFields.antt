@@ -27,7 +27,7 @@ common_are frame is most =
 
 -- ---- the fields of a body
 
-weight_fits : (weight : ℕ) → (nat_le 1 weight && nat_le weight MAX_WEIGHT) ≡ true → weight ≤ MAX_WEIGHT
+pub weight_fits : (weight : ℕ) → (nat_le 1 weight && nat_le weight MAX_WEIGHT) ≡ true → weight ≤ MAX_WEIGHT
 weight_fits weight is = grind (arith, nat_tests)
 
 plus_are : (pattern : List ℕ) (queue : Option (List ℕ)) (weight : ℕ) → IsWeighted (record { pattern = pattern; queue = queue }, weight) → AreFields (codes "$G" ∷ pattern ∷ member_fields queue weight)

@@ -10,7 +10,8 @@ use Rattle.route_frames.specs.Snapshots.{snapshot_text}
 use Rattle.route_frames.specs.Valid.{IsBody, IsRouteFrame}
 use Rattle.route_frames.specs.CutAgain.{IsShort, AreLines, ArePayloads, IsCutAgain}
 use Rattle.route_frames.specs.ReadAgain.{IsAnnouncedAgain, IsReadAgain}
-use Rattle.route_frames.proofs.Cuts.{IsShortLine, none_is, line_cut, line_short, snapshot_fits}
+use Rattle.route_frames.proofs.Cuts.{IsShortLine, none_is, line_cut, line_short}
+use Rattle.route_frames.proofs.FrameFields.{snapshot_fits}
 use Rattle.route_frames.specs.Spelling.{body_announces, announces}
 use Rattle.route_frames.proofs.CanonicalSpelt.{canonical_is_spelt}
 use Rattle.route_frames.proofs.WholeMeans.{spelt_is_read, announced_is_told}
