@@ -3,10 +3,10 @@ use Rattle.std.proofs.Common.{◌≡◌, ℕ, List, [], ◌∷◌, ◌++◌, len
 use Rattle.std.specs.Prelude.{option_map, unwrap_or}
 use Rattle.wire_cut.specs.Cut.{Answer, line, cut_line}
 use Rattle.subj.specs.declared.limits.TheConstants.{ROUTE_LINE}
-use Rattle.route_frames.specs.declared.frames.RouteFrame.{RouteFrame}
+use Rattle.route_values.specs.declared.frames.RouteFrame.{RouteFrame}
+use Rattle.route_values.specs.Snapshots.{line_end}
 use Rattle.route_frames.specs.Meaning.{Meaning}
 use Rattle.route_frames.specs.Decoding.{size_meaning, frame_meaning}
-use Rattle.route_frames.specs.Snapshots.{line_end}
 use Rattle.route_frames.specs.Canonical.{canonical_line, canonical_payload, payload_bytes, frame_bytes}
 use Rattle.route_frames.specs.ReadAgain.{BeginsNoOther}
 use Rattle.route_frames.proofs.Behind.{drop_front}

@@ -4,6 +4,8 @@ use Rattle.std.specs.Prelude.{codes}
 use Rattle.std.specs.Option.{ok_or, option_to_list}
 use Rattle.subj.specs.declared.limits.TheConstants.{MAX_WEIGHT, MAX_SNAPSHOT}
 use Rattle.subj.specs.declared.keys.Key.{Key}
+use Rattle.route_values.specs.Snapshots.{Weighted, weighted_key}
+use Rattle.route_values.specs.Valid.{IsKey, IsWeighted}
 use Rattle.route_frames.specs.declared.faults.RouteFault.TheVariants.{BadArgs}
 use Rattle.route_frames.specs.declared.line_reading.TheConstants.{WEIGHT_DIGITS, SIZE_DIGITS}
 use Rattle.route_frames.specs.declared.lines.LineBody.TheVariants as said
@@ -11,9 +13,7 @@ use Rattle.route_frames.specs.declared.lines.NumberedLine.{NumberedLine}
 use Rattle.route_frames.specs.CommonFields.{CommonFields, digits_of, within, node_of, numbers_of, numbers_in_range}
 use Rattle.route_frames.specs.Arguments.{PlusFields, MinusFields, plus_fields, minus_fields, snapshot_field}
 use Rattle.route_frames.specs.NumberedLines.{account_of, key_of, weight_digits, plus_line, minus_line, snapshot_line}
-use Rattle.route_frames.specs.Snapshots.{Weighted, weighted_key}
 use Rattle.route_frames.specs.Spelling.{SpellsWeight, SpellsPlus, SpellsSize}
-use Rattle.route_frames.specs.Valid.{IsKey, IsWeighted}
 use Rattle.route_frames.proofs.Chains.{step_ok, ok_same, found_ok, some_same}
 use Rattle.route_frames.proofs.FieldsRead.{digits_ok, within_ok, KeyIs, key_ok, account_ok, weighted_ok, CommonIs, common_is}
 

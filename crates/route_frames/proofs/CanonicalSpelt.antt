@@ -6,16 +6,16 @@ use Rattle.std.specs.Prelude.{decimal, codes, unwrap_or}
 use Rattle.line_fields.specs.Fields.{fields, is_word}
 use Rattle.line_fields.proofs.SpellingFields.{fields_follow}
 use Rattle.subj.specs.declared.limits.TheConstants.{MAX_COUNTER}
+use Rattle.route_values.specs.declared.bodies.Body.{Body}
+use Rattle.route_values.specs.declared.bodies.Body.TheVariants.{Plus, Minus, Snapshot, Msg}
+use Rattle.route_values.specs.declared.frames.RouteFrame.TheVariants as route
+use Rattle.route_values.specs.Frames.{Frame}
+use Rattle.route_values.specs.Snapshots.{Weighted, queue_fields, key_line, snapshot_text, are_rising, line_end}
+use Rattle.route_values.specs.Valid.{IsWeighted, AreWeighted, IsBody, IsFrame}
 use Rattle.route_frames.specs.declared.common.TheConstants.{INCARNATION_DIGITS, NUMBER_DIGITS}
 use Rattle.route_frames.specs.declared.line_reading.TheConstants.{WEIGHT_DIGITS, SIZE_DIGITS}
-use Rattle.route_frames.specs.declared.bodies.Body.{Body}
-use Rattle.route_frames.specs.declared.bodies.Body.TheVariants.{Plus, Minus, Snapshot, Msg}
-use Rattle.route_frames.specs.declared.frames.RouteFrame.TheVariants as route
-use Rattle.route_frames.specs.Frames.{Frame}
-use Rattle.route_frames.specs.Snapshots.{Weighted, queue_fields, key_line, snapshot_text, are_rising, line_end}
 use Rattle.route_frames.specs.Canonical.{spaced, operation_word, common_of, member_fields, body_fields, numbered_line, body_payload, info_json, connect_json}
 use Rattle.route_frames.specs.Spelling.{HasCommon, SpellsWeight, SpellsBody, SpellsKey, SpellsKeys, SpellsBehind, body_announces, Spells, SpellsNumbered}
-use Rattle.route_frames.specs.Valid.{IsWeighted, AreWeighted, IsBody, IsFrame}
 use Rattle.route_frames.specs.ReadAgain.{CanonicalIsSpelt}
 use Rattle.route_frames.proofs.SpeltFields.{follow_spaced, append_fields, number_again}
 use Rattle.route_frames.proofs.LinesMean.{queue_weight}

@@ -4,6 +4,8 @@ use Rattle.std.specs.Prelude.{nat_eq}
 use Rattle.std.specs.Option.{ok_or}
 use Rattle.line_fields.specs.Fields.{line_fields, number_of, is_empty}
 use Rattle.subj.specs.Messages.{content_of}
+use Rattle.route_values.specs.Frames.{frame_of}
+use Rattle.route_values.specs.Snapshots.{weighted_key, snapshot_of}
 use Rattle.route_frames.specs.declared.faults.RouteFault.{RouteFault}
 use Rattle.route_frames.specs.declared.faults.RouteFault.TheVariants.{BadArgs}
 use Rattle.route_frames.specs.declared.line_reading.TheConstants.{WEIGHT_DIGITS}
@@ -22,8 +24,6 @@ use Rattle.route_frames.specs.NumberedLines.{key_of, plus_line, minus_line, snap
 use Rattle.route_frames.specs.Greetings.{json_of, info_of, connect_text_of}
 use Rattle.route_frames.specs.Lines.{numbered, operation_meaning, fields_meaning, line_meaning}
 use Rattle.route_frames.specs.Announced.{announced_size}
-use Rattle.route_frames.specs.Frames.{frame_of}
-use Rattle.route_frames.specs.Snapshots.{weighted_key, snapshot_of}
 use Rattle.route_frames.specs.SnapshotTexts.{pieces, plain_key, queue_key, weighted_of, before_cr, key_line_of, keys_in, snapshot_in}
 use Rattle.route_frames.specs.Decoding.{size_meaning, sized, body_meaning, numbered_meaning, frame_behind, frame_meaning}
 use Rattle.route_frames.specs.Causes.{plus_cause, minus_cause, snapshot_cause, message_cause, common_cause, members_cause, info_members, connect_members, operation_cause, fields_cause, line_cause}

@@ -13,12 +13,12 @@ use Rattle.subj.specs.Messages.{Content}
 use Rattle.subj.specs.QueueNames.{are_rising}
 use Rattle.wire_cut.specs.Cut.{line, payload, first_cr_lf, begins_with_cr_lf, cr_lf_at, cut_line, cut_line_at, cut_long_line, cut_payload_at}
 use Rattle.wire_cut.proofs.SearchLemmas.{begins_with_cr_lf-no}
-use Rattle.route_frames.specs.declared.bodies.Body.{Body}
-use Rattle.route_frames.specs.declared.bodies.Body.TheVariants.{Plus, Minus, Snapshot, Msg}
-use Rattle.route_frames.specs.Frames.{Frame}
-use Rattle.route_frames.specs.Snapshots.{snapshot_text}
+use Rattle.route_values.specs.declared.bodies.Body.{Body}
+use Rattle.route_values.specs.declared.bodies.Body.TheVariants.{Plus, Minus, Snapshot, Msg}
+use Rattle.route_values.specs.Frames.{Frame}
+use Rattle.route_values.specs.Snapshots.{snapshot_text}
+use Rattle.route_values.specs.Valid.{IsKey, IsWeighted, AreNames, IsReply, IsMessage, IsBody, IsFrame}
 use Rattle.route_frames.specs.Canonical.{spaced, operation_word, common_of, member_fields, form_fields, body_fields, numbered_line}
-use Rattle.route_frames.specs.Valid.{IsKey, IsWeighted, AreNames, IsReply, IsMessage, IsBody, IsFrame}
 use Rattle.route_frames.specs.CutAgain.{IsPayloadCutAgain}
 use Rattle.route_frames.proofs.Behind.{drop_front}
 use Rattle.route_frames.proofs.SpeltFields.{all_digits, queue_plain, pattern_plain, subject_plain, subject_short, pattern_short, queue_short, node_short, node_without_cr}

@@ -6,7 +6,7 @@ use Rattle.std.specs.Char.{is_ascii_digit}
 use Rattle.std.specs.Str.{all_ascii_digits, bytes_eq}
 use Rattle.std.proofs.lemmas.Bool.Decides.{nat_tests}
 use Rattle.subj.specs.Names.{is_forbidden, has_forbidden}
-use Rattle.route_frames.specs.Snapshots.{Weighted}
+use Rattle.route_values.specs.Snapshots.{Weighted}
 use Rattle.route_frames.specs.SnapshotTexts.{pieces, weighted_of, before_cr, key_line_of}
 use Rattle.route_frames.proofs.Behind.{drop_front}
 

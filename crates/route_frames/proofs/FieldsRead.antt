@@ -10,6 +10,8 @@ use Rattle.subj.specs.declared.limits.TheConstants.{MAX_INCARNATION, MAX_COUNTER
 use Rattle.subj.specs.declared.keys.Key.{Key}
 use Rattle.subj.specs.Names.{node_name_fault, pattern_fault, subject_fault, queue_name_fault}
 use Rattle.subj.specs.Numbers.{incarnation_of}
+use Rattle.route_values.specs.Snapshots.{Weighted, is_weight, weighted_key}
+use Rattle.route_values.specs.Valid.{IsQueue, IsReply, IsKey, IsIncarnation}
 use Rattle.route_frames.specs.declared.faults.RouteFault.TheVariants.{BadArgs, BadNumber}
 use Rattle.route_frames.specs.declared.common.TheConstants.{INCARNATION_DIGITS, NUMBER_DIGITS}
 use Rattle.route_frames.specs.declared.common.Digits.{Digits}
@@ -18,9 +20,7 @@ use Rattle.route_frames.specs.declared.lines.LineBody.{LineBody}
 use Rattle.route_frames.specs.declared.lines.NumberedLine.{NumberedLine}
 use Rattle.route_frames.specs.CommonFields.{CommonFields, digits_of, within, node_of, numbers_of, numbers_in_range}
 use Rattle.route_frames.specs.NumberedLines.{account_of, pattern_of, subject_of, queue_of, optional, key_of}
-use Rattle.route_frames.specs.Snapshots.{Weighted, is_weight, weighted_key}
 use Rattle.route_frames.specs.Spelling.{IsNumber}
-use Rattle.route_frames.specs.Valid.{IsQueue, IsReply, IsKey, IsIncarnation}
 use Rattle.route_frames.proofs.Chains.{step_ok, ok_same, found_ok, unless_ok, where_ok, where_some, no_fault}
 
 -- ---- single fields

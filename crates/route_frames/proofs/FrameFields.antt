@@ -5,12 +5,12 @@ use Rattle.std.specs.Option.{option_to_list}
 use Rattle.std.proofs.lemmas.Bool.Decides.{nat_tests}
 use Rattle.subj.specs.declared.limits.TheConstants.{MAX_COUNTER, MAX_WEIGHT, MAX_SNAPSHOT}
 use Rattle.subj.specs.Messages.{Content}
-use Rattle.route_frames.specs.declared.bodies.Body.{Body}
-use Rattle.route_frames.specs.declared.bodies.Body.TheVariants.{Plus, Minus, Snapshot, Msg}
-use Rattle.route_frames.specs.Frames.{Frame}
-use Rattle.route_frames.specs.Snapshots.{are_rising, snapshot_text}
+use Rattle.route_values.specs.declared.bodies.Body.{Body}
+use Rattle.route_values.specs.declared.bodies.Body.TheVariants.{Plus, Minus, Snapshot, Msg}
+use Rattle.route_values.specs.Frames.{Frame}
+use Rattle.route_values.specs.Snapshots.{are_rising, snapshot_text}
+use Rattle.route_values.specs.Valid.{IsKey, IsWeighted, AreNames, IsReply, IsMessage, IsFrame, IsBody}
 use Rattle.route_frames.specs.Canonical.{spaced, common_of, member_fields, form_fields, body_fields}
-use Rattle.route_frames.specs.Valid.{IsKey, IsWeighted, AreNames, IsReply, IsMessage, IsFrame, IsBody}
 use Rattle.route_frames.proofs.SpeltFields.{AreFields, append_fields, queue_is_field, subject_is_field, pattern_is_field, node_is_field, number_is_field}
 
 -- ---- the fields of a line

@@ -14,9 +14,9 @@ use Rattle.serde_json.specs.Data.{Data, string, Members, no_members, member}
 use Rattle.serde_json.specs.Written.{comma_if, compact_text, members_text}
 use Rattle.subj.specs.declared.limits.TheConstants.{MAX_COUNTER, MAX_INCARNATION}
 use Rattle.subj.specs.Names.{is_node_name_byte, has_no_name_byte, node_name_fault}
-use Rattle.route_frames.specs.Records.{Info, Connect, is_serial}
+use Rattle.route_values.specs.Records.{Info, Connect, is_serial}
+use Rattle.route_values.specs.Valid.{IsInfo, IsConnect}
 use Rattle.route_frames.specs.Canonical.{counted, info_json, connect_json}
-use Rattle.route_frames.specs.Valid.{IsInfo, IsConnect}
 use Rattle.route_frames.proofs.SpeltFields.{all_digits, node_short, node_plain}
 use Rattle.route_frames.proofs.Cutting.{digits_lack, none_in_both}
 

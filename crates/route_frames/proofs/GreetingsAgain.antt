@@ -13,10 +13,10 @@ use Rattle.serde_json.specs.Written.{outline, compact_text}
 use Rattle.serde_json.proofs.Texts.{print-outline}
 use Rattle.serde_json.proofs.Numbers.{number_of-decimal}
 use Rattle.subj.specs.declared.limits.TheConstants.{MAX_COUNTER}
-use Rattle.route_frames.specs.Records.{Info, Connect}
+use Rattle.route_values.specs.Records.{Info, Connect}
+use Rattle.route_values.specs.Valid.{IsInfo, IsConnect}
 use Rattle.route_frames.specs.Greetings.{json_of}
 use Rattle.route_frames.specs.Canonical.{info_json, connect_json}
-use Rattle.route_frames.specs.Valid.{IsInfo, IsConnect}
 use Rattle.route_frames.proofs.Json.{json_is}
 use Rattle.route_frames.proofs.GreetingTexts.{plain_is_utf8, info_text, connect_text, serial_range}
 

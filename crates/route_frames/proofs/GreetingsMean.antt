@@ -7,14 +7,14 @@ use Rattle.serde_json.specs.Data.{Data, null, boolean, number, string, array, ob
 use Rattle.serde_json.specs.Find.{get, as_number, as_str, as_object}
 use Rattle.subj.specs.declared.limits.TheConstants.{MAX_INCARNATION, MAX_COUNTER}
 use Rattle.subj.specs.Names.{node_name_fault}
+use Rattle.route_values.specs.Records.{Info, Connect, is_serial}
+use Rattle.route_values.specs.Valid.{IsIncarnation, IsInfo, IsConnect}
 use Rattle.route_frames.specs.declared.faults.RouteFault.TheVariants.{BadArgs, BadNumber}
 use Rattle.route_frames.specs.declared.greetings.Whole.TheVariants as whole
 use Rattle.route_frames.specs.Meaning.{◌>>=◌}
-use Rattle.route_frames.specs.Records.{Info, Connect, is_serial}
 use Rattle.route_frames.specs.Canonical.{counted}
 use Rattle.route_frames.specs.Greetings.{json_of, object_of, whole_of, whole_at, whole_in_range, incarnation_in, node_at, info_in, dial_in, connect_in, info_of, connect_text_of}
 use Rattle.route_frames.specs.Spelling.{HasInfo, HasConnect}
-use Rattle.route_frames.specs.Valid.{IsIncarnation, IsInfo, IsConnect}
 use Rattle.route_frames.proofs.PartsMean.{incarnation_again, node_again}
 
 -- ---- members

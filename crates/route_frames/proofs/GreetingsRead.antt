@@ -6,15 +6,15 @@ use Rattle.serde_json.specs.Data.{Num, unsigned, negative, float, Data, null, bo
 use Rattle.serde_json.specs.Find.{get, as_number, as_str, as_object}
 use Rattle.subj.specs.declared.limits.TheConstants.{MAX_INCARNATION, MAX_COUNTER}
 use Rattle.subj.specs.Names.{node_name_fault}
+use Rattle.route_values.specs.Records.{Info, Connect, is_serial, connect_of}
+use Rattle.route_values.specs.Valid.{IsIncarnation, IsInfo, IsConnect}
 use Rattle.route_frames.specs.declared.faults.RouteFault.TheVariants.{BadArgs, BadNumber}
 use Rattle.route_frames.specs.declared.greetings.Dial.{Dial}
 use Rattle.route_frames.specs.declared.greetings.Whole.{Whole}
 use Rattle.route_frames.specs.declared.greetings.Whole.TheVariants as whole
-use Rattle.route_frames.specs.Records.{Info, Connect, is_serial, connect_of}
 use Rattle.route_frames.specs.Canonical.{counted}
 use Rattle.route_frames.specs.Greetings.{json_of, object_of, whole_of, whole_at, whole_in_range, whole_number, incarnation_in, node_at, info_in, dial_in, connect_in, info_of, connect_text_of}
 use Rattle.route_frames.specs.Spelling.{HasInfo, HasConnect}
-use Rattle.route_frames.specs.Valid.{IsIncarnation, IsInfo, IsConnect}
 use Rattle.route_frames.proofs.Chains.{step_ok, ok_same, found_ok, where_ok, where_some, some_same}
 use Rattle.route_frames.proofs.FieldsRead.{incarnation_ok, node_ok}
 

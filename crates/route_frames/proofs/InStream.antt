@@ -9,14 +9,14 @@ use Rattle.wire_cut.specs.declared.fault.CutFault.TheVariants.{PayloadTooLong}
 use Rattle.wire_cut.specs.Cut.{CutterState, StreamPiece, line, payload, is_line, first_cr_lf, cut_line, cut_payload, after_refusal, new_cutter, fed}
 use Rattle.wire_cut.specs.Stream.{Grammar, Stream, told, next_payload, unfinished, with_pieces, from_there, cut_on, stream_of}
 use Rattle.wire_cut.proofs.StreamLemmas.{stream_of-look, in_feeds-at_once}
-use Rattle.route_frames.specs.declared.frames.RouteFrame.{RouteFrame}
-use Rattle.route_frames.specs.Snapshots.{line_end}
+use Rattle.route_values.specs.declared.frames.RouteFrame.{RouteFrame}
+use Rattle.route_values.specs.Snapshots.{line_end}
+use Rattle.route_values.specs.Valid.{IsRouteFrame, AreRouteFrames}
 use Rattle.route_frames.specs.Decoding.{frame_meaning}
 use Rattle.route_frames.specs.Canonical.{canonical_line, canonical_payload, payload_bytes, frame_bytes}
-use Rattle.route_frames.specs.Valid.{IsRouteFrame}
 use Rattle.route_frames.specs.ReadAgain.{IsAnnouncedAgain, IsReadAgain}
 use Rattle.route_frames.specs.CutAgain.{IsCutAgain, IsShort, ArePayloads, IsPayloadCutAgain}
-use Rattle.route_frames.specs.InStream.{follow_of, route_grammar, payload_pieces, frame_pieces, frames_in, ready, ends_with_line, AreRouteFrames, AreCutInAnyFeeds, AreFramesInPieces, AreReadInAnyFeeds}
+use Rattle.route_frames.specs.InStream.{follow_of, route_grammar, payload_pieces, frame_pieces, frames_in, ready, ends_with_line, AreCutInAnyFeeds, AreFramesInPieces, AreReadInAnyFeeds}
 
 -- ---- one piece
 

@@ -6,14 +6,14 @@ use Rattle.std.specs.List.{list_any}
 use Rattle.std.specs.Str.{all_ascii_digits}
 use Rattle.std.specs.Str.Parse.{digits_value}
 use Rattle.line_fields.specs.Fields.{is_empty}
+use Rattle.route_values.specs.Snapshots.{Weighted, line_end}
+use Rattle.route_values.specs.Valid.{IsWeighted, AreWeighted, AreSnapshotKeys}
 use Rattle.route_frames.specs.declared.faults.RouteFault.TheVariants.{BadArgs}
 use Rattle.route_frames.specs.declared.line_reading.TheConstants.{WEIGHT_DIGITS}
 use Rattle.route_frames.specs.Meaning.{◌>>=◌}
 use Rattle.route_frames.specs.CommonFields.{digits_of}
-use Rattle.route_frames.specs.Snapshots.{Weighted, line_end}
 use Rattle.route_frames.specs.SnapshotTexts.{pieces, plain_key, queue_key, weighted_of, keys_in, snapshot_in}
 use Rattle.route_frames.specs.Spelling.{IsNumber, SpellsKey, SpellsKeys}
-use Rattle.route_frames.specs.Valid.{IsWeighted, AreWeighted, AreSnapshotKeys}
 use Rattle.route_frames.proofs.Chains.{where_some}
 use Rattle.route_frames.proofs.Pieces.{line_and_more}
 use Rattle.route_frames.proofs.SpeltFields.{pattern_plain, queue_plain}

@@ -1,4 +1,3 @@
-mod Texts
 pub mod Forms
 pub mod Json
 pub mod Behind
@@ -34,4 +33,3 @@ pub mod WholeMeans
 pub mod Answered
 pub mod CanonicalSpelt
 pub mod InStream
-mod Values

@@ -7,6 +7,8 @@ use Rattle.subj.specs.declared.limits.TheConstants.{MAX_WEIGHT, MAX_SNAPSHOT, MA
 use Rattle.subj.specs.declared.keys.Key.{Key}
 use Rattle.subj.specs.Names.{node_name_fault}
 use Rattle.subj.specs.Messages.{Content}
+use Rattle.route_values.specs.Snapshots.{Weighted}
+use Rattle.route_values.specs.Valid.{IsKey, IsWeighted, IsMessage, IsIncarnation}
 use Rattle.route_frames.specs.declared.faults.RouteFault.TheVariants.{BadArgs}
 use Rattle.route_frames.specs.declared.common.TheConstants.{INCARNATION_DIGITS, NUMBER_DIGITS}
 use Rattle.route_frames.specs.declared.line_reading.TheConstants.{WEIGHT_DIGITS, SIZE_DIGITS}
@@ -15,10 +17,8 @@ use Rattle.route_frames.specs.declared.lines.LineBody.TheVariants as said
 use Rattle.route_frames.specs.declared.lines.NumberedLine.{NumberedLine}
 use Rattle.route_frames.specs.CommonFields.{CommonFields, digits_of, numbers_of}
 use Rattle.route_frames.specs.NumberedLines.{plus_line, minus_line, snapshot_line, message_line}
-use Rattle.route_frames.specs.Snapshots.{Weighted}
 use Rattle.route_frames.specs.Canonical.{form_fields}
 use Rattle.route_frames.specs.Spelling.{IsNumber, SpellsWeight}
-use Rattle.route_frames.specs.Valid.{IsKey, IsWeighted, IsMessage, IsIncarnation}
 use Rattle.route_frames.proofs.PartsMean.{digits_spelt, numbers_spelt, within_again, in_range_again, node_again, subject_again, key_again, weighted_again}
 use Rattle.route_frames.proofs.MessageForms.{fields_again, reply_again, queues_again}
 

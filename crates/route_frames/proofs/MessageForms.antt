@@ -5,12 +5,12 @@ use Rattle.std.specs.Option.{ok_or}
 use Rattle.std.proofs.lemmas.Bool.Decides.{nat_tests}
 use Rattle.subj.specs.declared.limits.TheConstants.{MAX_QUEUE_NAMES}
 use Rattle.subj.specs.QueueNames.{are_queue_names, are_rising}
+use Rattle.route_values.specs.Valid.{AreNames, IsReply}
 use Rattle.route_frames.specs.declared.faults.RouteFault.TheVariants.{BadArgs, TooManyQueues}
 use Rattle.route_frames.specs.Meaning.{◌>>=◌}
 use Rattle.route_frames.specs.Arguments.{MessageFields, message_form, form_split, message_fields}
 use Rattle.route_frames.specs.NumberedLines.{subject_of, optional, are_names, queue_names_in, message_fields_in}
 use Rattle.route_frames.specs.Canonical.{form_fields}
-use Rattle.route_frames.specs.Valid.{AreNames, IsReply}
 use Rattle.route_frames.proofs.Forms.{split_last-append}
 use Rattle.route_frames.proofs.PartsMean.{subject_again, queue_again}
 

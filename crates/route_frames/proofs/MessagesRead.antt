@@ -7,6 +7,7 @@ use Rattle.std.proofs.lemmas.Slice.Eq.{bytes_eq-Decides}
 use Rattle.subj.specs.declared.limits.TheConstants.{MAX_PAYLOAD, MAX_QUEUE_NAMES}
 use Rattle.subj.specs.Names.{subject_fault}
 use Rattle.subj.specs.QueueNames.{queue_names_of, are_queue_names}
+use Rattle.route_values.specs.Valid.{IsReply, AreNames}
 use Rattle.route_frames.specs.declared.faults.RouteFault.TheVariants.{BadArgs, TooManyQueues}
 use Rattle.route_frames.specs.declared.line_reading.TheConstants.{SIZE_DIGITS}
 use Rattle.route_frames.specs.declared.lines.LineBody.TheVariants as said
@@ -16,7 +17,6 @@ use Rattle.route_frames.specs.Arguments.{Form, MessageFields, split_last_of, rep
 use Rattle.route_frames.specs.NumberedLines.{account_of, subject_of, queue_of, optional, are_names, queue_names_in, message_fields_in, message_line}
 use Rattle.route_frames.specs.Canonical.{form_fields}
 use Rattle.route_frames.specs.Spelling.{SpellsSize}
-use Rattle.route_frames.specs.Valid.{IsReply, AreNames}
 use Rattle.route_frames.proofs.Chains.{step_ok, ok_same, found_ok, unless_ok, where_some, some_same}
 use Rattle.route_frames.proofs.FieldsRead.{digits_ok, within_ok, subject_ok, queue_ok, optional_subject_ok, account_ok, CommonIs, common_is}
 

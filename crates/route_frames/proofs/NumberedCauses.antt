@@ -9,6 +9,7 @@ use Rattle.subj.specs.Names.{node_name_fault, pattern_fault, subject_fault, queu
 use Rattle.subj.specs.Numbers.{incarnation_of}
 use Rattle.subj.specs.QueueNames.{queue_names_of}
 use Rattle.line_fields.specs.Fields.{number_of}
+use Rattle.route_values.specs.Snapshots.{weighted_key}
 use Rattle.route_frames.specs.declared.faults.RouteFault.{RouteFault}
 use Rattle.route_frames.specs.declared.faults.RouteFault.TheVariants.{BadArgs, BadNumber, TooManyQueues}
 use Rattle.route_frames.specs.declared.common.TheConstants.{INCARNATION_DIGITS, NUMBER_DIGITS}
@@ -19,7 +20,6 @@ use Rattle.route_frames.specs.declared.lines.LineBody.TheVariants.{Plus, Msg}
 use Rattle.route_frames.specs.declared.lines.NumberedLine.{NumberedLine}
 use Rattle.route_frames.specs.Meaning.{Meaning, ◌>>=◌}
 use Rattle.route_frames.specs.CommonFields.{CommonFields, within, node_of, numbers_of, numbers_in_range}
-use Rattle.route_frames.specs.Snapshots.{weighted_key}
 use Rattle.route_frames.specs.Arguments.{PlusFields, MessageFields, plus_fields, minus_fields, snapshot_field, message_fields}
 use Rattle.route_frames.specs.NumberedLines.{account_of, pattern_of, subject_of, queue_of, optional, key_of, are_names, queue_names_in, weight_digits, plus_line, minus_line, snapshot_line, few_names, message_fields_in, message_line}
 use Rattle.route_frames.specs.Causes.{NumberField, numbers_cause, common_numbers, weight_numbers, plus_cause, minus_cause, snapshot_cause, message_cause}

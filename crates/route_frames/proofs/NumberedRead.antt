@@ -4,18 +4,18 @@ use Rattle.std.specs.Prelude.{nat_le, codes}
 use Rattle.std.proofs.lemmas.Bool.Decides.{nat_tests}
 use Rattle.subj.specs.declared.limits.TheConstants.{MAX_COUNTER, MAX_PAYLOAD}
 use Rattle.subj.specs.Messages.{Content}
-use Rattle.route_frames.specs.declared.bodies.Body.{Body}
-use Rattle.route_frames.specs.declared.bodies.Body.TheVariants.{Plus, Minus, Snapshot, Msg}
+use Rattle.route_values.specs.declared.bodies.Body.{Body}
+use Rattle.route_values.specs.declared.bodies.Body.TheVariants.{Plus, Minus, Snapshot, Msg}
+use Rattle.route_values.specs.Frames.{Frame, is_number}
+use Rattle.route_values.specs.Snapshots.{Weighted}
+use Rattle.route_values.specs.Valid.{AreSnapshotKeys, IsBody, IsFrame}
 use Rattle.route_frames.specs.declared.lines.LineBody.{LineBody}
 use Rattle.route_frames.specs.declared.lines.LineBody.TheVariants as said
 use Rattle.route_frames.specs.declared.lines.NumberedLine.{NumberedLine}
 use Rattle.route_frames.specs.CommonFields.{CommonFields, common_fields}
 use Rattle.route_frames.specs.NumberedLines.{plus_line, minus_line, snapshot_line, message_line}
-use Rattle.route_frames.specs.Frames.{Frame, is_number}
-use Rattle.route_frames.specs.Snapshots.{Weighted}
 use Rattle.route_frames.specs.Canonical.{operation_word, form_fields}
 use Rattle.route_frames.specs.Spelling.{HasCommon, SpellsSize, SpellsNumbered}
-use Rattle.route_frames.specs.Valid.{AreSnapshotKeys, IsBody, IsFrame}
 use Rattle.route_frames.proofs.Chains.{some_same}
 use Rattle.route_frames.proofs.FieldsRead.{CommonIs}
 use Rattle.route_frames.proofs.BodiesRead.{plus_read, minus_read, snapshot_read}

@@ -8,14 +8,14 @@ use Rattle.subj.specs.declared.limits.TheConstants.{MAX_INCARNATION, MAX_COUNTER
 use Rattle.subj.specs.declared.keys.Key.{Key}
 use Rattle.subj.specs.Names.{node_name_fault, pattern_fault, subject_fault, queue_name_fault}
 use Rattle.subj.specs.Numbers.{incarnation_of}
+use Rattle.route_values.specs.Snapshots.{Weighted, is_weight, weighted_key}
+use Rattle.route_values.specs.Valid.{IsQueue, IsKey, IsIncarnation}
 use Rattle.route_frames.specs.declared.faults.RouteFault.TheVariants.{BadArgs, BadNumber}
 use Rattle.route_frames.specs.declared.common.Digits.{Digits}
 use Rattle.route_frames.specs.declared.common.Numbers.{Numbers}
 use Rattle.route_frames.specs.Meaning.{◌>>=◌}
 use Rattle.route_frames.specs.CommonFields.{within, node_of, numbers_in_range}
 use Rattle.route_frames.specs.NumberedLines.{pattern_of, subject_of, queue_of, optional, key_of}
-use Rattle.route_frames.specs.Snapshots.{Weighted, is_weight, weighted_key}
-use Rattle.route_frames.specs.Valid.{IsQueue, IsKey, IsIncarnation}
 
 -- ---- numbers
 

@@ -1,13 +1,13 @@
 -- What is written of a frame of a route is cut again, and read as that frame.
 use Rattle.std.specs.Prelude.{option_map}
 use Rattle.std.proofs.Common.{length, refl, ap, arith, Ok, unwrap_or, ◌≡◌, ◌∙◌, []}
-use Rattle.route_frames.specs.declared.bodies.Body.{Body}
-use Rattle.route_frames.specs.declared.bodies.Body.TheVariants.{Plus, Minus, Snapshot, Msg}
-use Rattle.route_frames.specs.declared.frames.RouteFrame.{RouteFrame}
-use Rattle.route_frames.specs.declared.frames.RouteFrame.TheVariants.{Info, Connect, Numbered}
+use Rattle.route_values.specs.declared.bodies.Body.{Body}
+use Rattle.route_values.specs.declared.bodies.Body.TheVariants.{Plus, Minus, Snapshot, Msg}
+use Rattle.route_values.specs.declared.frames.RouteFrame.{RouteFrame}
+use Rattle.route_values.specs.declared.frames.RouteFrame.TheVariants.{Info, Connect, Numbered}
+use Rattle.route_values.specs.Snapshots.{snapshot_text}
+use Rattle.route_values.specs.Valid.{IsBody, IsRouteFrame}
 use Rattle.route_frames.specs.Canonical.{canonical_line, body_payload, canonical_payload}
-use Rattle.route_frames.specs.Snapshots.{snapshot_text}
-use Rattle.route_frames.specs.Valid.{IsBody, IsRouteFrame}
 use Rattle.route_frames.specs.CutAgain.{IsShort, AreLines, ArePayloads, IsCutAgain}
 use Rattle.route_frames.specs.ReadAgain.{IsAnnouncedAgain, IsReadAgain}
 use Rattle.route_frames.proofs.Cuts.{IsShortLine, none_is, line_cut, line_short}

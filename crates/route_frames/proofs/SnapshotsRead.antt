@@ -8,14 +8,14 @@ use Rattle.std.proofs.lemmas.List.Splits.{join_with_byte-slice_split}
 use Rattle.std.proofs.lemmas.List.{take-append-drop}
 use Rattle.std.proofs.lemmas.Slice.Eq.{bytes_eq-Decides}
 use Rattle.line_fields.specs.Fields.{is_empty}
+use Rattle.route_values.specs.Snapshots.{Weighted, are_snapshot_keys, snapshot_of, line_end}
+use Rattle.route_values.specs.Valid.{IsWeighted, AreWeighted, AreSnapshotKeys}
 use Rattle.route_frames.specs.declared.faults.RouteFault.TheVariants.{BadArgs}
 use Rattle.route_frames.specs.declared.line_reading.TheConstants.{WEIGHT_DIGITS}
 use Rattle.route_frames.specs.CommonFields.{digits_of}
 use Rattle.route_frames.specs.NumberedLines.{key_of}
-use Rattle.route_frames.specs.Snapshots.{Weighted, are_snapshot_keys, snapshot_of, line_end}
 use Rattle.route_frames.specs.SnapshotTexts.{pieces, plain_key, queue_key, weighted_of, before_cr, key_line_of, keys_in, snapshot_in}
 use Rattle.route_frames.specs.Spelling.{SpellsKey, SpellsKeys}
-use Rattle.route_frames.specs.Valid.{IsWeighted, AreWeighted, AreSnapshotKeys}
 use Rattle.route_frames.proofs.Chains.{step_ok, ok_same, found_ok, where_ok, where_some}
 use Rattle.route_frames.proofs.FieldsRead.{digits_ok, key_ok, weighted_ok}
 

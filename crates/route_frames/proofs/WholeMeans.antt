@@ -12,11 +12,13 @@ use Rattle.line_fields.specs.Fields.{is_empty, is_blank, is_word, fields, begins
 use Rattle.line_fields.specs.Spelling.{IsField}
 use Rattle.line_fields.proofs.SpellingFields.{stops, follow_fields, line_fields_are}
 use Rattle.subj.specs.declared.limits.TheConstants.{MAX_PAYLOAD, MAX_COUNTER}
+use Rattle.route_values.specs.declared.bodies.Body.{Body}
+use Rattle.route_values.specs.declared.bodies.Body.TheVariants.{Plus, Minus, Snapshot, Msg}
+use Rattle.route_values.specs.declared.frames.RouteFrame.{RouteFrame}
+use Rattle.route_values.specs.declared.frames.RouteFrame.TheVariants as route
+use Rattle.route_values.specs.Frames.{Frame, is_number}
+use Rattle.route_values.specs.Valid.{IsFrame, IsRouteFrame}
 use Rattle.route_frames.specs.declared.faults.RouteFault.TheVariants.{BadArgs}
-use Rattle.route_frames.specs.declared.bodies.Body.{Body}
-use Rattle.route_frames.specs.declared.bodies.Body.TheVariants.{Plus, Minus, Snapshot, Msg}
-use Rattle.route_frames.specs.declared.frames.RouteFrame.{RouteFrame}
-use Rattle.route_frames.specs.declared.frames.RouteFrame.TheVariants as route
 use Rattle.route_frames.specs.declared.lines.LineBody.{LineBody}
 use Rattle.route_frames.specs.declared.lines.LineBody.TheVariants as said
 use Rattle.route_frames.specs.declared.lines.NumberedLine.{NumberedLine}
@@ -30,12 +32,10 @@ use Rattle.route_frames.specs.CommonFields.{CommonFields}
 use Rattle.route_frames.specs.NumberedLines.{plus_line, minus_line, snapshot_line, message_line}
 use Rattle.route_frames.specs.Lines.{numbered, operation_meaning, fields_meaning, line_meaning}
 use Rattle.route_frames.specs.Announced.{announced_size}
-use Rattle.route_frames.specs.Frames.{Frame, is_number}
 use Rattle.route_frames.specs.Decoding.{sized, body_meaning, frame_behind, frame_meaning, numbered_meaning}
 use Rattle.route_frames.specs.Canonical.{operation_word, form_fields}
 use Rattle.route_frames.specs.Spelling.{SpellsBody, SpellsBehind, body_announces, frame_word, SpellsText, SpellsLine, SpellsPayload, announces}
 use Rattle.route_frames.specs.Readings.{SpeltIsRead, AnnouncedIsTold}
-use Rattle.route_frames.specs.Valid.{IsFrame, IsRouteFrame}
 use Rattle.route_frames.proofs.Behind.{drop_front}
 use Rattle.route_frames.proofs.LinesMean.{AreEnds, line_spelt, AreDigits, common_with, plus_means, minus_means, snapshot_means, message_means}
 use Rattle.route_frames.proofs.KeysMean.{text_means}

@@ -8,11 +8,13 @@ use Rattle.line_fields.specs.Fields.{is_word, fields, begins_with_field, line_fi
 use Rattle.line_fields.proofs.SpellingFields.{stops, fields_follow, begins_with_fields}
 use Rattle.subj.specs.declared.limits.TheConstants.{MAX_PAYLOAD}
 use Rattle.subj.specs.Messages.{Content, content_of}
+use Rattle.route_values.specs.declared.bodies.Body.{Body}
+use Rattle.route_values.specs.declared.bodies.Body.TheVariants.{Plus, Minus, Snapshot, Msg}
+use Rattle.route_values.specs.declared.frames.RouteFrame.{RouteFrame}
+use Rattle.route_values.specs.declared.frames.RouteFrame.TheVariants as route
+use Rattle.route_values.specs.Frames.{Frame, is_number, frame_of}
+use Rattle.route_values.specs.Valid.{IsRouteFrame}
 use Rattle.route_frames.specs.declared.faults.RouteFault.TheVariants.{BadArgs}
-use Rattle.route_frames.specs.declared.bodies.Body.{Body}
-use Rattle.route_frames.specs.declared.bodies.Body.TheVariants.{Plus, Minus, Snapshot, Msg}
-use Rattle.route_frames.specs.declared.frames.RouteFrame.{RouteFrame}
-use Rattle.route_frames.specs.declared.frames.RouteFrame.TheVariants as route
 use Rattle.route_frames.specs.declared.lines.LineBody.{LineBody}
 use Rattle.route_frames.specs.declared.lines.LineBody.TheVariants as said
 use Rattle.route_frames.specs.declared.lines.NumberedLine.{NumberedLine}
@@ -26,14 +28,12 @@ use Rattle.route_frames.specs.CommonFields.{CommonFields, common_fields}
 use Rattle.route_frames.specs.NumberedLines.{plus_line, minus_line, snapshot_line, message_line}
 use Rattle.route_frames.specs.Lines.{numbered, operation_meaning, fields_meaning, line_meaning}
 use Rattle.route_frames.specs.Announced.{body_size, announced_size}
-use Rattle.route_frames.specs.Frames.{Frame, is_number, frame_of}
 use Rattle.route_frames.specs.SnapshotTexts.{snapshot_in}
 use Rattle.route_frames.specs.Decoding.{sized, body_meaning, numbered_meaning, frame_behind, frame_meaning}
 use Rattle.route_frames.specs.Greetings.{info_of, connect_text_of}
 use Rattle.route_frames.specs.Spelling.{SpellsBehind, body_announces, frame_word, SpellsText, SpellsLine, SpellsPayload, announces}
 use Rattle.route_frames.specs.Refusals.{Announces}
 use Rattle.route_frames.specs.Readings.{ReadIsSpelt, ToldIsAnnounced}
-use Rattle.route_frames.specs.Valid.{IsRouteFrame}
 use Rattle.route_frames.proofs.Behind.{behind_first}
 use Rattle.route_frames.proofs.Chains.{step_ok, ok_same, found_ok, where_ok, where_some}
 use Rattle.route_frames.proofs.SnapshotsRead.{snapshot_read}

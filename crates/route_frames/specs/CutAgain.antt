@@ -2,10 +2,10 @@
 use Rattle.std.specs.Prelude.{◌≡◌, ◌≤◌, ℕ, List, ◌++◌, length, Option, Some, None, Ok}
 use Rattle.subj.specs.declared.limits.TheConstants.{ROUTE_LINE, MAX_SNAPSHOT}
 use Rattle.wire_cut.specs.Cut.{line, payload, first_cr_lf, cut_line, cut_payload}
-use Rattle.route_frames.specs.declared.frames.RouteFrame.{RouteFrame}
-use Rattle.route_frames.specs.Snapshots.{line_end}
+use Rattle.route_values.specs.declared.frames.RouteFrame.{RouteFrame}
+use Rattle.route_values.specs.Snapshots.{line_end}
+use Rattle.route_values.specs.Valid.{IsRouteFrame}
 use Rattle.route_frames.specs.Canonical.{canonical_line, canonical_payload}
-use Rattle.route_frames.specs.Valid.{IsRouteFrame}
 
 -- a canonical line is within its limit, and holds no CR LF
 pub record IsLine (text : List ℕ) : Type 0 where

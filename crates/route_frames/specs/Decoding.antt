@@ -3,11 +3,12 @@ use Rattle.std.specs.Prelude.{ℕ, List, length, nat_eq, Option, Some, None, Ok,
 use Rattle.std.specs.Option.{ok_or}
 use Rattle.line_fields.specs.Fields.{is_empty}
 use Rattle.subj.specs.Messages.{content_of}
+use Rattle.route_values.specs.declared.bodies.Body.{Body}
+use Rattle.route_values.specs.declared.bodies.Body.TheVariants.{Plus, Minus, Snapshot, Msg}
+use Rattle.route_values.specs.declared.frames.RouteFrame.{RouteFrame}
+use Rattle.route_values.specs.declared.frames.RouteFrame.TheVariants.{Info, Connect, Numbered}
+use Rattle.route_values.specs.Frames.{Frame, frame_of}
 use Rattle.route_frames.specs.declared.faults.RouteFault.TheVariants.{BadArgs}
-use Rattle.route_frames.specs.declared.bodies.Body.{Body}
-use Rattle.route_frames.specs.declared.bodies.Body.TheVariants.{Plus, Minus, Snapshot, Msg}
-use Rattle.route_frames.specs.declared.frames.RouteFrame.{RouteFrame}
-use Rattle.route_frames.specs.declared.frames.RouteFrame.TheVariants.{Info, Connect, Numbered}
 use Rattle.route_frames.specs.declared.lines.LineBody.{LineBody}
 use Rattle.route_frames.specs.declared.lines.LineBody.TheVariants as body
 use Rattle.route_frames.specs.declared.lines.NumberedLine.{NumberedLine}
@@ -15,7 +16,6 @@ use Rattle.route_frames.specs.declared.lines.RouteLine.{RouteLine}
 use Rattle.route_frames.specs.declared.lines.RouteLine.TheVariants as line
 use Rattle.route_frames.specs.Meaning.{Meaning, ◌>>=◌}
 use Rattle.route_frames.specs.Announced.{announced_size}
-use Rattle.route_frames.specs.Frames.{Frame, frame_of}
 use Rattle.route_frames.specs.Lines.{line_meaning}
 use Rattle.route_frames.specs.SnapshotTexts.{snapshot_in}
 

@@ -7,13 +7,13 @@ use Rattle.serde_json.specs.Read.{read}
 use Rattle.serde_json.specs.Find.{get, as_number, as_str, as_object}
 use Rattle.subj.specs.declared.limits.TheConstants.{MAX_COUNTER, MAX_INCARNATION}
 use Rattle.subj.specs.Numbers.{incarnation_of}
+use Rattle.route_values.specs.Records.{Info, Connect, connect_of}
 use Rattle.route_frames.specs.declared.faults.RouteFault.TheVariants.{BadArgs, BadNumber}
 use Rattle.route_frames.specs.declared.greetings.Dial.{Dial}
 use Rattle.route_frames.specs.declared.greetings.Whole.{Whole}
 use Rattle.route_frames.specs.declared.greetings.Whole.TheVariants.{Other, Negative, Number}
 use Rattle.route_frames.specs.Meaning.{Meaning, ◌>>=◌}
 use Rattle.route_frames.specs.CommonFields.{node_of}
-use Rattle.route_frames.specs.Records.{Info, Connect, connect_of}
 
 -- ---- a JSON object
 

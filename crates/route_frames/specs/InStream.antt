@@ -4,12 +4,12 @@ use Rattle.std.specs.List.{concat, flat_map}
 use Rattle.subj.specs.declared.limits.TheConstants.{ROUTE_LINE, MAX_SNAPSHOT}
 use Rattle.wire_cut.specs.Cut.{CutterState, StreamPiece, line, payload, is_line, new_cutter}
 use Rattle.wire_cut.specs.Stream.{Follow, Grammar, Stream, next_line, next_payload, no_more, with_pieces, stream_of, in_feeds}
+use Rattle.route_values.specs.declared.frames.RouteFrame.{RouteFrame}
+use Rattle.route_values.specs.Valid.{AreRouteFrames}
 use Rattle.route_frames.specs.declared.faults.RouteFault.TheVariants.{BadArgs}
-use Rattle.route_frames.specs.declared.frames.RouteFrame.{RouteFrame}
 use Rattle.route_frames.specs.Meaning.{Meaning, ◌>>=◌}
 use Rattle.route_frames.specs.Decoding.{size_meaning, frame_meaning}
 use Rattle.route_frames.specs.Canonical.{canonical_line, canonical_payload, frame_bytes}
-use Rattle.route_frames.specs.Valid.{IsRouteFrame}
 
 -- ---- what a line says of what follows it
 
@@ -71,11 +71,6 @@ abbrev pub stream_in : List (List ℕ) → Stream
 stream_in feeds = in_feeds route_grammar (stream_of route_grammar (new_cutter ROUTE_LINE MAX_SNAPSHOT)) feeds
 
 -- ---- the laws
-
--- each holds only what can be spelt
-abbrev pub AreRouteFrames : List RouteFrame → Type 0
-AreRouteFrames [] = Unit {0}
-AreRouteFrames (frame ∷ frames) = IsRouteFrame frame × AreRouteFrames frames
 
 -- However the bytes of frames, and whatever follows them, are cut into feeds: the pieces of the frames come, and then
 -- what a cutter between two frames gives of the rest.

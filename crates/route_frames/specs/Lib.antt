@@ -1,6 +1,3 @@
-pub mod Snapshots
-pub mod Records
-pub mod Frames
 pub mod Faults
 pub mod Meaning
 pub mod Operations
@@ -15,8 +12,6 @@ pub mod Lines
 pub mod SnapshotTexts
 pub mod Decoding
 pub mod Canonical
-pub mod ValidKeys
-pub mod Valid
 pub mod Spelling
 pub mod Causes
 pub mod Refusals

@@ -6,6 +6,7 @@ use Rattle.subj.specs.declared.keys.Key.{Key}
 use Rattle.subj.specs.declared.limits.TheConstants.{MAX_QUEUE_NAMES, MAX_WEIGHT, MAX_SNAPSHOT, MAX_PAYLOAD}
 use Rattle.subj.specs.Names.{pattern_fault, subject_fault, queue_name_fault}
 use Rattle.subj.specs.QueueNames.{queue_names_of}
+use Rattle.route_values.specs.Snapshots.{weighted_key}
 use Rattle.route_frames.specs.declared.faults.RouteFault.TheVariants.{BadArgs, TooManyQueues}
 use Rattle.route_frames.specs.declared.line_reading.TheConstants.{WEIGHT_DIGITS, SIZE_DIGITS}
 use Rattle.route_frames.specs.declared.lines.LineBody.TheVariants.{Plus, Minus, Snapshot, Msg}
@@ -13,7 +14,6 @@ use Rattle.route_frames.specs.declared.lines.NumberedLine.{NumberedLine}
 use Rattle.route_frames.specs.Meaning.{Meaning, ◌>>=◌}
 use Rattle.route_frames.specs.CommonFields.{CommonFields, digits_of, within, node_of, numbers_of, numbers_in_range}
 use Rattle.route_frames.specs.Arguments.{MessageFields, plus_fields, minus_fields, snapshot_field, message_fields}
-use Rattle.route_frames.specs.Snapshots.{weighted_key}
 
 -- ---- fields that are no numbers
 

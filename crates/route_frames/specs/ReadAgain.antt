@@ -1,10 +1,10 @@
 -- What is written is read again.
 use Rattle.std.specs.Prelude.{◌≡◌, ℕ, List, [], ◌++◌, length, option_map, unwrap_or, Ok}
-use Rattle.route_frames.specs.declared.frames.RouteFrame.{RouteFrame}
+use Rattle.route_values.specs.declared.frames.RouteFrame.{RouteFrame}
+use Rattle.route_values.specs.Valid.{IsRouteFrame}
 use Rattle.route_frames.specs.Canonical.{canonical_line, canonical_payload, frame_bytes}
 use Rattle.route_frames.specs.Decoding.{size_meaning, frame_meaning}
 use Rattle.route_frames.specs.Spelling.{Spells}
-use Rattle.route_frames.specs.Valid.{IsRouteFrame}
 
 -- the line of a frame tells the size of the payload behind it, where there is one
 abbrev pub IsAnnouncedAgain : Type 0

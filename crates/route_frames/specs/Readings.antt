@@ -1,6 +1,6 @@
 -- What is spelt is what is read: the relation of route spelling and the computed meaning of bytes are one.
 use Rattle.std.specs.Prelude.{◌≡◌, ℕ, List, Option, Ok}
-use Rattle.route_frames.specs.declared.frames.RouteFrame.{RouteFrame}
+use Rattle.route_values.specs.declared.frames.RouteFrame.{RouteFrame}
 use Rattle.route_frames.specs.Decoding.{size_meaning, frame_meaning}
 use Rattle.route_frames.specs.Spelling.{Spells}
 use Rattle.route_frames.specs.Refusals.{Announces}

@@ -4,12 +4,12 @@ use Rattle.std.specs.Option.{ok_or}
 use Rattle.std.specs.List.{slice_split}
 use Rattle.std.specs.Str.{bytes_eq}
 use Rattle.line_fields.specs.Fields.{is_empty}
+use Rattle.route_values.specs.Snapshots.{Weighted, weighted_key, snapshot_of}
 use Rattle.route_frames.specs.declared.faults.RouteFault.TheVariants.{BadArgs}
 use Rattle.route_frames.specs.declared.line_reading.TheConstants.{WEIGHT_DIGITS}
 use Rattle.route_frames.specs.Meaning.{Meaning, ◌>>=◌}
 use Rattle.route_frames.specs.CommonFields.{digits_of}
 use Rattle.route_frames.specs.NumberedLines.{key_of}
-use Rattle.route_frames.specs.Snapshots.{Weighted, weighted_key, snapshot_of}
 
 -- what stands between these bytes
 abbrev pub pieces : ℕ → List ℕ → List (List ℕ)

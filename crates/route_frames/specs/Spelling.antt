@@ -6,18 +6,18 @@ use Rattle.serde_json.specs.Data.{Data, string}
 use Rattle.serde_json.specs.Find.{get}
 use Rattle.line_fields.specs.Fields.{fields, begins_with_field, is_word, number_of}
 use Rattle.subj.specs.declared.limits.TheConstants.{MAX_SNAPSHOT}
+use Rattle.route_values.specs.declared.bodies.Body.{Body}
+use Rattle.route_values.specs.declared.bodies.Body.TheVariants.{Plus, Minus, Snapshot, Msg}
+use Rattle.route_values.specs.declared.frames.RouteFrame.{RouteFrame}
+use Rattle.route_values.specs.declared.frames.RouteFrame.TheVariants as route
+use Rattle.route_values.specs.Records.{Info, Connect}
+use Rattle.route_values.specs.Frames.{Frame}
+use Rattle.route_values.specs.Snapshots.{Weighted, line_end}
+use Rattle.route_values.specs.Valid.{IsRouteFrame}
 use Rattle.route_frames.specs.declared.common.TheConstants.{INCARNATION_DIGITS, NUMBER_DIGITS}
 use Rattle.route_frames.specs.declared.line_reading.TheConstants.{WEIGHT_DIGITS, SIZE_DIGITS}
-use Rattle.route_frames.specs.declared.bodies.Body.{Body}
-use Rattle.route_frames.specs.declared.bodies.Body.TheVariants.{Plus, Minus, Snapshot, Msg}
-use Rattle.route_frames.specs.declared.frames.RouteFrame.{RouteFrame}
-use Rattle.route_frames.specs.declared.frames.RouteFrame.TheVariants as route
-use Rattle.route_frames.specs.Records.{Info, Connect}
-use Rattle.route_frames.specs.Frames.{Frame}
-use Rattle.route_frames.specs.Snapshots.{Weighted, line_end}
 use Rattle.route_frames.specs.Greetings.{json_of}
 use Rattle.route_frames.specs.Canonical.{counted, operation_word, form_fields}
-use Rattle.route_frames.specs.Valid.{IsRouteFrame}
 
 -- one to so many digits that are the number; zeros may stand in front
 abbrev pub IsNumber : ℕ → List ℕ → ℕ → Type 0

@@ -3,19 +3,17 @@
 ghost use Rattle.std.specs.Prelude.{◌≡◌, ◌+◌, ◌≤◌, ◌∷◌, ◌++◌, length, decimal, is_ok, vec_len, vec_capacity, if◌then◌else◌, IfOk, OnOk, string_bytes, map};
 ghost use Rattle.serde_json.specs.View.{view};
 ghost use Rattle.serde_json.specs.Written.{compact_text};
+ghost use Rattle.route_values.specs.declared.frames.RouteFrame.TheVariants.{Info, Connect};
+ghost use Rattle.route_values.specs.declared.frames.RouteFrame.TheVariants as route;
+ghost use Rattle.route_values.specs.declared.bodies.Body.TheVariants.{Plus, Minus, Snapshot, Msg};
+ghost use Rattle.route_values.specs.Snapshots.{snapshot_text as text_of_snapshot, key_line as line_of_key, line_end};
 ghost use Rattle.route_frames.specs.Canonical.{info_json, connect_json, spaced, operation_word, common_of, member_fields, form_fields, body_fields, numbered_line, canonical_line, frame_bytes, body_payload, payload_bytes};
-ghost use Rattle.route_frames.specs.declared.frames.RouteFrame.TheVariants.{Info, Connect};
-ghost use Rattle.route_frames.specs.declared.frames.RouteFrame.TheVariants as route;
-ghost use Rattle.route_frames.specs.declared.bodies.Body.TheVariants.{Plus, Minus, Snapshot, Msg};
-ghost use Rattle.route_frames.specs.Snapshots.{snapshot_text as text_of_snapshot, key_line as line_of_key, line_end};
 ghost use Rattle.std.specs.Option.{option_copied};
 
-use crate::bodies::Body;
-use crate::connect::RouteConnect;
-use crate::frames::{Numbered, RouteFrame};
-use crate::info::RouteInfo;
-use crate::snapshots::{SnapshotKeys, WeightedKey};
 use itoa::Buffer;
+use route_values::{
+    Body, Numbered, RouteConnect, RouteFrame, RouteInfo, SnapshotKeys, WeightedKey,
+};
 use serde_json::{Value, json};
 use std::alloc::{AllocError, Global};
 use subj::{Key, MAX_SNAPSHOT, Message, NodeId, QueueName, QueueNames, Subject};
@@ -181,7 +179,7 @@ fn put_message(line: &mut Vec<u8>, message: &Message, queues: &QueueNames) -> Re
 }
 
 /// Appends the line of a key of a snapshot, with its CR LF.
-#[tactic(auto, unfolding(crate::specs::Snapshots::key_line))]
+#[tactic(auto, unfolding(route_values::specs::Snapshots::key_line))]
 fn put_key(text: &mut Vec<u8>, entry: &WeightedKey) -> Result<(), AllocError>
     ensures { OnOk result (text.new.items ≡ text.old.items ++ line_of_key entry.now) }
 {

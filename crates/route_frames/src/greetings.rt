@@ -8,9 +8,8 @@ ghost use Rattle.route_frames.specs.Greetings.{json_of, object_of, whole_at, who
 ghost use Rattle.route_frames.specs.declared.faults.RouteFault.TheVariants.{BadArgs};
 
 use crate::common::node;
-use crate::connect::RouteConnect;
 use crate::faults::RouteFault;
-use crate::info::RouteInfo;
+use route_values::{RouteConnect, RouteInfo};
 use serde_json::Value;
 use std::alloc::Global;
 use subj::{Failure, Incarnation, MAX_COUNTER, MAX_INCARNATION, NodeId};

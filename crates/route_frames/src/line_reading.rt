@@ -12,7 +12,7 @@ use crate::arguments::{MessageFields, MinusFields, PlusFields, size_alone};
 use crate::common::{Common, node, spelt_number, within};
 use crate::faults::RouteFault;
 use crate::lines::{LineBody, NumberedLine};
-use crate::snapshots::WeightedKey;
+use route_values::WeightedKey;
 use std::alloc::Global;
 use subj::{
     Failure, Key, MAX_PAYLOAD, MAX_QUEUE_NAMES, MAX_SNAPSHOT, MAX_WEIGHT, Pattern, QueueName,

@@ -4,9 +4,7 @@ ghost use Rattle.std.specs.Prelude.{◌≡◌};
 ghost use Rattle.route_frames.specs.Announced.{announced_size};
 
 use crate::common::Numbers;
-use crate::connect::RouteConnect;
-use crate::info::RouteInfo;
-use crate::snapshots::WeightedKey;
+use route_values::{RouteConnect, RouteInfo, WeightedKey};
 use subj::{Key, NodeId, QueueNames, Reply, Subject};
 
 /// What the line of a numbered frame says behind the common fields.

@@ -9,10 +9,8 @@ ghost use Rattle.route_frames.specs.NumberedLines.{plus_line, minus_line, snapsh
 ghost use Rattle.route_frames.specs.Lines.{numbered, line_meaning};
 ghost use Rattle.route_frames.specs.Refusals.{IsSizeOf, IsFrameOf};
 
-use crate::bodies::Body;
 use crate::common::Common;
 use crate::faults::RouteFault;
-use crate::frames::{Numbered, RouteFrame};
 use crate::greetings::{read_connect, read_info};
 use crate::line_reading::{read_message, read_minus, read_plus, read_snapshot};
 use crate::lines::{LineBody, NumberedLine, RouteLine};
@@ -20,6 +18,7 @@ use crate::operation::Operation;
 use crate::snapshot_reading::read_snapshot_keys;
 use bytes::Bytes;
 use line_fields::split_line;
+use route_values::{Body, Numbered, RouteFrame};
 use std::alloc::Global;
 use subj::{Failure, Message};
 

@@ -8,7 +8,7 @@ ghost use Rattle.route_frames.specs.SnapshotTexts.{pieces, plain_key, queue_key,
 use crate::common::spelt_number;
 use crate::faults::RouteFault;
 use crate::line_reading::{WEIGHT_DIGITS, key};
-use crate::snapshots::{SnapshotKeys, WeightedKey};
+use route_values::{SnapshotKeys, WeightedKey};
 use std::alloc::Global;
 use subj::Failure;
 

@@ -1,5 +1,5 @@
 use Rattle.std.proofs.Common.{◌≡◌, take}
-use Rattle.route_frames.specs.Snapshots.{snapshot_text}
+use Rattle.route_values.specs.Snapshots.{snapshot_text}
 use Rattle.route_frames.proofs.encoding.snapshot_text.Given as goal
 
 -- the lines of the keys so far

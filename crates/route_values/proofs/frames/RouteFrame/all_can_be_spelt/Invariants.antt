@@ -1,6 +1,6 @@
 use Rattle.std.proofs.Common.{length}
-use Rattle.route_frames.specs.InStream.{AreRouteFrames}
-use Rattle.route_frames.proofs.frames.RouteFrame.all_can_be_spelt.Given as goal
+use Rattle.route_values.specs.Valid.{AreRouteFrames}
+use Rattle.route_values.proofs.frames.RouteFrame.all_can_be_spelt.Given as goal
 
 -- all can be spelt where what is left can
 abbrev pub invariant-loop-frame : goal.invariant-loop-frame

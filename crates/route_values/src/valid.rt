@@ -3,8 +3,7 @@
 ghost use Rattle.std.specs.Prelude.{◌≡◌, None};
 ghost use Rattle.std.specs.Option.{option_copied};
 ghost use Rattle.subj.specs.Names.{node_name_fault};
-ghost use Rattle.route_frames.specs.InStream.{AreRouteFrames};
-ghost use Rattle.route_frames.specs.Valid.{IsReply, IsMessage, IsBody, IsIncarnation, IsFrame, IsInfo, IsConnect, IsRouteFrame};
+ghost use Rattle.route_values.specs.Valid.{IsReply, IsMessage, IsBody, IsIncarnation, IsFrame, IsInfo, IsConnect, IsRouteFrame, AreRouteFrames};
 
 use crate::bodies::Body;
 use crate::connect::RouteConnect;
@@ -99,6 +98,7 @@ impl RouteFrame {
             RouteFrame::Numbered(frame) => is_frame(frame),
         }
     }
+
     /// Any frames hold only what can be spelt. The call walks over them, and changes nothing.
     pub fn all_can_be_spelt(frames: &[RouteFrame])
         ensures { AreRouteFrames frames.now }

@@ -1,7 +1,7 @@
 //! Numbered frames, and all frames of a route.
 
 ghost use Rattle.std.specs.Prelude.{◌≡◌, true, IfOk};
-ghost use Rattle.route_frames.specs.Frames.{frame_of, is_number as numbers};
+ghost use Rattle.route_values.specs.Frames.{frame_of, is_number as numbers};
 
 use crate::bodies::Body;
 use crate::connect::RouteConnect;
@@ -33,7 +33,7 @@ pub struct Numbered {
 
 impl Model for Numbered {
     ghost use Rattle.std.specs.Prelude.{◌≡◌, true};
-    ghost use Rattle.route_frames.specs.Frames.{Frame, is_number};
+    ghost use Rattle.route_values.specs.Frames.{Frame, is_number};
 
     ghost Value = { Frame };
 

@@ -3,7 +3,7 @@ use Rattle.std.proofs.Common.{◌≡◌, ℕ, ◌+◌, ◌<◌, ◌≤◌, List,
 use Rattle.std.specs.List.{sum_by}
 use Rattle.std.proofs.lemmas.List.Concat.{length-flat_map}
 use Rattle.std.proofs.lemmas.List.Sums.{sum_by_more, sum_by-take-le}
-use Rattle.route_frames.specs.Snapshots.{Weighted, key_line, snapshot_text}
+use Rattle.route_values.specs.Snapshots.{Weighted, key_line, snapshot_text}
 
 text_len : (keys : List Weighted) → length (snapshot_text keys) ≡ sum_by (λ entry. length (key_line entry)) keys
 text_len keys = length-flat_map key_line keys

@@ -1,5 +1,5 @@
 use Rattle.std.proofs.Common.{◌≡◌, take}
-use Rattle.route_frames.proofs.snapshots.SnapshotKeys.try_clone.Given as goal
+use Rattle.route_values.proofs.snapshots.SnapshotKeys.try_clone.Given as goal
 
 -- as many copies as keys were passed
 abbrev pub invariant-loop-entry : goal.invariant-loop-entry

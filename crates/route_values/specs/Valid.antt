@@ -4,14 +4,14 @@ use Rattle.subj.specs.declared.limits.TheConstants.{MAX_INCARNATION, MAX_PAYLOAD
 use Rattle.subj.specs.Messages.{Content}
 use Rattle.subj.specs.Names.{node_name_fault, subject_fault, queue_name_fault}
 use Rattle.subj.specs.QueueNames.{are_queue_names}
-use Rattle.route_frames.specs.declared.bodies.Body.{Body}
-use Rattle.route_frames.specs.declared.bodies.Body.TheVariants.{Plus, Minus, Snapshot, Msg}
-use Rattle.route_frames.specs.declared.frames.RouteFrame.{RouteFrame}
-use Rattle.route_frames.specs.declared.frames.RouteFrame.TheVariants as route
-use Rattle.route_frames.specs.Records.{Info, Connect, is_serial}
-use Rattle.route_frames.specs.Frames.{Frame, is_number}
-pub use Rattle.route_frames.specs.ValidKeys.{IsKey, IsWeighted, AreSnapshotKeys}
-unfoldable pub use Rattle.route_frames.specs.ValidKeys.{IsQueue, AreWeighted}
+use Rattle.route_values.specs.declared.bodies.Body.{Body}
+use Rattle.route_values.specs.declared.bodies.Body.TheVariants.{Plus, Minus, Snapshot, Msg}
+use Rattle.route_values.specs.declared.frames.RouteFrame.{RouteFrame}
+use Rattle.route_values.specs.declared.frames.RouteFrame.TheVariants as route
+use Rattle.route_values.specs.Records.{Info, Connect, is_serial}
+use Rattle.route_values.specs.Frames.{Frame, is_number}
+pub use Rattle.route_values.specs.ValidKeys.{IsKey, IsWeighted, AreSnapshotKeys}
+unfoldable pub use Rattle.route_values.specs.ValidKeys.{IsQueue, AreWeighted}
 
 abbrev pub AreNames : List (List ℕ) → Type 0
 AreNames [] = Unit {0}
@@ -61,3 +61,8 @@ abbrev pub IsRouteFrame : RouteFrame → Type 0
 IsRouteFrame (route.Info info) = IsInfo info
 IsRouteFrame (route.Connect connect) = IsConnect connect
 IsRouteFrame (route.Numbered frame) = IsFrame frame
+
+-- each holds only what can be spelt
+abbrev pub AreRouteFrames : List RouteFrame → Type 0
+AreRouteFrames [] = Unit {0}
+AreRouteFrames (frame ∷ frames) = IsRouteFrame frame × AreRouteFrames frames

@@ -1,7 +1,7 @@
 //! What the dialing side of a route answers.
 
 ghost use Rattle.std.specs.Prelude.{◌≡◌, true};
-ghost use Rattle.route_frames.specs.Records.{connect_of, is_serial};
+ghost use Rattle.route_values.specs.Records.{connect_of, is_serial};
 
 use std::marker::Model;
 use subj::{Incarnation, MAX_COUNTER, NodeId};
@@ -20,7 +20,7 @@ pub struct RouteConnect {
 
 impl Model for RouteConnect {
     ghost use Rattle.std.specs.Prelude.{◌≡◌, true};
-    ghost use Rattle.route_frames.specs.Records.{Connect, is_serial};
+    ghost use Rattle.route_values.specs.Records.{Connect, is_serial};
 
     ghost Value = { Connect };
 

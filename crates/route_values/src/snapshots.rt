@@ -1,8 +1,8 @@
 //! Keys with their weights, and the keys of a snapshot.
 
 ghost use Rattle.std.specs.Prelude.{◌≡◌, ◌^◌, ◌<◌, true, [], length, IfOk};
-ghost use Rattle.route_frames.specs.ValidKeys.{IsKey, IsWeighted, AreWeighted, AreSnapshotKeys};
-ghost use Rattle.route_frames.specs.Snapshots.{is_weight as weighs, weighted_key, queue_fields, key_line, is_before_first as before_first, are_rising as rising, is_short as short, are_snapshot_keys, snapshot_of};
+ghost use Rattle.route_values.specs.ValidKeys.{IsKey, IsWeighted, AreWeighted, AreSnapshotKeys};
+ghost use Rattle.route_values.specs.Snapshots.{is_weight as weighs, weighted_key, queue_fields, key_line, is_before_first as before_first, are_rising as rising, is_short as short, are_snapshot_keys, snapshot_of};
 
 use itoa::Buffer;
 use std::alloc::{AllocError, Global};
@@ -22,7 +22,7 @@ pub struct WeightedKey {
 impl Model for WeightedKey {
     ghost use Rattle.std.specs.Prelude.{ℕ};
     ghost use Rattle.subj.specs.declared.keys.Key.{Key};
-    ghost use Rattle.route_frames.specs.ValidKeys.{IsWeighted};
+    ghost use Rattle.route_values.specs.ValidKeys.{IsWeighted};
 
     ghost Value = { Key × ℕ };
 
@@ -167,7 +167,7 @@ pub struct SnapshotKeys {
 impl Model for SnapshotKeys {
     ghost use Rattle.std.specs.Prelude.{ℕ, List};
     ghost use Rattle.subj.specs.declared.keys.Key.{Key};
-    ghost use Rattle.route_frames.specs.ValidKeys.{AreSnapshotKeys};
+    ghost use Rattle.route_values.specs.ValidKeys.{AreSnapshotKeys};
 
     ghost Value = { List (Key × ℕ) };
 

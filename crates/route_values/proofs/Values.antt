@@ -2,7 +2,7 @@
 use Rattle.std.proofs.Common.{ℕ, List, [], ◌∷◌, All}
 use Rattle.std.proofs.lemmas.List.Elements.{All-head, All-tail}
 use Rattle.subj.specs.QueueNames.{IsQueueName}
-use Rattle.route_frames.specs.Valid.{AreNames}
+use Rattle.route_values.specs.Valid.{AreNames}
 
 pub names_from_all : (names : List (List ℕ)) → All IsQueueName names → AreNames names
 names_from_all [] each = tt

@@ -14,7 +14,7 @@ pub struct RouteInfo {
 }
 
 impl Model for RouteInfo {
-    ghost use Rattle.route_frames.specs.Records.{Info};
+    ghost use Rattle.route_values.specs.Records.{Info};
 
     ghost Value = { Info };
 

@@ -1,8 +1,8 @@
 -- Numbered frames (profile).
 use Rattle.std.specs.Prelude.{ℕ, Bool, true, false, ◌&&◌, ◌||◌, nat_le, List, Option, Some, None, if◌then◌else◌}
 use Rattle.subj.specs.declared.limits.TheConstants.{MAX_COUNTER}
-use Rattle.route_frames.specs.declared.bodies.Body.{Body}
-use Rattle.route_frames.specs.declared.bodies.Body.TheVariants.{Plus, Minus, Snapshot, Msg}
+use Rattle.route_values.specs.declared.bodies.Body.{Body}
+use Rattle.route_values.specs.declared.bodies.Body.TheVariants.{Plus, Minus, Snapshot, Msg}
 
 -- who sends it, in which incarnation; to whom, and in which of its incarnations; the number; and what it says
 pub record Frame : Type 0 where

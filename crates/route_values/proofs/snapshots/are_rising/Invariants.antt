@@ -1,7 +1,7 @@
 use Rattle.std.proofs.Common.{◌≡◌, length}
-use Rattle.route_frames.specs.Snapshots.{are_rising}
-use Rattle.route_frames.specs.ValidKeys.{AreWeighted}
-use Rattle.route_frames.proofs.snapshots.are_rising.Given as goal
+use Rattle.route_values.specs.Snapshots.{are_rising}
+use Rattle.route_values.specs.ValidKeys.{AreWeighted}
+use Rattle.route_values.proofs.snapshots.are_rising.Given as goal
 
 -- what is left decides as the whole does, and all have their weights where what is left have
 abbrev pub invariant-loop-entry : goal.invariant-loop-entry

@@ -2,7 +2,7 @@
 use Rattle.std.specs.Prelude.{◌≡◌, ℕ, true, List, [], ◌∷◌, Option, Some, None}
 use Rattle.subj.specs.declared.keys.Key.{Key}
 use Rattle.subj.specs.Names.{pattern_fault, queue_name_fault}
-use Rattle.route_frames.specs.Snapshots.{Weighted, is_weight, are_snapshot_keys}
+use Rattle.route_values.specs.Snapshots.{Weighted, is_weight, are_snapshot_keys}
 
 abbrev pub IsQueue : Option (List ℕ) → Type 0
 IsQueue None = Unit {0}

@@ -1,0 +1,5 @@
+pub mod Snapshots
+pub mod Records
+pub mod Frames
+pub mod ValidKeys
+pub mod Valid
