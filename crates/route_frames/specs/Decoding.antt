@@ -44,9 +44,14 @@ frame_behind (line.Info info) payload = Ok (Info info)
 frame_behind (line.Connect connect) payload = Ok (Connect connect)
 frame_behind (line.Numbered numbered) payload = numbered_meaning numbered payload >>= λ frame. Ok (Numbered frame)
 
--- the line is judged first, then the size of the payload, and then the payload
+-- a line that was read, with the payload behind it: its size is judged first, and then the payload
+abbrev pub joined : RouteLine → List ℕ → Meaning RouteFrame
+joined read payload = do
+  fits ← sized (announced_size read) payload
+  frame_behind read payload
+
+-- the line is judged before its payload
 unfoldable pub frame_meaning : List ℕ → List ℕ → Meaning RouteFrame
 frame_meaning text payload = do
   read ← line_meaning text
-  fits ← sized (announced_size read) payload
-  frame_behind read payload
+  joined read payload

@@ -5,6 +5,8 @@ use Rattle.subj.specs.declared.failures.Failure.TheVariants.{Refused, OutOfMemor
 use Rattle.route_values.specs.declared.frames.RouteFrame.{RouteFrame}
 use Rattle.route_frames.specs.declared.faults.RouteFault.{RouteFault}
 use Rattle.route_frames.specs.declared.faults.RouteFault.TheVariants.{BadArgs}
+use Rattle.route_frames.specs.declared.lines.RouteLine.{RouteLine}
+use Rattle.route_frames.specs.Announced.{announced_size}
 use Rattle.route_frames.specs.Spelling.{SpellsLine, Spells}
 use Rattle.route_frames.specs.Causes.{line_cause}
 
@@ -20,6 +22,12 @@ abbrev pub IsSizeOf : List ℕ → Result (Option ℕ) (Failure RouteFault) → 
 IsSizeOf line (Ok size) = Announces line size
 IsSizeOf line (Err (Refused fault)) = IsCause (line_cause line) ((size : Option ℕ) × Announces line size) fault
 IsSizeOf line (Err OutOfMemory) = ⊤
+
+-- the same of a line that was read, before its payload has come
+abbrev pub IsReadOf : List ℕ → Result RouteLine (Failure RouteFault) → Type 0
+IsReadOf line (Ok read) = Announces line (announced_size read)
+IsReadOf line (Err (Refused fault)) = IsCause (line_cause line) ((size : Option ℕ) × Announces line size) fault
+IsReadOf line (Err OutOfMemory) = ⊤
 
 abbrev pub IsFrameOf : List ℕ → List ℕ → Result RouteFrame (Failure RouteFault) → Type 0
 IsFrameOf line payload (Ok frame) = Spells frame line payload

@@ -19,6 +19,7 @@ pub use laws::{
     canonical_is_read_again, spelling_begins_no_other, spelt_is_what_is_read,
     written_is_read_in_any_feeds,
 };
+pub use lines::{NumberedLine, RouteLine};
 pub use reading::{decode, payload_size};
 pub use route_values::{
     Body, Numbered, RouteConnect, RouteFrame, RouteInfo, SnapshotKeys, WeightedKey,

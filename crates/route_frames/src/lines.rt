@@ -23,26 +23,30 @@ pub(crate) enum LineBody {
     },
 }
 
-/// The line of a numbered frame.
+/// The line of a numbered frame, as it was read.
 #[derive(Debug, Drop)]
-pub(crate) struct NumberedLine {
+pub struct NumberedLine {
     pub(crate) from: NodeId,
     pub(crate) to: NodeId,
     pub(crate) numbers: Numbers,
     pub(crate) body: LineBody,
 }
 
-/// The line of a frame.
+/// The line of a frame, as it was read, while its payload is still to come: whoever takes frames from a
+/// stream reads each line once, waits for as many bytes as it announces, and joins the two.
 #[derive(Debug, Drop)]
-pub(crate) enum RouteLine {
+pub enum RouteLine {
+    /// The whole of an `INFO`.
     Info(RouteInfo),
+    /// The whole of a `CONNECT`.
     Connect(RouteConnect),
+    /// The line of any other frame.
     Numbered(NumberedLine),
 }
 
 impl RouteLine {
-    /// How many bytes of payload the line announces, where it announces any.
-    pub(crate) fn announced(&self) -> Option<u64>
+    /// How many bytes of payload follow the line, where any do.
+    pub fn payload_size(&self) -> Option<u64>
         ensures { result ≡ announced_size self.now }
     {
         match self {

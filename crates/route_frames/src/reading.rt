@@ -1,13 +1,13 @@
 //! Reading the frames of a route.
 
-ghost use Rattle.std.specs.Prelude.{◌≡◌};
+ghost use Rattle.std.specs.Prelude.{◌≡◌, ℕ, List, Ok};
 ghost use Rattle.line_fields.specs.Fields.{fields};
 ghost use Rattle.route_frames.specs.declared.operation.Operation.TheVariants as operation;
 ghost use Rattle.route_frames.specs.Meaning.{Means};
-ghost use Rattle.route_frames.specs.Decoding.{size_meaning, sized, body_meaning, numbered_meaning, frame_meaning};
+ghost use Rattle.route_frames.specs.Decoding.{size_meaning, sized, body_meaning, numbered_meaning, joined, frame_meaning};
 ghost use Rattle.route_frames.specs.NumberedLines.{plus_line, minus_line, snapshot_line, message_line};
 ghost use Rattle.route_frames.specs.Lines.{numbered, line_meaning};
-ghost use Rattle.route_frames.specs.Refusals.{IsSizeOf, IsFrameOf};
+ghost use Rattle.route_frames.specs.Refusals.{IsSizeOf, IsReadOf, IsFrameOf};
 
 use crate::common::Common;
 use crate::faults::RouteFault;
@@ -54,7 +54,6 @@ fn message(alloc: Global, text: &[u8]) -> Result<RouteLine, Failure<RouteFault>>
     Ok(RouteLine::Numbered(line))
 }
 
-/// What a line says alone.
 #[tactic(auto, using(crate::proofs::Behind::behind_first))]
 fn read_line(alloc: Global, line: &[u8]) -> Result<RouteLine, Failure<RouteFault>>
     ensures { Means (line_meaning line.now) result }
@@ -71,32 +70,6 @@ fn read_line(alloc: Global, line: &[u8]) -> Result<RouteLine, Failure<RouteFault
         Some(Operation::Snapshot) => snapshot(text),
         Some(Operation::Msg) => message(alloc, text),
     }
-}
-
-fn read_size(alloc: Global, line: &[u8]) -> Result<Option<u64>, Failure<RouteFault>>
-    ensures { Means (size_meaning line.now) result }
-{
-    let line = read_line(alloc, line)?;
-    Ok(line.announced())
-}
-
-/// How many bytes of payload follow a line, where any do; the line has no CR LF. It makes every test
-/// that the line alone allows.
-///
-/// Refused by what the line means: `UnknownOp` where it is empty, begins with a blank or names no
-/// operation of a route; `BadArgs` for a number of fields that the operation does not have; then
-/// `TooManyQueues` for more than [`MAX_QUEUE_NAMES`](subj::MAX_QUEUE_NAMES) queue names; then
-/// `BadArgs` for a number that is no digits or has too many; then `BadNumber` for one out of its range;
-/// then `BadArgs` for all else: an account other than `$G`, a name, a pattern, a subject or a reply
-/// that is none, queue names that do not stand in strictly rising order. For `INFO` and `CONNECT`:
-/// `BadArgs` for a text that is no JSON object; then `BadNumber` for a number that is whole and out of
-/// its range; then `BadArgs` for a member that is missing or is of another kind. Want of memory may
-/// stand in place of any answer. (Profile.)
-pub fn payload_size(alloc: Global, line: &[u8]) -> Result<Option<u64>, Failure<RouteFault>>
-    ensures spelt { IsSizeOf line.now result }
-    ensures means { Means (size_meaning line.now) result }
-{
-    read_size(alloc, line)
 }
 
 /// Whether a payload has the announced size.
@@ -153,13 +126,11 @@ fn read_numbered(
     Ok(frame)
 }
 
-#[tactic(auto, unfolding(crate::specs::Decoding::frame_meaning))]
-fn read_frame(alloc: Global, line: &[u8], payload: Bytes) -> Result<RouteFrame, Failure<RouteFault>>
-    ensures { Means (frame_meaning line.now payload) result }
+fn join(alloc: Global, line: RouteLine, payload: Bytes) -> Result<RouteFrame, Failure<RouteFault>>
+    ensures { Means (joined line payload) result }
 {
-    let read = read_line(alloc, line)?;
-    check_size(read.announced(), payload.as_slice())?;
-    match read {
+    check_size(line.payload_size(), payload.as_slice())?;
+    match line {
         RouteLine::Info(info) => Ok(RouteFrame::Info(info)),
         RouteLine::Connect(connect) => Ok(RouteFrame::Connect(connect)),
         RouteLine::Numbered(line) => {
@@ -169,15 +140,61 @@ fn read_frame(alloc: Global, line: &[u8], payload: Bytes) -> Result<RouteFrame, 
     }
 }
 
-/// The frame that a line and the payload behind it spell; neither has its CR LF. The payload is shared
-/// and not copied. Where the line announces none, the payload has to be empty.
-///
-/// Refused by what [`payload_size`] tells of the line; then `BadArgs` for a payload of another size
-/// than announced, and for one that is not the text of a snapshot behind `RSS`. Want of memory may
-/// stand in place of any answer. (NATS documentation, "Cluster Protocol"; profile.)
+impl RouteLine {
+    /// What a line says, which has no CR LF. Every test is made that the line alone allows.
+    ///
+    /// Refused by what the line means: `UnknownOp` where it is empty, begins with a blank or names no
+    /// operation of a route; `BadArgs` for a number of fields that the operation does not have; then
+    /// `TooManyQueues` for more than [`MAX_QUEUE_NAMES`](subj::MAX_QUEUE_NAMES) queue names; then
+    /// `BadArgs` for a number that is no digits or has too many; then `BadNumber` for one out of its
+    /// range; then `BadArgs` for all else: an account other than `$G`, a name, a pattern, a subject or a
+    /// reply that is none, queue names that do not stand in strictly rising order. For `INFO` and
+    /// `CONNECT`: `BadArgs` for a text that is no JSON object; then `BadNumber` for a number that is
+    /// whole and out of its range; then `BadArgs` for a member that is missing or is of another kind.
+    /// Want of memory may stand in place of any answer. (NATS documentation, "Cluster Protocol";
+    /// profile.)
+    pub fn read(alloc: Global, line: &[u8]) -> Result<RouteLine, Failure<RouteFault>>
+        ensures spelt { IsReadOf line.now result }
+        ensures means { Means (line_meaning line.now) result }
+    {
+        read_line(alloc, line)
+    }
+
+    /// The frame of the line and the payload behind it, which has no CR LF and is shared, not copied.
+    /// Where the line announces none, the payload has to be empty.
+    ///
+    /// Refused by `BadArgs`: for a payload of another size than announced, and for one that is not the
+    /// text of a snapshot behind `RSS`. Want of memory may stand in place of any answer. (Profile.)
+    pub fn into_frame(
+        self,
+        alloc: Global,
+        payload: Bytes,
+    ) -> Result<RouteFrame, Failure<RouteFault>>
+        ensures spelt { (line : List ℕ) → line_meaning line ≡ Ok self → IsFrameOf line payload result }
+        ensures means { Means (joined self payload) result }
+    {
+        join(alloc, self, payload)
+    }
+}
+
+/// How many bytes of payload follow a line, where any do. Refused by what [`RouteLine::read`] tells of
+/// it. (Profile.)
+pub fn payload_size(alloc: Global, line: &[u8]) -> Result<Option<u64>, Failure<RouteFault>>
+    ensures spelt { IsSizeOf line.now result }
+    ensures means { Means (size_meaning line.now) result }
+{
+    let line = RouteLine::read(alloc, line)?;
+    Ok(line.payload_size())
+}
+
+/// The frame that a line and the payload behind it spell; neither has its CR LF. Refused by what
+/// [`RouteLine::read`] tells of the line, and then by what [`RouteLine::into_frame`] tells of the
+/// payload. (NATS documentation, "Cluster Protocol"; profile.)
+#[tactic(auto, unfolding(crate::specs::Decoding::frame_meaning))]
 pub fn decode(alloc: Global, line: &[u8], payload: Bytes) -> Result<RouteFrame, Failure<RouteFault>>
     ensures spelt { IsFrameOf line.now payload result }
     ensures means { Means (frame_meaning line.now payload) result }
 {
-    read_frame(alloc, line, payload)
+    let read = RouteLine::read(alloc, line)?;
+    read.into_frame(alloc, payload)
 }

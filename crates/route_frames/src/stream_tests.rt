@@ -1,28 +1,21 @@
 //! Frames as they stand in a stream, in one part and byte by byte.
 
-use crate::{decode, encode, payload_size};
+use crate::{RouteLine, encode};
 use bytes::Bytes;
 use std::alloc::Global;
 use std::test::Fail;
 use subj::{MAX_SNAPSHOT, ROUTE_LINE};
 use wire_cut::{Cutter, Piece};
 
-/// A line, and what comes behind it.
-#[derive(Debug, Drop)]
-struct Pending {
-    line: Vec<u8>,
-    size: Option<u64>,
-}
-
-/// Reads the frame of a line and its payload, and appends its spelling.
-fn spell(alloc: Global, line: &[u8], payload: &[u8], out: &mut Vec<u8>) -> Result<(), Fail> {
+/// Joins a line with its payload, and appends the spelling of that frame.
+fn spell(alloc: Global, line: RouteLine, payload: &[u8], out: &mut Vec<u8>) -> Result<(), Fail> {
     let payload = Bytes::copy_from_slice(alloc, payload)?;
-    let frame = decode(alloc, line, payload).ok().ok_or("a frame")?;
+    let frame = line.into_frame(alloc, payload).ok().ok_or("a frame")?;
     encode(&frame, out)?;
     Ok(())
 }
 
-/// The bytes of the next piece, and whether it is a line.
+/// The bytes of the next piece.
 fn next_piece(alloc: Global, cutter: &mut Cutter) -> Result<Option<Vec<u8>>, Fail> {
     match cutter.next() {
         Ok(None) => Ok(None),
@@ -41,28 +34,27 @@ fn expect(cutter: &mut Cutter, size: u64) -> Result<(), Fail> {
     Ok(cutter.expect(size).ok().ok_or("a size")?)
 }
 
-/// Takes the frames that are whole, and appends their spellings.
+/// Takes the frames that are whole, and appends their spellings. A line waits for its payload.
 fn take_frames(
     alloc: Global,
     cutter: &mut Cutter,
-    pending: &mut Pending,
+    waiting: &mut Option<RouteLine>,
     out: &mut Vec<u8>,
 ) -> Result<(), Fail> {
     for _ in 0..u64::MAX {
         let Some(bytes) = next_piece(alloc, cutter)? else {
             return Ok(());
         };
-        if pending.size.take().is_some() {
-            spell(alloc, &pending.line, &bytes, out)?;
+        if let Some(line) = waiting.take() {
+            spell(alloc, line, &bytes, out)?;
             continue;
         }
-        let size = payload_size(alloc, &bytes).ok().ok_or("a line")?;
-        match size {
-            None => spell(alloc, &bytes, b"", out)?,
-            Some(announced) => {
-                expect(cutter, announced)?;
-                pending.line = bytes;
-                pending.size = size;
+        let line = RouteLine::read(alloc, &bytes).ok().ok_or("a line")?;
+        match line.payload_size() {
+            None => spell(alloc, line, b"", out)?,
+            Some(size) => {
+                expect(cutter, size)?;
+                *waiting = Some(line);
             }
         }
     }
@@ -72,14 +64,11 @@ fn take_frames(
 /// The spellings of the frames of a stream that comes in parts of so many bytes.
 fn respelt(alloc: Global, stream: &[u8], part: usize) -> Result<Vec<u8>, Fail> {
     let mut cutter = Cutter::new(alloc, ROUTE_LINE, MAX_SNAPSHOT as u64);
-    let mut pending = Pending {
-        line: Vec::new(alloc),
-        size: None,
-    };
+    let mut waiting = None;
     let mut out = Vec::new(alloc);
     for bytes in stream.chunks(part.max(1)) {
         cutter.feed(bytes).ok().ok_or("a stream that goes on")?;
-        take_frames(alloc, &mut cutter, &mut pending, &mut out)?;
+        take_frames(alloc, &mut cutter, &mut waiting, &mut out)?;
     }
     Ok(out)
 }

@@ -1,5 +1,0 @@
-use Rattle.route_frames.proofs.Answered.{frame_answered}
-use Rattle.route_frames.proofs.reading.decode.Goals as goal
-
-pub returns-clause-spelt : goal.returns-clause-spelt
-returns-clause-spelt c = frame_answered c.args.line.now c.args.payload c.read_frame.result c.read_frame.ensures
