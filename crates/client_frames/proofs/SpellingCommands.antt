@@ -4,17 +4,18 @@ use Rattle.std.specs.Prelude.{codes, is_some}
 use Rattle.std.specs.Str.{bytes_eq, str_to_ascii_lowercase}
 use Rattle.std.proofs.lemmas.Slice.Eq.{bytes_eq-Decides}
 use Rattle.subj.specs.Names.{pattern_fault, sid_fault}
+use Rattle.line_fields.specs.Fields.{is_word, line_fields}
+use Rattle.line_fields.proofs.SpellingFields.{line_fields_are, begins_with_fields}
 use Rattle.client_frames.specs.declared.operation.Operation.{Operation}
 use Rattle.client_frames.specs.declared.operation.Operation.TheVariants as operation
 use Rattle.client_frames.specs.declared.client_line.ClientLine.{ClientLine}
 use Rattle.client_frames.specs.declared.client_line.ClientLine.TheVariants.{Connect, Pub, PubBad, Sub, Unsub, Ping, Pong}
 use Rattle.client_frames.specs.declared.faults.LineFault.{LineFault}
 use Rattle.client_frames.specs.declared.faults.LineFault.TheVariants.{BadArgs, BadSubject}
-use Rattle.client_frames.specs.Fields.{Arguments, two_or_three, line_fields, size_of}
-use Rattle.client_frames.specs.Operations.{is_word, operation_of}
+use Rattle.client_frames.specs.Arguments.{Arguments, two_or_three, size_of}
+use Rattle.client_frames.specs.Operations.{operation_of}
 use Rattle.client_frames.specs.Lines.{Meaning, line_meaning, fields_meaning, operation_meaning, publication_fault, publication_of, publication_sized, subscription_of, plain_subscription}
 use Rattle.client_frames.specs.Spelling.{NamesOperation, outer_fields, SpellsPub, SpellsBadPub, SpellsSub, FieldsSpell, Spells, MeansWhatItSpells, SpellsWhatItMeans, SpellsOneCommand, IsItsRefusal, IsRefusedOnce}
-use Rattle.client_frames.proofs.SpellingFields.{line_fields_are, begins_with_fields}
 
 -- ---- operations
 

@@ -1,4 +1,4 @@
-pub mod Fields
+pub mod Arguments
 pub mod Operations
 pub mod Lines
 pub mod Faults

@@ -7,13 +7,14 @@ use Rattle.subj.specs.Names.{subject_fault, pattern_fault, sid_fault}
 use Rattle.subj.specs.declared.names.NameFault.{NameFault}
 use Rattle.subj.specs.declared.failures.Failure.{Failure}
 use Rattle.subj.specs.Answers.{IsAnswered}
+use Rattle.line_fields.specs.Fields.{line_fields}
 use Rattle.client_frames.specs.declared.operation.Operation.{Operation}
 use Rattle.client_frames.specs.declared.operation.Operation.TheVariants as operation
 use Rattle.client_frames.specs.declared.client_line.ClientLine.{ClientLine}
 use Rattle.client_frames.specs.declared.client_line.ClientLine.TheVariants.{Pub, PubBad, Sub, Ping, Pong}
 use Rattle.client_frames.specs.declared.faults.LineFault.{LineFault}
 use Rattle.client_frames.specs.declared.faults.LineFault.TheVariants.{UnknownOp, BadArgs, BadSubject}
-use Rattle.client_frames.specs.Fields.{Arguments, two_or_three, line_fields, size_of}
+use Rattle.client_frames.specs.Arguments.{Arguments, two_or_three, size_of}
 use Rattle.client_frames.specs.Operations.{operation_of}
 
 -- a command, or why there is none

@@ -1,12 +1,8 @@
 -- The operations that clients ask for.
-use Rattle.std.specs.Prelude.{ℕ, Bool, List, codes, Option, Some, None, if◌then◌else◌}
-use Rattle.std.specs.Str.{bytes_eq, str_to_ascii_lowercase}
+use Rattle.std.specs.Prelude.{ℕ, List, codes, Option, Some, None, if◌then◌else◌}
+use Rattle.line_fields.specs.Fields.{is_word}
 use Rattle.client_frames.specs.declared.operation.Operation.{Operation}
 use Rattle.client_frames.specs.declared.operation.Operation.TheVariants.{Connect, Pub, Sub, Unsub, Ping, Pong}
-
--- NATS documentation, "Client Protocol": the ASCII letters of an operation ignore case
-abbrev pub is_word : List ℕ → List ℕ → Bool
-is_word word field = bytes_eq (str_to_ascii_lowercase field) (str_to_ascii_lowercase word)
 
 abbrev pub operation_of : List ℕ → Option Operation
 operation_of field =

@@ -1,46 +1,14 @@
 -- Client spelling as a grammar: how the bytes of a line are put together for a command.
 use Rattle.std.specs.Prelude.{◌≡◌, ℕ, true, false, List, [], ◌∷◌, ◌++◌, codes, Option, Some, None, Ok, Err, is_some}
 use Rattle.std.specs.Option.{option_to_list}
-use Rattle.std.specs.List.{list_all, list_any}
-use Rattle.subj.specs.Names.{is_empty, pattern_fault, sid_fault}
+use Rattle.subj.specs.Names.{pattern_fault, sid_fault}
+use Rattle.line_fields.specs.Fields.{is_word}
+use Rattle.line_fields.specs.Spelling.{IsLineOf}
 use Rattle.client_frames.specs.declared.client_line.ClientLine.{ClientLine}
 use Rattle.client_frames.specs.declared.client_line.ClientLine.TheVariants.{Connect, Pub, PubBad, Sub, Unsub, Ping, Pong}
 use Rattle.client_frames.specs.declared.faults.LineFault.{LineFault}
-use Rattle.client_frames.specs.Fields.{is_blank, size_of}
-use Rattle.client_frames.specs.Operations.{is_word}
+use Rattle.client_frames.specs.Arguments.{size_of}
 use Rattle.client_frames.specs.Lines.{line_meaning, publication_fault}
-
--- ---- fields
-
-abbrev pub AreBlanks : List ℕ → Type 0
-AreBlanks bytes = list_all is_blank bytes ≡ true
-
-abbrev pub IsGap : List ℕ → Type 0
-IsGap bytes = (is_empty bytes ≡ false) × AreBlanks bytes
-
-abbrev pub IsField : List ℕ → Type 0
-IsField bytes = (is_empty bytes ≡ false) × (list_any is_blank bytes ≡ false)
-
--- a field at the beginning of the bytes, and what follows it
-pub record Begins (field bytes : List ℕ) (Follows : List ℕ → Type 0) : Type 0 where
-  pub rest : List ℕ
-  pub whole : bytes ≡ field ++ rest
-  pub is_field : IsField field
-  pub follows : Follows rest
-
--- a field behind one or more blanks, and what follows it
-pub record ComesNext (field bytes : List ℕ) (Follows : List ℕ → Type 0) : Type 0 where
-  pub gap : List ℕ
-  pub rest : List ℕ
-  pub whole : bytes ≡ gap ++ (field ++ rest)
-  pub is_gap : IsGap gap
-  pub is_field : IsField field
-  pub follows : Follows rest
-
--- these fields, each behind one or more blanks, and then perhaps blanks
-abbrev pub FieldsFollow : List (List ℕ) → List ℕ → Type 0
-FieldsFollow [] bytes = AreBlanks bytes
-FieldsFollow (field ∷ others) bytes = ComesNext field bytes (FieldsFollow others)
 
 -- ---- commands
 
@@ -85,7 +53,7 @@ FieldsSpell operation arguments (Unsub sid max) = ⊥
 pub record Spells (line : List ℕ) (command : ClientLine) : Type 0 where
   pub operation : List ℕ
   pub arguments : List (List ℕ)
-  pub fields : Begins operation line (FieldsFollow arguments)
+  pub fields : IsLineOf operation arguments line
   pub spelt : FieldsSpell operation arguments command
 
 -- ---- what a line means is what it spells

@@ -3,16 +3,20 @@
 ghost use Rattle.std.specs.Prelude.{◌≡◌, None, IfOk};
 ghost use Rattle.std.specs.Option.{option_copied};
 ghost use Rattle.subj.specs.Names.{sid_fault};
-ghost use Rattle.client_frames.specs.Fields.{fields, two_or_three};
+ghost use Rattle.line_fields.specs.Fields.{fields};
+ghost use Rattle.client_frames.specs.Arguments.{two_or_three};
 ghost use Rattle.client_frames.specs.Lines.{Means, line_meaning, publication_of, subscription_of, reply_fault};
 
+use crate::arguments::Arguments;
 use crate::client_line::{ClientLine, PubHead};
-use crate::digits::read_size;
 use crate::faults::LineFault;
-use crate::fields::{Arguments, split_line};
 use crate::operation::Operation;
+use line_fields::{read_digits, split_line};
 use std::alloc::{AllocError, Global};
 use subj::{Failure, NameFault, Pattern, Reply, Sid, Subject};
+
+/// The most digits of a size. (Profile.)
+const SIZE_DIGITS: usize = 10;
 
 /// What a control line asks for; the line has no CR LF.
 ///
@@ -78,7 +82,7 @@ fn decode_pub(alloc: Global, text: &[u8]) -> Result<ClientLine, Failure<LineFaul
     let Some(arguments) = Arguments::read(text) else {
         return Err(Failure::Refused(LineFault::BadArgs));
     };
-    let Some(size) = read_size(arguments.last) else {
+    let Some(size) = read_digits(arguments.last, SIZE_DIGITS) else {
         return Err(Failure::Refused(LineFault::BadArgs));
     };
     if fault_of_reply(arguments.between).is_some() {

@@ -1,13 +1,12 @@
 //! What clients and a server say to each other: lines are read, and replies and messages written.
 #![tactic(auto)]
 
+mod arguments;
 mod client_line;
 mod decoding;
-mod digits;
 mod encoding;
 mod err_texts;
 mod faults;
-mod fields;
 mod info;
 mod laws;
 mod message_lines;

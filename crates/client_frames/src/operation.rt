@@ -1,7 +1,9 @@
 //! The operations that clients ask for.
 
 ghost use Rattle.std.specs.Prelude.{◌≡◌};
-ghost use Rattle.client_frames.specs.Operations.{operation_of, is_word as is_this_word};
+ghost use Rattle.client_frames.specs.Operations.{operation_of};
+
+use line_fields::is_word;
 
 /// The first field of a control line. (NATS documentation, "Client Protocol".)
 #[derive(Clone, Copy, Debug, PartialEq, Eq)]
@@ -12,13 +14,6 @@ pub(crate) enum Operation {
     Unsub,
     Ping,
     Pong,
-}
-
-/// Whether the field is the word, whatever the case of its ASCII letters.
-fn is_word(word: &[u8], field: &[u8]) -> bool
-    ensures { result ≡ is_this_word word.now field.now }
-{
-    field.eq_ignore_ascii_case(word)
 }
 
 impl Operation {
