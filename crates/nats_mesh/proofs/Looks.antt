@@ -16,7 +16,7 @@ use Rattle.client_frames.specs.declared.faults.LineFault.TheVariants.{BadSubject
 use Rattle.client_frames.specs.ErrTexts.{text_closes, cut_fault_text, line_fault_text}
 use Rattle.client_frames.specs.Lines.{Meaning, line_meaning}
 use Rattle.client_frames.specs.Streams as stream
-use Rattle.client_frames.specs.Streams.{StreamItem, asked, published, refused, unreadable, a_line, a_payload, a_lost_payload, Told, going_on, ending, piece_told, line_told, command_told, payload_told, announced, cut_awaited, Found, nothing, something, the_end, found_before, found_by, found}
+use Rattle.client_frames.specs.Streams.{StreamItem, asked, published, refused, unreadable, a_line, a_payload, a_lost_payload, size_awaited, Told, going_on, ending, piece_told, line_told, command_told, payload_told, announced, cut_awaited, Found, nothing, something, the_end, found_before, found_by, found}
 use Rattle.nats_mesh.specs.declared.pipe_client.Awaited.{Awaited}
 use Rattle.nats_mesh.specs.declared.pipe_client.Awaited.TheVariants.{Publication, Bad}
 use Rattle.nats_mesh.specs.declared.pipe_client.Flow.{Flow}
@@ -24,7 +24,7 @@ use Rattle.nats_mesh.specs.declared.pipe_client.Next.TheVariants.{Payload, Answe
 use Rattle.nats_mesh.specs.declared.pipe_client.PipeClient.{PipeClient}
 use Rattle.nats_mesh.specs.PipeText.{Served, refusal, item_said}
 use Rattle.nats_mesh.specs.PipeStates.{IsReady, IsServed, HasAnswered, HasDone, DoesLine, DoesCommand, served, flow_of, payload_answer, payload_said}
-use Rattle.nats_mesh.specs.PipeRuns.{Standing, standing, awaited_by, size_awaited, IsInStep, Announced, HasLooked, HasWorked, GoesOn}
+use Rattle.nats_mesh.specs.PipeRuns.{Standing, standing, awaited_by, IsInStep, Announced, HasLooked, HasWorked, GoesOn}
 use Rattle.nats_mesh.proofs.Said.{goes_by_item, goes_in_silence, ends_by_item, ends_at_item, waits_there}
 
 -- ---- what the cutter gives, as a look at the stream
