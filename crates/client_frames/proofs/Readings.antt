@@ -5,14 +5,9 @@ use Rattle.subj.specs.declared.limits.TheConstants.{CLIENT_LINE, MAX_PAYLOAD}
 use Rattle.wire_cut.specs.declared.fault.CutFault.{CutFault}
 use Rattle.wire_cut.specs.Cut.{Answer, CutterState, StreamPiece, bytes_of, cut_of}
 use Rattle.wire_cut.proofs.CutLemmas.{cut_of-piece_length, cut_of-fed_piece, cut_of-fed_fault}
-use Rattle.client_frames.specs.Streams.{StreamItem, unreadable, Awaited, a_line, a_payload, a_lost_payload, Told, going_on, ending, piece_told, cut_awaited, Found, nothing, something, the_end, found_before, found_by, found, Reading, with_items, reading_after, reading_within, reading_from, read_on, ReadsInParts, looked_at, ReadsByLooks, WaitsForMore}
+use Rattle.client_frames.specs.Streams.{StreamItem, unreadable, Awaited, a_line, a_payload, a_lost_payload, size_awaited, Told, going_on, ending, piece_told, cut_awaited, Found, nothing, something, the_end, found_before, found_by, found, Reading, with_items, reading_after, reading_within, reading_from, read_on, ReadsInParts, looked_at, ReadsByLooks, WaitsForMore}
 
 -- ---- a look at the bytes as a cutter's
-
-abbrev size_awaited : Awaited → Option ℕ
-size_awaited a_line = None
-size_awaited (a_payload head) = Some head.size
-size_awaited (a_lost_payload size) = Some size
 
 abbrev awaiting : Awaited → List ℕ → CutterState
 awaiting awaited bytes = record { unread = bytes; expected = size_awaited awaited; after_line = false; fault = None; line_max = CLIENT_LINE; payload_max = MAX_PAYLOAD }

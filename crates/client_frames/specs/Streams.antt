@@ -30,6 +30,12 @@ pub data Awaited : Type 0 where
   -- the payload of a publication with a bad subject or reply, of this size
   a_lost_payload : ℕ → Awaited
 
+-- the size of the payload that has to come next, or nothing where a line has to
+abbrev pub size_awaited : Awaited → Option ℕ
+size_awaited a_line = None
+size_awaited (a_payload head) = Some head.size
+size_awaited (a_lost_payload size) = Some size
+
 -- what a whole piece tells
 pub data Told : Type 0 where
   -- these, and what has to come next

@@ -7,9 +7,10 @@ use Rattle.subj.specs.declared.keys.Key.{Key}
 use Rattle.subj.specs.declared.failures.Failure.{Failure}
 use Rattle.subj.specs.declared.failures.Failure.TheVariants.{Refused, OutOfMemory}
 use Rattle.subj.specs.Answers.{IsAnswered}
+use Rattle.subj.specs.Keys.{cost_of}
 use Rattle.interest.specs.declared.faults.InterestFault.TheVariants.{UnknownKey}
 use Rattle.interest.specs.declared.changes.Delta.{Delta}
-use Rattle.interest.specs.Counts.{Counts, count_of, cost_of, total_cost, is_full, is_too_much, too_many_if, count_after, with_count, counts_after, change_between, change_of, delta_fault}
+use Rattle.interest.specs.Counts.{Counts, count_of, total_cost, is_full, is_too_much, too_many_if, count_after, with_count, counts_after, change_between, change_of, delta_fault}
 
 -- the same answer, told of another way
 pub answered : {R T : Type 0} {a b : Option R} {P Q : T → Type 0} (S : Type 0) → a ≡ b → ((x : T) → P x → Q x) → (r : Result T (Failure R)) → IsAnswered a P S r → IsAnswered b Q S r

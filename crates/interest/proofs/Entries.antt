@@ -13,9 +13,9 @@ use Rattle.std.proofs.lemmas.Map.Entries.{length-values_of}
 use Rattle.std.proofs.lemmas.Map.Views.{All-values-insert_entry, All-map-remove_entry}
 use Rattle.subj.specs.declared.limits.TheConstants.{MAX_KEYS, MAX_WEIGHT, SUBSCRIPTION_BYTES}
 use Rattle.subj.specs.declared.keys.Key.{Key}
-use Rattle.subj.specs.Keys.{key_cmp}
+use Rattle.subj.specs.Keys.{key_cmp, cost_of}
 use Rattle.interest.specs.Places.{IsPlaceOf, IsGapFor}
-use Rattle.interest.specs.Counts.{Counts, count_of, cost_of, total_cost, is_full, IsInterest}
+use Rattle.interest.specs.Counts.{Counts, count_of, total_cost, is_full, IsInterest}
 use Rattle.interest.proofs.KeyOrder.{key_order_total}
 use Rattle.interest.proofs.Places.{sorted_inserted, sorted_removed}
 

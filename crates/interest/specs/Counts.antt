@@ -3,7 +3,7 @@ use Rattle.std.specs.Prelude.{ℕ, ◌+◌, ◌-◌, ◌≤◌, Bool, ◌&&◌, 
 use Rattle.std.specs.List.Sorted.{IsStrictlySortedBy}
 use Rattle.std.specs.Map.{keys_of, values_of, lookup, remove_entry}
 use Rattle.std.specs.BTreeMap.{is_at, insert_entry}
-use Rattle.subj.specs.declared.limits.TheConstants.{MAX_KEYS, MAX_WEIGHT, SUBSCRIPTION_BYTES, SUBSCRIPTION_COST}
+use Rattle.subj.specs.declared.limits.TheConstants.{MAX_KEYS, MAX_WEIGHT, SUBSCRIPTION_BYTES}
 use Rattle.subj.specs.declared.keys.Key.{Key}
 use Rattle.subj.specs.Matching.{subject_matches}
 use Rattle.interest.specs.declared.faults.InterestFault.{InterestFault}
@@ -11,7 +11,7 @@ use Rattle.interest.specs.declared.faults.InterestFault.TheVariants.{UnknownKey,
 use Rattle.interest.specs.declared.changes.Delta.{Delta}
 use Rattle.interest.specs.declared.changes.Change.{Change}
 use Rattle.interest.specs.declared.changes.Change.TheVariants.{Up, Gone}
-use Rattle.subj.specs.Keys.{key_cmp}
+use Rattle.subj.specs.Keys.{key_cmp, cost_of}
 
 -- keys in order, each with the number of its open subscriptions
 abbrev pub Counts : Type 0
@@ -25,14 +25,7 @@ count_of counts key = unwrap_or (lookup (is_at (key_cmp key)) counts) 0
 abbrev pub is_plain : Key → Bool
 is_plain key = is_none key.queue
 
--- profile: what a key counts towards the limit of bytes
-abbrev pub queue_bytes : Option (List ℕ) → ℕ
-queue_bytes None = 0
-queue_bytes (Some name) = length name
-
-abbrev pub cost_of : Key → ℕ
-cost_of key = length key.pattern + queue_bytes key.queue + SUBSCRIPTION_COST
-
+-- profile: what the keys count together towards the limit of bytes
 abbrev pub total_cost : Counts → ℕ
 total_cost counts = sum_by (λ entry. cost_of entry.0) counts
 

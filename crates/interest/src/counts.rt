@@ -9,23 +9,14 @@ ghost use Rattle.interest.specs.Places.{IsPlaceOf, IsGapFor};
 ghost use Rattle.subj.specs.Answers.{IsAnswered};
 ghost use Rattle.subj.specs.Keys.{key_cmp};
 ghost use Rattle.interest.specs.KeysLeft.{keys_left};
-ghost use Rattle.interest.specs.Counts.{cost_of, count_after, with_count, count_of, change_between, is_plain_match, IsInterest, is_full, too_many_if, counts_after, delta_fault, change_of};
+ghost use Rattle.interest.specs.Counts.{count_after, with_count, count_of, change_between, is_plain_match, IsInterest, is_full, too_many_if, counts_after, delta_fault, change_of};
 
 use crate::changes::{Change, Delta};
 use crate::faults::InterestFault;
 use crate::key_lists::Keys;
 use std::alloc::{AllocError, Global};
 use std::marker::Model;
-use subj::{Failure, Key, MAX_KEYS, MAX_WEIGHT, SUBSCRIPTION_BYTES, SUBSCRIPTION_COST, Subject};
-
-/// What a key counts towards the limit of bytes.
-fn cost(key: &Key) -> u64
-    ensures same { result ≡ cost_of key.now }
-    ensures small { result ≤ SUBSCRIPTION_BYTES }
-{
-    let queue = key.queue.as_ref().map_or(0, |name| name.bytes().len());
-    (key.pattern.bytes().len() + queue) as u64 + SUBSCRIPTION_COST
-}
+use subj::{Failure, Key, MAX_KEYS, MAX_WEIGHT, SUBSCRIPTION_BYTES, Subject};
 
 /// The number of a key's open subscriptions once one more has opened, or one has closed.
 fn number_after(up: bool, count: u64) -> u64
@@ -63,8 +54,7 @@ fn place_of(entries: &[(Key, u64)], key: &Key) -> Result<usize, usize>
 ///
 /// Seen as the list of the keys with an open subscription, each with the number of them, in the order
 /// of [`Key::order`]. It has at most [`MAX_KEYS`] keys, at most [`MAX_WEIGHT`] open subscriptions of
-/// each, and the bytes of its keys' patterns and queue names, with [`SUBSCRIPTION_COST`] for each key,
-/// come to at most [`SUBSCRIPTION_BYTES`]. (Profile.)
+/// each, and its keys count at most [`SUBSCRIPTION_BYTES`] together by [`Key::cost`]. (Profile.)
 #[derive(Debug, Drop)]
 pub struct Local {
     alloc: Global,
@@ -121,7 +111,7 @@ impl Local {
         requires { IsGapFor key_cmp key.now self.old place }
         ensures { IsAnswered (too_many_if (is_full self.old key.now)) (λ change. (change ≡ change_between key.now 0 1) × (self.new ≡ insert_entry key_cmp self.old key.now 1)) (self.new ≡ self.old) result }
     {
-        let bytes = self.bytes + cost(key);
+        let bytes = self.bytes + key.cost();
         if self.entries.len() as u64 >= MAX_KEYS || bytes > SUBSCRIPTION_BYTES {
             return Err(Failure::Refused(InterestFault::TooManyKeys));
         }
@@ -166,7 +156,7 @@ impl Local {
         let change = change(self.alloc, key, before, count)?;
         if count == 0 {
             let (gone, _) = self.entries.remove(place);
-            self.bytes -= cost(&gone);
+            self.bytes -= gone.cost();
             return Ok(change);
         }
         self.entries[place].1 = count;

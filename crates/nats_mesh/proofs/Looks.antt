@@ -3,10 +3,9 @@ use Rattle.std.proofs.Common.{◌≡◌, ℕ, ◌+◌, ◌<◌, ◌≤◌, Bool,
 use Rattle.std.proofs.lemmas.Bool.Decides.{nat_tests}
 use Rattle.std.specs.Prelude.{if◌then◌else◌}
 use Rattle.subj.specs.declared.limits.TheConstants.{CLIENT_LINE, MAX_PAYLOAD}
-use Rattle.wire_cut.specs.Cut.{CutterState, StreamPiece, line, payload, bytes_of, is_line, cut_of, cut_unless, cut_expected, cut_line, cut_line_at, cut_long_line, first_cr_lf, cut_payload_at, cr_lf_at, after_answer, after_next, after_expect, after_refusal, expect_fault}
+use Rattle.wire_cut.specs.Cut.{CutterState, StreamPiece, line, payload, bytes_of, is_line, cut_of, cut_unless, cut_expected, cut_line, cut_line_at, cut_long_line, first_cr_lf, cut_payload_at, cr_lf_at, after_answer, after_next, after_expect, after_refusal, expect_fault, IsWithinUnread}
 use Rattle.wire_cut.specs.declared.fault.CutFault.{CutFault}
 use Rattle.wire_cut.specs.declared.fault.CutFault.TheVariants.{LineTooLong, PayloadTooLong, NoCrLfAfterPayload}
-use Rattle.wire_cut.proofs.CutLemmas.{cut_of-piece_length}
 use Rattle.client_frames.specs.declared.client_line.ClientLine.{ClientLine}
 use Rattle.client_frames.specs.declared.client_line.ClientLine.TheVariants.{Connect, Pub, PubBad, Sub, Unsub, Ping, Pong}
 use Rattle.client_frames.specs.declared.client_line.PubHead.{PubHead}
@@ -16,7 +15,7 @@ use Rattle.client_frames.specs.declared.faults.LineFault.TheVariants.{BadSubject
 use Rattle.client_frames.specs.ErrTexts.{text_closes, cut_fault_text, line_fault_text}
 use Rattle.client_frames.specs.Lines.{Meaning, line_meaning}
 use Rattle.client_frames.specs.Streams as stream
-use Rattle.client_frames.specs.Streams.{StreamItem, asked, published, refused, unreadable, a_line, a_payload, a_lost_payload, Told, going_on, ending, piece_told, line_told, command_told, payload_told, announced, cut_awaited, Found, nothing, something, the_end, found_before, found_by, found}
+use Rattle.client_frames.specs.Streams.{StreamItem, asked, published, refused, unreadable, a_line, a_payload, a_lost_payload, size_awaited, Told, going_on, ending, piece_told, line_told, command_told, payload_told, announced, cut_awaited, Found, nothing, something, the_end, found_before, found_by, found}
 use Rattle.nats_mesh.specs.declared.pipe_client.Awaited.{Awaited}
 use Rattle.nats_mesh.specs.declared.pipe_client.Awaited.TheVariants.{Publication, Bad}
 use Rattle.nats_mesh.specs.declared.pipe_client.Flow.{Flow}
@@ -24,7 +23,7 @@ use Rattle.nats_mesh.specs.declared.pipe_client.Next.TheVariants.{Payload, Answe
 use Rattle.nats_mesh.specs.declared.pipe_client.PipeClient.{PipeClient}
 use Rattle.nats_mesh.specs.PipeText.{Served, refusal, item_said}
 use Rattle.nats_mesh.specs.PipeStates.{IsReady, IsServed, HasAnswered, HasDone, DoesLine, DoesCommand, served, flow_of, payload_answer, payload_said}
-use Rattle.nats_mesh.specs.PipeRuns.{Standing, standing, awaited_by, size_awaited, IsInStep, Announced, HasLooked, HasWorked, GoesOn}
+use Rattle.nats_mesh.specs.PipeRuns.{Standing, standing, awaited_by, IsInStep, Announced, HasLooked, HasWorked, GoesOn}
 use Rattle.nats_mesh.proofs.Said.{goes_by_item, goes_in_silence, ends_by_item, ends_at_item, waits_there}
 
 -- ---- what the cutter gives, as a look at the stream
@@ -62,17 +61,18 @@ nothing_awaited (Some Bad) expected is = absurd (cc)
 
 -- ---- the cutter behind a piece
 
+-- the cutter gives this piece
+abbrev pub Gives : CutterState → StreamPiece → Type 0
+Gives cutter piece = (cut_of cutter ≡ Ok (Some piece)) × IsWithinUnread piece cutter
+
 abbrev behind_piece : CutterState → StreamPiece → CutterState
 behind_piece cutter piece = record cutter { unread = drop (length (bytes_of piece) + 2) cutter.unread; expected = None; after_line = is_line piece }
 
-moves : (cutter new_cutter : CutterState) (piece : StreamPiece) → cut_of cutter ≡ Ok (Some piece) → new_cutter ≡ after_next cutter → new_cutter ≡ behind_piece cutter piece
-moves cutter new_cutter piece is next = next ∙ ap (after_answer cutter) is
+moves : (cutter new_cutter : CutterState) (piece : StreamPiece) → Gives cutter piece → new_cutter ≡ after_next cutter → new_cutter ≡ behind_piece cutter piece
+moves cutter new_cutter piece cut next = next ∙ ap (after_answer cutter) cut.0
 
-fewer_behind : (cutter : CutterState) (piece : StreamPiece) → cut_of cutter ≡ Ok (Some piece) → length (drop (length (bytes_of piece) + 2) cutter.unread) < length cutter.unread
-fewer_behind cutter piece is =
-    let n = length (bytes_of piece) + 2 in
-    let within : n ≤ length cutter.unread = cut_of-piece_length cutter piece is in
-    omega (arith, length-drop n cutter.unread)
+fewer_behind : (cutter : CutterState) (piece : StreamPiece) → Gives cutter piece → length (drop (length (bytes_of piece) + 2) cutter.unread) < length cutter.unread
+fewer_behind cutter piece cut = let within = cut.1 in omega (arith, length-drop (length (bytes_of piece) + 2) cutter.unread)
 
 at_a_line : (client : PipeClient) (cutter : CutterState) (piece : StreamPiece) (new : PipeClient) → IsInStep client cutter → IsReady new → new.awaited ≡ None → IsInStep new (behind_piece cutter piece)
 at_a_line client cutter piece new step ready none = record {
@@ -91,7 +91,7 @@ stands client cutter s awaited is_served is_awaited =
 
 -- ---- an item
 
-item_worked : (client new : PipeClient) (cutter : CutterState) (piece : StreamPiece) (item : StreamItem) (closed : Bool) → IsInStep client cutter → cut_of cutter ≡ Ok (Some piece)
+item_worked : (client new : PipeClient) (cutter : CutterState) (piece : StreamPiece) (item : StreamItem) (closed : Bool) → IsInStep client cutter → Gives cutter piece
     → found (awaited_of client cutter) cutter.unread ≡ something (item ∷ []) a_line (drop (length (bytes_of piece) + 2) cutter.unread)
     → (item_said item (served client)).closed ≡ closed → new.output.items ≡ client.output.items ++ (item_said item (served client)).text → new.awaited ≡ None
     → ((item_said item (served client)).closed ≡ false → IsServed (item_said item (served client)) new)
@@ -110,7 +110,7 @@ item_worked client new cutter piece item false step cut is closes text none afte
       fewer = fewer_behind cutter piece cut;
     }
 
-item_looked : (client new : PipeClient) (cutter new_cutter : CutterState) (piece : StreamPiece) (item : StreamItem) (flow : Flow) → IsInStep client cutter → cut_of cutter ≡ Ok (Some piece) → new_cutter ≡ after_next cutter
+item_looked : (client new : PipeClient) (cutter new_cutter : CutterState) (piece : StreamPiece) (item : StreamItem) (flow : Flow) → IsInStep client cutter → Gives cutter piece → new_cutter ≡ after_next cutter
     → piece_told (awaited_of client cutter) (bytes_of piece) ≡ going_on (item ∷ []) a_line
     → flow ≡ flow_of (item_said item (served client)).closed → new.output.items ≡ client.output.items ++ (item_said item (served client)).text → new.awaited ≡ None
     → ((item_said item (served client)).closed ≡ false → IsServed (item_said item (served client)) new)
@@ -118,7 +118,7 @@ item_looked : (client new : PipeClient) (cutter new_cutter : CutterState) (piece
 item_looked client new cutter new_cutter piece item flow step cut next tells goes text none after =
     let awaited = awaited_of client cutter in
     let is : found awaited cutter.unread ≡ something (item ∷ []) a_line (drop (length (bytes_of piece) + 2) cutter.unread) =
-    ap (found_by awaited cutter.unread) (sym (cuts_alike client cutter step) ∙ cut) ∙ ap (found_before (drop (length (bytes_of piece) + 2) cutter.unread)) tells in
+    ap (found_by awaited cutter.unread) (sym (cuts_alike client cutter step) ∙ cut.0) ∙ ap (found_before (drop (length (bytes_of piece) + 2) cutter.unread)) tells in
     subst (λ c. HasLooked (Some flow) client cutter new c) (sym (moves cutter new_cutter piece cut next))
     (subst (λ f. HasLooked (Some f) client cutter new (behind_piece cutter piece)) (sym goes)
     (item_worked client new cutter piece item (item_said item (served client)).closed step cut is refl text none after))
@@ -131,24 +131,24 @@ end_looked client new cutter new_cutter item flow is closes goes text =
     subst (λ f. HasLooked (Some f) client cutter new new_cutter) (sym (goes ∙ ap flow_of closes))
     (record { said = (item_said item (served client)).text; put = text; ends = ends_at_item (standing client cutter) item is closes })
 
-found_told : (client : PipeClient) (cutter : CutterState) (piece : StreamPiece) (told : Told) → IsInStep client cutter → cut_of cutter ≡ Ok (Some piece) → piece_told (awaited_of client cutter) (bytes_of piece) ≡ told
+found_told : (client : PipeClient) (cutter : CutterState) (piece : StreamPiece) (told : Told) → IsInStep client cutter → Gives cutter piece → piece_told (awaited_of client cutter) (bytes_of piece) ≡ told
     → found (awaited_of client cutter) cutter.unread ≡ found_before (drop (length (bytes_of piece) + 2) cutter.unread) told
 found_told client cutter piece told step cut tells =
-    ap (found_by (awaited_of client cutter) cutter.unread) (sym (cuts_alike client cutter step) ∙ cut) ∙ ap (found_before (drop (length (bytes_of piece) + 2) cutter.unread)) tells
+    ap (found_by (awaited_of client cutter) cutter.unread) (sym (cuts_alike client cutter step) ∙ cut.0) ∙ ap (found_before (drop (length (bytes_of piece) + 2) cutter.unread)) tells
 
 -- ---- a line
 
-line_due : (client : PipeClient) (cutter : CutterState) (bytes : List ℕ) → IsInStep client cutter → cut_of cutter ≡ Ok (Some (line bytes)) → awaited_of client cutter ≡ a_line
-line_due client cutter bytes step cut = line_is_awaited (awaited_of client cutter) cutter.unread bytes (sym (cuts_alike client cutter step) ∙ cut)
+line_due : (client : PipeClient) (cutter : CutterState) (bytes : List ℕ) → IsInStep client cutter → Gives cutter (line bytes) → awaited_of client cutter ≡ a_line
+line_due client cutter bytes step cut = line_is_awaited (awaited_of client cutter) cutter.unread bytes (sym (cuts_alike client cutter step) ∙ cut.0)
 
-tells_line : (client : PipeClient) (cutter : CutterState) (bytes : List ℕ) (meaning : Meaning) → IsInStep client cutter → cut_of cutter ≡ Ok (Some (line bytes)) → line_meaning bytes ≡ meaning → piece_told (awaited_of client cutter) bytes ≡ line_told meaning
+tells_line : (client : PipeClient) (cutter : CutterState) (bytes : List ℕ) (meaning : Meaning) → IsInStep client cutter → Gives cutter (line bytes) → line_meaning bytes ≡ meaning → piece_told (awaited_of client cutter) bytes ≡ line_told meaning
 tells_line client cutter bytes meaning step cut means = ap (λ a. piece_told a bytes) (line_due client cutter bytes step cut) ∙ ap line_told means
 
-none_at_line : (client : PipeClient) (cutter : CutterState) (bytes : List ℕ) → IsInStep client cutter → cut_of cutter ≡ Ok (Some (line bytes)) → client.awaited ≡ None
+none_at_line : (client : PipeClient) (cutter : CutterState) (bytes : List ℕ) → IsInStep client cutter → Gives cutter (line bytes) → client.awaited ≡ None
 none_at_line client cutter bytes step cut = nothing_awaited client.awaited cutter.expected (line_due client cutter bytes step cut)
 
 -- the client awaited nothing before, and awaits nothing behind an answer
-done_looked : (client new : PipeClient) (cutter new_cutter : CutterState) (bytes : List ℕ) (item : StreamItem) (flow : Flow) → IsInStep client cutter → cut_of cutter ≡ Ok (Some (line bytes)) → new_cutter ≡ after_next cutter
+done_looked : (client new : PipeClient) (cutter new_cutter : CutterState) (bytes : List ℕ) (item : StreamItem) (flow : Flow) → IsInStep client cutter → Gives cutter (line bytes) → new_cutter ≡ after_next cutter
     → piece_told (awaited_of client cutter) bytes ≡ going_on (item ∷ []) a_line → HasDone item client (Answered flow) new → HasLooked (Some flow) client cutter new new_cutter
 done_looked client new cutter new_cutter bytes item flow step cut next tells done =
     let goes : flow ≡ flow_of (item_said item (served client)).closed = flow_answered flow _ done.goes in
@@ -157,7 +157,7 @@ done_looked client new cutter new_cutter bytes item flow step cut next tells don
       flow_answered a b is = cc
 
 fault_looked : (client new : PipeClient) (cutter new_cutter : CutterState) (bytes : List ℕ) (fault : LineFault) (flow : Flow) (closes : Bool) → text_closes (line_fault_text fault) ≡ closes
-    → IsInStep client cutter → cut_of cutter ≡ Ok (Some (line bytes)) → new_cutter ≡ after_next cutter
+    → IsInStep client cutter → Gives cutter (line bytes) → new_cutter ≡ after_next cutter
     → piece_told (awaited_of client cutter) bytes ≡ (if closes then ending (refused fault) else going_on (refused fault ∷ []) a_line) → HasDone (refused fault) client (Answered flow) new → HasLooked (Some flow) client cutter new new_cutter
 fault_looked client new cutter new_cutter bytes fault flow true closes step cut next tells done =
     end_looked client new cutter new_cutter (refused fault) flow (found_told client cutter (line bytes) _ step cut tells) closes (flow_answered flow _ done.goes) done.put.text where
@@ -165,7 +165,7 @@ fault_looked client new cutter new_cutter bytes fault flow true closes step cut 
       flow_answered a b is = cc
 fault_looked client new cutter new_cutter bytes fault flow false closes step cut next tells done = done_looked client new cutter new_cutter bytes (refused fault) flow step cut next tells done
 
-command_looked : (client new : PipeClient) (cutter new_cutter : CutterState) (bytes : List ℕ) (command : ClientLine) (flow : Flow) → IsInStep client cutter → cut_of cutter ≡ Ok (Some (line bytes)) → new_cutter ≡ after_next cutter
+command_looked : (client new : PipeClient) (cutter new_cutter : CutterState) (bytes : List ℕ) (command : ClientLine) (flow : Flow) → IsInStep client cutter → Gives cutter (line bytes) → new_cutter ≡ after_next cutter
     → piece_told (awaited_of client cutter) bytes ≡ command_told command → DoesCommand command client (Answered flow) new → HasLooked (Some flow) client cutter new new_cutter
 command_looked client new cutter new_cutter bytes (Pub head) flow step cut next tells does = let goes = does.goes in absurd (cc)
 command_looked client new cutter new_cutter bytes (PubBad size) flow step cut next tells does = let goes = does.goes in absurd (cc)
@@ -175,14 +175,14 @@ command_looked client new cutter new_cutter bytes (Unsub sid max) flow step cut 
 command_looked client new cutter new_cutter bytes Ping flow step cut next tells does = done_looked client new cutter new_cutter bytes (asked Ping) flow step cut next tells does
 command_looked client new cutter new_cutter bytes Pong flow step cut next tells does = done_looked client new cutter new_cutter bytes (asked Pong) flow step cut next tells does
 
-meaning_looked : (client new : PipeClient) (cutter new_cutter : CutterState) (bytes : List ℕ) (meaning : Meaning) (flow : Flow) → IsInStep client cutter → cut_of cutter ≡ Ok (Some (line bytes)) → new_cutter ≡ after_next cutter
+meaning_looked : (client new : PipeClient) (cutter new_cutter : CutterState) (bytes : List ℕ) (meaning : Meaning) (flow : Flow) → IsInStep client cutter → Gives cutter (line bytes) → new_cutter ≡ after_next cutter
     → line_meaning bytes ≡ meaning → DoesLine meaning client (Answered flow) new → HasLooked (Some flow) client cutter new new_cutter
 meaning_looked client new cutter new_cutter bytes (Ok command) flow step cut next means does =
     command_looked client new cutter new_cutter bytes command flow step cut next (tells_line client cutter bytes (Ok command) step cut means) does
 meaning_looked client new cutter new_cutter bytes (Err fault) flow step cut next means does =
     fault_looked client new cutter new_cutter bytes fault flow (text_closes (line_fault_text fault)) refl step cut next (tells_line client cutter bytes (Err fault) step cut means) does
 
-pub line_looked : (client new : PipeClient) (cutter new_cutter : CutterState) (bytes : List ℕ) (flow : Flow) → IsInStep client cutter → cut_of cutter ≡ Ok (Some (line bytes)) → new_cutter ≡ after_next cutter
+pub line_looked : (client new : PipeClient) (cutter new_cutter : CutterState) (bytes : List ℕ) (flow : Flow) → IsInStep client cutter → Gives cutter (line bytes) → new_cutter ≡ after_next cutter
     → DoesLine (line_meaning bytes) client (Answered flow) new → HasLooked (Some flow) client cutter new new_cutter
 line_looked client new cutter new_cutter bytes flow step cut next does = meaning_looked client new cutter new_cutter bytes (line_meaning bytes) flow step cut next refl does
 
@@ -225,7 +225,7 @@ fits_limit size is = by_test (nat_lt MAX_PAYLOAD size) refl is where
   by_test true test is = absurd (cc)
   by_test false test is = grind (arith, nat_tests)
 
-awaiting_looked : (client : PipeClient) (cutter : CutterState) (bytes : List ℕ) (size : ℕ) (a : Awaited) → IsInStep client cutter → cut_of cutter ≡ Ok (Some (line bytes)) → size ≤ MAX_PAYLOAD
+awaiting_looked : (client : PipeClient) (cutter : CutterState) (bytes : List ℕ) (size : ℕ) (a : Awaited) → IsInStep client cutter → Gives cutter (line bytes) → size ≤ MAX_PAYLOAD
     → Some size ≡ size_awaited (awaited_by (Some a) (Some size))
     → piece_told (awaited_of client cutter) bytes ≡ going_on [] (awaited_by (Some a) (Some size))
     → HasWorked client cutter (record client { awaited = Some a }) (expecting cutter bytes size)
@@ -250,7 +250,7 @@ closes_always PayloadTooLong = refl
 closes_always NoCrLfAfterPayload = refl
 
 announced_by : (client : PipeClient) (cutter : CutterState) (bytes : List ℕ) (size : ℕ) (a : Awaited) (flow : Flow) (new : PipeClient) (fault : Option CutFault) → expect_fault None MAX_PAYLOAD size ≡ fault
-    → IsInStep client cutter → cut_of cutter ≡ Ok (Some (line bytes)) → Some size ≡ size_awaited (awaited_by (Some a) (Some size))
+    → IsInStep client cutter → Gives cutter (line bytes) → Some size ≡ size_awaited (awaited_by (Some a) (Some size))
     → piece_told (awaited_of client cutter) bytes ≡ announced fault (awaited_by (Some a) (Some size))
     → Announced fault (record client { awaited = Some a }) flow new → HasLooked (Some flow) client cutter new (after_refusal (behind_piece cutter (line bytes)) size fault)
 announced_by client cutter bytes size a flow new None fits step cut sized tells done =
@@ -259,20 +259,20 @@ announced_by client cutter bytes size a flow new None fits step cut sized tells 
 announced_by client cutter bytes size a flow new (Some fault) fits step cut sized tells done =
     end_looked client new cutter _ (unreadable fault) flow (found_told client cutter (line bytes) _ step cut tells) (closes_always fault) done.goes done.put.text
 
-expect_state : (client : PipeClient) (cutter new_cutter expected_cutter : CutterState) (bytes : List ℕ) (size : ℕ) → IsInStep client cutter → cut_of cutter ≡ Ok (Some (line bytes)) → new_cutter ≡ after_next cutter → expected_cutter ≡ after_expect new_cutter size
+expect_state : (client : PipeClient) (cutter new_cutter expected_cutter : CutterState) (bytes : List ℕ) (size : ℕ) → IsInStep client cutter → Gives cutter (line bytes) → new_cutter ≡ after_next cutter → expected_cutter ≡ after_expect new_cutter size
     → expected_cutter ≡ after_refusal (behind_piece cutter (line bytes)) size (expect_fault None MAX_PAYLOAD size)
 expect_state client cutter new_cutter expected_cutter bytes size step cut next is =
     is ∙ ap (λ c. after_expect c size) (moves cutter new_cutter (line bytes) cut next)
     ∙ ap (λ f. after_refusal (behind_piece cutter (line bytes)) size (expect_fault f cutter.payload_max size)) step.fault
     ∙ ap (λ n. after_refusal (behind_piece cutter (line bytes)) size (expect_fault None n size)) step.payload_max
 
-expect_cause : (client : PipeClient) (cutter new_cutter : CutterState) (bytes : List ℕ) (size : ℕ) → IsInStep client cutter → cut_of cutter ≡ Ok (Some (line bytes)) → new_cutter ≡ after_next cutter → expect_fault new_cutter.fault new_cutter.payload_max size ≡ expect_fault None MAX_PAYLOAD size
+expect_cause : (client : PipeClient) (cutter new_cutter : CutterState) (bytes : List ℕ) (size : ℕ) → IsInStep client cutter → Gives cutter (line bytes) → new_cutter ≡ after_next cutter → expect_fault new_cutter.fault new_cutter.payload_max size ≡ expect_fault None MAX_PAYLOAD size
 expect_cause client cutter new_cutter bytes size step cut next =
     ap (λ c. expect_fault c.fault c.payload_max size) (moves cutter new_cutter (line bytes) cut next)
     ∙ ap (λ f. expect_fault f cutter.payload_max size) step.fault
     ∙ ap (λ n. expect_fault None n size) step.payload_max
 
-announcement_looked : (client mid new : PipeClient) (cutter expected_cutter : CutterState) (bytes : List ℕ) (size : ℕ) (flow : Flow) → IsInStep client cutter → cut_of cutter ≡ Ok (Some (line bytes))
+announcement_looked : (client mid new : PipeClient) (cutter expected_cutter : CutterState) (bytes : List ℕ) (size : ℕ) (flow : Flow) → IsInStep client cutter → Gives cutter (line bytes)
     → expected_cutter ≡ after_refusal (behind_piece cutter (line bytes)) size (expect_fault None MAX_PAYLOAD size)
     → Announced (expect_fault None MAX_PAYLOAD size) mid flow new → Announcement (line_meaning bytes) client size mid → HasLooked (Some flow) client cutter new expected_cutter
 announcement_looked client mid new cutter expected_cutter bytes size flow step cut is done (of_publication head means sized same) =
@@ -285,7 +285,7 @@ announcement_looked client mid new cutter expected_cutter bytes size flow step c
     subst (HasLooked (Some flow) client cutter new) (sym is)
     (announced_by client cutter bytes size Bad flow new fault refl step cut refl (tells_line client cutter bytes (Ok (PubBad size)) step cut means) (subst (λ m. Announced fault m flow new) same done))
 
-pub payload_announced : (client mid new : PipeClient) (cutter new_cutter expected_cutter : CutterState) (bytes : List ℕ) (size : ℕ) (flow : Flow) → IsInStep client cutter → cut_of cutter ≡ Ok (Some (line bytes)) → new_cutter ≡ after_next cutter
+pub payload_announced : (client mid new : PipeClient) (cutter new_cutter expected_cutter : CutterState) (bytes : List ℕ) (size : ℕ) (flow : Flow) → IsInStep client cutter → Gives cutter (line bytes) → new_cutter ≡ after_next cutter
     → DoesLine (line_meaning bytes) client (Payload size) mid → expected_cutter ≡ after_expect new_cutter size → Announced (expect_fault new_cutter.fault new_cutter.payload_max size) mid flow new → HasLooked (Some flow) client cutter new expected_cutter
 payload_announced client mid new cutter new_cutter expected_cutter bytes size flow step cut next does is done =
     announcement_looked client mid new cutter expected_cutter bytes size flow step cut (expect_state client cutter new_cutter expected_cutter bytes size step cut next is)
@@ -294,10 +294,10 @@ payload_announced client mid new cutter new_cutter expected_cutter bytes size fl
 
 -- ---- a payload
 
-payload_tells : (client new : PipeClient) (cutter new_cutter : CutterState) (bytes : List ℕ) (flow : Flow) (a : Option Awaited) → client.awaited ≡ a → IsInStep client cutter → cut_of cutter ≡ Ok (Some (payload bytes)) → new_cutter ≡ after_next cutter
+payload_tells : (client new : PipeClient) (cutter new_cutter : CutterState) (bytes : List ℕ) (flow : Flow) (a : Option Awaited) → client.awaited ≡ a → IsInStep client cutter → Gives cutter (payload bytes) → new_cutter ≡ after_next cutter
     → HasAnswered (payload_answer a bytes (served client)) (record client { awaited = None }) flow new → HasLooked (Some flow) client cutter new new_cutter
 payload_tells client new cutter new_cutter bytes flow None is step cut next done =
-    absurd (no_payload_at_line cutter.unread bytes (first_cr_lf cutter.unread) (sym (ap (λ a. cut_awaited (awaited_by a cutter.expected) cutter.unread) is) ∙ sym (cuts_alike client cutter step) ∙ cut)) where
+    absurd (no_payload_at_line cutter.unread bytes (first_cr_lf cutter.unread) (sym (ap (λ a. cut_awaited (awaited_by a cutter.expected) cutter.unread) is) ∙ sym (cuts_alike client cutter step) ∙ cut.0)) where
       no_payload_at_line : (unread bytes : List ℕ) (at : Option ℕ) → cut_line_at CLIENT_LINE unread at ≡ Ok (Some (payload bytes)) → ⊥
       no_payload_at_line unread bytes None is = no_payload_in_long CLIENT_LINE unread bytes _ is
       no_payload_at_line unread bytes (Some i) is = by_test (nat_le i CLIENT_LINE) is where
@@ -309,7 +309,7 @@ payload_tells client new cutter new_cutter bytes flow (Some (Publication head)) 
 payload_tells client new cutter new_cutter bytes flow (Some Bad) is step cut next done =
     item_looked client new cutter new_cutter (payload bytes) (refused BadSubject) flow step cut next (ap (λ a. piece_told (awaited_by a cutter.expected) bytes) is) done.goes done.put.text done.put.awaited done.put.after
 
-pub payload_looked : (client new : PipeClient) (cutter new_cutter : CutterState) (bytes : List ℕ) (flow : Flow) → IsInStep client cutter → cut_of cutter ≡ Ok (Some (payload bytes)) → new_cutter ≡ after_next cutter
+pub payload_looked : (client new : PipeClient) (cutter new_cutter : CutterState) (bytes : List ℕ) (flow : Flow) → IsInStep client cutter → Gives cutter (payload bytes) → new_cutter ≡ after_next cutter
     → HasAnswered (payload_said client bytes) (record client { awaited = None }) flow new → HasLooked (Some flow) client cutter new new_cutter
 payload_looked client new cutter new_cutter bytes flow step cut next done = payload_tells client new cutter new_cutter bytes flow client.awaited refl step cut next done
 

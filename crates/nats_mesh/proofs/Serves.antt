@@ -6,7 +6,7 @@ use Rattle.std.proofs.KnownBytes.{Appends-nil, Appends-trans, Consumes-nil, Cons
 use Rattle.subj.specs.declared.limits.TheConstants.{CLIENT_LINE, MAX_PAYLOAD}
 use Rattle.wire_cut.specs.Cut.{CutterState, new_cutter, first_cr_lf}
 use Rattle.wire_cut.specs.Flow.{AppendsFront, Gains}
-use Rattle.client_frames.specs.Streams.{a_line, reading_from}
+use Rattle.client_frames.specs.Streams.{a_line, size_awaited, reading_from}
 use Rattle.nats_mesh.specs.declared.pipe.PipeEnd.{PipeEnd}
 use Rattle.nats_mesh.specs.declared.pipe.PipeFault.{PipeFault}
 use Rattle.nats_mesh.specs.declared.pipe.PipeFault.TheVariants.{Read, Write, OutOfMemory}
@@ -15,7 +15,7 @@ use Rattle.nats_mesh.specs.declared.pipe_client.Flow.TheVariants.{Open, Closed}
 use Rattle.nats_mesh.specs.declared.pipe_client.PipeClient.{PipeClient}
 use Rattle.nats_mesh.specs.PipeText.{behind, at_first, answer_bytes, pipe_info, pipe_said, pipe_text, pipe_closes, items_said}
 use Rattle.nats_mesh.specs.PipeStates.{IsNew}
-use Rattle.nats_mesh.specs.PipeRuns.{Standing, said_from, standing, awaited_by, size_awaited, Waits, GoesOn, Ends, IsInStep, IsFlushed, HasStarved, HasEnded, HasBegun, CountsWrites, Works}
+use Rattle.nats_mesh.specs.PipeRuns.{Standing, said_from, standing, awaited_by, Waits, GoesOn, Ends, IsInStep, IsFlushed, HasStarved, HasEnded, HasBegun, CountsWrites, Works}
 use Rattle.nats_mesh.specs.PipeTheorem.{AppendsBeginning, WritesText, Pipes, CountsReads, CountsFailedWrites}
 use Rattle.nats_mesh.proofs.Said.{waits_there, behind-behind}
 use Rattle.nats_mesh.proofs.Runs.{in_step_still, stands_still}

@@ -6,7 +6,7 @@ use Rattle.wire_cut.specs.Cut.{CutterState}
 use Rattle.wire_cut.specs.declared.fault.CutFault.{CutFault}
 use Rattle.client_frames.specs.ErrTexts.{cut_fault_text}
 use Rattle.client_frames.specs.Streams as stream
-use Rattle.client_frames.specs.Streams.{a_line, a_payload, a_lost_payload, reading_from}
+use Rattle.client_frames.specs.Streams.{a_line, a_payload, a_lost_payload, size_awaited, reading_from}
 use Rattle.nats_mesh.specs.declared.pipe.PipeFault.{PipeFault}
 use Rattle.nats_mesh.specs.declared.pipe.PipeFault.TheVariants.{Read, Write, OutOfMemory}
 use Rattle.nats_mesh.specs.declared.pipe_client.Awaited.{Awaited}
@@ -48,11 +48,6 @@ abbrev pub awaited_by : Option Awaited → Option ℕ → stream.Awaited
 awaited_by None expected = a_line
 awaited_by (Some (Publication head)) expected = a_payload head
 awaited_by (Some Bad) expected = a_lost_payload (unwrap_or expected 0)
-
-abbrev pub size_awaited : stream.Awaited → Option ℕ
-size_awaited a_line = None
-size_awaited (a_payload head) = Some head.size
-size_awaited (a_lost_payload size) = Some size
 
 abbrev pub standing : PipeClient → CutterState → Standing
 standing client cutter = record { served = served client; awaited = awaited_by client.awaited cutter.expected; unread = cutter.unread }

@@ -117,9 +117,10 @@ fn work<W: Sink>(
             Some(Flow::Closed) => return Ok(Flow::Closed),
             Some(Flow::Open) => {}
         }
-        if client.output().len() >= READ_BYTES {
-            flush(client, sink)?;
+        if client.output().len() < READ_BYTES {
+            continue;
         }
+        flush(client, sink)?;
     }
 }
 

@@ -3,7 +3,8 @@ use Rattle.std.specs.Prelude.{◌≡◌, ℕ, ◌+◌, ◌/◌, Bool, false, not
 use Rattle.client_frames.specs.ErrTexts.{err_line}
 use Rattle.client_frames.specs.Frames.{reply_line}
 use Rattle.outbox.specs.Views.{Written, Shelf, empty_shelf, reply_entry, with_entry, with_last, without_first}
-use Rattle.sub_table.specs.Subscriptions.{is_of_another, serial_called, cost_of, total_cost}
+use Rattle.sub_table.specs.Subscriptions.{is_of_another, serial_called, total_cost}
+use Rattle.subj.specs.Keys.{cost_of}
 use Rattle.subj.specs.declared.identities.SubId.{SubId}
 use Rattle.subj.specs.declared.jobs.Job.{Job}
 use Rattle.subj.specs.declared.keys.Key.{Key}

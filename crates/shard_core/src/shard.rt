@@ -16,7 +16,7 @@ use client_frames::{ErrText, ReplyFrame, reply_line};
 use outbox::{Entry, LAST_LINE_TEXT};
 use std::alloc::{AllocError, Global};
 use std::marker::Model;
-use sub_table::{SubTable, Subscription, cost_of};
+use sub_table::{SubTable, Subscription};
 use subj::{
     ConnId, Failure, Job, Key, MAX_COUNTER, MAX_SERIAL, MAX_SHARDS, SUBSCRIPTION_BYTES,
     SUBSCRIPTIONS, Sid, SubId, Turn,
@@ -147,7 +147,7 @@ impl<T: SubTable> Shard<T> {
         self.table.len() as u64 >= SUBSCRIPTIONS / self.shards
             || !self
                 .table
-                .fits(cost_of(key), SUBSCRIPTION_BYTES / self.shards)
+                .fits(key.cost(), SUBSCRIPTION_BYTES / self.shards)
     }
 
     /// Why a subscribe is refused.

@@ -1,10 +1,9 @@
 -- Lists of open subscriptions.
-use Rattle.std.specs.Prelude.{ℕ, Bool, not, ◌&&◌, nat_eq, List, [], ◌∷◌, map, filter, length, sum_by, ◌+◌, Option, Some, None, if◌then◌else◌}
+use Rattle.std.specs.Prelude.{ℕ, Bool, not, ◌&&◌, nat_eq, List, [], ◌∷◌, map, filter, sum_by, Option, if◌then◌else◌}
 use Rattle.std.specs.Option.{option_map}
 use Rattle.std.specs.List.{find}
 use Rattle.std.specs.Str.{bytes_eq}
-use Rattle.subj.specs.declared.keys.Key.{Key}
-use Rattle.subj.specs.declared.limits.TheConstants.{SUBSCRIPTION_COST}
+use Rattle.subj.specs.Keys.{cost_of}
 use Rattle.subj.specs.Matching.{subject_matches}
 use Rattle.sub_table.specs.declared.Subscription.{Subscription}
 
@@ -51,13 +50,6 @@ with_delivered serial delivered subs = with_changed serial (λ sub. record sub {
 abbrev pub with_max : ℕ → Option ℕ → List Subscription → List Subscription
 with_max serial max subs = with_changed serial (λ sub. record sub { max = max }) subs
 
--- what a subscription counts against the limit of bytes (profile)
-abbrev pub queue_len : Option (List ℕ) → ℕ
-queue_len None = 0
-queue_len (Some name) = length name
-
-abbrev pub cost_of : Key → ℕ
-cost_of key = length key.pattern + queue_len key.queue + SUBSCRIPTION_COST
-
+-- profile: a subscription counts what its key does
 abbrev pub total_cost : List Subscription → ℕ
 total_cost subs = sum_by (λ sub. cost_of sub.key) subs

@@ -4,13 +4,10 @@
 ghost use Rattle.std.specs.Prelude.{◌≡◌, ◌<◌, ◌≤◌, ◌+◌, nat_le, [], ◌∷◌, ◌++◌, length, map, filter, position, IfOk, OnOk, OnErr, All};
 ghost use Rattle.std.specs.List.{find as find_in};
 ghost use Rattle.std.specs.Option.{option_copied};
-ghost use Rattle.sub_table.specs.Subscriptions.{cost_of as cost_of_key, total_cost, gets, is_of_another, has_serial, without_serial, serial_called, serials_of, with_delivered, with_max};
+ghost use Rattle.sub_table.specs.Subscriptions.{total_cost, gets, is_of_another, has_serial, without_serial, serial_called, serials_of, with_delivered, with_max};
 
 use std::alloc::{AllocError, Global};
-use subj::{ConnId, Key, MAX_QUEUE_NAME, MAX_SUBJECT, SUBSCRIPTION_COST, Sid, Subject};
-
-/// The most that one subscription can count.
-pub const MAX_COST: u64 = (MAX_SUBJECT + MAX_QUEUE_NAME) as u64 + SUBSCRIPTION_COST;
+use subj::{ConnId, Key, Sid, Subject};
 
 /// An open subscription. (NATS documentation, "Client Protocol": `SUB`.)
 #[derive(Debug, Drop)]
@@ -27,19 +24,6 @@ pub struct Subscription {
     pub delivered: u64,
     /// How many messages it is to get in all, where there is a limit.
     pub max: Option<u64>,
-}
-
-/// What a subscription to this key counts against the limit of bytes: the bytes of its pattern and of
-/// its queue name, and [`SUBSCRIPTION_COST`]. (Profile.)
-pub fn cost_of(key: &Key) -> u64
-    ensures same { result ≡ cost_of_key key.now }
-    ensures small { result ≤ MAX_COST }
-{
-    let queue = match &key.queue {
-        None => 0,
-        Some(name) => name.bytes().len(),
-    };
-    (key.pattern.bytes().len() + queue) as u64 + SUBSCRIPTION_COST
 }
 
 /// The open subscriptions of a shard, however they are kept.
@@ -139,7 +123,7 @@ impl SubTable for ListTable {
             return false;
         };
         for sub in &self.subs {
-            let Some(rest) = left.checked_sub(cost_of(&sub.key)) else {
+            let Some(rest) = left.checked_sub(sub.key.cost()) else {
                 return false;
             };
             left = rest;

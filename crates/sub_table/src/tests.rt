@@ -2,11 +2,11 @@
 
 ghost use Rattle.std.specs.Prelude.{◌≡◌, ◌≤◌, All, IfOk, OnOk};
 
-use crate::{ListTable, MAX_COST, SubTable, Subscription, cost_of};
+use crate::{ListTable, SubTable, Subscription};
 use std::alloc::{AllocError, Global};
 use std::process::Abort;
 use std::test::Fail;
-use subj::{ConnId, Key, MAX_QUEUE_NAME, MAX_SUBJECT, Pattern, QueueName, Sid, Subject};
+use subj::{ConnId, Key, Pattern, QueueName, Sid, Subject};
 
 /// What a client asks for: its pattern, its queue name or no bytes, and its id.
 type Asked = (&'static [u8], &'static [u8], &'static [u8]);
@@ -274,29 +274,5 @@ fn a_closed_id_is_opened_again(rt: HostRuntime) -> Result<(), Fail> {
         matched(alloc, &table, b"foo.bar")?.as_slice(),
         [3, 5, 9, 10].as_slice()
     );
-    Ok(())
-}
-
-#[test]
-fn costs_are_the_bytes_and_a_fixed_part(rt: HostRuntime) -> Result<(), Fail> {
-    let alloc = rt.alloc();
-    let pattern = [b'p'; MAX_SUBJECT];
-    let queue = [b'q'; MAX_QUEUE_NAME];
-    let table: [(&[u8], &[u8], u64); 6] = [
-        (b">", b"", 25),
-        (b"foo", b"", 27),
-        (b"foo", b"q", 28),
-        (b"*", b"work", 29),
-        (&pattern, b"", 1_048),
-        (&pattern, &queue, 1_112),
-    ];
-    for (pattern, queue, cost) in table {
-        assert_eq!(rt;
-            cost_of(&key(alloc, pattern, queue)?),
-            cost,
-            "{pattern:?} {queue:?}"
-        );
-    }
-    assert_eq!(rt; MAX_COST, 1_112);
     Ok(())
 }

@@ -1,11 +1,12 @@
 //! What a server's clients are interested in.
 
-ghost use Rattle.std.specs.Prelude.{◌≡◌, IfOk};
+ghost use Rattle.std.specs.Prelude.{◌≡◌, ◌≤◌, IfOk};
 ghost use Rattle.std.specs.Cmp.Lexicographic.{slice_cmp};
 ghost use Rattle.std.specs.Option.{option_cmp};
 ghost use Rattle.std.specs.Ordering.{nat_cmp};
-ghost use Rattle.subj.specs.Keys.{key_cmp};
+ghost use Rattle.subj.specs.Keys.{key_cmp, cost_of};
 
+use crate::limits::{MAX_COST, SUBSCRIPTION_COST};
 use crate::patterns::Pattern;
 use crate::queue_names::QueueName;
 use std::alloc::{AllocError, Global};
@@ -41,6 +42,16 @@ impl Key {
             .bytes()
             .cmp(other.pattern.bytes())
             .then(queue_order(&self.queue, &other.queue))
+    }
+
+    /// What the key counts against a limit of bytes: the bytes of its pattern and of its queue name,
+    /// and [`SUBSCRIPTION_COST`](crate::SUBSCRIPTION_COST). (Profile.)
+    pub fn cost(&self) -> u64
+        ensures same { result ≡ cost_of self.now }
+        ensures most { result ≤ MAX_COST }
+    {
+        let queue = self.queue.as_ref().map_or(0, |name| name.bytes().len());
+        (self.pattern.bytes().len() + queue) as u64 + SUBSCRIPTION_COST
     }
 }
 

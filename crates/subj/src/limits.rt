@@ -32,8 +32,10 @@ pub const SUBSCRIPTIONS: u64 = 65_536;
 /// The most bytes that the open subscriptions of a server may count together. A shard has an
 /// equal share.
 pub const SUBSCRIPTION_BYTES: u64 = 4_194_304;
-/// What a subscription counts beside the bytes of its pattern and its queue name.
+/// What a subscription, or a key of interest, counts beside the bytes of its pattern and its queue name.
 pub const SUBSCRIPTION_COST: u64 = 24;
+/// The most that one of them counts.
+pub const MAX_COST: u64 = (MAX_SUBJECT + MAX_QUEUE_NAME) as u64 + SUBSCRIPTION_COST;
 
 /// The most keys of a server's interest.
 pub const MAX_KEYS: u64 = 65_536;

@@ -1,9 +1,9 @@
 //! Examples: the matching table, the order of the refusals, the limits, and each call that takes memory.
 
 use crate::{
-    Busy, ConnId, Finished, Incarnation, Job, Key, MAX_COUNTER, MAX_INCARNATION, MAX_NODE_NAME,
-    MAX_PAYLOAD, MAX_QUEUE_NAME, MAX_SHARDS, MAX_SID, MAX_SUBJECT, Message, NodeId, Pattern, Pub,
-    PubId, QueueName, QueueNames, Sid, SubId, Subject, Turn,
+    Busy, ConnId, Finished, Incarnation, Job, Key, MAX_COST, MAX_COUNTER, MAX_INCARNATION,
+    MAX_NODE_NAME, MAX_PAYLOAD, MAX_QUEUE_NAME, MAX_SHARDS, MAX_SID, MAX_SUBJECT, Message, NodeId,
+    Pattern, Pub, PubId, QueueName, QueueNames, Sid, SubId, Subject, Turn,
 };
 use bytes::Bytes;
 use std::alloc::Global;
@@ -161,6 +161,39 @@ fn names_keep_their_bytes(rt: HostRuntime) -> Result<(), Fail> {
     let node = NodeId::read(b"n1").ok().expect(&rt, "a node name");
     assert_eq!(rt; node.bytes(), b"n1".as_slice());
     assert!(rt; NodeId::read(b"n 1").is_err());
+    Ok(())
+}
+
+/// The key; one without a queue name where that is empty.
+fn key_of(alloc: Global, pattern: &[u8], queue: &[u8]) -> Result<Key, Fail> {
+    let pattern = Pattern::read(alloc, pattern)?;
+    let queue = match queue {
+        [] => None,
+        name => Some(QueueName::read(alloc, name)?),
+    };
+    Ok(Key { pattern, queue })
+}
+
+#[test]
+fn costs_are_the_bytes_and_a_fixed_part(rt: HostRuntime) -> Result<(), Fail> {
+    let pattern = [b'p'; MAX_SUBJECT];
+    let queue = [b'q'; MAX_QUEUE_NAME];
+    let table: [(&[u8], &[u8], u64); 6] = [
+        (b">", b"", 25),
+        (b"foo", b"", 27),
+        (b"foo", b"q", 28),
+        (b"*", b"work", 29),
+        (&pattern, b"", 1_048),
+        (&pattern, &queue, 1_112),
+    ];
+    for (pattern, queue, cost) in table {
+        assert_eq!(rt;
+            key_of(rt.alloc(), pattern, queue)?.cost(),
+            cost,
+            "{pattern:?} {queue:?}"
+        );
+    }
+    assert_eq!(rt; MAX_COST, 1_112);
     Ok(())
 }
 

@@ -1,10 +1,13 @@
 -- What a look at the unread bytes answers, and that more bytes do not change a piece or a fault.
-use Rattle.std.proofs.Common.{◌≡◌, ℕ, ◌+◌, ◌<◌, ◌≤◌, Bool, true, false, List, ◌++◌, length, take, drop, min, nat_le, if◌then◌else◌, ◌⊎◌, Option, Some, None, Ok, Err, refl, sym, ap, ◌∙◌, arith, inl, inr}
+use Rattle.std.proofs.Common.{◌≡◌, ℕ, ◌+◌, ◌<◌, ◌≤◌, Bool, true, false, List, ◌++◌, length, take, drop, min, nat_le, if◌then◌else◌, ◌⊎◌, Option, Some, None, Result, Ok, Err, refl, sym, ap, ◌∙◌, arith, inl, inr}
+use Rattle.std.specs.Prelude.{IfOk, IfSome}
 use Rattle.std.proofs.lemmas.Bool.{le-leb, lt-leb, le-ltb, lt-ltb, cases_lt}
 use Rattle.std.proofs.lemmas.List.{length-take, length-take-le, length-drop, length-append, take-append-le, drop-append-le}
 use Rattle.wire_cut.specs.declared.fault.CutFault.{CutFault}
 use Rattle.wire_cut.specs.declared.fault.CutFault.TheVariants.{LineTooLong, NoCrLfAfterPayload}
-use Rattle.wire_cut.specs.Cut.{Answer, CutterState, StreamPiece, first_cr_lf, begins_with_cr_lf, cr_lf_at, line, payload, bytes_of, cut_of, fed, after_next, cut_line, cut_line_at, cut_long_line, cut_payload_at}
+use Rattle.wire_cut.specs.Cut.{Answer, CutterState, StreamPiece, first_cr_lf, begins_with_cr_lf, cr_lf_at, line, payload, bytes_of, cut_of, fed, after_next, cut_line, cut_line_at, cut_long_line, cut_payload_at, IsWithinUnread}
+use Rattle.wire_cut.specs.declared.piece.Piece.{Piece}
+use Rattle.wire_cut.specs.Shown.{shown, shown_piece}
 use Rattle.wire_cut.specs.Search.{HasCrLfAt, HasNoCrLf}
 use Rattle.wire_cut.proofs.SearchLemmas.{first_cr_lf-found, first_cr_lf-none, first_cr_lf-Some, first_cr_lf-None, HasCrLfAt-take, HasCrLfAt-whole, HasCrLfAt-append, HasCrLfAt-front_part}
 
@@ -170,10 +173,10 @@ cr_lf_at-append unread more size is told =
     rw (le-ltb (length (unread ++ more)) (size + 2) longer, drop-append-le size unread more (omega arith), here) (ap (λ b. Some b) parts.1)
 
 -- a piece and its CR LF stand in the unread bytes
-pub cut_of-piece_length : (s : CutterState) (piece : StreamPiece) → cut_of s ≡ Ok (Some piece) → length (bytes_of piece) + 2 ≤ length s.unread
+pub cut_of-piece_length : (s : CutterState) (piece : StreamPiece) → cut_of s ≡ Ok (Some piece) → IsWithinUnread piece s
 cut_of-piece_length s piece is = by_state s.fault s.expected refl refl
   where
-    by_state : (f : Option CutFault) (e : Option ℕ) → s.fault ≡ f → s.expected ≡ e → length (bytes_of piece) + 2 ≤ length s.unread
+    by_state : (f : Option CutFault) (e : Option ℕ) → s.fault ≡ f → s.expected ≡ e → IsWithinUnread piece s
     by_state (Some fault) e told awaits = absurd (let cut = rw told at is in cc)
     by_state None None told awaits =
         let cut = cuts_line s.line_max s.unread piece (first_cr_lf s.unread) refl (rw (told, awaits) at is) in
@@ -183,6 +186,12 @@ cut_of-piece_length s piece is = by_state s.fault s.expected refl refl
         let cut = cuts_payload size s.unread piece (cr_lf_at s.unread size) (rw (told, awaits) at is) in
         let full = (told_behind s.unread size true cut.0).0 in
         rw cut.1 (omega (arith, full, length-take size s.unread))
+
+-- the same of what `next` answers
+pub given_within : (answer : Result (Option Piece) CutFault) (s : CutterState) → shown answer ≡ cut_of s → IfOk answer (λ given. IfSome given (λ piece. IsWithinUnread (shown_piece piece) s))
+given_within (Ok None) s is = tt
+given_within (Ok (Some piece)) s is = cut_of-piece_length s (shown_piece piece) (sym is)
+given_within (Err fault) s is = tt
 
 -- more bytes do not change a piece
 pub cut_of-fed_piece : (s : CutterState) (piece : StreamPiece) (more : List ℕ) → cut_of s ≡ Ok (Some piece) → cut_of (fed s more) ≡ Ok (Some piece)

@@ -1,7 +1,7 @@
 -- Cutting a stream of bytes into lines and payloads.
 -- NATS documentation, "Client Protocol": a control line ends with CR LF, and so does a payload, whose size its line announces.
 -- Profile: a lone CR or LF is a byte like any other, the limits, and when each fault comes.
-use Rattle.std.specs.Prelude.{ℕ, suc, ◌+◌, ◌<◌, List, [], ◌∷◌, ◌++◌, length, take, drop, nat_lt, nat_le, nat_eq, if◌then◌else◌, Bool, true, false, Option, None, Some, Result, Ok, Err}
+use Rattle.std.specs.Prelude.{ℕ, suc, ◌+◌, ◌<◌, ◌≤◌, List, [], ◌∷◌, ◌++◌, length, take, drop, nat_lt, nat_le, nat_eq, if◌then◌else◌, Bool, true, false, Option, None, Some, Result, Ok, Err}
 use Rattle.std.specs.Option.{option_map}
 use Rattle.std.specs.List.{starts_with}
 use Rattle.wire_cut.specs.declared.fault.CutFault.{CutFault}
@@ -132,3 +132,7 @@ new_cutter line_max payload_max = record {
 abbrev pub IsUnfinished : Option ℕ → CutterState → Type 0
 IsUnfinished None s = length s.unread < s.line_max + 2
 IsUnfinished (Some size) s = length s.unread < size + 2
+
+-- the piece and the CR LF behind it are within the unread bytes
+abbrev pub IsWithinUnread : StreamPiece → CutterState → Type 0
+IsWithinUnread piece s = length (bytes_of piece) + 2 ≤ length s.unread

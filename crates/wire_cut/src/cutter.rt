@@ -1,13 +1,13 @@
 //! Cuts a stream into lines and payloads.
 ghost use Rattle.std.specs.Prelude.{◌≡◌, ◌^◌, ◌<◌, ◌≤◌, None, Some, length};
-ghost use Rattle.std.specs.Prelude.{IsTrue, IfNone, IfOk, OnOk, OnErr};
+ghost use Rattle.std.specs.Prelude.{IsTrue, IfNone, IfSome, IfOk, OnOk, OnErr};
 ghost use Rattle.std.specs.Result.{result_err};
 ghost use Rattle.std.specs.Borrow.{sem};
 ghost use Rattle.std.specs.Io.KnownBytes.{Keeps};
 ghost use Rattle.wire_cut.specs.Flow.{Gains, ReadsOnce};
 ghost use Rattle.wire_cut.specs.Search.{HasNoCrLf};
 ghost use Rattle.wire_cut.specs.Cut.{cut_of, cr_lf_at, first_cr_lf, fed};
-ghost use Rattle.wire_cut.specs.Cut.{new_cutter, after_expect, expect_fault, IsUnfinished};
+ghost use Rattle.wire_cut.specs.Cut.{new_cutter, after_expect, expect_fault, IsUnfinished, IsWithinUnread};
 
 use crate::fault::{CutFault, FeedFault, FillFault};
 use crate::piece::Piece;
@@ -63,7 +63,7 @@ impl Model for Cutter {
 
 impl Cutter {
     ghost use Rattle.wire_cut.specs.Answers.{FeedAnswers, FillAnswers};
-    ghost use Rattle.wire_cut.specs.Shown.{shown, LeavesNext};
+    ghost use Rattle.wire_cut.specs.Shown.{shown, shown_piece, LeavesNext};
 
     /// A cutter to which nothing was fed, for lines of up to `line_max` bytes without their CR LF
     /// and payloads of up to `payload_max` bytes. Both are below 2^32. It takes no memory before
@@ -128,6 +128,8 @@ impl Cutter {
         ensures answer { shown result ≡ cut_of self.old }
         ensures held { IfOk result (λ piece.
             IfNone piece (IsUnfinished self.old.expected self.old)) }
+        ensures within { IfOk result (λ piece.
+            IfSome piece (λ piece. IsWithinUnread (shown_piece piece) self.old)) }
         ensures* rest { sem 𝓛 (LeavesNext self.entry) }
     {
         if let Some(fault) = self.fault {

@@ -15,20 +15,23 @@ announce-requires-clause-ready c =
 pub returns-in-Answered : goal.returns-in-Answered
 returns-in-Answered c =
     let cut = rw (c.in-Ok-Some-Line.field-0-is, c.in-Ok-Some-Line.field-0-0-is) at c.in-Ok-Some-Line.ensures.answer in
+    let within = rw (c.in-Ok-Some-Line.field-0-is, c.in-Ok-Some-Line.field-0-0-is) at c.in-Ok-Some-Line.ensures.within in
     let does = rw c.in-Answered.is at c.in_ok-flow-in-Ok-Some-Line.ensures in
-    line_looked c.args.client.now c.line.new.self c.args.cutter.now _ c.in-Ok-Some-Line.line.now c.in-Answered.flow c.requires (sym cut) c.next.follows.holds-at-none does
+    line_looked c.args.client.now c.line.new.self c.args.cutter.now _ c.in-Ok-Some-Line.line.now c.in-Answered.flow c.requires (sym cut, within) c.next.follows.holds-at-none does
 
 pub returns-in_ok-announce-in-Payload : goal.returns-in_ok-announce-in-Payload
 returns-in_ok-announce-in-Payload c =
     let cut = rw (c.in-Ok-Some-Line.field-0-is, c.in-Ok-Some-Line.field-0-0-is) at c.in-Ok-Some-Line.ensures.answer in
+    let within = rw (c.in-Ok-Some-Line.field-0-is, c.in-Ok-Some-Line.field-0-0-is) at c.in-Ok-Some-Line.ensures.within in
     let does = rw c.in-Payload.is at c.in_ok-flow-in-Ok-Some-Line.ensures in
-    payload_announced c.args.client.now c.line.new.self c.announce.new.client c.args.cutter.now _ c.announce.new.cutter c.in-Ok-Some-Line.line.now c.in-Payload.size c.in_ok-announce-in-Payload.field-0 c.requires (sym cut) c.next.follows.holds-at-none does
+    payload_announced c.args.client.now c.line.new.self c.announce.new.client c.args.cutter.now _ c.announce.new.cutter c.in-Ok-Some-Line.line.now c.in-Payload.size c.in_ok-announce-in-Payload.field-0 c.requires (sym cut, within) c.next.follows.holds-at-none does
     c.in_ok-announce-in-Payload.ensures.expects c.in_ok-announce-in-Payload.ensures.announced
 
 pub returns-in_ok-payload-in-Ok-Some-Payload : goal.returns-in_ok-payload-in-Ok-Some-Payload
 returns-in_ok-payload-in-Ok-Some-Payload c =
     let cut = rw (c.in-Ok-Some-Payload.field-0-is, c.in-Ok-Some-Payload.field-0-0-is) at c.in-Ok-Some-Payload.ensures.answer in
-    payload_looked c.args.client.now c.payload.new.self c.args.cutter.now _ c.in-Ok-Some-Payload.payload.now c.in_ok-payload-in-Ok-Some-Payload.field-0 c.requires (sym cut) c.next.follows.holds-at-none c.in_ok-payload-in-Ok-Some-Payload.ensures
+    let within = rw (c.in-Ok-Some-Payload.field-0-is, c.in-Ok-Some-Payload.field-0-0-is) at c.in-Ok-Some-Payload.ensures.within in
+    payload_looked c.args.client.now c.payload.new.self c.args.cutter.now _ c.in-Ok-Some-Payload.payload.now c.in_ok-payload-in-Ok-Some-Payload.field-0 c.requires (sym cut, within) c.next.follows.holds-at-none c.in_ok-payload-in-Ok-Some-Payload.ensures
 
 pub returns-in_ok-refuse-in-Err : goal.returns-in_ok-refuse-in-Err
 returns-in_ok-refuse-in-Err c =

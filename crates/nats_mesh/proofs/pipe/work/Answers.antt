@@ -14,14 +14,14 @@ returns-in-Some-Closed-clause-works g c =
     let closed = rw (c.in-Some-Closed.is, c.in-Some-Closed.field-0-is) at c.in_ok-look.ensures in
     moved_to_end c.args.client.now c.loop-client.client c.look.new.client c.args.cutter.now c.loop-client.cutter _ _ c.loop-client.invariant.0 closed
 
-pub loop-client-preserved-in-Continue-branch-3 : goal.loop-client-preserved-in-Continue-branch-3
-loop-client-preserved-in-Continue-branch-3 g c =
+pub loop-client-preserved : goal.loop-client-preserved
+loop-client-preserved g c =
     let worked = rw (c.in-Some-Open.is, c.in-Some-Open.field-0-is) at c.in_ok-look.ensures in
     let moved = moved_further c.args.client.now c.loop-client.client c.look.new.client c.args.cutter.now c.loop-client.cutter c.look.new.cutter (g.W.Sink.written c.args.sink.now) (g.W.Sink.written c.loop-client.sink) c.loop-client.invariant.0 worked in
     (moved_and_flushed c.args.client.now c.look.new.client c.flush.new.client c.args.cutter.now c.look.new.cutter _ _ _ moved c.in_ok-flush.ensures.ok, c.in_ok-flush.ensures.failures ∙ c.loop-client.invariant.1)
 
-pub loop-client-preserved : goal.loop-client-preserved
-loop-client-preserved g c =
+pub loop-client-preserved-then-output-lt-READ_BYTES : goal.loop-client-preserved-then-output-lt-READ_BYTES
+loop-client-preserved-then-output-lt-READ_BYTES g c =
     let worked = rw (c.in-Some-Open.is, c.in-Some-Open.field-0-is) at c.in_ok-look.ensures in
     (moved_further c.args.client.now c.loop-client.client c.look.new.client c.args.cutter.now c.loop-client.cutter c.look.new.cutter (g.W.Sink.written c.args.sink.now) (g.W.Sink.written c.loop-client.sink) c.loop-client.invariant.0 worked, c.loop-client.invariant.1)
 

@@ -3,9 +3,9 @@ use Rattle.std.specs.Prelude.{insert}
 use Rattle.std.proofs.lemmas.Result.{err_from_is_err_and}
 use Rattle.subj.specs.declared.limits.TheConstants.{MAX_KEYS, SUBSCRIPTION_BYTES}
 use Rattle.subj.specs.declared.keys.Key.{Key}
-use Rattle.subj.specs.Keys.{key_cmp}
+use Rattle.subj.specs.Keys.{key_cmp, cost_of}
 use Rattle.interest.specs.Places.{IsGapFor}
-use Rattle.interest.specs.Counts.{Counts, cost_of, total_cost, is_full, too_many_if, IsInterest}
+use Rattle.interest.specs.Counts.{Counts, total_cost, is_full, too_many_if, IsInterest}
 use Rattle.interest.proofs.Entries.{added, total_added}
 use Rattle.interest.proofs.Deltas.{has_room}
 use Rattle.interest.proofs.counts.Local.add.Goals as goal

@@ -1,9 +1,9 @@
 use Rattle.std.proofs.Common.{◌≡◌, ◌≤◌, ◌+◌, ◌-◌, ℕ, sym, ap, ◌∙◌, subst, arith}
 use Rattle.std.specs.Prelude.{remove, slice_set, slice_index_or}
 use Rattle.subj.specs.declared.keys.Key.{Key}
-use Rattle.subj.specs.Keys.{key_cmp}
+use Rattle.subj.specs.Keys.{key_cmp, cost_of}
 use Rattle.interest.specs.Places.{IsPlaceOf}
-use Rattle.interest.specs.Counts.{Counts, cost_of, total_cost, IsInterest}
+use Rattle.interest.specs.Counts.{Counts, total_cost, IsInterest}
 use Rattle.interest.proofs.Entries.{changed, removed, total_set, total_removed}
 use Rattle.interest.proofs.counts.Local.set_count.Goals as goal
 
