@@ -5,7 +5,7 @@ use Rattle.std.proofs.lemmas.Bool.{le-leb, lt-leb, le-ltb, lt-ltb, cases_lt}
 use Rattle.std.proofs.lemmas.List.{length-take, length-take-le, length-drop, length-append, take-append-le, drop-append-le}
 use Rattle.wire_cut.specs.declared.fault.CutFault.{CutFault}
 use Rattle.wire_cut.specs.declared.fault.CutFault.TheVariants.{LineTooLong, NoCrLfAfterPayload}
-use Rattle.wire_cut.specs.Cut.{Answer, CutterState, StreamPiece, first_cr_lf, begins_with_cr_lf, cr_lf_at, line, payload, bytes_of, cut_of, fed, after_next, cut_line, cut_line_at, cut_long_line, cut_payload_at, IsWithinUnread}
+use Rattle.wire_cut.specs.Cut.{Answer, CutterState, StreamPiece, first_cr_lf, begins_with_cr_lf, cr_lf_at, line, payload, cut_of, fed, after_next, cut_line, cut_line_at, cut_long_line, cut_payload_at, IsWithinUnread}
 use Rattle.wire_cut.specs.declared.piece.Piece.{Piece}
 use Rattle.wire_cut.specs.Shown.{shown, shown_piece}
 use Rattle.wire_cut.specs.Search.{HasCrLfAt, HasNoCrLf}
