@@ -1,4 +1,4 @@
--- Where the canonical spelling of a numbered frame is cut.
+-- Where lines and payloads are cut; the canonical line of a numbered frame is short and holds no CR.
 use Rattle.std.proofs.Common.{◌≡◌, ℕ, suc, ◌+◌, ◌*◌, ◌^◌, ◌≤◌, ◌<◌, Bool, true, false, ◌&&◌, cond, List, [], ◌∷◌, ◌++◌, length, take, drop, refl, ap, ◌∙◌, arith, length-append, Option, Some, None, Ok}
 use Rattle.std.specs.Prelude.{nat_le, nat_lt, nat_eq, decimal, codes}
 use Rattle.std.specs.Option.{option_map, option_to_list}
@@ -140,10 +140,10 @@ minus_short pattern (Some queue) is =
     one_more MAX_SUBJECT 100 7000 pattern _ (lacks is_cr no_cr pattern (pattern_plain pattern is.pattern)) (pattern_short pattern is.pattern) (
     one_more MAX_QUEUE_NAME 0 100 queue [] (lacks is_cr no_cr queue (queue_plain queue is.queue)) (queue_short queue is.queue) (none_short 0) (omega arith)) (omega arith)) (omega arith)
 
-names_short : (names : List (List ℕ)) → AreNames names → AreShort (length names * 65) names
+names_short : (names : List (List ℕ)) → AreNames names → AreShort (length names * suc MAX_QUEUE_NAME) names
 names_short [] is = none_short _
 names_short (name ∷ names) is =
-    one_more MAX_QUEUE_NAME (length names * 65) (length (name ∷ names) * 65) name names (lacks is_cr no_cr name (queue_plain name is.0)) (queue_short name is.0) (names_short names is.1) (omega arith)
+    one_more MAX_QUEUE_NAME (length names * suc MAX_QUEUE_NAME) (length (name ∷ names) * suc MAX_QUEUE_NAME) name names (lacks is_cr no_cr name (queue_plain name is.0)) (queue_short name is.0) (names_short names is.1) (omega arith)
 
 few : (count : ℕ) (rising : Bool) → (nat_le count MAX_QUEUE_NAMES && rising) ≡ true → count ≤ MAX_QUEUE_NAMES
 few count rising is = grind (arith, nat_tests)
@@ -154,11 +154,11 @@ reply_short reply rest all fields is are fits = one_more MAX_SUBJECT rest all re
 form_short : (reply : Option (List ℕ)) (names : List (List ℕ)) → IsReply reply → AreNames names → length names ≤ MAX_QUEUE_NAMES → AreShort 6000 (form_fields reply names)
 form_short None [] is are fits = none_short _
 form_short (Some reply) [] is are fits = reply_short reply 0 6000 [] is (none_short 0) (omega arith)
-form_short None (name ∷ names) is are fits = one_more 1 5900 6000 (codes "|") (name ∷ names) refl (omega arith) (wider (length (name ∷ names) * 65) 5900 (name ∷ names) (names_short (name ∷ names) are) (omega arith)) (omega arith) where
+form_short None (name ∷ names) is are fits = one_more 1 5900 6000 (codes "|") (name ∷ names) refl (omega arith) (wider (length (name ∷ names) * suc MAX_QUEUE_NAME) 5900 (name ∷ names) (names_short (name ∷ names) are) (omega arith)) (omega arith) where
   wider : (most all : ℕ) (fields : List (List ℕ)) → AreShort most fields → most ≤ all → AreShort all fields
   wider most all fields are fits = let short = are.short in record { plain = are.plain; short = omega arith }
 form_short (Some reply) (name ∷ names) is are fits =
-    one_more 1 5900 6000 (codes "+") (reply ∷ name ∷ names) refl (omega arith) (reply_short reply (length (name ∷ names) * 65) 5900 (name ∷ names) is (names_short (name ∷ names) are) (omega arith)) (omega arith)
+    one_more 1 5900 6000 (codes "+") (reply ∷ name ∷ names) refl (omega arith) (reply_short reply (length (name ∷ names) * suc MAX_QUEUE_NAME) 5900 (name ∷ names) is (names_short (name ∷ names) are) (omega arith)) (omega arith)
 
 message_short : (message : Content) (queues : List (List ℕ)) → IsMessage message queues → AreShort 8000 (body_fields (Msg message queues))
 message_short message queues is =

@@ -7,7 +7,7 @@ use Rattle.serde_json.specs.Data.{Data, null, boolean, number, string, array, ob
 use Rattle.serde_json.specs.Find.{get, as_number, as_str, as_object}
 use Rattle.subj.specs.declared.limits.TheConstants.{MAX_INCARNATION, MAX_COUNTER}
 use Rattle.subj.specs.Names.{node_name_fault}
-use Rattle.route_values.specs.Records.{Info, Connect, is_serial}
+use Rattle.route_values.specs.Records.{Info, Connect}
 use Rattle.route_values.specs.Valid.{IsIncarnation, IsInfo, IsConnect}
 use Rattle.route_frames.specs.declared.faults.RouteFault.TheVariants.{BadArgs, BadNumber}
 use Rattle.route_frames.specs.declared.greetings.Whole.TheVariants as whole
@@ -15,6 +15,7 @@ use Rattle.route_frames.specs.Meaning.{◌>>=◌}
 use Rattle.route_frames.specs.Canonical.{counted}
 use Rattle.route_frames.specs.Greetings.{json_of, object_of, whole_of, whole_at, whole_in_range, incarnation_in, node_at, info_in, dial_in, connect_in, info_of, connect_text_of}
 use Rattle.route_frames.specs.Spelling.{HasInfo, HasConnect}
+use Rattle.route_frames.proofs.GreetingTexts.{serial_range}
 use Rattle.route_frames.proofs.PartsMean.{incarnation_again, node_again}
 
 -- ---- members
@@ -64,9 +65,6 @@ info_means text json info is has valid =
     ap (λ read. read >>= info_in) (object_means text (codes "inc") json (counted info.inc) is has.inc) ∙ info_found json info has valid
 
 -- ---- CONNECT
-
-serial_range : (n : ℕ) → is_serial n ≡ true → (1 ≤ n) × (n ≤ MAX_COUNTER)
-serial_range n is = grind (arith, nat_tests)
 
 connect_found : (json : Data) (connect : Connect) → HasConnect connect json → IsConnect connect → connect_in json ≡ Ok connect
 unfolding connect_in dial_in

@@ -12,7 +12,7 @@ use Rattle.wire_cut.proofs.StreamLemmas.{stream_of-look, in_feeds-at_once}
 use Rattle.route_values.specs.declared.frames.RouteFrame.{RouteFrame}
 use Rattle.route_values.specs.Snapshots.{line_end}
 use Rattle.route_values.specs.Valid.{IsRouteFrame, AreRouteFrames}
-use Rattle.route_frames.specs.Decoding.{frame_meaning}
+use Rattle.route_frames.specs.Decoding.{frame_meaning, size_meaning}
 use Rattle.route_frames.specs.Canonical.{canonical_line, canonical_payload, payload_bytes, frame_bytes}
 use Rattle.route_frames.specs.ReadAgain.{IsAnnouncedAgain, IsReadAgain}
 use Rattle.route_frames.specs.CutAgain.{IsCutAgain, IsShort, ArePayloads, IsPayloadCutAgain}
@@ -111,31 +111,31 @@ module _ (cut : IsCutAgain) (announced : IsAnnouncedAgain) (payloads : ArePayloa
 
 -- ---- what the pieces mean
 
-with_payload : (text bytes : List ℕ) (pieces : List StreamPiece) (frame : RouteFrame) (frames : List RouteFrame) → frame_meaning text bytes ≡ Ok frame → frames_in pieces ≡ Ok frames
+with_payload : (text bytes : List ℕ) (size : ℕ) (pieces : List StreamPiece) (frame : RouteFrame) (frames : List RouteFrame) → size_meaning text ≡ Ok (Some size) → frame_meaning text bytes ≡ Ok frame → frames_in pieces ≡ Ok frames
     → frames_in (line text ∷ payload bytes ∷ pieces) ≡ Ok (frame ∷ frames)
 unfolding frames_in
-with_payload text bytes pieces frame frames is are = rw (is, are) refl
+with_payload text bytes size pieces frame frames says is are = rw (says, is, are) refl
 
-without_payload : (text : List ℕ) (frame : RouteFrame) (frames : List RouteFrame) → frame_meaning text [] ≡ Ok frame → frames_in (flat_map frame_pieces frames) ≡ Ok frames
+without_payload : (text : List ℕ) (frame : RouteFrame) (frames : List RouteFrame) → size_meaning text ≡ Ok None → frame_meaning text [] ≡ Ok frame → frames_in (flat_map frame_pieces frames) ≡ Ok frames
     → frames_in (line text ∷ flat_map frame_pieces frames) ≡ Ok (frame ∷ frames)
 unfolding frames_in
-without_payload text frame [] is are = rw is refl
-without_payload text frame (next ∷ frames) is are = rw (is, are) refl
+without_payload text frame [] says is are = rw (says, is) refl
+without_payload text frame (next ∷ frames) says is are = rw (says, is, are) refl
 
 no_frames : frames_in [] ≡ Ok []
 unfolding frames_in
 no_frames = refl
 
-frame_in_front : (text : List ℕ) (behind : Option (List ℕ)) (frame : RouteFrame) (frames : List RouteFrame) → frame_meaning text (unwrap_or behind []) ≡ Ok frame
+frame_in_front : (text : List ℕ) (behind : Option (List ℕ)) (frame : RouteFrame) (frames : List RouteFrame) → size_meaning text ≡ Ok (option_map (λ bytes. length bytes) behind) → frame_meaning text (unwrap_or behind []) ≡ Ok frame
     → frames_in (flat_map frame_pieces frames) ≡ Ok frames → frames_in (pieces_of text behind ++ flat_map frame_pieces frames) ≡ Ok (frame ∷ frames)
-frame_in_front text None frame frames is are = without_payload text frame frames is are
-frame_in_front text (Some bytes) frame frames is are = with_payload text bytes (flat_map frame_pieces frames) frame frames is are
+frame_in_front text None frame frames says is are = without_payload text frame frames says is are
+frame_in_front text (Some bytes) frame frames says is are = with_payload text bytes (length bytes) (flat_map frame_pieces frames) frame frames says is are
 
-module _ (read : IsReadAgain) where
+module _ (read : IsReadAgain) (announced : IsAnnouncedAgain) where
   pub frames_in_pieces : AreFramesInPieces
   frames_in_pieces [] are = no_frames
   frames_in_pieces (frame ∷ frames) are =
-      frame_in_front (canonical_line frame) (canonical_payload frame) frame frames (read frame are.0) (frames_in_pieces frames are.1)
+      frame_in_front (canonical_line frame) (canonical_payload frame) frame frames (announced frame are.0) (read frame are.0) (frames_in_pieces frames are.1)
 
 -- a cutter without bytes gives no piece
 no_line : cut_line ROUTE_LINE [] ≡ Ok None
@@ -152,4 +152,4 @@ module _ (read : IsReadAgain) (cut : IsCutAgain) (announced : IsAnnouncedAgain) 
       let last : Bool = ends_with_line false pieces in
       ap (λ stream. frames_in stream.pieces) (cut_in_any_feeds cut announced payloads payload_cut frames [] feeds are (is ∙ sym (append-nil (flat_map frame_bytes frames))))
       ∙ ap (λ stream. frames_in (pieces ++ stream.pieces)) (nothing_left last)
-      ∙ ap frames_in (append-nil pieces) ∙ frames_in_pieces read frames are
+      ∙ ap frames_in (append-nil pieces) ∙ frames_in_pieces read announced frames are

@@ -6,7 +6,7 @@ pub mod Pieces
 pub mod NameBytes
 pub mod SpeltFields
 pub mod PartsMean
-pub mod MessageForms
+pub mod MessagesMean
 pub mod Cutting
 pub mod FrameFields
 pub mod Cuts

@@ -20,7 +20,7 @@ use Rattle.route_frames.specs.NumberedLines.{plus_line, minus_line, snapshot_lin
 use Rattle.route_frames.specs.Canonical.{form_fields}
 use Rattle.route_frames.specs.Spelling.{IsNumber, SpellsWeight}
 use Rattle.route_frames.proofs.PartsMean.{digits_spelt, numbers_spelt, within_again, in_range_again, node_again, subject_again, key_again, weighted_again}
-use Rattle.route_frames.proofs.MessageForms.{fields_again, reply_again, queues_again}
+use Rattle.route_frames.proofs.MessagesMean.{fields_again, reply_again, queues_again}
 
 -- what the ends of a frame have to be
 pub record AreEnds (from to : List ℕ) (inc to_inc number : ℕ) : Type 0 where

@@ -23,6 +23,7 @@ use Rattle.route_frames.specs.CommonFields.{CommonFields, within, node_of, numbe
 use Rattle.route_frames.specs.Arguments.{PlusFields, MessageFields, plus_fields, minus_fields, snapshot_field, message_fields}
 use Rattle.route_frames.specs.NumberedLines.{account_of, pattern_of, subject_of, queue_of, optional, key_of, are_names, queue_names_in, weight_digits, plus_line, minus_line, snapshot_line, few_names, message_fields_in, message_line}
 use Rattle.route_frames.specs.Causes.{NumberField, numbers_cause, common_numbers, weight_numbers, plus_cause, minus_cause, snapshot_cause, message_cause}
+use Rattle.route_frames.proofs.PartsMean.{digits_spelt, numbers_spelt}
 use Rattle.route_frames.proofs.Agreement.{Agrees, agrees_then, ok_or_agrees, refused_where, refused_unless, fields_agree}
 
 -- ---- names
@@ -66,19 +67,16 @@ incarnation_within n = ap (λ b. ok_or (cond b None (Some n)) BadNumber) (one_to
 abbrev gate : {A : Type 0} → Bool → A → Meaning A
 gate test x = cond test (Ok x) (Err BadNumber)
 
-abbrev numbers_with : ℕ → ℕ → ℕ → Numbers
-numbers_with inc to_inc number = record { inc = inc; to_inc = to_inc; number = number }
-
 abbrev gates : Bool → Bool → Bool → ℕ → ℕ → ℕ → Meaning Numbers
-gates a b c inc to_inc number = gate a inc >>= λ inc. gate b to_inc >>= λ to_inc. gate c number >>= λ number. Ok (numbers_with inc to_inc number)
+gates a b c inc to_inc number = gate a inc >>= λ inc. gate b to_inc >>= λ to_inc. gate c number >>= λ number. Ok (numbers_spelt inc to_inc number)
 
-three_gates : {B : Type 0} (a b c : Bool) (inc to_inc number : ℕ) (next : Numbers → Meaning B) → Agrees None (next (numbers_with inc to_inc number)) → Agrees (cond (not (a && (b && (c && true)))) (Some BadNumber) None) (gates a b c inc to_inc number >>= next)
+three_gates : {B : Type 0} (a b c : Bool) (inc to_inc number : ℕ) (next : Numbers → Meaning B) → Agrees None (next (numbers_spelt inc to_inc number)) → Agrees (cond (not (a && (b && (c && true)))) (Some BadNumber) None) (gates a b c inc to_inc number >>= next)
 three_gates false b c inc to_inc number next others = refl
 three_gates true false c inc to_inc number next others = refl
 three_gates true true false inc to_inc number next others = refl
 three_gates true true true inc to_inc number next others = others
 
-four_gates : {B : Type 0} (a b c d : Bool) (inc to_inc number more : ℕ) (next : Numbers → ℕ → Meaning B) → Agrees None (next (numbers_with inc to_inc number) more) → Agrees (cond (not (a && (b && (c && (d && true))))) (Some BadNumber) None) (gates a b c inc to_inc number >>= λ numbers. gate d more >>= λ more. next numbers more)
+four_gates : {B : Type 0} (a b c d : Bool) (inc to_inc number more : ℕ) (next : Numbers → ℕ → Meaning B) → Agrees None (next (numbers_spelt inc to_inc number) more) → Agrees (cond (not (a && (b && (c && (d && true))))) (Some BadNumber) None) (gates a b c inc to_inc number >>= λ numbers. gate d more >>= λ more. next numbers more)
 four_gates false b c d inc to_inc number more next others = refl
 four_gates true false c d inc to_inc number more next others = refl
 four_gates true true false d inc to_inc number more next others = refl
@@ -89,11 +87,8 @@ four_gates true true true true inc to_inc number more next others = others
 abbrev may_be : ℕ → ℕ → Option ℕ → NumberField
 may_be least most value = record { value = value; least = least; most = most }
 
-abbrev digits_with : ℕ → ℕ → ℕ → Digits
-digits_with inc to_inc number = record { inc = inc; to_inc = to_inc; number = number }
-
 abbrev all_digits : Option ℕ → Option ℕ → Option ℕ → Meaning Digits
-all_digits inc to_inc number = ok_or inc BadArgs >>= λ inc. ok_or to_inc BadArgs >>= λ to_inc. ok_or number BadArgs >>= λ number. Ok (digits_with inc to_inc number)
+all_digits inc to_inc number = ok_or inc BadArgs >>= λ inc. ok_or to_inc BadArgs >>= λ to_inc. ok_or number BadArgs >>= λ number. Ok (digits_spelt inc to_inc number)
 
 in_range_by : (least : ℕ) (digits : Digits) → numbers_in_range least digits ≡ gates (is_within 1 MAX_INCARNATION digits.inc) (is_within 1 MAX_INCARNATION digits.to_inc) (is_within least MAX_COUNTER digits.number) digits.inc digits.to_inc digits.number
 unfolding numbers_in_range
@@ -105,7 +100,7 @@ three_agree least None to_inc number next others = refl
 three_agree least (Some inc) None number next others = refl
 three_agree least (Some inc) (Some to_inc) None next others = refl
 three_agree least (Some inc) (Some to_inc) (Some number) next others =
-    rw (in_range_by least (digits_with inc to_inc number)) (three_gates (is_within 1 MAX_INCARNATION inc) (is_within 1 MAX_INCARNATION to_inc) (is_within least MAX_COUNTER number) inc to_inc number next (others (numbers_with inc to_inc number)))
+    rw (in_range_by least (digits_spelt inc to_inc number)) (three_gates (is_within 1 MAX_INCARNATION inc) (is_within 1 MAX_INCARNATION to_inc) (is_within least MAX_COUNTER number) inc to_inc number next (others (numbers_spelt inc to_inc number)))
 
 four_agree : {B : Type 0} (least low high : ℕ) (inc to_inc number more : Option ℕ) (next : Numbers → ℕ → Meaning B) → ((numbers : Numbers) (more : ℕ) → Agrees None (next numbers more))
     → Agrees (numbers_cause (may_be 1 MAX_INCARNATION inc ∷ may_be 1 MAX_INCARNATION to_inc ∷ may_be least MAX_COUNTER number ∷ may_be low high more ∷ [])) (all_digits inc to_inc number >>= λ digits. ok_or more BadArgs >>= λ more. numbers_in_range least digits >>= λ numbers. within low high more >>= λ more. next numbers more)
@@ -114,7 +109,7 @@ four_agree least low high (Some inc) None number more next others = refl
 four_agree least low high (Some inc) (Some to_inc) None more next others = refl
 four_agree least low high (Some inc) (Some to_inc) (Some number) None next others = refl
 four_agree least low high (Some inc) (Some to_inc) (Some number) (Some more) next others =
-    rw (in_range_by least (digits_with inc to_inc number)) (four_gates (is_within 1 MAX_INCARNATION inc) (is_within 1 MAX_INCARNATION to_inc) (is_within least MAX_COUNTER number) (is_within low high more) inc to_inc number more next (others (numbers_with inc to_inc number) more))
+    rw (in_range_by least (digits_spelt inc to_inc number)) (four_gates (is_within 1 MAX_INCARNATION inc) (is_within 1 MAX_INCARNATION to_inc) (is_within least MAX_COUNTER number) (is_within low high more) inc to_inc number more next (others (numbers_spelt inc to_inc number) more))
 
 -- ---- what stands behind the numbers
 

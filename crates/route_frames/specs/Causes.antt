@@ -1,4 +1,7 @@
--- Which cause a line is refused for (profile). They are looked for in this order: no operation of a route; a number of fields, or marks among them, that no form has, or a text that is no JSON object; too many queue names; a field that has to be a number and is no digits, or too many; a number out of its range. All else is `BadArgs`: so is a member that is missing or is no whole number.
+-- Which cause a line is refused for (profile). They are looked for in this order: no operation of a route; a number of
+-- fields, or marks among them, that no form has, or a text that is no JSON object; too many queue names; a field that has
+-- to be a number and is no digits, or too many; a number out of its range. All else is `BadArgs`: so is a member that is
+-- missing or is no whole number.
 use Rattle.std.specs.Prelude.{ℕ, Bool, true, false, not, nat_lt, List, [], ◌∷◌, ◌++◌, length, drop, codes, is_some, Option, Some, None, if◌then◌else◌}
 use Rattle.std.specs.List.{list_all, list_any}
 use Rattle.serde_json.specs.Data.{Num, unsigned, negative, float, Data}

@@ -32,19 +32,31 @@ payload_pieces (Some bytes) = payload bytes ∷ []
 abbrev pub frame_pieces : RouteFrame → List StreamPiece
 frame_pieces frame = line (canonical_line frame) ∷ payload_pieces (canonical_payload frame)
 
--- the frames that pieces spell: a line, with the payload behind it where one stands there
+-- a line alone spells a frame where it announces no payload, and with a payload behind it where it announces one
+abbrev pub alone : Option ℕ → List ℕ → Meaning RouteFrame
+alone None text = frame_meaning text []
+alone (Some size) text = Err BadArgs
+
+abbrev pub followed : Option ℕ → List ℕ → List ℕ → Meaning RouteFrame
+followed None text bytes = Err BadArgs
+followed (Some size) text bytes = frame_meaning text bytes
+
+-- the frames that pieces spell, each whole
 unfoldable pub frames_in : List StreamPiece → Meaning (List RouteFrame)
 frames_in [] = Ok []
 frames_in (payload bytes ∷ pieces) = Err BadArgs
 frames_in (line text ∷ []) = do
-  frame ← frame_meaning text []
+  size ← size_meaning text
+  frame ← alone size text
   Ok (frame ∷ [])
 frames_in (line text ∷ line next ∷ pieces) = do
-  frame ← frame_meaning text []
+  size ← size_meaning text
+  frame ← alone size text
   frames ← frames_in (line next ∷ pieces)
   Ok (frame ∷ frames)
 frames_in (line text ∷ payload bytes ∷ pieces) = do
-  frame ← frame_meaning text bytes
+  size ← size_meaning text
+  frame ← followed size text bytes
   frames ← frames_in pieces
   Ok (frame ∷ frames)
 

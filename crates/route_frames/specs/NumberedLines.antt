@@ -1,4 +1,5 @@
--- What the line of a numbered frame means. The order in which causes are looked for: the number of fields, too many queue names, numbers that are no digits, numbers out of their ranges, all else (profile).
+-- What the line of a numbered frame means. The order in which causes are looked for: the number of fields, too many queue
+-- names, numbers that are no digits, numbers out of their ranges, all else (profile).
 use Rattle.std.specs.Prelude.{ℕ, List, [], ◌∷◌, length, codes, nat_lt, Option, Some, None, Ok, Err, is_some, if◌then◌else◌}
 use Rattle.std.specs.Option.{ok_or}
 use Rattle.std.specs.Str.{bytes_eq}

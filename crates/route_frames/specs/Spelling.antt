@@ -1,5 +1,7 @@
--- Route spelling: which lines and payloads spell which frame, by cases on what the frame says. No line holds CR LF.
--- NATS documentation, "Cluster Protocol": INFO, CONNECT, RS+, RS- and RMSG, the account, the marks in front of queue names. RSS, the common fields, the digits and the ranges are this project's profile.
+-- Route spelling: which lines and payloads spell which frame, by cases on what the frame says. The lines are those that a
+-- cutter gives, which hold no CR LF.
+-- NATS documentation, "Cluster Protocol": INFO, CONNECT, RS+, RS- and RMSG, the account, the marks in front of queue names.
+-- RSS, the common fields, the digits and the ranges are this project's profile.
 use Rattle.std.specs.Prelude.{◌≡◌, ◌≤◌, ℕ, true, false, List, [], ◌∷◌, ◌++◌, length, codes, Option, Some, None}
 use Rattle.std.specs.Option.{option_to_list}
 use Rattle.serde_json.specs.Data.{Data, string}
@@ -47,7 +49,8 @@ SpellsPlus weighted all = (behind : List (List ℕ)) × (all ≡ codes "$G" ∷ 
 abbrev pub SpellsSize : List (List ℕ) → ℕ → List (List ℕ) → Type 0
 SpellsSize front size behind = (digits : List ℕ) × (behind ≡ front ++ digits ∷ []) × IsNumber SIZE_DIGITS digits size
 
--- What the fields behind the common ones say, and the size that they announce. The line of a snapshot says nothing of its keys; zeros in front of weights may make its payload longer than it has to be.
+-- What the fields behind the common ones say, and the size that they announce. The line of a snapshot says nothing of its
+-- keys; zeros in front of weights may make its payload longer than it has to be.
 abbrev pub SpellsBody : Body → Option ℕ → List (List ℕ) → Type 0
 SpellsBody (Plus weighted) size behind = (size ≡ None) × SpellsPlus weighted behind
 SpellsBody (Minus key) size behind = (size ≡ None) × (behind ≡ codes "$G" ∷ key.pattern ∷ option_to_list key.queue)

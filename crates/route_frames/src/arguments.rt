@@ -9,10 +9,10 @@ use line_fields::{fields, split_field};
 use std::alloc::{AllocError, Global};
 
 /// What stands in front of queue names alone. (NATS documentation, "Cluster Protocol": `RMSG`.)
-const NAMES_MARK: &[u8] = b"|";
+pub(crate) const NAMES_MARK: &[u8] = b"|";
 
 /// What stands in front of a reply and queue names.
-const REPLY_MARK: &[u8] = b"+";
+pub(crate) const REPLY_MARK: &[u8] = b"+";
 
 /// What stands behind `RS+` and the common fields.
 #[derive(Clone, Copy)]

@@ -15,6 +15,9 @@ pub(crate) const INCARNATION_DIGITS: usize = 16;
 /// The most digits of the number of a frame. (Profile.)
 pub(crate) const NUMBER_DIGITS: usize = 15;
 
+/// The one account that there is. (Profile.)
+pub(crate) const ACCOUNT: &[u8] = b"$G";
+
 /// The number that a field spells.
 pub(crate) fn spelt_number(field: &[u8], most: usize) -> Result<u64, RouteFault>
     requires { most ≤ MAX_DIGITS }

@@ -10,6 +10,8 @@ ghost use Rattle.route_values.specs.Snapshots.{snapshot_text as text_of_snapshot
 ghost use Rattle.route_frames.specs.Canonical.{info_json, connect_json, spaced, operation_word, common_of, member_fields, form_fields, body_fields, numbered_line, canonical_line, frame_bytes, body_payload, payload_bytes};
 ghost use Rattle.std.specs.Option.{option_copied};
 
+use crate::arguments::{NAMES_MARK, REPLY_MARK};
+use crate::common::ACCOUNT;
 use itoa::Buffer;
 use route_values::{
     Body, Numbered, RouteConnect, RouteFrame, RouteInfo, SnapshotKeys, WeightedKey,
@@ -24,9 +26,6 @@ const BLANK: &[u8] = b" ";
 
 /// How many bytes a line has room for at first; most lines are shorter.
 const LINE_ROOM: usize = 256;
-
-/// The one account that there is. (Profile.)
-const ACCOUNT: &[u8] = b"$G";
 
 /// The name of a server as text.
 #[tactic(auto, using(crate::proofs::NameBytes::name_is_text))]
@@ -160,9 +159,9 @@ fn put_form(
         return Ok(());
     }
     match reply {
-        None => put_field(line, b"|")?,
+        None => put_field(line, NAMES_MARK)?,
         Some(reply) => {
-            put_field(line, b"+")?;
+            put_field(line, REPLY_MARK)?;
             put_field(line, reply.bytes())?;
         }
     }

@@ -1,4 +1,5 @@
-//! What servers of a cluster tell each other: the frames of routes, written and read.
+//! What servers of a cluster tell each other: the frames of routes, written and read. What they hold
+//! is of `route_values`, and is named here too, so that a crate above needs no other.
 #![tactic(auto)]
 
 mod arguments;
@@ -25,6 +26,8 @@ pub use route_values::{
     Body, Numbered, RouteConnect, RouteFrame, RouteInfo, SnapshotKeys, WeightedKey,
 };
 
+#[cfg(test)]
+mod built_tests;
 #[cfg(test)]
 mod line_tests;
 #[cfg(test)]

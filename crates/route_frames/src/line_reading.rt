@@ -9,7 +9,7 @@ ghost use Rattle.route_frames.specs.NumberedLines.{account_of, pattern_of, subje
 ghost use Rattle.route_frames.specs.FormViews.{message_view};
 
 use crate::arguments::{MessageFields, MinusFields, PlusFields, size_alone};
-use crate::common::{Common, node, spelt_number, within};
+use crate::common::{ACCOUNT, Common, node, spelt_number, within};
 use crate::faults::RouteFault;
 use crate::lines::{LineBody, NumberedLine};
 use route_values::WeightedKey;
@@ -24,9 +24,6 @@ pub(crate) const WEIGHT_DIGITS: usize = 5;
 
 /// The most digits of a size. (Profile.)
 pub(crate) const SIZE_DIGITS: usize = 10;
-
-/// The one account that there is. (Profile.)
-const ACCOUNT: &[u8] = b"$G";
 
 fn account(field: &[u8]) -> Result<(), RouteFault>
     ensures { result ≡ account_of field.now }

@@ -237,8 +237,8 @@ fn lines_are_refused(rt: HostRuntime) -> Result<(), Fail> {
     Ok(())
 }
 
-/// The texts of `INFO`, and the number by which each is refused.
-static BAD_JSON: [(&[u8], &[u8]); 22] = [
+/// The lines of greetings, and the number by which each is refused.
+static BAD_JSON: [(&[u8], &[u8]); 28] = [
     (b"INFO", b"31"),
     (b"INFO n2 4", b"31"),
     (b"INFO []", b"31"),
@@ -279,6 +279,30 @@ static BAD_JSON: [(&[u8], &[u8]); 22] = [
         b"CONNECT {\"inc\":\"1\",\"serial\":1000000000000000}",
         b"32",
     ),
+    (
+        b"CONNECT {\"inc\":1,\"serial\":0,\"server_name\":\"n1\",\"to\":\"n2\",\"to_inc\":4}",
+        b"32",
+    ),
+    (
+        b"CONNECT {\"inc\":1,\"serial\":1,\"server_name\":\"n1\",\"to\":\"n2\",\"to_inc\":0}",
+        b"32",
+    ),
+    (
+        b"CONNECT {\"inc\":1,\"serial\":1,\"server_name\":\"n1\",\"to\":\"n2\",\"to_inc\":9007199254740992}",
+        b"32",
+    ),
+    (
+        b"CONNECT {\"inc\":1,\"serial\":1,\"server_name\":\"n1\",\"to_inc\":4}",
+        b"31",
+    ),
+    (
+        b"CONNECT {\"inc\":1,\"serial\":1,\"server_name\":\"n1\",\"to\":\"n.2\",\"to_inc\":4}",
+        b"31",
+    ),
+    (
+        b"CONNECT {\"inc\":1,\"serial\":1,\"server_name\":\"n1\",\"to\":2,\"to_inc\":4}",
+        b"31",
+    ),
 ];
 
 #[test]
@@ -286,6 +310,9 @@ fn greetings_are_refused(rt: HostRuntime) -> Result<(), Fail> {
     for (line, number) in BAD_JSON {
         let answer = told(rt.alloc(), line, b"")?;
         assert_eq!(rt; answer.as_slice(), number);
+        let size = announced(rt.alloc(), line)?;
+        assert_eq!(rt; size.first(), Some(&b'!'));
+        assert_eq!(rt; &size[1..], number);
     }
     Ok(())
 }
@@ -312,6 +339,9 @@ fn snapshots_are_refused(rt: HostRuntime) -> Result<(), Fail> {
     for (line, text) in BAD_SNAPSHOTS {
         let answer = told(rt.alloc(), line, text)?;
         assert_eq!(rt; answer.as_slice(), b"31".as_slice());
+        let size = announced(rt.alloc(), line)?;
+        let len = text.len().to_string(rt.alloc())?;
+        assert_eq!(rt; size.as_slice(), len.as_bytes(), "the line alone");
     }
     Ok(())
 }
@@ -362,13 +392,17 @@ fn with_names(alloc: Global, mark: &[u8], count: u8, end: &[u8]) -> Result<Vec<u
 
 #[test]
 fn too_many_names_are_told_before_digits(rt: HostRuntime) -> Result<(), Fail> {
-    let table: [(&[u8], u8, &[u8], &[u8]); 6] = [
+    let table: [(&[u8], u8, &[u8], &[u8]); 10] = [
         (b"|", 64, b" 2", b"2"),
         (b"|", 65, b" 2", b"!33"),
         (b"+ r.1", 64, b" 2", b"2"),
         (b"+ r.1", 65, b" 2", b"!33"),
         (b"|", 65, b" x", b"!33"),
         (b"|", 64, b" x", b"!31"),
+        (b"|", 65, b" 1048577", b"!33"),
+        (b"|", 64, b" 1048577", b"!32"),
+        (b"|", 65, b" q10 2", b"!33"),
+        (b"x", 65, b" 2", b"!31"),
     ];
     for (mark, count, end, wanted) in table {
         let line = with_names(rt.alloc(), mark, count, end)?;

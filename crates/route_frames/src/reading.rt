@@ -144,13 +144,14 @@ impl RouteLine {
     /// What a line says, which has no CR LF. Every test is made that the line alone allows.
     ///
     /// Refused by what the line means: `UnknownOp` where it is empty, begins with a blank or names no
-    /// operation of a route; `BadArgs` for a number of fields that the operation does not have; then
-    /// `TooManyQueues` for more than [`MAX_QUEUE_NAMES`](subj::MAX_QUEUE_NAMES) queue names; then
+    /// operation of a route; `BadArgs` for a number of fields, or marks among them, that no form of the
+    /// operation has; then `TooManyQueues` for more than [`MAX_QUEUE_NAMES`](subj::MAX_QUEUE_NAMES) queue names; then
     /// `BadArgs` for a number that is no digits or has too many; then `BadNumber` for one out of its
     /// range; then `BadArgs` for all else: an account other than `$G`, a name, a pattern, a subject or a
     /// reply that is none, queue names that do not stand in strictly rising order. For `INFO` and
     /// `CONNECT`: `BadArgs` for a text that is no JSON object; then `BadNumber` for a number that is
-    /// whole and out of its range; then `BadArgs` for a member that is missing or is of another kind.
+    /// whole and out of its range; then `BadArgs` for a member that is missing or is of another kind, or
+    /// a name that is none.
     /// Want of memory may stand in place of any answer. (NATS documentation, "Cluster Protocol";
     /// profile.)
     pub fn read(alloc: Global, line: &[u8]) -> Result<RouteLine, Failure<RouteFault>>

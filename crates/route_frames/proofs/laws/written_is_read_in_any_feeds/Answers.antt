@@ -6,6 +6,6 @@ returns c =
     let again = c.canonical_is_read_again.ensures in
     record {
       pieces = cut_in_any_feeds again.line again.size again.payloads again.payload;
-      meaning = frames_in_pieces again.frame;
+      meaning = frames_in_pieces again.frame again.size;
       frames = read_in_any_feeds again.frame again.line again.size again.payloads again.payload;
     }
