@@ -17,7 +17,7 @@ use Rattle.route_values.specs.Records.{Info, Connect}
 use Rattle.route_values.specs.Valid.{IsInfo, IsConnect}
 use Rattle.route_frames.specs.Greetings.{json_of}
 use Rattle.route_frames.specs.Canonical.{info_json, connect_json}
-use Rattle.route_frames.proofs.Json.{json_is}
+use Rattle.route_frames.proofs.Json.{json_of_utf8}
 use Rattle.route_frames.proofs.GreetingTexts.{plain_is_utf8, info_text, connect_text, serial_range}
 
 -- ---- compact JSON is read again, also behind the blank
@@ -45,7 +45,7 @@ info_is_json info is =
     let most = (is.inc).most in
     let text = info_text info is in
     let says = compact_again (info_json info) (IsNumber-decimal info.inc (omega arith), (tt, tt)) (omega arith) (info_read info is) in
-    json_is (32 ∷ compact_text (info_json info)) (info_json info) (plain_is_utf8 (32 ∷ compact_text (info_json info)) text.plain) says
+    json_of_utf8 (32 ∷ compact_text (info_json info)) (info_json info) (plain_is_utf8 (32 ∷ compact_text (info_json info)) text.plain) says
 
 -- ---- CONNECT
 
@@ -63,4 +63,4 @@ connect_is_json connect is =
     let text = connect_text connect is in
     let numbers : tree.HasNumbers (outline (connect_json connect)) = (IsNumber-decimal connect.inc (omega arith), (IsNumber-decimal connect.serial (omega arith), (tt, (tt, (IsNumber-decimal connect.to_inc (omega arith), tt))))) in
     let says = compact_again (connect_json connect) numbers (omega arith) (connect_read connect is serial_most) in
-    json_is (32 ∷ compact_text (connect_json connect)) (connect_json connect) (plain_is_utf8 (32 ∷ compact_text (connect_json connect)) text.plain) says
+    json_of_utf8 (32 ∷ compact_text (connect_json connect)) (connect_json connect) (plain_is_utf8 (32 ∷ compact_text (connect_json connect)) text.plain) says

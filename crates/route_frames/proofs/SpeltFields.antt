@@ -10,9 +10,8 @@ use Rattle.std.proofs.lemmas.Bool.{le-leb}
 use Rattle.std.proofs.lemmas.Bool.Decides.{nat_tests}
 use Rattle.std.proofs.lemmas.Fmt.{digits_decimal, decimal_is_IsNumeral, length-decimal-le, decimal_nonempty}
 use Rattle.std.proofs.lemmas.Str.Parse.{IsNumeralModel, numerals_by_fold}
-use Rattle.line_fields.specs.Fields.{is_empty, is_blank, line_fields, is_digit_field, number_of}
+use Rattle.line_fields.specs.Fields.{is_empty, is_blank, is_digit_field, number_of}
 use Rattle.line_fields.specs.Spelling.{IsField, FieldsFollow}
-use Rattle.line_fields.proofs.SpellingFields.{line_fields_are}
 use Rattle.subj.specs.declared.limits.TheConstants.{MAX_SUBJECT, MAX_QUEUE_NAME, MAX_NODE_NAME}
 use Rattle.subj.specs.declared.names.NameFault.TheVariants.{TooLong, BadByte}
 use Rattle.subj.specs.Names as names
@@ -32,9 +31,6 @@ follow_spaced (field ∷ fields) are = record {
   is_field = are.0;
   follows = follow_spaced fields are.1;
 }
-
-pub spaced_line : (first : List ℕ) (fields : List (List ℕ)) → IsField first → AreFields fields → line_fields (first ++ spaced fields) ≡ first ∷ fields
-spaced_line first fields is are = line_fields_are first fields (first ++ spaced fields) (record { rest = spaced fields; whole = refl; is_field = is; follows = follow_spaced fields are })
 
 pub append_fields : (front behind : List (List ℕ)) → AreFields front → AreFields behind → AreFields (front ++ behind)
 append_fields [] behind are are_too = are_too
