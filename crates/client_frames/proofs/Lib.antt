@@ -1,4 +1,4 @@
 pub mod NameBytes
-pub mod Readings
+pub mod Texts
 pub mod SpellingCommands
 pub mod Rows

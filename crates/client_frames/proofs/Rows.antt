@@ -3,10 +3,11 @@ use Rattle.std.proofs.Common.{◌≡◌, ℕ, List, [], ◌∷◌, refl, Option,
 use Rattle.std.specs.Prelude.{codes}
 use Rattle.wire_cut.specs.Cut.{first_cr_lf}
 use Rattle.wire_cut.specs.declared.fault.CutFault.TheVariants.{PayloadTooLong, NoCrLfAfterPayload}
-use Rattle.client_frames.specs.declared.client_line.ClientLine.TheVariants.{Sub, Ping}
+use Rattle.client_frames.specs.declared.client_line.ClientLine.TheVariants.{Sub, Unsub, Ping}
 use Rattle.client_frames.specs.declared.client_line.PubHead.{PubHead}
 use Rattle.client_frames.specs.declared.faults.LineFault.TheVariants.{UnknownOp, BadArgs, BadSubject}
-use Rattle.client_frames.specs.Streams.{asked, published, refused, unreadable, reading_within, stream_commands}
+use Rattle.wire_cut.specs.Reading.{reading_within}
+use Rattle.client_frames.specs.Streams.{asked, published, refused, unreadable, stream_commands}
 
 abbrev head : List ℕ → Option (List ℕ) → ℕ → PubHead
 head subject reply size = record { subject = subject; reply = reply; size = size }
@@ -54,3 +55,14 @@ lines_in_payload = refl
 empty_line : stream_commands (codes "\r\n") ≡ refused UnknownOp ∷ []
 unfolding reading_within first_cr_lf
 empty_line = refl
+
+-- a member of a queue group, which ends behind two messages; a bad pattern is told, and the stream goes on
+queue_group : stream_commands (codes "SUB foo q 1\r\nUNSUB 1 2\r\nSUB a..b q 2\r\nUNSUB 1\r\n")
+    ≡ asked (Sub (codes "foo") (Some (codes "q")) (codes "1")) ∷ asked (Unsub (codes "1") (Some 2)) ∷ refused BadSubject ∷ asked (Unsub (codes "1") None) ∷ []
+unfolding reading_within first_cr_lf
+queue_group = refl
+
+-- nothing is read behind a CONNECT without text
+no_text : stream_commands (codes "UNSUB 1\r\nCONNECT\r\nPING\r\n") ≡ asked (Unsub (codes "1") None) ∷ refused BadArgs ∷ []
+unfolding reading_within first_cr_lf
+no_text = refl

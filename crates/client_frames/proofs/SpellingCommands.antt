@@ -1,92 +1,58 @@
--- A line means what it spells.
-use Rattle.std.proofs.Common.{◌≡◌, ℕ, Bool, true, false, cond, List, [], ◌∷◌, refl, ap, sym, ◌∙◌, subst, Option, Some, None, Ok, Err}
-use Rattle.std.specs.Prelude.{codes, is_some}
+-- A line means what it spells, and is refused for its cause.
+use Rattle.std.proofs.Common.{◌≡◌, ℕ, Bool, true, false, cond, List, [], ◌∷◌, length, drop, refl, ap, sym, ◌∙◌, subst, Option, Some, None, Ok, Err}
+use Rattle.std.specs.Prelude.{is_some}
 use Rattle.std.specs.Str.{bytes_eq, str_to_ascii_lowercase}
 use Rattle.std.proofs.lemmas.Slice.Eq.{bytes_eq-Decides}
 use Rattle.subj.specs.Names.{pattern_fault, sid_fault}
 use Rattle.line_fields.specs.Fields.{is_word, line_fields}
+use Rattle.line_fields.specs.Spelling.{IsLineOf}
 use Rattle.line_fields.proofs.SpellingFields.{line_fields_are, begins_with_fields}
 use Rattle.client_frames.specs.declared.operation.Operation.{Operation}
 use Rattle.client_frames.specs.declared.operation.Operation.TheVariants as operation
 use Rattle.client_frames.specs.declared.client_line.ClientLine.{ClientLine}
 use Rattle.client_frames.specs.declared.client_line.ClientLine.TheVariants.{Connect, Pub, PubBad, Sub, Unsub, Ping, Pong}
+use Rattle.client_frames.specs.declared.client_line.Options.{Options}
 use Rattle.client_frames.specs.declared.faults.LineFault.{LineFault}
-use Rattle.client_frames.specs.declared.faults.LineFault.TheVariants.{BadArgs, BadSubject}
-use Rattle.client_frames.specs.Arguments.{Arguments, two_or_three, size_of}
-use Rattle.client_frames.specs.Operations.{operation_of}
-use Rattle.client_frames.specs.Lines.{Meaning, line_meaning, fields_meaning, operation_meaning, publication_fault, publication_of, publication_sized, subscription_of, plain_subscription}
-use Rattle.client_frames.specs.Spelling.{NamesOperation, outer_fields, SpellsPub, SpellsBadPub, SpellsSub, FieldsSpell, Spells, MeansWhatItSpells, SpellsWhatItMeans, SpellsOneCommand, IsItsRefusal, IsRefusedOnce}
+use Rattle.client_frames.specs.declared.faults.LineFault.TheVariants.{UnknownOp, BadArgs, BadJson, BadSubject}
+use Rattle.client_frames.specs.Arguments.{Arguments, two_or_three, count_of}
+use Rattle.client_frames.specs.Choices.{options_of}
+use Rattle.client_frames.specs.Operations.{word_of, operations, operation_among, operation_of}
+use Rattle.client_frames.specs.Lines.{Meaning, line_meaning, fields_meaning, operation_meaning, connection_by, publication_fault, publication_of, publication_sized, membership_fault, subscription_of, maximum, maximum_of, closing, closing_of}
+use Rattle.client_frames.specs.Spelling.{outer_fields, SpellsPub, SpellsSub, SpellsMaximum, SpellsUnsub, operation_for, TextSpells, IsOperationOn, Spells, MeansWhatItSpells, SpellsWhatItMeans, SpellsOneCommand}
+use Rattle.client_frames.specs.Causes.{HasBadArgs, NamesNoOperation, TextIsRefused, IsRefusedBehind, HasCause, IsRefusedForItsCause, HasTheCauseItIsRefusedFor, IsItsCause, HasOneCause}
+use Rattle.client_frames.proofs.Texts.{text_behind}
 
 -- ---- operations
+
+-- the operation that is found is one whose word the field is
+found_is_named : (among : List Operation) (field : List ℕ) (o : Operation) → operation_among among field ≡ Some o → is_word (word_of o) field ≡ true
+found_is_named [] field o is = absurd (cc)
+found_is_named (first ∷ others) field o is = by_test (is_word (word_of first) field) refl is (λ rest. found_is_named others field o rest) where
+  by_test : (b : Bool) → is_word (word_of first) field ≡ b → cond b (Some first) (operation_among others field) ≡ Some o
+      → (operation_among others field ≡ Some o → is_word (word_of o) field ≡ true) → is_word (word_of o) field ≡ true
+  by_test true named same later = let e : first ≡ o = cc in subst (λ p. is_word (word_of p) field ≡ true) e named
+  by_test false named rest later = later rest
 
 abbrev lower : List ℕ → List ℕ
 lower bytes = str_to_ascii_lowercase bytes
 
-abbrev by_letters : List ℕ → Option Operation
-by_letters letters =
-    cond (bytes_eq letters (lower (codes "PUB"))) (Some operation.Pub)
-    (cond (bytes_eq letters (lower (codes "SUB"))) (Some operation.Sub)
-    (cond (bytes_eq letters (lower (codes "PING"))) (Some operation.Ping)
-    (cond (bytes_eq letters (lower (codes "PONG"))) (Some operation.Pong)
-    (cond (bytes_eq letters (lower (codes "UNSUB"))) (Some operation.Unsub)
-    (cond (bytes_eq letters (lower (codes "CONNECT"))) (Some operation.Connect) None)))))
+abbrev among_letters : List Operation → List ℕ → Option Operation
+among_letters [] letters = None
+among_letters (o ∷ others) letters = cond (bytes_eq letters (lower (word_of o))) (Some o) (among_letters others letters)
 
-named : (word field : List ℕ) → NamesOperation word field → operation_of field ≡ by_letters (lower word)
-named word field names = ap by_letters ((bytes_eq-Decides (lower field) (lower word)).0 names)
+each_is_found : (o : Operation) → among_letters operations (lower (word_of o)) ≡ Some o
+each_is_found operation.Connect = refl
+each_is_found operation.Pub = refl
+each_is_found operation.Sub = refl
+each_is_found operation.Unsub = refl
+each_is_found operation.Ping = refl
+each_is_found operation.Pong = refl
 
--- which of the tests holds, by what they choose
-abbrev choice : (p s i o u c : Bool) → Option Operation
-choice p s i o u c = cond p (Some operation.Pub) (cond s (Some operation.Sub) (cond i (Some operation.Ping) (cond o (Some operation.Pong) (cond u (Some operation.Unsub) (cond c (Some operation.Connect) None)))))
+-- and an operation whose word the field is, is found
+named_is_found : (o : Operation) (field : List ℕ) → is_word (word_of o) field ≡ true → operation_of field ≡ Some o
+named_is_found o field named = ap (among_letters operations) ((bytes_eq-Decides (lower field) (lower (word_of o))).0 named) ∙ each_is_found o
 
-is_pub : (p s i o u c : Bool) → choice p s i o u c ≡ Some operation.Pub → p ≡ true
-is_pub true s i o u c e = refl
-is_pub false true i o u c e = cc
-is_pub false false true o u c e = cc
-is_pub false false false true u c e = cc
-is_pub false false false false true c e = cc
-is_pub false false false false false true e = cc
-is_pub false false false false false false e = cc
-
-is_sub : (p s i o u c : Bool) → choice p s i o u c ≡ Some operation.Sub → s ≡ true
-is_sub true s i o u c e = cc
-is_sub false true i o u c e = refl
-is_sub false false true o u c e = cc
-is_sub false false false true u c e = cc
-is_sub false false false false true c e = cc
-is_sub false false false false false true e = cc
-is_sub false false false false false false e = cc
-
-is_ping : (p s i o u c : Bool) → choice p s i o u c ≡ Some operation.Ping → i ≡ true
-is_ping true s i o u c e = cc
-is_ping false true i o u c e = cc
-is_ping false false true o u c e = refl
-is_ping false false false true u c e = cc
-is_ping false false false false true c e = cc
-is_ping false false false false false true e = cc
-is_ping false false false false false false e = cc
-
-is_pong : (p s i o u c : Bool) → choice p s i o u c ≡ Some operation.Pong → o ≡ true
-is_pong true s i o u c e = cc
-is_pong false true i o u c e = cc
-is_pong false false true o u c e = cc
-is_pong false false false true u c e = refl
-is_pong false false false false true c e = cc
-is_pong false false false false false true e = cc
-is_pong false false false false false false e = cc
-
-abbrev spells_pub : (field : List ℕ) → operation_of field ≡ Some operation.Pub → NamesOperation (codes "PUB") field
-spells_pub field e = is_pub (is_word (codes "PUB") field) (is_word (codes "SUB") field) (is_word (codes "PING") field) (is_word (codes "PONG") field) (is_word (codes "UNSUB") field) (is_word (codes "CONNECT") field) e
-
-abbrev spells_sub : (field : List ℕ) → operation_of field ≡ Some operation.Sub → NamesOperation (codes "SUB") field
-spells_sub field e = is_sub (is_word (codes "PUB") field) (is_word (codes "SUB") field) (is_word (codes "PING") field) (is_word (codes "PONG") field) (is_word (codes "UNSUB") field) (is_word (codes "CONNECT") field) e
-
-abbrev spells_ping : (field : List ℕ) → operation_of field ≡ Some operation.Ping → NamesOperation (codes "PING") field
-spells_ping field e = is_ping (is_word (codes "PUB") field) (is_word (codes "SUB") field) (is_word (codes "PING") field) (is_word (codes "PONG") field) (is_word (codes "UNSUB") field) (is_word (codes "CONNECT") field) e
-
-abbrev spells_pong : (field : List ℕ) → operation_of field ≡ Some operation.Pong → NamesOperation (codes "PONG") field
-spells_pong field e = is_pong (is_word (codes "PUB") field) (is_word (codes "SUB") field) (is_word (codes "PING") field) (is_word (codes "PONG") field) (is_word (codes "UNSUB") field) (is_word (codes "CONNECT") field) e
-
--- ---- from a spelling to the meaning
+-- ---- from what stands behind an operation to its meaning
 
 abbrev arguments_of : List ℕ → Option (List ℕ) → List ℕ → Arguments
 arguments_of first between last = record { first = first; between = between; last = last }
@@ -95,109 +61,201 @@ outer : (first : List ℕ) (between : Option (List ℕ)) (last : List ℕ) → t
 outer first None last = refl
 outer first (Some reply) last = refl
 
-pub_means : (field : List ℕ) (arguments : List (List ℕ)) (subject : List ℕ) (reply : Option (List ℕ)) (size : ℕ) (bad : Bool) (spelt : SpellsPub field arguments subject reply size) → is_some (publication_fault subject reply) ≡ bad
-    → fields_meaning (field ∷ arguments) ≡ Ok (cond bad (PubBad size) (Pub (record { subject = subject; reply = reply; size = size })))
-pub_means field arguments subject reply size bad spelt is_bad =
-    ap (λ o. operation_meaning o arguments) (named (codes "PUB") field spelt.is_pub)
-    ∙ ap (λ fs. publication_of (two_or_three fs)) spelt.are ∙ ap publication_of (outer subject reply spelt.digits)
+connect_by : (text : List ℕ) (arguments : List (List ℕ)) (options : Option Options) → ¬ (arguments ≡ []) → options_of text ≡ options → operation_meaning (Some operation.Connect) text arguments ≡ connection_by options
+connect_by text [] options some is = absurd (some refl)
+connect_by text (field ∷ more) options some is = ap connection_by is
+
+pub_by : (arguments : List (List ℕ)) (subject : List ℕ) (reply : Option (List ℕ)) (size : ℕ) (bad : Bool) (spelt : SpellsPub arguments subject reply size) → is_some (publication_fault subject reply) ≡ bad
+    → publication_of (two_or_three arguments) ≡ Ok (cond bad (PubBad size) (Pub (record { subject = subject; reply = reply; size = size })))
+pub_by arguments subject reply size bad spelt is_bad =
+    ap (λ fs. publication_of (two_or_three fs)) spelt.are ∙ ap publication_of (outer subject reply spelt.digits)
     ∙ ap (publication_sized (arguments_of subject reply spelt.digits)) spelt.is_size
     ∙ ap (λ b. Ok (cond b (PubBad size) (Pub (record { subject = subject; reply = reply; size = size })))) is_bad
 
-abbrev subscription_by : Bool → Bool → List ℕ → List ℕ → Meaning
-subscription_by bad_sid bad_pattern pattern sid = cond bad_sid (Err BadArgs) (cond bad_pattern (Err BadSubject) (Ok (Sub pattern None sid)))
+abbrev subscription_by : Bool → Bool → List ℕ → Option (List ℕ) → List ℕ → Meaning
+subscription_by bad_names bad_pattern pattern queue sid = cond bad_names (Err BadArgs) (cond bad_pattern (Err BadSubject) (Ok (Sub pattern queue sid)))
 
-sub_means : (field : List ℕ) (arguments : List (List ℕ)) (pattern sid : List ℕ) → SpellsSub field arguments pattern sid → fields_meaning (field ∷ arguments) ≡ Ok (Sub pattern None sid)
-sub_means field arguments pattern sid spelt =
-    ap (λ o. operation_meaning o arguments) (named (codes "SUB") field spelt.is_sub)
-    ∙ ap (λ fs. subscription_of (two_or_three fs)) spelt.are
-    ∙ ap (λ b. subscription_by b (is_some (pattern_fault pattern)) pattern sid) spelt.is_sid
-    ∙ ap (λ b. subscription_by false b pattern sid) spelt.is_pattern
+sub_by : (arguments : List (List ℕ)) (pattern : List ℕ) (queue : Option (List ℕ)) (sid : List ℕ) (bad : Bool) → SpellsSub arguments pattern queue sid → is_some (pattern_fault pattern) ≡ bad
+    → subscription_of (two_or_three arguments) ≡ subscription_by false bad pattern queue sid
+sub_by arguments pattern queue sid bad spelt is_bad =
+    ap (λ fs. subscription_of (two_or_three fs)) spelt.are ∙ ap subscription_of (outer pattern queue sid)
+    ∙ ap (λ b. subscription_by b (is_some (pattern_fault pattern)) pattern queue sid) spelt.are_names
+    ∙ ap (λ b. subscription_by false b pattern queue sid) is_bad
 
-fields_mean : (field : List ℕ) (arguments : List (List ℕ)) (command : ClientLine) → FieldsSpell field arguments command → fields_meaning (field ∷ arguments) ≡ Ok command
-fields_mean field arguments (Pub head) spelt = pub_means field arguments head.subject head.reply head.size false spelt.0 spelt.1
-fields_mean field arguments (PubBad size) spelt = pub_means field arguments spelt.subject spelt.reply size true spelt.spelt spelt.bad
-fields_mean field arguments (Sub pattern None sid) spelt = sub_means field arguments pattern sid spelt
-fields_mean field arguments (Sub pattern (Some queue) sid) spelt = absurd spelt
-fields_mean field arguments Ping spelt = ap (λ o. operation_meaning o arguments) (named (codes "PING") field spelt)
-fields_mean field arguments Pong spelt = ap (λ o. operation_meaning o arguments) (named (codes "PONG") field spelt)
-fields_mean field arguments (Connect options) spelt = absurd spelt
-fields_mean field arguments (Unsub sid max) spelt = absurd spelt
+maximum_by : (fields : List (List ℕ)) (max : Option ℕ) → SpellsMaximum fields max → maximum_of fields ≡ Ok max
+maximum_by fields None none = ap maximum_of none
+maximum_by fields (Some max) some = ap maximum_of some.1 ∙ ap maximum some.2
+
+abbrev closing_by : Bool → List ℕ → Option ℕ → Meaning
+closing_by bad sid max = cond bad (Err BadArgs) (Ok (Unsub sid max))
+
+unsub_by : (arguments : List (List ℕ)) (sid : List ℕ) (max : Option ℕ) → SpellsUnsub arguments sid max → closing_of arguments ≡ Ok (Unsub sid max)
+unsub_by arguments sid max spelt =
+    ap closing_of spelt.are ∙ ap (closing sid) (maximum_by spelt.behind max spelt.is_maximum) ∙ ap (λ b. closing_by b sid max) spelt.is_sid
+
+text_means : (text : List ℕ) (arguments : List (List ℕ)) (command : ClientLine) → TextSpells text arguments command → operation_meaning (Some (operation_for command)) text arguments ≡ Ok command
+text_means text arguments (Connect options) spelt = connect_by text arguments (Some options) spelt.some spelt.chosen
+text_means text arguments (Pub head) spelt = pub_by arguments head.subject head.reply head.size false spelt.0 spelt.1
+text_means text arguments (PubBad size) spelt = pub_by arguments spelt.subject spelt.reply size true spelt.spelt spelt.bad
+text_means text arguments (Sub pattern queue sid) spelt = sub_by arguments pattern queue sid false spelt.0 spelt.1
+text_means text arguments (Unsub sid max) spelt = unsub_by arguments sid max spelt
+text_means text arguments Ping spelt = refl
+text_means text arguments Pong spelt = refl
+
+-- ---- what stands behind an operation spells a command, or has a cause
+
+data Judged (o : Operation) (text : List ℕ) (arguments : List (List ℕ)) : Type 0 where
+  spelt : (command : ClientLine) → operation_for command ≡ o → TextSpells text arguments command → Judged o text arguments
+  refused : (fault : LineFault) → TextIsRefused fault o text arguments → operation_meaning (Some o) text arguments ≡ Err fault → Judged o text arguments
+
+judged_connect : (text : List ℕ) (arguments : List (List ℕ)) → Judged operation.Connect text arguments
+judged_connect text [] = refused BadArgs refl refl
+judged_connect text (field ∷ more) = by_options (options_of text) refl where
+  some : ¬ ((field ∷ more) ≡ [])
+  some is = absurd (cc)
+
+  by_options : (options : Option Options) → options_of text ≡ options → Judged operation.Connect text (field ∷ more)
+  by_options None is = refused BadJson (refl, record { some = some; none_chosen = is }) (ap connection_by is)
+  by_options (Some options) is = spelt (Connect options) refl (record { some = some; chosen = is })
+
+judged_pub_by : (text : List ℕ) (subject : List ℕ) (reply : Option (List ℕ)) (last : List ℕ) (size : Option ℕ) (bad : Bool) → count_of last ≡ size → is_some (publication_fault subject reply) ≡ bad → Judged operation.Pub text (outer_fields subject reply last)
+judged_pub_by text subject reply last None bad is is_bad = refused BadArgs none (no_size)
+  where
+    no_size : operation_meaning (Some operation.Pub) text (outer_fields subject reply last) ≡ Err BadArgs
+    no_size = ap publication_of (outer subject reply last) ∙ ap (publication_sized (arguments_of subject reply last)) is
+
+    none : (s : List ℕ) (r : Option (List ℕ)) (n : ℕ) → ¬ (SpellsPub (outer_fields subject reply last) s r n)
+    none s r n spells = let means = pub_by (outer_fields subject reply last) s r n _ spells refl in absurd (cc (means, no_size))
+judged_pub_by text subject reply last (Some size) true is is_bad =
+    spelt (PubBad size) refl (record { subject = subject; reply = reply; spelt = record { digits = last; are = refl; is_size = is }; bad = is_bad })
+judged_pub_by text subject reply last (Some size) false is is_bad =
+    spelt (Pub (record { subject = subject; reply = reply; size = size })) refl (record { digits = last; are = refl; is_size = is }, is_bad)
+
+-- fields that no publication has
+no_pub : (arguments : List (List ℕ)) → publication_of (two_or_three arguments) ≡ Err BadArgs → HasBadArgs operation.Pub arguments
+no_pub arguments is subject reply size spells = let means = pub_by arguments subject reply size _ spells refl in absurd (cc (means, is))
+
+judged_pub : (text : List ℕ) (arguments : List (List ℕ)) → Judged operation.Pub text arguments
+judged_pub text [] = refused BadArgs (no_pub [] refl) refl
+judged_pub text (a ∷ []) = refused BadArgs (no_pub (a ∷ []) refl) refl
+judged_pub text (a ∷ b ∷ []) = judged_pub_by text a None b _ _ refl refl
+judged_pub text (a ∷ b ∷ c ∷ []) = judged_pub_by text a (Some b) c _ _ refl refl
+judged_pub text (a ∷ b ∷ c ∷ d ∷ more) = refused BadArgs (no_pub (a ∷ b ∷ c ∷ d ∷ more) refl) refl
+
+no_sub_by : (bad : Bool) (pattern : List ℕ) (queue : Option (List ℕ)) (sid : List ℕ) → subscription_by false bad pattern queue sid ≡ Err BadArgs → ⊥
+no_sub_by true pattern queue sid is = cc
+no_sub_by false pattern queue sid is = cc
+
+no_sub : (arguments : List (List ℕ)) → subscription_of (two_or_three arguments) ≡ Err BadArgs → HasBadArgs operation.Sub arguments
+no_sub arguments is pattern queue sid spells = no_sub_by (is_some (pattern_fault pattern)) pattern queue sid (sym (sub_by arguments pattern queue sid _ spells refl) ∙ is)
+
+judged_sub_by : (text : List ℕ) (pattern : List ℕ) (queue : Option (List ℕ)) (sid : List ℕ) (bad_names bad_pattern : Bool) → is_some (membership_fault queue sid) ≡ bad_names → is_some (pattern_fault pattern) ≡ bad_pattern → Judged operation.Sub text (outer_fields pattern queue sid)
+judged_sub_by text pattern queue sid true bad_pattern are_names is_pattern = refused BadArgs (no_sub (outer_fields pattern queue sid) bad) bad
+  where
+    bad : operation_meaning (Some operation.Sub) text (outer_fields pattern queue sid) ≡ Err BadArgs
+    bad = ap subscription_of (outer pattern queue sid) ∙ ap (λ b. subscription_by b (is_some (pattern_fault pattern)) pattern queue sid) are_names
+judged_sub_by text pattern queue sid false true are_names is_pattern =
+    let spells : SpellsSub (outer_fields pattern queue sid) pattern queue sid = record { are = refl; are_names = are_names } in
+    refused BadSubject (refl, record { pattern = pattern; queue = queue; sid = sid; spelt = spells; bad = is_pattern }) (sub_by (outer_fields pattern queue sid) pattern queue sid true spells is_pattern)
+judged_sub_by text pattern queue sid false false are_names is_pattern = spelt (Sub pattern queue sid) refl (record { are = refl; are_names = are_names }, is_pattern)
+
+judged_sub : (text : List ℕ) (arguments : List (List ℕ)) → Judged operation.Sub text arguments
+judged_sub text [] = refused BadArgs (no_sub [] refl) refl
+judged_sub text (a ∷ []) = refused BadArgs (no_sub (a ∷ []) refl) refl
+judged_sub text (a ∷ b ∷ []) = judged_sub_by text a None b _ _ refl refl
+judged_sub text (a ∷ b ∷ c ∷ []) = judged_sub_by text a (Some b) c _ _ refl refl
+judged_sub text (a ∷ b ∷ c ∷ d ∷ more) = refused BadArgs (no_sub (a ∷ b ∷ c ∷ d ∷ more) refl) refl
+
+no_unsub : (arguments : List (List ℕ)) → closing_of arguments ≡ Err BadArgs → HasBadArgs operation.Unsub arguments
+no_unsub arguments is sid max spells = let means = unsub_by arguments sid max spells in absurd (cc (means, is))
+
+judged_unsub_by : (text sid : List ℕ) (behind : List (List ℕ)) (max : Option ℕ) (bad : Bool) → SpellsMaximum behind max → is_some (sid_fault sid) ≡ bad → Judged operation.Unsub text (sid ∷ behind)
+judged_unsub_by text sid behind max true is_maximum is_sid = refused BadArgs (no_unsub (sid ∷ behind) bad) bad
+  where
+    bad : operation_meaning (Some operation.Unsub) text (sid ∷ behind) ≡ Err BadArgs
+    bad = ap (closing sid) (maximum_by behind max is_maximum) ∙ ap (λ b. closing_by b sid max) is_sid
+judged_unsub_by text sid behind max false is_maximum is_sid = spelt (Unsub sid max) refl (record { behind = behind; are = refl; is_sid = is_sid; is_maximum = is_maximum })
+
+judged_maximum : (text sid digits : List ℕ) (max : Option ℕ) → count_of digits ≡ max → Judged operation.Unsub text (sid ∷ digits ∷ [])
+judged_maximum text sid digits None is = refused BadArgs (no_unsub (sid ∷ digits ∷ []) bad) bad
+  where
+    bad : operation_meaning (Some operation.Unsub) text (sid ∷ digits ∷ []) ≡ Err BadArgs
+    bad = ap (λ max. closing sid (maximum max)) is
+judged_maximum text sid digits (Some max) is = judged_unsub_by text sid (digits ∷ []) (Some max) _ (digits, refl, is) refl
+
+judged_unsub : (text : List ℕ) (arguments : List (List ℕ)) → Judged operation.Unsub text arguments
+judged_unsub text [] = refused BadArgs (no_unsub [] refl) refl
+judged_unsub text (sid ∷ []) = judged_unsub_by text sid [] None _ refl refl
+judged_unsub text (sid ∷ digits ∷ []) = judged_maximum text sid digits _ refl
+judged_unsub text (sid ∷ digits ∷ another ∷ more) = refused BadArgs (no_unsub (sid ∷ digits ∷ another ∷ more) refl) refl
+
+judged : (o : Operation) (text : List ℕ) (arguments : List (List ℕ)) → Judged o text arguments
+judged operation.Connect text arguments = judged_connect text arguments
+judged operation.Pub text arguments = judged_pub text arguments
+judged operation.Sub text arguments = judged_sub text arguments
+judged operation.Unsub text arguments = judged_unsub text arguments
+judged operation.Ping text arguments = spelt Ping refl tt
+judged operation.Pong text arguments = spelt Pong refl tt
+
+-- ---- lines
+
+-- the operation that a line begins with
+line_on : (o : Operation) (text line : List ℕ) (arguments : List (List ℕ)) → IsOperationOn o text arguments line → line_meaning line ≡ operation_meaning (Some o) text arguments
+line_on o text line arguments on =
+    ap (fields_meaning line) (line_fields_are on.field arguments line on.fields)
+    ∙ ap (λ p. operation_meaning p (drop (length on.field) line) arguments) (named_is_found o on.field on.named)
+    ∙ ap (λ t. operation_meaning (Some o) t arguments) (text_behind on.field text line on.whole)
 
 pub means_what_it_spells : MeansWhatItSpells
 means_what_it_spells line command spells =
-    ap fields_meaning (line_fields_are spells.operation spells.arguments line spells.fields) ∙ fields_mean spells.operation spells.arguments command spells.spelt
+    line_on (operation_for command) spells.text line spells.arguments spells.operation ∙ text_means spells.text spells.arguments command spells.spelt
 
--- ---- from the meaning to a spelling
+-- a line begins with an operation or with none
+data Begun (line : List ℕ) : Type 0 where
+  on : (o : Operation) (text : List ℕ) (arguments : List (List ℕ)) → IsOperationOn o text arguments line → Begun line
+  on_none : NamesNoOperation line → line_meaning line ≡ Err UnknownOp → Begun line
 
-abbrev IsSpelt : List ℕ → List (List ℕ) → Meaning → Type 0
-IsSpelt field arguments meaning = (command : ClientLine) → meaning ≡ Ok command → FieldsSpell field arguments command
+begun_by : (line : List ℕ) (fs : List (List ℕ)) → line_fields line ≡ fs → Begun line
+begun_by line [] are = on_none (λ o text arguments it. let same = line_fields_are it.field arguments line it.fields in absurd (cc (same, are))) (ap (fields_meaning line) are)
+begun_by line (field ∷ arguments) are = by_operation (operation_of field) refl where
+  fields : IsLineOf field arguments line
+  fields = begins_with_fields line field arguments are
 
-refused : (field : List ℕ) (arguments : List (List ℕ)) (fault : LineFault) → IsSpelt field arguments (Err fault)
-refused field arguments fault command is = absurd (cc)
+  by_operation : (o : Option Operation) → operation_of field ≡ o → Begun line
+  by_operation (Some o) is = on o fields.rest arguments (record { field = field; whole = fields.whole; fields = fields; named = found_is_named operations field o is })
+  by_operation None is = on_none none (ap (fields_meaning line) are ∙ ap (λ o. operation_meaning o (drop (length field) line) arguments) is) where
+    none : NamesNoOperation line
+    none o text others it =
+        let same : (field ∷ arguments) ≡ (it.field ∷ others) = sym are ∙ line_fields_are it.field others line it.fields in
+        let first : field ≡ it.field = cc in
+        let found : operation_of field ≡ Some o = ap operation_of first ∙ named_is_found o it.field it.named in
+        absurd (cc (found, is))
 
-accepted : (field : List ℕ) (arguments : List (List ℕ)) (command : ClientLine) → FieldsSpell field arguments command → IsSpelt field arguments (Ok command)
-accepted field arguments command spelt other is = let same : command ≡ other = cc in subst (FieldsSpell field arguments) same spelt
+begun : (line : List ℕ) → Begun line
+begun line = begun_by line (line_fields line) refl
 
-pub_spelt : (field : List ℕ) (subject : List ℕ) (reply : Option (List ℕ)) (last : List ℕ) (size : Option ℕ) (bad : Bool) → NamesOperation (codes "PUB") field → size_of last ≡ size → is_some (publication_fault subject reply) ≡ bad → IsSpelt field (outer_fields subject reply last) (publication_sized (arguments_of subject reply last) size)
-pub_spelt field subject reply last None bad names is is_bad = refused field (outer_fields subject reply last) _
-pub_spelt field subject reply last (Some size) true names is is_bad =
-    let spelt : SpellsPub field (outer_fields subject reply last) subject reply size = record { digits = last; is_pub = names; are = refl; is_size = is } in
-    let bad : SpellsBadPub field (outer_fields subject reply last) size = record { subject = subject; reply = reply; spelt = spelt; bad = is_bad } in
-    let P : Bool → Type 0 = λ b. IsSpelt field (outer_fields subject reply last) (Ok (cond b (PubBad size) (Pub (record { subject = subject; reply = reply; size = size })))) in
-    subst P (sym is_bad) (accepted field (outer_fields subject reply last) (PubBad size) bad)
-pub_spelt field subject reply last (Some size) false names is is_bad =
-    let spelt : SpellsPub field (outer_fields subject reply last) subject reply size = record { digits = last; is_pub = names; are = refl; is_size = is } in
-    let P : Bool → Type 0 = λ b. IsSpelt field (outer_fields subject reply last) (Ok (cond b (PubBad size) (Pub (record { subject = subject; reply = reply; size = size })))) in
-    subst P (sym is_bad) (accepted field (outer_fields subject reply last) (Pub (record { subject = subject; reply = reply; size = size })) (spelt, is_bad))
+-- what a line is
+data Outcome (line : List ℕ) : Type 0 where
+  asks : (command : ClientLine) → Spells line command → Outcome line
+  fails : (fault : LineFault) → HasCause line fault → line_meaning line ≡ Err fault → Outcome line
 
-sub_spelt_by : (field pattern sid : List ℕ) (bad_sid bad_pattern : Bool) → NamesOperation (codes "SUB") field → is_some (sid_fault sid) ≡ bad_sid → is_some (pattern_fault pattern) ≡ bad_pattern → IsSpelt field (outer_fields pattern None sid) (subscription_by bad_sid bad_pattern pattern sid)
-sub_spelt_by field pattern sid true bad_pattern names is_sid is_pattern = refused field (outer_fields pattern None sid) BadArgs
-sub_spelt_by field pattern sid false true names is_sid is_pattern = refused field (outer_fields pattern None sid) BadSubject
-sub_spelt_by field pattern sid false false names is_sid is_pattern =
-    accepted field (outer_fields pattern None sid) (Sub pattern None sid) (record { is_sub = names; are = refl; is_sid = is_sid; is_pattern = is_pattern })
+has_cause : (line : List ℕ) (fault : LineFault) → IsRefusedBehind line fault → HasCause line fault
+has_cause line UnknownOp it = absurd it.refused
+has_cause line BadArgs it = it
+has_cause line BadJson it = it
+has_cause line BadSubject it = it
 
-sub_spelt : (field pattern sid : List ℕ) (bad_sid bad_pattern : Bool) → NamesOperation (codes "SUB") field → is_some (sid_fault sid) ≡ bad_sid → is_some (pattern_fault pattern) ≡ bad_pattern → IsSpelt field (outer_fields pattern None sid) (plain_subscription pattern sid)
-sub_spelt field pattern sid bad_sid bad_pattern names is_sid is_pattern =
-    let P : Bool → Type 0 = λ b. IsSpelt field (outer_fields pattern None sid) (subscription_by b (is_some (pattern_fault pattern)) pattern sid) in
-    let Q : Bool → Type 0 = λ b. IsSpelt field (outer_fields pattern None sid) (subscription_by bad_sid b pattern sid) in
-    subst P (sym is_sid) (subst Q (sym is_pattern) (sub_spelt_by field pattern sid bad_sid bad_pattern names is_sid is_pattern))
+outcome_by : (line : List ℕ) → Begun line → Outcome line
+outcome_by line (on_none none is) = fails UnknownOp none is
+outcome_by line (on o text arguments it) = by_text (judged o text arguments) where
+  by_text : Judged o text arguments → Outcome line
+  by_text (spelt command of_it is) = asks command (record { text = text; arguments = arguments; operation = subst (λ p. IsOperationOn p text arguments line) (sym of_it) it; spelt = is })
+  by_text (refused fault cause is) = fails fault (has_cause line fault (record { named = o; text = text; arguments = arguments; operation = it; refused = cause })) (line_on o text line arguments it ∙ is)
 
-publication_spelt : (field : List ℕ) (arguments : List (List ℕ)) → NamesOperation (codes "PUB") field → IsSpelt field arguments (publication_of (two_or_three arguments))
-publication_spelt field [] names = refused field [] _
-publication_spelt field (a ∷ []) names = refused field (a ∷ []) _
-publication_spelt field (a ∷ b ∷ []) names = pub_spelt field a None b (size_of b) _ names refl refl
-publication_spelt field (a ∷ b ∷ c ∷ []) names = pub_spelt field a (Some b) c (size_of c) _ names refl refl
-publication_spelt field (a ∷ b ∷ c ∷ d ∷ more) names = refused field (a ∷ b ∷ c ∷ d ∷ more) _
+outcome : (line : List ℕ) → Outcome line
+outcome line = outcome_by line (begun line)
 
-subscription_spelt : (field : List ℕ) (arguments : List (List ℕ)) → NamesOperation (codes "SUB") field → IsSpelt field arguments (subscription_of (two_or_three arguments))
-subscription_spelt field [] names = refused field [] _
-subscription_spelt field (a ∷ []) names = refused field (a ∷ []) _
-subscription_spelt field (a ∷ b ∷ []) names = sub_spelt field a b _ _ names refl refl
-subscription_spelt field (a ∷ b ∷ c ∷ []) names = refused field (a ∷ b ∷ c ∷ []) _
-subscription_spelt field (a ∷ b ∷ c ∷ d ∷ more) names = refused field (a ∷ b ∷ c ∷ d ∷ more) _
-
-operation_spelt : (field : List ℕ) (arguments : List (List ℕ)) (o : Option Operation) → operation_of field ≡ o → IsSpelt field arguments (operation_meaning o arguments)
-operation_spelt field arguments None is = refused field arguments _
-operation_spelt field arguments (Some operation.Pub) is = publication_spelt field arguments (spells_pub field is)
-operation_spelt field arguments (Some operation.Sub) is = subscription_spelt field arguments (spells_sub field is)
-operation_spelt field arguments (Some operation.Ping) is = accepted field arguments Ping (spells_ping field is)
-operation_spelt field arguments (Some operation.Pong) is = accepted field arguments Pong (spells_pong field is)
-operation_spelt field arguments (Some operation.Unsub) is = refused field arguments _
-operation_spelt field arguments (Some operation.Connect) is = refused field arguments _
-
-spells_fields : (line : List ℕ) (command : ClientLine) (fs : List (List ℕ)) → line_fields line ≡ fs → fields_meaning fs ≡ Ok command → Spells line command
-spells_fields line command [] are is = absurd (cc)
-spells_fields line command (field ∷ arguments) are is = record {
-  operation = field;
-  arguments = arguments;
-  fields = begins_with_fields line field arguments are;
-  spelt = operation_spelt field arguments (operation_of field) refl command is;
-}
-
-pub spells_what_it_means : SpellsWhatItMeans
-spells_what_it_means line command is = spells_fields line command (line_fields line) refl is
-
--- ---- one meaning
+-- ---- the laws
 
 same_command : (meaning : Meaning) (one other : ClientLine) → meaning ≡ Ok one → meaning ≡ Ok other → one ≡ other
 same_command meaning one other is is_too = cc
@@ -205,13 +263,71 @@ same_command meaning one other is is_too = cc
 same_fault : (meaning : Meaning) (fault other : LineFault) → meaning ≡ Err fault → meaning ≡ Err other → other ≡ fault
 same_fault meaning fault other is is_too = cc
 
+not_both : (meaning : Meaning) (command : ClientLine) (fault : LineFault) → meaning ≡ Ok command → meaning ≡ Err fault → ⊥
+not_both meaning command fault is is_too = cc
+
+pub spells_what_it_means : SpellsWhatItMeans
+spells_what_it_means line command is = by_outcome (outcome line) where
+  by_outcome : Outcome line → Spells line command
+  by_outcome (asks other spells) = subst (Spells line) (same_command (line_meaning line) other command (means_what_it_spells line other spells) is) spells
+  by_outcome (fails fault cause not) = absurd (not_both (line_meaning line) command fault is not)
+
 pub spells_one_command : SpellsOneCommand
 spells_one_command line one other spells spells_too =
     same_command (line_meaning line) one other (means_what_it_spells line one spells) (means_what_it_spells line other spells_too)
 
-refused_by : (line : List ℕ) (meaning : Meaning) → line_meaning line ≡ meaning → ((command : ClientLine) → ¬ (Spells line command)) → (fault : LineFault) × IsItsRefusal line fault
-refused_by line (Ok command) is nothing = absurd (nothing command (spells_what_it_means line command is))
-refused_by line (Err fault) is nothing = (fault, record { means = is; only = λ other too. same_fault (line_meaning line) fault other is too })
+pub has_the_cause_it_is_refused_for : HasTheCauseItIsRefusedFor
+has_the_cause_it_is_refused_for line fault is = by_outcome (outcome line) where
+  by_outcome : Outcome line → HasCause line fault
+  by_outcome (asks command spells) = absurd (not_both (line_meaning line) command fault (means_what_it_spells line command spells) is)
+  by_outcome (fails other cause not) = subst (HasCause line) (same_fault (line_meaning line) fault other is not) cause
 
-pub is_refused_once : IsRefusedOnce
-is_refused_once line nothing = refused_by line (line_meaning line) refl nothing
+-- ---- from a cause to the refusal
+
+bad_args_spell_nothing : (command : ClientLine) (text : List ℕ) (arguments : List (List ℕ)) → HasBadArgs (operation_for command) arguments → TextSpells text arguments command → ⊥
+bad_args_spell_nothing (Connect options) text arguments none spells = spells.some none
+bad_args_spell_nothing (Pub head) text arguments none spells = none head.subject head.reply head.size spells.0
+bad_args_spell_nothing (PubBad size) text arguments none spells = none spells.subject spells.reply size spells.spelt
+bad_args_spell_nothing (Sub pattern queue sid) text arguments none spells = none pattern queue sid spells.0
+bad_args_spell_nothing (Unsub sid max) text arguments none spells = none sid max spells
+bad_args_spell_nothing Ping text arguments none spells = none
+bad_args_spell_nothing Pong text arguments none spells = none
+
+bad_args_alone : (fault : LineFault) (o : Operation) (text : List ℕ) (arguments : List (List ℕ)) → HasBadArgs o arguments → TextIsRefused fault o text arguments → fault ≡ BadArgs
+bad_args_alone UnknownOp o text arguments none cause = absurd cause
+bad_args_alone BadArgs o text arguments none cause = refl
+bad_args_alone BadJson o text arguments none cause = absurd (cause.1.some (subst (λ p. HasBadArgs p arguments) cause.0 none))
+bad_args_alone BadSubject o text arguments none cause =
+    let it = cause.1 in absurd (subst (λ p. HasBadArgs p arguments) cause.0 none it.pattern it.queue it.sid it.spelt)
+
+bad_args_mean : (o : Operation) (text : List ℕ) (arguments : List (List ℕ)) → HasBadArgs o arguments → operation_meaning (Some o) text arguments ≡ Err BadArgs
+bad_args_mean o text arguments none = by_text (judged o text arguments) where
+  by_text : Judged o text arguments → operation_meaning (Some o) text arguments ≡ Err BadArgs
+  by_text (refused fault cause is) = is ∙ ap (λ f. Err f) (bad_args_alone fault o text arguments none cause)
+  by_text (spelt command of_it is) = absurd (bad_args_spell_nothing command text arguments (subst (λ p. HasBadArgs p arguments) (sym of_it) none) is)
+
+refused_means : (fault : LineFault) (o : Operation) (text : List ℕ) (arguments : List (List ℕ)) → TextIsRefused fault o text arguments → operation_meaning (Some o) text arguments ≡ Err fault
+refused_means UnknownOp o text arguments cause = absurd cause
+refused_means BadArgs o text arguments cause = bad_args_mean o text arguments cause
+refused_means BadJson o text arguments cause = ap (λ p. operation_meaning (Some p) text arguments) cause.0 ∙ connect_by text arguments None cause.1.some cause.1.none_chosen
+refused_means BadSubject o text arguments cause =
+    let it = cause.1 in ap (λ p. operation_meaning (Some p) text arguments) cause.0 ∙ sub_by arguments it.pattern it.queue it.sid true it.spelt it.bad
+
+refused_behind : (line : List ℕ) (fault : LineFault) → IsRefusedBehind line fault → line_meaning line ≡ Err fault
+refused_behind line fault it = line_on it.named it.text line it.arguments it.operation ∙ refused_means fault it.named it.text it.arguments it.refused
+
+no_operation_means : (line : List ℕ) → NamesNoOperation line → Begun line → line_meaning line ≡ Err UnknownOp
+no_operation_means line none (on o text arguments it) = absurd (none o text arguments it)
+no_operation_means line none (on_none also is) = is
+
+pub is_refused_for_its_cause : IsRefusedForItsCause
+is_refused_for_its_cause line UnknownOp cause = no_operation_means line cause (begun line)
+is_refused_for_its_cause line BadArgs cause = refused_behind line BadArgs cause
+is_refused_for_its_cause line BadJson cause = refused_behind line BadJson cause
+is_refused_for_its_cause line BadSubject cause = refused_behind line BadSubject cause
+
+pub has_one_cause : HasOneCause
+has_one_cause line nothing = by_outcome (outcome line) where
+  by_outcome : Outcome line → (fault : LineFault) × IsItsCause line fault
+  by_outcome (asks command spells) = absurd (nothing command spells)
+  by_outcome (fails fault cause is) = (fault, record { cause = cause; only = λ other also. same_fault (line_meaning line) fault other is (is_refused_for_its_cause line other also) })

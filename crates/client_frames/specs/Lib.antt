@@ -1,5 +1,6 @@
 pub mod Arguments
 pub mod Operations
+pub mod Choices
 pub mod Lines
 pub mod Faults
 pub mod ErrTexts
@@ -8,3 +9,4 @@ pub mod Messages
 pub mod Frames
 pub mod Streams
 pub mod Spelling
+pub mod Causes

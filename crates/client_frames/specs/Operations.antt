@@ -1,14 +1,26 @@
 -- The operations that clients ask for.
-use Rattle.std.specs.Prelude.{ℕ, List, codes, Option, Some, None, if◌then◌else◌}
+use Rattle.std.specs.Prelude.{ℕ, List, [], ◌∷◌, codes, Option, Some, None, if◌then◌else◌}
 use Rattle.line_fields.specs.Fields.{is_word}
 use Rattle.client_frames.specs.declared.operation.Operation.{Operation}
 use Rattle.client_frames.specs.declared.operation.Operation.TheVariants.{Connect, Pub, Sub, Unsub, Ping, Pong}
 
+-- NATS documentation, "Client Protocol"
+abbrev pub word_of : Operation → List ℕ
+word_of Connect = codes "CONNECT"
+word_of Pub = codes "PUB"
+word_of Sub = codes "SUB"
+word_of Unsub = codes "UNSUB"
+word_of Ping = codes "PING"
+word_of Pong = codes "PONG"
+
+-- all of them; no two have one word
+abbrev pub operations : List Operation
+operations = Pub ∷ Sub ∷ Ping ∷ Pong ∷ Unsub ∷ Connect ∷ []
+
+-- the first of these whose word the field is, whatever the case of its letters
+abbrev pub operation_among : List Operation → List ℕ → Option Operation
+operation_among [] field = None
+operation_among (operation ∷ others) field = if is_word (word_of operation) field then Some operation else operation_among others field
+
 abbrev pub operation_of : List ℕ → Option Operation
-operation_of field =
-    if is_word (codes "PUB") field then Some Pub
-    else (if is_word (codes "SUB") field then Some Sub
-    else (if is_word (codes "PING") field then Some Ping
-    else (if is_word (codes "PONG") field then Some Pong
-    else (if is_word (codes "UNSUB") field then Some Unsub
-    else (if is_word (codes "CONNECT") field then Some Connect else None)))))
+operation_of field = operation_among operations field

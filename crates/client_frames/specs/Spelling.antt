@@ -1,60 +1,91 @@
 -- Client spelling as a grammar: how the bytes of a line are put together for a command.
-use Rattle.std.specs.Prelude.{◌≡◌, ℕ, true, false, List, [], ◌∷◌, ◌++◌, codes, Option, Some, None, Ok, Err, is_some}
+use Rattle.std.specs.Prelude.{◌≡◌, ℕ, true, false, List, [], ◌∷◌, ◌++◌, Option, Some, None, Ok, is_some}
 use Rattle.std.specs.Option.{option_to_list}
 use Rattle.subj.specs.Names.{pattern_fault, sid_fault}
 use Rattle.line_fields.specs.Fields.{is_word}
 use Rattle.line_fields.specs.Spelling.{IsLineOf}
+use Rattle.client_frames.specs.declared.operation.Operation.{Operation}
+use Rattle.client_frames.specs.declared.operation.Operation.TheVariants as operation
 use Rattle.client_frames.specs.declared.client_line.ClientLine.{ClientLine}
 use Rattle.client_frames.specs.declared.client_line.ClientLine.TheVariants.{Connect, Pub, PubBad, Sub, Unsub, Ping, Pong}
-use Rattle.client_frames.specs.declared.faults.LineFault.{LineFault}
-use Rattle.client_frames.specs.Arguments.{size_of}
-use Rattle.client_frames.specs.Lines.{line_meaning, publication_fault}
+use Rattle.client_frames.specs.declared.client_line.Options.{Options}
+use Rattle.client_frames.specs.Arguments.{count_of}
+use Rattle.client_frames.specs.Choices.{options_of}
+use Rattle.client_frames.specs.Operations.{word_of}
+use Rattle.client_frames.specs.Lines.{line_meaning, publication_fault, membership_fault}
 
--- ---- commands
+-- ---- what stands behind an operation
 
--- the fields behind an operation that takes two, and perhaps one between them
+-- some text, which chooses these options
+pub record SpellsConnect (text : List ℕ) (arguments : List (List ℕ)) (options : Options) : Type 0 where
+  pub some : ¬ (arguments ≡ [])
+  pub chosen : options_of text ≡ Some options
+
+-- two fields, and perhaps one between them
 abbrev pub outer_fields : List ℕ → Option (List ℕ) → List ℕ → List (List ℕ)
 outer_fields first between last = first ∷ (option_to_list between ++ last ∷ [])
 
-abbrev pub NamesOperation : List ℕ → List ℕ → Type 0
-NamesOperation word field = is_word word field ≡ true
-
-pub record SpellsPub (operation : List ℕ) (arguments : List (List ℕ)) (subject : List ℕ) (reply : Option (List ℕ)) (size : ℕ) : Type 0 where
+pub record SpellsPub (arguments : List (List ℕ)) (subject : List ℕ) (reply : Option (List ℕ)) (size : ℕ) : Type 0 where
   pub digits : List ℕ
-  pub is_pub : NamesOperation (codes "PUB") operation
   pub are : arguments ≡ outer_fields subject reply digits
-  pub is_size : size_of digits ≡ Some size
+  pub is_size : count_of digits ≡ Some size
 
-pub record SpellsBadPub (operation : List ℕ) (arguments : List (List ℕ)) (size : ℕ) : Type 0 where
+pub record SpellsBadPub (arguments : List (List ℕ)) (size : ℕ) : Type 0 where
   pub subject : List ℕ
   pub reply : Option (List ℕ)
-  pub spelt : SpellsPub operation arguments subject reply size
+  pub spelt : SpellsPub arguments subject reply size
   pub bad : is_some (publication_fault subject reply) ≡ true
 
-pub record SpellsSub (operation : List ℕ) (arguments : List (List ℕ)) (pattern sid : List ℕ) : Type 0 where
-  pub is_sub : NamesOperation (codes "SUB") operation
-  pub are : arguments ≡ outer_fields pattern None sid
-  pub is_sid : is_some (sid_fault sid) ≡ false
-  pub is_pattern : is_some (pattern_fault pattern) ≡ false
+-- a pattern, good or bad, the name of a queue group, where there is one, and a subscription id
+pub record SpellsSub (arguments : List (List ℕ)) (pattern : List ℕ) (queue : Option (List ℕ)) (sid : List ℕ) : Type 0 where
+  pub are : arguments ≡ outer_fields pattern queue sid
+  pub are_names : is_some (membership_fault queue sid) ≡ false
 
--- an operation and its arguments spell a command
-abbrev pub FieldsSpell : List ℕ → List (List ℕ) → ClientLine → Type 0
-FieldsSpell operation arguments (Pub head) = SpellsPub operation arguments head.subject head.reply head.size × (is_some (publication_fault head.subject head.reply) ≡ false)
-FieldsSpell operation arguments (PubBad size) = SpellsBadPub operation arguments size
-FieldsSpell operation arguments (Sub pattern None sid) = SpellsSub operation arguments pattern sid
-FieldsSpell operation arguments Ping = NamesOperation (codes "PING") operation
-FieldsSpell operation arguments Pong = NamesOperation (codes "PONG") operation
--- queue groups, options and the end of a subscription are not served yet: nothing spells these
-FieldsSpell operation arguments (Sub pattern (Some queue) sid) = ⊥
-FieldsSpell operation arguments (Connect options) = ⊥
-FieldsSpell operation arguments (Unsub sid max) = ⊥
+-- the maximum, where there is one
+abbrev pub SpellsMaximum : List (List ℕ) → Option ℕ → Type 0
+SpellsMaximum fields None = fields ≡ []
+SpellsMaximum fields (Some max) = (digits : List ℕ) × (fields ≡ digits ∷ []) × (count_of digits ≡ Some max)
+
+pub record SpellsUnsub (arguments : List (List ℕ)) (sid : List ℕ) (max : Option ℕ) : Type 0 where
+  pub behind : List (List ℕ)
+  pub are : arguments ≡ sid ∷ behind
+  pub is_sid : is_some (sid_fault sid) ≡ false
+  pub is_maximum : SpellsMaximum behind max
+
+-- ---- commands
+
+abbrev pub operation_for : ClientLine → Operation
+operation_for (Connect options) = operation.Connect
+operation_for (Pub head) = operation.Pub
+operation_for (PubBad size) = operation.Pub
+operation_for (Sub pattern queue sid) = operation.Sub
+operation_for (Unsub sid max) = operation.Unsub
+operation_for Ping = operation.Ping
+operation_for Pong = operation.Pong
+
+-- the text behind the operation of a command, which has these fields, spells the command
+abbrev pub TextSpells : List ℕ → List (List ℕ) → ClientLine → Type 0
+TextSpells text arguments (Connect options) = SpellsConnect text arguments options
+TextSpells text arguments (Pub head) = SpellsPub arguments head.subject head.reply head.size × (is_some (publication_fault head.subject head.reply) ≡ false)
+TextSpells text arguments (PubBad size) = SpellsBadPub arguments size
+TextSpells text arguments (Sub pattern queue sid) = SpellsSub arguments pattern queue sid × (is_some (pattern_fault pattern) ≡ false)
+TextSpells text arguments (Unsub sid max) = SpellsUnsub arguments sid max
+TextSpells text arguments Ping = Unit {0}
+TextSpells text arguments Pong = Unit {0}
+
+-- a line is a field that names an operation, and a text with these fields
+pub record IsOperationOn (operation : Operation) (text : List ℕ) (arguments : List (List ℕ)) (line : List ℕ) : Type 0 where
+  pub field : List ℕ
+  pub whole : line ≡ field ++ text
+  pub fields : IsLineOf field arguments line
+  pub named : is_word (word_of operation) field ≡ true
 
 -- the bytes of a line spell a command
 pub record Spells (line : List ℕ) (command : ClientLine) : Type 0 where
-  pub operation : List ℕ
+  pub text : List ℕ
   pub arguments : List (List ℕ)
-  pub fields : IsLineOf operation arguments line
-  pub spelt : FieldsSpell operation arguments command
+  pub operation : IsOperationOn (operation_for command) text arguments line
+  pub spelt : TextSpells text arguments command
 
 -- ---- what a line means is what it spells
 
@@ -67,12 +98,3 @@ SpellsWhatItMeans = (line : List ℕ) (command : ClientLine) → line_meaning li
 -- no line spells two commands
 abbrev pub SpellsOneCommand : Type 0
 SpellsOneCommand = (line : List ℕ) (one other : ClientLine) → Spells line one → Spells line other → one ≡ other
-
--- a refusal of a line: it is what the line means, and there is no other
-pub record IsItsRefusal (line : List ℕ) (fault : LineFault) : Type 0 where
-  pub means : line_meaning line ≡ Err fault
-  pub only : (other : LineFault) → line_meaning line ≡ Err other → other ≡ fault
-
--- a line that spells no command has one refusal
-abbrev pub IsRefusedOnce : Type 0
-IsRefusedOnce = (line : List ℕ) → ((command : ClientLine) → ¬ (Spells line command)) → (fault : LineFault) × IsItsRefusal line fault

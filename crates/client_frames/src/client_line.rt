@@ -23,7 +23,7 @@ pub struct PubHead {
 /// What a control line asks for. (NATS documentation, "Client Protocol".)
 #[derive(Debug, Drop)]
 pub enum ClientLine {
-    /// `CONNECT`, which no line is read as yet.
+    /// `CONNECT`: all options of the connection, of which those before count no more.
     Connect(Options),
     /// `PUB`, whose payload follows.
     Pub(PubHead),
@@ -32,13 +32,13 @@ pub enum ClientLine {
     PubBad {
         size: u64,
     },
-    /// `SUB`; none with the name of a queue group is read yet.
+    /// `SUB`, alone or as a member of a queue group.
     Sub {
         pattern: Pattern,
         queue: Option<QueueName>,
         sid: Sid,
     },
-    /// `UNSUB`, which no line is read as yet.
+    /// `UNSUB`: at once, or behind the message that makes so many since the subscription was opened.
     Unsub {
         sid: Sid,
         max: Option<u64>,

@@ -3,6 +3,8 @@
 ghost use Rattle.std.specs.Prelude.{◌≡◌};
 ghost use Rattle.client_frames.specs.Faults.{line_fault_number};
 
+use subj::Failure;
+
 /// Why a control line of a client is refused. (Profile.)
 #[derive(Clone, Copy, Debug, PartialEq, Eq)]
 pub enum LineFault {
@@ -22,5 +24,16 @@ impl LineFault {
         ensures { result ≡ line_fault_number self }
     {
         self as u16
+    }
+}
+
+impl From<LineFault> for Failure<LineFault> {
+    ghost use Rattle.std.specs.Prelude.{◌≡◌};
+    ghost use Rattle.subj.specs.declared.failures.Failure.TheVariants.{Refused};
+
+    ghost from_gives = { λ fault failure. failure ≡ Refused fault };
+
+    fn from(fault: LineFault) -> Failure<LineFault> {
+        Failure::Refused(fault)
     }
 }

@@ -2,6 +2,8 @@
 #![tactic(auto)]
 
 mod arguments;
+mod awaited;
+mod choices;
 mod client_line;
 mod decoding;
 mod encoding;
@@ -15,6 +17,7 @@ mod server_frames;
 #[cfg(test)]
 mod tests;
 
+pub use awaited::Awaited;
 pub use client_line::{ClientLine, Options, PubHead};
 pub use decoding::decode_line;
 pub use encoding::{encode, reply_line};

@@ -21,6 +21,10 @@ fn joined(alloc: Global, words: &[&[u8]]) -> Result<Vec<u8>, AllocError> {
     Ok(text)
 }
 
+fn on_or_off(option: bool) -> &'static [u8] {
+    if option { b"on" } else { b"off" }
+}
+
 /// What a line means, in words: a bar stands where there is no reply or queue name.
 fn told(alloc: Global, line: &[u8]) -> Result<Vec<u8>, AllocError> {
     match decode_line(alloc, line) {
@@ -54,8 +58,21 @@ fn told(alloc: Global, line: &[u8]) -> Result<Vec<u8>, AllocError> {
         }
         Ok(ClientLine::Ping) => joined(alloc, &[b"ping"]),
         Ok(ClientLine::Pong) => joined(alloc, &[b"pong"]),
-        Ok(ClientLine::Connect(_)) => joined(alloc, &[b"connect"]),
-        Ok(ClientLine::Unsub { .. }) => joined(alloc, &[b"unsub"]),
+        Ok(ClientLine::Connect(options)) => joined(
+            alloc,
+            &[
+                b"connect",
+                on_or_off(options.verbose),
+                on_or_off(options.echo),
+            ],
+        ),
+        Ok(ClientLine::Unsub { sid, max }) => match max {
+            None => joined(alloc, &[b"unsub", sid.bytes()]),
+            Some(max) => {
+                let max = max.to_string(alloc)?;
+                joined(alloc, &[b"unsub", sid.bytes(), max.as_bytes()])
+            }
+        },
         Err(Failure::Refused(fault)) => {
             let number = fault.number().to_string(alloc)?;
             joined(alloc, &[b"refused", number.as_bytes()])
@@ -64,7 +81,7 @@ fn told(alloc: Global, line: &[u8]) -> Result<Vec<u8>, AllocError> {
     }
 }
 
-static COMMANDS: [(&[u8], &[u8]); 33] = [
+static COMMANDS: [(&[u8], &[u8]); 44] = [
     (b"SUB foo 1", b"sub foo | 1"),
     (b"sub\tfoo  7", b"sub foo | 7"),
     (b"SuB \t foo\t \t1 \t", b"sub foo | 1"),
@@ -98,7 +115,139 @@ static COMMANDS: [(&[u8], &[u8]); 33] = [
     (b"PiNg\t", b"ping"),
     (b"PONG", b"pong"),
     (b"pong 1 2 3 4", b"pong"),
+    (b"SUB foo q 1", b"sub foo q 1"),
+    (b"sub\t>  a.* \t9 ", b"sub > a.* 9"),
+    (b"SUB foo + |", b"sub foo + |"),
+    (b"SUB foo q\xff \x01", b"sub foo q\xff \x01"),
+    (b"SUB foo 1 2", b"sub foo 1 2"),
+    (b"UNSUB 1", b"unsub 1"),
+    (b"unsub\t1 \t", b"unsub 1"),
+    (b"UNSUB 1 0", b"unsub 1 0"),
+    (b"UnSub a.* 5", b"unsub a.* 5"),
+    (b"UNSUB 1 0000000002", b"unsub 1 2"),
+    (b"UNSUB 1 9999999999", b"unsub 1 9999999999"),
 ];
+
+/// Of an object that has a name twice the last member counts, and one that is absent is on.
+static CHOICES: [(&[u8], &[u8]); 20] = [
+    (b"CONNECT {}", b"connect on on"),
+    (b"connect\t{} \t", b"connect on on"),
+    (b"CONNECT {\"verbose\":false}", b"connect off on"),
+    (b"CONNECT {\"echo\":false}", b"connect on off"),
+    (
+        b"CONNECT { \"echo\" : false , \"verbose\" : false }",
+        b"connect off off",
+    ),
+    (
+        b"CONNECT {\"verbose\":true,\"echo\":true}",
+        b"connect on on",
+    ),
+    (b"CONNECT {\"echo\":true,\"echo\":false}", b"connect on off"),
+    (
+        b"CONNECT {\"echo\":false,\"verbose\":false,\"echo\":true}",
+        b"connect off on",
+    ),
+    (b"CONNECT {\"echo\":1,\"echo\":false}", b"connect on off"),
+    (b"CONNECT {\"\\u0065cho\":false}", b"connect on off"),
+    (
+        b"CONNECT {\"Echo\":false,\"VERBOSE\":false}",
+        b"connect on on",
+    ),
+    (
+        b"CONNECT {\"pedantic\":null,\"protocol\":1,\"x\":[1.5e3,{\"echo\":0}]}",
+        b"connect on on",
+    ),
+    (b"CONNECT {\"x\":99999999999999999999}", b"connect on on"),
+    (b"CONNECT {\"name\":\"\xc3\xa9\"}", b"connect on on"),
+    (b"CONNECT {\n\"verbose\":\rfalse}", b"connect off on"),
+    (b"CONNECT \n{}\r", b"connect on on"),
+    (b"CONNECT {\t\"echo\":\tfalse\t}", b"connect on off"),
+    (b"CONNECT {\"a b\":\"c  d\"}", b"connect on on"),
+    (b"CONNECT {\"\":{\"verbose\":1}}", b"connect on on"),
+    (b"CoNnEcT {}", b"connect on on"),
+];
+
+#[test]
+fn clients_choose_options(rt: HostRuntime) -> Result<(), Fail> {
+    for (line, want) in &CHOICES {
+        let got = told(rt.alloc(), line)?;
+        assert_eq!(rt; got.as_slice(), *want, "{line:?}");
+    }
+    Ok(())
+}
+
+static NO_CHOICES: [&[u8]; 30] = [
+    // No JSON object.
+    b"CONNECT []",
+    b"CONNECT null",
+    b"CONNECT true",
+    b"CONNECT 5",
+    b"CONNECT \"verbose\"",
+    b"CONNECT verbose",
+    b"CONNECT {",
+    b"CONNECT }",
+    b"CONNECT {} {}",
+    b"CONNECT {}x",
+    b"CONNECT {verbose:true}",
+    b"CONNECT {\"verbose\":true,}",
+    b"CONNECT {\"verbose\" true}",
+    b"CONNECT {'verbose':true}",
+    b"CONNECT {\"x\":1e400}",
+    b"CONNECT {\"x\":01}",
+    b"CONNECT \n",
+    b"CONNECT \x00",
+    b"CONNECT \xef\xbb\xbf{}",
+    b"CONNECT \xff",
+    b"CONNECT {\"x\":\"\xff\"}",
+    b"CONNECT {\"x\":\"\n\"}",
+    b"CONNECT {\"x\":\"\\ud800\"}",
+    // An option that is no truth value.
+    b"CONNECT {\"verbose\":null}",
+    b"CONNECT {\"verbose\":1}",
+    b"CONNECT {\"verbose\":0.0}",
+    b"CONNECT {\"echo\":\"true\"}",
+    b"CONNECT {\"echo\":[]}",
+    b"CONNECT {\"echo\":{}}",
+    b"CONNECT {\"echo\":true,\"echo\":1}",
+];
+
+#[test]
+fn bad_choices_are_refused(rt: HostRuntime) -> Result<(), Fail> {
+    for line in &NO_CHOICES {
+        let got = told(rt.alloc(), line)?;
+        assert_eq!(rt; got.as_slice(), b"refused 22".as_slice(), "{line:?}");
+    }
+    Ok(())
+}
+
+/// `CONNECT` with an object in which so many lists stand within one another.
+fn nested(alloc: Global, lists: usize) -> Result<Vec<u8>, AllocError> {
+    let mut line = Vec::from_slice(alloc, b"CONNECT {\"x\":")?;
+    for _ in 0..lists {
+        line.push(b'[')?;
+    }
+    for _ in 0..lists {
+        line.push(b']')?;
+    }
+    line.push(b'}')?;
+    Ok(line)
+}
+
+/// The object itself counts as one.
+#[test]
+fn options_nest_127_deep(rt: HostRuntime) -> Result<(), Fail> {
+    let rows: [(usize, &[u8]); 3] = [
+        (126, b"connect on on"),
+        (127, b"refused 22"),
+        (1_000, b"refused 22"),
+    ];
+    for (lists, want) in rows {
+        let line = nested(rt.alloc(), lists)?;
+        let got = told(rt.alloc(), &line)?;
+        assert_eq!(rt; got.as_slice(), want, "{lists}");
+    }
+    Ok(())
+}
 
 #[test]
 fn lines_mean_commands(rt: HostRuntime) -> Result<(), Fail> {
@@ -109,7 +258,7 @@ fn lines_mean_commands(rt: HostRuntime) -> Result<(), Fail> {
     Ok(())
 }
 
-static REFUSALS: [(&[u8], &[u8]); 62] = [
+static REFUSALS: [(&[u8], &[u8]); 74] = [
     // No operation.
     (b"", b"refused 20"),
     (b" ", b"refused 20"),
@@ -164,17 +313,31 @@ static REFUSALS: [(&[u8], &[u8]); 62] = [
     (b"SUB foo \n", b"refused 21"),
     (b"SUB foo \x00", b"refused 21"),
     (b"SUB foo. \x00", b"refused 21"),
-    // Not served yet.
-    (b"SUB foo q 1", b"refused 21"),
-    (b"SUB foo. q 1", b"refused 21"),
-    (b"CONNECT {}", b"refused 21"),
+    // Names of queue groups, which are told before bad patterns.
+    (b"SUB foo q\x00 1", b"refused 21"),
+    (b"SUB foo q\n 1", b"refused 21"),
+    (b"SUB foo. \r 1", b"refused 21"),
+    (b"SUB foo q \x00", b"refused 21"),
+    // Ends of subscriptions.
+    (b"UNSUB", b"refused 21"),
+    (b"UNSUB \t", b"refused 21"),
+    (b"UNSUB 1 2 3", b"refused 21"),
+    (b"UNSUB \x00", b"refused 21"),
+    (b"UNSUB \x00 2", b"refused 21"),
+    (b"UNSUB 1 x", b"refused 21"),
+    (b"UNSUB 1 +2", b"refused 21"),
+    (b"UNSUB 1 -1", b"refused 21"),
+    (b"UNSUB 1 00000000001", b"refused 21"),
+    (b"UNSUB 1 12345678901", b"refused 21"),
+    // Options without a text.
     (b"connect", b"refused 21"),
-    (b"UNSUB 1", b"refused 21"),
-    (b"unsub 1 2", b"refused 21"),
+    (b"CONNECT \t ", b"refused 21"),
+    (b"CONNECT\x00{}", b"refused 20"),
     // Patterns.
     (b"SUB foo. 9", b"refused 23"),
     (b"SUB a.>.b 1", b"refused 23"),
     (b"SUB a..b 1", b"refused 23"),
+    (b"SUB a..b q 1", b"refused 23"),
     (b"SUB a\x00b 1", b"refused 23"),
     (b"SUB a\rb 1", b"refused 23"),
     (b"SUB a\nb 1", b"refused 23"),
@@ -191,18 +354,23 @@ fn lines_are_refused(rt: HostRuntime) -> Result<(), Fail> {
 
 #[test]
 fn names_have_limits(rt: HostRuntime) -> Result<(), Fail> {
-    let rows: [(usize, usize, &[u8]); 4] = [
-        (1_024, 64, b"sub"),
-        (1_025, 64, b"refused 23"),
-        (1_024, 65, b"refused 21"),
-        (1_025, 65, b"refused 21"),
+    let rows: [(usize, usize, usize, &[u8]); 5] = [
+        (1_024, 64, 64, b"sub"),
+        (1_025, 64, 64, b"refused 23"),
+        (1_024, 65, 64, b"refused 21"),
+        (1_024, 64, 65, b"refused 21"),
+        (1_025, 65, 65, b"refused 21"),
     ];
-    for (pattern_len, sid_len, want) in rows {
+    for (pattern_len, queue_len, sid_len, want) in rows {
         let pattern = vec![in rt.alloc(); b'a'; pattern_len]?;
+        let queue = vec![in rt.alloc(); b'q'; queue_len]?;
         let sid = vec![in rt.alloc(); b'1'; sid_len]?;
-        let line = joined(rt.alloc(), &[b"SUB", &pattern, &sid])?;
+        let line = joined(rt.alloc(), &[b"SUB", &pattern, &queue, &sid])?;
         let got = told(rt.alloc(), &line)?;
-        assert!(rt; got.starts_with(want), "{pattern_len} {sid_len}");
+        assert!(rt;
+            got.starts_with(want),
+            "{pattern_len} {queue_len} {sid_len}"
+        );
     }
     Ok(())
 }

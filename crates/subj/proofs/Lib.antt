@@ -1,4 +1,5 @@
 mod Tokens
+mod Scanned
 mod Matches
 mod Padded
 mod Fits

@@ -1,5 +1,6 @@
 pub mod Answers
 pub mod Names
+pub mod Scans
 pub mod Matching
 pub mod Numbers
 pub mod Padding
@@ -7,3 +8,4 @@ pub mod Messages
 pub mod Publications
 pub mod QueueNames
 pub mod Keys
+pub mod Servers

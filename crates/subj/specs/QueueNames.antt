@@ -1,9 +1,15 @@
 -- Lists of queue names.
-use Rattle.std.specs.Prelude.{◌≡◌, ℕ, Bool, true, ◌&&◌, nat_le, List, [], ◌∷◌, length, All, Option, Some, None, if◌then◌else◌}
+use Rattle.std.specs.Prelude.{◌≡◌, ℕ, Bool, true, false, ◌&&◌, nat_le, List, [], ◌∷◌, length, All, Option, Some, None, if◌then◌else◌}
+use Rattle.std.specs.Str.{bytes_eq}
 use Rattle.std.specs.Cmp.Lexicographic.{slice_cmp}
 use Rattle.std.specs.Ordering.{is_lt, nat_cmp}
 use Rattle.subj.specs.declared.limits.TheConstants.{MAX_QUEUE_NAMES}
 use Rattle.subj.specs.Names.{queue_name_fault}
+
+-- there is a name, and it is this one
+abbrev pub is_named : List ℕ → Option (List ℕ) → Bool
+is_named name None = false
+is_named name (Some other) = bytes_eq other name
 
 -- the order of bytes
 abbrev pub is_before : List ℕ → List ℕ → Bool

@@ -1,6 +1,6 @@
 //! A publication on its way through a server.
 
-ghost use Rattle.std.specs.Prelude.{◌≡◌, ◌≤◌, ◌∷◌, [], length, true, All, IfOk};
+ghost use Rattle.std.specs.Prelude.{◌≡◌, ◌≤◌, ◌∷◌, [], length, true, All, IfOk, OnErr};
 ghost use Rattle.subj.specs.QueueNames.{IsQueueName, are_rising as rising, is_before_first as before_first, are_queue_names, queue_names_of};
 
 use crate::identities::{ConnId, PubId};
@@ -10,6 +10,7 @@ use crate::queue_names::QueueName;
 use crate::turns::Turn;
 use std::alloc::{AllocError, Global};
 use std::marker::Model;
+use std::sync::Arc;
 
 /// Whether the name stands before the first of the others, in the order of bytes.
 fn is_before_first(name: &QueueName, others: &[QueueName]) -> bool
@@ -38,45 +39,71 @@ fn are_rising(names: &[QueueName]) -> bool
     true
 }
 
+/// Names that are shared.
+///
+/// Seen as their list.
+#[derive(Debug, Drop)]
+struct NameList {
+    names: Vec<QueueName>,
+}
+
+impl Model for NameList {
+    ghost use Rattle.std.specs.Prelude.{ℕ, List};
+
+    ghost Value = { List (List ℕ) };
+
+    ghost view = { λ list. list.names.items };
+}
+
 /// Queue names that a server must serve for one publication, in strictly rising order of bytes, at
 /// most [`MAX_QUEUE_NAMES`]; they are counted from 0. (Profile.)
 ///
-/// Seen as the list of the names.
+/// Seen as the list of the names. A copy shares them, and takes no memory.
 #[derive(Debug, Drop)]
 pub struct QueueNames {
-    names: Vec<QueueName>,
+    /// None where there are no names.
+    names: Option<Arc<NameList, Global>>,
 }
 
 impl Model for QueueNames {
     ghost use Rattle.std.specs.Prelude.{ℕ, List};
     ghost use Rattle.subj.specs.QueueNames.{AreQueueNames};
+    ghost use Rattle.std.specs.Prelude.{unwrap_or, []};
+    ghost use Rattle.std.specs.Option.{option_map};
+    ghost use Rattle.std.specs.Arc.{arc_value};
 
     ghost Value = { List (List ℕ) };
 
-    ghost view = { λ names. names.names.items };
+    ghost view = { λ names. unwrap_or (option_map arc_value names.names) [] };
 
-    ghost invariant = { λ names. AreQueueNames names.names.items };
+    ghost invariant = { λ names. AreQueueNames (unwrap_or (option_map arc_value names.names) []) };
 }
 
 impl QueueNames {
-    /// No names.
-    pub fn new(alloc: Global) -> QueueNames
+    /// No names. Takes no memory.
+    pub fn new() -> QueueNames
         ensures { result ≡ [] }
     {
-        QueueNames {
-            names: Vec::new(alloc),
-        }
+        QueueNames { names: None }
     }
 
     /// None just where the names are not in strictly rising order, or are more than
-    /// [`MAX_QUEUE_NAMES`].
-    pub fn from_names(names: Vec<QueueName>) -> Option<QueueNames>
-        ensures { result ≡ queue_names_of names.items }
+    /// [`MAX_QUEUE_NAMES`]. Want of memory comes only where they are neither.
+    pub fn from_names(
+        alloc: Global,
+        names: Vec<QueueName>,
+    ) -> Result<Option<QueueNames>, AllocError>
+        ensures names { IfOk result (λ made. made ≡ queue_names_of names.items) }
+        ensures err { OnErr result (are_queue_names names.items ≡ true) }
     {
         if names.len() as u64 > MAX_QUEUE_NAMES || !are_rising(&names) {
-            return None;
+            return Ok(None);
         }
-        Some(QueueNames { names })
+        if names.is_empty() {
+            return Ok(Some(QueueNames::new()));
+        }
+        let names = Arc::new(alloc, NameList { names })?;
+        Ok(Some(QueueNames { names: Some(names) }))
     }
 
     /// The names, in order.
@@ -85,25 +112,20 @@ impl QueueNames {
         ensures valid { are_queue_names self.now ≡ true }
         ensures names { All IsQueueName self.now }
     {
-        self.names.as_slice()
+        match &self.names {
+            None => &[],
+            Some(list) => list.names.as_slice(),
+        }
     }
 
-    /// The names, without a copy.
-    pub fn into_names(self) -> Vec<QueueName>
-        ensures { result.items ≡ self }
-    {
-        let QueueNames { names } = self;
-        names
-    }
-
-    /// A copy of the names.
-    pub fn try_clone(&self, alloc: Global) -> Result<QueueNames, AllocError>
+    /// A copy that shares the names.
+    pub fn try_clone(&self) -> Result<QueueNames, AllocError>
         ensures { IfOk result (λ names. names ≡ self.now) }
     {
-        let mut names = Vec::with_capacity(alloc, self.names.len())?;
-        for name in &self.names {
-            names.push(name.try_clone(alloc)?)?;
-        }
+        let names = match &self.names {
+            None => None,
+            Some(names) => Some(Arc::try_clone(names)?),
+        };
         Ok(QueueNames { names })
     }
 }
@@ -127,12 +149,12 @@ pub struct Job {
 }
 
 impl Job {
-    /// A copy that shares the payload.
-    pub fn try_clone(&self, alloc: Global) -> Result<Job, AllocError>
+    /// A copy that shares the message and the queue names.
+    pub fn try_clone(&self) -> Result<Job, AllocError>
         ensures { IfOk result (λ job. job ≡ self.now) }
     {
-        let message = self.message.try_clone(alloc)?;
-        let queues = self.queues.try_clone(alloc)?;
+        let message = self.message.try_clone()?;
+        let queues = self.queues.try_clone()?;
         Ok(Job {
             turn: self.turn,
             id: self.id,

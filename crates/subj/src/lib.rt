@@ -11,6 +11,7 @@ mod names;
 mod node_ids;
 mod patterns;
 mod queue_names;
+mod scans;
 mod sids;
 mod subjects;
 mod turns;
@@ -27,7 +28,7 @@ pub use limits::{
     SUBSCRIPTION_BYTES, SUBSCRIPTION_COST, SUBSCRIPTIONS, WINDOW,
 };
 pub use messages::{Message, Pub};
-pub use names::NameFault;
+pub use names::{NameFault, split_token};
 pub use node_ids::NodeId;
 pub use patterns::Pattern;
 pub use queue_names::QueueName;

@@ -8,7 +8,7 @@ ghost use Rattle.subj.specs.Publications.{published};
 use crate::limits::MAX_PAYLOAD;
 use crate::subjects::{Reply, Subject};
 use bytes::Bytes;
-use std::alloc::{AllocError, Global};
+use std::alloc::AllocError;
 use std::marker::Model;
 
 /// The content of a publication: its subject, the subject that an answer is awaited on, and its
@@ -71,14 +71,14 @@ impl Message {
         &self.payload
     }
 
-    /// A copy that shares the payload.
-    pub fn try_clone(&self, alloc: Global) -> Result<Message, AllocError>
+    /// A copy that shares all bytes.
+    pub fn try_clone(&self) -> Result<Message, AllocError>
         ensures { IfOk result (λ message. message ≡ self.now) }
     {
-        let subject = self.subject.try_clone(alloc)?;
+        let subject = self.subject.try_clone()?;
         let reply = match &self.reply {
             None => None,
-            Some(reply) => Some(reply.try_clone(alloc)?),
+            Some(reply) => Some(reply.try_clone()?),
         };
         let payload = self.payload.clone()?;
         Ok(Message {

@@ -2,9 +2,7 @@
 
 ghost use Rattle.std.specs.Prelude.{◌≡◌, ℕ, ◌+◌, ◌<◌, ◌∷◌, length, position, IfSome};
 ghost use Rattle.std.specs.Option.{option_copied};
-ghost use Rattle.subj.specs.Names.{name_fault_number, tokens, tokens_behind, is_dot, is_forbidden, is_one_wildcard as one_wildcard, is_rest_wildcard as rest_wildcard, is_node_name_byte, has_forbidden as some_forbidden, has_empty_token as some_token_empty, has_wild_token as some_token_wild, has_wild_before_last as some_token_wild_before_last, forbidden_fault, pattern_token_fault, subject_token_fault, pattern_fault, subject_fault, node_name_fault};
-
-use crate::limits::{MAX_NODE_NAME, MAX_SUBJECT};
+ghost use Rattle.subj.specs.Names.{name_fault_number, tokens, tokens_behind, is_dot, is_forbidden, is_one_wildcard as one_wildcard, is_rest_wildcard as rest_wildcard, has_forbidden as some_forbidden, forbidden_fault};
 
 /// Why bytes are not a name.
 ///
@@ -36,7 +34,7 @@ impl NameFault {
 }
 
 /// Whether the byte is in no subject, pattern, queue name or subscription id.
-fn is_forbidden_byte(byte: u8) -> bool
+pub(crate) fn is_forbidden_byte(byte: u8) -> bool
     ensures { result ≡ is_forbidden byte }
 {
     matches!(byte, 0 | b'\t' | b'\n' | b'\r' | b' ')
@@ -64,7 +62,7 @@ fn first_dot(text: &[u8]) -> Option<usize>
 }
 
 /// The first token of a text, and what stands behind its dot where there is one.
-pub(crate) fn split_token(text: &[u8]) -> (&[u8], Option<&[u8]>)
+pub fn split_token(text: &[u8]) -> (&[u8], Option<&[u8]>)
     ensures cut { tokens text.now ≡ result.0.now ∷ tokens_behind (option_copied result.1) }
     ensures shorter { IfSome result.1 (λ rest. length rest.now < length text.now) }
 {
@@ -95,51 +93,4 @@ pub(crate) fn text_fault(text: &[u8], most: usize) -> Option<NameFault>
         return Some(NameFault::BadByte);
     }
     None
-}
-
-pub(crate) fn has_empty_token(text: &[u8]) -> bool
-    ensures { result ≡ some_token_empty (tokens text.now) }
-{
-    let mut text = text;
-    loop {
-        let (token, behind) = split_token(text);
-        if token.is_empty() {
-            return true;
-        }
-        match behind {
-            Some(rest) => text = rest,
-            None => return false,
-        }
-    }
-}
-
-pub(crate) fn has_wild_token(text: &[u8]) -> bool
-    ensures { result ≡ some_token_wild (tokens text.now) }
-{
-    let mut text = text;
-    loop {
-        let (token, behind) = split_token(text);
-        if is_one_wildcard(token) || is_rest_wildcard(token) {
-            return true;
-        }
-        match behind {
-            Some(rest) => text = rest,
-            None => return false,
-        }
-    }
-}
-
-#[tactic(auto, using(crate::proofs::Tokens::tokens_are_some))]
-pub(crate) fn has_wild_before_last(text: &[u8]) -> bool
-    ensures { result ≡ some_token_wild_before_last (tokens text.now) }
-{
-    let mut text = text;
-    loop {
-        let (token, behind) = split_token(text);
-        match behind {
-            Some(_) if is_rest_wildcard(token) => return true,
-            Some(rest) => text = rest,
-            None => return false,
-        }
-    }
 }

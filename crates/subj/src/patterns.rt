@@ -8,10 +8,8 @@ ghost use Rattle.subj.specs.Matching.{subject_matches, takes_token as takes};
 
 use crate::failures::Failure;
 use crate::limits::MAX_SUBJECT;
-use crate::names::{
-    NameFault, has_empty_token, has_wild_before_last, is_one_wildcard, is_rest_wildcard,
-    split_token, text_fault,
-};
+use crate::names::{NameFault, is_one_wildcard, is_rest_wildcard, split_token};
+use crate::scans::Scan;
 use crate::subjects::Subject;
 use std::alloc::{AllocError, Global};
 use std::marker::Model;
@@ -39,17 +37,18 @@ impl Model for Pattern {
 
 impl Pattern {
     /// Why the bytes are no pattern, or None where they are one. Takes no memory.
+    #[tactic(auto, using(crate::proofs::Scanned::empty_told, crate::proofs::Scanned::early_told))]
     pub fn fault(text: &[u8]) -> Option<NameFault>
         ensures { result ≡ pattern_fault text.now }
     {
-        let fault = text_fault(text, MAX_SUBJECT);
-        if fault.is_some() {
-            return fault;
-        }
-        if has_empty_token(text) {
+        let scan = match Scan::judge(text) {
+            Ok(scan) => scan,
+            Err(fault) => return Some(fault),
+        };
+        if scan.has_empty_token() {
             return Some(NameFault::EmptyToken);
         }
-        if has_wild_before_last(text) {
+        if scan.has_wild_before_last() {
             return Some(NameFault::WildNotLast);
         }
         None

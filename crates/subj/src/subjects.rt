@@ -1,12 +1,14 @@
 //! What messages are published on.
 
 ghost use Rattle.std.specs.Prelude.{◌≡◌, ◌≤◌, length, None, IfOk, ⊤};
-ghost use Rattle.subj.specs.Answers.{IsAnswered};
+ghost use Rattle.subj.specs.Answers.{IsAnswered, IsDecided};
 ghost use Rattle.subj.specs.Names.{subject_fault};
 
 use crate::failures::Failure;
 use crate::limits::MAX_SUBJECT;
-use crate::names::{NameFault, has_empty_token, has_wild_token, text_fault};
+use crate::names::NameFault;
+use crate::scans::Scan;
+use bytes::Bytes;
 use std::alloc::{AllocError, Global};
 use std::marker::Model;
 
@@ -16,7 +18,7 @@ use std::marker::Model;
 /// Messaging"; the length and the bytes are this project's profile.)
 #[derive(Debug, Drop)]
 pub struct Subject {
-    text: Vec<u8>,
+    text: Bytes,
 }
 
 /// The subject that an answer is awaited on.
@@ -28,24 +30,25 @@ impl Model for Subject {
 
     ghost Value = { List ℕ };
 
-    ghost view = { λ subject. subject.text.items };
+    ghost view = { λ subject. subject.text };
 
-    ghost invariant = { λ subject. subject_fault subject.text.items ≡ None };
+    ghost invariant = { λ subject. subject_fault subject.text ≡ None };
 }
 
 impl Subject {
     /// Why the bytes are no subject, or None where they are one. Takes no memory.
+    #[tactic(auto, using(crate::proofs::Scanned::empty_told, crate::proofs::Scanned::wild_told))]
     pub fn fault(text: &[u8]) -> Option<NameFault>
         ensures { result ≡ subject_fault text.now }
     {
-        let fault = text_fault(text, MAX_SUBJECT);
-        if fault.is_some() {
-            return fault;
-        }
-        if has_empty_token(text) {
+        let scan = match Scan::judge(text) {
+            Ok(scan) => scan,
+            Err(fault) => return Some(fault),
+        };
+        if scan.has_empty_token() {
             return Some(NameFault::EmptyToken);
         }
-        if has_wild_token(text) {
+        if scan.has_wild_token() {
             return Some(NameFault::Wild);
         }
         None
@@ -58,8 +61,19 @@ impl Subject {
         if let Some(fault) = Subject::fault(text) {
             return Err(Failure::Refused(fault));
         }
-        let text = Vec::from_slice(alloc, text)?;
+        let text = Bytes::copy_from_slice(alloc, text)?;
         Ok(Subject { text })
+    }
+
+    /// The subject of these shared bytes, as of a part of what was read. Refused just where
+    /// [`Subject::fault`] tells a cause, and by that. Takes no memory.
+    pub fn from_shared(text: Bytes) -> Result<Subject, NameFault>
+        ensures { IsDecided (subject_fault text) (λ subject. subject ≡ text) ⊤ result }
+    {
+        match Subject::fault(text.as_slice()) {
+            Some(fault) => Err(fault),
+            None => Ok(Subject { text }),
+        }
     }
 
     /// The bytes of the name.
@@ -72,11 +86,11 @@ impl Subject {
         self.text.as_slice()
     }
 
-    /// A copy of the subject.
-    pub fn try_clone(&self, alloc: Global) -> Result<Subject, AllocError>
+    /// A copy of the subject, which shares its bytes.
+    pub fn try_clone(&self) -> Result<Subject, AllocError>
         ensures { IfOk result (λ subject. subject ≡ self.now) }
     {
-        let text = Vec::from_slice(alloc, &self.text)?;
+        let text = self.text.clone()?;
         Ok(Subject { text })
     }
 }

@@ -1,9 +1,12 @@
 //! Examples: the matching table, the order of the refusals, the limits, and each call that takes memory.
 
 use crate::{
-    Busy, ConnId, Finished, Incarnation, Job, Key, MAX_COST, MAX_COUNTER, MAX_INCARNATION,
-    MAX_NODE_NAME, MAX_PAYLOAD, MAX_QUEUE_NAME, MAX_SHARDS, MAX_SID, MAX_SUBJECT, Message, NodeId,
-    Pattern, Pub, PubId, QueueName, QueueNames, Sid, SubId, Subject, Turn,
+    Busy, CLIENT_LINE, ConnId, Finished, Incarnation, JOIN_EVENTS, Job, Key, LAST_LINE, MAX_COST,
+    MAX_COUNTER, MAX_INCARNATION, MAX_KEYS, MAX_NODE_NAME, MAX_NODES, MAX_PAYLOAD, MAX_QUEUE_NAME,
+    MAX_QUEUE_NAMES, MAX_SERIAL, MAX_SESSIONS, MAX_SHARDS, MAX_SID, MAX_SNAPSHOT, MAX_SUBJECT,
+    MAX_WEIGHT, Message, NodeId, OUTBOX_BYTES, OUTBOX_ENTRIES, Pattern, Pub, PubId, QueueName,
+    QueueNames, READ_BYTES, ROUTE_FRAMES, ROUTE_LINE, SCRIPT_BYTES, SCRIPT_EVENTS,
+    SUBSCRIPTION_BYTES, SUBSCRIPTION_COST, SUBSCRIPTIONS, Sid, SubId, Subject, Turn, WINDOW,
 };
 use bytes::Bytes;
 use std::alloc::Global;
@@ -28,6 +31,77 @@ fn sid_refusal(text: &[u8]) -> u16 {
 
 fn node_name_refusal(text: &[u8]) -> u16 {
     NodeId::fault(text).map_or(0, |fault| fault.number())
+}
+
+#[test]
+fn limits_are_those_of_this_edition(rt: HostRuntime) {
+    let table: [(&str, u64, u64); 32] = [
+        ("MAX_NODES", MAX_NODES, 8),
+        ("MAX_SHARDS", MAX_SHARDS, 8),
+        ("WINDOW", WINDOW, 32),
+        ("MAX_QUEUE_NAMES", MAX_QUEUE_NAMES, 64),
+        ("MAX_SUBJECT", MAX_SUBJECT as u64, 1_024),
+        ("MAX_SID", MAX_SID as u64, 64),
+        ("MAX_QUEUE_NAME", MAX_QUEUE_NAME as u64, 64),
+        ("MAX_NODE_NAME", MAX_NODE_NAME as u64, 32),
+        ("MAX_PAYLOAD", MAX_PAYLOAD as u64, 1_048_576),
+        ("MAX_INCARNATION", MAX_INCARNATION, 9_007_199_254_740_991),
+        ("MAX_COUNTER", MAX_COUNTER, 999_999_999_999_999),
+        ("MAX_SERIAL", MAX_SERIAL, 499_999_999_999_999),
+        ("SUBSCRIPTIONS", SUBSCRIPTIONS, 65_536),
+        ("SUBSCRIPTION_BYTES", SUBSCRIPTION_BYTES, 4_194_304),
+        ("SUBSCRIPTION_COST", SUBSCRIPTION_COST, 24),
+        ("MAX_COST", MAX_COST, 1_112),
+        ("MAX_KEYS", MAX_KEYS, 65_536),
+        ("MAX_WEIGHT", MAX_WEIGHT, 65_536),
+        ("OUTBOX_ENTRIES", OUTBOX_ENTRIES as u64, 1_024),
+        ("OUTBOX_BYTES", OUTBOX_BYTES as u64, 8_388_608),
+        ("LAST_LINE", LAST_LINE as u64, 64),
+        ("ROUTE_FRAMES", ROUTE_FRAMES as u64, 1_024),
+        ("CLIENT_LINE", CLIENT_LINE as u64, 4_096),
+        ("ROUTE_LINE", ROUTE_LINE as u64, 8_192),
+        ("MAX_SNAPSHOT", MAX_SNAPSHOT as u64, 4_194_304),
+        ("READ_BYTES", READ_BYTES as u64, 65_536),
+        ("MAX_SESSIONS", MAX_SESSIONS, 64),
+        ("SCRIPT_BYTES", SCRIPT_BYTES as u64, 1_048_576),
+        ("SCRIPT_EVENTS", SCRIPT_EVENTS, 10_000),
+        ("JOIN_EVENTS", JOIN_EVENTS, 4),
+        (
+            "shards of the subscriptions",
+            SUBSCRIPTIONS / MAX_SHARDS,
+            8_192,
+        ),
+        (
+            "shards of their bytes",
+            SUBSCRIPTION_BYTES / MAX_SHARDS,
+            524_288,
+        ),
+    ];
+    for (name, limit, figure) in table {
+        assert_eq!(rt; limit, figure, "{name}");
+    }
+}
+
+#[test]
+fn subjects_share_what_was_read(rt: HostRuntime) -> Result<(), Fail> {
+    let read = Bytes::copy_from_slice(rt.alloc(), b"orders.new a.* 2")?;
+    let table: [(usize, usize, Option<u16>); 4] = [
+        (0, 10, None),
+        (11, 14, Some(6)),
+        (0, 11, Some(3)),
+        (0, 0, Some(1)),
+    ];
+    for (start, end, refusal) in table {
+        let part = read.slice(start..end)?;
+        match Subject::from_shared(part) {
+            Ok(subject) => {
+                assert_eq!(rt; refusal, None, "{start} {end}");
+                assert_eq!(rt; subject.bytes(), b"orders.new".as_slice());
+            }
+            Err(fault) => assert_eq!(rt; Some(fault.number()), refusal, "{start} {end}"),
+        }
+    }
+    Ok(())
 }
 
 #[test]
@@ -146,7 +220,7 @@ fn names_keep_their_bytes(rt: HostRuntime) -> Result<(), Fail> {
     let pattern = Pattern::read(rt.alloc(), b"a.*.>")?;
     assert_eq!(rt; pattern.try_clone(rt.alloc())?.bytes(), b"a.*.>".as_slice());
     let subject = Subject::read(rt.alloc(), b"a.b")?;
-    assert_eq!(rt; subject.try_clone(rt.alloc())?.bytes(), b"a.b".as_slice());
+    assert_eq!(rt; subject.try_clone()?.bytes(), b"a.b".as_slice());
     let queue = QueueName::read(rt.alloc(), b"work")?;
     assert_eq!(rt; queue.try_clone(rt.alloc())?.bytes(), b"work".as_slice());
     let sid = Sid::read(rt.alloc(), b"7")?;
@@ -258,7 +332,7 @@ fn queue_names_rise(rt: HostRuntime) -> Result<(), Fail> {
         for text in texts {
             names.push(QueueName::read(rt.alloc(), text)?)?;
         }
-        let names = QueueNames::from_names(names);
+        let names = QueueNames::from_names(rt.alloc(), names)?;
         assert_eq!(rt; names.is_some(), rising, "{texts:?}");
         if let Some(names) = names {
             assert_eq!(rt; names.as_slice().len(), texts.len());
@@ -270,7 +344,11 @@ fn queue_names_rise(rt: HostRuntime) -> Result<(), Fail> {
             let text = [b'q', b'0' + number / 10, b'0' + number % 10];
             names.push(QueueName::read(rt.alloc(), &text)?)?;
         }
-        assert_eq!(rt; QueueNames::from_names(names).is_some(), fits, "{count}");
+        assert_eq!(rt;
+            QueueNames::from_names(rt.alloc(), names)?.is_some(),
+            fits,
+            "{count}"
+        );
     }
     Ok(())
 }
@@ -332,9 +410,9 @@ fn jobs_are_copied_whole(rt: HostRuntime) -> Result<(), Fail> {
         message,
         publisher: Some(ConnId::new(5)),
         echo: false,
-        queues: QueueNames::new(rt.alloc()),
+        queues: QueueNames::new(),
     };
-    let copy = job.try_clone(rt.alloc())?;
+    let copy = job.try_clone()?;
     assert_eq!(rt; copy.turn.get(), 3);
     assert_eq!(rt; copy.id, id);
     assert_eq!(rt; copy.message.subject().bytes(), b"foo".as_slice());

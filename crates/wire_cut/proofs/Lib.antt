@@ -3,4 +3,4 @@ pub mod SearchLemmas
 pub mod CutLemmas
 pub mod SinkLemmas
 pub mod MemoryLemmas
-pub mod StreamLemmas
+pub mod ReadingLemmas

@@ -75,13 +75,14 @@ cut_payload_at size unread (Some false) = Err NoCrLfAfterPayload
 abbrev pub cut_payload : ℕ → List ℕ → Answer
 cut_payload size unread = cut_payload_at size unread (cr_lf_at unread size)
 
-abbrev pub cut_expected : Option ℕ → CutterState → Answer
-cut_expected None s = cut_line s.line_max s.unread
-cut_expected (Some size) s = cut_payload size s.unread
+-- the payload of the expected size, or a line
+abbrev pub cut_next : ℕ → Option ℕ → List ℕ → Answer
+cut_next line_max None unread = cut_line line_max unread
+cut_next line_max (Some size) unread = cut_payload size unread
 
 abbrev pub cut_unless : Option CutFault → CutterState → Answer
 cut_unless (Some fault) s = Err fault
-cut_unless None s = cut_expected s.expected s
+cut_unless None s = cut_next s.line_max s.expected s.unread
 
 -- the cut of the unread bytes
 abbrev pub cut_of : CutterState → Answer

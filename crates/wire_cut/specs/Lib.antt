@@ -1,6 +1,6 @@
 pub mod Fault
 pub mod Cut
-pub mod Stream
+pub mod Reading
 pub mod Search
 pub mod Window
 pub mod Answers

@@ -18,7 +18,7 @@ mod window;
 pub use count::Count;
 pub use cutter::Cutter;
 pub use fault::{CutFault, FeedFault, FillFault};
-pub use laws::{law_any_feeds, law_pieces_so_far};
+pub use laws::{cutter_follows_grammar, stream_is_read_in_parts};
 pub use mem_sink::MemSink;
 pub use mem_source::MemSource;
 pub use piece::Piece;

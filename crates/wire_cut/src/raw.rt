@@ -17,11 +17,13 @@ pub struct Raw<T> {
 }
 
 impl<T> Raw<T> {
-    ghost use Rattle.wire_cut.specs.Raw.{raw_inner};
+    ghost use Rattle.wire_cut.specs.Raw.{raw_inner, raw_reads, raw_failures};
 
-    /// `inner`, which has not failed yet.
+    /// `inner`, of which no call was made and none has failed yet.
     pub fn new(inner: T) -> Raw<T>
-        ensures { raw_inner result ≡ inner }
+        ensures inner { raw_inner result ≡ inner }
+        ensures reads { raw_reads result ≡ 0 }
+        ensures failures { raw_failures result ≡ 0 }
     {
         Raw {
             inner,

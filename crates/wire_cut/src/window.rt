@@ -1,6 +1,6 @@
 //! Bytes that came in and were not used yet.
 ghost use Rattle.std.specs.Prelude.{◌≡◌, ◌+◌, ◌-◌, ◌≤◌, [], ◌++◌, None, IfOk, OnOk, OnErr};
-ghost use Rattle.std.specs.Prelude.{length, take, drop, slice_range, vec_len};
+ghost use Rattle.std.specs.Prelude.{length, max, take, drop, slice_range, vec_len};
 ghost use Rattle.std.specs.Io.KnownBytes.{Keeps};
 ghost use Rattle.wire_cut.specs.Flow.{Gains, ReadsOnce};
 
@@ -8,6 +8,9 @@ use crate::fault::FillFault;
 use crate::source::Source;
 use std::alloc::{AllocError, Global};
 use std::marker::Model;
+
+/// The most bytes of a buffer that stays while nothing is unread.
+const KEPT_BYTES: usize = 524_288;
 
 /// The unread bytes lie at `start..end` of one buffer, which is used again.
 #[derive(Drop)]
@@ -125,6 +128,7 @@ fn make_room(
     ensures err { OnErr result (buffer.new.items ≡ buffer.old.items) }
 {
     if start == end && count <= buffer.len() {
+        give_back(buffer, count);
         return Ok(0);
     }
     if count <= buffer.len() - end {
@@ -136,4 +140,18 @@ fn make_room(
     }
     buffer.copy_within(start..end, 0);
     Ok(0)
+}
+
+/// Gives back what a large payload took, where none of the bytes is needed any more. Room for `count`
+/// bytes stays.
+fn give_back(buffer: &mut Vec<u8>, count: usize)
+    requires { count ≤ vec_len buffer.old }
+    ensures room { count ≤ vec_len buffer.new }
+    ensures small { vec_len buffer.new ≤ max count KEPT_BYTES }
+{
+    let kept = count.max(KEPT_BYTES);
+    if buffer.len() > kept {
+        buffer.truncate(kept);
+        buffer.shrink_to_fit();
+    }
 }
