@@ -1,8 +1,11 @@
 -- The form of a message, whose last field is taken off first.
-use Rattle.std.proofs.Common.{◌≡◌, ℕ, ◌<◌, List, [], ◌∷◌, ◌++◌, length, refl, ap, sym, ◌∙◌, arith, Some}
-use Rattle.std.specs.Borrow.{Bor}
-use Rattle.line_fields.specs.Fields.{texts}
-use Rattle.route_frames.specs.Arguments.{in_front, split_last_of, split_last, form_of, form_split, form_between, marked}
+use Rattle.std.proofs.Common.{◌≡◌, ℕ, ◌+◌, ◌<◌, ◌≤◌, List, [], ◌∷◌, ◌++◌, length, take, drop, take-append-drop, length-append, refl, ap, sym, ◌∙◌, arith, Some, not}
+use Rattle.std.specs.List.{slice_split}
+use Rattle.std.proofs.lemmas.List.{length-drop, drop-drop}
+use Rattle.std.proofs.lemmas.List.Splits.{length-slice_split}
+use Rattle.std.proofs.lemmas.List.Sums.{length-filter, count_by-le-length}
+use Rattle.line_fields.specs.Fields.{is_empty, is_blank, fields}
+use Rattle.route_frames.specs.Arguments.{in_front, split_last_of, split_last}
 
 last_of : (field : List ℕ) (front : List (List ℕ)) (last : List ℕ) → split_last_of field (front ++ last ∷ []) ≡ (field ∷ front, last)
 last_of field [] last = refl
@@ -12,17 +15,24 @@ pub split_last-append : (front : List (List ℕ)) (last : List ℕ) → split_la
 split_last-append [] last = refl
 split_last-append (field ∷ others) last = ap (λ split. Some split) (last_of field others last)
 
-between : (first : List ℕ) (fields : List (Bor (List ℕ))) (size : List ℕ) → 0 < length fields → form_between first (texts fields) size ≡ marked first (texts fields) size
-between first [] size some = absurd (omega arith)
-between first (field ∷ others) size some = refl
+-- where one field is left, that is the last
+pub last_at : (all : List (List ℕ)) (n : ℕ) (last : List ℕ) → drop n all ≡ last ∷ [] → split_last all ≡ Some (take n all, last)
+last_at all n last left = ap split_last (sym (take-append-drop n all) ∙ ap (λ rest. take n all ++ rest) left) ∙ split_last-append (take n all) last
 
-texts-last : (front : List (Bor (List ℕ))) (last : Bor (List ℕ)) → texts (front ++ last ∷ []) ≡ texts front ++ last.now ∷ []
-texts-last [] last = refl
-texts-last (field ∷ others) last = ap (λ rest. field.now ∷ rest) (texts-last others last)
+pub drop_more : (all : List (List ℕ)) (n : ℕ) (field : List ℕ) (rest : List (List ℕ)) → drop n all ≡ field ∷ rest → drop (n + 1) all ≡ rest
+drop_more all n field rest left = sym (drop-drop 1 n all) ∙ ap (λ l. drop 1 l) left
 
-pub marked_form : (fields : List (List ℕ)) (first : List ℕ) (all front : List (Bor (List ℕ))) (last : Bor (List ℕ)) → fields ≡ first ∷ texts all → all ≡ front ++ last ∷ [] → 0 < length front → marked first (texts front) last.now ≡ form_of fields
-marked_form fields first all front last is split some =
-    sym (ap form_of is ∙ ap (λ others. form_split first (split_last (texts others))) split
-    ∙ ap (λ others. form_split first (split_last others)) (texts-last front last)
-    ∙ ap (form_split first) (split_last-append (texts front) last.now)
-    ∙ between first front last.now some)
+pub count_at : (all : List (List ℕ)) (n : ℕ) (field : List ℕ) (rest : List (List ℕ)) → drop n all ≡ field ∷ rest → n < length all
+count_at all n field rest left = let len = length-drop n all in let same = ap length left in omega (arith, len, same)
+
+-- a text has no more fields than places between its bytes
+pub few_fields : (text : List ℕ) → length (fields text) ≤ length text + 1
+few_fields text =
+    let kept = length-filter (λ piece. not (is_empty piece)) (slice_split is_blank text) in
+    let some = count_by-le-length (λ piece. not (is_empty piece)) (slice_split is_blank text) in
+    let pieces = length-slice_split is_blank text in
+    let blanks = count_by-le-length is_blank text in
+    omega (arith, kept, some, pieces, blanks)
+
+pub few_names : (count : ℕ) (text : List ℕ) → length (take count (fields text)) ≤ length text + 1
+few_names count text = let few = few_fields text in let whole = ap length (take-append-drop count (fields text)) in let parts = length-append (take count (fields text)) (drop count (fields text)) in omega (arith, few, whole, parts)

@@ -1,4 +1,5 @@
 pub mod Forms
+pub mod QueueNames
 pub mod Json
 pub mod Behind
 pub mod Dials

@@ -102,6 +102,5 @@ bad_line front rest line behind fault split is =
     ap (λ texts. with_front front (keys_in texts)) split ∙ ap (with_front front) (line_and_more line behind)
     ∙ ap (λ read. with_front front (read >>= λ key. keys_in (pieces 10 behind) >>= λ others. Ok (key ∷ others))) is
 
-pub bad_key : (failure : Failure RouteFault) (front : List Weighted) (rest line behind text : List ℕ) → pieces 10 rest ≡ line ∷ pieces 10 behind → Means (key_line_of line) (Err failure) → with_front front (keys_in (pieces 10 rest)) ≡ keys_in (pieces 10 text) → Means (keys_in (pieces 10 text)) (Err failure)
-bad_key OutOfMemory front rest line behind text split is so_far = tt
-bad_key (Refused fault) front rest line behind text split is so_far = sym so_far ∙ bad_line front rest line behind fault split is
+pub bad_key : (fault : RouteFault) (front : List Weighted) (rest line behind text : List ℕ) → pieces 10 rest ≡ line ∷ pieces 10 behind → key_line_of line ≡ Err fault → with_front front (keys_in (pieces 10 rest)) ≡ keys_in (pieces 10 text) → keys_in (pieces 10 text) ≡ Err fault
+bad_key fault front rest line behind text split is so_far = sym so_far ∙ bad_line front rest line behind fault split is

@@ -1,5 +1,5 @@
 -- What was read is spelt: a line, and a line with its payload.
-use Rattle.std.proofs.Common.{◌≡◌, ℕ, Bool, true, false, cond, List, [], ◌∷◌, ◌++◌, length, refl, ap, sym, ◌∙◌, subst, arith, Option, Some, None, Ok}
+use Rattle.std.proofs.Common.{◌≡◌, ℕ, Bool, true, false, cond, List, [], ◌∷◌, ◌++◌, length, refl, ap, sym, ◌∙◌, subst, arith, Option, Some, None, Ok, true≢false}
 use Rattle.std.specs.Prelude.{nat_le, nat_eq, codes, replicate}
 use Rattle.std.specs.Option.{ok_or}
 use Rattle.std.proofs.lemmas.Bool.Decides.{nat_tests}
@@ -29,9 +29,9 @@ use Rattle.route_frames.specs.NumberedLines.{plus_line, minus_line, snapshot_lin
 use Rattle.route_frames.specs.Lines.{numbered, operation_meaning, fields_meaning, line_meaning}
 use Rattle.route_frames.specs.Announced.{body_size, announced_size}
 use Rattle.route_frames.specs.SnapshotTexts.{snapshot_in}
-use Rattle.route_frames.specs.Decoding.{sized, body_meaning, numbered_meaning, frame_behind, frame_meaning}
+use Rattle.route_frames.specs.Decoding.{sized, body_meaning, numbered_meaning, frame_behind, frame_meaning, is_snapshot_body}
 use Rattle.route_frames.specs.Greetings.{info_of, connect_text_of}
-use Rattle.route_frames.specs.Spelling.{SpellsBehind, body_announces, frame_word, SpellsText, SpellsLine, SpellsPayload, announces}
+use Rattle.route_frames.specs.Spelling.{Spells, SpellsBehind, body_announces, frame_word, SpellsText, SpellsLine, SpellsPayload, announces}
 use Rattle.route_frames.specs.Refusals.{Announces}
 use Rattle.route_frames.specs.Readings.{ReadIsSpelt, ToldIsAnnounced}
 use Rattle.route_frames.proofs.Behind.{behind_first}
@@ -239,6 +239,22 @@ read_is_spelt frame text payload e =
     let fits = step_ok (sized (announced_size read.0) payload) _ frame read.2 in
     let found = frame_read read.0 payload frame fits.0 fits.1 fits.2 in
     record { in_line = line_spelt text read.0 frame (announces frame payload) read.1 found.carries; behind = found.behind }
+
+-- ---- a line with a payload of the announced size spells a frame, unless that is a snapshot
+
+body_there : (read : LineBody) (payload : List ℕ) → sized (body_size read) payload ≡ Ok tt → is_snapshot_body read ≡ false → (body : Body) × Fits read body (body_announces body payload) × SpellsBehind body payload
+body_there (said.Plus weighted) payload e other = (Plus weighted, (refl, refl), empty_payload payload tt e)
+body_there (said.Minus key) payload e other = (Minus key, (refl, refl), empty_payload payload tt e)
+body_there (said.Snapshot size) payload e other = absurd (true≢false other)
+body_there (said.Msg subject reply queues size) payload e other =
+    let whole = whole_payload size payload tt e in
+    (Msg (record { subject = subject; reply = reply; payload = payload }) queues, (payload, refl, whole, ap (λ n. Some n) whole), refl)
+
+pub sized_is_spelt : (text payload : List ℕ) (numbered : NumberedLine) → line_meaning text ≡ Ok (line.Numbered numbered) → sized (body_size numbered.body) payload ≡ Ok tt → is_snapshot_body numbered.body ≡ false → (frame : RouteFrame) × Spells frame text payload
+sized_is_spelt text payload numbered e fits other =
+    let found = body_there numbered.body payload fits other in
+    let frame = route.Numbered (frame_in numbered found.0) in
+    (frame, record { in_line = line_spelt text (line.Numbered numbered) frame (announces frame payload) e (found.0, refl, found.1); behind = found.2 })
 
 -- ---- a line alone: some frame has it
 

@@ -1,5 +1,5 @@
 -- Route spelling as a computed meaning: what a line and the payload behind it say, or why they are refused (profile).
-use Rattle.std.specs.Prelude.{ℕ, List, length, nat_eq, Option, Some, None, Ok, Err, if◌then◌else◌}
+use Rattle.std.specs.Prelude.{◌≡◌, ℕ, Bool, true, false, ◌&&◌, ◌||◌, is_ok, List, length, nat_eq, Option, Some, None, Result, Ok, Err, if◌then◌else◌}
 use Rattle.std.specs.Option.{ok_or}
 use Rattle.line_fields.specs.Fields.{is_empty}
 use Rattle.subj.specs.Messages.{content_of}
@@ -9,13 +9,20 @@ use Rattle.route_values.specs.declared.frames.RouteFrame.{RouteFrame}
 use Rattle.route_values.specs.declared.frames.RouteFrame.TheVariants.{Info, Connect, Numbered}
 use Rattle.route_values.specs.Frames.{Frame, frame_of}
 use Rattle.route_frames.specs.declared.faults.RouteFault.TheVariants.{BadArgs}
+use Rattle.subj.specs.declared.failures.Failure.{Failure}
+use Rattle.subj.specs.declared.failures.Failure.TheVariants as failure
+use Rattle.route_frames.specs.declared.faults.RouteFault.{RouteFault}
+use Rattle.route_frames.specs.declared.common.Numbers.{Numbers}
 use Rattle.route_frames.specs.declared.lines.LineBody.{LineBody}
 use Rattle.route_frames.specs.declared.lines.LineBody.TheVariants as body
 use Rattle.route_frames.specs.declared.lines.NumberedLine.{NumberedLine}
 use Rattle.route_frames.specs.declared.lines.RouteLine.{RouteLine}
 use Rattle.route_frames.specs.declared.lines.RouteLine.TheVariants as line
+use Rattle.route_frames.specs.declared.lines.Unjoined.{Unjoined}
+use Rattle.route_frames.specs.declared.lines.Unjoined.TheVariants.{Refused, OutOfMemory}
 use Rattle.route_frames.specs.Meaning.{Meaning, ◌>>=◌}
 use Rattle.route_frames.specs.Announced.{announced_size}
+use Rattle.route_frames.specs.Operations.{is_json_line}
 use Rattle.route_frames.specs.Lines.{line_meaning}
 use Rattle.route_frames.specs.SnapshotTexts.{snapshot_in}
 
@@ -33,6 +40,9 @@ body_meaning (body.Plus key) payload = Ok (Plus key)
 body_meaning (body.Minus key) payload = Ok (Minus key)
 body_meaning (body.Snapshot size) payload = snapshot_in payload >>= λ keys. Ok (Snapshot keys)
 body_meaning (body.Msg subject reply queues size) payload = ok_or (content_of subject reply payload) BadArgs >>= λ message. Ok (Msg message queues)
+
+abbrev pub framed : List ℕ → List ℕ → Numbers → Body → Meaning RouteFrame
+framed from to numbers body = ok_or (frame_of from numbers.inc to numbers.to_inc numbers.number body) BadArgs >>= λ frame. Ok (Numbered frame)
 
 unfoldable pub numbered_meaning : NumberedLine → List ℕ → Meaning Frame
 numbered_meaning numbered payload = do
@@ -55,3 +65,42 @@ unfoldable pub frame_meaning : List ℕ → List ℕ → Meaning RouteFrame
 frame_meaning text payload = do
   read ← line_meaning text
   joined read payload
+
+-- ---- what can't be judged without memory: a JSON text, and the text of a snapshot that has the announced size
+
+abbrev pub is_snapshot_body : LineBody → Bool
+is_snapshot_body (body.Plus key) = false
+is_snapshot_body (body.Minus key) = false
+is_snapshot_body (body.Snapshot size) = true
+is_snapshot_body (body.Msg subject reply queues size) = false
+
+abbrev pub is_snapshot_line : RouteLine → Bool
+is_snapshot_line (line.Info info) = false
+is_snapshot_line (line.Connect connect) = false
+is_snapshot_line (line.Numbered numbered) = is_snapshot_body numbered.body
+
+abbrev pub is_snapshot_text : RouteLine → List ℕ → Bool
+is_snapshot_text read payload = is_snapshot_line read && is_ok (sized (announced_size read) payload)
+
+abbrev pub is_snapshot_behind : Meaning RouteLine → List ℕ → Bool
+is_snapshot_behind (Ok read) payload = is_snapshot_text read payload
+is_snapshot_behind (Err fault) payload = false
+
+abbrev pub takes_memory : List ℕ → List ℕ → Bool
+takes_memory text payload = is_json_line text || is_snapshot_behind (line_meaning text) payload
+
+-- What a line that was read is joined to with the payload behind it. Want of memory comes only where that takes
+-- memory, and gives both back.
+abbrev pub JoinsBy : Bool → Meaning RouteFrame → RouteLine → List ℕ → Result RouteFrame Unjoined → Type 0
+JoinsBy memory meaning read payload (Ok frame) = meaning ≡ Ok frame
+JoinsBy memory meaning read payload (Err (Refused fault)) = meaning ≡ Err fault
+JoinsBy memory meaning read payload (Err (OutOfMemory line bytes)) = (line ≡ read) × (bytes ≡ payload) × (memory ≡ true)
+
+abbrev pub Joins : RouteLine → List ℕ → Result RouteFrame Unjoined → Type 0
+Joins read payload result = JoinsBy (is_snapshot_text read payload) (joined read payload) read payload result
+
+-- the same answer, without what was given back
+abbrev pub failure_of : Result RouteFrame Unjoined → Result RouteFrame (Failure RouteFault)
+failure_of (Ok frame) = Ok frame
+failure_of (Err (Refused fault)) = Err (failure.Refused fault)
+failure_of (Err (OutOfMemory line bytes)) = Err failure.OutOfMemory

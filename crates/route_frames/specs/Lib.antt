@@ -11,6 +11,7 @@ pub mod Greetings
 pub mod Lines
 pub mod SnapshotTexts
 pub mod Decoding
+pub mod TextViews
 pub mod Canonical
 pub mod Spelling
 pub mod Causes

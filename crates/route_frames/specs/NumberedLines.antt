@@ -1,6 +1,6 @@
 -- What the line of a numbered frame means. The order in which causes are looked for: the number of fields, too many queue
 -- names, numbers that are no digits, numbers out of their ranges, all else (profile).
-use Rattle.std.specs.Prelude.{ℕ, List, [], ◌∷◌, length, codes, nat_lt, Option, Some, None, Ok, Err, is_some, if◌then◌else◌}
+use Rattle.std.specs.Prelude.{ℕ, Bool, not, List, [], ◌∷◌, length, codes, nat_lt, Option, Some, None, Ok, Err, is_some, if◌then◌else◌}
 use Rattle.std.specs.Option.{ok_or}
 use Rattle.std.specs.Str.{bytes_eq}
 use Rattle.subj.specs.declared.keys.Key.{Key}
@@ -27,6 +27,9 @@ pattern_of field = if is_some (pattern_fault field) then Err BadArgs else Ok fie
 
 abbrev pub subject_of : List ℕ → Meaning (List ℕ)
 subject_of field = if is_some (subject_fault field) then Err BadArgs else Ok field
+
+abbrev pub is_queue_name : List ℕ → Bool
+is_queue_name field = not (is_some (queue_name_fault field))
 
 abbrev pub queue_of : List ℕ → Meaning (List ℕ)
 queue_of field = if is_some (queue_name_fault field) then Err BadArgs else Ok field

@@ -1,12 +1,13 @@
 //! The fields behind the five common ones.
 
-ghost use Rattle.std.specs.Prelude.{◌≡◌, None, Some, MatchOption, IfOk, option_map};
+ghost use Rattle.std.specs.Prelude.{◌≡◌, None, Some, MatchOption, option_map};
 ghost use Rattle.std.specs.Option.{option_copied};
-ghost use Rattle.line_fields.specs.Fields.{fields as fields_of, texts};
-ghost use Rattle.route_frames.specs.Arguments.{plus_fields, minus_fields, snapshot_field, form_of, marked as marked_form, message_fields};
+ghost use Rattle.line_fields.specs.Fields.{fields as fields_of};
+ghost use Rattle.route_frames.specs.Arguments.{plus_fields, minus_fields, snapshot_field, form_of, marked as marked_form, message_fields, split_last as last_split_off};
+ghost use Rattle.route_frames.specs.FormViews.{names_view};
 
-use line_fields::{fields, split_field};
-use std::alloc::{AllocError, Global};
+use crate::names::Names;
+use line_fields::split_field;
 
 /// What stands in front of queue names alone. (NATS documentation, "Cluster Protocol": `RMSG`.)
 pub(crate) const NAMES_MARK: &[u8] = b"|";
@@ -97,11 +98,27 @@ pub(crate) fn size_alone(text: &[u8]) -> Option<&[u8]>
     Some(size)
 }
 
+/// All fields of a text but the last, and the last.
+#[tactic(auto, using(crate::proofs::Forms::last_at, crate::proofs::Forms::drop_more, crate::proofs::Forms::count_at, crate::proofs::Forms::few_fields))]
+fn split_last(text: &[u8]) -> Option<(Names<'_>, &[u8])>
+    ensures { MatchOption result (last_split_off (fields_of text.now) ≡ None)
+        (λ split. last_split_off (fields_of text.now) ≡ Some (names_view split.0, split.1.now)) }
+{
+    let (mut last, mut rest) = split_field(text)?;
+    let mut count = 0;
+    while let Some((field, behind)) = split_field(rest) {
+        last = field;
+        rest = behind;
+        count += 1;
+    }
+    Some((Names { text, count }, last))
+}
+
 /// What stands behind the subject of an `RMSG`.
-#[derive(Drop)]
+#[derive(Clone, Copy)]
 pub(crate) struct Form<'a> {
     pub(crate) reply: Option<&'a [u8]>,
-    pub(crate) names: Vec<&'a [u8]>,
+    pub(crate) names: Names<'a>,
     pub(crate) size: &'a [u8],
 }
 
@@ -109,8 +126,8 @@ impl<'a> Form<'a> {
     ghost use Rattle.route_frames.specs.FormViews.{form_view};
 
     /// The form of a message by its first field, those between, and its last.
-    fn marked(mark: &[u8], between: Vec<&'a [u8]>, size: &'a [u8]) -> Option<Form<'a>>
-        ensures { option_map form_view result ≡ marked_form mark.now (texts between.entry.items) size.now }
+    fn marked(mark: &[u8], between: Names<'a>, size: &'a [u8]) -> Option<Form<'a>>
+        ensures { option_map form_view result ≡ marked_form mark.now (names_view between.entry) size.now }
     {
         if mark == NAMES_MARK {
             return Some(Form {
@@ -119,11 +136,11 @@ impl<'a> Form<'a> {
                 size,
             });
         }
-        if mark != REPLY_MARK || between.len() < 2 {
+        if mark != REPLY_MARK {
             return None;
         }
-        let mut names = between;
-        let reply = names.remove(0);
+        let (reply, names) = between.split_first()?;
+        let _first = names.split_first()?;
         Some(Form {
             reply: Some(reply),
             names,
@@ -132,33 +149,30 @@ impl<'a> Form<'a> {
     }
 
     /// The form that the fields of a text have, where they have one.
-    pub(crate) fn read(alloc: Global, text: &'a [u8]) -> Result<Option<Form<'a>>, AllocError>
-        ensures { IfOk result (λ form. option_map form_view form ≡ form_of (fields_of text.now)) }
+    pub(crate) fn read(text: &'a [u8]) -> Option<Form<'a>>
+        ensures { option_map form_view result ≡ form_of (fields_of text.now) }
     {
-        let Some((first, behind)) = split_field(text) else {
-            return Ok(None);
-        };
-        let mut others = fields(alloc, behind)?;
-        let Some(size) = others.pop() else {
-            return Ok(Some(Form {
+        let (first, behind) = split_field(text)?;
+        let Some((between, size)) = split_last(behind) else {
+            return Some(Form {
                 reply: None,
-                names: others,
+                names: Names::none(),
                 size: first,
-            }));
+            });
         };
-        if others.is_empty() {
-            return Ok(Some(Form {
+        match between.split_first() {
+            None => Some(Form {
                 reply: Some(first),
-                names: others,
+                names: Names::none(),
                 size,
-            }));
+            }),
+            Some(_) => Form::marked(first, between, size),
         }
-        Ok(Form::marked(first, others, size))
     }
 }
 
 /// What stands behind `RMSG` and the common fields.
-#[derive(Drop)]
+#[derive(Clone, Copy)]
 pub(crate) struct MessageFields<'a> {
     pub(crate) account: &'a [u8],
     pub(crate) subject: &'a [u8],
@@ -169,25 +183,16 @@ impl<'a> MessageFields<'a> {
     ghost use Rattle.route_frames.specs.FormViews.{message_view};
 
     /// The fields of a text, where their number is that of one of the forms.
-    pub(crate) fn read(
-        alloc: Global,
-        text: &'a [u8],
-    ) -> Result<Option<MessageFields<'a>>, AllocError>
-        ensures { IfOk result (λ f. option_map message_view f ≡ message_fields (fields_of text.now)) }
+    pub(crate) fn read(text: &'a [u8]) -> Option<MessageFields<'a>>
+        ensures { option_map message_view result ≡ message_fields (fields_of text.now) }
     {
-        let Some((account, behind)) = split_field(text) else {
-            return Ok(None);
-        };
-        let Some((subject, behind)) = split_field(behind) else {
-            return Ok(None);
-        };
-        let Some(form) = Form::read(alloc, behind)? else {
-            return Ok(None);
-        };
-        Ok(Some(MessageFields {
+        let (account, behind) = split_field(text)?;
+        let (subject, behind) = split_field(behind)?;
+        let form = Form::read(behind)?;
+        Some(MessageFields {
             account,
             subject,
             form,
-        }))
+        })
     }
 }

@@ -55,7 +55,7 @@ fn publication(alloc: Global) -> Result<RouteFrame, Fail> {
     let mut names = Vec::new(alloc);
     names.push(QueueName::read(alloc, b"q1")?)?;
     names.push(QueueName::read(alloc, b"q2")?)?;
-    let queues = QueueNames::from_names(names).ok_or("queue names")?;
+    let queues = QueueNames::from_names(alloc, names)?.ok_or("queue names")?;
     let frame = Numbered::new(
         node(b"n1")?,
         incarnation(1)?,

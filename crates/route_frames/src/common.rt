@@ -1,6 +1,6 @@
 //! The five fields behind the operation of a numbered frame.
 
-ghost use Rattle.std.specs.Prelude.{◌≡◌, ◌≤◌, None, Some, MatchOption};
+ghost use Rattle.std.specs.Prelude.{◌≡◌, ◌≤◌, None, Some, MatchOption, IfOk};
 ghost use Rattle.std.specs.Option.{ok_or};
 ghost use Rattle.line_fields.specs.Fields.{fields};
 ghost use Rattle.route_frames.specs.CommonFields.{CommonFields, common_fields, digits_of, within as in_range, node_of, numbers_of, numbers_in_range};
@@ -39,7 +39,8 @@ pub(crate) fn within(least: u64, most: u64, number: u64) -> Result<u64, RouteFau
 
 /// The server's name that a field is.
 pub(crate) fn node(field: &[u8]) -> Result<NodeId, RouteFault>
-    ensures { result ≡ node_of field.now }
+    ensures means { result ≡ node_of field.now }
+    ensures same { IfOk result (λ node. node ≡ field.now) }
 {
     match NodeId::read(field) {
         Ok(node) => Ok(node),
@@ -67,7 +68,8 @@ impl Digits {
     /// The same, where each is in its range; that of the frame's number begins with `least`.
     #[tactic(auto, unfolding(crate::specs::CommonFields::numbers_in_range))]
     pub(crate) fn in_range(self, least: u64) -> Result<Numbers, RouteFault>
-        ensures { result ≡ numbers_in_range least self }
+        ensures means { result ≡ numbers_in_range least self }
+        ensures same { IfOk result (λ numbers. numbers ≡ record { inc = self.inc; to_inc = self.to_inc; number = self.number }) }
     {
         let inc = Incarnation::new(self.inc).ok_or(RouteFault::BadNumber)?;
         let to_inc = Incarnation::new(self.to_inc).ok_or(RouteFault::BadNumber)?;

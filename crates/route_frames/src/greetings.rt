@@ -1,6 +1,6 @@
 //! Reading the texts of `INFO` and `CONNECT`.
 
-ghost use Rattle.std.specs.Prelude.{◌≡◌};
+ghost use Rattle.std.specs.Prelude.{◌≡◌, true};
 ghost use Rattle.std.specs.Option.{ok_or};
 ghost use Rattle.serde_json.specs.View.{view};
 ghost use Rattle.route_frames.specs.Meaning.{Means, MeansBy};
@@ -27,7 +27,7 @@ pub(crate) enum Whole {
 
 /// The JSON that a text is.
 fn read_json(alloc: Global, text: &[u8]) -> Result<Value, Failure<RouteFault>>
-    ensures { MeansBy view (ok_or (json_of text.now) BadArgs) result }
+    ensures { MeansBy view true (ok_or (json_of text.now) BadArgs) result }
 {
     match Value::from_slice(alloc, text) {
         Ok(value) => Ok(value),
@@ -43,7 +43,7 @@ fn read_json(alloc: Global, text: &[u8]) -> Result<Value, Failure<RouteFault>>
 /// The JSON object that a text is.
 #[tactic(auto, unfolding(crate::specs::Greetings::object_of))]
 fn read_object(alloc: Global, text: &[u8]) -> Result<Value, Failure<RouteFault>>
-    ensures { MeansBy view (object_of text.now) result }
+    ensures { MeansBy view true (object_of text.now) result }
 {
     let value = read_json(alloc, text)?;
     if value.is_object() {
@@ -167,7 +167,7 @@ fn connect_from(object: &Value) -> Result<RouteConnect, RouteFault>
 
 /// What stands behind `INFO`.
 pub(crate) fn read_info(alloc: Global, text: &[u8]) -> Result<RouteInfo, Failure<RouteFault>>
-    ensures { Means (info_of text.now) result }
+    ensures { Means true (info_of text.now) result }
 {
     let object = read_object(alloc, text)?;
     let info = info_from(&object)?;
@@ -176,7 +176,7 @@ pub(crate) fn read_info(alloc: Global, text: &[u8]) -> Result<RouteInfo, Failure
 
 /// What stands behind `CONNECT`.
 pub(crate) fn read_connect(alloc: Global, text: &[u8]) -> Result<RouteConnect, Failure<RouteFault>>
-    ensures { Means (connect_text_of text.now) result }
+    ensures { Means true (connect_text_of text.now) result }
 {
     let object = read_object(alloc, text)?;
     let connect = connect_from(&object)?;

@@ -1,7 +1,7 @@
 //! Laws of the definitions, each the contract of a call that does nothing.
 
 ghost use Rattle.route_frames.specs.CutAgain.{AreLines, ArePayloads, IsCutAgain, IsPayloadCutAgain};
-ghost use Rattle.route_frames.specs.InStream.{AreCutInAnyFeeds, AreFramesInPieces, AreReadInAnyFeeds};
+ghost use Rattle.route_frames.specs.InStream.{AreReadInAnyParts};
 ghost use Rattle.route_frames.specs.ReadAgain.{IsAnnouncedAgain, IsReadAgain, CanonicalIsSpelt, BeginsNoOther};
 ghost use Rattle.route_frames.specs.Readings.{SpeltIsRead, ReadIsSpelt, AnnouncedIsTold, ToldIsAnnounced, SpellsOneFrame, AnnouncesOneSize};
 
@@ -35,13 +35,10 @@ pub fn spelt_is_what_is_read()
     ensures one_size { AnnouncesOneSize }
 {}
 
-/// Frames that are written one behind the other are read from a stream as these frames, however its
-/// bytes are cut into feeds: each line and each payload is a piece of the stream, these pieces mean the
-/// frames, and then the cutter goes on with whatever follows, as it began.
-pub fn written_is_read_in_any_feeds()
-    ensures pieces { AreCutInAnyFeeds }
-    ensures meaning { AreFramesInPieces }
-    ensures frames { AreReadInAnyFeeds }
+/// Frames that are written one behind the other are read from a stream as these frames, in whatever
+/// parts its bytes come, and then whatever follows them is read.
+pub fn written_is_read_in_any_parts()
+    ensures { AreReadInAnyParts }
 {
     canonical_is_read_again();
 }

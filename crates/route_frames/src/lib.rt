@@ -10,17 +10,19 @@ mod greetings;
 mod laws;
 mod line_reading;
 mod lines;
+mod names;
 mod operation;
 mod reading;
 mod snapshot_reading;
+mod texts;
 
 pub use encoding::encode;
 pub use faults::RouteFault;
 pub use laws::{
     canonical_is_read_again, spelling_begins_no_other, spelt_is_what_is_read,
-    written_is_read_in_any_feeds,
+    written_is_read_in_any_parts,
 };
-pub use lines::{NumberedLine, RouteLine};
+pub use lines::{NumberedLine, RouteLine, Unjoined};
 pub use reading::{decode, payload_size};
 pub use route_values::{
     Body, Numbered, RouteConnect, RouteFrame, RouteInfo, SnapshotKeys, WeightedKey,

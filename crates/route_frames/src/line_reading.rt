@@ -1,23 +1,24 @@
-//! Reading the lines of numbered frames.
+//! Judging the lines of numbered frames, without memory.
 
 ghost use Rattle.std.specs.Prelude.{◌≡◌};
-ghost use Rattle.std.specs.Option.{option_copied};
-ghost use Rattle.line_fields.specs.Fields.{fields, texts};
-ghost use Rattle.route_frames.specs.Meaning.{Means, MeansBy};
+ghost use Rattle.std.specs.List.{list_all};
+ghost use Rattle.subj.specs.QueueNames.{is_before_first as before_first, are_rising as rising};
+ghost use Rattle.route_values.specs.Snapshots.{weighted_key};
+ghost use Rattle.std.specs.Option.{option_copied, ok_or};
+ghost use Rattle.line_fields.specs.Fields.{fields};
+ghost use Rattle.route_frames.specs.declared.faults.RouteFault.TheVariants.{BadArgs};
+ghost use Rattle.route_frames.specs.Meaning.{Says, Checks};
 ghost use Rattle.route_frames.specs.CommonViews.{common_view};
-ghost use Rattle.route_frames.specs.NumberedLines.{account_of, pattern_of, subject_of, queue_of, optional as optionally, key_of, are_names, queue_names_in, weight_digits, plus_line, minus_line, snapshot_line, message_line, message_fields_in};
-ghost use Rattle.route_frames.specs.FormViews.{message_view};
+ghost use Rattle.route_frames.specs.NumberedLines.{account_of, pattern_of, subject_of, queue_of, optional as optionally, key_of, are_names, queue_names_in, is_queue_name, weight_digits, plus_line, minus_line, snapshot_line, message_line, message_fields_in};
+ghost use Rattle.route_frames.specs.FormViews.{names_view, message_view};
+ghost use Rattle.route_frames.specs.TextViews.{key_view, weighted_view, numbered_view};
 
 use crate::arguments::{MessageFields, MinusFields, PlusFields, size_alone};
 use crate::common::{ACCOUNT, Common, node, spelt_number, within};
 use crate::faults::RouteFault;
-use crate::lines::{LineBody, NumberedLine};
-use route_values::WeightedKey;
-use std::alloc::Global;
-use subj::{
-    Failure, Key, MAX_PAYLOAD, MAX_QUEUE_NAMES, MAX_SNAPSHOT, MAX_WEIGHT, Pattern, QueueName,
-    QueueNames, Reply, Subject,
-};
+use crate::names::Names;
+use crate::texts::{BodyText, KeyText, NumberedText, WeightedText};
+use subj::{MAX_PAYLOAD, MAX_QUEUE_NAMES, MAX_SNAPSHOT, MAX_WEIGHT, Pattern, QueueName, Subject};
 
 /// The most digits of a weight. (Profile.)
 pub(crate) const WEIGHT_DIGITS: usize = 5;
@@ -35,68 +36,65 @@ fn account(field: &[u8]) -> Result<(), RouteFault>
     }
 }
 
-fn pattern(alloc: Global, field: &[u8]) -> Result<Pattern, Failure<RouteFault>>
-    ensures { Means (pattern_of field.now) result }
+fn check_pattern(field: &[u8]) -> Result<(), RouteFault>
+    ensures { Checks field.now (pattern_of field.now) result }
 {
-    match Pattern::read(alloc, field) {
-        Ok(pattern) => Ok(pattern),
-        Err(Failure::Refused(_)) => Err(Failure::Refused(RouteFault::BadArgs)),
-        Err(Failure::OutOfMemory) => Err(Failure::OutOfMemory),
+    if Pattern::fault(field).is_some() {
+        return Err(RouteFault::BadArgs);
     }
+    Ok(())
 }
 
-fn subject(alloc: Global, field: &[u8]) -> Result<Subject, Failure<RouteFault>>
-    ensures { Means (subject_of field.now) result }
+fn check_subject(field: &[u8]) -> Result<(), RouteFault>
+    ensures { Checks field.now (subject_of field.now) result }
 {
-    match Subject::read(alloc, field) {
-        Ok(subject) => Ok(subject),
-        Err(Failure::Refused(_)) => Err(Failure::Refused(RouteFault::BadArgs)),
-        Err(Failure::OutOfMemory) => Err(Failure::OutOfMemory),
+    if Subject::fault(field).is_some() {
+        return Err(RouteFault::BadArgs);
     }
+    Ok(())
 }
 
-fn queue(alloc: Global, field: &[u8]) -> Result<QueueName, Failure<RouteFault>>
-    ensures { Means (queue_of field.now) result }
-{
-    match QueueName::read(alloc, field) {
-        Ok(queue) => Ok(queue),
-        Err(Failure::Refused(_)) => Err(Failure::Refused(RouteFault::BadArgs)),
-        Err(Failure::OutOfMemory) => Err(Failure::OutOfMemory),
-    }
-}
-
-fn optional_queue(
-    alloc: Global,
-    field: Option<&[u8]>,
-) -> Result<Option<QueueName>, Failure<RouteFault>>
-    ensures { Means (optionally queue_of (option_copied field.entry)) result }
+fn check_queue(field: Option<&[u8]>) -> Result<(), RouteFault>
+    ensures { Checks (option_copied field.entry) (optionally queue_of (option_copied field.entry)) result }
 {
     match field {
-        None => Ok(None),
-        Some(field) => Ok(Some(queue(alloc, field)?)),
+        Some(field) if QueueName::fault(field).is_some() => Err(RouteFault::BadArgs),
+        _ => Ok(()),
     }
 }
 
-fn optional_reply(alloc: Global, field: Option<&[u8]>) -> Result<Option<Reply>, Failure<RouteFault>>
-    ensures { Means (optionally subject_of (option_copied field.entry)) result }
+fn check_reply(field: Option<&[u8]>) -> Result<(), RouteFault>
+    ensures { Checks (option_copied field.entry) (optionally subject_of (option_copied field.entry)) result }
 {
-    match field {
-        None => Ok(None),
-        Some(field) => Ok(Some(subject(alloc, field)?)),
-    }
+    let Some(field) = field else {
+        return Ok(());
+    };
+    check_subject(field)
 }
 
+/// The key of a pattern and a queue name.
 #[tactic(auto, unfolding(crate::specs::NumberedLines::key_of))]
-pub(crate) fn key(
-    alloc: Global,
-    field: &[u8],
-    queue: Option<&[u8]>,
-) -> Result<Key, Failure<RouteFault>>
-    ensures { Means (key_of field.now (option_copied queue.entry)) result }
+pub(crate) fn key<'a>(pattern: &'a [u8], queue: Option<&'a [u8]>) -> Result<KeyText<'a>, RouteFault>
+    ensures { Says key_view (key_of pattern.now (option_copied queue.entry)) result }
 {
-    let pattern = pattern(alloc, field)?;
-    let queue = optional_queue(alloc, queue)?;
-    Ok(Key { pattern, queue })
+    check_pattern(pattern)?;
+    check_queue(queue)?;
+    Ok(KeyText { pattern, queue })
+}
+
+/// A key with its weight.
+pub(crate) fn weighted(key: KeyText<'_>, weight: u64) -> Result<WeightedText<'_>, RouteFault>
+    ensures { Says weighted_view (ok_or (weighted_key (key_view key.entry) weight) BadArgs) result }
+{
+    let weighs = match key.queue {
+        None => weight == 1,
+        Some(_) => 1 <= weight && weight <= MAX_WEIGHT,
+    };
+    if weighs {
+        Ok(WeightedText { key, weight })
+    } else {
+        Err(RouteFault::BadArgs)
+    }
 }
 
 fn weight(field: Option<&[u8]>) -> Result<u64, RouteFault>
@@ -110,135 +108,164 @@ fn weight(field: Option<&[u8]>) -> Result<u64, RouteFault>
 
 /// `RS+`, behind the common fields.
 #[tactic(auto, unfolding(crate::specs::NumberedLines::plus_line))]
-pub(crate) fn read_plus(
-    alloc: Global,
-    common: Common<'_>,
-    text: &[u8],
-) -> Result<NumberedLine, Failure<RouteFault>>
-    ensures { Means (plus_line (common_view common.entry) (fields text.now)) result }
+pub(crate) fn read_plus<'a>(
+    common: Common<'a>,
+    text: &'a [u8],
+) -> Result<NumberedText<'a>, RouteFault>
+    ensures { Says numbered_view (plus_line (common_view common.entry) (fields text.now)) result }
 {
     let fields = PlusFields::read(text).ok_or(RouteFault::BadArgs)?;
     let digits = common.digits()?;
     let weight = weight(fields.weight)?;
-    let numbers = digits.in_range(1)?;
+    let _numbers = digits.in_range(1)?;
     let weight = within(1, MAX_WEIGHT, weight)?;
     account(fields.account)?;
-    let from = node(common.from)?;
-    let to = node(common.to)?;
-    let key = key(alloc, fields.pattern, fields.queue)?;
-    let weighted = WeightedKey::new(key, weight).ok_or(RouteFault::BadArgs)?;
-    Ok(NumberedLine {
-        from,
-        to,
-        numbers,
-        body: LineBody::Plus(weighted),
+    let _from = node(common.from)?;
+    let _to = node(common.to)?;
+    let key = key(fields.pattern, fields.queue)?;
+    let weighted = weighted(key, weight)?;
+    Ok(NumberedText {
+        from: common.from,
+        to: common.to,
+        numbers: digits,
+        body: BodyText::Plus(weighted),
     })
 }
 
 /// `RS-`, behind the common fields.
 #[tactic(auto, unfolding(crate::specs::NumberedLines::minus_line))]
-pub(crate) fn read_minus(
-    alloc: Global,
-    common: Common<'_>,
-    text: &[u8],
-) -> Result<NumberedLine, Failure<RouteFault>>
-    ensures { Means (minus_line (common_view common.entry) (fields text.now)) result }
+pub(crate) fn read_minus<'a>(
+    common: Common<'a>,
+    text: &'a [u8],
+) -> Result<NumberedText<'a>, RouteFault>
+    ensures { Says numbered_view (minus_line (common_view common.entry) (fields text.now)) result }
 {
     let fields = MinusFields::read(text).ok_or(RouteFault::BadArgs)?;
     let digits = common.digits()?;
-    let numbers = digits.in_range(1)?;
+    let _numbers = digits.in_range(1)?;
     account(fields.account)?;
-    let from = node(common.from)?;
-    let to = node(common.to)?;
-    let key = key(alloc, fields.pattern, fields.queue)?;
-    Ok(NumberedLine {
-        from,
-        to,
-        numbers,
-        body: LineBody::Minus(key),
+    let _from = node(common.from)?;
+    let _to = node(common.to)?;
+    let key = key(fields.pattern, fields.queue)?;
+    Ok(NumberedText {
+        from: common.from,
+        to: common.to,
+        numbers: digits,
+        body: BodyText::Minus(key),
     })
 }
 
 /// `RSS`, behind the common fields.
 #[tactic(auto, unfolding(crate::specs::NumberedLines::snapshot_line))]
-pub(crate) fn read_snapshot(common: Common<'_>, text: &[u8]) -> Result<NumberedLine, RouteFault>
-    ensures { result ≡ snapshot_line (common_view common.entry) (fields text.now) }
+pub(crate) fn read_snapshot<'a>(
+    common: Common<'a>,
+    text: &'a [u8],
+) -> Result<NumberedText<'a>, RouteFault>
+    ensures { Says numbered_view (snapshot_line (common_view common.entry) (fields text.now)) result }
 {
     let field = size_alone(text).ok_or(RouteFault::BadArgs)?;
     let digits = common.digits()?;
     let size = spelt_number(field, SIZE_DIGITS)?;
-    let numbers = digits.in_range(0)?;
+    let _numbers = digits.in_range(0)?;
     let size = within(0, MAX_SNAPSHOT as u64, size)?;
-    let from = node(common.from)?;
-    let to = node(common.to)?;
-    Ok(NumberedLine {
-        from,
-        to,
-        numbers,
-        body: LineBody::Snapshot(size),
+    let _from = node(common.from)?;
+    let _to = node(common.to)?;
+    Ok(NumberedText {
+        from: common.from,
+        to: common.to,
+        numbers: digits,
+        body: BodyText::Snapshot(size),
     })
 }
 
-/// The queue names that fields are.
-fn names(alloc: Global, fields: &[&[u8]]) -> Result<Vec<QueueName>, Failure<RouteFault>>
-    ensures { MeansBy (λ names. names.items) (are_names (texts fields.now)) result }
+/// Whether each is a queue name.
+fn are_queue_names(names: Names<'_>) -> bool
+    ensures { result ≡ list_all is_queue_name (names_view names.entry) }
 {
-    let mut names = Vec::with_capacity(alloc, fields.len())?;
-    for &field in fields {
-        names.push(queue(alloc, field)?)?;
+    let mut names = names;
+    while let Some((name, others)) = names.split_first() {
+        if QueueName::fault(name).is_some() {
+            return false;
+        }
+        names = others;
     }
-    Ok(names)
+    true
 }
 
-#[tactic(auto, unfolding(crate::specs::NumberedLines::queue_names_in))]
-fn queue_names(alloc: Global, fields: &[&[u8]]) -> Result<QueueNames, Failure<RouteFault>>
-    ensures { Means (queue_names_in (texts fields.now)) result }
+/// Whether the name stands before the first of the others.
+fn is_before_first(name: &[u8], others: Names<'_>) -> bool
+    ensures { result ≡ before_first name.now (names_view others.entry) }
 {
-    let names = names(alloc, fields)?;
-    let names = QueueNames::from_names(names).ok_or(RouteFault::BadArgs)?;
-    Ok(names)
+    match others.split_first() {
+        None => true,
+        Some((other, _)) => name.cmp(other).is_lt(),
+    }
+}
+
+/// Whether they stand in strictly rising order.
+fn are_rising(names: Names<'_>) -> bool
+    ensures { result ≡ rising (names_view names.entry) }
+{
+    let mut names = names;
+    while let Some((name, others)) = names.split_first() {
+        if !is_before_first(name, others) {
+            return false;
+        }
+        names = others;
+    }
+    true
+}
+
+#[tactic(auto, using(crate::proofs::QueueNames::names_read))]
+fn check_names(names: Names<'_>) -> Result<(), RouteFault>
+    ensures { Checks (names_view names.entry) (queue_names_in (names_view names.entry)) result }
+{
+    if names.len() as u64 <= MAX_QUEUE_NAMES && are_queue_names(names) && are_rising(names) {
+        Ok(())
+    } else {
+        Err(RouteFault::BadArgs)
+    }
 }
 
 /// The fields behind `RMSG` and the common fields, of which not too many are queue names.
 #[tactic(auto, unfolding(crate::specs::NumberedLines::message_fields_in))]
-fn message_fields(alloc: Global, text: &[u8]) -> Result<MessageFields<'_>, Failure<RouteFault>>
-    ensures { MeansBy message_view (message_fields_in (fields text.now)) result }
+fn message_fields(text: &[u8]) -> Result<MessageFields<'_>, RouteFault>
+    ensures { Says message_view (message_fields_in (fields text.now)) result }
 {
-    let message = MessageFields::read(alloc, text)?.ok_or(RouteFault::BadArgs)?;
+    let message = MessageFields::read(text).ok_or(RouteFault::BadArgs)?;
     if message.form.names.len() as u64 > MAX_QUEUE_NAMES {
-        return Err(Failure::Refused(RouteFault::TooManyQueues));
+        return Err(RouteFault::TooManyQueues);
     }
     Ok(message)
 }
 
 /// `RMSG`, behind the common fields.
 #[tactic(auto, unfolding(crate::specs::NumberedLines::message_line))]
-pub(crate) fn read_message(
-    alloc: Global,
-    common: Common<'_>,
-    text: &[u8],
-) -> Result<NumberedLine, Failure<RouteFault>>
-    ensures { Means (message_line (common_view common.entry) (fields text.now)) result }
+pub(crate) fn read_message<'a>(
+    common: Common<'a>,
+    text: &'a [u8],
+) -> Result<NumberedText<'a>, RouteFault>
+    ensures { Says numbered_view (message_line (common_view common.entry) (fields text.now)) result }
 {
-    let message = message_fields(alloc, text)?;
+    let message = message_fields(text)?;
     let digits = common.digits()?;
     let size = spelt_number(message.form.size, SIZE_DIGITS)?;
-    let numbers = digits.in_range(1)?;
+    let _numbers = digits.in_range(1)?;
     let size = within(0, MAX_PAYLOAD as u64, size)?;
     account(message.account)?;
-    let from = node(common.from)?;
-    let to = node(common.to)?;
-    let subject = subject(alloc, message.subject)?;
-    let reply = optional_reply(alloc, message.form.reply)?;
-    let queues = queue_names(alloc, &message.form.names)?;
-    Ok(NumberedLine {
-        from,
-        to,
-        numbers,
-        body: LineBody::Msg {
-            subject,
-            reply,
-            queues,
+    let _from = node(common.from)?;
+    let _to = node(common.to)?;
+    check_subject(message.subject)?;
+    check_reply(message.form.reply)?;
+    check_names(message.form.names)?;
+    Ok(NumberedText {
+        from: common.from,
+        to: common.to,
+        numbers: digits,
+        body: BodyText::Msg {
+            subject: message.subject,
+            reply: message.form.reply,
+            names: message.form.names,
             size,
         },
     })

@@ -4,6 +4,8 @@ ghost use Rattle.std.specs.Prelude.{◌≡◌};
 ghost use Rattle.route_frames.specs.Announced.{announced_size};
 
 use crate::common::Numbers;
+use crate::faults::RouteFault;
+use bytes::Bytes;
 use route_values::{RouteConnect, RouteInfo, WeightedKey};
 use subj::{Key, NodeId, QueueNames, Reply, Subject};
 
@@ -42,6 +44,27 @@ pub enum RouteLine {
     Connect(RouteConnect),
     /// The line of any other frame.
     Numbered(NumberedLine),
+}
+
+/// Why a line and its payload were joined to no frame.
+#[derive(Debug, Drop)]
+pub enum Unjoined {
+    /// The payload is not what the line announces.
+    Refused(RouteFault),
+    /// The allocator gave no memory for the keys of a snapshot. Both are here as they were, so that
+    /// they can be joined later.
+    OutOfMemory { line: RouteLine, payload: Bytes },
+}
+
+impl From<RouteFault> for Unjoined {
+    ghost use Rattle.std.specs.Prelude.{◌≡◌};
+    ghost use Rattle.route_frames.specs.declared.lines.Unjoined.TheVariants.{Refused};
+
+    ghost from_gives = { λ fault unjoined. unjoined ≡ Refused fault };
+
+    fn from(fault: RouteFault) -> Unjoined {
+        Unjoined::Refused(fault)
+    }
 }
 
 impl RouteLine {

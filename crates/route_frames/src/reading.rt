@@ -1,74 +1,75 @@
 //! Reading the frames of a route.
 
-ghost use Rattle.std.specs.Prelude.{◌≡◌, ℕ, List, Ok};
+ghost use Rattle.std.specs.Prelude.{◌≡◌, ℕ, true, List, Ok, is_ok};
 ghost use Rattle.line_fields.specs.Fields.{fields};
 ghost use Rattle.route_frames.specs.declared.operation.Operation.TheVariants as operation;
-ghost use Rattle.route_frames.specs.Meaning.{Means};
-ghost use Rattle.route_frames.specs.Decoding.{size_meaning, sized, body_meaning, numbered_meaning, joined, frame_meaning};
+ghost use Rattle.route_frames.specs.declared.lines.RouteLine.TheVariants as route_line;
+ghost use Rattle.route_frames.specs.Meaning.{Means, MeansBy, Says};
+ghost use Rattle.route_frames.specs.TextViews.{body_view, numbered_view, joined_text, Judges};
+ghost use Rattle.route_frames.specs.Announced.{body_size};
+ghost use Rattle.route_frames.specs.Operations.{is_json_line};
+ghost use Rattle.route_frames.specs.Decoding.{size_meaning, sized, framed as framed_by, frame_behind, joined, is_snapshot_body, frame_meaning, takes_memory, JoinsBy, Joins, failure_of};
 ghost use Rattle.route_frames.specs.NumberedLines.{plus_line, minus_line, snapshot_line, message_line};
 ghost use Rattle.route_frames.specs.Lines.{numbered, line_meaning};
 ghost use Rattle.route_frames.specs.Refusals.{IsSizeOf, IsReadOf, IsFrameOf};
 
-use crate::common::Common;
+use crate::common::{Common, Numbers};
 use crate::faults::RouteFault;
-use crate::greetings::{read_connect, read_info};
 use crate::line_reading::{read_message, read_minus, read_plus, read_snapshot};
-use crate::lines::{LineBody, NumberedLine, RouteLine};
+use crate::lines::{LineBody, NumberedLine, RouteLine, Unjoined};
 use crate::operation::Operation;
 use crate::snapshot_reading::read_snapshot_keys;
+use crate::texts::{LineText, NumberedText};
 use bytes::Bytes;
 use line_fields::split_line;
 use route_values::{Body, Numbered, RouteFrame};
 use std::alloc::Global;
-use subj::{Failure, Message};
+use subj::{Failure, Message, NodeId};
 
-fn plus(alloc: Global, text: &[u8]) -> Result<RouteLine, Failure<RouteFault>>
-    ensures { Means (numbered plus_line (fields text.now)) result }
+fn plus(text: &[u8]) -> Result<NumberedText<'_>, RouteFault>
+    ensures { Says (λ line. route_line.Numbered (numbered_view line)) (numbered plus_line (fields text.now)) result }
 {
     let (common, behind) = Common::read(text).ok_or(RouteFault::BadArgs)?;
-    let line = read_plus(alloc, common, behind)?;
-    Ok(RouteLine::Numbered(line))
+    read_plus(common, behind)
 }
 
-fn minus(alloc: Global, text: &[u8]) -> Result<RouteLine, Failure<RouteFault>>
-    ensures { Means (numbered minus_line (fields text.now)) result }
+fn minus(text: &[u8]) -> Result<NumberedText<'_>, RouteFault>
+    ensures { Says (λ line. route_line.Numbered (numbered_view line)) (numbered minus_line (fields text.now)) result }
 {
     let (common, behind) = Common::read(text).ok_or(RouteFault::BadArgs)?;
-    let line = read_minus(alloc, common, behind)?;
-    Ok(RouteLine::Numbered(line))
+    read_minus(common, behind)
 }
 
-fn snapshot(text: &[u8]) -> Result<RouteLine, Failure<RouteFault>>
-    ensures { Means (numbered snapshot_line (fields text.now)) result }
+fn snapshot(text: &[u8]) -> Result<NumberedText<'_>, RouteFault>
+    ensures { Says (λ line. route_line.Numbered (numbered_view line)) (numbered snapshot_line (fields text.now)) result }
 {
     let (common, behind) = Common::read(text).ok_or(RouteFault::BadArgs)?;
-    let line = read_snapshot(common, behind)?;
-    Ok(RouteLine::Numbered(line))
+    read_snapshot(common, behind)
 }
 
-fn message(alloc: Global, text: &[u8]) -> Result<RouteLine, Failure<RouteFault>>
-    ensures { Means (numbered message_line (fields text.now)) result }
+fn message(text: &[u8]) -> Result<NumberedText<'_>, RouteFault>
+    ensures { Says (λ line. route_line.Numbered (numbered_view line)) (numbered message_line (fields text.now)) result }
 {
     let (common, behind) = Common::read(text).ok_or(RouteFault::BadArgs)?;
-    let line = read_message(alloc, common, behind)?;
-    Ok(RouteLine::Numbered(line))
+    read_message(common, behind)
 }
 
+/// What a line says, as it stands there.
 #[tactic(auto, using(crate::proofs::Behind::behind_first))]
-fn read_line(alloc: Global, line: &[u8]) -> Result<RouteLine, Failure<RouteFault>>
-    ensures { Means (line_meaning line.now) result }
+fn read_text(line: &[u8]) -> Result<LineText<'_>, RouteFault>
+    ensures { Judges line.now result }
 {
     let Some((field, text)) = split_line(line) else {
-        return Err(Failure::Refused(RouteFault::UnknownOp));
+        return Err(RouteFault::UnknownOp);
     };
     match Operation::read(field) {
-        None => Err(Failure::Refused(RouteFault::UnknownOp)),
-        Some(Operation::Info) => Ok(RouteLine::Info(read_info(alloc, text)?)),
-        Some(Operation::Connect) => Ok(RouteLine::Connect(read_connect(alloc, text)?)),
-        Some(Operation::Plus) => plus(alloc, text),
-        Some(Operation::Minus) => minus(alloc, text),
-        Some(Operation::Snapshot) => snapshot(text),
-        Some(Operation::Msg) => message(alloc, text),
+        None => Err(RouteFault::UnknownOp),
+        Some(Operation::Info) => Ok(LineText::Info(text)),
+        Some(Operation::Connect) => Ok(LineText::Connect(text)),
+        Some(Operation::Plus) => Ok(LineText::Numbered(plus(text)?)),
+        Some(Operation::Minus) => Ok(LineText::Numbered(minus(text)?)),
+        Some(Operation::Snapshot) => Ok(LineText::Numbered(snapshot(text)?)),
+        Some(Operation::Msg) => Ok(LineText::Numbered(message(text)?)),
     }
 }
 
@@ -87,32 +88,17 @@ fn check_size(size: Option<u64>, payload: &[u8]) -> Result<(), RouteFault>
     }
 }
 
-fn read_body(alloc: Global, body: LineBody, payload: Bytes) -> Result<Body, Failure<RouteFault>>
-    ensures { Means (body_meaning body payload) result }
+/// The frame of a line and what it says, with what the payload says.
+fn framed(from: NodeId, to: NodeId, numbers: Numbers, body: Body) -> Result<RouteFrame, RouteFault>
+    ensures { result ≡ framed_by from to numbers body }
 {
-    match body {
-        LineBody::Plus(key) => Ok(Body::Plus(key)),
-        LineBody::Minus(key) => Ok(Body::Minus(key)),
-        LineBody::Snapshot(_) => Ok(Body::Snapshot(read_snapshot_keys(alloc, payload.as_slice())?)),
-        LineBody::Msg {
-            subject,
-            reply,
-            queues,
-            ..
-        } => {
-            let message = Message::new(subject, reply, payload).ok_or(RouteFault::BadArgs)?;
-            Ok(Body::Msg { message, queues })
-        }
-    }
+    let frame = Numbered::new(from, numbers.inc, to, numbers.to_inc, numbers.number, body);
+    Ok(RouteFrame::Numbered(frame.ok_or(RouteFault::BadArgs)?))
 }
 
 #[tactic(auto, unfolding(crate::specs::Decoding::numbered_meaning))]
-fn read_numbered(
-    alloc: Global,
-    line: NumberedLine,
-    payload: Bytes,
-) -> Result<Numbered, Failure<RouteFault>>
-    ensures { Means (numbered_meaning line payload) result }
+fn join_numbered(alloc: Global, line: NumberedLine, payload: Bytes) -> Result<RouteFrame, Unjoined>
+    ensures { JoinsBy (is_snapshot_body line.body) (frame_behind (route_line.Numbered line) payload) (route_line.Numbered line) payload result }
 {
     let NumberedLine {
         from,
@@ -120,23 +106,108 @@ fn read_numbered(
         numbers,
         body,
     } = line;
-    let body = read_body(alloc, body, payload)?;
-    let frame = Numbered::new(from, numbers.inc, to, numbers.to_inc, numbers.number, body);
-    let frame = frame.ok_or(RouteFault::BadArgs)?;
-    Ok(frame)
+    let body = match body {
+        LineBody::Plus(key) => Body::Plus(key),
+        LineBody::Minus(key) => Body::Minus(key),
+        LineBody::Snapshot(size) => match read_snapshot_keys(alloc, payload.as_slice()) {
+            Ok(keys) => Body::Snapshot(keys),
+            Err(Failure::Refused(fault)) => return Err(Unjoined::Refused(fault)),
+            Err(Failure::OutOfMemory) => {
+                let body = LineBody::Snapshot(size);
+                let line = RouteLine::Numbered(NumberedLine {
+                    from,
+                    to,
+                    numbers,
+                    body,
+                });
+                return Err(Unjoined::OutOfMemory { line, payload });
+            }
+        },
+        LineBody::Msg {
+            subject,
+            reply,
+            queues,
+            ..
+        } => {
+            let message = Message::new(subject, reply, payload).ok_or(RouteFault::BadArgs)?;
+            Body::Msg { message, queues }
+        }
+    };
+    Ok(framed(from, to, numbers, body)?)
 }
 
-fn join(alloc: Global, line: RouteLine, payload: Bytes) -> Result<RouteFrame, Failure<RouteFault>>
-    ensures { Means (joined line payload) result }
+fn join(alloc: Global, line: RouteLine, payload: Bytes) -> Result<RouteFrame, Unjoined>
+    ensures { Joins line payload result }
 {
-    check_size(line.payload_size(), payload.as_slice())?;
+    let size = line.payload_size();
+    check_size(size, payload.as_slice())?;
     match line {
         RouteLine::Info(info) => Ok(RouteFrame::Info(info)),
         RouteLine::Connect(connect) => Ok(RouteFrame::Connect(connect)),
-        RouteLine::Numbered(line) => {
-            let frame = read_numbered(alloc, line, payload)?;
-            Ok(RouteFrame::Numbered(frame))
-        }
+        RouteLine::Numbered(line) => join_numbered(alloc, line, payload),
+    }
+}
+
+/// A frame, or why there is none, without what was given back.
+fn told(joined: Result<RouteFrame, Unjoined>) -> Result<RouteFrame, Failure<RouteFault>>
+    ensures { result ≡ failure_of joined }
+{
+    match joined {
+        Ok(frame) => Ok(frame),
+        Err(Unjoined::Refused(fault)) => Err(Failure::Refused(fault)),
+        Err(Unjoined::OutOfMemory { .. }) => Err(Failure::OutOfMemory),
+    }
+}
+
+fn read_line(alloc: Global, line: &[u8]) -> Result<RouteLine, Failure<RouteFault>>
+    ensures { Means (is_json_line line.now) (line_meaning line.now) result }
+{
+    let text = read_text(line)?;
+    text.copy(alloc)
+}
+
+fn read_size(alloc: Global, line: &[u8]) -> Result<Option<u64>, Failure<RouteFault>>
+    ensures { Means (is_json_line line.now) (size_meaning line.now) result }
+{
+    let text = read_text(line)?;
+    text.payload_size(alloc)
+}
+
+/// The frame of a numbered line. The size of the payload is judged before the parts are copied.
+fn decode_numbered(
+    alloc: Global,
+    line: NumberedText<'_>,
+    payload: Bytes,
+) -> Result<RouteFrame, Failure<RouteFault>>
+    ensures { MeansBy (λ frame. frame) (is_ok (sized (body_size (body_view line.entry.body)) payload)) (joined (route_line.Numbered (numbered_view line.entry)) payload) result }
+{
+    check_size(line.payload_size(), payload.as_slice())?;
+    let line = RouteLine::Numbered(line.copy(alloc)?);
+    told(join(alloc, line, payload))
+}
+
+fn decode_greeting(
+    alloc: Global,
+    text: LineText<'_>,
+    payload: Bytes,
+) -> Result<RouteFrame, Failure<RouteFault>>
+    ensures { MeansBy (λ frame. frame) true (joined_text text.entry payload) result }
+{
+    let line = text.copy(alloc)?;
+    told(join(alloc, line, payload))
+}
+
+fn decode_line(
+    alloc: Global,
+    line: &[u8],
+    payload: Bytes,
+) -> Result<RouteFrame, Failure<RouteFault>>
+    ensures { Means (takes_memory line.now payload) (frame_meaning line.now payload) result }
+{
+    let text = read_text(line)?;
+    match text {
+        LineText::Numbered(line) => decode_numbered(alloc, line, payload),
+        LineText::Info(_) | LineText::Connect(_) => decode_greeting(alloc, text, payload),
     }
 }
 
@@ -152,11 +223,13 @@ impl RouteLine {
     /// `CONNECT`: `BadArgs` for a text that is no JSON object; then `BadNumber` for a number that is
     /// whole and out of its range; then `BadArgs` for a member that is missing or is of another kind, or
     /// a name that is none.
-    /// Want of memory may stand in place of any answer. (NATS documentation, "Cluster Protocol";
-    /// profile.)
+    ///
+    /// The line is judged first, and then its parts are copied: want of memory stands in place of a
+    /// refusal only behind `INFO` and `CONNECT`, whose texts can't be judged without memory. (NATS
+    /// documentation, "Cluster Protocol"; profile.)
     pub fn read(alloc: Global, line: &[u8]) -> Result<RouteLine, Failure<RouteFault>>
         ensures spelt { IsReadOf line.now result }
-        ensures means { Means (line_meaning line.now) result }
+        ensures means { Means (is_json_line line.now) (line_meaning line.now) result }
     {
         read_line(alloc, line)
     }
@@ -165,37 +238,33 @@ impl RouteLine {
     /// Where the line announces none, the payload has to be empty.
     ///
     /// Refused by `BadArgs`: for a payload of another size than announced, and for one that is not the
-    /// text of a snapshot behind `RSS`. Want of memory may stand in place of any answer. (Profile.)
-    pub fn into_frame(
-        self,
-        alloc: Global,
-        payload: Bytes,
-    ) -> Result<RouteFrame, Failure<RouteFault>>
-        ensures spelt { (line : List ℕ) → line_meaning line ≡ Ok self → IsFrameOf line payload result }
-        ensures means { Means (joined self payload) result }
+    /// text of a snapshot behind `RSS`. Want of memory comes only where a payload of the announced size
+    /// is read as a snapshot, and gives the line and the payload back. (Profile.)
+    pub fn into_frame(self, alloc: Global, payload: Bytes) -> Result<RouteFrame, Unjoined>
+        ensures spelt { (line : List ℕ) → line_meaning line ≡ Ok self → IsFrameOf line payload (failure_of result) }
+        ensures means { Joins self payload result }
     {
         join(alloc, self, payload)
     }
 }
 
 /// How many bytes of payload follow a line, where any do. Refused by what [`RouteLine::read`] tells of
-/// it. (Profile.)
+/// it; want of memory comes only behind `INFO` and `CONNECT`. (Profile.)
 pub fn payload_size(alloc: Global, line: &[u8]) -> Result<Option<u64>, Failure<RouteFault>>
     ensures spelt { IsSizeOf line.now result }
-    ensures means { Means (size_meaning line.now) result }
+    ensures means { Means (is_json_line line.now) (size_meaning line.now) result }
 {
-    let line = RouteLine::read(alloc, line)?;
-    Ok(line.payload_size())
+    read_size(alloc, line)
 }
 
 /// The frame that a line and the payload behind it spell; neither has its CR LF. Refused by what
 /// [`RouteLine::read`] tells of the line, and then by what [`RouteLine::into_frame`] tells of the
-/// payload. (NATS documentation, "Cluster Protocol"; profile.)
-#[tactic(auto, unfolding(crate::specs::Decoding::frame_meaning))]
+/// payload. Want of memory stands in place of a refusal only behind `INFO` and `CONNECT`, and where a
+/// payload of the announced size is read as a snapshot. (NATS documentation, "Cluster Protocol";
+/// profile.)
 pub fn decode(alloc: Global, line: &[u8], payload: Bytes) -> Result<RouteFrame, Failure<RouteFault>>
     ensures spelt { IsFrameOf line.now payload result }
-    ensures means { Means (frame_meaning line.now payload) result }
+    ensures means { Means (takes_memory line.now payload) (frame_meaning line.now payload) result }
 {
-    let read = RouteLine::read(alloc, line)?;
-    read.into_frame(alloc, payload)
+    decode_line(alloc, line, payload)
 }

@@ -1,13 +1,15 @@
 //! Reading the texts of snapshots.
 
-ghost use Rattle.std.specs.Prelude.{◌≡◌, ◌∷◌, [], nat_eq, position, MatchOption};
+ghost use Rattle.std.specs.Prelude.{◌≡◌, true, ◌∷◌, [], nat_eq, position, MatchOption};
 ghost use Rattle.std.specs.Option.{option_copied};
-ghost use Rattle.route_frames.specs.Meaning.{Means, MeansBy};
+ghost use Rattle.route_frames.specs.Meaning.{Means, MeansBy, Says};
+ghost use Rattle.route_frames.specs.TextViews.{weighted_view};
 ghost use Rattle.route_frames.specs.SnapshotTexts.{pieces, plain_key, queue_key, weighted_of, before_cr as before_the_cr, key_line_of, keys_in, snapshot_in};
 
 use crate::common::spelt_number;
 use crate::faults::RouteFault;
-use crate::line_reading::{WEIGHT_DIGITS, key};
+use crate::line_reading::{WEIGHT_DIGITS, key, weighted};
+use crate::texts::WeightedText;
 use route_values::{SnapshotKeys, WeightedKey};
 use std::alloc::Global;
 use subj::Failure;
@@ -32,42 +34,39 @@ fn split_at_byte(text: &[u8], byte: u8) -> Option<(&[u8], &[u8])>
 }
 
 #[tactic(auto, unfolding(crate::specs::SnapshotTexts::plain_key))]
-fn read_plain(alloc: Global, pattern: &[u8]) -> Result<WeightedKey, Failure<RouteFault>>
-    ensures { Means (plain_key pattern.now) result }
+fn plain(pattern: &[u8]) -> Result<WeightedText<'_>, RouteFault>
+    ensures { Says weighted_view (plain_key pattern.now) result }
 {
-    let key = key(alloc, pattern, None)?;
-    let weighted = WeightedKey::new(key, 1).ok_or(RouteFault::BadArgs)?;
-    Ok(weighted)
+    let key = key(pattern, None)?;
+    weighted(key, 1)
 }
 
 #[tactic(auto, unfolding(crate::specs::SnapshotTexts::queue_key))]
-fn read_queue(
-    alloc: Global,
-    pattern: &[u8],
-    queue: &[u8],
+fn with_queue<'a>(
+    pattern: &'a [u8],
+    queue: &'a [u8],
     weight: &[u8],
-) -> Result<WeightedKey, Failure<RouteFault>>
-    ensures { Means (queue_key pattern.now queue.now weight.now) result }
+) -> Result<WeightedText<'a>, RouteFault>
+    ensures { Says weighted_view (queue_key pattern.now queue.now weight.now) result }
 {
     let weight = spelt_number(weight, WEIGHT_DIGITS)?;
-    let key = key(alloc, pattern, Some(queue))?;
-    let weighted = WeightedKey::new(key, weight).ok_or(RouteFault::BadArgs)?;
-    Ok(weighted)
+    let key = key(pattern, Some(queue))?;
+    weighted(key, weight)
 }
 
 /// The key of a line without its CR LF.
-fn read_weighted(alloc: Global, line: &[u8]) -> Result<WeightedKey, Failure<RouteFault>>
-    ensures { Means (weighted_of (pieces 32 line.now)) result }
+fn read_weighted(line: &[u8]) -> Result<WeightedText<'_>, RouteFault>
+    ensures { Says weighted_view (weighted_of (pieces 32 line.now)) result }
 {
     let Some((pattern, behind)) = split_at_byte(line, b' ') else {
-        return read_plain(alloc, line);
+        return plain(line);
     };
     let Some((queue, weight)) = split_at_byte(behind, b' ') else {
-        return Err(Failure::Refused(RouteFault::BadArgs));
+        return Err(RouteFault::BadArgs);
     };
     match split_at_byte(weight, b' ') {
-        None => read_queue(alloc, pattern, queue, weight),
-        Some(_) => Err(Failure::Refused(RouteFault::BadArgs)),
+        None => with_queue(pattern, queue, weight),
+        Some(_) => Err(RouteFault::BadArgs),
     }
 }
 
@@ -85,21 +84,22 @@ fn before_cr(text: &[u8]) -> Option<&[u8]>
 
 /// The key of a line with its CR.
 #[tactic(auto, unfolding(crate::specs::SnapshotTexts::key_line_of))]
-fn read_key_line(alloc: Global, text: &[u8]) -> Result<WeightedKey, Failure<RouteFault>>
-    ensures { Means (key_line_of text.now) result }
+fn read_key_line(text: &[u8]) -> Result<WeightedText<'_>, RouteFault>
+    ensures { Says weighted_view (key_line_of text.now) result }
 {
     let line = before_cr(text).ok_or(RouteFault::BadArgs)?;
-    read_weighted(alloc, line)
+    read_weighted(line)
 }
 
 /// The keys of all lines of a text.
 fn read_keys(alloc: Global, text: &[u8]) -> Result<Vec<WeightedKey>, Failure<RouteFault>>
-    ensures { MeansBy (λ keys. keys.items) (keys_in (pieces 10 text.now)) result }
+    ensures { MeansBy (λ keys. keys.items) true (keys_in (pieces 10 text.now)) result }
 {
     let mut keys = Vec::new(alloc);
     let mut rest = text;
     while let Some((line, behind)) = split_at_byte(rest, b'\n') {
-        let key = read_key_line(alloc, line)?;
+        let read = read_key_line(line)?;
+        let key = read.copy(alloc)?;
         keys.push(key)?;
         rest = behind;
     }
@@ -115,7 +115,7 @@ pub(crate) fn read_snapshot_keys(
     alloc: Global,
     text: &[u8],
 ) -> Result<SnapshotKeys, Failure<RouteFault>>
-    ensures { Means (snapshot_in text.now) result }
+    ensures { Means true (snapshot_in text.now) result }
 {
     let keys = read_keys(alloc, text)?;
     let keys = SnapshotKeys::from_keys(keys).ok_or(RouteFault::BadArgs)?;

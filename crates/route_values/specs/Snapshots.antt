@@ -1,10 +1,12 @@
 -- Keys with their weights, and the text of a snapshot of them.
-use Rattle.std.specs.Prelude.{ℕ, Bool, true, ◌&&◌, nat_eq, nat_le, List, [], ◌∷◌, ◌++◌, length, codes, decimal, is_none, Option, Some, None, if◌then◌else◌}
+use Rattle.std.specs.Prelude.{ℕ, ◌≤◌, Bool, true, ◌&&◌, nat_eq, nat_le, List, [], ◌∷◌, ◌++◌, length, sum_by, codes, decimal, is_none, Option, Some, None, if◌then◌else◌}
 use Rattle.std.specs.List.{flat_map}
+use Rattle.std.specs.List.Sorted.{IsStrictlySortedBy}
+use Rattle.std.specs.Map.{keys_of}
 use Rattle.std.specs.Ordering.{is_lt}
-use Rattle.subj.specs.declared.limits.TheConstants.{MAX_WEIGHT, MAX_SNAPSHOT}
+use Rattle.subj.specs.declared.limits.TheConstants.{MAX_WEIGHT, MAX_KEYS, MAX_SNAPSHOT, SUBSCRIPTION_BYTES}
 use Rattle.subj.specs.declared.keys.Key.{Key}
-use Rattle.subj.specs.Keys.{key_cmp}
+use Rattle.subj.specs.Keys.{key_cmp, cost_of}
 
 abbrev pub Weighted : Type 0
 Weighted = Key × ℕ
@@ -47,3 +49,13 @@ are_snapshot_keys keys = is_short keys && are_rising keys
 
 abbrev pub snapshot_of : List Weighted → Option (List Weighted)
 snapshot_of keys = if are_snapshot_keys keys then Some keys else None
+
+-- profile: what keys count together towards the limit of bytes
+abbrev pub total_cost : List Weighted → ℕ
+total_cost keys = sum_by (λ entry. cost_of entry.0) keys
+
+-- profile: keys such as a server may have interest in: in strictly rising order, and within the limits of keys and bytes
+pub record IsKept (keys : List Weighted) : Type 0 where
+  pub rising : IsStrictlySortedBy key_cmp (keys_of keys)
+  pub few : length keys ≤ MAX_KEYS
+  pub small : total_cost keys ≤ SUBSCRIPTION_BYTES

@@ -33,8 +33,8 @@ impl Body {
             Body::Minus(key) => Ok(Body::Minus(key.try_clone(alloc)?)),
             Body::Snapshot(keys) => Ok(Body::Snapshot(keys.try_clone(alloc)?)),
             Body::Msg { message, queues } => {
-                let message = message.try_clone(alloc)?;
-                let queues = queues.try_clone(alloc)?;
+                let message = message.try_clone()?;
+                let queues = queues.try_clone()?;
                 Ok(Body::Msg { message, queues })
             }
         }

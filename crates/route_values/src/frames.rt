@@ -144,3 +144,16 @@ pub enum RouteFrame {
     /// Any frame behind these.
     Numbered(Numbered),
 }
+
+impl RouteFrame {
+    /// A copy that shares the payload.
+    pub fn try_clone(&self, alloc: Global) -> Result<RouteFrame, AllocError>
+        ensures { IfOk result (λ copy. copy ≡ self.now) }
+    {
+        match self {
+            RouteFrame::Info(info) => Ok(RouteFrame::Info(*info)),
+            RouteFrame::Connect(connect) => Ok(RouteFrame::Connect(*connect)),
+            RouteFrame::Numbered(frame) => Ok(RouteFrame::Numbered(frame.try_clone(alloc)?)),
+        }
+    }
+}

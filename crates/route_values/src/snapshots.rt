@@ -1,8 +1,10 @@
 //! Keys with their weights, and the keys of a snapshot.
 
-ghost use Rattle.std.specs.Prelude.{◌≡◌, ◌^◌, ◌<◌, true, [], length, IfOk};
+ghost use Rattle.std.specs.Prelude.{◌≡◌, ◌+◌, ◌^◌, ◌<◌, ◌≤◌, ◌++◌, true, [], length, Some, IfOk, IsOk, is_ok, vec_len, vec_capacity, if◌then◌else◌};
+ghost use Rattle.subj.specs.Keys.{cost_of, queue_bytes};
+ghost use Rattle.subj.specs.declared.limits.TheConstants.{SUBSCRIPTION_BYTES};
 ghost use Rattle.route_values.specs.ValidKeys.{IsKey, IsWeighted, AreWeighted, AreSnapshotKeys};
-ghost use Rattle.route_values.specs.Snapshots.{is_weight as weighs, weighted_key, queue_fields, key_line, is_before_first as before_first, are_rising as rising, is_short as short, are_snapshot_keys, snapshot_of};
+ghost use Rattle.route_values.specs.Snapshots.{is_weight as weighs, weighted_key, queue_fields, key_line, is_before_first as before_first, are_rising as rising, is_short as short, are_snapshot_keys, snapshot_of, total_cost, IsKept, snapshot_text};
 
 use itoa::Buffer;
 use std::alloc::{AllocError, Global};
@@ -80,6 +82,15 @@ impl WeightedKey {
         self.weight
     }
 
+    /// The key and its weight, without a copy.
+    pub fn into_parts(self) -> (Key, u64)
+        ensures same { result ≡ self }
+        ensures valid { IsWeighted self }
+    {
+        let WeightedKey { key, weight } = self;
+        (key, weight)
+    }
+
     /// A copy.
     pub fn try_clone(&self, alloc: Global) -> Result<WeightedKey, AllocError>
         ensures { IfOk result (λ copy. copy ≡ self.now) }
@@ -95,7 +106,8 @@ impl WeightedKey {
 /// How many bytes the queue name and the weight take in the line of a key.
 fn queue_len(queue: &Option<QueueName>, weight: u64) -> usize
     ensures same { result ≡ length (queue_fields queue.now weight) }
-    ensures small { result < 2 ^ 32 }
+    ensures small { result ≤ queue_bytes queue.now + 22 }
+    ensures bounded { result < 2 ^ 32 }
 {
     match queue {
         None => 0,
@@ -103,18 +115,74 @@ fn queue_len(queue: &Option<QueueName>, weight: u64) -> usize
     }
 }
 
-/// How many bytes the line of a key has, its CR LF among them.
+/// How many bytes the line of a key has, its CR LF among them. The key counts as many or more towards
+/// the limit of bytes.
 #[tactic(auto, unfolding(crate::specs::Snapshots::key_line))]
 fn line_len(entry: &WeightedKey) -> usize
-    ensures { result ≡ length (key_line entry.now) }
+    ensures same { result ≡ length (key_line entry.now) }
+    ensures small { result ≤ cost_of entry.now.0 }
 {
     entry.key.pattern.bytes().len() + queue_len(&entry.key.queue, entry.weight) + 2
 }
 
+/// Appends bytes for which there is room.
+fn append_reserved(out: &mut Vec<u8>, bytes: &[u8])
+    requires { vec_len out.old + length bytes.now ≤ vec_capacity out.old }
+    ensures items { out.new.items ≡ out.old.items ++ bytes.now }
+    ensures len { vec_len out.new ≡ vec_len out.old + length bytes.now }
+    ensures capacity { vec_capacity out.old ≤ vec_capacity out.new }
+{
+    let appended = out.extend_from_slice(bytes);
+    prove!(appended.is_ok());
+}
+
+/// Appends the queue name and the weight in the line of a key, for which there is room.
+fn put_queue(out: &mut Vec<u8>, queue: &Option<QueueName>, weight: u64)
+    requires { vec_len out.old + length (queue_fields queue.now weight) ≤ vec_capacity out.old }
+    ensures items { out.new.items ≡ out.old.items ++ queue_fields queue.now weight }
+    ensures len { vec_len out.new ≡ vec_len out.old + length (queue_fields queue.now weight) }
+    ensures capacity { vec_capacity out.old ≤ vec_capacity out.new }
+{
+    if let Some(queue) = queue {
+        append_reserved(out, b" ");
+        append_reserved(out, queue.bytes());
+        append_reserved(out, b" ");
+        append_reserved(out, Buffer::new().format(weight).as_bytes());
+    }
+}
+
+/// Appends the line of a key, for which there is room.
+#[tactic(auto, unfolding(crate::specs::Snapshots::key_line))]
+fn put_line(out: &mut Vec<u8>, entry: &WeightedKey)
+    requires { vec_len out.old + length (key_line entry.now) ≤ vec_capacity out.old }
+    ensures items { out.new.items ≡ out.old.items ++ key_line entry.now }
+    ensures len { vec_len out.new ≡ vec_len out.old + length (key_line entry.now) }
+    ensures capacity { vec_capacity out.old ≤ vec_capacity out.new }
+{
+    append_reserved(out, entry.key.pattern.bytes());
+    put_queue(out, &entry.key.queue, entry.weight);
+    append_reserved(out, b"\r\n");
+}
+
+/// Appends the lines of the keys, for which there is room.
 #[tactic(auto, using(crate::proofs::Texts::one_line_more, crate::proofs::Texts::part_of_text))]
-/// Whether the text of the keys is not longer than that of a snapshot may be.
+fn put_lines(out: &mut Vec<u8>, keys: &[WeightedKey])
+    requires { vec_len out.old + length (snapshot_text keys.now) ≤ vec_capacity out.old }
+    ensures items { out.new.items ≡ out.old.items ++ snapshot_text keys.now }
+    ensures len { vec_len out.new ≡ vec_len out.old + length (snapshot_text keys.now) }
+    ensures capacity { vec_capacity out.old ≤ vec_capacity out.new }
+{
+    for entry in keys {
+        put_line(out, entry);
+    }
+}
+
+/// Whether the text of the keys is not longer than that of a snapshot may be. It is not where the keys
+/// are within the limit of bytes.
+#[tactic(auto, using(crate::proofs::Texts::one_line_more, crate::proofs::Texts::part_of_text, crate::proofs::Texts::one_cost_more, crate::proofs::Texts::part_of_cost))]
 fn is_short(keys: &[WeightedKey]) -> bool
-    ensures { result ≡ short keys.now }
+    ensures same { result ≡ short keys.now }
+    ensures kept { IsKept keys.now → result ≡ true }
 {
     let mut left = MAX_SNAPSHOT;
     for entry in keys {
@@ -188,13 +256,47 @@ impl SnapshotKeys {
 
     /// None just where the keys are not in strictly rising order, or their text has more than
     /// [`MAX_SNAPSHOT`] bytes.
+    ///
+    /// Keys in strictly rising order within the limits of interest, [`MAX_KEYS`](subj::MAX_KEYS) and
+    /// [`SUBSCRIPTION_BYTES`](subj::SUBSCRIPTION_BYTES), are always taken: so a peer that comes up can
+    /// be told what a server has. (Profile.)
     pub fn from_keys(keys: Vec<WeightedKey>) -> Option<SnapshotKeys>
-        ensures { result ≡ snapshot_of keys.items }
+        ensures same { result ≡ snapshot_of keys.items }
+        ensures kept { IsKept keys.items → result ≡ Some keys.items }
     {
-        if !is_short(&keys) || !are_rising(&keys) {
+        if !is_short(&keys) {
+            return None;
+        }
+        if !are_rising(&keys) {
             return None;
         }
         Some(SnapshotKeys { keys })
+    }
+
+    /// How many bytes the text of the keys has, at most [`MAX_SNAPSHOT`].
+    #[tactic(auto, using(crate::proofs::Texts::one_line_more, crate::proofs::Texts::part_of_text))]
+    pub fn text_len(&self) -> usize
+        ensures same { result ≡ length (snapshot_text self.now) }
+        ensures short { result ≤ MAX_SNAPSHOT }
+    {
+        let mut len = 0;
+        for entry in self.as_slice() {
+            len += line_len(entry);
+        }
+        len
+    }
+
+    /// Appends the text of the keys. After want of memory the bytes are as they were, and where there
+    /// is room for [`SnapshotKeys::text_len`] bytes none is wanted.
+    pub fn append_text(&self, out: &mut Vec<u8>) -> Result<(), AllocError>
+        ensures items { out.new.items ≡ (if is_ok result then out.old.items ++ snapshot_text self.now else out.old.items) }
+        ensures len { vec_len out.new ≡ (if is_ok result then vec_len out.old + length (snapshot_text self.now) else vec_len out.old) }
+        ensures capacity { vec_capacity out.old ≤ vec_capacity out.new }
+        ensures succeeds { vec_len out.old + length (snapshot_text self.now) ≤ vec_capacity out.old → IsOk result }
+    {
+        out.reserve(self.text_len())?;
+        put_lines(out, self.as_slice());
+        Ok(())
     }
 
     /// The keys, in order.

@@ -1,6 +1,6 @@
 //! Examples: what a frame can hold, and what it can't, at each limit.
 
-use crate::{Body, Numbered, RouteConnect, RouteInfo, SnapshotKeys, WeightedKey};
+use crate::{Body, Numbered, RouteConnect, RouteFrame, RouteInfo, SnapshotKeys, WeightedKey};
 use bytes::Bytes;
 use std::alloc::Global;
 use std::test::Fail;
@@ -98,6 +98,10 @@ fn weights_have_limits(rt: HostRuntime) -> Result<(), Fail> {
     let copy = key.try_clone(rt.alloc())?;
     assert_eq!(rt; copy.key().pattern.bytes(), b"foo.*".as_slice());
     assert_eq!(rt; copy.weight(), 3);
+    let (key, weight) = copy.into_parts();
+    assert_eq!(rt; key.pattern.bytes(), b"foo.*".as_slice());
+    assert!(rt; key.queue.is_some());
+    assert_eq!(rt; weight, 3);
     Ok(())
 }
 
@@ -140,7 +144,7 @@ fn message_of(alloc: Global, subject: &[u8], payload: &[u8]) -> Result<Message, 
 #[test]
 fn a_publication_has_a_number(rt: HostRuntime) -> Result<(), Fail> {
     let message = message_of(rt.alloc(), b"a.b", b"hi")?;
-    let queues = QueueNames::new(rt.alloc());
+    let queues = QueueNames::new();
     let body = Body::Msg { message, queues };
     assert!(rt; is_numbered(1, body.try_clone(rt.alloc())?)?);
     assert!(rt; !is_numbered(0, body)?);
@@ -249,10 +253,43 @@ fn a_snapshot_is_copied(rt: HostRuntime) -> Result<(), Fail> {
     list.push(weighted(rt.alloc(), b"a.*", b"q", 2)?)?;
     list.push(weighted(rt.alloc(), b"foo", b"", 1)?)?;
     let keys = SnapshotKeys::from_keys(list).ok_or("keys in order")?;
+    let mut text = Vec::new(rt.alloc());
+    keys.append_text(&mut text)?;
+    assert_eq!(rt; text.as_slice(), b"a.* q 2\r\nfoo\r\n".as_slice());
+    assert_eq!(rt; keys.text_len(), 14);
     let copy = keys.try_clone(rt.alloc())?;
     assert_eq!(rt; copy.as_slice().len(), 2);
     let keys = copy.into_keys();
     assert_eq!(rt; keys[0].weight(), 2);
     assert_eq!(rt; keys[1].key().pattern.bytes(), b"foo".as_slice());
+    Ok(())
+}
+
+#[test]
+fn frames_are_copied(rt: HostRuntime) -> Result<(), Fail> {
+    let info = RouteFrame::Info(RouteInfo::new(node(b"n2")?, incarnation(4)?));
+    let RouteFrame::Info(copy) = info.try_clone(rt.alloc())? else {
+        return Err("an INFO".into());
+    };
+    assert_eq!(rt; copy.inc().get(), 4);
+    let numbered = RouteFrame::Numbered(gone(rt.alloc())?);
+    let RouteFrame::Numbered(copy) = numbered.try_clone(rt.alloc())? else {
+        return Err("a numbered frame".into());
+    };
+    assert!(rt; is_gone(copy.body()));
+    Ok(())
+}
+
+#[test]
+fn what_a_server_may_have_is_a_snapshot(rt: HostRuntime) -> Result<(), Fail> {
+    // 3,757 keys that count 1,112 bytes each are within 4,194,304 bytes, and so is their text
+    let mut pattern = [b'a'; MAX_SUBJECT];
+    let mut keys = Vec::new(rt.alloc());
+    for number in 0..3_757 {
+        pattern[..5].copy_from_slice(&numbered(number));
+        keys.push(weighted(rt.alloc(), &pattern, &[b'q'; 64], 65_536)?)?;
+    }
+    let snapshot = SnapshotKeys::from_keys(keys).ok_or("a snapshot")?;
+    assert_eq!(rt; snapshot.as_slice().len(), 3_757);
     Ok(())
 }

@@ -1,0 +1,67 @@
+-- A line that was judged, without where it lies in memory.
+use Rattle.std.specs.Option.{option_copied}
+use Rattle.std.specs.Prelude.{◌≡◌, ℕ, Bool, true, false, List, Option, Result, Ok, Err}
+use Rattle.route_frames.specs.declared.faults.RouteFault.{RouteFault}
+use Rattle.route_frames.specs.Meaning.{Meaning, ◌>>=◌}
+use Rattle.route_frames.specs.Greetings.{info_of, connect_text_of}
+use Rattle.route_frames.specs.Operations.{is_json_line}
+use Rattle.route_frames.specs.Announced.{announced_size}
+use Rattle.route_frames.specs.Lines.{line_meaning}
+use Rattle.route_values.specs.declared.frames.RouteFrame.{RouteFrame}
+use Rattle.route_frames.specs.Decoding.{joined}
+use Rattle.subj.specs.declared.keys.Key.{Key}
+use Rattle.route_values.specs.Snapshots.{Weighted}
+use Rattle.route_frames.specs.FormViews.{names_view}
+use Rattle.route_frames.specs.declared.lines.LineBody.{LineBody}
+use Rattle.route_frames.specs.declared.lines.LineBody.TheVariants as body
+use Rattle.route_frames.specs.declared.lines.NumberedLine.{NumberedLine}
+use Rattle.route_frames.specs.declared.lines.RouteLine.{RouteLine}
+use Rattle.route_frames.specs.declared.lines.RouteLine.TheVariants as line
+use Rattle.route_frames.specs.declared.texts.KeyText.{KeyText}
+use Rattle.route_frames.specs.declared.texts.WeightedText.{WeightedText}
+use Rattle.route_frames.specs.declared.texts.BodyText.{BodyText}
+use Rattle.route_frames.specs.declared.texts.BodyText.TheVariants.{Plus, Minus, Snapshot, Msg}
+use Rattle.route_frames.specs.declared.texts.NumberedText.{NumberedText}
+use Rattle.route_frames.specs.declared.texts.LineText.{LineText}
+use Rattle.route_frames.specs.declared.texts.LineText.TheVariants.{Info, Connect, Numbered}
+
+abbrev pub key_view : KeyText → Key
+key_view key = record { pattern = key.pattern.now; queue = option_copied key.queue }
+
+abbrev pub weighted_view : WeightedText → Weighted
+weighted_view weighted = (key_view weighted.key, weighted.weight)
+
+abbrev pub body_view : BodyText → LineBody
+body_view (Plus weighted) = body.Plus (weighted_view weighted)
+body_view (Minus key) = body.Minus (key_view key)
+body_view (Snapshot size) = body.Snapshot size
+body_view (Msg subject reply names size) = body.Msg subject.now (option_copied reply) (names_view names) size
+
+abbrev pub numbered_view : NumberedText → NumberedLine
+numbered_view numbered = record {
+  from = numbered.from.now;
+  to = numbered.to.now;
+  numbers = record { inc = numbered.numbers.inc; to_inc = numbered.numbers.to_inc; number = numbered.numbers.number };
+  body = body_view numbered.body;
+}
+
+abbrev pub is_json : LineText → Bool
+is_json (Info text) = true
+is_json (Connect text) = true
+is_json (Numbered numbered) = false
+
+abbrev pub text_meaning : LineText → Meaning RouteLine
+text_meaning (Info text) = info_of text.now >>= λ info. Ok (line.Info info)
+text_meaning (Connect text) = connect_text_of text.now >>= λ connect. Ok (line.Connect connect)
+text_meaning (Numbered numbered) = Ok (line.Numbered (numbered_view numbered))
+
+abbrev pub size_in : LineText → Meaning (Option ℕ)
+size_in text = text_meaning text >>= λ read. Ok (announced_size read)
+
+-- a line is judged without memory, but for its JSON
+abbrev pub Judges : List ℕ → Result LineText RouteFault → Type 0
+Judges bytes (Ok text) = (line_meaning bytes ≡ text_meaning text) × (is_json_line bytes ≡ is_json text)
+Judges bytes (Err fault) = line_meaning bytes ≡ Err fault
+
+abbrev pub joined_text : LineText → List ℕ → Meaning RouteFrame
+joined_text text payload = text_meaning text >>= λ read. joined read payload
