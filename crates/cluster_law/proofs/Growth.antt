@@ -1,8 +1,8 @@
 -- An incarnation's finished turns stay; and the worlds of a machine that knows more are reached.
-use Rattle.std.proofs.Common.{◌≡◌, ℕ, suc, ◌≤◌, List, [], ◌∷◌, ◌++◌, map, set, Some, true, true≢false, refl, sym, ap, ◌∙◌, subst, ⊎_elim, arith}
+use Rattle.std.proofs.Common.{◌≡◌, ℕ, suc, ◌≤◌, List, [], ◌∷◌, ◌++◌, map, set, Some, true, true≢false, refl, sym, ap, ◌∙◌, subst, inl, ⊎_elim, arith}
 use Rattle.std.specs.Prelude.{slice_get}
 use Rattle.std.proofs.lemmas.Option.{same_Some}
-use Rattle.cluster_law.specs.Lists.{In, Each}
+use Rattle.list_laws.specs.Lists.{In, Each}
 use Rattle.cluster_law.specs.Messages.{Message, Interest, Greeting}
 use Rattle.cluster_law.specs.Config.{Config, every_rule}
 use Rattle.cluster_law.specs.History.{Job, Output}
@@ -11,7 +11,7 @@ use Rattle.cluster_law.specs.Shard.{Shard, ShardEvent, Subscribe, Close, Begin, 
 use Rattle.cluster_law.specs.Node.{Node, NodeEvent, Publish, Receive, Announce, OnShard, NodeStep, queued}
 use Rattle.cluster_law.specs.Cluster.{World, Event, Start, Stop, Hand, At, Acts, Happens, Step, Run, Reached, begin, new_node, no_node}
 use Rattle.cluster_law.specs.Runs.{TurnsStay, Follows, Path}
-use Rattle.cluster_law.proofs.Lists.{in_left, read_set, read_map}
+use Rattle.list_laws.proofs.Lists.{in_left, read_set, read_map}
 use Rattle.cluster_law.proofs.Whole.{reached}
 
 -- each shard was there before, with no more finished turns
@@ -42,7 +42,7 @@ shard_step c n inc now s race sh Begin out new after_race q = let is = ap (λ (z
 shard_step c n inc now s race sh Claim out new after_race q =
     ⊎_elim
     (λ (v : Wins every_rule c n inc now s race sh out new after_race). let is = ap (λ (z : Shard). z.finished) v.after in omega arith)
-    (λ (v : Passes race sh out new after_race). let is = ap (λ (z : Shard). z.finished) v.after in omega arith)
+    (λ (v : Passes c.window race sh out new after_race). let is = ap (λ (z : Shard). z.finished) v.after in omega arith)
     q
 shard_step c n inc now s race sh End out new after_race q = let is = ap (λ (z : Shard). z.finished) q.0.after in omega arith
 shard_step c n inc now s race sh Drop out new after_race q = let is = ap (λ (z : Shard). z.finished) q.0.after in omega arith
@@ -127,3 +127,6 @@ path_reached c w [] r p = λ x i. absurd i
 path_reached c w (v ∷ vs) r p =
     let here = follows_reached c w v r p.0 in
     λ x i. ⊎_elim (λ (e : x ≡ v). subst (Reached every_rule c) (sym e) here) (λ (k : In x vs). path_reached c v vs here p.1 x k) i
+
+pub one_more_reached : (c : Config) (w v : World) (e : Event) → Reached every_rule c w → Step every_rule c w e v → Reached every_rule c v
+one_more_reached c w v e r s = follows_reached c w v r (inl (e, s))

@@ -1,15 +1,15 @@
 -- A publish, a message that is taken, and what else moves the marks, keep what holds of publications, messages and jobs.
-use Rattle.std.proofs.Common.{◌≡◌, ◌≢◌, ◌⊎◌, ℕ, suc, ◌<◌, ◌≤◌, List, [], ◌∷◌, ◌++◌, set, length, Some, refl, sym, ap, ◌∙◌, subst, inl, inr, ⊎_elim, arith, length-append}
+use Rattle.std.proofs.Common.{◌≡◌, ◌≢◌, ◌⊎◌, ℕ, suc, ◌<◌, ◌≤◌, List, [], ◌∷◌, ◌++◌, set, Some, refl, sym, ap, ◌∙◌, subst, inl, inr, ⊎_elim, arith}
 use Rattle.std.specs.Prelude.{slice_get}
-use Rattle.cluster_law.specs.Lists.{In, Each, Pairs, Disjoint}
+use Rattle.list_laws.specs.Lists.{In, Each, Pairs, Disjoint}
 use Rattle.cluster_law.specs.Names.{Bytes, PubId}
 use Rattle.cluster_law.specs.Messages.{Content, Routed, messages}
 use Rattle.cluster_law.specs.Config.{Config, every_rule}
 use Rattle.cluster_law.specs.History.{Job, Output}
-use Rattle.cluster_law.specs.Hub.{Peer, Hub, unheard, Known, routed_names, HubReceives, next_id}
+use Rattle.cluster_law.specs.Hub.{Peer, Hub, unheard, Known, HubReceives, next_id}
 use Rattle.cluster_law.specs.Node.{Node, next_publication, next_job, Publishes, Receives}
 use Rattle.cluster_law.specs.Cluster.{World}
-use Rattle.cluster_law.proofs.Lists.{each_one, in_left, in_right, each_append, pairs_cases, read_set, moved}
+use Rattle.list_laws.proofs.Lists.{each_one, in_left, in_right, each_append, pairs_cases, read_set, moved}
 use Rattle.cluster_law.proofs.Invariants.{HasPublication, RoutedApart, Local, Remote, JobOk, JobsApart, PublicationOk, Passed, HubIs, HubOk, Hubs}
 use Rattle.cluster_law.proofs.Hubs.{Adds, has_pub_more, messages_map}
 
@@ -27,12 +27,6 @@ not_new w n a content id k p e =
     let is = ap (λ (x : PubId). x.number) e in
     omega arith
 
-few_in_each : (limit : ℕ) (fs : List Routed) → length (routed_names fs) ≤ limit → Each (λ f. length f.names ≤ limit) fs
-few_in_each limit [] le = λ f i. absurd i
-few_in_each limit (f ∷ fs) le =
-    let sum = length-append f.names (routed_names fs) in
-    λ g i. ⊎_elim (λ (e : g ≡ f). subst (λ (x : Routed). length x.names ≤ limit) (sym e) (omega arith)) (λ (k : In g fs). few_in_each limit fs (omega arith) g k) i
-
 frames_pairs : (p : PubId) (fs : List Routed) → Pairs (λ f g. (f.to ≢ g.to) × Disjoint f.names g.names) fs → Pairs RoutedApart fs
 frames_pairs p [] q = tt
 frames_pairs p (f ∷ fs) q = ((λ g i. record { other = λ e. (q.0 g i).0; names = λ e. (q.0 g i).1 }), frames_pairs p fs q.1)
@@ -43,8 +37,6 @@ publishes c w n a content out b s h k =
     let j = next_job n a p.id content s.names in
     let limit = c.queue_names in
     let q = s.publishes in
-    let sum = length-append s.names (routed_names s.frames) in
-    let total = q.few in
     let its : (x : PubId) (t : Content) → x ≡ p.id → t ≡ content → HasPublication (w.past.publications ++ p ∷ []) x t = λ x t e f. record { source = p; source_in = in_right p w.past.publications (p ∷ []) (inl refl); source_id = sym e; source_content = sym f } in
     let issued = s.issues.issued in
     moved (λ (x : Node) (o : Output). Adds limit w n x o s.frames) b _ out _ s.after s.out_is (record {
@@ -52,7 +44,7 @@ publishes c w n a content out b s h k =
       pubs = each_one (λ r. (r.id.origin ≡ n) × PublicationOk w.past.started (suc w.step) r) p (refl, record { started = k.started; before = omega arith });
       ids = ((λ r i. absurd i), tt);
       ids_cross = λ r t i l. each_one (λ t. r.id ≢ t.id) p (λ e. not_new w n a r.content r.id k (record { source = r; source_in = i; source_id = refl; source_content = refl }) e) t l;
-      frames_ok = λ f i. let o = q.frames_of f i in record { published = its f.id f.content o.id o.content; once = o.once; few = few_in_each limit s.frames (omega arith) f i };
+      frames_ok = λ f i. let o = q.frames_of f i in record { published = its f.id f.content o.id o.content; once = o.once; few = q.few_in_frame f i };
       frames_apart = frames_pairs p.id s.frames q.frames_apart;
       frames_cross = λ f g i l. let old = (h.frames f i).published in record { other = λ e. absurd (not_new w n a f.content f.id k old (e ∙ (q.frames_of g l).id)); names = λ e. absurd (not_new w n a f.content f.id k old (e ∙ (q.frames_of g l).id)) };
       jobs = each_one (λ i. (i.node ≡ n) × JobOk limit (w.past.publications ++ p ∷ []) w.past.started (messages w.past.sent ++ s.frames) i) j (
@@ -60,7 +52,7 @@ publishes c w n a content out b s h k =
         record {
           published = its p.id content refl refl;
           once = q.once;
-          few = omega arith;
+          few = q.few;
           started = k.started;
           source = inl (record { node = refl; inc = refl; names = each_append (λ f. f.id ≡ p.id → Disjoint f.names s.names) (messages w.past.sent) s.frames (λ f i e. absurd (not_new w n a f.content f.id k (h.frames f i).published e)) (λ f i e. q.job_apart f i) });
         },

@@ -1,14 +1,14 @@
 -- What holds of publications, messages and jobs is kept.
 use Rattle.std.proofs.Common.{◌≡◌, ◌≢◌, ◌⊎◌, ℕ, suc, ◌≤◌, List, [], ◌∷◌, ◌++◌, map, true, true≢false, refl, sym, ap, ◌∙◌, subst, inl, inr, ⊎_elim, arith, Some}
 use Rattle.std.specs.Prelude.{slice_get}
-use Rattle.cluster_law.specs.Lists.{In, Each, Pairs, Disjoint}
+use Rattle.list_laws.specs.Lists.{In, Each, Pairs, Disjoint}
 use Rattle.cluster_law.specs.Names.{PubId}
 use Rattle.cluster_law.specs.Messages.{Content, Publication, Routed, Frame, Message, Interest, Greeting, messages}
 use Rattle.cluster_law.specs.History.{Job, Output}
 use Rattle.cluster_law.specs.Hub.{Peer, Hub}
 use Rattle.cluster_law.specs.Node.{Node}
 use Rattle.cluster_law.specs.Cluster.{World, applied, no_node}
-use Rattle.cluster_law.proofs.Lists.{in_left, each_append, pairs_append, read_set}
+use Rattle.list_laws.proofs.Lists.{in_left, each_append, pairs_append, read_set}
 use Rattle.cluster_law.proofs.Invariants.{HasPublication, RoutedOk, RoutedApart, Local, Remote, JobOk, JobsApart, PublicationOk, Passed, HubOk, Hubs}
 
 pub has_pub_more : (pubs new : List Publication) (id : PubId) (content : Content) → HasPublication pubs id content → HasPublication (pubs ++ new) id content

@@ -1,6 +1,6 @@
 -- What holds of each world that is reached. Each clause speaks of one node and the histories, or of two entries of one history.
 use Rattle.std.specs.Prelude.{◌≡◌, ◌≢◌, ◌⊎◌, ℕ, suc, ◌+◌, ◌<◌, ◌≤◌, true, List, [], length, slice_get, Option, Some, None}
-use Rattle.cluster_law.specs.Lists.{In, Each, Pairs, NoRepeat, Disjoint}
+use Rattle.list_laws.specs.Lists.{In, Each, Pairs, NoRepeat, Disjoint}
 use Rattle.cluster_law.specs.Names.{Bytes, PubId}
 use Rattle.cluster_law.specs.Interest.{View, Change, Noted, changes_of, view_after}
 use Rattle.cluster_law.specs.Messages.{Content, Publication, Routed, Body, Changed, Snapshot, Frame, Message, Interest, Greeting, messages}

@@ -1,4 +1,4 @@
-pub mod Lists
+pub mod Races
 pub mod Invariants
 pub mod Hubs
 pub mod HubEvents

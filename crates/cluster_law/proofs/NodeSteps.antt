@@ -1,17 +1,17 @@
 -- Each step of a node keeps what holds of publications, messages, jobs, subscriptions and placements: the cases of the step, put together.
 use Rattle.std.proofs.Common.{◌++◌, slice_get, Some, ◌≡◌, ◌≢◌, ℕ, suc, ◌+◌, ◌≤◌, List, [], ◌∷◌, map, None, true≢false, refl, sym, ap, ◌∙◌, subst, ⊎_elim, arith, inl, inr}
-use Rattle.cluster_law.specs.Lists.{In, Each, Pairs}
+use Rattle.list_laws.specs.Lists.{In, Each, Pairs}
 use Rattle.cluster_law.specs.Names.{LifeId}
 use Rattle.cluster_law.specs.Messages.{Content, Routed, News, Frame, Message, Interest, Greeting, messages}
 use Rattle.cluster_law.specs.Interest.{Change}
 use Rattle.cluster_law.specs.Config.{Config, every_rule}
 use Rattle.cluster_law.specs.History.{Job, Life, Closing, Placement, Output, nothing}
 use Rattle.cluster_law.specs.Hub.{Peer, Hub, IsTold, next_id}
-use Rattle.cluster_law.specs.Race.{Race, KeptOver}
+use Rattle.cluster_law.specs.Race.{Race, KeptOver, Keeps}
 use Rattle.cluster_law.specs.Shard.{Subscription, Shard, life_id, closings_of, Wins, Passes, ShardEvent, Subscribe, Close, Begin, Claim, End, Drop, ShardStep}
 use Rattle.cluster_law.specs.Node.{Node, queued, next_job, Publishes, Receives, Hears, Meets, Announces, AtShard}
 use Rattle.cluster_law.specs.Cluster.{World, no_node, all_closings}
-use Rattle.cluster_law.proofs.Lists.{in_append, in_left, pairs_append, pairs_map, pairs_weaker, read_map, moved, in_map}
+use Rattle.list_laws.proofs.Lists.{in_append, in_left, pairs_append, pairs_map, pairs_weaker, read_map, moved, in_map}
 use Rattle.cluster_law.proofs.Invariants.{HubOk, Hubs, Passed, ShardOk, SubscriptionOk, NodeOk, Rest, LineIs}
 use Rattle.cluster_law.proofs.Hubs.{Adds, quiet, still, gone}
 use Rattle.cluster_law.proofs.HubEvents.{publishes, receives, marks_set, passed_known}
@@ -130,6 +130,26 @@ announced c w n a changes out b r k nk s =
 
 -- Events of a shard
 
+-- a race that is the same over the window
+another_race : (c : Config) (w : World) (n s : ℕ) (a : Node) (new : Shard) (race : Race) (lives : List Life) (closings : List Closing) (placements : List Placement) → Keeps c.window a.race race → ShardAdds c w n s a new a.race lives closings placements → ShardAdds c w n s a new race lives closings placements
+another_race c w n s a new race lives closings placements k d = record {
+  placed = d.placed;
+  opened = d.opened;
+  closed = d.closed;
+  closed_once = d.closed_once;
+  closed_once_cross = d.closed_once_cross;
+  life_ids = d.life_ids;
+  life_ids_cross = d.life_ids_cross;
+  in_order = d.in_order;
+  in_order_cross = d.in_order_cross;
+  one_member = d.one_member;
+  one_member_cross = d.one_member_cross;
+  shard = d.shard;
+  issued = k.issued;
+  won_kept = λ t x lt i. (k.kept t x lt).0 i;
+  won_new = λ j p x q i l at my id mode name lt. (k.kept j.turn x lt).0 (d.won_new j p x q i l at my id mode name lt);
+}
+
 -- what a shard adds, seen at the node
 by_shard : (c : Config) (w : World) (n s : ℕ) (a : Node) (new : Shard) (race : Race) (lives : List Life) (closings : List Closing) (placements : List Placement) (out : Output) (now : Shard) (after_race : Race) (b : Node)
     → HubOk w n a → NodeOk c w n a → ShardAdds c w n s a new race lives closings placements → out ≡ shard_out lives closings placements → now ≡ new → after_race ≡ race → b ≡ shard_node a s now after_race → Both c w n b out
@@ -147,22 +167,22 @@ on_shard c w n s a e out b h r k nk p = go e p.steps
     sk = nk.shards s p.old p.old_is
 
     go : (e : ShardEvent) → ShardStep every_rule c n a.inc (suc w.step) s a.race p.old e out p.new p.race → Both c w n b out
-    go (Subscribe connection sid pattern queue) q = by_shard c w n s a _ a.race _ _ _ out p.new p.race b k nk (subscribe_step c w n s a p.old connection sid pattern queue sk) q.0.out_is q.0.after q.1 p.after
-    go (Close closed) q = by_shard c w n s a _ a.race _ _ _ out p.new p.race b k nk (close_step c w n s a p.old closed r sk q.0.are_open) q.0.out_is q.0.after q.1 p.after
-    go Begin q = by_shard c w n s a _ a.race _ _ _ out p.new p.race b k nk (begin_step c w n s a p.old q.0.job q.0.rest q.0.placed q.0.closed h r k sk q.0.free q.0.first q.0.turn q.0.owed q.0.once q.0.are_open) q.0.out_is q.0.after q.1 p.after
+    go (Subscribe connection sid pattern queue) q = by_shard c w n s a _ p.race _ _ _ out p.new p.race b k nk (another_race c w n s a _ p.race _ _ _ q.1 (subscribe_step c w n s a p.old connection sid pattern queue sk)) q.0.out_is q.0.after refl p.after
+    go (Close closed) q = by_shard c w n s a _ p.race _ _ _ out p.new p.race b k nk (another_race c w n s a _ p.race _ _ _ q.1 (close_step c w n s a p.old closed r sk q.0.are_open)) q.0.out_is q.0.after refl p.after
+    go Begin q = by_shard c w n s a _ p.race _ _ _ out p.new p.race b k nk (another_race c w n s a _ p.race _ _ _ q.1 (begin_step c w n s a p.old q.0.job q.0.rest q.0.placed q.0.closed h r k sk q.0.free q.0.first q.0.turn q.0.owed q.0.once q.0.are_open)) q.0.out_is q.0.after refl p.after
     go Claim q = ⊎_elim
         (λ (v : Wins every_rule c n a.inc (suc w.step) s a.race p.old out p.new p.race). by_shard c w n s a _ p.race _ _ _ out p.new p.race b k nk (claim_step c w n s a p.old v.job v.name v.chosen p.race v.closed h r k nk sk v.in_hand v.name_is v.wins v.is_open v.member v.matches v.are_open) v.out_is v.after refl p.after)
-        (λ (v : Passes a.race p.old out p.new p.race). by_shard c w n s a _ a.race _ _ _ out p.new p.race b k nk (quiet_shard c w n s a p.old p.old.finished (suc p.old.next) p.old.hand p.old.waiting sk sk.line (omega arith) (omega arith)) v.out_is v.after v.race_is p.after)
+        (λ (v : Passes c.window a.race p.old out p.new p.race). by_shard c w n s a _ p.race _ _ _ out p.new p.race b k nk (another_race c w n s a _ p.race _ _ _ v.keeps (quiet_shard c w n s a p.old p.old.finished (suc p.old.next) p.old.hand p.old.waiting sk sk.line (omega arith) (omega arith))) v.out_is v.after refl p.after)
         q
-    go End q = by_shard c w n s a _ a.race _ _ _ out p.new p.race b k nk (quiet_shard c w n s a p.old (suc p.old.finished) 0 None p.old.waiting sk (line_end w.past.jobs n a.inc a.race.issued p.old.finished p.old.hand p.old.waiting q.0.job q.0.in_hand sk.line) (omega arith) (begun_le p.old.hand p.old.finished)) q.0.out_is q.0.after q.1 p.after
-    go Drop q = by_shard c w n s a _ a.race _ _ _ out p.new p.race b k nk
-        (quiet_shard c w n s a p.old (suc p.old.finished) 0 None q.0.rest sk
+    go End q = by_shard c w n s a _ p.race _ _ _ out p.new p.race b k nk (another_race c w n s a _ p.race _ _ _ q.1 (quiet_shard c w n s a p.old (suc p.old.finished) 0 None p.old.waiting sk (line_end w.past.jobs n a.inc a.race.issued p.old.finished p.old.hand p.old.waiting q.0.job q.0.in_hand sk.line) (omega arith) (begun_le p.old.hand p.old.finished))) q.0.out_is q.0.after refl p.after
+    go Drop q = by_shard c w n s a _ p.race _ _ _ out p.new p.race b k nk
+        (another_race c w n s a _ p.race _ _ _ q.1 (quiet_shard c w n s a p.old (suc p.old.finished) 0 None q.0.rest sk
         (⊎_elim
         (λ (v : (p.old.hand ≡ Some q.0.job) × (q.0.rest ≡ p.old.waiting)). subst (LineIs w.past.jobs n a.inc a.race.issued (suc p.old.finished) None) (sym v.1) (line_end w.past.jobs n a.inc a.race.issued p.old.finished p.old.hand p.old.waiting q.0.job v.0 sk.line))
         (λ (v : (p.old.hand ≡ None) × (p.old.waiting ≡ q.0.job ∷ q.0.rest) × (q.0.job.turn ≡ suc p.old.finished)). line_end w.past.jobs n a.inc a.race.issued p.old.finished (Some q.0.job) q.0.rest q.0.job refl (line_begin w.past.jobs n a.inc a.race.issued p.old.finished p.old.hand p.old.waiting q.0.job q.0.rest v.1 v.2 sk.line))
         q.0.which)
-        (omega arith) (begun_le p.old.hand p.old.finished))
-        q.0.out_is q.0.after q.1 p.after
+        (omega arith) (begun_le p.old.hand p.old.finished)))
+        q.0.out_is q.0.after refl p.after
 
 -- A stop
 

@@ -1,13 +1,16 @@
 -- Runs written as short scripts: what each line makes of a world, and what has to be so that it is a step.
-use Rattle.std.proofs.Common.{◌≡◌, ◌≢◌, ℕ, zero, suc, ◌+◌, ◌<◌, ◌≤◌, true, false, List, [], ◌∷◌, ◌++◌, map, set, length, Option, Some, None, refl, sym, ap, ◌∙◌, subst, inl, inr, ⊎_elim}
+use Rattle.std.proofs.Common.{◌≡◌, ◌≢◌, ℕ, zero, suc, ◌+◌, ◌<◌, ◌≤◌, true, false, List, [], ◌∷◌, ◌++◌, map, flat_map, set, length, Option, Some, None, refl, sym, ap, ◌∙◌, subst, inl, inr, ⊎_elim, arith}
 use Rattle.std.specs.Prelude.{slice_get}
-use Rattle.cluster_law.specs.Lists.{In, Each, Pairs, NoRepeat, Disjoint, Where}
+use Rattle.std.proofs.lemmas.List.{length-append}
+use Rattle.list_laws.specs.Lists.{In, Each, Pairs, NoRepeat, Disjoint}
+use Rattle.cluster_law.specs.Rules.{Where}
 use Rattle.cluster_law.specs.Names.{Bytes}
 use Rattle.cluster_law.specs.Interest.{View, Change, view_after}
 use Rattle.cluster_law.specs.Messages.{Content, Routed, News, Frame, Message, Interest, Greeting}
 use Rattle.cluster_law.specs.Config.{Config, Rules}
 use Rattle.cluster_law.specs.History.{Job, Output, nothing}
-use Rattle.cluster_law.specs.Hub.{Peer, Hub, unheard, routed_names, RoutedOf, Known, IsForMe, Taken, IsTold, next_id}
+use Rattle.cluster_law.proofs.Races.{same_race}
+use Rattle.cluster_law.specs.Hub.{Peer, Hub, unheard, RoutedOf, Known, IsForMe, Taken, IsTold, next_id}
 use Rattle.cluster_law.specs.Race.{Race, KeptOver}
 use Rattle.cluster_law.specs.Shard.{Subscription, Shard, life_id, without, closings_of, placement, IsOwedPlain, Subscribe, Close, Begin, Claim, End}
 use Rattle.cluster_law.specs.Node.{Node, finished_turns, queued, next_publication, next_job, noted, Publish, Announce, OnShard}
@@ -130,11 +133,20 @@ IsLegal rules c w (Greets n k origin inc) = IsUp w n × Where rules.sent (slice_
 IsLegal rules c w (Hears n k t base view) = IsUp w n × Where rules.sent (slice_get w.past.sent k ≡ Some (Interest t)) × IsForMe rules n (node w n).inc t.to t.to_inc t.origin × (slice_get (node w n).hub.peers t.origin ≡ Some (peer w n t.origin)) × Known rules (peer w n t.origin) t.inc base × Taken rules c t.body t.number base.heard base.view view
 IsLegal rules c w (Opens n s queue) = HasShard w n s
 IsLegal rules c w (Shuts n s serial) = HasShard w n s × (u : Subscription) × In u (shard w n s).subscriptions × (u.serial ≡ serial)
-IsLegal rules c w (Sends n names frames won) = IsUp w n × HasRoom rules c w n × KeptOver c.window (suc (node w n).race.issued) (node w n).race.won won × NoRepeat names × (length (names ++ routed_names frames) ≤ c.queue_names) × Each (RoutedOf n (node w n).hub (next_publication n (suc w.step) (node w n) hello)) frames × Pairs (λ f g. Where rules.one_frame (f.to ≢ g.to) × Where rules.apart (Disjoint f.names g.names)) frames × Each (λ f. Where rules.apart (Disjoint f.names names)) frames
+IsLegal rules c w (Sends n names frames won) = IsUp w n × HasRoom rules c w n × KeptOver c.window (suc (node w n).race.issued) (node w n).race.won won × NoRepeat names × (length (names ++ flat_map (λ (f : Routed). f.names) frames) ≤ c.queue_names) × Each (RoutedOf n (node w n).hub (next_publication n (suc w.step) (node w n) hello)) frames × Pairs (λ f g. Where rules.one_frame (f.to ≢ g.to) × Where rules.apart (Disjoint f.names g.names)) frames × Each (λ f. Where rules.apart (Disjoint f.names names)) frames
 IsLegal rules c w (Takes n k m base) = IsUp w n × Where rules.sent (slice_get w.past.sent k ≡ Some (Message m)) × HasRoom rules c w n × IsForMe rules n (node w n).inc m.to m.to_inc m.id.origin × (slice_get (node w n).hub.peers m.id.origin ≡ Some (peer w n m.id.origin)) × Known rules (peer w n m.id.origin) m.id.inc base × Where rules.mark (base.mark < m.id.number)
 IsLegal rules c w (Begins n s placed) = HasShard w n s × ((shard w n s).hand ≡ None) × ((shard w n s).waiting ≡ nth (shard w n s).waiting 0 no_job ∷ rest_of (shard w n s).waiting) × ((nth (shard w n s).waiting 0 no_job).turn ≡ suc (shard w n s).finished) × Each (IsOwedPlain c (shard w n s) (nth (shard w n s).waiting 0 no_job)) placed × Where rules.once (Pairs (λ u v. u.serial ≢ v.serial) placed)
 IsLegal rules c w (Wins n s name chosen) = HasShard w n s × ((shard w n s).hand ≡ Some (in_hand (shard w n s).hand)) × (slice_get (in_hand (shard w n s).hand).names (shard w n s).next ≡ Some name) × Where rules.unwon (In ((in_hand (shard w n s).hand).turn, (shard w n s).next) (node w n).race.won → ⊥) × Where rules.member (In chosen (shard w n s).subscriptions) × (chosen.queue ≡ Some name) × (c.matches chosen.pattern (in_hand (shard w n s).hand).content.subject ≡ true)
 IsLegal rules c w (Ends n s) = HasShard w n s × ((shard w n s).hand ≡ Some (in_hand (shard w n s).hand)) × ((shard w n s).next ≡ length (in_hand (shard w n s).hand).names)
+
+few_of : (limit : ℕ) (names : List Bytes) (fs : List Routed) → length (names ++ flat_map (λ (f : Routed). f.names) fs) ≤ limit → (length names ≤ limit) × Each (λ f. length f.names ≤ limit) fs
+few_of limit names fs le = let sum = length-append names (flat_map (λ (f : Routed). f.names) fs) in (omega arith, in_each fs (omega arith))
+  where
+    in_each : (fs : List Routed) → length (flat_map (λ (f : Routed). f.names) fs) ≤ limit → Each (λ f. length f.names ≤ limit) fs
+    in_each [] le = λ f i. absurd i
+    in_each (f ∷ fs) le =
+        let sum = length-append f.names (flat_map (λ (f : Routed). f.names) fs) in
+        λ g i. ⊎_elim (λ (e : g ≡ f). subst (λ (x : Routed). length x.names ≤ limit) (sym e) (omega arith)) (λ (k : In g fs). in_each fs (omega arith) g k) i
 
 one_open : (us : List Subscription) (u : Subscription) (serial : ℕ) → In u us → u.serial ≡ serial → Each (λ k. (v : Subscription) × In v us × (v.serial ≡ k)) (serial ∷ [])
 one_open us u serial i e k l = ⊎_elim (λ (same : k ≡ serial). (u, i, e ∙ sym same)) (λ (m : ⊥). absurd m) l
@@ -189,7 +201,7 @@ is_event rules c w (Opens n s queue) h = (
     out = _;
     new = _;
     after = refl;
-    steps = record { old = shard w n s; old_is = h.1; new = _; race = (node w n).race; steps = (record { out_is = refl; after = refl }, refl); after = refl };
+    steps = record { old = shard w n s; old_is = h.1; new = _; race = (node w n).race; steps = (record { out_is = refl; after = refl }, same_race c.window (node w n).race); after = refl };
   },
 )
 is_event rules c w (Shuts n s serial) h = (
@@ -206,7 +218,7 @@ is_event rules c w (Shuts n s serial) h = (
       old_is = h.0.1;
       new = _;
       race = (node w n).race;
-      steps = (record { are_open = record { each_open = one_open (shard w n s).subscriptions h.1 serial h.2 h.3; once = ((λ k i. absurd i), tt) }; out_is = refl; after = refl }, refl);
+      steps = (record { are_open = record { each_open = one_open (shard w n s).subscriptions h.1 serial h.2 h.3; once = ((λ k i. absurd i), tt) }; out_is = refl; after = refl }, same_race c.window (node w n).race);
       after = refl;
     };
   },
@@ -225,7 +237,7 @@ is_event rules c w (Sends n names frames won) h = (
       frames = frames;
       hub = _;
       race = record { issued = suc (node w n).race.issued; won = won };
-      publishes = record { once = h.3; few = h.4; frames_of = h.5; frames_apart = h.6; job_apart = h.7; after = refl };
+      publishes = record { once = h.3; few = (few_of c.queue_names names frames h.4).0; few_in_frame = (few_of c.queue_names names frames h.4).1; frames_of = h.5; frames_apart = h.6; job_apart = h.7; after = refl };
       issues = record { room = h.1; issued = refl; kept = h.2 };
       out_is = refl;
       after = refl;
@@ -266,7 +278,7 @@ is_event rules c w (Begins n s placed) h = (
       old_is = h.0.1;
       new = _;
       race = (node w n).race;
-      steps = (record { free = h.1; job = _; rest = _; first = h.2; turn = h.3; placed = placed; owed = h.4; once = h.5; closed = []; are_open = record { each_open = λ k i. absurd i; once = tt }; out_is = refl; after = refl }, refl);
+      steps = (record { free = h.1; job = _; rest = _; first = h.2; turn = h.3; placed = placed; owed = h.4; once = h.5; closed = []; are_open = record { each_open = λ k i. absurd i; once = tt }; out_is = refl; after = refl }, same_race c.window (node w n).race);
       after = refl;
     };
   },
@@ -320,7 +332,7 @@ is_event rules c w (Ends n s) h = (
     out = _;
     new = _;
     after = refl;
-    steps = record { old = shard w n s; old_is = h.0.1; new = _; race = (node w n).race; steps = (record { job = in_hand (shard w n s).hand; in_hand = h.1; all_tried = h.2; out_is = refl; after = refl }, refl); after = refl };
+    steps = record { old = shard w n s; old_is = h.0.1; new = _; race = (node w n).race; steps = (record { job = in_hand (shard w n s).hand; in_hand = h.1; all_tried = h.2; out_is = refl; after = refl }, same_race c.window (node w n).race); after = refl };
   },
 )
 

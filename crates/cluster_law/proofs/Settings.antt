@@ -2,9 +2,9 @@
 use Rattle.std.proofs.Common.{◌≡◌, ◌≢◌, ℕ, zero, suc, true, List, [], ◌∷◌, Some, None, refl, sym, ap, subst, ⊎_elim, arith}
 use Rattle.std.specs.Prelude.{slice_get}
 use Rattle.std.proofs.lemmas.Option.{none-some}
-use Rattle.cluster_law.specs.Lists.{In, Each, NoRepeat, Disjoint}
+use Rattle.list_laws.specs.Lists.{In, Each, NoRepeat, Disjoint}
 use Rattle.cluster_law.specs.Names.{Bytes, PubId}
-use Rattle.cluster_law.specs.Interest.{View, Change, Up, Gone}
+use Rattle.cluster_law.specs.Interest.{View, Change, Up, Gone, Cleared}
 use Rattle.cluster_law.specs.Messages.{Publication, Routed}
 use Rattle.cluster_law.specs.Config.{Config}
 use Rattle.cluster_law.specs.Hub.{Hub, unheard, RoutedOf}
@@ -17,6 +17,7 @@ use Rattle.cluster_law.proofs.Scripts.{hello}
 abbrev pub stack : Change → View → View
 stack (Up x) view = x ∷ view
 stack (Gone key) view = view
+stack Cleared view = []
 
 -- any window will do
 abbrev pub small : ℕ

@@ -3,7 +3,7 @@ use Rattle.std.proofs.Common.{◌≡◌, ◌≢◌, ◌⊎◌, ℕ, suc, ◌+◌
 use Rattle.std.specs.Prelude.{slice_get}
 use Rattle.std.proofs.lemmas.Option.{same_Some, none-some}
 use Rattle.std.proofs.lemmas.Bool.Decides.{nat_tests}
-use Rattle.cluster_law.specs.Lists.{In, Each, Pairs}
+use Rattle.list_laws.specs.Lists.{In, Each, Pairs}
 use Rattle.cluster_law.specs.Names.{Bytes, PubId, LifeId}
 use Rattle.cluster_law.specs.Config.{Config, every_rule}
 use Rattle.cluster_law.specs.History.{Job, Life, Closing, Placement, Output, nothing}
@@ -12,7 +12,7 @@ use Rattle.cluster_law.specs.Shard.{Subscription, Shard, life_id, has, without, 
 use Rattle.cluster_law.specs.Node.{Node}
 use Rattle.cluster_law.specs.Cluster.{World, applied}
 use Rattle.cluster_law.specs.Headline.{InOrder, OneMember, IsClosing}
-use Rattle.cluster_law.proofs.Lists.{in_nil, each_one, in_append, in_left, in_right, each_append, pairs_append, pairs_cases, read_set, in_map, in_read, pairs_map, pairs_weaker}
+use Rattle.list_laws.proofs.Lists.{in_nil, each_one, in_append, in_left, in_right, each_append, pairs_append, pairs_cases, read_set, in_map, in_read, pairs_map, pairs_weaker}
 use Rattle.cluster_law.proofs.Invariants.{JobsApart, HubOk, Hubs, ForJob, PlacedOk, SubscriptionOk, ShardOk, NodeOk, Rest, begun, LineIs, IsMine}
 use Rattle.cluster_law.proofs.Shards.{Places, shard_more, won_more, sub_more, line_more}
 

@@ -1,7 +1,7 @@
 -- What holds of subscriptions and placements is kept: what all steps have in common.
 use Rattle.std.proofs.Common.{refl, inl, ◌∷◌, Option, Some, ◌≡◌, ◌≢◌, ℕ, suc, ◌+◌, ◌<◌, ◌≤◌, List, [], ◌++◌, true, sym, ap, ◌∙◌, subst, ⊎_elim, arith}
 use Rattle.std.specs.Prelude.{slice_get}
-use Rattle.cluster_law.specs.Lists.{In, Each, Pairs}
+use Rattle.list_laws.specs.Lists.{In, Each, Pairs}
 use Rattle.std.proofs.lemmas.Option.{slice_get-map}
 use Rattle.std.specs.Option.{option_map}
 use Rattle.cluster_law.specs.Names.{Bytes, PubId, LifeId}
@@ -12,7 +12,7 @@ use Rattle.cluster_law.specs.Shard.{Subscription, Shard, life_id}
 use Rattle.cluster_law.specs.Node.{Node, finished_turns}
 use Rattle.cluster_law.specs.Cluster.{World, applied}
 use Rattle.cluster_law.specs.Headline.{InOrder, OneMember}
-use Rattle.cluster_law.proofs.Lists.{each_one, in_append, in_left, in_right, each_append, pairs_append, read_set}
+use Rattle.list_laws.proofs.Lists.{each_one, in_append, in_left, in_right, each_append, pairs_append, read_set}
 use Rattle.cluster_law.proofs.Invariants.{ShardIs, JobsApart, PlacedOk, LifeOk, ClosingOk, SubscriptionOk, ShardOk, WonAll, NodeOk, Rest, LineIs, IsMine, begun}
 
 -- what was placed stays as it was

@@ -1,14 +1,14 @@
 -- A start keeps what holds: nothing in the histories is of the new incarnation. So does a step that changes nothing.
 use Rattle.std.proofs.Common.{◌≡◌, ℕ, suc, List, [], ◌∷◌, ◌++◌, set, length, true, refl, sym, ap, subst, inl, inr, ⊎_elim, arith}
 use Rattle.std.proofs.lemmas.Option.{none-some}
-use Rattle.cluster_law.specs.Lists.{In}
+use Rattle.list_laws.specs.Lists.{In}
 use Rattle.cluster_law.specs.Interest.{changes_of}
 use Rattle.cluster_law.specs.Messages.{Frame, Message, Interest, Greeting}
 use Rattle.cluster_law.specs.Config.{Config}
 use Rattle.cluster_law.specs.Hub.{Peer, unheard}
 use Rattle.cluster_law.specs.Cluster.{World, new_shard, new_node}
 use Rattle.cluster_law.specs.Headline.{IsView}
-use Rattle.cluster_law.proofs.Lists.{in_left, in_right, read_set, read_replicate}
+use Rattle.list_laws.proofs.Lists.{in_left, in_right, read_set, read_replicate}
 use Rattle.cluster_law.proofs.Views.{changes_none, view_none}
 use Rattle.cluster_law.proofs.Invariants.{HubIs, ShardIs, NodeIs, FrameOk, InterestIs, Holds}
 

@@ -2,7 +2,7 @@
 use Rattle.std.proofs.Common.{◌≡◌, ◌≢◌, ◌&&◌, ℕ, zero, suc, ◌+◌, ◌<◌, ◌≤◌, Bool, true, false, cond, nat_eq, List, [], ◌∷◌, ◌++◌, map, set, length, slice_get, Some, refl, sym, ap, ◌∙◌, subst, inl, inr, ⊎_elim, true≢false, arith, length-append}
 use Rattle.std.proofs.lemmas.Option.{same_Some, none-some}
 use Rattle.std.proofs.lemmas.Bool.{eqb-true, eq-eqb}
-use Rattle.cluster_law.specs.Lists.{In, Each}
+use Rattle.list_laws.specs.Lists.{In, Each}
 use Rattle.cluster_law.specs.Interest.{View, Change, Noted, changes_of, view_after}
 use Rattle.cluster_law.specs.Messages.{Routed, Body, Changed, Snapshot, News, Frame, Message, Interest, Greeting}
 use Rattle.cluster_law.specs.Config.{Config, every_rule}
@@ -11,7 +11,7 @@ use Rattle.cluster_law.specs.Hub.{Peer, Hub, unheard, Known, Taken, Says, IsTold
 use Rattle.cluster_law.specs.Node.{Node, noted}
 use Rattle.cluster_law.specs.Cluster.{World, applied}
 use Rattle.cluster_law.specs.Headline.{IsView}
-use Rattle.cluster_law.proofs.Lists.{in_map, each_append, read_set}
+use Rattle.list_laws.proofs.Lists.{in_map, each_append, read_set}
 use Rattle.cluster_law.proofs.HubEvents.{known_seen}
 use Rattle.cluster_law.proofs.Invariants.{Told, FrameOk, InterestIs, Interests}
 

@@ -1,7 +1,7 @@
 -- What holds at first, is kept by every step, and says the laws.
 use Rattle.std.proofs.Common.{◌≡◌, ℕ, suc, ◌<◌, List, [], ◌∷◌, ◌++◌, Option, Some, None, true, true≢false, refl, sym, ap, ◌∙◌, subst, inl, inr, ⊎_elim, arith, replicate, map}
 use Rattle.std.specs.Prelude.{slice_get}
-use Rattle.cluster_law.specs.Lists.{In, Each}
+use Rattle.list_laws.specs.Lists.{In, Each}
 use Rattle.cluster_law.specs.Names.{PubId}
 use Rattle.cluster_law.specs.Messages.{Routed, Frame, Message, Interest, Greeting, messages}
 use Rattle.cluster_law.specs.Config.{Config, every_rule}
@@ -12,7 +12,7 @@ use Rattle.cluster_law.specs.Shard.{Shard, ShardEvent, Subscribe, Close, Begin, 
 use Rattle.cluster_law.specs.Node.{Node, NodeEvent, Publish, Receive, Announce, OnShard, NodeStep, AtShard}
 use Rattle.cluster_law.specs.Cluster.{World, Event, Start, Stop, Hand, At, Acts, Happens, Step, Run, Reached, IsOwn, applied, all_closings, begin, no_node}
 use Rattle.cluster_law.specs.Headline.{Headline, PlainOnce, InOrder, OneFrame, AcceptedOnce, Unique, Routing, IsLine, EachShard, EachView}
-use Rattle.cluster_law.proofs.Lists.{in_read, pairs_weaker, each_cons, read_replicate}
+use Rattle.list_laws.proofs.Lists.{in_read, pairs_weaker, each_cons, read_replicate}
 use Rattle.cluster_law.proofs.Invariants.{HubOk, NodeOk, InterestIs, FrameOk, Holds, RoutedApart, JobsApart, Local, Remote, LineIs}
 use Rattle.cluster_law.proofs.Hubs.{hubs_kept}
 use Rattle.cluster_law.proofs.Shards.{rest_kept}
@@ -82,7 +82,7 @@ shard_quiet c n now s a e out b p = go e p.steps
     go (Subscribe connection sid pattern queue) q = by _ q.0.out_is refl refl
     go (Close closed) q = by _ q.0.out_is refl refl
     go Begin q = by _ q.0.out_is refl refl
-    go Claim q = ⊎_elim (λ (v : Wins every_rule c n a.inc now s a.race p.old out p.new p.race). by _ v.out_is refl refl) (λ (v : Passes a.race p.old out p.new p.race). by _ v.out_is refl refl) q
+    go Claim q = ⊎_elim (λ (v : Wins every_rule c n a.inc now s a.race p.old out p.new p.race). by _ v.out_is refl refl) (λ (v : Passes c.window a.race p.old out p.new p.race). by _ v.out_is refl refl) q
     go End q = by _ q.0.out_is refl refl
     go Drop q = by _ q.0.out_is refl refl
 

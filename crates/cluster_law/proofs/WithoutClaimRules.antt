@@ -3,7 +3,7 @@ use Rattle.std.proofs.Common.{◌≡◌, ℕ, List, [], ◌∷◌, Some, None, f
 use Rattle.cluster_law.specs.Config.{Config, every_rule}
 use Rattle.cluster_law.specs.Cluster.{begin}
 use Rattle.cluster_law.specs.Shard.{IsOwedPlain}
-use Rattle.cluster_law.proofs.Lists.{each_cons}
+use Rattle.list_laws.proofs.Lists.{each_cons}
 use Rattle.cluster_law.specs.Counterexamples.{WindowIsNeeded, UnwonIsNeeded, MemberIsNeeded, OnceIsNeeded, FreshIsNeeded}
 use Rattle.cluster_law.proofs.Scripts.{Line, Starts, Stops, Opens, Shuts, Sends, Begins, Wins, play, is_reached}
 use Rattle.cluster_law.proofs.Settings.{small, cluster_of, three, queue, member, plain, none_twice, one_name, same_won, owed_plain}

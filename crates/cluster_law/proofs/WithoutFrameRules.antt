@@ -1,13 +1,13 @@
 -- Runs without a rule of frames, or of a publish.
 use Rattle.std.proofs.Common.{ℕ, List, [], ◌∷◌, length, Some, None, false, refl, ap, inl, inr, arith}
-use Rattle.cluster_law.specs.Lists.{Disjoint}
+use Rattle.list_laws.specs.Lists.{Disjoint}
 use Rattle.cluster_law.specs.Interest.{Weighted, Up}
 use Rattle.cluster_law.specs.Messages.{Routed, News, Changed, Interest, Greeting}
 use Rattle.cluster_law.specs.Config.{every_rule}
 use Rattle.cluster_law.specs.Hub.{Peer, unheard, RoutedOf}
 use Rattle.cluster_law.specs.Cluster.{begin}
 use Rattle.cluster_law.specs.Counterexamples.{AddresseeIsNeeded, IncarnationIsNeeded, MarkIsNeeded, OriginIsNeeded, SentIsNeeded, ApartIsNeeded, OneFrameIsNeeded, NextIsNeeded}
-use Rattle.cluster_law.proofs.Lists.{each_cons}
+use Rattle.list_laws.proofs.Lists.{each_cons}
 use Rattle.cluster_law.proofs.Scripts.{Line, Starts, Stops, Tells, Greets, Hears, Opens, Sends, Takes, Begins, Wins, Ends, play, is_reached}
 use Rattle.cluster_law.proofs.Settings.{small, three, queue, routed, member, plain, none_twice, one_name, none_shared, same_won, other_node, other_inc, of_publication, only, owed_plain}
 

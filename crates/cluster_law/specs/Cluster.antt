@@ -1,6 +1,7 @@
 -- The cluster (profile): nodes that start and stop, and frames that were sent and are handed over at any time, any number of times, or never.
 use Rattle.std.specs.Prelude.{◌≡◌, ◌⊎◌, ℕ, suc, ◌<◌, true, false, List, [], ◌∷◌, ◌++◌, map, set, replicate, slice_get, Some, None}
-use Rattle.cluster_law.specs.Lists.{In, Where}
+use Rattle.list_laws.specs.Lists.{In}
+use Rattle.cluster_law.specs.Rules.{Where}
 use Rattle.cluster_law.specs.Messages.{Frame}
 use Rattle.cluster_law.specs.Config.{Config, Rules}
 use Rattle.cluster_law.specs.History.{Closing, History, Output, nothing, grown}

@@ -1,6 +1,6 @@
 -- What holds of every world that is reached. Pairs are of an older and a newer entry.
 use Rattle.std.specs.Prelude.{◌≡◌, ◌≢◌, ◌⊎◌, ℕ, ◌<◌, ◌≤◌, true, List, [], ◌∷◌, length, slice_get, Option, Some, None}
-use Rattle.cluster_law.specs.Lists.{In, Each, Pairs, Disjoint}
+use Rattle.list_laws.specs.Lists.{In, Each, Pairs, Disjoint}
 use Rattle.cluster_law.specs.Names.{Bytes}
 use Rattle.cluster_law.specs.Interest.{changes_of, view_after}
 use Rattle.cluster_law.specs.Messages.{Publication, Routed, messages}

@@ -1,6 +1,7 @@
 -- The hub's part of a node: it numbers publications, splits their queue names, and tells which frames of others it takes (profile).
-use Rattle.std.specs.Prelude.{◌≡◌, ◌≢◌, ◌⊎◌, ℕ, suc, ◌+◌, ◌<◌, ◌≤◌, List, [], ◌∷◌, ◌++◌, set, length, slice_get, Some}
-use Rattle.cluster_law.specs.Lists.{Each, Pairs, NoRepeat, Disjoint, Where}
+use Rattle.std.specs.Prelude.{◌≡◌, ◌≢◌, ◌⊎◌, ℕ, suc, ◌+◌, ◌<◌, ◌≤◌, List, [], set, length, slice_get, Some}
+use Rattle.list_laws.specs.Lists.{Each, Pairs, NoRepeat, Disjoint}
+use Rattle.cluster_law.specs.Rules.{Where}
 use Rattle.cluster_law.specs.Names.{Bytes, PubId}
 use Rattle.cluster_law.specs.Interest.{View, Change, view_after}
 use Rattle.cluster_law.specs.Messages.{Publication, Routed, Body, Changed, Snapshot, News, Frame, Message, Interest, Greeting}
@@ -25,11 +26,6 @@ unheard inc = record { seen = inc; mark = 0; heard = 0; view = [] }
 
 -- Publish
 
--- All queue names that go by frames.
-abbrev pub routed_names : List Routed → List Bytes
-routed_names [] = []
-routed_names (m ∷ ms) = m.names ++ routed_names ms
-
 -- A frame of this publication, for another node, at the greatest incarnation seen of it.
 pub record RoutedOf (n : ℕ) (hub : Hub) (p : Publication) (m : Routed) : Type 0 where
   pub id : m.id ≡ p.id
@@ -46,7 +42,8 @@ next_id n inc hub = record { origin = n; inc = inc; number = suc hub.published }
 -- A publish: its queue names are split, in any way, among this node's job and frames to other nodes.
 pub record HubPublishes (rules : Rules) (c : Config) (n : ℕ) (hub : Hub) (p : Publication) (names : List Bytes) (frames : List Routed) (new : Hub) : Type 0 where
   pub once : NoRepeat names
-  pub few : length (names ++ routed_names frames) ≤ c.queue_names
+  pub few : length names ≤ c.queue_names
+  pub few_in_frame : Each (λ f. length f.names ≤ c.queue_names) frames
   pub frames_of : Each (RoutedOf n hub p) frames
   pub frames_apart : Pairs (λ f g. Where rules.one_frame (f.to ≢ g.to) × Where rules.apart (Disjoint f.names g.names)) frames
   pub job_apart : Each (λ f. Where rules.apart (Disjoint f.names names)) frames

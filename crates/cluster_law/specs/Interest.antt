@@ -20,6 +20,8 @@ View = List Weighted
 pub data Change : Type 0 where
   Up : (weighted : Weighted) → Change
   Gone : (key : Key) → Change
+  -- a node that drains waits for nothing any more
+  Cleared : Change
 
 -- A change that was made, in the history of the cluster.
 pub record Noted : Type 0 where

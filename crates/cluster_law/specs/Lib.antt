@@ -1,4 +1,4 @@
-pub mod Lists
+pub mod Rules
 pub mod Names
 pub mod Interest
 pub mod Messages

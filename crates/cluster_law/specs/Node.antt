@@ -8,7 +8,7 @@ use Rattle.cluster_law.specs.History.{Job, Output, nothing}
 use Rattle.cluster_law.specs.Hub.{Hub, HubPublishes, HubReceives, HubHears, HubMeets, HubAnnounces, IsTold, next_id}
 use Rattle.cluster_law.specs.Race.{Race, Issues}
 use Rattle.cluster_law.specs.Shard.{Shard, ShardEvent, ShardStep}
-use Rattle.cluster_law.specs.Lists.{Each}
+use Rattle.list_laws.specs.Lists.{Each}
 
 pub record Node : Type 0 where
   pub up : Bool

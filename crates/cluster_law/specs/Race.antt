@@ -1,6 +1,7 @@
 -- Issuing turns, and which claims were won: of each pair of a turn and a queue name's index one claim wins, over all shards of the node (profile).
 use Rattle.std.specs.Prelude.{◌≡◌, ◌⊎◌, ◌↔◌, ℕ, suc, ◌+◌, ◌<◌, ◌≤◌, List, slice_get, Some}
-use Rattle.cluster_law.specs.Lists.{In, Where}
+use Rattle.list_laws.specs.Lists.{In}
+use Rattle.cluster_law.specs.Rules.{Where}
 use Rattle.cluster_law.specs.Config.{Rules}
 
 -- The last turn issued, and the pairs (turn, index) that were won.
@@ -11,6 +12,11 @@ pub record Race : Type 0 where
 -- Which pairs were won is kept over the window, the newest turns issued, alone.
 abbrev pub KeptOver : ℕ → ℕ → List (ℕ × ℕ) → List (ℕ × ℕ) → Type 0
 KeptOver window issued old new = (turn index : ℕ) → issued < turn + window → In (turn, index) old ↔ In (turn, index) new
+
+-- A step that decides no claim.
+pub record Keeps (window : ℕ) (race new : Race) : Type 0 where
+  pub issued : new.issued ≡ race.issued
+  pub kept : KeptOver window race.issued race.won new.won
 
 -- The next turn is issued: each shard, seen by its finished turns, is less than a window behind.
 pub record Issues (rules : Rules) (window : ℕ) (finished : List ℕ) (race new : Race) : Type 0 where

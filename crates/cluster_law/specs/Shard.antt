@@ -1,11 +1,12 @@
 -- A shard's part of a node: it holds open subscriptions, and works the jobs of its line one after the other ("Client Protocol", "Queue Groups"; turns and claims: profile).
 -- n is the node, inc its incarnation, now the number of this step, s the shard.
 use Rattle.std.specs.Prelude.{◌≡◌, ◌≢◌, ◌⊎◌, ℕ, suc, Bool, true, false, cond, nat_eq, List, [], ◌∷◌, ◌++◌, map, length, slice_get, Option, Some, None}
-use Rattle.cluster_law.specs.Lists.{In, Each, Pairs, Where}
+use Rattle.list_laws.specs.Lists.{In, Each, Pairs}
+use Rattle.cluster_law.specs.Rules.{Where}
 use Rattle.cluster_law.specs.Names.{Bytes, LifeId}
 use Rattle.cluster_law.specs.Config.{Config, Rules}
 use Rattle.cluster_law.specs.History.{Job, Closing, Placement, Output, nothing}
-use Rattle.cluster_law.specs.Race.{Race, WinsPair}
+use Rattle.cluster_law.specs.Race.{Race, Keeps, WinsPair}
 
 -- An open subscription.
 pub record Subscription : Type 0 where
@@ -100,12 +101,12 @@ pub record Wins (rules : Rules) (c : Config) (n inc now s : ℕ) (race : Race) (
   pub after : new ≡ record old { next = suc old.next; subscriptions = without closed old.subscriptions }
 
 -- A claim that is lost, or an index that has no candidate here.
-pub record Passes (race : Race) (old : Shard) (out : Output) (new : Shard) (after_race : Race) : Type 0 where
+pub record Passes (window : ℕ) (race : Race) (old : Shard) (out : Output) (new : Shard) (after_race : Race) : Type 0 where
   pub job : Job
   pub in_hand : old.hand ≡ Some job
   pub name : Bytes
   pub name_is : slice_get job.names old.next ≡ Some name
-  pub race_is : after_race ≡ race
+  pub keeps : Keeps window race after_race
   pub out_is : out ≡ nothing
   pub after : new ≡ record old { next = suc old.next }
 
@@ -135,9 +136,9 @@ pub data ShardEvent : Type 0 where
 
 -- Of the rest of the node a shard sees the race alone, and moves it by a claim alone.
 abbrev pub ShardStep : Rules → Config → ℕ → ℕ → ℕ → ℕ → Race → Shard → ShardEvent → Output → Shard → Race → Type 0
-ShardStep rules c n inc now s race old (Subscribe connection sid pattern queue) out new after_race = Subscribes n inc now s old connection sid pattern queue out new × (after_race ≡ race)
-ShardStep rules c n inc now s race old (Close closed) out new after_race = Closes n inc now s old closed out new × (after_race ≡ race)
-ShardStep rules c n inc now s race old Begin out new after_race = Begins rules c n inc now s old out new × (after_race ≡ race)
-ShardStep rules c n inc now s race old Claim out new after_race = Wins rules c n inc now s race old out new after_race ⊎ Passes race old out new after_race
-ShardStep rules c n inc now s race old End out new after_race = Ends old out new × (after_race ≡ race)
-ShardStep rules c n inc now s race old Drop out new after_race = Drops old out new × (after_race ≡ race)
+ShardStep rules c n inc now s race old (Subscribe connection sid pattern queue) out new after_race = Subscribes n inc now s old connection sid pattern queue out new × Keeps c.window race after_race
+ShardStep rules c n inc now s race old (Close closed) out new after_race = Closes n inc now s old closed out new × Keeps c.window race after_race
+ShardStep rules c n inc now s race old Begin out new after_race = Begins rules c n inc now s old out new × Keeps c.window race after_race
+ShardStep rules c n inc now s race old Claim out new after_race = Wins rules c n inc now s race old out new after_race ⊎ Passes c.window race old out new after_race
+ShardStep rules c n inc now s race old End out new after_race = Ends old out new × Keeps c.window race after_race
+ShardStep rules c n inc now s race old Drop out new after_race = Drops old out new × Keeps c.window race after_race

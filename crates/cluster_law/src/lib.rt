@@ -9,9 +9,9 @@
 #![tactic(auto)]
 
 ghost use Rattle.std.specs.Prelude.{List};
-ghost use Rattle.cluster_law.specs.Lists.{Each};
+ghost use Rattle.list_laws.specs.Lists.{Each};
 ghost use Rattle.cluster_law.specs.Config.{Config, every_rule};
-ghost use Rattle.cluster_law.specs.Cluster.{World, Event, Run, Reached, begin};
+ghost use Rattle.cluster_law.specs.Cluster.{World, Event, Run, Step, Reached, begin};
 ghost use Rattle.cluster_law.specs.Headline.{Headline, Unique, Routing, IsLine, EachShard, EachView};
 ghost use Rattle.cluster_law.specs.Runs.{TurnsStay, Path};
 ghost use Rattle.cluster_law.specs.Example.{Witness};
@@ -48,6 +48,11 @@ pub fn finished_turns_stay()
 /// Each view that a node keeps of another is the interest of the incarnation that it has seen, after some number of changes that this incarnation has made.
 pub fn views_are_of_origin()
     ensures { (c : Config) (w : World) → Reached every_rule c w → EachView c w }
+{}
+
+/// One more step of a world that is reached leads to one that is reached. Whoever shows each step of a machine that knows more to be a step of this one has these laws there too.
+pub fn steps_reach()
+    ensures { (c : Config) (w w' : World) (e : Event) → Reached every_rule c w → Step every_rule c w e w' → Reached every_rule c w' }
 {}
 
 /// A machine that knows more of its nodes has these laws too. Where each next world, as far as this machine sees it, is a step or no change, each of its worlds is one that is

@@ -25,11 +25,10 @@ pub record Shelf : Type 0 where
   pub entries : List Written
   pub shut : Bool
 
--- what waits; what will wait once all that was staged is shown; the places set aside; the limits
+-- what waits; what will wait once all that was staged is shown; the limits
 pub record Waiting : Type 0 where
   pub shown : Shelf
   pub next : Shelf
-  pub reserved : ℕ
   pub max_entries : ℕ
   pub max_bytes : ℕ
 
@@ -38,7 +37,7 @@ empty_shelf = record { entries = []; shut = false }
 
 abbrev pub empty_outbox : ℕ → ℕ → Waiting
 empty_outbox max_entries max_bytes =
-    record { shown = empty_shelf; next = empty_shelf; reserved = 0; max_entries = max_entries; max_bytes = max_bytes }
+    record { shown = empty_shelf; next = empty_shelf; max_entries = max_entries; max_bytes = max_bytes }
 
 abbrev pub size_of : List Written → ℕ
 size_of entries = sum_by (λ entry. length entry.bytes) entries

@@ -36,10 +36,10 @@ fn move_front(from: &mut VecDeque<Entry>, to: &mut Vec<Entry>, count: usize, byt
 /// A last line may be put beyond both; behind it nothing is put any more. (Profile.)
 ///
 /// Entries may also be staged: put behind what waits, unseen, until [`Outbox::commit`] shows all of
-/// them or [`Outbox::rollback`] drops them.
+/// them or [`Outbox::rollback`] drops them. An entry that is staged has its place and its room: to show
+/// it takes no memory, and to drop it gives both back.
 ///
-/// Seen as what waits, what will wait once all that was staged is shown, the number of places set
-/// aside, and the two limits.
+/// Seen as what waits, what will wait once all that was staged is shown, and the two limits.
 #[derive(Drop)]
 pub struct Outbox {
     alloc: Global,
@@ -53,8 +53,6 @@ pub struct Outbox {
     /// Whether a last line waits, and whether one waits or was staged.
     shut: bool,
     closing: bool,
-    /// The places set aside.
-    reserved: usize,
     /// The memory of the last line.
     last_line: Vec<u8>,
     max_entries: usize,
@@ -73,12 +71,11 @@ impl Model for Outbox {
     ghost view = { λ b. record {
       shown = record { entries = take b.shown b.entries.items; shut = b.shut };
       next = record { entries = b.entries.items; shut = b.closing };
-      reserved = b.reserved;
       max_entries = b.max_entries;
       max_bytes = b.max_bytes;
     } };
 
-    ghost invariant = { λ b. IsSound b.entries.items (deque_capacity b.entries) b.shown b.shown_bytes b.bytes b.shut b.closing b.reserved b.max_bytes × HasLastLine b.shut b.last_line.items (vec_capacity b.last_line) };
+    ghost invariant = { λ b. IsSound b.entries.items (deque_capacity b.entries) b.shown b.shown_bytes b.bytes b.shut b.closing b.max_bytes × HasLastLine b.shut b.last_line.items (vec_capacity b.last_line) };
 }
 
 impl Outbox {
@@ -96,7 +93,6 @@ impl Outbox {
             bytes: 0,
             shut: false,
             closing: false,
-            reserved: 0,
             last_line,
             max_entries,
             max_bytes,
@@ -154,32 +150,6 @@ impl Outbox {
         }
     }
 
-    /// Sets a place aside for an entry of this many bytes. Want of memory sets none aside.
-    pub fn reserve(&mut self, len: usize) -> Result<(), AllocError>
-        requires { IsTrue (has_room self.old.max_entries self.old.max_bytes len self.old.next) }
-        ensures ok { OnOk result (self.new ≡ record self.old { reserved = self.old.reserved + 1 }) }
-        ensures err { OnErr result (self.new ≡ self.old) }
-    {
-        let _ = len;
-        self.entries.reserve(self.reserved + 2)?;
-        self.reserved += 1;
-        Ok(())
-    }
-
-    /// Puts an entry into a place that was set aside. Takes no memory.
-    pub fn push_reserved(&mut self, entry: Entry)
-        requires settled { self.old.next ≡ self.old.shown }
-        requires reserved { 0 < self.old.reserved }
-        requires room { IsTrue (has_room self.old.max_entries self.old.max_bytes (length entry.bytes) self.old.shown) }
-        ensures { self.new ≡ record (on_both (with_entry entry) self.old) { reserved = self.old.reserved - 1 } }
-    {
-        self.bytes += entry.len();
-        self.entries.push_back_reserved(entry);
-        self.reserved -= 1;
-        self.shown = self.entries.len();
-        self.shown_bytes = self.bytes;
-    }
-
     /// Puts the last line, given without its CR LF, beyond both limits. Takes no memory.
     pub fn shut(&mut self, line: &[u8])
         requires settled { self.old.next ≡ self.old.shown }
@@ -202,7 +172,7 @@ impl Outbox {
         ensures err { OnErr result (self.new ≡ self.old) }
     {
         let size = entry.len();
-        self.entries.reserve(self.reserved + 2)?;
+        self.entries.reserve(2)?;
         self.entries.push_back_reserved(entry);
         self.bytes += size;
         Ok(())

@@ -67,8 +67,8 @@ fn put(rt: &impl Abort, alloc: Global, outbox: &mut Outbox, line: &[u8]) -> Resu
 {
     let entry = reply(rt, alloc, line)?;
     assert!(rt; outbox.room(entry.len()), "{line:?}");
-    outbox.reserve(entry.len())?;
-    outbox.push_reserved(entry);
+    outbox.stage(entry)?;
+    outbox.commit();
     Ok(())
 }
 
@@ -203,19 +203,6 @@ fn room_ends_at_both_limits(rt: HostRuntime) -> Result<(), Fail> {
     for (line, room) in table {
         assert_eq!(rt; outbox.room_for(line), room, "{line:?}");
     }
-    Ok(())
-}
-
-#[test]
-fn places_set_aside_are_no_entries(rt: HostRuntime) -> Result<(), Fail> {
-    let alloc = rt.alloc();
-    let mut outbox = Outbox::new(alloc, 2, 100)?;
-    for _ in 0..3 {
-        assert!(rt; outbox.room(5));
-        outbox.reserve(5)?;
-        assert_eq!(rt; outbox.len(), 0);
-    }
-    assert!(rt; outbox.is_empty());
     Ok(())
 }
 

@@ -1,5 +1,5 @@
--- Words for histories, which are lists that only grow: the oldest entry stands first.
-use Rattle.std.specs.Prelude.{◌≡◌, ◌⊎◌, ℕ, Bool, true, false, List, [], ◌∷◌, slice_get, Some}
+-- Words for lists: the oldest entry of a history stands first.
+use Rattle.std.specs.Prelude.{◌≡◌, ◌⊎◌, ℕ, List, [], ◌∷◌, slice_get, Some}
 
 -- It is an entry of the list.
 abbrev pub In : {A : Type 0} → A → List A → Type 0
@@ -23,7 +23,15 @@ NoRepeat {A} xs = (i j : ℕ) (x : A) → slice_get xs i ≡ Some x → slice_ge
 abbrev pub Disjoint : {A : Type 0} → List A → List A → Type 0
 Disjoint {A} xs ys = (x : A) → In x xs → In x ys → ⊥
 
--- A rule that holds where it is switched on.
-abbrev pub Where : Bool → Type 0 → Type 0
-Where true P = P
-Where false P = Unit {0}
+-- The two lists are in step: entry for entry they stand so to one another.
+abbrev pub Along : {A B : Type 0} → (A → B → Type 0) → List A → List B → Type 0
+Along R [] [] = Unit {0}
+Along R [] (y ∷ ys) = ⊥
+Along R (x ∷ xs) [] = ⊥
+Along R (x ∷ xs) (y ∷ ys) = R x y × Along R xs ys
+
+-- Some of the entries, in their order.
+abbrev pub SubList : {A : Type 0} → List A → List A → Type 0
+SubList [] ys = Unit {0}
+SubList (x ∷ xs) [] = ⊥
+SubList (x ∷ xs) (y ∷ ys) = ((x ≡ y) × SubList xs ys) ⊎ SubList (x ∷ xs) ys

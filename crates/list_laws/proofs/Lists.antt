@@ -2,7 +2,7 @@
 use Rattle.std.proofs.Common.{◌≡◌, ◌≢◌, ◌⊎◌, ℕ, zero, suc, List, [], ◌∷◌, ◌++◌, map, set, replicate, Some, refl, sym, ◌∙◌, subst, inl, inr, ⊎_elim, arith}
 use Rattle.std.specs.Prelude.{slice_get}
 use Rattle.std.proofs.lemmas.Option.{same_Some, none-some}
-use Rattle.cluster_law.specs.Lists.{In, Each, Pairs}
+use Rattle.list_laws.specs.Lists.{In, Each, Pairs}
 
 pub each_cons : {A : Type 0} (P : A → Type 0) (y : A) (ys : List A) → P y → Each P ys → Each P (y ∷ ys)
 each_cons P y ys p h x i = ⊎_elim (λ e. subst P (sym e) p) (λ j. h x j) i

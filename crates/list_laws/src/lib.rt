@@ -1,0 +1,4 @@
+//! Words and lemmas for lists that laws speak of: entries of a list, each of them, each two of them, two lists in step.
+//!
+//! It has no code. What the crates above prove of shards, hubs, nodes and the cluster is said in these words.
+#![tactic(auto)]
