@@ -1,0 +1,149 @@
+-- What a step of the walk gathers.
+use Rattle.std.proofs.Common.{◌≡◌, ℕ, Bool, true, false, cond, ◌&&◌, ◌||◌, List, [], ◌∷◌, ◌++◌, length, take, map, refl, eq-eqb, ap, sym, ◌∙◌, arith, inl, inr}
+use Rattle.std.specs.Prelude.{codes, nat_lt, Option}
+use Rattle.std.specs.Option.{is_some}
+use Rattle.std.proofs.Common.{Some, None}
+use Rattle.pattern_trie.specs.declared.node.Node.{Node}
+use Rattle.std.specs.Bool.{nat_eq}
+use Rattle.std.specs.Str.{bytes_eq}
+use Rattle.std.specs.Cmp.Lexicographic.{bytes_decides}
+use Rattle.std.proofs.lemmas.Bool.{cases_Bool, cond-false}
+use Rattle.std.proofs.lemmas.Bool.Decides.{nat_tests}
+use Rattle.std.proofs.lemmas.List.{append_assoc, append-nil}
+use Rattle.subj.specs.Names.{is_empty}
+use Rattle.pattern_trie.specs.declared.wilds.Wilds.{Wilds}
+use Rattle.pattern_trie.specs.Nodes.{Nodes, is_in, has_wild, below_at, values_at, count_of, one_if}
+use Rattle.pattern_trie.specs.Beginnings.{is_beginning, is_before_dot, wild_token, with_wild}
+use Rattle.pattern_trie.specs.Held.{Held, Holds, count_below, values_for}
+use Rattle.pattern_trie.specs.Matchers.{matchers, dotted, extended, gathered}
+use Rattle.pattern_trie.proofs.Lists.{begins_itself, none_below}
+
+-- ---- lists of token lists
+
+gathered_append : (held : List Held) (path : List ℕ) (ms ns : List (List (List ℕ))) → gathered held path (ms ++ ns) ≡ gathered held path ms ++ gathered held path ns
+gathered_append held path [] ns = refl
+gathered_append held path (m ∷ ms) ns = ap (λ vs. values_for (extended path m) held ++ vs) (gathered_append held path ms ns) ∙ sym (append_assoc (values_for (extended path m) held) (gathered held path ms) (gathered held path ns))
+
+gathered_behind : (held : List Held) (path token : List ℕ) (ms : List (List (List ℕ))) → gathered held path (map (λ m. token ∷ m) ms) ≡ gathered held (dotted path token) ms
+gathered_behind held path token [] = refl
+gathered_behind held path token (m ∷ ms) = ap (λ vs. values_for (extended (dotted path token) m) held ++ vs) (gathered_behind held path token ms)
+
+-- the values of one token more: `>`, then the token, then `*`
+pub gathered_step : (held : List Held) (path token : List ℕ) (tokens : List (List ℕ))
+    → gathered held path (matchers (token ∷ tokens)) ≡ values_for (dotted path (codes ">")) held ++ (gathered held (dotted path token) (matchers tokens) ++ gathered held (dotted path (codes "*")) (matchers tokens))
+gathered_step held path token tokens =
+    ap (λ vs. values_for (dotted path (codes ">")) held ++ vs)
+    (gathered_append held path (map (λ m. token ∷ m) (matchers tokens)) (map (λ m. codes "*" ∷ m) (matchers tokens))
+    ∙ ap (λ vs. vs ++ gathered held path (map (λ m. codes "*" ∷ m) (matchers tokens))) (gathered_behind held path token (matchers tokens))
+    ∙ ap (λ vs. gathered held (dotted path token) (matchers tokens) ++ vs) (gathered_behind held path (codes "*") (matchers tokens)))
+
+-- ---- a path that nothing begins with
+
+before_more : (q r : List ℕ) → is_before_dot q (q ++ 46 ∷ r) ≡ true
+before_more [] r = refl
+before_more (a ∷ q) r = ap (λ b. b && is_before_dot q (q ++ 46 ∷ r)) (nat_list_same a) ∙ before_more q r where
+  nat_list_same : (a : ℕ) → nat_eq a a ≡ true
+  nat_list_same a = eq-eqb a a refl
+
+begins_more : (q r : List ℕ) → is_beginning q (q ++ 46 ∷ r) ≡ true
+begins_more q r = ap (λ b. bytes_eq q (q ++ 46 ∷ r) || b) (before_more q r) ∙ or_true (bytes_eq q (q ++ 46 ∷ r)) where
+  or_true : (b : Bool) → (b || true) ≡ true
+  or_true true = refl
+  or_true false = refl
+
+tail : List (List ℕ) → List ℕ
+tail [] = []
+tail (t ∷ ts) = 46 ∷ (t ++ tail ts)
+
+extended_is : (b : ℕ) (path : List ℕ) (ts : List (List ℕ)) → extended (b ∷ path) ts ≡ b ∷ (path ++ tail ts)
+unfolding tail
+extended_is b path [] = ap (λ l. b ∷ l) (sym (append-nil path))
+extended_is b path (t ∷ ts) = extended_is b (path ++ 46 ∷ t) ts ∙ ap (λ l. b ∷ l) (append_assoc path (46 ∷ t) (tail ts))
+
+extended_begins : (b : ℕ) (path : List ℕ) (ts : List (List ℕ)) → is_beginning (b ∷ path) (extended (b ∷ path) ts) ≡ true
+unfolding tail
+extended_begins b path [] = begins_itself (b ∷ path)
+extended_begins b path (t ∷ ts) = ap (is_beginning (b ∷ path)) (extended_is b path (t ∷ ts)) ∙ begins_more (b ∷ path) (t ++ tail ts)
+
+-- nothing is held under a text, where nothing is under one that begins it
+none_under : (p q : List ℕ) (held : List Held) → is_beginning p q ≡ true → count_below p held ≡ 0 → values_for q held ≡ []
+none_under p q [] begins none = refl
+none_under p q (h ∷ held) begins none =
+    elim (cases_Bool (bytes_eq q h.0)) [
+      | inl y ↦
+          let one : one_if (is_beginning p h.0) ≡ 1 = ap (λ t. one_if (is_beginning p t)) (sym ((bytes_decides q h.0).0 y)) ∙ ap one_if begins in
+          absurd (omega arith)
+      | inr n ↦ cond-false (bytes_eq q h.0) (h.1 ∷ values_for q held) (values_for q held) n ∙ none_under p q held begins (omega arith)
+    ]
+
+none_gathered : (b : ℕ) (path : List ℕ) (held : List Held) (ms : List (List (List ℕ))) → count_below (b ∷ path) held ≡ 0 → gathered held (b ∷ path) ms ≡ []
+none_gathered b path held [] none = refl
+none_gathered b path held (m ∷ ms) none = ap (λ vs. vs ++ gathered held (b ∷ path) ms) (none_under (b ∷ path) (extended (b ∷ path) m) held (extended_begins b path m) none) ∙ none_gathered b path held ms none
+
+-- where there is no node
+pub gathered_none : (held : List Held) (nodes : Nodes) (path : List ℕ) (ms : List (List (List ℕ))) → Holds held nodes → is_empty path ≡ false → below_at nodes path ≡ 0 → gathered held path ms ≡ []
+gathered_none held nodes [] ms is empty none = cc
+gathered_none held nodes (b ∷ path) ms is empty none = none_gathered b path held ms (sym (is.counts (b ∷ path)) ∙ none)
+
+-- ---- the path of one token more, cut off again
+
+pub dotted_back : (path token : List ℕ) → take (length path) (dotted path token) ≡ path
+dotted_back [] token = refl
+dotted_back (b ∷ path) token = ap (λ l. b ∷ l) (front path (46 ∷ token)) where
+  front : (xs ys : List ℕ) → take (length xs) (xs ++ ys) ≡ xs
+  front [] ys = refl
+  front (x ∷ xs) ys = ap (λ l. x ∷ l) (front xs ys)
+
+pub cut_back : (n : ℕ) (path more token : List ℕ) → n ≡ length path → more ≡ dotted path token → take n more ≡ path
+cut_back n path more token is at = ap (λ k. take k more) is ∙ ap (take (length path)) at ∙ dotted_back path token
+
+-- ---- a wildcard that no node is known for
+
+not_counted : (held : List Held) (nodes : Nodes) (path : List ℕ) (k : Bool) → Holds held nodes → is_empty path ≡ false → has_wild k nodes path ≡ false → count_below (dotted path (wild_token k)) held ≡ 0
+not_counted held nodes [] k is some none = cc
+not_counted held nodes (b ∷ path) k is some none =
+    elim (cases_Bool (nat_lt 0 (count_below (with_wild k (b ∷ path)) held))) [
+      | inl y ↦ absurd (no (sym (is.wilds k (b ∷ path) (grind (arith, nat_tests))) ∙ none))
+      | inr n ↦ grind (arith, nat_tests)
+    ]
+  where
+    no : true ≡ false → ⊥
+    no e = cc
+
+-- wildcards that may have nodes behind the path: where one is not among them, it has none
+abbrev pub AreKnown : Wilds → Nodes → List ℕ → Type 0
+AreKnown w nodes path = (k : Bool) → is_in k w ≡ false → (is_empty path ≡ false) × (has_wild k nodes path ≡ false)
+
+rest_is : (held : List Held) (nodes : Nodes) (path : List ℕ) (b : Bool) → Holds held nodes → (b ≡ false → (is_empty path ≡ false) × (has_wild false nodes path ≡ false)) → cond b (values_at nodes (dotted path (codes ">"))) [] ≡ values_for (dotted path (codes ">")) held
+rest_is held nodes path true is known = is.values (dotted path (codes ">"))
+rest_is held nodes path false is known = let none = known refl in sym (none_below (dotted path (codes ">")) held (not_counted held nodes path false is none.0 none.1))
+
+star_none : (held : List Held) (nodes : Nodes) (path : List ℕ) (ms : List (List (List ℕ))) → Holds held nodes → is_empty path ≡ false → has_wild true nodes path ≡ false → gathered held (dotted path (codes "*")) ms ≡ []
+star_none held nodes [] ms is some none = cc
+star_none held nodes (b ∷ path) ms is some none = none_gathered b (path ++ 46 ∷ codes "*") held ms (not_counted held nodes (b ∷ path) true is some none)
+
+-- the whole of a step
+module _ (held : List Held) (nodes : Nodes) (w : Wilds) (path token : List ℕ) (tokens : List (List ℕ)) (f0 f1 f2 : List ℕ) (is : Holds held nodes) (known : AreKnown w nodes path)
+    (one : f1 ≡ f0 ++ cond w.rest (values_at nodes (dotted path (codes ">"))) []) (two : f2 ≡ f1 ++ gathered held (dotted path token) (matchers tokens)) where
+  joined : (f a b d : List ℕ) → ((f ++ a) ++ b) ++ d ≡ f ++ (a ++ (b ++ d))
+  joined f a b d = append_assoc (f ++ a) b d ∙ append_assoc f a (b ++ d)
+
+  pub walked : (f3 : List ℕ) → f3 ≡ f2 ++ gathered held (dotted path (codes "*")) (matchers tokens) → f3 ≡ f0 ++ gathered held path (matchers (token ∷ tokens))
+  walked f3 three =
+      let a = values_for (dotted path (codes ">")) held in
+      let b = gathered held (dotted path token) (matchers tokens) in
+      let d = gathered held (dotted path (codes "*")) (matchers tokens) in
+      three ∙ ap (λ f. f ++ d) (two ∙ ap (λ f. f ++ b) (one ∙ ap (λ vs. f0 ++ vs) (rest_is held nodes path w.rest is (known false)))) ∙ joined f0 a b d ∙ sym (ap (λ vs. f0 ++ vs) (gathered_step held path token tokens))
+
+  pub walked_plain : w.one ≡ false → f2 ≡ f0 ++ gathered held path (matchers (token ∷ tokens))
+  walked_plain plain =
+      let none = known true plain in
+      walked f2 (sym (append-nil f2) ∙ ap (λ d. f2 ++ d) (sym (star_none held nodes path (matchers tokens) is none.0 none.1)))
+
+pub none_counted : (o : Option Node) → is_some o ≡ false → count_of o ≡ 0
+none_counted None no_one = refl
+none_counted (Some n) no_one = cc
+
+pub nonempty : (xs : List ℕ) → nat_eq (length xs) 0 ≡ false → is_empty xs ≡ false
+nonempty [] some = cc
+nonempty (x ∷ xs) some = refl

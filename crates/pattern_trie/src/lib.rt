@@ -1,0 +1,86 @@
+//! What is held under patterns, found by the subjects that they match.
+#![tactic(auto)]
+
+ghost use Rattle.std.specs.Prelude.{◌≡◌, ℕ, List, [], ◌∷◌, ◌++◌, OnOk, OnErr};
+ghost use Rattle.std.specs.List.Sorted.{IsPermutation};
+ghost use Rattle.pattern_trie.specs.Matchers.{matched};
+ghost use Rattle.pattern_trie.specs.Starts.{node_count};
+ghost use Rattle.pattern_trie.specs.Held.{Held, Holds, without_held};
+
+use crate::beginnings::{enter_all, leave_all};
+use crate::nodes::{Nodes, push_value, take_value};
+use crate::walks::gather;
+use std::alloc::{AllocError, Global};
+use std::collections::HashMap;
+use subj::{Pattern, Subject};
+
+mod beginnings;
+mod node;
+mod nodes;
+mod walks;
+mod wilds;
+
+/// Values, each held under a pattern.
+#[derive(Drop)]
+pub struct PatternTrie {
+    alloc: Global,
+    nodes: Nodes,
+    ghost filled: { ∥ ((held : List Held) × Holds held nodes) ∥₁ },
+}
+
+impl PatternTrie {
+    /// A trie that holds nothing.
+    pub fn new(alloc: Global) -> PatternTrie
+        ensures { Holds [] result.nodes }
+    {
+        PatternTrie {
+            alloc,
+            nodes: HashMap::new(alloc),
+        }
+    }
+
+    /// Holds one more value. Want of memory leaves the trie as it was.
+    pub fn insert(&mut self, pattern: &Pattern, value: u64) -> Result<(), AllocError>
+        ensures ok { (held : List Held) → Holds held self.old.nodes → OnOk result (Holds (held ++ (pattern.now, value) ∷ []) self.new.nodes) }
+        ensures err { (held : List Held) → Holds held self.old.nodes → OnErr result (Holds held self.new.nodes) }
+    {
+        let text = pattern.bytes();
+        enter_all(self.alloc, &mut self.nodes, text)?;
+        if push_value(&mut self.nodes, text, value).is_err() {
+            leave_all(&mut self.nodes, text);
+            return Err(AllocError);
+        }
+        Ok(())
+    }
+
+    /// Holds the first such value under the pattern no longer. Takes no memory.
+    pub fn remove(&mut self, pattern: &Pattern, value: u64)
+        ensures { (held : List Held) → Holds held self.old.nodes → Holds (without_held pattern.now value held) self.new.nodes }
+    {
+        let text = pattern.bytes();
+        if take_value(&mut self.nodes, text, value) {
+            leave_all(&mut self.nodes, text);
+        }
+    }
+
+    /// Adds the values held under the patterns that match the subject, once for each time that they
+    /// are held. In which order they come is not said.
+    pub fn matching(&self, subject: &Subject, found: &mut Vec<u64>) -> Result<(), AllocError>
+        ensures { (held : List Held) → Holds held self.now.nodes → OnOk result (IsPermutation (found.old.items ++ matched subject.now held) found.new.items) }
+    {
+        let text = subject.bytes();
+        let mut path = Vec::with_capacity(self.alloc, text.len())?;
+        gather(&self.nodes, &mut path, Some(text), found)
+    }
+
+    /// How many nodes there are: one for each beginning of the token lists of the patterns under
+    /// which something is held, and one for the beginning without a token. Takes no memory.
+    pub fn nodes(&self) -> usize
+        ensures { (held : List Held) → Holds held self.now.nodes → result ≡ node_count held }
+    {
+        self.nodes.len() + 1
+    }
+}
+
+#[cfg(test)]
+mod tests;

@@ -1,0 +1,109 @@
+//! The nodes of a trie, each by the bytes of the beginning that it stands for.
+
+ghost use Rattle.std.specs.Prelude.{◌≡◌, ℕ, ◌+◌, ◌-◌, ◌<◌, ◌∷◌, [], ◌++◌, IfOk, OnOk, OnErr, is_some, position, remove, if◌then◌else◌};
+ghost use Rattle.std.specs.Bool.{nat_eq};
+ghost use Rattle.std.specs.List.{list_any};
+ghost use Rattle.pattern_trie.specs.Nodes.{below_at, values_at, node_at, is_in, Enters, Leaves, IsSame, Values, without_value};
+
+use crate::node::Node;
+use crate::wilds::Wilds;
+use std::alloc::{AllocError, Global};
+use std::collections::HashMap;
+
+pub(crate) type Nodes = HashMap<Vec<u8>, Node>;
+
+/// Counts one more value below, at a pattern that goes on with these wildcards.
+pub(crate) fn enter(
+    alloc: Global,
+    nodes: &mut Nodes,
+    text: &[u8],
+    wilds: Wilds,
+) -> Result<(), AllocError>
+    ensures ok { OnOk result (Enters text.now (λ k. is_in k wilds) nodes.old nodes.new) }
+    ensures err { OnErr result (IsSame nodes.old nodes.new) }
+{
+    if let Some(node) = nodes.get_mut(text) {
+        node.below = node.below.checked_add(1).ok_or(AllocError)?;
+        node.wilds = node.wilds.or(wilds);
+        return Ok(());
+    }
+    let key = Vec::from_slice(alloc, text)?;
+    let node = Node {
+        below: 1,
+        values: Vec::new(alloc),
+        wilds,
+    };
+    nodes.insert(key, node)?;
+    Ok(())
+}
+
+/// How many values are held at patterns that begin so.
+fn below(nodes: &Nodes, text: &[u8]) -> usize
+    ensures { result ≡ below_at nodes.now text.now }
+{
+    match nodes.get(text) {
+        Some(node) => node.below,
+        None => 0,
+    }
+}
+
+/// Counts one less below. Takes no memory.
+pub(crate) fn leave(nodes: &mut Nodes, text: &[u8])
+    requires held { 0 < below_at nodes.old text.now }
+    requires last_is_empty { below_at nodes.old text.now ≡ 1 → values_at nodes.old text.now ≡ [] }
+    ensures { Leaves text.now nodes.old nodes.new }
+{
+    if below(nodes, text) == 1 {
+        nodes.remove(text);
+        return;
+    }
+    if let Some(node) = nodes.get_mut(text) {
+        node.below -= 1;
+    }
+}
+
+/// Puts one more value behind those at the text.
+pub(crate) fn push_value(nodes: &mut Nodes, text: &[u8], value: u64) -> Result<(), AllocError>
+    requires held { 0 < below_at nodes.old text.now }
+    ensures ok { OnOk result (Values text.now (values_at nodes.old text.now ++ value ∷ []) nodes.old nodes.new) }
+    ensures err { OnErr result (IsSame nodes.old nodes.new) }
+{
+    if let Some(node) = nodes.get_mut(text) {
+        if node.values.push(value).is_err() {
+            return Err(AllocError);
+        }
+    }
+    Ok(())
+}
+
+/// Where the first such value of a list stands.
+fn place_of(values: &[u64], value: u64) -> Option<usize>
+    ensures { result ≡ position (nat_eq value) values.now }
+{
+    values.iter().position(|held| value == *held)
+}
+
+/// Takes the first such value out of a list, where there is one.
+fn remove_first(values: &mut Vec<u64>, value: u64) -> bool
+    ensures some { result ≡ list_any (nat_eq value) values.old.items }
+    ensures left { values.new.items ≡ without_value value values.old.items }
+{
+    match place_of(values, value) {
+        Some(place) => {
+            values.remove(place);
+            true
+        }
+        None => false,
+    }
+}
+
+/// Takes out the first such value at the text, where there is one. Takes no memory.
+pub(crate) fn take_value(nodes: &mut Nodes, text: &[u8], value: u64) -> bool
+    ensures some { result ≡ list_any (nat_eq value) (values_at nodes.old text.now) }
+    ensures left { Values text.now (without_value value (values_at nodes.old text.now)) nodes.old nodes.new }
+{
+    match nodes.get_mut(text) {
+        Some(node) => remove_first(&mut node.values, value),
+        None => false,
+    }
+}

@@ -1,0 +1,5 @@
+mod Risen
+mod Orders
+mod Keyed
+mod Owned
+mod Below

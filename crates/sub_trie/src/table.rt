@@ -1,0 +1,131 @@
+//! The table.
+
+ghost use Rattle.std.specs.Prelude.{◌≡◌, ℕ, map, filter};
+ghost use Rattle.std.specs.Bool.{nat_eq};
+ghost use Rattle.std.specs.BTreeMap.{values};
+ghost use Rattle.arrayvec.specs.ArrayVec.{ArrayVec as Items};
+ghost use Rattle.sub_table.specs.Subscriptions.{is_called, serial_of, serials_of};
+ghost use Rattle.pattern_trie.specs.Starts.{node_count};
+ghost use Rattle.sub_trie.specs.Groups.{list_at, called_eq, serials_called};
+ghost use Rattle.sub_trie.specs.Rising.{held_of};
+
+use crate::groups::{copy_serials, first_serial, push_serial, take_serial};
+use crate::opened::Opened;
+use arrayvec::ArrayVec;
+use std::alloc::{AllocError, Global};
+use std::collections::HashMap;
+use sub_table::{SubTable, Subscription};
+use subj::{ConnId, MAX_SID, Sid, Subject};
+
+/// A connection, and what it calls a subscription.
+type Called = (u64, ArrayVec<u8, MAX_SID>);
+
+fn called(conn: ConnId, sid: &Sid) -> Called
+    ensures conn { result.0 ≡ conn }
+    ensures sid { result.1.items ≡ sid.now }
+{
+    (conn.get(), ArrayVec::try_from(sid.bytes()).unwrap())
+}
+
+/// A table that finds what a subject matches, what a connection calls by an id, and all of a
+/// connection by what is found, and not by going through what is open.
+#[derive(Drop)]
+pub struct TrieTable {
+    alloc: Global,
+    opened: Opened,
+    /// The serials of each connection's subscriptions.
+    by_conn: HashMap<u64, Vec<u64>>,
+    /// The serials of what a connection calls by an id.
+    by_sid: HashMap<Called, Vec<u64>>,
+    ghost owned: { (conn : ℕ) → list_at nat_eq by_conn conn ≡ serials_of conn (values opened.subs) },
+    ghost called: { (key : ℕ × Items ℕ) → list_at called_eq by_sid key ≡ serials_called key (values opened.subs) },
+}
+
+impl TrieTable {
+    /// How many nodes the trie of the patterns has: one for each beginning of their token lists,
+    /// the one without a token counted. Takes no memory.
+    pub fn nodes(&self) -> usize
+        ensures { result ≡ node_count (held_of (⟦<TrieTable as SubTable>⟧.contents self.now)) }
+    {
+        self.opened.nodes()
+    }
+}
+
+impl SubTable for TrieTable {
+    ghost contents = { λ table. values table.opened.subs };
+
+    fn new(alloc: Global) -> Result<Self, AllocError> {
+        Ok(TrieTable {
+            alloc,
+            opened: Opened::new(alloc),
+            by_conn: HashMap::new(alloc),
+            by_sid: HashMap::new(alloc),
+        })
+    }
+
+    fn len(&self) -> usize {
+        self.opened.len()
+    }
+
+    fn fits(&self, cost: u64, limit: u64) -> bool {
+        self.opened.fits(cost, limit)
+    }
+
+    fn add(&mut self, sub: Subscription) -> Result<(), AllocError> {
+        let conn = sub.conn.get();
+        let key = called(sub.conn, &sub.sid);
+        let serial = sub.serial;
+        self.opened.add(sub)?;
+        if push_serial(self.alloc, &mut self.by_conn, conn, serial).is_err() {
+            self.opened.remove(serial);
+            return Err(AllocError);
+        }
+        if push_serial(self.alloc, &mut self.by_sid, key, serial).is_err() {
+            take_serial(&mut self.by_conn, &conn, serial);
+            self.opened.remove(serial);
+            return Err(AllocError);
+        }
+        Ok(())
+    }
+
+    fn get(&self, serial: u64) -> Option<&Subscription> {
+        self.opened.get(serial)
+    }
+
+    fn find(&self, conn: ConnId, sid: &Sid) -> Option<u64> {
+        first_serial(&self.by_sid, &called(conn, sid))
+    }
+
+    fn matching(&self, subject: &Subject) -> Result<Vec<&Subscription>, AllocError> {
+        self.opened.matching(subject)
+    }
+
+    fn serials_of(&self, conn: ConnId, serials: &mut Vec<u64>) -> Result<(), AllocError> {
+        copy_serials(&self.by_conn, &conn.get(), serials)
+    }
+
+    fn set_count(&mut self, serial: u64, delivered: u64) {
+        self.opened.set_count(serial, delivered);
+    }
+
+    fn set_max(&mut self, serial: u64, max: Option<u64>) {
+        self.opened.set_max(serial, max);
+    }
+
+    fn remove(&mut self, serial: u64) -> Option<Subscription> {
+        match self.opened.remove(serial) {
+            None => None,
+            Some(sub) => {
+                take_serial(&mut self.by_conn, &sub.conn.get(), serial);
+                take_serial(&mut self.by_sid, &called(sub.conn, &sub.sid), serial);
+                Some(sub)
+            }
+        }
+    }
+
+    fn close(&mut self, conn: ConnId) {
+        while let Some(serial) = first_serial(&self.by_conn, &conn.get()) {
+            self.remove(serial);
+        }
+    }
+}
