@@ -60,7 +60,7 @@ module _ {K X : Type 0} {R : K → K → Ordering} (o : IsTotalOrder R) (k : K) 
 
   -- ---- the key stands at a place
 
-  found_here : (e : K × X) (es : List (K × X)) → R k e.0 ≡ Equal → IsPlaceOf R k (e ∷ es) 0
+  pub found_here : (e : K × X) (es : List (K × X)) → R k e.0 ≡ Equal → IsPlaceOf R k (e ∷ es) 0
   found_here e es is = record {
     within = omega arith;
     value = λ d. lookup_step e es Equal is;
@@ -68,7 +68,7 @@ module _ {K X : Type 0} {R : K → K → Ordering} (o : IsTotalOrder R) (k : K) 
     writes = λ d w. sym (insert_step e es w Equal is);
   }
 
-  found_behind : (e : K × X) (es : List (K × X)) (i : ℕ) → R k e.0 ≡ Greater → IsPlaceOf R k es i → IsPlaceOf R k (e ∷ es) (suc i)
+  pub found_behind : (e : K × X) (es : List (K × X)) (i : ℕ) → R k e.0 ≡ Greater → IsPlaceOf R k es i → IsPlaceOf R k (e ∷ es) (suc i)
   found_behind e es i is at = let within = at.within in record {
     within = omega arith;
     value = λ d. lookup_step e es Greater is ∙ at.value d;
@@ -78,14 +78,14 @@ module _ {K X : Type 0} {R : K → K → Ordering} (o : IsTotalOrder R) (k : K) 
 
   -- ---- the key would stand at a place
 
-  gap_here : (e : K × X) (es : List (K × X)) → IsStrictlySortedBy R (keys_of (e ∷ es)) → R k e.0 ≡ Less → IsGapFor R k (e ∷ es) 0
+  pub gap_here : (e : K × X) (es : List (K × X)) → IsStrictlySortedBy R (keys_of (e ∷ es)) → R k e.0 ≡ Less → IsGapFor R k (e ∷ es) 0
   gap_here e es sorted is = record {
     within = omega arith;
     none = lookup-none (is_at (R k)) (e ∷ es) (none_below_head o k e es sorted is);
     inserts = λ w. sym (insert_step e es w Less is);
   }
 
-  gap_behind : (e : K × X) (es : List (K × X)) (i : ℕ) → R k e.0 ≡ Greater → IsGapFor R k es i → IsGapFor R k (e ∷ es) (suc i)
+  pub gap_behind : (e : K × X) (es : List (K × X)) (i : ℕ) → R k e.0 ≡ Greater → IsGapFor R k es i → IsGapFor R k (e ∷ es) (suc i)
   gap_behind e es i is at = let within = at.within in record {
     within = omega arith;
     none = lookup_step e es Greater is ∙ at.none;

@@ -21,7 +21,7 @@ use Rattle.interest.specs.Told.{is_opening, is_closing, counts_told, AreTaken, C
 use Rattle.interest.proofs.KeyOrder.{key_order_total}
 use Rattle.interest.proofs.Places.{sorted_inserted, sorted_removed}
 
-is_equal : (r : Ordering) → is_eq r ≡ true → r ≡ Equal
+pub is_equal : (r : Ordering) → is_eq r ≡ true → r ≡ Equal
 is_equal Less is = cc
 is_equal Equal is = refl
 is_equal Greater is = cc
@@ -32,7 +32,7 @@ module _ {K X : Type 0} {R : K → K → Ordering} (o : IsTotalOrder R) where
   same_tests t u same (e ∷ es) = ap (λ b. cond b (Some e.1) (lookup t es)) (same e.0) ∙ ap (cond (u e.0) (Some e.1)) (same_tests t u same es)
 
   -- ties are looked up alike
-  lookup_tied : (q k : K) (es : List (K × X)) → R q k ≡ Equal → lookup (is_at (R q)) es ≡ lookup (is_at (R k)) es
+  pub lookup_tied : (q k : K) (es : List (K × X)) → R q k ≡ Equal → lookup (is_at (R q)) es ≡ lookup (is_at (R k)) es
   lookup_tied q k es same = same_tests (is_at (R q)) (is_at (R k)) (λ x. ap is_eq (o.congr q k x same)) es
 
   twice : (b : Bool) (x : Option X) (y z : Option X) → cond b x z ≡ cond b x (cond b y z)
@@ -105,7 +105,7 @@ one_more true false mine others same some = refl
 one_more false true mine others same some = let is = same refl in let least = some refl in omega arith
 one_more false false mine others same some = refl
 
-step : (counts : Counts) (delta : Delta) (key : Key) → IsStrictlySortedBy key_cmp (keys_of counts) → delta_fault counts delta ≡ None
+pub step : (counts : Counts) (delta : Delta) (key : Key) → IsStrictlySortedBy key_cmp (keys_of counts) → delta_fault counts delta ≡ None
     → count_of (counts_after counts delta) key + cond (is_closing key delta) 1 0 ≡ count_of counts key + cond (is_opening key delta) 1 0
 unfolding counts_after delta_fault
 step counts delta key sorted taken =

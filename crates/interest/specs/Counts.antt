@@ -56,11 +56,15 @@ delta_fault counts delta =
     if delta.up then too_many_if (is_too_much counts delta.key)
     else (if nat_eq (count_of counts delta.key) 0 then Some UnknownKey else None)
 
--- NATS documentation, "Cluster Protocol": `RS+` and `RS-`; profile: a plain key is told of on its first opening and its last closing, a queue key each time, with the number open
+-- profile: what peers are told that a key weighs, 1 where it is plain, and else the number open
+abbrev pub told_weight : Key → ℕ → ℕ
+told_weight key count = if is_plain key then 1 else count
+
+-- NATS documentation, "Cluster Protocol": `RS+` and `RS-`; profile: a plain key is told of on its first opening and its last closing, a queue key each time
 abbrev pub change_between : Key → ℕ → ℕ → Option Change
 change_between key before after =
     if nat_eq after 0 then Some (Gone key)
-    else (if is_plain key && nat_lt 0 before then None else Some (Up key after))
+    else (if is_plain key && nat_lt 0 before then None else Some (Up (key, told_weight key after)))
 
 unfoldable pub change_of : Counts → Delta → Option Change
 change_of counts delta = change_between delta.key (count_of counts delta.key) (count_after delta.up (count_of counts delta.key))

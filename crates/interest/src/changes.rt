@@ -1,5 +1,6 @@
 //! What changes interest, and what is told of it.
 
+use route_values::WeightedKey;
 use subj::Key;
 
 /// One subscription of the key opened or closed. (Profile.)
@@ -13,9 +14,9 @@ pub struct Delta {
 /// What the other servers are told. (NATS documentation, "Cluster Protocol": `RS+` and `RS-`.)
 #[derive(Debug, Drop)]
 pub enum Change {
-    /// The key is there. Its weight is 1 where it has no queue name, and else the number of its open
+    /// The key is there. It weighs 1 where it has no queue name, and else the number of its open
     /// subscriptions.
-    Up { key: Key, weight: u64 },
+    Up(WeightedKey),
     /// The key has no open subscription any more.
-    Gone { key: Key },
+    Gone(Key),
 }

@@ -14,6 +14,7 @@ ghost use Rattle.interest.specs.Counts.{count_after, with_count, count_of, chang
 use crate::changes::{Change, Delta};
 use crate::faults::InterestFault;
 use crate::key_lists::Keys;
+use route_values::WeightedKey;
 use std::alloc::{AllocError, Global};
 use std::marker::Model;
 use subj::{Failure, Key, MAX_KEYS, MAX_WEIGHT, SUBSCRIPTION_BYTES, Subject};
@@ -29,17 +30,18 @@ fn number_after(up: bool, count: u64) -> u64
 
 /// What the other servers are told where the number of a key's open subscriptions changes.
 fn change(alloc: Global, key: &Key, before: u64, after: u64) -> Result<Option<Change>, AllocError>
+    requires { after ≤ MAX_WEIGHT }
     ensures { IfOk result (λ change. change ≡ change_between key.now before after) }
 {
     if after == 0 {
-        let key = key.try_clone(alloc)?;
-        return Ok(Some(Change::Gone { key }));
+        return Ok(Some(Change::Gone(key.try_clone(alloc)?)));
     }
     if key.queue.is_none() && 0 < before {
         return Ok(None);
     }
+    let weight = if key.queue.is_none() { 1 } else { after };
     let key = key.try_clone(alloc)?;
-    Ok(Some(Change::Up { key, weight: after }))
+    Ok(WeightedKey::new(key, weight).map(Change::Up))
 }
 
 /// The place of the key, or the one where it would stand.

@@ -12,7 +12,10 @@ pub use changes::{Change, Delta};
 pub use counts::Local;
 pub use faults::InterestFault;
 pub use key_lists::Keys;
-pub use laws::counts_are_of_the_open;
+pub use laws::{
+    counts_and_changes_agree, counts_are_of_the_open, counts_can_be_told, openings_are_counted,
+    views_are_of_their_origin,
+};
 
 #[cfg(test)]
 mod tests;

@@ -36,8 +36,8 @@ fn key_of(alloc: Global, pattern: &[u8], queue: &[u8]) -> Result<Key, Fail> {
 fn number_of(answer: Result<Option<Change>, Failure<InterestFault>>) -> u64 {
     match answer {
         Ok(None) => NOTHING,
-        Ok(Some(Change::Up { weight, .. })) => weight,
-        Ok(Some(Change::Gone { .. })) => GONE,
+        Ok(Some(Change::Up(weighted))) => weighted.weight(),
+        Ok(Some(Change::Gone(_))) => GONE,
         Err(Failure::Refused(fault)) => REFUSED + u64::from(fault.number()),
         Err(Failure::OutOfMemory) => 0,
     }

@@ -1,4 +1,4 @@
-use Rattle.std.proofs.Common.{rules, ◌≡◌, ◌<◌, ◌≤◌, ◌+◌, false, length, sym, ap, ◌∙◌, subst, arith}
+use Rattle.std.proofs.Common.{rules, ◌≡◌, ◌<◌, ◌≤◌, ◌+◌, false, length, refl, sym, ap, ◌∙◌, subst, arith}
 use Rattle.std.specs.Prelude.{insert}
 use Rattle.std.proofs.lemmas.Result.{err_from_is_err_and}
 use Rattle.subj.specs.declared.limits.TheConstants.{MAX_KEYS, SUBSCRIPTION_BYTES}
@@ -9,6 +9,14 @@ use Rattle.interest.specs.Counts.{Counts, total_cost, is_full, too_many_if, IsIn
 use Rattle.interest.proofs.Entries.{added, total_added}
 use Rattle.interest.proofs.Deltas.{has_room}
 use Rattle.interest.proofs.counts.Local.add.Goals as goal
+
+pub returns-in_err-key : goal.returns-in_err-key
+returns-in_err-key c =
+    let counts = c.self.inside.entries.items in
+    let few : length counts < MAX_KEYS = search rules in
+    let small : total_cost counts + cost_of c.args.key.now ≤ SUBSCRIPTION_BYTES = (let cost = c.cost.ensures.same in let bytes : c.self.inside.bytes ≡ total_cost counts = c.self.invariant.1 in omega arith) in
+    let room : is_full c.args.self.now c.args.key.now ≡ false = subst (λ (counts : Counts). is_full counts c.args.key.now ≡ false) c.self.view_is (has_room counts c.args.key.now few small) in
+    let p = err_from_is_err_and c.from_residual-in_err-key.result c.from_residual-in_err-key.ensures.1 in rw (p.1, p.2) (ap too_many_if room, refl)
 
 pub returns-in_err-insert : goal.returns-in_err-insert
 returns-in_err-insert c =

@@ -1,0 +1,5 @@
+use Rattle.hub_core.proofs.Computed.{splits}
+use Rattle.hub_core.proofs.examples.a_publication_is_split.Goals as goal
+
+pub returns : goal.returns
+returns c = splits

@@ -1,0 +1,5 @@
+use Rattle.hub_core.proofs.Computed.{needs_room}
+use Rattle.hub_core.proofs.examples.frames_need_room.Goals as goal
+
+pub returns : goal.returns
+returns c = needs_room

@@ -1,0 +1,5 @@
+use Rattle.hub_core.proofs.Computed.{keeps_the_window}
+use Rattle.hub_core.proofs.examples.the_window_is_kept.Goals as goal
+
+pub returns : goal.returns
+returns c = keeps_the_window

@@ -1,0 +1,5 @@
+use Rattle.hub_core.proofs.Wanted.{names_are_wanted}
+use Rattle.hub_core.proofs.laws.queue_names_are_wanted.Goals as goal
+
+pub returns : goal.returns
+returns c = names_are_wanted

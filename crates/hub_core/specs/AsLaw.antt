@@ -1,0 +1,158 @@
+-- A hub and its steps as the cluster law sees them: servers by their places, and neither outboxes nor who is up.
+use Rattle.std.specs.Prelude.{◌≡◌, ◌≢◌, ℕ, suc, ◌+◌, ◌<◌, ◌≤◌, List, [], map, length, slice_get, Some, None}
+use Rattle.cluster_law.specs.Config.{Config, every_rule}
+use Rattle.cluster_law.specs.Hub as law
+use Rattle.cluster_law.specs.Hub.{HubPublishes, HubReceives, HubHears, HubMeets, HubAnnounces, IsTold}
+use Rattle.cluster_law.specs.Interest as interest
+use Rattle.cluster_law.specs.Messages as messages
+use Rattle.cluster_law.specs.Names as names
+use Rattle.subj.specs.declared.identities.PubId.{PubId}
+use Rattle.subj.specs.declared.keys.Key.{Key}
+use Rattle.subj.specs.declared.limits.TheConstants.{MAX_QUEUE_NAMES, WINDOW}
+use Rattle.subj.specs.Messages.{Content}
+use Rattle.subj.specs.Servers.{Server, IsListed, place}
+use Rattle.interest.specs.declared.changes.Change.{Change}
+use Rattle.interest.specs.declared.changes.Change.TheVariants.{Up, Gone}
+use Rattle.interest.specs.declared.changes.Delta.{Delta}
+use Rattle.interest.specs.Counts.{IsInterest}
+use Rattle.interest.specs.Views.{View, told, followed}
+use Rattle.route_values.specs.declared.bodies.Body.{Body}
+use Rattle.route_values.specs.declared.bodies.Body.TheVariants.{Plus, Minus, Snapshot, Msg}
+use Rattle.route_values.specs.Frames.{Frame}
+use Rattle.route_values.specs.Snapshots.{Weighted}
+use Rattle.hub_core.specs.State.{State, Peer}
+use Rattle.hub_core.specs.Publishing.{Publication, publish_refusal, published, own_job, frames_of, next_id}
+use Rattle.hub_core.specs.Receiving.{receive_refusal, received}
+use Rattle.hub_core.specs.Telling.{collect_refusal, collected, changes_of, collect_frames}
+use Rattle.hub_core.specs.Peers.{up, cut, taken, snapshot_to}
+
+-- ---- values
+
+abbrev pub key_of : Key → interest.Key
+key_of key = record { pattern = key.pattern; queue = key.queue }
+
+abbrev pub weighted_of : Weighted → interest.Weighted
+weighted_of weighted = record { key = key_of weighted.0; weight = weighted.1 }
+
+abbrev pub view_of : View → interest.View
+view_of view = map weighted_of view
+
+abbrev pub change_of : Change → interest.Change
+change_of (Up weighted) = interest.Up (weighted_of weighted)
+change_of (Gone key) = interest.Gone (key_of key)
+
+abbrev pub content_of : Content → messages.Content
+content_of content = record { subject = content.subject; reply = content.reply; payload = content.payload }
+
+abbrev pub id_of : Server → PubId → names.PubId
+id_of server id = record { origin = place server id.origin; inc = id.inc; number = id.number }
+
+-- ---- frames
+
+abbrev pub routed_of : Server → Frame → Content → List (List ℕ) → messages.Routed
+routed_of server frame content queues = record {
+  id = record { origin = place server frame.from; inc = frame.inc; number = frame.number };
+  to = place server frame.to;
+  to_inc = frame.to_inc;
+  content = content_of content;
+  names = queues;
+}
+
+abbrev pub news_of : Server → Frame → messages.Body → messages.News
+news_of server frame body = record { origin = place server frame.from; inc = frame.inc; to = place server frame.to; to_inc = frame.to_inc; number = frame.number; body = body }
+
+abbrev pub as_said : Server → Frame → Body → messages.Frame
+as_said server frame (Plus weighted) = messages.Interest (news_of server frame (messages.Changed (interest.Up (weighted_of weighted))))
+as_said server frame (Minus key) = messages.Interest (news_of server frame (messages.Changed (interest.Gone (key_of key))))
+as_said server frame (Snapshot keys) = messages.Interest (news_of server frame (messages.Snapshot (view_of keys)))
+as_said server frame (Msg content queues) = messages.Message (routed_of server frame content queues)
+
+abbrev pub frame_of : Server → Frame → messages.Frame
+frame_of server frame = as_said server frame frame.body
+
+-- ---- the hub
+
+abbrev pub peer_of : Peer → law.Peer
+peer_of peer = record { seen = peer.seen; mark = peer.mark; heard = peer.heard.mark; view = view_of peer.heard.keys }
+
+-- of the counts the view that they are told as
+abbrev pub hub_of : State → law.Hub
+hub_of hub = record { published = hub.published; changed = hub.changed; interest = view_of (told hub.counts); peers = map peer_of hub.peers }
+
+-- ---- the law's parameters: how many queue names, and how a change acts on a view
+
+abbrev pub own_key : interest.Key → Key
+own_key key = record { pattern = key.pattern; queue = key.queue }
+
+abbrev pub own_weighted : interest.Weighted → Weighted
+own_weighted weighted = (own_key weighted.key, weighted.weight)
+
+abbrev pub own_view : interest.View → View
+own_view view = map own_weighted view
+
+abbrev pub follow : interest.Change → interest.View → interest.View
+follow (interest.Up weighted) view = view_of (followed (Up (own_weighted weighted)) (own_view view))
+follow (interest.Gone key) view = view_of (followed (Gone (own_key key)) (own_view view))
+follow interest.Cleared view = []
+
+abbrev pub routing : Config → Config
+routing c = record c { queue_names = MAX_QUEUE_NAMES; follow = follow }
+
+-- ---- what each event is in the law
+
+abbrev pub HasPeers : Server → State → Type 0
+HasPeers server hub = length hub.peers ≡ length server.names
+
+-- no shard of the server is a window behind
+abbrev pub HasRoom : Server → State → List ℕ → Type 0
+HasRoom server hub finished = (place done : ℕ) → place < server.shards → slice_get finished place ≡ Some done → suc hub.issued ≤ done + WINDOW
+
+pub record IsPublished (c : Config) (server : Server) (hub : State) (p : Publication) (finished : List ℕ) (now : ℕ) : Type 0 where
+  pub frames : List messages.Routed
+  pub frames_are : map (frame_of server) (frames_of server hub p) ≡ map messages.Message frames
+  pub id_is : id_of server (next_id server hub) ≡ law.next_id server.me server.inc (hub_of hub)
+  pub publishes : HubPublishes every_rule (routing c) server.me (hub_of hub) (record { id = law.next_id server.me server.inc (hub_of hub); content = content_of p.said.message; step = now }) (own_job server hub p).queues frames (hub_of (published server hub p))
+  pub room : HasRoom server hub finished
+  pub peers : HasPeers server (published server hub p)
+
+-- a publish that is not refused
+abbrev pub PublishesInLaw : Type 0
+PublishesInLaw = (c : Config) (server : Server) (hub : State) (p : Publication) (finished : List ℕ) (now : ℕ) → IsListed server → HasPeers server hub → publish_refusal server hub p finished ≡ None → IsPublished c server hub p finished now
+
+abbrev pub TakenAs : Config → Server → State → List ℕ → Frame → messages.Frame → Type 0
+TakenAs c server hub finished frame (messages.Message m) = HubReceives every_rule server.me server.inc (hub_of hub) m (hub_of (received server hub frame)) × HasRoom server hub finished
+TakenAs c server hub finished frame (messages.Interest news) = HubHears every_rule (routing c) server.me server.inc (hub_of hub) news (hub_of (received server hub frame))
+TakenAs c server hub finished frame (messages.Greeting origin inc) = ⊥
+
+-- a frame that is not refused: a message is received, and news are heard
+abbrev pub ReceivesInLaw : Type 0
+ReceivesInLaw = (c : Config) (server : Server) (hub : State) (finished : List ℕ) (frame : Frame) → IsListed server → HasPeers server hub → receive_refusal server hub finished frame ≡ None → TakenAs c server hub finished frame (frame_of server frame) × HasPeers server (received server hub frame)
+
+pub record IsMet (server : Server) (hub : State) (q inc : ℕ) : Type 0 where
+  pub meets : HubMeets every_rule server.me (hub_of hub) q inc (hub_of (up server hub q inc))
+  pub snapshot : IsTold server.me server.inc (hub_of hub) [] (hub_of hub) (frame_of server (snapshot_to server hub q inc))
+  pub peers : HasPeers server (up server hub q inc)
+
+-- another server comes up at an incarnation that is not below the one seen
+abbrev pub MeetsInLaw : Type 0
+MeetsInLaw = (server : Server) (hub : State) (q inc : ℕ) (peer : Peer) → IsListed server → HasPeers server hub → q ≢ server.me → slice_get hub.peers q ≡ Some peer → peer.seen ≤ inc → IsMet server hub q inc
+
+pub record IsAnnounced (c : Config) (server : Server) (hub : State) (deltas : List Delta) : Type 0 where
+  pub announces : HubAnnounces (routing c) server.me server.inc (hub_of hub) (map change_of (changes_of hub deltas)) (map (frame_of server) (collect_frames server hub deltas)) (hub_of (collected server hub deltas))
+  pub within : IsInterest (collected server hub deltas).counts
+  pub peers : HasPeers server (collected server hub deltas)
+
+-- a collect that is not refused, of counts within their limits
+abbrev pub AnnouncesInLaw : Type 0
+AnnouncesInLaw = (c : Config) (server : Server) (hub : State) (deltas : List Delta) → IsListed server → HasPeers server hub → IsInterest hub.counts → collect_refusal hub deltas ≡ None → IsAnnounced c server hub deltas
+
+-- a cut and a take are not seen
+pub record IsUnseen (server : Server) (hub new : State) : Type 0 where
+  pub hub_is : hub_of new ≡ hub_of hub
+  pub peers : HasPeers server new
+
+abbrev pub CutsUnseen : Type 0
+CutsUnseen = (server : Server) (hub : State) (q : ℕ) → HasPeers server hub → IsUnseen server hub (cut hub q)
+
+abbrev pub TakesUnseen : Type 0
+TakesUnseen = (server : Server) (hub : State) (q count : ℕ) → HasPeers server hub → IsUnseen server hub (taken hub q count)

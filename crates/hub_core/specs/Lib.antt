@@ -1,0 +1,12 @@
+pub mod Faults
+pub mod State
+pub mod Choice
+pub mod Wanted
+pub mod Publishing
+pub mod Receiving
+pub mod Telling
+pub mod Peers
+pub mod Events
+pub mod Steps
+pub mod AsLaw
+pub mod Examples

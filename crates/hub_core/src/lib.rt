@@ -1,0 +1,20 @@
+//! The hub of a server: it numbers what its clients publish, splits each queue name over the cluster, keeps
+//! a view of each peer's interest, and tells which frames of peers it takes.
+#![tactic(auto)]
+
+mod examples;
+mod faults;
+mod laws;
+
+pub use examples::{
+    a_peer_comes_up, a_publication_is_split, changes_are_heard_in_order, frames_are_taken_once,
+    frames_need_room, queue_names_are_counted, the_window_is_kept, weights_are_units,
+};
+pub use faults::HubFault;
+pub use laws::{
+    collects_follow_the_law, publishes_follow_the_law, queue_names_are_wanted,
+    receives_follow_the_law, sessions_follow_the_law, sound_hubs_stay_sound, the_rest_is_unseen,
+};
+
+#[cfg(test)]
+mod tests;

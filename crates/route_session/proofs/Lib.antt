@@ -1,0 +1,3 @@
+mod Best
+mod Kept
+mod Computed

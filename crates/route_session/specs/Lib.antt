@@ -1,0 +1,7 @@
+pub mod Faults
+pub mod State
+pub mod Best
+pub mod Events
+pub mod Steps
+pub mod Laws
+pub mod Examples

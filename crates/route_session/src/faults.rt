@@ -1,0 +1,44 @@
+//! Why the sessions refuse.
+
+ghost use Rattle.std.specs.Prelude.{◌≡◌};
+ghost use Rattle.route_session.specs.Faults.{session_fault_number};
+
+use crate::ids::SessionId;
+
+/// Why an event of a session is refused. (Profile.)
+#[derive(Clone, Copy, Debug, PartialEq, Eq)]
+pub enum SessionFault {
+    /// A server that is dialed or named is not the one that the session is with, or not another server
+    /// of the cluster; or a frame is for another server.
+    WrongName,
+    /// An incarnation is below the greatest seen of its server; or a frame is for another incarnation of
+    /// this one.
+    OldIncarnation,
+    /// A session with the peer is kept that is as good or better.
+    Duplicate {
+        /// That session.
+        kept: SessionId,
+    },
+    /// The session does not stand, is of the other side, or was completed already.
+    UnknownSession,
+    /// As many sessions stand as may.
+    TooManySessions,
+    /// The numbers of sessions have come to their limit.
+    Spent,
+}
+
+impl SessionFault {
+    /// The number that the router tells of this refusal.
+    pub fn number(self) -> u16
+        ensures { result ≡ session_fault_number self }
+    {
+        match self {
+            SessionFault::WrongName => 70,
+            SessionFault::OldIncarnation => 71,
+            SessionFault::Duplicate { .. } => 72,
+            SessionFault::UnknownSession => 73,
+            SessionFault::TooManySessions => 74,
+            SessionFault::Spent => 75,
+        }
+    }
+}

@@ -1,0 +1,15 @@
+//! The sessions of a server with its peers: who dialed whom, and which completed session with a peer is kept.
+#![tactic(auto)]
+
+mod examples;
+mod faults;
+mod ids;
+mod laws;
+
+pub use examples::{crossed_dials, refusals_in_order, the_worse_session_is_refused};
+pub use faults::SessionFault;
+pub use ids::SessionId;
+pub use laws::{both_ends_keep_the_same, the_better_session_stays};
+
+#[cfg(test)]
+mod tests;
