@@ -6,3 +6,13 @@ pub mod Steps
 pub mod Views
 pub mod Sound
 pub mod Answers
+pub mod Shards
+pub mod Closings
+pub mod Owed
+pub mod ShardEvents
+pub mod ShardSteps
+pub mod Puts
+pub mod Lines
+pub mod AsLaw
+pub mod Boxes
+pub mod EntryBytes

@@ -3,13 +3,17 @@
 #![tactic(auto)]
 
 mod calls;
+mod connections;
 mod conns;
 mod faults;
+mod laws;
 mod shard;
 mod walk;
 
 pub use calls::{BeginFault, Begun, Placed, Subscribed};
+pub use connections::Conns;
 pub use faults::ShardFault;
+pub use laws::{entries_are_messages, entries_are_put, shard_follows};
 pub use shard::Shard;
 
 #[cfg(test)]

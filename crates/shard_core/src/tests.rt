@@ -1,8 +1,9 @@
 //! Examples: numbers of connections, a job on its way, echo, and the slow consumer.
 
-use crate::{Shard, ShardFault, Subscribed};
+use crate::{Conns, Shard, ShardFault, Subscribed};
 use bytes::Bytes;
 use client_frames::{ErrText, ReplyFrame};
+use outbox::Entry;
 use std::alloc::Global;
 use std::test::Fail;
 use sub_table::ListTable;
@@ -46,7 +47,7 @@ fn job(alloc: Global, turn: u64, publisher: Option<ConnId>, echo: bool) -> Resul
         message,
         publisher,
         echo,
-        queues: QueueNames::new(alloc),
+        queues: QueueNames::new(),
     })
 }
 
@@ -145,5 +146,33 @@ fn shut_connections_refuse(rt: HostRuntime) -> Result<(), Fail> {
         b"+OK\r\n-ERR 'Parser Error'\r\n".as_slice()
     );
     assert_eq!(rt; shard.take(ConnId::new(0), 1).err(), refused);
+    Ok(())
+}
+
+#[test]
+fn connections_stage_and_show(rt: HostRuntime) -> Result<(), Fail> {
+    let alloc = rt.alloc();
+    // whether what was staged is shown, and how many entries wait then
+    for (shown, waiting) in [(true, 1), (false, 0)] {
+        let mut conns = Conns::new(alloc);
+        let conn = ConnId::new(3);
+        conns.attach(conn)?;
+        let entry = Entry::reply(Vec::from_slice(alloc, b"+OK")?);
+        assert!(rt; conns.has_room(conn, &entry));
+        conns.stage(conn, entry)?;
+        if shown {
+            conns.commit();
+        } else {
+            conns.rollback();
+        }
+        assert_eq!(rt; conns.take(conn, 9)?.len(), waiting, "{shown}");
+        assert!(rt; conns.is_open(conn));
+        conns.shut(conn, b"-ERR 'Slow Consumer'");
+        assert!(rt; !conns.is_open(conn));
+        assert!(rt; conns.is_known(conn));
+        assert_eq!(rt; conns.take(conn, 9)?.len(), 1);
+        conns.detach(conn);
+        assert!(rt; !conns.is_known(conn));
+    }
     Ok(())
 }

@@ -1,0 +1,22 @@
+use Rattle.std.proofs.Common.{ap, sym, ◌∙◌}
+use Rattle.std.specs.Prelude.{slice_index_or}
+use Rattle.outbox.specs.Views.{Waiting}
+use Rattle.shard_core.specs.Boxes.{seen, next_shelf}
+use Rattle.shard_core.proofs.Lookups.{same_seen}
+use Rattle.shard_core.proofs.ConnStaging.{conns_less_at, no_such_conn}
+use Rattle.shard_core.proofs.connections.commit_at.Goals as goal
+
+pub returns-then-place-conns-clause-next : goal.returns-then-place-conns-clause-next
+returns-then-place-conns-clause-next c =
+    let conns = c.args.conns.now in
+    let r = c.index-conns-place.result in
+    let x = slice_index_or conns c.args.place r in
+    same_seen next_shelf conns c.args.place r (record { number = x.number; outbox = c.commit.new.self }) (ap (λ (b : Waiting). seen next_shelf (record { number = x.number; outbox = b })) c.commit.ensures)
+
+pub returns-then-place-conns-clause-settled : goal.returns-then-place-conns-clause-settled
+returns-then-place-conns-clause-settled c =
+    let alike = ap (λ (b : Waiting). b.next) c.commit.ensures ∙ sym (ap (λ (b : Waiting). b.shown) c.commit.ensures) in
+    λ places was. conns_less_at places c.args.conns.now c.args.place c.index-conns-place.result c.commit.new.self c.if-place-conns.true alike was
+
+pub returns-else-place-conns-clause-settled : goal.returns-else-place-conns-clause-settled
+returns-else-place-conns-clause-settled c = λ places was. no_such_conn places c.args.conns.now c.args.place c.if-place-conns.false was

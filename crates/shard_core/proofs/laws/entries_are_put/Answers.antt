@@ -1,0 +1,5 @@
+use Rattle.shard_core.proofs.Outboxes.{are_put}
+use Rattle.shard_core.proofs.laws.entries_are_put.Goals as goal
+
+pub returns : goal.returns
+returns start = are_put

@@ -1,0 +1,47 @@
+-- Connections as a shard keeps them: what waits for each, and what will wait once all that was staged is shown.
+use Rattle.std.specs.Prelude.{◌≡◌, ℕ, ◌<◌, List, ◌∷◌, length, map, slice_index_or, nat_eq, false}
+use Rattle.std.specs.List.{AllPairs, list_any}
+use Rattle.outbox.specs.Views.{Waiting, Shelf}
+use Rattle.shard_core.specs.declared.connections.Conn.{Conn}
+use Rattle.shard_core.specs.Shards.{Client}
+
+pub record Clients : Type 0 where
+  pub shown : List Client
+  pub next : List Client
+
+-- nothing is staged
+abbrev pub on_both : (List Client → List Client) → Clients → Clients
+on_both change c = record { shown = change c.shown; next = change c.next }
+
+abbrev pub IsSettled : Clients → Type 0
+IsSettled c = c.next ≡ c.shown
+
+-- one of the two shelves of a connection
+abbrev pub seen : (Waiting → Shelf) → Conn → Client
+seen shelf conn = record { number = conn.number; outbox = shelf conn.outbox; max_entries = conn.outbox.max_entries; max_bytes = conn.outbox.max_bytes }
+
+abbrev pub shown_shelf : Waiting → Shelf
+shown_shelf box = box.shown
+
+abbrev pub next_shelf : Waiting → Shelf
+next_shelf box = box.next
+
+abbrev pub number_of : Conn → ℕ
+number_of conn = conn.number
+
+-- connections stand in order of their numbers, each once
+abbrev pub AreRising : List Conn → Type 0
+AreRising conns = AllPairs (λ (a b : ℕ). a < b) (map number_of conns)
+
+-- what waits and what will wait differ at these places alone
+abbrev pub IsStagedWithin : List ℕ → List Conn → Type 0
+IsStagedWithin places conns =
+    (i : ℕ) (d : Conn) → i < length conns → list_any (nat_eq i) places ≡ false → seen next_shelf (slice_index_or conns i d) ≡ seen shown_shelf (slice_index_or conns i d)
+
+pub record AreConns (places : List ℕ) (conns : List Conn) : Type 0 where
+  pub rising : AreRising conns
+  pub staged : IsStagedWithin places conns
+
+-- nothing is staged at this place any more
+abbrev pub IsSettledAt : ℕ → List Conn → List Conn → Type 0
+IsSettledAt place old new = (places : List ℕ) → AreConns (place ∷ places) old → AreConns places new

@@ -1,0 +1,142 @@
+-- What a shard owes for a job: to plain subscriptions at Begin, and to one member of a queue group at a Claim.
+use Rattle.std.specs.Prelude.{ℕ, ◌+◌, ◌%◌, Bool, false, not, ◌&&◌, ◌||◌, nat_eq, nat_le, List, [], ◌∷◌, ◌++◌, length, filter, map, Option, Some, None, is_none, slice_get, if◌then◌else◌}
+use Rattle.std.specs.Str.{bytes_eq}
+use Rattle.std.specs.List.{list_any}
+use Rattle.client_frames.specs.ErrTexts.{err_line}
+use Rattle.client_frames.specs.Messages.{due_line, no_headers}
+use Rattle.client_frames.specs.declared.err_texts.ErrText.TheVariants.{SlowConsumer}
+use Rattle.outbox.specs.Views.{Written, message_entry, with_entry, with_last}
+use Rattle.outbox.specs.declared.entries.Mode.{Mode}
+use Rattle.outbox.specs.declared.entries.Mode.TheVariants.{Plain, Queue}
+use Rattle.sub_table.specs.Subscriptions.{gets}
+use Rattle.sub_table.specs.declared.Subscription.{Subscription}
+use Rattle.subj.specs.declared.jobs.Job.{Job}
+use Rattle.shard_core.specs.declared.calls.Placed.{Placed}
+use Rattle.shard_core.specs.Shards.{State, Client, client_at, is_open, changed, fits}
+use Rattle.shard_core.specs.Closings.{id_of, serials_of, left_of, without}
+
+-- ---- who is owed, and what
+
+-- NATS documentation, "Client Protocol", `echo`: without it the publisher's own subscriptions get nothing
+abbrev pub is_publisher : Option ℕ → ℕ → Bool
+is_publisher None conn = false
+is_publisher (Some publisher) conn = nat_eq publisher conn
+
+abbrev pub is_permitted : Job → Subscription → Bool
+is_permitted job sub = job.echo || not (is_publisher job.publisher sub.conn)
+
+abbrev pub is_wanted : Job → Subscription → Bool
+is_wanted job sub = gets job.message.subject sub && is_permitted job sub
+
+-- NATS documentation, "Queue Groups": a subscription without a queue name is a member of no group
+abbrev pub is_plain : Subscription → Bool
+is_plain sub = is_none sub.key.queue
+
+abbrev pub is_named : List ℕ → Option (List ℕ) → Bool
+is_named name None = false
+is_named name (Some other) = bytes_eq other name
+
+abbrev pub mode_of : Option (List ℕ) → Mode
+mode_of None = Plain
+mode_of (Some name) = Queue name
+
+-- the entry of a subscription: the message in the form without headers, and for what it is put
+abbrev pub due_entry : ℕ → Job → Option (List ℕ) → Subscription → Written
+due_entry shard job queue sub = message_entry job.id (id_of shard sub.serial) (mode_of queue) (due_line job.message sub.sid no_headers) job.message.payload
+
+abbrev pub placed_for : ℕ → Job → Option (List ℕ) → Subscription → Placed
+placed_for shard job queue sub = record { conn = sub.conn; entry = due_entry shard job queue sub }
+
+-- ---- Begin
+
+-- the connections so far; who was given an entry, which connections were shut, and which subscriptions closed, in order
+pub record Walk : Type 0 where
+  pub clients : List Client
+  pub given : List Subscription
+  pub shut : List ℕ
+  pub ended : List ℕ
+
+abbrev pub first_step : List Client → Walk
+first_step clients = record { clients = clients; given = []; shut = []; ended = [] }
+
+-- NATS documentation, "Client Protocol", `UNSUB`: a subscription closes with the message that reaches its maximum
+abbrev pub reaches : Option ℕ → ℕ → Bool
+reaches None delivered = false
+reaches (Some max) delivered = nat_le max delivered
+
+abbrev pub ended_by : Subscription → List ℕ
+ended_by sub = if reaches sub.max (sub.delivered + 1) then sub.serial ∷ [] else []
+
+-- an entry is put
+abbrev pub give : Written → Subscription → Walk → Walk
+give entry sub w = record w { clients = changed (with_entry entry) sub.conn w.clients; given = w.given ++ sub ∷ []; ended = w.ended ++ ended_by sub }
+
+-- a connection without room is shut, and all its subscriptions close, those of queue groups too (profile)
+abbrev pub slow_consumer : List ℕ
+slow_consumer = err_line SlowConsumer
+
+abbrev pub shut_slow : List Subscription → ℕ → Walk → Walk
+shut_slow subs conn w = record w { clients = changed (with_last slow_consumer) conn w.clients; shut = w.shut ++ conn ∷ []; ended = w.ended ++ left_of conn w.ended subs }
+
+-- nothing for a connection that was shut before: its subscriptions closed with it
+abbrev pub put_one : State → Job → Walk → Subscription → Walk
+put_one s job w sub =
+    if is_open sub.conn w.clients
+    then (if fits (client_at sub.conn w.clients) (due_entry s.shard job None sub)
+    then give (due_entry s.shard job None sub) sub w
+    else shut_slow s.subs sub.conn w)
+    else w
+
+abbrev pub walk : State → Job → List Subscription → Walk → Walk
+walk s job [] w = w
+walk s job (sub ∷ subs) w = walk s job subs (put_one s job w sub)
+
+-- the open plain subscriptions that match and are permitted, in order of their serials, each once (profile)
+abbrev pub is_due : Job → Subscription → Bool
+is_due job sub = is_plain sub && is_wanted job sub
+
+abbrev pub walked : State → Job → Walk
+walked s job = walk s job (filter (is_due job) s.subs) (first_step s.clients)
+
+-- ---- the state after entries were given
+
+abbrev pub counted : List ℕ → Subscription → Subscription
+counted given sub = if list_any (nat_eq sub.serial) given then record sub { delivered = sub.delivered + 1 } else sub
+
+abbrev pub after_walk : State → Walk → State
+after_walk s w = without w.ended (record s { clients = w.clients; subs = map (counted (serials_of w.given)) s.subs })
+
+abbrev pub begun : State → Job → State
+begun s job = after_walk (record s { hand = Some job; next_index = 0 }) (walked s job)
+
+-- ---- Claim
+
+-- NATS documentation, "Queue Groups": one member is chosen. Here of those that are open now, match, are permitted and have
+-- room, in order of their serials, the one at the place of the turn among as many (profile).
+abbrev pub is_candidate : State → Job → List ℕ → Subscription → Bool
+is_candidate s job name sub = is_named name sub.key.queue && (is_wanted job sub && fits (client_at sub.conn s.clients) (due_entry s.shard job (Some name) sub))
+
+abbrev pub chosen : ℕ → List Subscription → Option Subscription
+chosen turn subs = slice_get subs (turn % length subs)
+
+abbrev pub candidate_named : State → Job → Option (List ℕ) → Option Subscription
+candidate_named s job None = None
+candidate_named s job (Some name) = chosen job.turn (filter (is_candidate s job name) s.subs)
+
+abbrev pub candidate_of : State → Option Job → ℕ → Option Subscription
+candidate_of s None index = None
+candidate_of s (Some job) index = candidate_named s job (slice_get job.queues index)
+
+-- the index was tried
+abbrev pub tried : State → State
+tried s = record s { next_index = s.next_index + 1 }
+
+-- the member gets its entry
+abbrev pub placed_one : State → Job → Subscription → State
+placed_one s job sub = after_walk s (give (due_entry s.shard job sub.key.queue sub) sub (first_step s.clients))
+
+-- only a claim that is won places; without a candidate none is made
+abbrev pub claimed : State → Option Job → Option Subscription → Bool → State
+claimed s None sub won = s
+claimed s (Some job) None won = tried s
+claimed s (Some job) (Some sub) won = if won then placed_one (tried s) job sub else tried s

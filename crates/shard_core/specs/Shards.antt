@@ -1,0 +1,82 @@
+-- A shard as its callers see it, and its connections.
+use Rattle.std.specs.Prelude.{ℕ, Bool, false, not, nat_eq, List, [], ◌∷◌, filter, find, Option, Some, None, is_some, if◌then◌else◌}
+use Rattle.interest.specs.declared.changes.Delta.{Delta}
+use Rattle.outbox.specs.Views.{Written, Shelf, has_room}
+use Rattle.sub_table.specs.declared.Subscription.{Subscription}
+use Rattle.subj.specs.declared.jobs.Job.{Job}
+use Rattle.std.specs.Prelude.{length}
+
+-- a connection: its number, what waits for it, and the limits of that
+pub record Client : Type 0 where
+  pub number : ℕ
+  pub outbox : Shelf
+  pub max_entries : ℕ
+  pub max_bytes : ℕ
+
+-- A shard of a server (profile): which of how many it is, counted from 1; the number of its next connection; how many
+-- subscriptions it has opened; the last turn that it finished; the job that it works off, and the index of the queue name
+-- to be claimed next there; its connections in order of attaching; its open subscriptions in order of opening; and the
+-- openings and closings that the hub was not told of yet, in order.
+pub record State : Type 0 where
+  pub shard : ℕ
+  pub shards : ℕ
+  pub next_conn : ℕ
+  pub opened : ℕ
+  pub finished : ℕ
+  pub hand : Option Job
+  pub next_index : ℕ
+  pub clients : List Client
+  pub subs : List Subscription
+  pub deltas : List Delta
+
+-- a shard without connections; it numbers them s, s + K, s + 2K, .. (profile)
+abbrev pub new_shard : ℕ → ℕ → State
+new_shard shard shards = record { shard = shard; shards = shards; next_conn = shard; opened = 0; finished = 0; hand = None; next_index = 0; clients = []; subs = []; deltas = [] }
+
+-- ---- connections
+
+abbrev pub has_number : ℕ → Client → Bool
+has_number number client = nat_eq client.number number
+
+abbrev pub client_at : ℕ → List Client → Option Client
+client_at number clients = find (has_number number) clients
+
+-- a connection that is there and not shut answers all calls
+abbrev pub takes_events : Option Client → Bool
+takes_events None = false
+takes_events (Some client) = not client.outbox.shut
+
+abbrev pub is_open : ℕ → List Client → Bool
+is_open number clients = takes_events (client_at number clients)
+
+-- a shut connection answers only a take and a detach
+abbrev pub is_known : ℕ → List Client → Bool
+is_known number clients = is_some (client_at number clients)
+
+-- the list with a change to what waits for the connection
+abbrev pub with_outbox : (Shelf → Shelf) → Client → Client
+with_outbox change client = record client { outbox = change client.outbox }
+
+abbrev pub changed : (Shelf → Shelf) → ℕ → List Client → List Client
+changed change number [] = []
+changed change number (client ∷ clients) = if has_number number client then with_outbox change client ∷ clients else client ∷ changed change number clients
+
+-- the list without the connection
+abbrev pub detached : ℕ → List Client → List Client
+detached number clients = filter (λ client. not (has_number number client)) clients
+
+-- an entry may be put: the connection is there and not shut, and both limits allow it (profile)
+abbrev pub room_of : Client → Written → Bool
+room_of client entry = has_room client.max_entries client.max_bytes (length entry.bytes) client.outbox
+
+abbrev pub fits : Option Client → Written → Bool
+fits None entry = false
+fits (Some client) entry = room_of client entry
+
+-- what waits for the connection
+abbrev pub entries_of : Option Client → List Written
+entries_of None = []
+entries_of (Some client) = client.outbox.entries
+
+abbrev pub waits_for : ℕ → List Client → List Written
+waits_for number clients = entries_of (client_at number clients)

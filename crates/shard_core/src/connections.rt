@@ -1,0 +1,308 @@
+//! Connections, and what waits for them.
+
+ghost use Rattle.std.specs.Prelude.{map, filter, not, ◌≡◌, ◌==◌, ◌≤◌, ◌+◌, ◌<◌, ◌^◌, ◌++◌, ◌∷◌, [], true, position, take, length, All, IsTrue, IfOk, OnOk, OnErr};
+ghost use Rattle.std.specs.Option.{option_map, option_copied};
+ghost use Rattle.outbox.specs.Views.{with_entry, with_last, without_first, reply_entry};
+ghost use Rattle.shard_core.specs.Boxes.{AreRising, AreConns, IsSettled, IsSettledAt, on_both, seen, shown_shelf, next_shelf, number_of};
+ghost use Rattle.shard_core.specs.Shards.{is_open as opened, is_known as known, client_at, changed, detached, fits, waits_for};
+ghost use Rattle.shard_core.specs.ShardSteps.{new_client};
+
+use outbox::{Entry, LAST_LINE_TEXT, Outbox};
+use std::alloc::{AllocError, Global};
+use std::marker::Model;
+use subj::{ConnId, OUTBOX_BYTES, OUTBOX_ENTRIES};
+
+/// A connection.
+#[derive(Drop)]
+struct Conn {
+    number: u64,
+    outbox: Outbox,
+}
+
+/// Where the connection of this number stands.
+fn place_of(conns: &[Conn], number: u64) -> Option<usize>
+    requires { AreRising conns.now }
+    ensures { result ≡ position (λ conn. conn.number == number) conns.now }
+{
+    conns.binary_search_by_key(&number, |conn| conn.number).ok()
+}
+
+/// Shows what was staged at one place.
+#[tactic(auto, using(crate::proofs::Lookups::numbers_stay))]
+fn commit_at(conns: &mut [Conn], place: usize)
+    ensures numbers { map number_of conns.new ≡ map number_of conns.old }
+    ensures next { map (seen next_shelf) conns.new ≡ map (seen next_shelf) conns.old }
+    ensures settled { IsSettledAt place conns.old conns.new }
+{
+    if place < conns.len() {
+        let conn = &mut conns[place];
+        conn.outbox.commit();
+    }
+}
+
+/// Shows what was staged, which stands at these places and nowhere else.
+fn commit_all(conns: &mut [Conn], places: &[usize])
+    requires { AreConns places.now conns.old }
+    ensures shown { map (seen shown_shelf) conns.new ≡ map (seen next_shelf) conns.old }
+    ensures next { map (seen next_shelf) conns.new ≡ map (seen next_shelf) conns.old }
+    ensures settled { AreConns [] conns.new }
+{
+    for place in places {
+        commit_at(conns, *place);
+    }
+}
+
+/// Drops what was staged at one place.
+#[tactic(auto, using(crate::proofs::Lookups::numbers_stay))]
+fn rollback_at(conns: &mut [Conn], place: usize)
+    ensures numbers { map number_of conns.new ≡ map number_of conns.old }
+    ensures shown { map (seen shown_shelf) conns.new ≡ map (seen shown_shelf) conns.old }
+    ensures settled { IsSettledAt place conns.old conns.new }
+{
+    if place < conns.len() {
+        let conn = &mut conns[place];
+        conn.outbox.rollback();
+    }
+}
+
+/// Drops what was staged, which stands at these places and nowhere else.
+fn rollback_all(conns: &mut [Conn], places: &[usize])
+    requires { AreConns places.now conns.old }
+    ensures shown { map (seen shown_shelf) conns.new ≡ map (seen shown_shelf) conns.old }
+    ensures next { map (seen next_shelf) conns.new ≡ map (seen shown_shelf) conns.old }
+    ensures settled { AreConns [] conns.new }
+{
+    for place in places {
+        rollback_at(conns, *place);
+    }
+}
+
+/// Where the connection stands.
+fn place_in(conns: &Vec<Conn>, conn: ConnId) -> Option<usize>
+    requires { AreRising conns.now.items }
+    ensures { result ≡ position (λ other. other.number == conn) conns.now.items }
+{
+    place_of(conns, conn.get())
+}
+
+/// The connection, where it is there.
+fn found(conns: &Vec<Conn>, conn: ConnId) -> Option<&Conn>
+    requires { AreRising conns.now.items }
+    ensures shown { option_map (seen shown_shelf) (option_copied result) ≡ client_at conn (map (seen shown_shelf) conns.now.items) }
+    ensures next { option_map (seen next_shelf) (option_copied result) ≡ client_at conn (map (seen next_shelf) conns.now.items) }
+{
+    match place_in(conns, conn) {
+        None => None,
+        Some(place) => Some(&conns[place]),
+    }
+}
+
+/// Removes the connection of this number.
+fn remove(conns: &mut Vec<Conn>, number: u64)
+    ensures { conns.new.items ≡ filter (λ conn. not (conn.number == number)) conns.old.items }
+{
+    conns.retain(|conn| conn.number != number);
+}
+
+/// The connections of a shard, each with its outbox, in order of their numbers.
+///
+/// Entries and last lines may be staged: put unseen, until [`Conns::commit`] shows all of them or
+/// [`Conns::rollback`] drops them.
+///
+/// Seen as the clients with what waits for each, and as they will be once all that was staged is shown.
+#[derive(Drop)]
+pub struct Conns {
+    alloc: Global,
+    conns: Vec<Conn>,
+    /// Where something is staged.
+    places: Vec<usize>,
+}
+
+impl Model for Conns {
+    ghost use Rattle.shard_core.specs.Boxes.{Clients};
+
+    ghost Value = { Clients };
+
+    ghost use Rattle.std.specs.Prelude.{map};
+    ghost use Rattle.shard_core.specs.Boxes.{AreConns, seen, shown_shelf, next_shelf};
+
+    ghost view = { λ c. record { shown = map (seen shown_shelf) c.conns.items; next = map (seen next_shelf) c.conns.items } };
+
+    ghost invariant = { λ c. AreConns c.places.items c.conns.items };
+}
+
+impl Conns {
+    /// No connections.
+    pub fn new(alloc: Global) -> Conns
+        ensures { result ≡ record { shown = []; next = [] } }
+    {
+        Conns {
+            alloc,
+            conns: Vec::new(alloc),
+            places: Vec::new(alloc),
+        }
+    }
+
+    /// A new connection, whose number is above all others. Want of memory leaves all as it was.
+    pub fn attach(&mut self, conn: ConnId) -> Result<(), AllocError>
+        requires settled { IsSettled self.old }
+        requires above { All (λ client. client.number < conn) self.old.shown }
+        ensures ok { OnOk result (self.new ≡ on_both (λ clients. clients ++ new_client conn ∷ []) self.old) }
+        ensures err { OnErr result (self.new ≡ self.old) }
+    {
+        let outbox = Outbox::new(self.alloc, OUTBOX_ENTRIES, OUTBOX_BYTES)?;
+        self.conns.push(Conn {
+            number: conn.get(),
+            outbox,
+        })?;
+        Ok(())
+    }
+
+    /// Whether the connection is there.
+    pub fn is_known(&self, conn: ConnId) -> bool
+        ensures { result ≡ known conn self.now.shown }
+    {
+        found(&self.conns, conn).is_some()
+    }
+
+    /// Whether the connection is there and not shut.
+    pub fn is_open(&self, conn: ConnId) -> bool
+        ensures { result ≡ opened conn self.now.shown }
+    {
+        match found(&self.conns, conn) {
+            None => false,
+            Some(conn) => !conn.outbox.is_shut(),
+        }
+    }
+
+    /// Whether the connection is there and not shut once all that was staged is shown.
+    pub fn stays_open(&self, conn: ConnId) -> bool
+        ensures { result ≡ opened conn self.now.next }
+    {
+        match found(&self.conns, conn) {
+            None => false,
+            Some(conn) => !conn.outbox.is_closing(),
+        }
+    }
+
+    /// Whether the connection is there and has room for the entry behind all that was put or staged.
+    pub fn has_room(&self, conn: ConnId, entry: &Entry) -> bool
+        ensures { result ≡ fits (client_at conn self.now.next) entry.now }
+    {
+        match found(&self.conns, conn) {
+            None => false,
+            Some(conn) => conn.outbox.room(entry.len()),
+        }
+    }
+
+    /// Whether the connection is there and has room for an answer of this line, given without its CR LF.
+    pub fn has_room_for(&self, conn: ConnId, line: &[u8]) -> bool
+        ensures same { result ≡ fits (client_at conn self.now.next) (reply_entry line.now) }
+        ensures fits { IsTrue result → length line.now + 2 < 2 ^ 64 }
+    {
+        match found(&self.conns, conn) {
+            None => false,
+            Some(conn) => conn.outbox.room_for(line),
+        }
+    }
+
+    /// Puts an entry, for which there is room, unseen. Want of memory leaves all as it was.
+    pub fn stage(&mut self, conn: ConnId, entry: Entry) -> Result<(), AllocError>
+        requires { IsTrue (fits (client_at conn self.old.next) entry) }
+        ensures shown { self.new.shown ≡ self.old.shown }
+        ensures ok { OnOk result (self.new.next ≡ changed (with_entry entry) conn self.old.next) }
+        ensures err { OnErr result (self.new.next ≡ self.old.next) }
+    {
+        if let Some(place) = place_in(&self.conns, conn) {
+            self.places.push(place)?;
+            let conn = &mut self.conns[place];
+            conn.outbox.stage(entry)?;
+        }
+        Ok(())
+    }
+
+    /// Puts the last line of a connection that is open, given without its CR LF, unseen. Want of memory
+    /// leaves all as it was.
+    pub fn stage_last(&mut self, conn: ConnId, line: &[u8]) -> Result<(), AllocError>
+        requires once { opened conn self.old.next ≡ true }
+        requires small { length line.now ≤ LAST_LINE_TEXT }
+        ensures shown { self.new.shown ≡ self.old.shown }
+        ensures ok { OnOk result (self.new.next ≡ changed (with_last line.now) conn self.old.next) }
+        ensures err { OnErr result (self.new.next ≡ self.old.next) }
+    {
+        if let Some(place) = place_in(&self.conns, conn) {
+            self.places.push(place)?;
+            let conn = &mut self.conns[place];
+            conn.outbox.stage_last(line)?;
+        }
+        Ok(())
+    }
+
+    /// Shows all that was staged. Takes no memory.
+    pub fn commit(&mut self)
+        ensures { self.new ≡ record { shown = self.old.next; next = self.old.next } }
+    {
+        commit_all(&mut self.conns, &self.places);
+        self.places.clear();
+    }
+
+    /// Drops all that was staged. Takes no memory.
+    pub fn rollback(&mut self)
+        ensures { self.new ≡ record { shown = self.old.shown; next = self.old.shown } }
+    {
+        rollback_all(&mut self.conns, &self.places);
+        self.places.clear();
+    }
+
+    /// Puts an entry, for which there is room. Want of memory leaves all as it was.
+    pub fn put(&mut self, conn: ConnId, entry: Entry) -> Result<(), AllocError>
+        requires settled { IsSettled self.old }
+        requires room { IsTrue (fits (client_at conn self.old.shown) entry) }
+        ensures ok { OnOk result (self.new ≡ on_both (changed (with_entry entry) conn) self.old) }
+        ensures err { OnErr result (self.new ≡ self.old) }
+    {
+        self.stage(conn, entry)?;
+        self.commit();
+        Ok(())
+    }
+
+    /// Puts the last line of a connection that is open, given without its CR LF. Takes no memory.
+    pub fn shut(&mut self, conn: ConnId, line: &[u8])
+        requires settled { IsSettled self.old }
+        requires once { opened conn self.old.shown ≡ true }
+        requires small { length line.now ≤ LAST_LINE_TEXT }
+        ensures { self.new ≡ on_both (changed (with_last line.now) conn) self.old }
+    {
+        if let Some(place) = place_in(&self.conns, conn) {
+            let conn = &mut self.conns[place];
+            conn.outbox.shut(line);
+        }
+    }
+
+    /// Gives and removes the first entries that wait, or all where there are fewer. Want of memory
+    /// leaves all as it was.
+    pub fn take(&mut self, conn: ConnId, count: usize) -> Result<Vec<Entry>, AllocError>
+        requires { IsSettled self.old }
+        ensures given { IfOk result (λ entries. entries.items ≡ take count (waits_for conn self.old.shown)) }
+        ensures ok { OnOk result (self.new ≡ on_both (changed (without_first count) conn) self.old) }
+        ensures err { OnErr result (self.new ≡ self.old) }
+    {
+        match place_in(&self.conns, conn) {
+            None => Ok(Vec::new(self.alloc)),
+            Some(place) => {
+                let conn = &mut self.conns[place];
+                let entries = conn.outbox.take(count)?;
+                Ok(entries)
+            }
+        }
+    }
+
+    /// The connection goes, with all that waits for it. Takes no memory.
+    pub fn detach(&mut self, conn: ConnId)
+        requires { IsSettled self.old }
+        ensures { self.new ≡ on_both (detached conn) self.old }
+    {
+        self.places.clear();
+        remove(&mut self.conns, conn.get());
+    }
+}
