@@ -1,0 +1,9 @@
+mod Scripts
+mod Gained
+mod Worlds
+mod Whole
+mod Given
+mod Started
+mod Plays
+mod Runs
+mod Sent

@@ -1,0 +1,5 @@
+use Rattle.cluster_world.proofs.Scripts.{a_full_window}
+use Rattle.cluster_world.proofs.laws.a_full_window.Goals as goal
+
+pub returns : goal.returns
+returns start = a_full_window

@@ -1,0 +1,5 @@
+use Rattle.cluster_world.proofs.Scripts.{a_lower_incarnation}
+use Rattle.cluster_world.proofs.laws.a_lower_incarnation.Goals as goal
+
+pub returns : goal.returns
+returns start = a_lower_incarnation

@@ -1,0 +1,5 @@
+use Rattle.cluster_world.proofs.Scripts.{a_restart}
+use Rattle.cluster_world.proofs.laws.a_restart.Goals as goal
+
+pub returns : goal.returns
+returns start = a_restart

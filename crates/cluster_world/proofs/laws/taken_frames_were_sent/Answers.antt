@@ -1,0 +1,5 @@
+use Rattle.cluster_world.proofs.Sent.{are_sent}
+use Rattle.cluster_world.proofs.laws.taken_frames_were_sent.Goals as goal
+
+pub returns : goal.returns
+returns start = are_sent

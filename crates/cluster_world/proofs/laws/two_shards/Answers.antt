@@ -1,0 +1,5 @@
+use Rattle.cluster_world.proofs.Scripts.{two_shards}
+use Rattle.cluster_world.proofs.laws.two_shards.Goals as goal
+
+pub returns : goal.returns
+returns start = two_shards

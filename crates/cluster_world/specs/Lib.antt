@@ -1,0 +1,10 @@
+pub mod Faults
+pub mod State
+pub mod Events
+pub mod Refusals
+pub mod Changes
+pub mod Steps
+pub mod Headline
+pub mod Seen
+pub mod Play
+pub mod Scripts

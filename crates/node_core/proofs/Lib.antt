@@ -1,0 +1,13 @@
+pub mod Winners
+pub mod ShardKeeps
+pub mod LineMoves
+pub mod HubMoves
+pub mod LineEvents
+pub mod HubEvents
+pub mod GivenApart
+pub mod NodeMoves
+pub mod Runs
+pub mod OneWinner
+pub mod Placing
+pub mod OneJob
+pub mod Ends

@@ -1,0 +1,9 @@
+pub mod Faults
+pub mod Race
+pub mod State
+pub mod Events
+pub mod Steps
+pub mod Sound
+pub mod AsLaw
+pub mod Runs
+pub mod OneServer
