@@ -42,6 +42,10 @@ module _ {A : Type 0} where
   has_behind [] m a h = h
   has_behind (x ∷ xs) m a h = let k = has_behind xs m a h in (suc k.0, k.1)
 
+  pub behind_at : (l m : List A) (k : ℕ) (a : A) → At m k a → At (l ++ m) (length l + k) a
+  behind_at [] m k a e = subst (λ (n : ℕ). At m n a) {x = k} {y = 0 + k} (omega arith) e
+  behind_at (x ∷ xs) m k a e = subst (λ (n : ℕ). At (x ∷ (xs ++ m)) n a) {x = suc (length xs + k)} {y = suc (length xs) + k} (omega arith) (behind_at xs m k a e)
+
   pub has_last : (l : List A) (a : A) → Has (l ++ a ∷ []) a
   has_last l a = (length l, at_last l a (length l) refl)
 

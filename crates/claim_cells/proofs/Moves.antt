@@ -25,8 +25,8 @@ module _ {S : Type 0} (limit window names count : ℕ) (wide : 0 < window) where
   pub splits : (id : ℕ) (v : View) → Splits Rule id v (rest_of v) (first_of_view v)
   splits id v s k at = (k.0, k.1, k.2, k.3, seated_split s.views k.0 k.1 k.4 id v at)
 
-  pub joins : (id other : ℕ) (v w : View) → Joins Rule id v other w (joined v w) spent
-  joins id other v w s k at apart there = (k.0, k.1, k.2, k.3, seated_join s.views k.0 k.1 k.4 id v at other w apart (sym (set_else s.views id other (joined v w) apart) ∙ there))
+  pub joins : (id other : ℕ) (v w : View) (h : HubPart) → v.hub ≡ Some h → Joins Rule id v other w (joined v w) spent
+  joins id other v w h has s k at apart there = (k.0, k.1, k.2, k.3, seated_join s.views k.0 k.1 k.4 id v at other w h has apart (sym (set_else s.views id other (joined v w) apart) ∙ there))
 
   module _ (slots id : ℕ) (m : Me S View) where
     -- the hub loads a shard's finished word
@@ -96,7 +96,7 @@ module _ {S : Type 0} (limit window names count : ℕ) (wide : 0 < window) where
                 (law.won s p there) (law.lost s p there) (λ pair h. h) (λ i pair h. inl h) (λ pair h. inl h),
             subst (λ (l : List ℕ). Words window names count l hub (set all s (seen p n))) (sym (set-get_or t.words 0 0))
                 (words_part limit window names count t.words hub all wide law words s p there (seen p n) t.words refl refl (words.finished s p there) (λ r ne low. refl) (λ c low. omega arith) (λ pair h. h) (λ f x h. inl h) (λ c low. inl refl)),
-            seated_part t.views hub all seated id m.0 at p (seen p n) mine refl,
+            seated_part t.views hub all seated id m.0 at p (seen p n) mine refl law.named,
           ),
           (λ q mine'. let one : p ≡ q = same_at m.0.shards m.0.at m.0.at p q refl mine mine' in (
             (λ j. (with_part m.0 (seen (one j) n), m.1)),
@@ -131,7 +131,7 @@ module _ {S : Type 0} (limit window names count : ℕ) (wide : 0 < window) where
                 (λ r ne _. get_or-set_other t.words shard (r + 1) new 0 (λ e. ne (omega arith)))
                 (λ c _. let e : slice_index later (count + 1 + c) ≡ slice_index t.words (count + 1 + c) = get_or-set_other t.words shard (count + 1 + c) new 0 (λ e. omega arith) in omega arith)
                 (λ pair h. h) (λ f x h. inl h) (λ c _. inl (get_or-set_other t.words shard (count + 1 + c) new 0 (λ e. omega arith))),
-            seated_part t.views hub all seated id m.0 at p q mine refl,
+            seated_part t.views hub all seated id m.0 at p q mine refl law.named,
           ),
           (λ o mine'. λ j. (with_part m.0 (finished_one (same_at m.0.shards m.0.at m.0.at p o refl mine mine' j)), m.1)),
         )
@@ -223,7 +223,7 @@ module _ {S : Type 0} (limit window names count : ℕ) (wide : 0 < window) where
               (λ pair h. h) (λ i pair h. inl h)
               (λ pair h. ⊎_elim (λ h. inl h) (λ (e : (p.finished + 1, x) ≡ pair). inr (subst (λ (z : ℕ × ℕ). (r : ℕ) × (o : ShardPart) × (r ≢ s) × At all r o × Has o.won z) e (claimed up))) (has_snoc p.lost (p.finished + 1, x) pair h)),
           words_part limit window names count t.words hub all wide law words s p there (lost_by p x) t.words refl refl (words.finished s p there) (λ r ne low. refl) (λ c low. omega arith) (λ pair h. h) (λ f x h. inl h) (λ c low. inl refl),
-          seated_part t.views hub all seated id m.0 at p (lost_by p x) mine refl,
+          seated_part t.views hub all seated id m.0 at p (lost_by p x) mine refl law.named,
         )
 
         wins : found < p.finished + 1 → Rule record { words = set t.words word (p.finished + 1); homes = t.homes; views = set t.views id (with_part m.0 (won_by p x)) }
@@ -244,7 +244,7 @@ module _ {S : Type 0} (limit window names count : ℕ) (wide : 0 < window) where
               (λ f y h. ⊎_elim (λ h. inl h) (λ (e : (p.finished + 1, x) ≡ (f, y)). inr (subst (λ (z : ℕ × ℕ). z.0 ≤ slice_index later (count + 1 + cell window names z.0 z.1)) e (let a = here in omega arith))) (has_snoc p.won (p.finished + 1, x) (f, y) h))
               (λ c _. dite (ℕ_discrete c place) (λ e. let a : slice_index later (count + 1 + c) ≡ p.finished + 1 = ap (λ (c : ℕ). slice_index later (count + 1 + c)) e ∙ here in
               inr (x, subst (λ (n : ℕ). Has (p.won ++ (p.finished + 1, x) ∷ []) (n, x)) (sym a) (has_last p.won (p.finished + 1, x)), ap (λ (n : ℕ). cell window names n x) a ∙ sym e)) (λ ne. inl (beside c ne))),
-          seated_part t.views hub all seated id m.0 at p (won_by p x) mine refl,
+          seated_part t.views hub all seated id m.0 at p (won_by p x) mine refl law.named,
         )
           where
             later : List ℕ

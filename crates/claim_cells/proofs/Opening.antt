@@ -68,6 +68,8 @@ module _ (limit window names count : ℕ) where
     shards = λ j i w p e k. let one = one_view (everyone count) w j e in let k' : At (newcomers 1 count) i p = subst (λ (u : View). At u.shards i p) (sym one.1) k in let is : row p ≡ i = (let a = ap (λ (p : ShardPart). p.shard) (is_new i p k') in omega arith) in
         (subst (λ (s : ℕ). At (newcomers 1 count) s p) (sym is) k', λ m. (sym one.0 m, is m));
     hubs = λ j w h e is. let one = one_view (everyone count) w j e in (sym (un_some fresh_hub h (ap (λ (u : View). u.hub) one.1 ∙ is)), one.0);
+    each = λ s p e. (everyone count, refl, e);
+    one = (everyone count, refl, refl);
   }
 
   pub opens : (S : Type 0) (words : List ℕ) → words ≡ replicate (count + 1 + window * names) 0 → Kept {S = S} limit window names count (opening words [] (everyone count))

@@ -2,6 +2,7 @@
 use Rattle.std.specs.Prelude.{◌≡◌, ℕ, ◌+◌, ◌-◌, ◌*◌, ◌<◌, ◌≤◌, ◌⊎◌, List, ◌++◌, length, map, replicate, slice_index, Result, Some}
 use Rattle.atomic_table.specs.Table.{Me}
 use Rattle.subj.specs.Answers.{IsDecided}
+use Rattle.subj.specs.Numbers.{finished_turn}
 use Rattle.subj.specs.declared.limits.TheConstants.{MAX_COUNTER, MAX_QUEUE_NAMES, MAX_SHARDS, WINDOW}
 use Rattle.subj.specs.declared.turns.Busy.{Busy}
 use Rattle.claim_race.specs.Race.{busy_of}
@@ -27,6 +28,14 @@ IsRound shards before found = (length found ≡ shards) × Rises before found
 -- the hub's part has gained the loads that are answered
 abbrev pub IsLooked : ℕ → HubPart → List ℕ → HubPart → Type 0
 IsLooked shards before answer after = (found : List ℕ) × IsRound shards before found × (answer ≡ finished_list found) × (after ≡ with_loads before found)
+
+-- each of these turns is a load of the shard's last finished turn
+abbrev pub AreLoads : ℕ → HubPart → List ℕ → Type 0
+AreLoads shards part turns = (s : ℕ) → s < shards → Has part.loads (s + 1, finished_turn turns (s + 1))
+
+-- by the loads so far, no shard is too far behind for one more turn
+abbrev pub ShowsRoom : ℕ → HubPart → Type 0
+ShowsRoom shards part = (s : ℕ) → s < shards → (f : ℕ) × Has part.loads (s + 1, f) × (part.issued + 1 ≤ f + WINDOW)
 
 -- By one load of each shard's last finished turn, made in this call: the next turn is issued where no shard is too far behind, and else the first such shard is named with its load. The hub's part has gained these loads.
 abbrev pub IsIssuedOrBusy : ℕ → HubPart → Result ℕ Busy → HubPart → Type 0

@@ -99,12 +99,20 @@ pub record Words (window names count : ℕ) (words : List ℕ) (hub : HubPart) (
 abbrev pub row : ShardPart → ℕ
 row p = p.shard - 1
 
--- Each part stands in one view: that at the row s of all has the place (seat, position), and the hub's the seat `desk`
+-- a shard's part stands at this place of a seat
+abbrev pub StandsAt : List View → ℕ × ℕ → ShardPart → Type 0
+StandsAt views place p = (v : View) × At views place.0 v × At v.shards place.1 p
+
+-- Each part stands in just one view: that at the row s of all has the place (seat, position), and the hub's the seat `desk`
 pub record Seated (views : List View) (hub : HubPart) (all : List ShardPart) : Type 0 where
   pub place : ℕ → ℕ × ℕ
   pub desk : ℕ
+  -- it stands nowhere else
   pub shards : (id i : ℕ) (v : View) (p : ShardPart) → At views id v → At v.shards i p → At all (row p) p × (place (row p) ≡ (id, i))
   pub hubs : (id : ℕ) (v : View) (h : HubPart) → At views id v → v.hub ≡ Some h → (h ≡ hub) × (id ≡ desk)
+  -- it stands there
+  pub each : (s : ℕ) (p : ShardPart) → At all s p → StandsAt views (place s) p
+  pub one : (v : View) × At views desk v × (v.hub ≡ Some hub)
 
 abbrev pub Kept : {S : Type 0} → ℕ → ℕ → ℕ → ℕ → State S View → Type 0
 Kept limit window names count s = (hub : HubPart) × (all : List ShardPart) × Law limit window names hub all × Words window names count s.words hub all × Seated s.views hub all

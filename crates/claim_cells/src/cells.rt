@@ -1,11 +1,11 @@
 //! The words of a race, and the calls on them.
 
-ghost use Rattle.std.specs.Prelude.{◌≡◌, ℕ, ◌+◌, ◌<◌, ◌≤◌, [], true, false, IfOk};
+ghost use Rattle.std.specs.Prelude.{◌≡◌, ℕ, ◌+◌, ◌<◌, ◌≤◌, [], true, false, IfOk, IsOk};
 ghost use Rattle.subj.specs.declared.limits.TheConstants.{MAX_COUNTER, MAX_QUEUE_NAMES, MAX_SHARDS, WINDOW};
 ghost use Rattle.claim_cells.specs.Rule.{Has, everyone, fresh_hub};
 ghost use Rattle.claim_cells.specs.Steps.{seen, won_by, lost_by, finished_one};
-ghost use Rattle.claim_cells.specs.Seats.{HasTurn};
-ghost use Rattle.claim_cells.specs.Calls.{AllNew, IsIssuedOrBusy, IsLooked};
+ghost use Rattle.claim_cells.specs.Seats.{HasTurn, last_load};
+ghost use Rattle.claim_cells.specs.Calls.{AllNew, AreLoads, IsIssuedOrBusy, IsLooked, ShowsRoom};
 
 use crate::parts::View;
 use crate::plays::{FirstPart, Ruled};
@@ -97,6 +97,7 @@ impl Cells {
         requires race { seat.old.race ≡ self.now }
         ensures race { seat.new.race ≡ seat.old.race }
         ensures told { IsLooked self.now.shards seat.old.part result seat.new.part }
+        ensures loads { AreLoads self.now.shards seat.new.part result }
     {
         self.look_at_all(&mut seat.place)
     }
@@ -104,14 +105,16 @@ impl Cells {
     /// Issues the next turn, by one load of each shard's last finished turn, made in this call.
     ///
     /// `Busy` just where by these the next turn is more than [`WINDOW`] turns beyond the last one that
-    /// some shard finished; it names the first such shard and what was found of it. The seat keeps the
-    /// loads. Required: the seat is of this race, and the last turn issued is below
+    /// some shard finished; it names the first such shard and what was found of it. So it is never busy
+    /// where the loads that the seat had before, as those of a [`Cells::look`], show room already. The seat
+    /// keeps the loads. Required: the seat is of this race, and the last turn issued is below
     /// [`MAX_COUNTER`](subj::MAX_COUNTER).
     pub fn issue(&self, seat: &mut HubSeat) -> Result<Turn, Busy>
         requires race { seat.old.race ≡ self.now }
         requires limit { seat.old.part.issued < MAX_COUNTER }
         ensures race { seat.new.race ≡ seat.old.race }
         ensures told { IsIssuedOrBusy self.now.shards seat.old.part result seat.new.part }
+        ensures sure { ShowsRoom self.now.shards seat.old.part → IsOk result }
     {
         let turn = self.issue_at(&mut seat.place, seat.issued)?;
         seat.issued = turn;
@@ -120,11 +123,12 @@ impl Cells {
 
     /// Loads the last turn issued.
     ///
-    /// The seat keeps the load; it is no lower than those before. Required: the seat is of this race.
+    /// The seat keeps the load as its last one; it is no lower than those before. Required: the seat is of this race.
     pub fn seen(&self, seat: &mut ShardSeat) -> Turn
         requires race { seat.old.race ≡ self.now }
         ensures race { seat.new.race ≡ seat.old.race }
         ensures part { seat.new.part ≡ seen seat.old.part result }
+        ensures last { last_load seat.new.part.loads ≡ result }
         ensures rises { (n : ℕ) → Has seat.old.part.loads n → n ≤ result }
     {
         seat.seen = self.load_issued(&mut seat.place);

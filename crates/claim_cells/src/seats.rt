@@ -86,6 +86,14 @@ impl ShardSeat {
         }
     }
 
+    /// The shard, counted from 1.
+    pub fn shard(&self) -> u64
+        ensures same { result ≡ self.now.part.shard }
+        ensures range { (1 ≤ result) × (result ≤ self.now.race.shards) }
+    {
+        self.shard
+    }
+
     /// The turn in which the shard may claim: the one behind the last that it finished. None just where it
     /// has finished the last turn that there can be, [`MAX_COUNTER`](subj::MAX_COUNTER).
     pub fn turn(&self) -> Option<Turn>

@@ -27,6 +27,26 @@ fn issued(cells: &Cells, hub: &mut HubSeat) -> Result<u64, Fail>
     }
 }
 
+/// Issues a turn by the loads of a look at a race of two: None where they show no room, and a fault where
+/// they show room and the race is busy all the same.
+fn issued_by_a_look(cells: &Cells, hub: &mut HubSeat) -> Result<Option<u64>, Fail>
+    requires { hub.old.race ≡ cells.now }
+    ensures { hub.new.race ≡ hub.old.race }
+{
+    if hub.issued().get() >= MAX_COUNTER {
+        return Ok(None.ok_or("a turn below the limit")?);
+    }
+    let next = hub.issued().get() + 1;
+    let finished = cells.look(hub);
+    if next > finished.of(1).get() + WINDOW || next > finished.of(2).get() + WINDOW {
+        return Ok(None);
+    }
+    match cells.issue(hub) {
+        Ok(turn) => Ok(Some(turn.get())),
+        Err(_) => Ok(None.ok_or("a turn")?),
+    }
+}
+
 /// Which shard is too far behind, and the last turn that it finished.
 fn behind(cells: &Cells, hub: &mut HubSeat) -> Result<(u64, u64), Fail>
     requires { hub.old.race ≡ cells.now }
@@ -207,8 +227,10 @@ fn full_window_on_split_seats(rt: HostRuntime) -> Result<(), Fail> {
     let found = cells.look(&mut hub);
     assert_eq!(rt; (found.of(1).get(), found.of(2).get()), (WINDOW, 0));
     assert_eq!(rt; behind(&cells, &mut hub)?, (2, 0));
+    assert_eq!(rt; issued_by_a_look(&cells, &mut hub)?, None);
+    assert_eq!(rt; (first.shard(), second.shard()), (1, 2));
     ends_turn(&cells, &mut second);
-    assert_eq!(rt; issued(&cells, &mut hub)?, WINDOW + 1);
+    assert_eq!(rt; issued_by_a_look(&cells, &mut hub)?, Some(WINDOW + 1));
     assert_eq!(rt; behind(&cells, &mut hub)?, (2, 1));
     Ok(())
 }

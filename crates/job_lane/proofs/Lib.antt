@@ -1,2 +1,4 @@
+mod Lists
 pub mod Numbering
 mod Moves
+mod Giving

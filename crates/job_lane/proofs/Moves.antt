@@ -1,15 +1,18 @@
 -- Each step of the queue keeps the rule of a lane.
-use Rattle.std.proofs.Common.{◌≡◌, ◌≢◌, ℕ, zero, suc, ◌+◌, true, false, true≢false, List, [], ◌∷◌, ◌++◌, length, set, Some, sym, refl, ap, ◌∙◌, subst, ⊎_elim, append_assoc}
-use Rattle.std.specs.Prelude.{⊤, Option, None, Result, Ok, Err, MatchResult, MatchOption}
+use Rattle.std.proofs.Common.{◌≡◌, ◌≢◌, ◌<◌, ℕ, zero, suc, true, false, true≢false, List, [], ◌∷◌, ◌++◌, length, set, Some, sym, refl, ap, ◌∙◌, subst, ⊎_elim, append_assoc}
+use Rattle.std.specs.Prelude.{⊤, Option, None, Result, Ok, Err, IfErr, MatchResult, MatchOption}
 use mathlib.Core.Option.{some, some-ne-none}
 use lib.ListN.{get_elem?}
 use Rattle.crossbeam_queue.specs.Fifo.{Pushes, Pops, Forks, Merges, Learns, Held}
 use Rattle.crossbeam_queue.proofs.Lists.{at_set, at_snoc}
 use Rattle.subj.specs.declared.jobs.Job.{Job}
 use Rattle.job_lane.specs.declared.rule.Log.{Log}
-use Rattle.job_lane.specs.Turns.{AreNumbered}
+use Rattle.job_lane.specs.Turns.{AreNumbered, AreNumberedBehind}
+use Rattle.job_lane.specs.Runs.{jobs_of}
+use Rattle.job_lane.specs.Ends.{LackedRoom}
 use Rattle.job_lane.specs.Rule.{log, KnowsItsPart, HoldsInOrder, Adds, Takes, WaitsAtEnd, IsPushing, IsPopping}
-use Rattle.job_lane.proofs.Numbering.{numbered_none, numbered_snoc, numbered_next}
+use Rattle.job_lane.proofs.Numbering.{numbered_none, numbered_run, next_numbered}
+use Rattle.job_lane.proofs.Lists.{all_snoc, full_lacks}
 
 -- ---- what holds of each pass
 
@@ -47,23 +50,23 @@ begins = record {
       (λ other known apart is. absurd (apart (at_end [] _ known other (λ absent. some-ne-none known (sym absent)) is)));
 }
 
--- a push by the pass that may, of the job that has the next turn
-pub pushes : (room pass : ℕ) (known : Log) (job : Job) → known.may_push ≡ true → job.turn ≡ length known.pushed + 1
-    → Pushes HoldsInOrder room pass known job (Adds known job)
-pushes room pass known job may turn waiting passes short holds at =
-    let now : Log = log known.may_push known.may_pop (known.pushed ++ job ∷ []) known.popped in
+-- a push by the pass that may, of a run whose jobs have the next turns
+pub pushes : (room pass : ℕ) (known : Log) (run : List Job) → known.may_push ≡ true → AreNumberedBehind (length (jobs_of known.pushed)) run
+    → Pushes HoldsInOrder room pass known run (Adds known run)
+pushes room pass known run may turns waiting passes short holds at =
+    let now : Log = log known.may_push known.may_pop (known.pushed ++ run ∷ []) known.popped in
     let mine = holds.each pass known at in
-    let pushed = holds.pushed ++ job ∷ [] in (
+    let pushed = holds.pushed ++ run ∷ [] in (
       now,
       record {
         writer = holds.writer;
         reader = holds.reader;
         pushed = pushed;
         popped = holds.popped;
-        in_order = ap (λ l. l ++ job ∷ []) holds.in_order ∙ append_assoc holds.popped waiting (job ∷ []);
-        numbered = numbered_snoc holds.pushed job holds.numbered (turn ∙ ap (λ (l : List Job). length l + 1) (mine.push may).1);
+        in_order = ap (λ l. l ++ run ∷ []) holds.in_order ∙ append_assoc holds.popped waiting (run ∷ []);
+        numbered = numbered_run holds.pushed run holds.numbered (subst (λ (l : List (List Job)). AreNumberedBehind (length (jobs_of l)) run) (mine.push may).1 turns);
         each = of_each-set (KnowsItsPart holds.writer holds.reader pushed holds.popped) passes pass now
-            (record { push = λ _. ((mine.push may).0, ap (λ l. l ++ job ∷ []) (mine.push may).1); pop = mine.pop })
+            (record { push = λ _. ((mine.push may).0, ap (λ l. l ++ run ∷ []) (mine.push may).1); pop = mine.pop })
             (λ other knows apart is. record {
               push = λ does. absurd (apart (((holds.each other knows is).push does).0 ∙ sym (mine.push may).0));
               pop = (holds.each other knows is).pop;
@@ -74,26 +77,30 @@ pushes room pass known job may turn waiting passes short holds at =
 
 -- a pop by the pass that may
 pub pops : (pass : ℕ) (known : Log) → known.may_pop ≡ true → Pops HoldsInOrder pass known (Takes known)
-pops pass known may job waiting passes holds at =
-    let now : Log = log known.may_push known.may_pop known.pushed (known.popped ++ job ∷ []) in
+pops pass known may run waiting passes holds at =
+    let now : Log = log known.may_push known.may_pop known.pushed (known.popped ++ run ∷ []) in
     let mine = holds.each pass known at in
-    let popped = holds.popped ++ job ∷ [] in (
+    let popped = holds.popped ++ run ∷ [] in (
       now,
       record {
         writer = holds.writer;
         reader = holds.reader;
         pushed = holds.pushed;
         popped = popped;
-        in_order = holds.in_order ∙ sym (append_assoc holds.popped (job ∷ []) waiting);
+        in_order = holds.in_order ∙ sym (append_assoc holds.popped (run ∷ []) waiting);
         numbered = holds.numbered;
         each = of_each-set (KnowsItsPart holds.writer holds.reader holds.pushed popped) passes pass now
-            (record { push = mine.push; pop = λ _. ((mine.pop may).0, ap (λ l. l ++ job ∷ []) (mine.pop may).1) })
+            (record { push = mine.push; pop = λ _. ((mine.pop may).0, ap (λ l. l ++ run ∷ []) (mine.pop may).1) })
             (λ other knows apart is. record {
               push = (holds.each other knows is).push;
               pop = λ does. absurd (apart (((holds.each other knows is).pop does).0 ∙ sym (mine.pop may).0));
             });
       },
-      (refl, numbered_next holds.popped job waiting (subst AreNumbered holds.in_order holds.numbered) ∙ ap (λ (l : List Job). length l + 1) (sym (mine.pop may).1)),
+      (
+        refl,
+        subst (λ (l : List (List Job)). AreNumberedBehind (length (jobs_of l)) run) (sym (mine.pop may).1)
+            (next_numbered holds.popped run waiting (subst (λ (l : List (List Job)). AreNumbered (jobs_of l)) holds.in_order holds.numbered)),
+      ),
     )
 
 -- a pass that may push and pop is split into two
@@ -165,26 +172,40 @@ learns_end pass known may waiting passes holds at = (holds.popped, ((holds.each 
 
 -- ---- what the ends keep
 
-pub is_pushing-snoc : (before after : Log) (job : Job) → IsPushing before → job.turn ≡ length before.pushed + 1 → Adds before job after → IsPushing after
-is_pushing-snoc before after job is turn added =
-    let now : after ≡ log true false (before.pushed ++ job ∷ []) [] = added ∙ ap (λ (l : Log). log l.may_push l.may_pop (before.pushed ++ job ∷ []) l.popped) is.alone in
-    subst IsPushing (sym now) (record { alone = refl; numbered = numbered_snoc before.pushed job is.numbered turn })
+pub is_pushing-snoc : (before after : Log) (run : List Job) → IsPushing before → 0 < length run → AreNumberedBehind (length (jobs_of before.pushed)) run → Adds before run after → IsPushing after
+is_pushing-snoc before after run is has turns added =
+    let now : after ≡ log true false (before.pushed ++ run ∷ []) [] = added ∙ ap (λ (l : Log). log l.may_push l.may_pop (before.pushed ++ run ∷ []) l.popped) is.alone in
+    subst IsPushing (sym now) (record { alone = refl; some = all_snoc before.pushed run is.some has; numbered = numbered_run before.pushed run is.numbered turns })
 
-pub is_popping-snoc : (before after : Log) (job : Job) → IsPopping before → Takes before job after → IsPopping after
-is_popping-snoc before after job is taken =
-    let now : after ≡ log false true [] (before.popped ++ job ∷ []) = taken.0 ∙ ap (λ (l : Log). log l.may_push l.may_pop l.pushed (before.popped ++ job ∷ [])) is.alone in
-    subst IsPopping (sym now) (record { alone = refl; numbered = numbered_snoc before.popped job is.numbered taken.1 })
+pub is_popping-snoc : (before after : Log) (run : List Job) → IsPopping before → Takes before run after → IsPopping after
+is_popping-snoc before after run is taken =
+    let now : after ≡ log false true [] (before.popped ++ run ∷ []) = taken.0 ∙ ap (λ (l : Log). log l.may_push l.may_pop l.pushed (before.popped ++ run ∷ [])) is.alone in
+    subst IsPopping (sym now) (record { alone = refl; numbered = numbered_run before.popped run is.numbered taken.1 })
 
 -- whatever a push answers
-pub still_pushing : {A : Type 0} (answer : Result A Job) (most : ℕ) (before after : Log) (job : Job) → IsPushing before → job.turn ≡ length before.pushed + 1
-    → MatchResult answer (λ _. Adds before job after) (λ back. (back ≡ job) × (after ≡ before) × Held most (λ waiting. WaitsAtEnd before.pushed waiting))
+pub still_pushing : {A : Type 0} (answer : Result A (List Job)) (most : ℕ) (before after : Log) (run : List Job) → IsPushing before → 0 < length run → AreNumberedBehind (length (jobs_of before.pushed)) run
+    → MatchResult answer (λ _. Adds before run after) (λ back. (back ≡ run) × (after ≡ before) × Held most (λ waiting. WaitsAtEnd before.pushed waiting))
     → IsPushing after
-still_pushing (Ok a) most before after job is turn told = is_pushing-snoc before after job is turn told
-still_pushing (Err back) most before after job is turn told = subst IsPushing (sym told.1) is
+still_pushing (Ok a) most before after run is has turns told = is_pushing-snoc before after run is has turns told
+still_pushing (Err back) most before after run is has turns told = subst IsPushing (sym told.1) is
 
 -- whatever a pop answers
-pub still_popping : (answer : Option Job) (most : ℕ) (before after : Log) → IsPopping before
-    → MatchOption answer ((after ≡ before) × Held most (λ (waiting : List Job). ⊤)) (λ job. Takes before job after)
+pub still_popping : (answer : Option (List Job)) (most : ℕ) (before after : Log) → IsPopping before
+    → MatchOption answer ((after ≡ before) × Held most (λ (waiting : List (List Job)). ⊤)) (λ run. Takes before run after)
     → IsPopping after
 still_popping None most before after is told = subst IsPopping (sym told.0) is
-still_popping (Some job) most before after is told = is_popping-snoc before after job is told
+still_popping (Some run) most before after is told = is_popping-snoc before after run is told
+
+-- a run that comes back found a full queue
+pub came_back : {A : Type 0} (answer : Result A (List Job)) (most : ℕ) (before after : Log) (run : List Job) → IsPushing before → 0 < length run
+    → MatchResult answer (λ _. Adds before run after) (λ back. (back ≡ run) × (after ≡ before) × Held most (λ waiting. WaitsAtEnd before.pushed waiting))
+    → IfErr answer (λ back. (back ≡ run) × (after.pushed ≡ before.pushed) × LackedRoom most (jobs_of before.pushed) (length run))
+came_back (Ok a) most before after run is has told = _
+came_back (Err back) most before after run is has told = (told.0, ap (λ (l : Log). l.pushed) told.1, full_lacks most before.pushed told.2.2.0 told.2.0 run is.some has told.2.1 told.2.2.1)
+
+-- what came of a pop
+pub came : (answer : Option (List Job)) (most : ℕ) (before after : Log)
+    → MatchOption answer ((after ≡ before) × Held most (λ (waiting : List (List Job)). ⊤)) (λ run. Takes before run after)
+    → MatchOption answer (after.popped ≡ before.popped) (λ run. after.popped ≡ before.popped ++ run ∷ [])
+came None most before after told = ap (λ (l : Log). l.popped) told.0
+came (Some run) most before after told = ap (λ (l : Log). l.popped) told.0

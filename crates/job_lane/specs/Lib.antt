@@ -1,3 +1,4 @@
 pub mod Turns
+pub mod Runs
 pub mod Ends
 pub mod Rule

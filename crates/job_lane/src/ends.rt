@@ -1,56 +1,66 @@
 //! The two ends of a lane.
 
-ghost use Rattle.std.specs.Prelude.{◌≡◌, ◌+◌, ◌<◌, [], ◌∷◌, ◌++◌, length, IfOk, IfSome, IfNone, OnOk, IfErr};
-ghost use Rattle.job_lane.specs.Ends.{WasFull};
-ghost use Rattle.job_lane.specs.Turns.{AreNumbered};
+ghost use Rattle.std.specs.Prelude.{◌≡◌, ◌+◌, ◌<◌, ◌≤◌, true, false, [], ◌∷◌, ◌++◌, length, None, IfOk, IfSome, IfNone, OnOk, IfErr, MatchOption};
+ghost use Rattle.job_lane.specs.Ends.{HadRoom, IsPopped, LackedRoom};
+ghost use Rattle.job_lane.specs.Runs.{jobs_of};
+ghost use Rattle.job_lane.specs.Turns.{AreNumbered, AreNumberedBehind};
 
-use crate::rule::{Ends, JobPass, JobQueue};
-use crate::steps::{drain, pop_by, push_by};
+use crate::counts::Count;
+use crate::rule::{Ends, RunPass, RunQueue};
+use crate::runs::Run;
+use crate::steps::{behind_first, drain, has_room, push_by, take_next};
 use std::alloc::{AllocError, Global};
 use std::marker::Model;
 use std::sync::{Arc, Wait};
-use subj::{Job, WINDOW};
+use subj::{Job, Turn, WINDOW};
 
 /// How many jobs can wait in the lane of a shard: one for each turn that may be issued beyond the last
 /// one that the shard finished. (Profile.)
 pub const LANE_CAPACITY: usize = WINDOW as usize;
 
-/// The end of a lane that jobs are pushed at.
+/// The end of a lane that runs of jobs are pushed at.
 ///
 /// Seen as the lane it is of, the lane's capacity in jobs, and all jobs pushed so far, in order.
 #[derive(Drop)]
 pub struct LaneIn {
-    queue: Arc<JobQueue, Global>,
-    pass: JobPass,
-    /// Empty, with room for all that can wait, so that [`meet`] takes no memory.
-    spare: Vec<Job>,
+    queue: Arc<RunQueue, Global>,
+    pass: RunPass,
+    /// The runs that may wait still.
+    count: Count,
+    /// Empty, with room for all that can be left, so that [`meet`] takes no memory.
+    spare: Vec<Run>,
 }
 
 impl Model for LaneIn {
-    ghost use Rattle.std.specs.Prelude.{vec_len, vec_capacity};
+    ghost use Rattle.std.specs.Prelude.{◌≡◌, vec_len, vec_capacity};
     ghost use Rattle.std.specs.Arc.{arc_value};
     ghost use Rattle.crossbeam_queue.specs.Passes.{IsPassOf, ruled_capacity};
     ghost use Rattle.job_lane.specs.Ends.{Writer};
-    ghost use Rattle.job_lane.specs.Rule.{known_by, IsPushing, HasRoomFor};
+    ghost use Rattle.job_lane.specs.Rule.{AreLastLengths, IsPushing, IsSpare, known_by};
+    ghost use Rattle.job_lane.specs.Runs.{jobs_of};
 
     ghost Value = { Writer };
 
     ghost view = { λ end. record {
       lane = end.pass.table_id;
       capacity = ruled_capacity (arc_value end.queue);
-      pushed = (known_by end.pass).pushed;
+      pushed = jobs_of (known_by end.pass).pushed;
     } };
 
-    ghost invariant = { λ end. IsPassOf (arc_value end.queue) end.pass × IsPushing (known_by end.pass) × HasRoomFor (ruled_capacity (arc_value end.queue)) end.spare.items (vec_len end.spare) (vec_capacity end.spare) };
+    ghost invariant = { λ end. IsPassOf (arc_value end.queue) end.pass × IsPushing (known_by end.pass)
+        × (end.count.most ≡ ruled_capacity (arc_value end.queue)) × AreLastLengths (known_by end.pass).pushed end.count.lengths
+        × IsSpare (ruled_capacity (arc_value end.queue)) end.spare.items (vec_len end.spare) (vec_capacity end.spare) };
 }
 
 /// The end of a lane that jobs are popped at.
 ///
-/// Seen as the lane it is of, and all jobs popped so far, in order.
+/// Seen as the lane it is of, all jobs popped so far, in order, and the one of them that is in hand.
 #[derive(Drop)]
 pub struct LaneOut {
-    queue: Arc<JobQueue, Global>,
-    pass: JobPass,
+    queue: Arc<RunQueue, Global>,
+    pass: RunPass,
+    /// The job in hand, and behind it those of its run that were not popped yet.
+    run: Option<Run>,
 }
 
 impl Model for LaneOut {
@@ -58,15 +68,17 @@ impl Model for LaneOut {
     ghost use Rattle.crossbeam_queue.specs.Passes.{IsPassOf};
     ghost use Rattle.job_lane.specs.Ends.{Reader};
     ghost use Rattle.job_lane.specs.Rule.{known_by, IsPopping};
+    ghost use Rattle.job_lane.specs.Runs.{IsGiving, given, job_in_hand, jobs_of};
 
     ghost Value = { Reader };
 
     ghost view = { λ end. record {
       lane = end.pass.table_id;
-      popped = (known_by end.pass).popped;
+      popped = given (jobs_of (known_by end.pass).popped) end.run;
+      hand = job_in_hand end.run;
     } };
 
-    ghost invariant = { λ end. IsPassOf (arc_value end.queue) end.pass × IsPopping (known_by end.pass) };
+    ghost invariant = { λ end. IsPassOf (arc_value end.queue) end.pass × IsPopping (known_by end.pass) × IsGiving (jobs_of (known_by end.pass).popped) end.run };
 }
 
 /// The two ends of a new lane, in which up to `cap` jobs can wait. Required: `cap` is not 0.
@@ -77,71 +89,101 @@ pub fn lane(alloc: Global, cap: usize) -> Result<(LaneIn, LaneOut), AllocError>
     requires { 0 < cap }
     ensures of_one { IfOk result (λ ends. ends.0.lane ≡ ends.1.lane) }
     ensures capacity { IfOk result (λ ends. ends.0.capacity ≡ cap) }
-    ensures new { IfOk result (λ ends. (ends.0.pushed ≡ []) × (ends.1.popped ≡ [])) }
+    ensures new { IfOk result (λ ends. (ends.0.pushed ≡ []) × (ends.1.popped ≡ []) × (ends.1.hand ≡ None)) }
 {
-    let spare = Vec::with_capacity(alloc, cap)?;
-    let (queue, mut pass) = JobQueue::ruled(alloc, cap)?;
+    let spare = Vec::with_capacity(alloc, cap.checked_add(1).ok_or(AllocError)?)?;
+    let count = Count::new(alloc, cap)?;
+    let (queue, mut pass) = RunQueue::ruled(alloc, cap)?;
     let reader_pass = queue.another::<Ends>(&mut pass);
     let queue = Arc::new(alloc, queue)?;
     let reader = LaneOut {
         queue: Arc::try_clone(&queue)?,
         pass: reader_pass,
+        run: None,
     };
-    Ok((LaneIn { queue, pass, spare }, reader))
+    Ok((
+        LaneIn {
+            queue,
+            pass,
+            count,
+            spare,
+        },
+        reader,
+    ))
 }
 
 impl LaneIn {
-    /// Puts the job behind all others. Required: its turn is one more than the number of jobs pushed
-    /// so far. (Profile.)
+    /// Puts the jobs of the run behind all others. Required: their turns go on from the number of jobs
+    /// pushed so far. (Profile.)
     ///
-    /// The job comes back, unchanged, only where the lane was full at some moment of the call; then
-    /// nothing was pushed. The contract says of that moment that at least as many jobs had been pushed
-    /// as the lane holds: how many had been popped, this end alone can't know. The call may wait for
-    /// other threads.
-    pub fn push<R: Wait>(&mut self, rt: &R, job: Job) -> Result<(), Job>
-        requires { job.turn ≡ length self.old.pushed + 1 }
+    /// The run comes back, unchanged, only where at some moment of the call the lane had no room for all
+    /// of its jobs; then nothing was pushed. The contract says of that moment that at least so many jobs
+    /// had been pushed: how many had been popped, this end alone can't know. The call may wait for other
+    /// threads.
+    #[tactic(auto, using(crate::proofs::Lists::last_snoc, crate::proofs::Lists::jobs_snoc))]
+    pub fn push<R: Wait>(&mut self, rt: &R, run: Run) -> Result<(), Run>
+        requires { AreNumberedBehind (length self.old.pushed) run }
         ensures lane { (self.new.lane ≡ self.old.lane) × (self.new.capacity ≡ self.old.capacity) }
-        ensures ok { OnOk result (self.new.pushed ≡ self.old.pushed ++ job ∷ []) }
-        ensures err { IfErr result (λ back. (back ≡ job) × (self.new.pushed ≡ self.old.pushed) × WasFull self.old.capacity self.old.pushed) }
+        ensures ok { OnOk result ((self.new.pushed ≡ self.old.pushed ++ run) × HadRoom self.old.capacity self.old.pushed (length run)) }
+        ensures err { IfErr result (λ back. (back ≡ run) × (self.new.pushed ≡ self.old.pushed) × LackedRoom self.old.capacity self.old.pushed (length run)) }
     {
-        push_by(rt, &self.queue, &mut self.pass, job)
+        let jobs = run.jobs().len();
+        if !has_room(rt, &self.queue, &mut self.pass, &mut self.count, jobs) {
+            return Err(run);
+        }
+        push_by(rt, &self.queue, &mut self.pass, run)?;
+        self.count.add(jobs);
+        Ok(())
     }
 }
 
 impl LaneOut {
-    /// The oldest job that waits, which is removed. The n-th job popped has turn n. (Profile.)
+    /// Takes the oldest job that waits into hand, in the place of the one there: its turn. The n-th job
+    /// popped has turn n. (Profile.)
     ///
-    /// None comes only where the lane was empty at some moment of the call, and nothing was popped. No
-    /// contract says the first: how many jobs had been pushed, this end alone can't know. The call may
-    /// wait for other threads.
-    pub fn pop<R: Wait>(&mut self, rt: &R) -> Option<Job>
+    /// None comes only where the lane was empty at some moment of the call; nothing was popped, and
+    /// no job is in hand. No contract says the first: how many jobs had been pushed, this end alone can't
+    /// know. The call may wait for other threads.
+    pub fn pop<R: Wait>(&mut self, rt: &R) -> Option<Turn>
         ensures lane { self.new.lane ≡ self.old.lane }
-        ensures some { IfSome result (λ job. (self.new.popped ≡ self.old.popped ++ job ∷ []) × (job.turn ≡ length self.new.popped)) }
-        ensures none { IfNone result (self.new.popped ≡ self.old.popped) }
+        ensures some { IfSome result (IsPopped self.old self.new) }
+        ensures none { IfNone result ((self.new.popped ≡ self.old.popped) × (self.new.hand ≡ None)) }
     {
-        pop_by(rt, &self.queue, &mut self.pass)
+        take_next(rt, &self.queue, &mut self.pass, &mut self.run)
+    }
+
+    /// The job in hand: the one popped last, until a call of [`LaneOut::pop`] finds none.
+    pub fn in_hand(&self) -> Option<&Job>
+        ensures { MatchOption result (self.now.hand ≡ None) (λ job. self.now.hand ≡ Some job.now) }
+    {
+        self.run.as_ref().map(Run::first)
     }
 }
 
-/// The jobs that still wait, in order. Required: the two ends are of one lane. What was popped, and
-/// behind it these jobs, is what was pushed. (Profile.)
+/// The runs with the jobs that were not popped, in order. Required: the two ends are of one lane. What
+/// was popped, and behind it these jobs, is what was pushed. (Profile.)
 ///
 /// Takes no memory. The call may wait for other threads.
 #[tactic(auto, using(crate::proofs::Moves::merges))]
-pub fn meet<R: Wait>(rt: &R, writer: LaneIn, reader: LaneOut) -> Vec<Job>
+pub fn meet<R: Wait>(rt: &R, writer: LaneIn, reader: LaneOut) -> Vec<Run>
     requires { writer.lane ≡ reader.lane }
-    ensures jobs { writer.pushed ≡ reader.popped ++ result.items }
+    ensures jobs { writer.pushed ≡ reader.popped ++ jobs_of result.items }
     ensures turns { AreNumbered writer.pushed }
 {
     let LaneIn {
         queue,
         mut pass,
-        spare,
+        mut spare,
+        ..
     } = writer;
     let LaneOut {
         pass: reader_pass,
+        run,
         ..
     } = reader;
     queue.absorb::<Ends>(&mut pass, reader_pass);
+    if let Some(left) = behind_first(run) {
+        spare.push_reserved(left);
+    }
     drain(rt, &queue, pass, spare)
 }

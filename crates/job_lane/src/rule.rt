@@ -1,24 +1,24 @@
 //! The rule that the queue of a lane keeps: what was pushed is what was popped, and behind it what
 //! waits.
 
+use crate::runs::Run;
 use crossbeam_queue::protocol::{Join, Lesson, Outcome, Protocol, Split};
 use crossbeam_queue::{Pass, RuledArrayQueue};
 use std::collections::LinkedList;
-use subj::Job;
 
-/// What a pass may do, and the jobs that were pushed and popped by it. It stands in proofs alone, and
+/// What a pass may do, and the runs that were pushed and popped by it. It stands in proofs alone, and
 /// no value of it is made.
 pub struct Log {
     pub may_push: bool,
     pub may_pop: bool,
-    pub pushed: LinkedList<Job>,
-    pub popped: LinkedList<Job>,
+    pub pushed: LinkedList<Run>,
+    pub popped: LinkedList<Run>,
 }
 
 /// The rule.
 pub struct InOrder;
 
-impl Protocol<Job, Log> for InOrder {
+impl Protocol<Run, Log> for InOrder {
     ghost use Rattle.std.specs.Prelude.{true, []};
     ghost use Rattle.job_lane.specs.Rule.{log, HoldsInOrder};
 
@@ -51,13 +51,13 @@ impl Join<Log> for Ends {
 /// A push, and what a pass that may push learns: what waits is the end of what was pushed.
 pub struct Pushing;
 
-impl Outcome<Job, Log> for Pushing {
+impl Outcome<Run, Log> for Pushing {
     ghost use Rattle.job_lane.specs.Rule.{Adds};
 
     ghost then = { Adds };
 }
 
-impl Lesson<Job, Log> for Pushing {
+impl Lesson<Run, Log> for Pushing {
     ghost use Rattle.job_lane.specs.Rule.{WaitsAtEnd};
 
     ghost fact = { λ known waiting. WaitsAtEnd known.pushed waiting };
@@ -66,13 +66,13 @@ impl Lesson<Job, Log> for Pushing {
 /// A pop by a pass that may pop alone. It learns nothing of what waits.
 pub struct Popping;
 
-impl Outcome<Job, Log> for Popping {
+impl Outcome<Run, Log> for Popping {
     ghost use Rattle.job_lane.specs.Rule.{Takes};
 
     ghost then = { Takes };
 }
 
-impl Lesson<Job, Log> for Popping {
+impl Lesson<Run, Log> for Popping {
     ghost use Rattle.std.specs.Prelude.{⊤};
 
     ghost fact = { λ known waiting. ⊤ };
@@ -81,20 +81,20 @@ impl Lesson<Job, Log> for Popping {
 /// A pop by a pass that may also push, and so learns what waits.
 pub struct Draining;
 
-impl Outcome<Job, Log> for Draining {
+impl Outcome<Run, Log> for Draining {
     ghost use Rattle.job_lane.specs.Rule.{Takes};
 
     ghost then = { Takes };
 }
 
-impl Lesson<Job, Log> for Draining {
+impl Lesson<Run, Log> for Draining {
     ghost use Rattle.std.specs.Prelude.{◌≡◌, ◌++◌};
 
     ghost fact = { λ known waiting. known.pushed ≡ known.popped ++ waiting };
 }
 
 /// The queue of a lane.
-pub type JobQueue = RuledArrayQueue<Job, Log, InOrder>;
+pub type RunQueue = RuledArrayQueue<Run, Log, InOrder>;
 
 /// The right to push to the queue, to pop from it, or both. It has no bytes.
-pub type JobPass = Pass<Job, Log>;
+pub type RunPass = Pass<Run, Log>;

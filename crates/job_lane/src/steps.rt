@@ -1,53 +1,135 @@
 //! The steps that the ends of a lane make at its queue, each by a pass that may.
 
-ghost use Rattle.std.specs.Prelude.{◌≡◌, ◌+◌, ◌≤◌, true, vec_len, vec_capacity, [], ◌∷◌, ◌++◌, length, IfSome, IfNone, OnOk, IfErr};
-ghost use Rattle.crossbeam_queue.specs.Passes.{view, IsPassOf, ruled_capacity};
-ghost use Rattle.job_lane.specs.Ends.{WasFull};
-ghost use Rattle.job_lane.specs.Rule.{HasRoomFor, IsPushing, IsPopping};
+ghost use Rattle.std.specs.Prelude.{◌≡◌, ◌+◌, ◌<◌, ◌≤◌, true, false, List, MatchOption, vec_len, vec_capacity, [], ◌∷◌, ◌++◌, length, IfSome, IfNone, OnOk, IfErr};
+ghost use Rattle.crossbeam_queue.specs.Passes.{view, IsPassOf, IsSamePass, ruled_capacity};
+ghost use Rattle.subj.specs.declared.jobs.Job.{Job};
+ghost use Rattle.job_lane.specs.Ends.{HadRoom, LackedRoom};
+ghost use Rattle.job_lane.specs.Rule.{AreLastLengths, IsPushing, IsPopping, total_of};
+ghost use Rattle.job_lane.specs.Runs.{GoesOnIn, IsFirstTurn, IsGiving, IsTaken, given, jobs_of, not_given};
+ghost use Rattle.job_lane.specs.Turns.{AreNumberedBehind};
 
-use crate::rule::{Draining, JobPass, JobQueue, Popping, Pushing};
+use crate::counts::Count;
+use crate::rule::{Draining, Popping, Pushing, RunPass, RunQueue};
+use crate::runs::Run;
 use std::sync::Wait;
-use subj::Job;
+use subj::Turn;
 
-/// Puts the job behind all others. It comes back only where the queue was full.
-pub fn push_by<R: Wait>(rt: &R, queue: &JobQueue, pass: &mut JobPass, job: Job) -> Result<(), Job>
+/// Whether so many jobs more can wait beside those of the last runs pushed. The runs that were taken
+/// meanwhile are counted no longer.
+pub fn has_room<R: Wait>(
+    rt: &R,
+    queue: &RunQueue,
+    pass: &mut RunPass,
+    count: &mut Count,
+    jobs: usize,
+) -> bool
     requires pass { IsPassOf queue.now pass.old }
     requires pushing { IsPushing (view pass.old) }
-    requires turn { job.turn ≡ length (view pass.old).pushed + 1 }
-    ensures pass { IsPassOf queue.now pass.new }
-    ensures pushing { IsPushing (view pass.new) }
-    ensures ok { OnOk result ((view pass.new).pushed ≡ (view pass.old).pushed ++ job ∷ []) }
-    ensures err { IfErr result (λ back. (back ≡ job) × ((view pass.new).pushed ≡ (view pass.old).pushed) × WasFull (ruled_capacity queue.now) (view pass.old).pushed) }
+    requires counted { AreLastLengths (view pass.old).pushed count.old.lengths }
+    ensures pass { IsSamePass pass.old pass.new × (view pass.new ≡ view pass.old) }
+    ensures counted { AreLastLengths (view pass.old).pushed count.new.lengths }
+    ensures most { count.new.most ≡ count.old.most }
+    ensures room { result ≡ true → (total_of count.new.lengths + jobs ≤ count.old.most) × HadRoom count.old.most (jobs_of (view pass.old).pushed) jobs }
+    ensures none { result ≡ false → LackedRoom count.old.most (jobs_of (view pass.old).pushed) jobs }
 {
-    queue.push_as::<Pushing, R>(rt, pass, job)
+    if count.has_room(jobs) {
+        return true;
+    }
+    let waiting = queue.len_as::<Pushing, R>(rt, pass);
+    count.keep_last(waiting);
+    count.has_room(jobs)
 }
 
-/// Takes the first job.
-pub fn pop_by<R: Wait>(rt: &R, queue: &JobQueue, pass: &mut JobPass) -> Option<Job>
+/// Puts the run behind all others. It comes back only where as many runs waited as the queue holds.
+pub fn push_by<R: Wait>(rt: &R, queue: &RunQueue, pass: &mut RunPass, run: Run) -> Result<(), Run>
+    requires pass { IsPassOf queue.now pass.old }
+    requires pushing { IsPushing (view pass.old) }
+    requires some { 0 < length run }
+    requires turns { AreNumberedBehind (length (jobs_of (view pass.old).pushed)) run }
+    ensures pass { IsPassOf queue.now pass.new }
+    ensures pushing { IsPushing (view pass.new) }
+    ensures ok { OnOk result ((view pass.new).pushed ≡ (view pass.old).pushed ++ run ∷ []) }
+    ensures err { IfErr result (λ back. (back ≡ run) × ((view pass.new).pushed ≡ (view pass.old).pushed) × LackedRoom (ruled_capacity queue.now) (jobs_of (view pass.old).pushed) (length run)) }
+{
+    queue.push_as::<Pushing, R>(rt, pass, run)
+}
+
+/// Takes the first run.
+pub fn pop_by<R: Wait>(rt: &R, queue: &RunQueue, pass: &mut RunPass) -> Option<Run>
     requires pass { IsPassOf queue.now pass.old }
     requires popping { IsPopping (view pass.old) }
     ensures pass { IsPassOf queue.now pass.new }
     ensures popping { IsPopping (view pass.new) }
-    ensures some { IfSome result (λ job. ((view pass.new).popped ≡ (view pass.old).popped ++ job ∷ []) × (job.turn ≡ length (view pass.old).popped + 1)) }
-    ensures none { IfNone result ((view pass.new).popped ≡ (view pass.old).popped) }
+    ensures came { MatchOption result ((view pass.new).popped ≡ (view pass.old).popped) (λ run. (view pass.new).popped ≡ (view pass.old).popped ++ run ∷ []) }
 {
     queue.pop_as::<Popping, R>(rt, pass)
 }
 
-/// Moves all that waits into the empty list, by a pass that may push and pop.
-pub fn drain<R: Wait>(rt: &R, queue: &JobQueue, mut pass: JobPass, mut jobs: Vec<Job>) -> Vec<Job>
+/// Goes on to the next job of the run, where it has one.
+fn go_on(run: &mut Option<Run>) -> bool
+    ensures more { result ≡ true → GoesOnIn run.old run.new }
+    ensures last { result ≡ false → (run.new ≡ run.old) × (not_given run.old ≡ []) }
+{
+    match run {
+        Some(run) => run.go_on(),
+        None => false,
+    }
+}
+
+/// The turn of the run's first job.
+fn first_turn(run: &Option<Run>) -> Option<Turn>
+    ensures { IsFirstTurn run.now result }
+{
+    let job = run.as_ref()?.first();
+    Some(job.turn)
+}
+
+/// Takes the next job of the run into hand, or the first one of the run that waits behind it: its turn.
+pub fn take_next<R: Wait>(
+    rt: &R,
+    queue: &RunQueue,
+    pass: &mut RunPass,
+    run: &mut Option<Run>,
+) -> Option<Turn>
+    requires pass { IsPassOf queue.now pass.old }
+    requires popping { IsPopping (view pass.old) }
+    requires giving { IsGiving (jobs_of (view pass.old).popped) run.old }
+    ensures pass { IsPassOf queue.now pass.new }
+    ensures table { pass.new.table_id ≡ pass.old.table_id }
+    ensures popping { IsPopping (view pass.new) }
+    ensures giving { IsGiving (jobs_of (view pass.new).popped) run.new }
+    ensures taken { IsTaken (given (jobs_of (view pass.old).popped) run.old) (given (jobs_of (view pass.new).popped) run.new) run.new result }
+{
+    if go_on(run) {
+        return first_turn(run);
+    }
+    *run = pop_by(rt, queue, pass);
+    first_turn(run)
+}
+
+/// What is left of the run behind its first job.
+pub fn behind_first(run: Option<Run>) -> Option<Run>
+    ensures some { IfSome result (λ left. left ≡ not_given run) }
+    ensures none { IfNone result (not_given run ≡ []) }
+{
+    let mut run = run;
+    if go_on(&mut run) { run } else { None }
+}
+
+/// Moves all runs that wait behind those of the list, by a pass that may push and pop.
+pub fn drain<R: Wait>(rt: &R, queue: &RunQueue, mut pass: RunPass, mut runs: Vec<Run>) -> Vec<Run>
     requires pass { IsPassOf queue.now pass }
     requires both { ((view pass).may_push ≡ true) × ((view pass).may_pop ≡ true) }
-    requires room { HasRoomFor (ruled_capacity queue.now) jobs.items (vec_len jobs) (vec_capacity jobs) }
-    ensures { (view pass).pushed ≡ (view pass).popped ++ result.items }
+    requires room { vec_len runs + ruled_capacity queue.now ≤ vec_capacity runs }
+    ensures { (waiting : List (List Job)) × (result.items ≡ runs.items ++ waiting) × ((view pass).pushed ≡ (view pass).popped ++ waiting) }
 {
     let waiting = queue.len_as::<Draining, R>(rt, &mut pass);
     for _taken in 0..waiting {
         match queue.pop_as::<Draining, R>(rt, &mut pass) {
-            Some(job) => jobs.push_reserved(job),
+            Some(run) => runs.push_reserved(run),
             None => unreachable!(),
         }
     }
     queue.learn_as::<Draining>(&mut pass);
-    jobs
+    runs
 }

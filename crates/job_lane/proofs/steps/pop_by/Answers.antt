@@ -1,5 +1,5 @@
 use Rattle.std.proofs.Common.{ap}
-use Rattle.job_lane.proofs.Moves.{pops, still_popping}
+use Rattle.job_lane.proofs.Moves.{came, pops, still_popping}
 use Rattle.job_lane.proofs.steps.pop_by.Goals as goal
 
 pub pop_as-requires-clause-rule : goal.pop_as-requires-clause-rule
@@ -7,3 +7,6 @@ pop_as-requires-clause-rule g c = (pops _ _ (ap (λ known. known.may_pop) c.requ
 
 pub returns-clause-popping : goal.returns-clause-popping
 returns-clause-popping g c = still_popping c.pop_as.result _ _ _ c.requires.popping c.pop_as.ensures.rule
+
+pub returns-clause-came : goal.returns-clause-came
+returns-clause-came g c = came c.pop_as.result _ _ _ c.pop_as.ensures.rule

@@ -5,6 +5,6 @@ abbrev pub invariant-loop : goal.invariant-loop
 invariant-loop g l =
     (goal.iterator-loop g).can_next l.iterator'
     × (goal.iterator-loop g).is_finite l.iterator'
-    × (l.job ≡ l.fn.job)
+    × (l.run ≡ l.fn.run)
     × (l.writer.lane ≡ l.initial.writer.lane)
     × (l.writer.pushed ≡ l.initial.writer.pushed)

@@ -24,7 +24,7 @@ join_seat-requires c = let inv = c.loop-other.invariant in let other = c.other.i
   ap (λ v. v.race.table) c.other.view_is ∙ ap (λ r. r.table) (all_last c.args.self c.loop-other.seats.items c.pop.new.self.items c.in-Some.other popped inv.1) ∙ sym (ap (λ r. r.table) c.self.view_is),
   ap (λ m. m.1) c.other.invariant.whole,
   omega arith,
-  joins MAX_COUNTER WINDOW MAX_QUEUE_NAMES c.self.inside.table.shared.key (lit< tt) c.loop-other.place.id other.place.id c.loop-other.place.me.0 other.place.me.0,
+  joins MAX_COUNTER WINDOW MAX_QUEUE_NAMES c.self.inside.table.shared.key (lit< tt) c.loop-other.place.id other.place.id c.loop-other.place.me.0 other.place.me.0 c.args.hub.part inv.2.0,
 )
 
 pub loop-other-preserved : goal.loop-other-preserved
