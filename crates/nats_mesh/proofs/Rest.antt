@@ -3,16 +3,18 @@ use Rattle.std.proofs.Common.{◌≡◌, ℕ, suc, ◌+◌, ◌≤◌, ◌<◌, 
 use Rattle.std.proofs.lemmas.List.{take_all, drop_all}
 use Rattle.std.proofs.lemmas.Bool.{ltb-true, and_parts}
 use Rattle.std.proofs.lemmas.Bool.Decides.{nat_tests}
-use Rattle.std.specs.Result.{result_err}
 use Rattle.std.specs.Prelude.{codes, flat_map, if◌then◌else◌}
 use Rattle.subj.specs.declared.limits.TheConstants.{OUTBOX_ENTRIES, OUTBOX_BYTES}
 use Rattle.subj.specs.declared.jobs.Job.{Job}
 use Rattle.client_frames.specs.declared.server_frames.ReplyFrame.{ReplyFrame}
 use Rattle.client_frames.specs.declared.server_frames.ReplyFrame.TheVariants as reply
+use Rattle.client_frames.specs.declared.client_line.ClientLine.{ClientLine}
+use Rattle.client_frames.specs.declared.client_line.ClientLine.TheVariants.{Sub}
 use Rattle.client_frames.specs.declared.faults.LineFault.{LineFault}
 use Rattle.client_frames.specs.declared.err_texts.ErrText.{ErrText}
 use Rattle.client_frames.specs.ErrTexts.{line_fault_text}
 use Rattle.client_frames.specs.Lines.{Meaning}
+use Rattle.client_frames.specs.declared.awaited.Awaited.TheVariants as awaits
 use Rattle.client_frames.specs.Frames.{reply_line}
 use Rattle.outbox.specs.Views.{Written, reply_entry, without_first}
 use Rattle.sub_table.specs.declared.Subscription.{Subscription}
@@ -24,8 +26,8 @@ use Rattle.nats_mesh.specs.declared.pipe_client.PipeClient.{PipeClient}
 use Rattle.nats_mesh.specs.declared.pipe_client.Flow.{Flow}
 use Rattle.nats_mesh.specs.declared.pipe_client.Flow.TheVariants.{Open, Closed}
 use Rattle.nats_mesh.specs.declared.pipe_client.Next.TheVariants.{Answered}
-use Rattle.nats_mesh.specs.PipeText.{Served, Spoken, at_first, at_rest, heard, answer_bytes, refusal, answered, behind, pipe_info, placed}
-use Rattle.nats_mesh.specs.PipeStates.{all_entries, waiting_bytes, emptied, is_short, is_there, served, flow_of, IsNew, IsReady, IsServed, HasSaid, HasAnswered, DoesLine}
+use Rattle.nats_mesh.specs.PipeText.{Served, Spoken, at_first, at_rest, heard, answer_bytes, refusal, answered, behind, pipe_info, placed, not_served}
+use Rattle.nats_mesh.specs.PipeStates.{all_entries, waiting_bytes, emptied, is_short, is_there, served, flow_of, IsNew, IsReady, IsServed, HasSaid, HasAnswered, DoesCommand, DoesLine}
 
 -- the connection, for which these entries wait
 abbrev pub one : List Written → Bool → Client
@@ -127,7 +129,7 @@ put_said old new s frame ready short is takes turn =
     subst (λ said. HasSaid said old new) (reply_heard (served old) frame)
     (said_by (replied_by (served old) frame true) (reply_entry (reply_line frame) ∷ []) false old new ready (reply_over (served old) frame) (subst (λ t. TakesAfter t old new) e takes) (turn ∙ ready.turn))
 
-pub new_client_ready : (client : PipeClient) → client.output.items ≡ answer_bytes pipe_info → client.awaited ≡ None → client.shard ≡ at_rest at_first → client.conn ≡ 1 → client.origin ≡ codes "n1" → client.inc ≡ 1 → client.turn ≡ 0 → IsNew client
+pub new_client_ready : (client : PipeClient) → client.output.items ≡ answer_bytes pipe_info → client.awaited ≡ awaits.Line → client.shard ≡ at_rest at_first → client.conn ≡ 1 → client.origin ≡ codes "n1" → client.inc ≡ 1 → client.turn ≡ 0 → IsNew client
 new_client_ready client text awaited shard conn origin inc turn =
     record { text = text; awaited = awaited; ready = ready_at_rest client at_first shard conn origin inc turn; same = served_at_rest client at_first shard }
 
@@ -163,13 +165,22 @@ info_put name inc conn empty items is_name is_inc is_conn is_empty is =
 
 -- ---- a line that is refused
 
-pub line_refused : (meaning : Meaning) (fault : LineFault) (text : ErrText) (old : PipeClient) (flow : Flow) (new : PipeClient) → result_err meaning ≡ Some fault → text ≡ line_fault_text fault
+pub line_refused : (meaning : Meaning) (fault : LineFault) (text : ErrText) (old : PipeClient) (flow : Flow) (new : PipeClient) → meaning ≡ Err fault → text ≡ line_fault_text fault
     → HasAnswered (refusal text (served old)) old flow new → DoesLine meaning old (Answered flow) new
 line_refused (Ok command) fault text old flow new is told done = absurd (cc)
 line_refused (Err why) fault text old flow new is told done =
-    let e : text ≡ line_fault_text why = told ∙ ap line_fault_text (cc) in
+    let same : why ≡ fault = cc in
+    let e : text ≡ line_fault_text why = told ∙ ap line_fault_text (sym same) in
     let it : HasAnswered (refusal (line_fault_text why) (served old)) old flow new = subst (λ t. HasAnswered (refusal t (served old)) old flow new) e done in
     record { goes = ap Answered it.goes; put = it.put }
+
+-- ---- a member of a queue group
+
+pub group_refused : (command : ClientLine) (pattern : List ℕ) (queue : Option (List ℕ)) (name sid : List ℕ) (old : PipeClient) (flow : Flow) (new : PipeClient) → command ≡ Sub pattern queue sid → queue ≡ Some name
+    → HasAnswered (not_served (served old)) old flow new → DoesCommand command old (Answered flow) new
+group_refused command pattern queue name sid old flow new is named done =
+    let e : command ≡ Sub pattern (Some name) sid = is ∙ ap (λ q. Sub pattern q sid) named in
+    subst (λ m. DoesCommand m old (Answered flow) new) (sym e) (record { goes = ap Answered done.goes; put = done.put })
 
 -- ---- a job
 

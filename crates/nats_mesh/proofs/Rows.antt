@@ -3,7 +3,8 @@ use Rattle.std.proofs.Common.{◌≡◌, ℕ, List, [], true, false, refl}
 use Rattle.std.specs.Prelude.{codes}
 use Rattle.std.specs.Fmt.{digits}
 use Rattle.wire_cut.specs.Cut.{first_cr_lf}
-use Rattle.client_frames.specs.Streams.{reading_within, stream_commands}
+use Rattle.wire_cut.specs.Reading.{reading_within}
+use Rattle.client_frames.specs.Streams.{stream_commands}
 use Rattle.nats_mesh.specs.PipeText.{Spoken, at_first, items_said}
 
 -- what comes behind INFO
@@ -66,12 +67,12 @@ unfinished_stays : (said (codes "PUB foo 5\r\nhel")).closed ≡ false
 unfolding items_said reading_within first_cr_lf digits
 unfinished_stays = refl
 
--- a SUB with a queue name, CONNECT and UNSUB are refused
+-- a SUB with a queue name and UNSUB are refused, and so is a CONNECT, here one without a text
 group_member : (said (codes "SUB foo q 1\r\nPING\r\n")).text ≡ codes "-ERR 'Parser Error'\r\n"
 unfolding items_said reading_within first_cr_lf digits
 group_member = refl
 
-connect : (said (codes "CONNECT {}\r\nPING\r\n")).text ≡ codes "-ERR 'Parser Error'\r\n"
+connect : (said (codes "CONNECT\r\nPING\r\n")).text ≡ codes "-ERR 'Parser Error'\r\n"
 unfolding items_said reading_within first_cr_lf digits
 connect = refl
 

@@ -47,11 +47,8 @@ pub in_step_still : (old new : PipeClient) (cutter : CutterState) → new ≡ re
 in_step_still old new cutter same step =
     subst (λ c. IsInStep c cutter) (sym same) (record {
       ready = record { shard = step.ready.shard; conn = step.ready.conn; origin = step.ready.origin; inc = step.ready.inc; turn = step.ready.turn };
-      expected = step.expected;
+      stands = step.stands;
       within = step.within;
-      fault = step.fault;
-      line_max = step.line_max;
-      payload_max = step.payload_max;
     })
 
 pub moved_and_flushed : (first mid new : PipeClient) (first_cutter cutter : CutterState) (was is now : Option (List ℕ)) → HasMoved first first_cutter was mid cutter is → IsFlushed mid is new now → HasMoved first first_cutter was new cutter now

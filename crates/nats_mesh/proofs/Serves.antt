@@ -1,12 +1,14 @@
 -- A pipe's text so far.
-use Rattle.std.proofs.Common.{◌≡◌, ℕ, true, false, List, [], ◌∷◌, ◌++◌, length, take, drop, Option, None, Result, Ok, Err, refl, ap, sym, ◌∙◌, subst, arith, append_assoc, append-nil, take-append-drop}
+use Rattle.std.proofs.Common.{◌≡◌, ℕ, true, false, List, [], ◌∷◌, ◌++◌, length, take, drop, Option, Result, Ok, Err, refl, ap, sym, ◌∙◌, subst, arith, append_assoc, append-nil, take-append-drop}
 use Rattle.std.specs.Result.{IsErrAnd}
 use Rattle.std.specs.Io.KnownBytes.{Appends, Consumes}
 use Rattle.std.proofs.KnownBytes.{Appends-nil, Appends-trans, Consumes-nil, Consumes-trans}
 use Rattle.subj.specs.declared.limits.TheConstants.{CLIENT_LINE, MAX_PAYLOAD}
 use Rattle.wire_cut.specs.Cut.{CutterState, new_cutter, first_cr_lf}
 use Rattle.wire_cut.specs.Flow.{AppendsFront, Gains}
-use Rattle.client_frames.specs.Streams.{a_line, size_awaited, reading_from}
+use Rattle.wire_cut.specs.Reading.{reading_of}
+use Rattle.client_frames.specs.declared.awaited.Awaited.TheVariants as awaits
+use Rattle.client_frames.specs.Streams.{client_grammar, size_awaited}
 use Rattle.nats_mesh.specs.declared.pipe.PipeEnd.{PipeEnd}
 use Rattle.nats_mesh.specs.declared.pipe.PipeFault.{PipeFault}
 use Rattle.nats_mesh.specs.declared.pipe.PipeFault.TheVariants.{Read, Write, OutOfMemory}
@@ -15,7 +17,7 @@ use Rattle.nats_mesh.specs.declared.pipe_client.Flow.TheVariants.{Open, Closed}
 use Rattle.nats_mesh.specs.declared.pipe_client.PipeClient.{PipeClient}
 use Rattle.nats_mesh.specs.PipeText.{behind, at_first, answer_bytes, pipe_info, pipe_said, pipe_text, pipe_closes, items_said}
 use Rattle.nats_mesh.specs.PipeStates.{IsNew}
-use Rattle.nats_mesh.specs.PipeRuns.{Standing, said_from, standing, awaited_by, Waits, GoesOn, Ends, IsInStep, IsFlushed, HasStarved, HasEnded, HasBegun, CountsWrites, Works}
+use Rattle.nats_mesh.specs.PipeRuns.{Standing, said_from, standing, Waits, GoesOn, Ends, IsInStep, IsFlushed, HasStarved, HasEnded, HasBegun, CountsWrites, Works}
 use Rattle.nats_mesh.specs.PipeTheorem.{AppendsBeginning, WritesText, Pipes, CountsReads, CountsFailedWrites}
 use Rattle.nats_mesh.proofs.Said.{waits_there, behind-behind}
 use Rattle.nats_mesh.proofs.Runs.{in_step_still, stands_still}
@@ -26,7 +28,7 @@ pub record Tells (read text : List ℕ) (at : Standing) : Type 0 where
   pub whatever_follows : (more : List ℕ) → pipe_said (read ++ more) ≡ behind text (said_from at more)
 
 abbrev first_standing : Standing
-first_standing = record { served = at_first; awaited = a_line; unread = [] }
+first_standing = record { served = at_first; awaited = awaits.Line; unread = [] }
 
 tells_at_first : Tells [] (answer_bytes pipe_info) first_standing
 tells_at_first = record { whatever_follows = λ more. refl }
@@ -43,7 +45,7 @@ tells_further read text said at to tells goes = record {
 tells_fed : (read text bytes : List ℕ) (at : Standing) → Tells read text at → Tells (read ++ bytes) text (record at { unread = at.unread ++ bytes })
 tells_fed read text bytes at tells = record {
   whatever_follows = λ more. ap pipe_said (append_assoc read bytes more) ∙ tells.whatever_follows (bytes ++ more)
-      ∙ ap (λ l. behind text (items_said (reading_from at.awaited l).items at.served)) (sym (append_assoc at.unread bytes more));
+      ∙ ap (λ l. behind text (items_said (reading_of client_grammar at.awaited l).items at.served)) (sym (append_assoc at.unread bytes more));
 }
 
 tells_all : (read text : List ℕ) (at : Standing) → Tells read text at → pipe_said read ≡ behind text (said_from at [])
@@ -89,17 +91,14 @@ pub record HasRead (client : PipeClient) (cutter : CutterState) (before left was
 new_in_step : (client : PipeClient) → IsNew client → IsInStep client (new_cutter CLIENT_LINE MAX_PAYLOAD)
 new_in_step client is = record {
   ready = is.ready;
-  expected = sym (ap (λ a. size_awaited (awaited_by a None)) is.awaited);
+  stands = record { expected = sym (ap size_awaited is.awaited); fault = refl; line_max = refl; payload_max = refl };
   within = λ size e. absurd (cc);
-  fault = refl;
-  line_max = refl;
-  payload_max = refl;
 }
 
 new_standing : (client : PipeClient) → IsNew client → standing client (new_cutter CLIENT_LINE MAX_PAYLOAD) ≡ first_standing
 new_standing client is =
-    ap (λ s. let at : Standing = record { served = s; awaited = awaited_by client.awaited None; unread = [] } in at) is.same
-    ∙ ap (λ a. let at : Standing = record { served = at_first; awaited = awaited_by a None; unread = [] } in at) is.awaited
+    ap (λ s. let at : Standing = record { served = s; awaited = client.awaited; unread = [] } in at) is.same
+    ∙ ap (λ a. let at : Standing = record { served = at_first; awaited = a; unread = [] } in at) is.awaited
 
 pub served_first : (client new : PipeClient) (cutter : CutterState) (before was is : Option (List ℕ)) → IsNew client → cutter ≡ new_cutter CLIENT_LINE MAX_PAYLOAD → IsFlushed client was new is → HasServed new cutter before before was is
 served_first client new cutter before was is fresh cut flushed =
@@ -121,11 +120,8 @@ served_first client new cutter before was is fresh cut flushed =
 fed_in_step : (client : PipeClient) (cutter : CutterState) (unread : List ℕ) → IsInStep client cutter → IsInStep client (record cutter { unread = unread })
 fed_in_step client cutter unread step = record {
   ready = step.ready;
-  expected = step.expected;
+  stands = record { expected = step.stands.expected; fault = step.stands.fault; line_max = step.stands.line_max; payload_max = step.stands.payload_max };
   within = step.within;
-  fault = step.fault;
-  line_max = step.line_max;
-  payload_max = step.payload_max;
 }
 
 pub read_on_from : (client : PipeClient) (cutter new : CutterState) (before left now was is : Option (List ℕ)) (asked n : ℕ) → HasServed client cutter before left was is → new ≡ record cutter { unread = new.unread }

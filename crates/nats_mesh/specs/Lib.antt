@@ -1,3 +1,4 @@
+pub mod Command
 pub mod PipeText
 pub mod PipeStates
 pub mod PipeRuns

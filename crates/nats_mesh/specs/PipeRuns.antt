@@ -1,16 +1,15 @@
 -- What a pipe still has to say, and what its steps do about it.
-use Rattle.std.specs.Prelude.{◌≡◌, ℕ, ◌+◌, ◌<◌, ◌≤◌, true, List, [], ◌++◌, length, Option, Some, None, unwrap_or, Result, Ok, Err}
+use Rattle.std.specs.Prelude.{◌≡◌, ℕ, ◌+◌, ◌<◌, ◌≤◌, true, List, [], ◌++◌, length, Option, Some, None, Result, Ok, Err}
 use Rattle.std.specs.Io.KnownBytes.{Appends}
-use Rattle.subj.specs.declared.limits.TheConstants.{CLIENT_LINE, MAX_PAYLOAD}
+use Rattle.subj.specs.declared.limits.TheConstants.{MAX_PAYLOAD}
 use Rattle.wire_cut.specs.Cut.{CutterState}
 use Rattle.wire_cut.specs.declared.fault.CutFault.{CutFault}
 use Rattle.client_frames.specs.ErrTexts.{cut_fault_text}
-use Rattle.client_frames.specs.Streams as stream
-use Rattle.client_frames.specs.Streams.{a_line, a_payload, a_lost_payload, size_awaited, reading_from}
+use Rattle.wire_cut.specs.Reading.{StandsAt, reading_of}
+use Rattle.client_frames.specs.declared.awaited.Awaited.{Awaited}
+use Rattle.client_frames.specs.Streams.{client_grammar}
 use Rattle.nats_mesh.specs.declared.pipe.PipeFault.{PipeFault}
 use Rattle.nats_mesh.specs.declared.pipe.PipeFault.TheVariants.{Read, Write, OutOfMemory}
-use Rattle.nats_mesh.specs.declared.pipe_client.Awaited.{Awaited}
-use Rattle.nats_mesh.specs.declared.pipe_client.Awaited.TheVariants.{Publication, Bad}
 use Rattle.nats_mesh.specs.declared.pipe_client.Flow.{Flow}
 use Rattle.nats_mesh.specs.declared.pipe_client.Flow.TheVariants.{Open, Closed}
 use Rattle.nats_mesh.specs.declared.pipe_client.PipeClient.{PipeClient}
@@ -21,13 +20,13 @@ use Rattle.nats_mesh.specs.PipeStates.{IsReady, HasAnswered, served}
 
 pub record Standing : Type 0 where
   pub served : Served
-  pub awaited : stream.Awaited
+  pub awaited : Awaited
   -- the bytes at hand
   pub unread : List ℕ
 
 -- what is said of the bytes at hand and of those behind them
 abbrev pub said_from : Standing → List ℕ → Spoken
-said_from at more = items_said (reading_from at.awaited (at.unread ++ more)).items at.served
+said_from at more = items_said (reading_of client_grammar at.awaited (at.unread ++ more)).items at.served
 
 -- the bytes at hand are no whole piece
 abbrev pub Waits : Standing → Type 0
@@ -44,22 +43,14 @@ pub record Ends (from : Standing) (said : List ℕ) : Type 0 where
 
 -- ---- the client and its cutter
 
-abbrev pub awaited_by : Option Awaited → Option ℕ → stream.Awaited
-awaited_by None expected = a_line
-awaited_by (Some (Publication head)) expected = a_payload head
-awaited_by (Some Bad) expected = a_lost_payload (unwrap_or expected 0)
-
 abbrev pub standing : PipeClient → CutterState → Standing
-standing client cutter = record { served = served client; awaited = awaited_by client.awaited cutter.expected; unread = cutter.unread }
+standing client cutter = record { served = served client; awaited = client.awaited; unread = cutter.unread }
 
--- the cutter expects what the client awaits
+-- the cutter stands where the client does
 pub record IsInStep (client : PipeClient) (cutter : CutterState) : Type 0 where
   pub ready : IsReady client
-  pub expected : cutter.expected ≡ size_awaited (awaited_by client.awaited cutter.expected)
+  pub stands : StandsAt client_grammar client.awaited cutter
   pub within : (size : ℕ) → cutter.expected ≡ Some size → size ≤ MAX_PAYLOAD
-  pub fault : cutter.fault ≡ None
-  pub line_max : cutter.line_max ≡ CLIENT_LINE
-  pub payload_max : cutter.payload_max ≡ MAX_PAYLOAD
 
 -- what the announcement of a payload leads to
 abbrev pub Announced : Option CutFault → PipeClient → Flow → PipeClient → Type 0

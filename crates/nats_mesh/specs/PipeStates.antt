@@ -1,8 +1,10 @@
 -- What the client of a pipe is between two pieces of its stream, and what its calls do.
-use Rattle.std.specs.Prelude.{◌≡◌, ℕ, ◌^◌, ◌-◌, Bool, true, false, nat_le, List, ◌++◌, length, flat_map, take, codes, Option, Some, None, is_some, Ok, Err}
+use Rattle.std.specs.Prelude.{◌≡◌, ℕ, ◌^◌, ◌-◌, Bool, true, false, nat_le, List, ◌++◌, length, flat_map, take, codes, is_some, Ok, Err}
 use Rattle.subj.specs.declared.limits.TheConstants.{OUTBOX_BYTES}
 use Rattle.client_frames.specs.Streams.{StreamItem, asked, published, refused}
 use Rattle.client_frames.specs.Lines.{Meaning}
+use Rattle.client_frames.specs.declared.awaited.Awaited.{Awaited}
+use Rattle.client_frames.specs.declared.awaited.Awaited.TheVariants as awaits
 use Rattle.client_frames.specs.declared.client_line.ClientLine.{ClientLine}
 use Rattle.client_frames.specs.declared.client_line.ClientLine.TheVariants.{Connect, Pub, PubBad, Sub, Unsub, Ping, Pong}
 use Rattle.client_frames.specs.declared.faults.LineFault.TheVariants.{BadSubject}
@@ -10,8 +12,6 @@ use Rattle.client_frames.specs.declared.server_frames.ReplyFrame.{ReplyFrame}
 use Rattle.outbox.specs.Views.{without_first}
 use Rattle.shard_core.specs.State.{State, client_at}
 use Rattle.shard_core.specs.Steps.{changed, entries_of}
-use Rattle.nats_mesh.specs.declared.pipe_client.Awaited.{Awaited}
-use Rattle.nats_mesh.specs.declared.pipe_client.Awaited.TheVariants.{Publication, Bad}
 use Rattle.nats_mesh.specs.declared.pipe_client.Flow.{Flow}
 use Rattle.nats_mesh.specs.declared.pipe_client.Flow.TheVariants.{Open, Closed}
 use Rattle.nats_mesh.specs.declared.pipe_client.Next.{Next}
@@ -55,7 +55,7 @@ pub record IsReady (client : PipeClient) : Type 0 where
 -- INFO is put, and a line awaited
 pub record IsNew (client : PipeClient) : Type 0 where
   pub text : client.output.items ≡ answer_bytes pipe_info
-  pub awaited : client.awaited ≡ None
+  pub awaited : client.awaited ≡ awaits.Line
   pub ready : IsReady client
   pub same : served client ≡ at_first
 
@@ -86,12 +86,12 @@ pub record HasDone (item : StreamItem) (old : PipeClient) (next : Next) (new : P
 -- a publication puts nothing before its payload is there
 pub record Announces (awaited : Awaited) (size : ℕ) (old : PipeClient) (next : Next) (new : PipeClient) : Type 0 where
   pub goes : next ≡ Payload size
-  pub awaits : new ≡ record old { awaited = Some awaited }
+  pub awaiting : new ≡ record old { awaited = awaited }
 
 -- what a command leads to
 abbrev pub DoesCommand : ClientLine → PipeClient → Next → PipeClient → Type 0
-DoesCommand (Pub head) old next new = Announces (Publication head) head.size old next new
-DoesCommand (PubBad size) old next new = Announces Bad size old next new
+DoesCommand (Pub head) old next new = Announces (awaits.Payload head) head.size old next new
+DoesCommand (PubBad size) old next new = Announces (awaits.LostPayload size) size old next new
 DoesCommand (Connect options) old next new = HasDone (asked (Connect options)) old next new
 DoesCommand (Sub pattern queue sid) old next new = HasDone (asked (Sub pattern queue sid)) old next new
 DoesCommand (Unsub sid max) old next new = HasDone (asked (Unsub sid max)) old next new
@@ -104,10 +104,10 @@ DoesLine (Ok command) old next new = DoesCommand command old next new
 DoesLine (Err fault) old next new = HasDone (refused fault) old next new
 
 -- what is said of an awaited payload
-abbrev pub payload_answer : Option Awaited → List ℕ → Served → Spoken
-payload_answer None payload s = silent s
-payload_answer (Some (Publication head)) payload s = item_said (published head payload) s
-payload_answer (Some Bad) payload s = item_said (refused BadSubject) s
+abbrev pub payload_answer : Awaited → List ℕ → Served → Spoken
+payload_answer awaits.Line payload s = silent s
+payload_answer (awaits.Payload head) payload s = item_said (published head payload) s
+payload_answer (awaits.LostPayload size) payload s = item_said (refused BadSubject) s
 
 abbrev pub payload_said : PipeClient → List ℕ → Spoken
 payload_said client payload = payload_answer client.awaited payload (served client)

@@ -18,7 +18,7 @@ use Rattle.client_frames.specs.Messages.{line_end}
 use Rattle.client_frames.specs.Streams.{StreamItem, asked, published, refused, unreadable, stream_commands}
 use Rattle.sub_table.specs.declared.Subscription.{Subscription}
 use Rattle.shard_core.specs.declared.faults.ShardFault.{ShardFault}
-use Rattle.shard_core.specs.declared.faults.ShardFault.TheVariants.{TooManySubs}
+use Rattle.shard_core.specs.declared.faults.ShardFault.TheVariants.{TooManySubs, Spent}
 use Rattle.shard_core.specs.Events.{Subscribe, Begin, End}
 use Rattle.shard_core.specs.State.{State, client_at, is_open}
 use Rattle.shard_core.specs.Steps.{new_shard, attached, shard_refusal, shard_after, entries_of}
@@ -79,10 +79,15 @@ heard s = record {
 
 -- ---- SUB: `+OK`, and then the subscription is opened or refused
 
+-- the two causes for which the shard of one open connection refuses a subscription; the others have no text
+abbrev pub opening_refused : ShardFault → Served → Spoken
+opening_refused TooManySubs s = refusal TooManySubscriptions s
+opening_refused Spent s = refusal NumbersSpent s
+opening_refused fault s = silent s
+
 abbrev pub opened_or_not : Served → Key → List ℕ → Option ShardFault → Spoken
 opened_or_not s key sid None = heard (shard_after (at_rest s) (Subscribe 1 key sid))
-opened_or_not s key sid (Some TooManySubs) = refusal TooManySubscriptions s
-opened_or_not s key sid (Some fault) = refusal NumbersSpent s
+opened_or_not s key sid (Some fault) = opening_refused fault s
 
 abbrev pub opening : Key → List ℕ → Served → Spoken
 opening key sid s = opened_or_not s key sid (shard_refusal (at_rest s) (Subscribe 1 key sid))
@@ -109,15 +114,20 @@ placed_or_not head payload s (Some turn) = placed (job_of head payload turn) s
 abbrev pub placing : PubHead → List ℕ → Served → Spoken
 placing head payload s = placed_or_not head payload s (next_turn s.jobs)
 
--- ---- all that a stream tells; CONNECT and UNSUB are not served yet, and the meaning of a line refuses them before they
--- are told; no PUB is told without its payload
+-- ---- all that a stream tells
 
+-- what is well-formed, and not served yet: options, queue groups, and ends of subscriptions
+abbrev pub not_served : Served → Spoken
+not_served s = refusal ParserError s
+
+-- no PUB is told without its payload
 abbrev pub command_said : ClientLine → Served → Spoken
 command_said Ping s = answered reply.Pong s
 command_said Pong s = silent s
-command_said (Sub pattern queue sid) s = and_then (answered reply.Ok s) (opening (record { pattern = pattern; queue = queue }) sid)
-command_said (Connect options) s = refusal ParserError s
-command_said (Unsub sid max) s = refusal ParserError s
+command_said (Sub pattern None sid) s = and_then (answered reply.Ok s) (opening (record { pattern = pattern; queue = None }) sid)
+command_said (Sub pattern (Some queue) sid) s = not_served s
+command_said (Connect options) s = not_served s
+command_said (Unsub sid max) s = not_served s
 command_said (Pub head) s = silent s
 command_said (PubBad size) s = silent s
 

@@ -1,6 +1,7 @@
 //! The program: `pipe` serves one client on standard input and output.
 #![tactic(auto)]
 
+mod command;
 #[cfg(test)]
 mod fault_tests;
 mod pipe;
@@ -8,7 +9,8 @@ mod pipe_client;
 #[cfg(test)]
 mod tests;
 
-use pipe::{PipeEnd, PipeFault, pipe_run};
+use command::{BAD_COMMAND_LINE, Command, command_of, complaint_of, status_of};
+use pipe::pipe_run;
 use std::alloc::Global;
 use std::process::ExitCode;
 use std::{env, io};
@@ -17,34 +19,26 @@ use wire_cut::Raw;
 const HELP: &str = "usage: nats_mesh pipe
   pipe   serves one client on standard input and output";
 
-/// The status of a command line that is none.
-const BAD_COMMAND_LINE: u8 = 2;
-
-/// What the command line asks for.
-#[derive(Clone, Copy, Debug, PartialEq, Eq)]
-enum Command {
-    Pipe,
-}
-
-/// The one word `pipe`, behind the program's name.
-fn read_command<R: env::Env + Alloc<A = Global>>(rt: &R) -> io::Result<Option<Command>> {
-    let mut words = env::args(rt)?;
-    let _program = words.next();
-    let Some(word) = words.next() else {
-        return Ok(None);
-    };
-    if word.as_str() == "pipe" && words.next().is_none() {
-        return Ok(Some(Command::Pipe));
+/// The words behind the program's name.
+fn words<R: env::Env + Alloc<A = Global>>(rt: &R) -> io::Result<Vec<String>> {
+    let mut all = env::args(rt)?;
+    let _program = all.next();
+    let mut words = Vec::new(rt.alloc());
+    for word in all {
+        words.push(word)?;
     }
-    Ok(None)
+    Ok(words)
 }
 
 fn main(rt: HostRuntime) -> ExitCode {
-    let command = match read_command(&rt) {
-        Ok(command) => command,
-        Err(_) => return ExitCode::FAILURE,
+    let words = match words(&rt) {
+        Ok(words) => words,
+        Err(error) => {
+            let _ = eprintln!(rt; "nats_mesh: the command line cannot be read: {error}");
+            return ExitCode::FAILURE;
+        }
     };
-    match command {
+    match command_of(&words) {
         None => {
             let _ = eprintln!(rt; "{HELP}");
             ExitCode::from(BAD_COMMAND_LINE)
@@ -52,13 +46,11 @@ fn main(rt: HostRuntime) -> ExitCode {
         Some(Command::Pipe) => {
             let mut source = Raw::new(rt.reader());
             let mut sink = Raw::new(io::writer(&rt));
-            match pipe_run(rt.alloc(), &mut source, &mut sink) {
-                Ok(PipeEnd::Ended) => ExitCode::SUCCESS,
-                Ok(PipeEnd::Closed) => ExitCode::FAILURE,
-                Err(PipeFault::Read | PipeFault::Write | PipeFault::OutOfMemory) => {
-                    ExitCode::FAILURE
-                }
+            let ended = pipe_run(rt.alloc(), &mut source, &mut sink);
+            if let Some(complaint) = complaint_of(ended) {
+                let _ = eprintln!(rt; "nats_mesh: {complaint}");
             }
+            ExitCode::from(status_of(ended))
         }
     }
 }

@@ -10,6 +10,9 @@ ghost use Rattle.nats_mesh.specs.PipeRuns.{IsInStep, IsFlushed, CountsWrites, An
 use crate::pipe_client::{Flow, Next, PipeClient};
 use client_frames::ErrText;
 use std::alloc::{AllocError, AllocFailed, Global};
+use std::error::Error;
+use std::fmt;
+use std::fmt::{Display, Formatter, Write};
 use subj::{CLIENT_LINE, MAX_PAYLOAD, READ_BYTES};
 use wire_cut::{Cutter, FillFault, Piece, Sink, Source, WriteFailed};
 
@@ -32,6 +35,25 @@ pub enum PipeFault {
     /// The allocator gave no memory.
     OutOfMemory,
 }
+
+impl PipeFault {
+    /// What is told of it.
+    pub fn text(self) -> &'static str {
+        match self {
+            PipeFault::Read => "reading failed",
+            PipeFault::Write => "writing failed",
+            PipeFault::OutOfMemory => "out of memory",
+        }
+    }
+}
+
+impl Display for PipeFault {
+    fn fmt<W: Write>(&self, f: &mut Formatter<W>) -> fmt::Result {
+        f.write_str(self.text())
+    }
+}
+
+impl Error for PipeFault {}
 
 impl From<AllocError> for PipeFault {
     ghost use Rattle.std.specs.Prelude.{◌≡◌};

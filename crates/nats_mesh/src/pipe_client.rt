@@ -4,6 +4,8 @@ ghost use Rattle.std.specs.Prelude.{◌≡◌, ◌≤◌, ◌++◌, Some, None, 
 ghost use Rattle.subj.specs.declared.limits.TheConstants.{MAX_PAYLOAD};
 ghost use Rattle.client_frames.specs.ErrTexts.{text_closes};
 ghost use Rattle.client_frames.specs.Lines.{line_meaning};
+ghost use Rattle.client_frames.specs.Streams.{size_awaited};
+ghost use Rattle.client_frames.specs.declared.awaited.Awaited.TheVariants as awaits;
 ghost use Rattle.client_frames.specs.declared.server_frames.ReplyFrame.TheVariants as frame;
 ghost use Rattle.shard_core.specs.Steps.{new_shard};
 ghost use Rattle.nats_mesh.specs.PipeText.{at_first, at_rest, answered, refusal, placed, placing, opening, and_then};
@@ -11,10 +13,11 @@ ghost use Rattle.nats_mesh.specs.PipeStates.{served, waiting_bytes, emptied, is_
 
 use bytes::Bytes;
 use client_frames::{
-    ClientLine, ErrText, InfoData, PubHead, ReplyFrame, ServerFrame, decode_line, encode,
+    Awaited, ClientLine, ErrText, InfoData, PubHead, ReplyFrame, ServerFrame, decode_line, encode,
 };
 use shard_core::{BeginFault, Shard, ShardFault};
 use std::alloc::{AllocError, Global};
+use std::mem;
 use sub_table::ListTable;
 use subj::{ConnId, Failure, Incarnation, Job, Key, Message, NodeId, PubId, QueueNames, Sid, Turn};
 
@@ -35,14 +38,6 @@ pub enum Next {
     Answered(Flow),
 }
 
-/// The publication whose payload is awaited.
-#[derive(Drop)]
-pub enum Awaited {
-    Publication(PubHead),
-    /// One with a bad subject or reply.
-    Bad,
-}
-
 /// The client, its connection, and what is to be written to it.
 #[derive(Drop)]
 pub struct PipeClient {
@@ -53,7 +48,7 @@ pub struct PipeClient {
     inc: Incarnation,
     /// The last turn that was given.
     turn: Turn,
-    awaited: Option<Awaited>,
+    awaited: Awaited,
     output: Vec<u8>,
 }
 
@@ -114,7 +109,7 @@ impl PipeClient {
             origin,
             inc,
             turn: Turn::zero(),
-            awaited: None,
+            awaited: Awaited::Line,
             output,
         })
     }
@@ -137,7 +132,7 @@ impl PipeClient {
     /// Works off a control line.
     pub fn line(&mut self, line: &[u8]) -> Result<Next, AllocError>
         requires ready { IsReady self.old }
-        requires due { self.old.awaited ≡ None }
+        requires due { self.old.awaited ≡ awaits.Line }
         ensures { IfOk result (λ next. DoesLine (line_meaning line.now) self.old next self.new) }
     {
         match decode_line(self.alloc, line) {
@@ -153,14 +148,14 @@ impl PipeClient {
     /// Works off the payload of the publication that was announced.
     pub fn payload(&mut self, payload: &[u8]) -> Result<Flow, AllocError>
         requires ready { IsReady self.old }
-        requires due { IsSome self.old.awaited }
+        requires due { IsSome (size_awaited self.old.awaited) }
         requires fits { length payload.now ≤ MAX_PAYLOAD }
-        ensures { IfOk result (λ flow. HasAnswered (payload_said self.old payload.now) (record self.old { awaited = None }) flow self.new) }
+        ensures { IfOk result (λ flow. HasAnswered (payload_said self.old payload.now) (record self.old { awaited = awaits.Line }) flow self.new) }
     {
-        match self.awaited.take() {
-            None => unreachable!(),
-            Some(Awaited::Bad) => self.refuse(ErrText::InvalidSubject),
-            Some(Awaited::Publication(head)) => self.publish(head, payload),
+        match mem::replace(&mut self.awaited, Awaited::Line) {
+            Awaited::Line => unreachable!(),
+            Awaited::LostPayload { .. } => self.refuse(ErrText::InvalidSubject),
+            Awaited::Payload(head) => self.publish(head, payload),
         }
     }
 
@@ -200,20 +195,31 @@ impl PipeClient {
             ClientLine::Pong => Ok(Next::Answered(Flow::Open)),
             ClientLine::Sub {
                 pattern,
-                queue,
+                queue: None,
                 sid,
-            } => Ok(Next::Answered(self.subscribe(Key { pattern, queue }, sid)?)),
+            } => {
+                let key = Key {
+                    pattern,
+                    queue: None,
+                };
+                Ok(Next::Answered(self.subscribe(key, sid)?))
+            }
             ClientLine::Pub(head) => {
                 let size = head.size;
-                self.awaited = Some(Awaited::Publication(head));
+                self.awaited = Awaited::Payload(head);
                 Ok(Next::Payload(size))
             }
             ClientLine::PubBad { size } => {
-                self.awaited = Some(Awaited::Bad);
+                self.awaited = Awaited::LostPayload { size };
                 Ok(Next::Payload(size))
             }
+            // Options, queue groups and ends of subscriptions are not served yet.
             ClientLine::Connect(_) | ClientLine::Unsub { .. } => {
                 Ok(Next::Answered(self.refuse(ErrText::ParserError)?))
+            }
+            ClientLine::Sub { queue: Some(_), .. } => {
+                let flow = self.refuse(ErrText::ParserError)?;
+                Ok(Next::Answered(flow))
             }
         }
     }
@@ -237,7 +243,8 @@ impl PipeClient {
             Err(Failure::Refused(ShardFault::TooManySubs)) => {
                 self.refuse(ErrText::TooManySubscriptions)
             }
-            Err(Failure::Refused(_)) => self.refuse(ErrText::NumbersSpent),
+            Err(Failure::Refused(ShardFault::Spent)) => self.refuse(ErrText::NumbersSpent),
+            Err(Failure::Refused(_)) => unreachable!(),
             Err(Failure::OutOfMemory) => Err(AllocError),
         }
     }
@@ -259,6 +266,7 @@ impl PipeClient {
         ensures { IfOk result (λ flow. HasAnswered (placing head payload.now (served self.old)) self.old flow self.new) }
     {
         let Some(turn) = self.turn.next() else {
+            drop(head);
             return self.refuse(ErrText::NumbersSpent);
         };
         let payload = Bytes::copy_from_slice(self.alloc, payload)?;
@@ -275,7 +283,7 @@ impl PipeClient {
             message,
             publisher: Some(self.conn),
             echo: true,
-            queues: QueueNames::new(self.alloc),
+            queues: QueueNames::new(),
         })
     }
 

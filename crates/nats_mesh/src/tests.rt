@@ -1,5 +1,6 @@
 //! The worked examples of the pipe, over a reader and a writer in memory.
 
+use crate::command::{BAD_COMMAND_LINE, Command, command_of, complaint_of, status_of};
 use crate::pipe::{PipeEnd, PipeFault, pipe_run};
 use std::alloc::Global;
 use std::process::Abort;
@@ -48,7 +49,7 @@ pub fn check<R: Abort + Alloc<A = Global>>(
 #[test]
 fn worked_examples(rt: HostRuntime) -> Result<(), Fail> {
     let long_line = vec![in rt.alloc(); b'a'; 4_097]?;
-    let table: [(&[u8], &[u8], PipeEnd); 24] = [
+    let table: [(&[u8], &[u8], PipeEnd); 27] = [
         // First message, empty payload, tab and blanks.
         (FIRST_MESSAGE, FIRST_ANSWER, PipeEnd::Ended),
         (
@@ -131,6 +132,22 @@ fn worked_examples(rt: HostRuntime) -> Result<(), Fail> {
             b"-ERR 'Parser Error'\r\n",
             PipeEnd::Closed,
         ),
+        // A bad pattern is told, and the connection stays; bad arguments and bad JSON close it.
+        (
+            b"SUB a..b q 1\r\nPING\r\n",
+            b"-ERR 'Invalid Subject'\r\nPONG\r\n",
+            PipeEnd::Ended,
+        ),
+        (
+            b"UNSUB 1 x\r\nPING\r\n",
+            b"-ERR 'Parser Error'\r\n",
+            PipeEnd::Closed,
+        ),
+        (
+            b"CONNECT {\"echo\":1}\r\nPING\r\n",
+            b"-ERR 'Parser Error'\r\n",
+            PipeEnd::Closed,
+        ),
         // No CR LF behind a payload.
         (
             b"SUB foo 1\r\nPUB foo 5\r\nhelloXX",
@@ -191,4 +208,67 @@ fn any_cut_of_the_input(rt: HostRuntime) -> Result<(), Fail> {
         assert_eq!(rt; end, Ok(PipeEnd::Ended), "{most}");
     }
     Ok(())
+}
+
+/// A subscription to a pattern of 1,024 bytes counts 1,048 of 4,194,304 bytes: 4,002 have room.
+#[test]
+fn too_many_subscriptions(rt: HostRuntime) -> Result<(), Fail> {
+    let pattern = vec![in rt.alloc(); b'a'; 1_024]?;
+    let mut input = Vec::new(rt.alloc());
+    let mut answer = Vec::new(rt.alloc());
+    for sid in 1..=4_003u32 {
+        input.extend_from_slice(b"SUB ")?;
+        input.extend_from_slice(&pattern)?;
+        input.extend_from_slice(b" ")?;
+        input.extend_from_slice(sid.to_string(rt.alloc())?.as_bytes())?;
+        input.extend_from_slice(b"\r\n")?;
+        answer.extend_from_slice(b"+OK\r\n")?;
+    }
+    input.extend_from_slice(b"PING\r\n")?;
+    answer.extend_from_slice(b"-ERR 'Too Many Subscriptions'\r\nPONG\r\n")?;
+    check(&rt, &input, &answer, PipeEnd::Ended)
+}
+
+fn asked(alloc: Global, words: &[&str]) -> Result<Option<Command>, Fail> {
+    let mut all = Vec::new(alloc);
+    for word in words {
+        all.push(String::from_str(alloc, word)?)?;
+    }
+    Ok(command_of(&all))
+}
+
+#[test]
+fn command_lines(rt: HostRuntime) -> Result<(), Fail> {
+    let rows: [(&[&str], Option<Command>); 6] = [
+        (&["pipe"], Some(Command::Pipe)),
+        (&[], None),
+        (&["Pipe"], None),
+        (&["pip"], None),
+        (&["pipe", "pipe"], None),
+        (&["-h"], None),
+    ];
+    for (words, command) in rows {
+        assert_eq!(rt; asked(rt.alloc(), words)?, command);
+    }
+    assert_eq!(rt; BAD_COMMAND_LINE, 2);
+    Ok(())
+}
+
+#[test]
+fn exit_statuses(rt: HostRuntime) {
+    let rows: [(Result<PipeEnd, PipeFault>, u8, Option<&str>); 5] = [
+        (Ok(PipeEnd::Ended), 0, None),
+        (
+            Ok(PipeEnd::Closed),
+            1,
+            Some("the connection was closed by an -ERR"),
+        ),
+        (Err(PipeFault::Read), 1, Some("reading failed")),
+        (Err(PipeFault::Write), 1, Some("writing failed")),
+        (Err(PipeFault::OutOfMemory), 1, Some("out of memory")),
+    ];
+    for (ended, status, complaint) in rows {
+        assert_eq!(rt; status_of(ended), status);
+        assert_eq!(rt; complaint_of(ended), complaint);
+    }
 }

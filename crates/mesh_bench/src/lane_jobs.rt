@@ -28,27 +28,15 @@ fn new_job(alloc: Global, number: u64) -> io::Result<Job> {
         message,
         publisher: None,
         echo: true,
-        queues: QueueNames::new(alloc),
+        queues: QueueNames::new(),
     })
 }
 
-/// So many jobs, numbered from 1.
+/// So many jobs; the last one has the number 1, and the first one the greatest.
 pub fn new_jobs(alloc: Global, count: u64) -> io::Result<Vec<Job>> {
     let mut jobs = Vec::new(alloc);
     for place in 0..count {
-        jobs.push(new_job(alloc, place + 1)?)?;
+        jobs.push(new_job(alloc, count - place)?)?;
     }
     Ok(jobs)
-}
-
-/// Whether these are so many jobs in the order of their numbers, each of the turn of its place.
-pub fn are_in_order(jobs: &[Job], count: u64) -> bool {
-    let mut place = 0;
-    for job in jobs {
-        place = u64::wrapping_add(place, 1);
-        if job.id.number != place || job.turn.get() != place {
-            return false;
-        }
-    }
-    place == count
 }

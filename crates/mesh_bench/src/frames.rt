@@ -1,19 +1,12 @@
-//! Cuts a stream of a client's frames and decodes its lines, and searches the same bytes for line ends
-//! alone.
-//!
-//! With a number it reads about so many megabytes for each size of payload, and tells in one line of JSON
-//! for each way how long it took. Without one it reads a few frames, and tells no times.
-#![tactic(auto)]
+//! The measure of frames: a stream of a client's frames is cut and its lines are decoded, and the same bytes
+//! are searched for line ends alone. With a number about so many megabytes are read for each size of payload.
 
-mod frames;
-mod reading;
-
-use frames::{LINES_OF_A_ROUND, PUBLICATIONS, stream};
-use reading::{Read, count_line_ends, read_all};
+use crate::frame_reading::{Read, count_line_ends, read_all};
+use crate::frame_stream::{LINES_OF_A_ROUND, PUBLICATIONS, stream};
 use std::alloc::Global;
-use std::rt::{Clock, Env};
+use std::io;
+use std::rt::Clock;
 use std::time::Instant;
-use std::{env, io};
 
 /// How many rounds of frames are read where no number is given.
 const FEW: u64 = 100;
@@ -22,13 +15,6 @@ const MEGABYTE: u64 = 1_000_000;
 
 /// The sizes of the payloads, in bytes.
 const SIZES: [usize; 2] = [16, 65_536];
-
-/// The number of megabytes, where one is given.
-fn number_given<R: Env + Alloc<A = Global>>(rt: &R) -> io::Result<Option<u64>> {
-    let mut words = env::args(rt)?;
-    let _program = words.next();
-    Ok(words.next().and_then(|word| word.as_str().parse().ok()))
-}
 
 /// How many rounds of frames with payloads of this size come to about so many megabytes.
 fn rounds_in(megabytes: u64, size: usize) -> u64 {
@@ -50,7 +36,7 @@ fn tell<R: Alloc<A = Global> + Print>(
 }
 
 /// Reads a stream with payloads of this size in both ways.
-fn run<R>(rt: &R, size: usize, given: Option<u64>) -> io::Result<()>
+fn measure_size<R>(rt: &R, size: usize, given: Option<u64>) -> io::Result<()>
 where
     R: Alloc<A = Global> + Clock + Print,
 {
@@ -75,10 +61,13 @@ where
     }
 }
 
-fn main(rt: HostRuntime) -> io::Result<()> {
-    let given = number_given(&rt)?;
+/// Reads a stream for each size of payload.
+pub fn measure_frames<R>(rt: &R, given: Option<u64>) -> io::Result<()>
+where
+    R: Alloc<A = Global> + Clock + Print,
+{
     for size in SIZES {
-        run(&rt, size, given)?;
+        measure_size(rt, size, given)?;
     }
     Ok(())
 }

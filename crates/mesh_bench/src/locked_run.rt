@@ -52,11 +52,12 @@ fn push_in_time<R: Wait>(rt: &R, waiting: &Mutex<Waiting>, job: Job) {
     unreachable!()
 }
 
-/// Gives the jobs their turns, and pushes them.
+/// Gives the jobs their turns, from the last one of the list on, and pushes them.
 fn push_all<R: Wait>(rt: &R, waiting: &Mutex<Waiting>, jobs: Vec<Job>) {
+    let mut jobs = jobs;
     let mut last = Turn::zero();
-    for job in jobs {
-        let Some(turn) = last.next() else {
+    for _ in 0..jobs.len() {
+        let (Some(job), Some(turn)) = (jobs.pop(), last.next()) else {
             return;
         };
         push_in_time(rt, waiting, Job { turn, ..job });
@@ -76,31 +77,32 @@ fn pop_in_time<R: Wait>(rt: &R, waiting: &Mutex<Waiting>) -> Job {
     unreachable!()
 }
 
-/// Pops so many jobs.
-fn pop_all<R: Wait>(rt: &R, waiting: &Mutex<Waiting>, count: usize, into: Vec<Job>) -> Vec<Job> {
-    let mut popped = into;
-    for _ in 0..count {
-        if popped.push(pop_in_time(rt, waiting)).is_err() {
+/// Pops so many jobs: how many came in order.
+fn pop_all<R: Wait>(rt: &R, waiting: &Mutex<Waiting>, count: u64) -> u64 {
+    let mut in_order = 0;
+    for place in 0..count {
+        let job = pop_in_time(rt, waiting);
+        if job.turn.get() != place + 1 || job.id.number != place + 1 {
             break;
         }
+        in_order = place + 1;
     }
-    popped
+    in_order
 }
 
-/// Passes the jobs from one thread to another, and gives them as they came.
+/// Passes the jobs from one thread to another, the last one first: how many came in order.
 pub fn pass_through_lock<R: Threads + Wait + Sync>(
     rt: &R,
     alloc: Global,
     jobs: Vec<Job>,
-) -> Result<Vec<Job>, AllocError> {
-    let count = jobs.len();
-    let into = Vec::with_capacity(alloc, count)?;
+) -> Result<u64, AllocError> {
+    let count = jobs.len() as u64;
     let waiting = Mutex::new(Waiting::new(alloc)?);
     let shared = &waiting;
-    let ((), popped) = thread::join(
+    let ((), in_order) = thread::join(
         rt,
         move || push_all(rt, shared, jobs),
-        move || pop_all(rt, shared, count, into),
+        move || pop_all(rt, shared, count),
     );
-    Ok(popped)
+    Ok(in_order)
 }

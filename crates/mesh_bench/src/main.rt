@@ -1,0 +1,56 @@
+//! Measures parts of the router: `mesh_bench MEASURE NUMBER` makes one measure at this size, and tells in
+//! one line of JSON for each case how long it took. Without words it makes each at a small size, and tells
+//! no times.
+#![tactic(auto)]
+
+mod command;
+mod frame_reading;
+mod frame_stream;
+mod frames;
+mod lane_jobs;
+mod lane_run;
+mod lanes;
+mod locked_run;
+
+use command::{Command, command_of};
+use frames::measure_frames;
+use lanes::measure_lanes;
+use std::alloc::Global;
+use std::rt::{Clock, Env};
+use std::sync::Wait;
+use std::thread::Threads;
+use std::{env, io};
+
+/// Makes the measures that the command names.
+fn run<R>(rt: &R, command: Command) -> io::Result<()>
+where
+    R: Alloc<A = Global> + Clock + Print + Threads + Wait + Sync,
+{
+    match command {
+        Command::All => {
+            measure_lanes(rt, None)?;
+            measure_frames(rt, None)
+        }
+        Command::Lanes(jobs) => measure_lanes(rt, Some(jobs)),
+        Command::Frames(megabytes) => measure_frames(rt, Some(megabytes)),
+    }
+}
+
+/// The command that the words of the command line give.
+fn command_given<R: Env + Alloc<A = Global>>(rt: &R) -> io::Result<Option<Command>> {
+    let mut words = env::args(rt)?;
+    let _program = words.next();
+    let measure = words.next();
+    let number = words.next();
+    Ok(command_of(
+        measure.as_ref().map(|word| word.as_str()),
+        number.as_ref().map(|word| word.as_str()),
+    ))
+}
+
+fn main(rt: HostRuntime) -> io::Result<()> {
+    match command_given(&rt)? {
+        Some(command) => run(&rt, command),
+        None => Err(io::ErrorKind::InvalidInput.into()),
+    }
+}
