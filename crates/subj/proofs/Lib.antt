@@ -3,3 +3,4 @@ mod Scanned
 mod Matches
 mod Padded
 mod Fits
+mod Apart

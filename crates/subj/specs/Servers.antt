@@ -1,8 +1,8 @@
 -- The servers of a cluster, by name and by place.
-use Rattle.std.specs.Prelude.{◌≡◌, ◌≢◌, ℕ, ◌<◌, ◌≤◌, Bool, not, ◌&&◌, nat_eq, nat_lt, List, [], length, All, slice_get, unwrap_or, None}
+use Rattle.std.specs.Prelude.{◌≡◌, ◌≢◌, ℕ, ◌<◌, ◌≤◌, Bool, true, not, ◌&&◌, nat_eq, nat_lt, nat_le, List, [], ◌∷◌, length, All, slice_get, unwrap_or, Option, Some, None, if◌then◌else◌}
 use Rattle.std.specs.Str.{bytes_eq}
-use Rattle.std.specs.List.{AllPairs, position_or_len}
-use Rattle.subj.specs.declared.limits.TheConstants.{MAX_NODES, MAX_SHARDS, MAX_INCARNATION}
+use Rattle.std.specs.List.{AllPairs, position_or_len, list_any}
+use Rattle.subj.specs.declared.limits.TheConstants.{MAX_NODES, MAX_SHARDS}
 use Rattle.subj.specs.Names.{node_name_fault}
 
 -- one life of a server (profile): the names of the cluster's servers in the order in which all of them list them; the place of its own among them, counted from 0; its incarnation; and how many shards it has
@@ -32,6 +32,11 @@ place server name = place_in name server.names
 abbrev pub AreApart : List (List ℕ) → Type 0
 AreApart names = AllPairs (λ a b. a ≢ b) names
 
+-- the same, computed
+abbrev pub are_apart : List (List ℕ) → Bool
+are_apart [] = true
+are_apart (name ∷ names) = not (list_any (bytes_eq name) names) && are_apart names
+
 -- the place is of another server of the cluster: of a peer
 abbrev pub is_peer : Server → ℕ → Bool
 is_peer server q = not (nat_eq q server.me) && nat_lt q (length server.names)
@@ -41,12 +46,19 @@ pub record IsListed (server : Server) : Type 0 where
   pub apart : AreApart server.names
   pub listed : server.me < length server.names
 
--- what a server is, within the limits (profile)
+-- what a server is, within the limits (profile); that its incarnation is one, the type of an incarnation says
 pub record IsServer (server : Server) : Type 0 where
   pub known : IsListed server
   pub named : All (λ name. node_name_fault name ≡ None) server.names
   pub few : length server.names ≤ MAX_NODES
-  pub first_inc : 1 ≤ server.inc
-  pub last_inc : server.inc ≤ MAX_INCARNATION
   pub first_shard : 1 ≤ server.shards
   pub last_shard : server.shards ≤ MAX_SHARDS
+
+-- of names and an incarnation that are within the limits, the server of them, if there is one
+abbrev pub is_server : Server → Bool
+is_server server =
+    nat_le (length server.names) MAX_NODES && nat_lt server.me (length server.names)
+    && (nat_le 1 server.shards && nat_le server.shards MAX_SHARDS) && are_apart server.names
+
+abbrev pub server_of : Server → Option Server
+server_of server = if is_server server then Some server else None
