@@ -216,23 +216,36 @@ fn refusals_of_node_names(rt: HostRuntime) {
 }
 
 #[test]
-fn names_keep_their_bytes(rt: HostRuntime) -> Result<(), Fail> {
+fn patterns_are_copied_whole(rt: HostRuntime) -> Result<(), Fail> {
     let pattern = Pattern::read(rt.alloc(), b"a.*.>")?;
     assert_eq!(rt; pattern.try_clone(rt.alloc())?.bytes(), b"a.*.>".as_slice());
+    Ok(())
+}
+
+#[test]
+fn subjects_are_copied_whole(rt: HostRuntime) -> Result<(), Fail> {
     let subject = Subject::read(rt.alloc(), b"a.b")?;
     assert_eq!(rt; subject.try_clone()?.bytes(), b"a.b".as_slice());
+    Ok(())
+}
+
+#[test]
+fn queue_names_are_copied_whole(rt: HostRuntime) -> Result<(), Fail> {
     let queue = QueueName::read(rt.alloc(), b"work")?;
     assert_eq!(rt; queue.try_clone(rt.alloc())?.bytes(), b"work".as_slice());
+    Ok(())
+}
+
+#[test]
+fn sids_are_copied_whole(rt: HostRuntime) -> Result<(), Fail> {
     let sid = Sid::read(rt.alloc(), b"7")?;
     assert_eq!(rt; sid.try_clone(rt.alloc())?.bytes(), b"7".as_slice());
-    let key = Key {
-        pattern,
-        queue: Some(queue),
-    };
-    let copy = key.try_clone(rt.alloc())?;
-    assert_eq!(rt; copy.pattern.bytes(), b"a.*.>".as_slice());
-    assert_eq!(rt; copy.queue.map_or(0, |name| name.bytes().len()), 4);
-    let node = NodeId::read(b"n1").ok().expect(&rt, "a node name");
+    Ok(())
+}
+
+#[test]
+fn node_names_keep_their_bytes(rt: HostRuntime) -> Result<(), Fail> {
+    let node = NodeId::read(b"n1").ok().ok_or("a node name")?;
     assert_eq!(rt; node.bytes(), b"n1".as_slice());
     assert!(rt; NodeId::read(b"n 1").is_err());
     Ok(())
@@ -246,6 +259,14 @@ fn key_of(alloc: Global, pattern: &[u8], queue: &[u8]) -> Result<Key, Fail> {
         name => Some(QueueName::read(alloc, name)?),
     };
     Ok(Key { pattern, queue })
+}
+
+#[test]
+fn keys_are_copied_whole(rt: HostRuntime) -> Result<(), Fail> {
+    let copy = key_of(rt.alloc(), b"a.*.>", b"work")?.try_clone(rt.alloc())?;
+    assert_eq!(rt; copy.pattern.bytes(), b"a.*.>".as_slice());
+    assert_eq!(rt; copy.queue.map_or(0, |name| name.bytes().len()), 4);
+    Ok(())
 }
 
 #[test]
@@ -393,47 +414,65 @@ fn payloads_have_a_limit(rt: HostRuntime) -> Result<(), Fail> {
     Ok(())
 }
 
-#[test]
-fn jobs_are_copied_whole(rt: HostRuntime) -> Result<(), Fail> {
-    let subject = Subject::read(rt.alloc(), b"foo")?;
-    let reply = Subject::read(rt.alloc(), b"r.1")?;
+fn message(alloc: Global) -> Result<Message, Fail> {
+    let subject = Subject::read(alloc, b"foo")?;
+    let reply = Subject::read(alloc, b"r.1")?;
     let payload = Bytes::from_static(b"hello");
-    let message = Message::new(subject, Some(reply), payload).ok_or("a message")?;
-    let id = PubId {
+    Ok(Message::new(subject, Some(reply), payload).ok_or("a message")?)
+}
+
+fn ninth_of_n1() -> Result<PubId, Fail> {
+    Ok(PubId {
         origin: NodeId::read(b"n1").ok().ok_or("a node name")?,
         inc: Incarnation::new(4).ok_or("an incarnation")?,
         number: 9,
-    };
-    let job = Job {
-        turn: Turn::new(3).ok_or("a turn")?,
+    })
+}
+
+fn job(alloc: Global) -> Result<Job, Fail> {
+    let turn = Turn::new(3).ok_or("a turn")?;
+    let id = ninth_of_n1()?;
+    Ok(Job {
+        turn,
         id,
-        message,
+        message: message(alloc)?,
         publisher: Some(ConnId::new(5)),
         echo: false,
         queues: QueueNames::new(),
-    };
-    let copy = job.try_clone()?;
+    })
+}
+
+#[test]
+fn messages_are_copied_whole(rt: HostRuntime) -> Result<(), Fail> {
+    let copy = job(rt.alloc())?.try_clone()?.message;
+    assert_eq!(rt; copy.subject().bytes(), b"foo".as_slice());
+    assert_eq!(rt; copy.reply().map_or(0, |reply| reply.bytes().len()), 3);
+    assert_eq!(rt; copy.payload().as_slice(), b"hello".as_slice());
+    Ok(())
+}
+
+#[test]
+fn jobs_are_copied_whole(rt: HostRuntime) -> Result<(), Fail> {
+    let copy = job(rt.alloc())?.try_clone()?;
     assert_eq!(rt; copy.turn.get(), 3);
-    assert_eq!(rt; copy.id, id);
-    assert_eq!(rt; copy.message.subject().bytes(), b"foo".as_slice());
-    assert_eq!(rt;
-        copy.message.reply().map_or(0, |reply| reply.bytes().len()),
-        3
-    );
-    assert_eq!(rt; copy.message.payload().as_slice(), b"hello".as_slice());
+    assert_eq!(rt; copy.id, ninth_of_n1()?);
     assert_eq!(rt; copy.publisher, Some(ConnId::new(5)));
     assert_eq!(rt; copy.echo, false);
     assert_eq!(rt; copy.queues.as_slice().len(), 0);
-    let sub = SubId {
+    Ok(())
+}
+
+#[test]
+fn subscriptions_are_told_apart(rt: HostRuntime) -> Result<(), Fail> {
+    let second = SubId {
         shard: 1,
         serial: 2,
     };
-    assert_eq!(rt;
-        sub == SubId {
-            shard: 1,
-            serial: 3
-        },
-        false
-    );
+    let third = SubId {
+        shard: 1,
+        serial: 3,
+    };
+    assert_eq!(rt; second == third, false);
+    assert_eq!(rt; second == second, true);
     Ok(())
 }
