@@ -265,18 +265,28 @@ fn a_snapshot_is_copied(rt: HostRuntime) -> Result<(), Fail> {
     Ok(())
 }
 
+/// A copy of a server's INFO.
+fn copied_info(alloc: Global) -> Result<RouteInfo, Fail> {
+    let info = RouteInfo::new(node(b"n2")?, incarnation(4)?);
+    match RouteFrame::Info(info).try_clone(alloc)? {
+        RouteFrame::Info(copy) => Ok(copy),
+        _ => Err("an INFO".into()),
+    }
+}
+
+/// A copy of what tells that a key is gone.
+fn copied_news(alloc: Global) -> Result<Numbered, Fail> {
+    let news = RouteFrame::Numbered(gone(alloc)?);
+    match news.try_clone(alloc)? {
+        RouteFrame::Numbered(copy) => Ok(copy),
+        _ => Err("a numbered frame".into()),
+    }
+}
+
 #[test]
 fn frames_are_copied(rt: HostRuntime) -> Result<(), Fail> {
-    let info = RouteFrame::Info(RouteInfo::new(node(b"n2")?, incarnation(4)?));
-    let RouteFrame::Info(copy) = info.try_clone(rt.alloc())? else {
-        return Err("an INFO".into());
-    };
-    assert_eq!(rt; copy.inc().get(), 4);
-    let numbered = RouteFrame::Numbered(gone(rt.alloc())?);
-    let RouteFrame::Numbered(copy) = numbered.try_clone(rt.alloc())? else {
-        return Err("a numbered frame".into());
-    };
-    assert!(rt; is_gone(copy.body()));
+    assert_eq!(rt; copied_info(rt.alloc())?.inc().get(), 4);
+    assert!(rt; is_gone(copied_news(rt.alloc())?.body()));
     Ok(())
 }
 
