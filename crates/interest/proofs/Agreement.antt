@@ -98,7 +98,7 @@ room true h = absurd (none-some _ (sym h))
 room false h = refl
 
 -- the number written for a key
-written : (counts : Counts) (key : Key) (n : ℕ) → 1 ≤ n → with_count counts key n ≡ insert_entry key_cmp counts key n
+pub written : (counts : Counts) (key : Key) (n : ℕ) → 1 ≤ n → with_count counts key n ≡ insert_entry key_cmp counts key n
 written counts key n some = ap (λ b. cond b (remove_entry (is_at (key_cmp key)) counts) (insert_entry key_cmp counts key n)) not_zero
   where
     not_zero : nat_eq n 0 ≡ false

@@ -1,5 +1,5 @@
 mod Calls
-mod KeyOrder
+pub mod KeyOrder
 mod Places
 mod Entries
 mod Deltas
@@ -8,4 +8,7 @@ mod Ties
 pub mod Agreement
 mod Counting
 mod Snapshots
-mod Views
+mod Hearing
+pub mod Gathering
+mod Origins
+mod InOrder

@@ -63,6 +63,7 @@ module _ {K X : Type 0} {R : K → K → Ordering} (o : IsTotalOrder R) (k : K) 
   pub found_here : (e : K × X) (es : List (K × X)) → R k e.0 ≡ Equal → IsPlaceOf R k (e ∷ es) 0
   found_here e es is = record {
     within = omega arith;
+    ties = λ d. is;
     value = λ d. lookup_step e es Equal is;
     removes = sym (remove_step e es Equal is);
     writes = λ d w. sym (insert_step e es w Equal is);
@@ -71,6 +72,7 @@ module _ {K X : Type 0} {R : K → K → Ordering} (o : IsTotalOrder R) (k : K) 
   pub found_behind : (e : K × X) (es : List (K × X)) (i : ℕ) → R k e.0 ≡ Greater → IsPlaceOf R k es i → IsPlaceOf R k (e ∷ es) (suc i)
   found_behind e es i is at = let within = at.within in record {
     within = omega arith;
+    ties = at.ties;
     value = λ d. lookup_step e es Greater is ∙ at.value d;
     removes = ap (λ l. e ∷ l) at.removes ∙ sym (remove_step e es Greater is);
     writes = λ d w. ap (λ l. e ∷ l) (at.writes d w) ∙ sym (insert_step e es w Greater is);

@@ -1,6 +1,5 @@
--- Keys that tie are alike, and every key has its place among keys that rise.
-use Rattle.std.proofs.Common.{◌≡◌, ℕ, suc, ◌+◌, ◌⊎◌, inl, inr, ⊎_elim, cond, List, [], ◌∷◌, length, Option, Some, None, refl, ap, arith}
-use Rattle.std.specs.Prelude.{is_none}
+-- Keys that tie are the same, and every key has its place among keys that rise.
+use Rattle.std.proofs.Common.{◌≡◌, ℕ, suc, ◌⊎◌, inl, inr, ⊎_elim, cond, List, [], ◌∷◌, Option, Some, None, refl, ap, arith}
 use Rattle.std.specs.Cmp.{IsTotalOrder}
 use Rattle.std.specs.Cmp.Lexicographic.{slice_cmp}
 use Rattle.std.specs.declared.cmp.Ordering.{Ordering}
@@ -15,8 +14,7 @@ use Rattle.std.proofs.lemmas.Map.Entries.{none_below_head}
 use Rattle.std.proofs.lemmas.Map.Keys.{sorted_tail}
 use Rattle.std.proofs.lemmas.Map.Lookups.{exact_bytes}
 use Rattle.subj.specs.declared.keys.Key.{Key}
-use Rattle.subj.specs.declared.limits.TheConstants.{SUBSCRIPTION_COST}
-use Rattle.subj.specs.Keys.{key_cmp, cost_of, queue_bytes}
+use Rattle.subj.specs.Keys.{key_cmp, cost_of}
 use Rattle.interest.specs.Counts.{is_plain, told_weight}
 use Rattle.interest.specs.Places.{IsPlaceOf, IsGapFor}
 use Rattle.interest.proofs.Places.{found_here, found_behind, gap_here, gap_behind}
@@ -26,14 +24,19 @@ both_equal Less b is = cc
 both_equal Equal b is = (refl, is)
 both_equal Greater b is = cc
 
-alike_queues : (a b : Option (List ℕ)) → option_cmp (slice_cmp nat_cmp) a b ≡ Equal → is_none a ≡ is_none b
-alike_queues None None is = refl
-alike_queues None (Some y) is = cc
-alike_queues (Some x) None is = cc
-alike_queues (Some x) (Some y) is = refl
+same_queues : (a b : Option (List ℕ)) → option_cmp (slice_cmp nat_cmp) a b ≡ Equal → a ≡ b
+same_queues None None is = refl
+same_queues None (Some y) is = cc
+same_queues (Some x) None is = cc
+same_queues (Some x) (Some y) is = ap Some (exact_bytes x y is)
+
+pub same_key : (a b : Key) → key_cmp a b ≡ Equal → a ≡ b
+same_key a b tied =
+    let parts = both_equal (slice_cmp nat_cmp a.pattern b.pattern) (option_cmp (slice_cmp nat_cmp) a.queue b.queue) tied in
+    λ i. record { pattern = exact_bytes a.pattern b.pattern parts.0 i; queue = same_queues a.queue b.queue parts.1 i }
 
 pub tied_plain : (a b : Key) → key_cmp a b ≡ Equal → is_plain a ≡ is_plain b
-tied_plain a b tied = alike_queues a.queue b.queue (both_equal (slice_cmp nat_cmp a.pattern b.pattern) (option_cmp (slice_cmp nat_cmp) a.queue b.queue) tied).1
+tied_plain a b tied = ap is_plain (same_key a b tied)
 
 pub tied_weight : (a b : Key) (n : ℕ) → key_cmp a b ≡ Equal → told_weight a n ≡ told_weight b n
 tied_weight a b n tied = ap (λ plain. cond plain 1 n) (tied_plain a b tied)
@@ -50,13 +53,5 @@ module _ {K X : Type 0} {R : K → K → Ordering} (o : IsTotalOrder R) (k : K) 
   pub absent_below : (e : K × X) (es : List (K × X)) → IsStrictlySortedBy R (keys_of (e ∷ es)) → R k e.0 ≡ Less → lookup (is_at (R k)) (e ∷ es) ≡ None
   absent_below e es sorted is = lookup-none (is_at (R k)) (e ∷ es) (none_below_head o k e es sorted is)
 
-alike_names : (a b : Option (List ℕ)) → option_cmp (slice_cmp nat_cmp) a b ≡ Equal → queue_bytes a ≡ queue_bytes b
-alike_names None None is = refl
-alike_names None (Some y) is = cc
-alike_names (Some x) None is = cc
-alike_names (Some x) (Some y) is = ap length (exact_bytes x y is)
-
 pub tied_cost : (a b : Key) → key_cmp a b ≡ Equal → cost_of a ≡ cost_of b
-tied_cost a b tied =
-    let parts = both_equal (slice_cmp nat_cmp a.pattern b.pattern) (option_cmp (slice_cmp nat_cmp) a.queue b.queue) tied in
-    λ i. length (exact_bytes a.pattern b.pattern parts.0 i) + alike_names a.queue b.queue parts.1 i + SUBSCRIPTION_COST
+tied_cost a b tied = ap cost_of (same_key a b tied)

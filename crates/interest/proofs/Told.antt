@@ -74,7 +74,7 @@ turned q k = (eq_by_cmp_equiv key_order_total).symm k q
 is_zero : (n : ℕ) → nat_eq n 0 ≡ true → n ≡ 0
 is_zero n is = grind (arith, nat_tests)
 
-count_with : (counts : Counts) (q k : Key) (n : ℕ) → IsStrictlySortedBy key_cmp (keys_of counts) → count_of (with_count counts k n) q ≡ cond (is_eq (key_cmp q k)) n (count_of counts q)
+pub count_with : (counts : Counts) (q k : Key) (n : ℕ) → IsStrictlySortedBy key_cmp (keys_of counts) → count_of (with_count counts k n) q ≡ cond (is_eq (key_cmp q k)) n (count_of counts q)
 count_with counts q k n sorted =
     elim (nat_eq n 0) as (λ b. nat_eq n 0 ≡ b → count_of (cond b (remove_entry (is_at (key_cmp k)) counts) (insert_entry key_cmp counts k n)) q ≡ cond (is_eq (key_cmp q k)) n (count_of counts q)) [
       | true ↦ λ none. ap (λ found. unwrap_or found 0) (lookup_removed key_order_total q k counts sorted) ∙ unwrapped_none (is_eq (key_cmp k q)) (lookup (is_at (key_cmp q)) counts)
@@ -89,7 +89,7 @@ sorted_with counts k n sorted =
       | false ↦ sorted_inserted key_order_total k counts n sorted
     ]
 
-sorted_after : (counts : Counts) (delta : Delta) → IsStrictlySortedBy key_cmp (keys_of counts) → IsStrictlySortedBy key_cmp (keys_of (counts_after counts delta))
+pub sorted_after : (counts : Counts) (delta : Delta) → IsStrictlySortedBy key_cmp (keys_of counts) → IsStrictlySortedBy key_cmp (keys_of (counts_after counts delta))
 unfolding counts_after
 sorted_after counts delta sorted = sorted_with counts delta.key (count_after delta.up (count_of counts delta.key)) sorted
 

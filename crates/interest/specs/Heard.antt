@@ -1,5 +1,9 @@
 -- What is known of a peer's interest, and what becomes of it with what the peer says.
-use Rattle.std.specs.Prelude.{ℕ, List, [], ◌∷◌, Option, is_none, if◌then◌else◌}
+use Rattle.std.specs.Prelude.{ℕ, ◌≤◌, List, [], ◌∷◌, length, Option, is_none, if◌then◌else◌}
+use Rattle.std.specs.List.Sorted.{IsStrictlySortedBy}
+use Rattle.std.specs.Map.{keys_of}
+use Rattle.subj.specs.declared.limits.TheConstants.{MAX_KEYS}
+use Rattle.subj.specs.Keys.{key_cmp}
 use Rattle.interest.specs.declared.changes.Change.{Change}
 use Rattle.interest.specs.declared.faults.InterestFault.{InterestFault}
 use Rattle.interest.specs.Views.{View, followed, change_fault, snapshot_fault}
@@ -8,6 +12,11 @@ use Rattle.interest.specs.Views.{View, followed, change_fault, snapshot_fault}
 pub record Heard : Type 0 where
   pub mark : ℕ
   pub keys : View
+
+-- keys that can be heard: in strictly rising order, and not too many
+pub record IsHeard (keys : View) : Type 0 where
+  pub rising : IsStrictlySortedBy key_cmp (keys_of keys)
+  pub few : length keys ≤ MAX_KEYS
 
 -- one change, or all keys after the change of that number
 pub data News : Type 0 where

@@ -3,6 +3,7 @@ pub mod Faults
 pub mod Counts
 pub mod KeysLeft
 pub mod Told
+pub mod Tally
 pub mod Views
 pub mod Matches
 pub mod Heard

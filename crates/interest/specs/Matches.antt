@@ -1,7 +1,8 @@
 -- Who wants a subject: what matches it among keys with their weights.
-use Rattle.std.specs.Prelude.{ℕ, Bool, ◌&&◌, List, [], ◌∷◌, sum_by, Option, Some, None, if◌then◌else◌}
+use Rattle.std.specs.Prelude.{◌≡◌, ℕ, ◌<◌, Bool, ◌&&◌, List, [], ◌∷◌, length, sum_by, Option, Some, None, Result, Ok, Err, if◌then◌else◌}
 use Rattle.std.specs.List.{list_any}
 use Rattle.std.specs.Str.{bytes_eq}
+use Rattle.subj.specs.declared.limits.TheConstants.{MAX_QUEUE_NAMES}
 use Rattle.subj.specs.Matching.{subject_matches}
 use Rattle.subj.specs.QueueNames.{is_before, is_named}
 use Rattle.route_values.specs.Snapshots.{Weighted}
@@ -43,3 +44,10 @@ add_queue matches (Some name) names = if matches then add_name name names else n
 abbrev pub names_in : List ℕ → List Weighted → List (List ℕ) → List (List ℕ)
 names_in subject [] names = names
 names_in subject (entry ∷ keys) names = names_in subject keys (add_queue (subject_matches entry.0.pattern subject) entry.0.queue names)
+
+-- ---- what gathers them has places for the names of one publication
+
+-- they are all there, in order; or they are more than there are places
+abbrev pub AreGathered : {T E : Type 0} → List (List ℕ) → List (List ℕ) → Result T E → Type 0
+AreGathered all names (Ok done) = names ≡ all
+AreGathered all names (Err fault) = MAX_QUEUE_NAMES < length all

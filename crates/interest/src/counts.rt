@@ -1,6 +1,6 @@
 //! How many subscriptions of each key are open.
 
-ghost use Rattle.std.specs.Prelude.{◌≡◌, ◌^◌, ◌<◌, ◌≤◌, [], MatchResult, IfOk, OnErr};
+ghost use Rattle.std.specs.Prelude.{◌≡◌, ◌*◌, ◌^◌, ◌<◌, ◌≤◌, [], MatchResult, IfOk, OnErr};
 ghost use Rattle.std.specs.List.{list_any};
 ghost use Rattle.std.specs.BTreeMap.{insert_entry};
 ghost use Rattle.std.specs.List.Sorted.{IsStrictlySortedBy};
@@ -9,15 +9,18 @@ ghost use Rattle.interest.specs.Places.{IsPlaceOf, IsGapFor};
 ghost use Rattle.subj.specs.Answers.{IsAnswered};
 ghost use Rattle.subj.specs.Keys.{key_cmp};
 ghost use Rattle.interest.specs.KeysLeft.{keys_left};
+ghost use Rattle.interest.specs.Matches.{weight_in, names_in, AreGathered};
 ghost use Rattle.interest.specs.Counts.{count_after, with_count, count_of, change_between, is_plain_match, IsInterest, is_full, too_many_if, counts_after, delta_fault, change_of};
 
 use crate::changes::{Change, Delta};
 use crate::faults::InterestFault;
 use crate::key_lists::Keys;
+use crate::matches::matching_weight;
+use crate::names::{FoundNames, TooManyNames};
 use route_values::WeightedKey;
 use std::alloc::{AllocError, Global};
 use std::marker::Model;
-use subj::{Failure, Key, MAX_KEYS, MAX_WEIGHT, SUBSCRIPTION_BYTES, Subject};
+use subj::{Failure, Key, MAX_KEYS, MAX_WEIGHT, QueueName, SUBSCRIPTION_BYTES, Subject};
 
 /// The number of a key's open subscriptions once one more has opened, or one has closed.
 fn number_after(up: bool, count: u64) -> u64
@@ -59,10 +62,10 @@ fn place_of(entries: &[(Key, u64)], key: &Key) -> Result<usize, usize>
 /// each, and its keys count at most [`SUBSCRIPTION_BYTES`] together by [`Key::cost`]. (Profile.)
 #[derive(Debug, Drop)]
 pub struct Local {
-    alloc: Global,
-    entries: Vec<(Key, u64)>,
+    pub(crate) alloc: Global,
+    pub(crate) entries: Vec<(Key, u64)>,
     /// What the keys count together.
-    bytes: u64,
+    pub(crate) bytes: u64,
 }
 
 impl Model for Local {
@@ -182,6 +185,33 @@ impl Local {
         ensures { result ≡ list_any (is_plain_match subject.now) self.now }
     {
         self.entries.iter().any(|(key, _)| key.queue.is_none() && key.pattern.matches(subject))
+    }
+
+    /// How many open subscriptions of this queue name the subject matches. (Profile.)
+    pub fn weight_in(&self, subject: &Subject, name: &QueueName) -> u64
+        ensures same { result ≡ weight_in subject.now name.now self.now }
+        ensures most { result ≤ MAX_KEYS * MAX_WEIGHT }
+    {
+        let mut total = 0;
+        for (key, count) in &self.entries {
+            total += matching_weight(subject, name, key, *count);
+        }
+        total
+    }
+
+    /// Adds the queue names that the subject matches. Refused where there would be more names than have
+    /// their place; then some of them were added. Takes no memory.
+    pub fn names_in<'a>(
+        &'a self,
+        subject: &Subject,
+        names: &mut FoundNames<'a>,
+    ) -> Result<(), TooManyNames>
+        ensures { AreGathered (names_in subject.now self.now names.old) names.new result }
+    {
+        for (key, _) in &self.entries {
+            names.add_match(subject, key)?;
+        }
+        Ok(())
     }
 
     /// The keys that have an open subscription, each with the number of them, in the order of

@@ -7,6 +7,10 @@ mod counts;
 mod faults;
 mod key_lists;
 mod laws;
+mod matches;
+mod names;
+mod tally;
+mod views;
 
 pub use changes::{Change, Delta};
 pub use counts::Local;
@@ -16,6 +20,10 @@ pub use laws::{
     counts_and_changes_agree, counts_are_of_the_open, counts_can_be_told, openings_are_counted,
     views_are_of_their_origin,
 };
+pub use names::{FoundNames, TooManyNames};
+pub use views::View;
 
 #[cfg(test)]
 mod tests;
+#[cfg(test)]
+mod view_tests;

@@ -17,7 +17,7 @@ const NOTHING: u64 = 1_000_001;
 const REFUSED: u64 = 2_000_000;
 
 /// The key; a plain one where the queue name is empty.
-fn key_of(alloc: Global, pattern: &[u8], queue: &[u8]) -> Result<Key, Fail> {
+pub(crate) fn key_of(alloc: Global, pattern: &[u8], queue: &[u8]) -> Result<Key, Fail> {
     let pattern = Pattern::read(alloc, pattern)?;
     if queue.is_empty() {
         return Ok(Key {

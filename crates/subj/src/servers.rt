@@ -4,7 +4,7 @@ ghost use Rattle.std.specs.Prelude.{◌≡◌, ◌<◌, ◌≤◌, length, IfOk,
 ghost use Rattle.std.specs.List.{position, list_any};
 ghost use Rattle.std.specs.Str.{bytes_eq};
 ghost use Rattle.subj.specs.Names.{node_name_fault};
-ghost use Rattle.subj.specs.Servers.{server_of, are_apart as apart, is_peer as peer, own_name};
+ghost use Rattle.subj.specs.Servers.{IsServer, server_of, are_apart as apart, is_peer as peer, own_name};
 
 use crate::identities::Incarnation;
 use crate::limits::{MAX_NODES, MAX_SHARDS};
@@ -96,6 +96,7 @@ impl Server {
     pub fn me(&self) -> usize
         ensures same { result ≡ self.now.me }
         ensures listed { result < length self.now.names }
+        ensures server { IsServer self.now }
     {
         self.me
     }

@@ -6,7 +6,8 @@ use crate::{
     MAX_QUEUE_NAMES, MAX_SERIAL, MAX_SESSIONS, MAX_SHARDS, MAX_SID, MAX_SNAPSHOT, MAX_SUBJECT,
     MAX_WEIGHT, Message, NodeId, OUTBOX_BYTES, OUTBOX_ENTRIES, Pattern, Pub, PubId, QueueName,
     QueueNames, READ_BYTES, ROUTE_FRAMES, ROUTE_LINE, SCRIPT_BYTES, SCRIPT_EVENTS,
-    SUBSCRIPTION_BYTES, SUBSCRIPTION_COST, SUBSCRIPTIONS, Sid, SubId, Subject, Turn, WINDOW,
+    SUBSCRIPTION_BYTES, SUBSCRIPTION_COST, SUBSCRIPTIONS, Server, Sid, SubId, Subject, Turn,
+    WINDOW,
 };
 use bytes::Bytes;
 use std::alloc::Global;
@@ -399,6 +400,55 @@ fn keys_are_ordered_by_pattern_then_queue(rt: HostRuntime) -> Result<(), Fail> {
             let right = key(rt.alloc(), pattern, *queue)?;
             assert_eq!(rt; left.order(&right), at.cmp(&other_at), "{at} {other_at}");
         }
+    }
+    Ok(())
+}
+
+/// The server at this place among servers of these names, in its incarnation 4.
+fn server_of(
+    alloc: Global,
+    texts: &[&[u8]],
+    me: usize,
+    shards: u64,
+) -> Result<Option<Server>, Fail> {
+    let mut names = Vec::new(alloc);
+    for text in texts {
+        names.push(NodeId::read(text).ok().ok_or("a server's name")?)?;
+    }
+    let inc = Incarnation::new(4).ok_or("an incarnation")?;
+    Ok(Server::new(names, me, inc, shards))
+}
+
+#[test]
+fn servers_are_told_apart_by_names(rt: HostRuntime) -> Result<(), Fail> {
+    let nine: [&[u8]; 9] = [b"a", b"b", b"c", b"d", b"e", b"f", b"g", b"h", b"i"];
+    let table: [(&[&[u8]], usize, u64, bool); 9] = [
+        (&[b"n1", b"n2"], 1, 1, true),
+        (&[b"n1", b"n2"], 2, 1, false),
+        (&[b"n1", b"n2", b"n1"], 1, 1, false),
+        (&[], 0, 1, false),
+        (&[b"n1"], 0, 0, false),
+        (&[b"n1"], 0, MAX_SHARDS, true),
+        (&[b"n1"], 0, MAX_SHARDS + 1, false),
+        (&nine[1..], 7, 1, true),
+        (&nine, 8, 1, false),
+    ];
+    for (texts, me, shards, is_one) in table {
+        let server = server_of(rt.alloc(), texts, me, shards)?;
+        assert_eq!(rt; server.is_some(), is_one, "{texts:?} {me} {shards}");
+    }
+    let server = server_of(rt.alloc(), &[b"n1", b"n2", b"n3"], 1, 2)?.ok_or("a server")?;
+    let copy = server.try_clone(rt.alloc())?;
+    assert_eq!(rt; copy.name().bytes(), b"n2".as_slice());
+    assert_eq!(rt; (copy.me(), copy.inc().get(), copy.shards()), (1, 4, 2));
+    assert_eq!(rt; copy.names().len(), 3);
+    let places: [(&[u8], Option<usize>); 3] = [(b"n1", Some(0)), (b"n3", Some(2)), (b"n4", None)];
+    for (text, place) in places {
+        let name = NodeId::read(text).ok().ok_or("a server's name")?;
+        assert_eq!(rt; server.place(name), place, "{text:?}");
+    }
+    for (place, is_peer) in [(0, true), (1, false), (2, true), (3, false)] {
+        assert_eq!(rt; server.is_peer(place), is_peer, "{place}");
     }
     Ok(())
 }

@@ -1,6 +1,6 @@
 //! The turns in which a server works off its publications.
 
-ghost use Rattle.std.specs.Prelude.{◌≡◌, ◌≤◌, slice_set, ◌-◌};
+ghost use Rattle.std.specs.Prelude.{◌≡◌, ◌≤◌, slice_set, ◌-◌, length};
 ghost use Rattle.subj.specs.Numbers.{turn_of, next_turn, finished_turn, no_turn_finished};
 
 use crate::limits::{MAX_COUNTER, MAX_SHARDS};
@@ -109,6 +109,14 @@ impl Finished {
             None => Turn::zero(),
             Some(turn) => *turn,
         }
+    }
+
+    /// The turns, that of shard 1 first.
+    pub fn as_slice(&self) -> &[Turn]
+        ensures same { result.now ≡ self.now }
+        ensures len { length result.now ≡ MAX_SHARDS }
+    {
+        &self.turns
     }
 
     /// Notes the turn of a shard, counted from 1.

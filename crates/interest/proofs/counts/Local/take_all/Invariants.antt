@@ -1,0 +1,10 @@
+use Rattle.std.proofs.Common.{◌≡◌, ◌++◌, false, drop}
+use Rattle.interest.specs.Told.{counts_told, changes_told, are_refused}
+use Rattle.interest.proofs.counts.Local.take_all.Given as goal
+
+abbrev pub invariant-loop-delta : goal.invariant-loop-delta
+invariant-loop-delta l = record {
+  taken : are_refused l.self (drop l.delta-index l.deltas) ≡ false;
+  counts : counts_told l.self (drop l.delta-index l.deltas) ≡ counts_told l.fn.self l.deltas;
+  changes : l.changes.items ++ changes_told l.self (drop l.delta-index l.deltas) ≡ changes_told l.fn.self l.deltas;
+}
