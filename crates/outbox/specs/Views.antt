@@ -1,5 +1,5 @@
 -- An entry and an outbox as other crates see them.
-use Rattle.std.specs.Prelude.{ℕ, ◌+◌, Bool, true, false, not, ◌&&◌, nat_lt, nat_le, List, [], ◌∷◌, ◌++◌, length, drop, sum_by}
+use Rattle.std.specs.Prelude.{ℕ, ◌+◌, Bool, true, false, not, ◌&&◌, nat_lt, nat_le, List, [], ◌∷◌, ◌++◌, length, drop, sum_by, flat_map}
 use Rattle.outbox.specs.declared.entries.Tag.{Tag}
 use Rattle.outbox.specs.declared.entries.Tag.TheVariants.{Reply, Msg}
 use Rattle.outbox.specs.declared.entries.Mode.{Mode}
@@ -41,6 +41,10 @@ empty_outbox max_entries max_bytes =
 
 abbrev pub size_of : List Written → ℕ
 size_of entries = sum_by (λ entry. length entry.bytes) entries
+
+-- the bytes of all the entries, in order
+abbrev pub bytes_of_all : List Written → List ℕ
+bytes_of_all entries = flat_map (λ entry. entry.bytes) entries
 
 -- an entry of this many bytes may be put: not behind the last line, and within both limits (profile)
 abbrev pub has_room : ℕ → ℕ → ℕ → Shelf → Bool

@@ -1,36 +1,19 @@
 //! The outbox of a client.
 
-ghost use Rattle.std.specs.Prelude.{◌≡◌, ℕ, ◌+◌, ◌-◌, ◌≤◌, ◌<◌, ◌++◌, ◌==◌, vec_len, vec_capacity, length, take, drop, [], true, false, IfOk, OnOk, OnErr, IsTrue, None, ◌^◌};
+ghost use Rattle.std.specs.Prelude.{◌≡◌, ℕ, ◌+◌, ◌-◌, ◌≤◌, ◌<◌, ◌++◌, ◌==◌, vec_len, vec_capacity, length, take, drop, [], true, false, IfOk, OnOk, OnErr, IsTrue, Some, None, ◌^◌};
 ghost use Rattle.outbox.specs.Bytes.{bytes_of};
-ghost use Rattle.std.specs.VecDeque.{deque_capacity};
-ghost use Rattle.outbox.specs.Views.{Waiting, Shelf, empty_outbox, size_of, has_room, with_entry, with_last, without_first, on_both};
+ghost use Rattle.outbox.specs.Views.{Waiting, Shelf, empty_outbox, size_of, bytes_of_all, has_room, message_entry, with_entry, with_last, without_first, on_both};
 
-use crate::entries::{Entry, LINE_END};
+use crate::entries::{Entry, LINE_END, Mode, Tag};
+use crate::entry_queue::EntryQueue;
+use bytes::Bytes;
 use std::alloc::{AllocError, Global};
-use std::collections::VecDeque;
 use std::marker::Model;
 use std::mem;
-use subj::LAST_LINE;
+use subj::{LAST_LINE, PubId, SubId};
 
 /// The most bytes of a last line, without its CR LF.
 pub const LAST_LINE_TEXT: usize = LAST_LINE - 2;
-
-/// Moves the first entries, and takes their bytes off the count.
-fn move_front(from: &mut VecDeque<Entry>, to: &mut Vec<Entry>, count: usize, bytes: &mut usize)
-    requires there { count ≤ length from.old.items }
-    requires room { vec_len to.old + count ≤ vec_capacity to.old }
-    ensures to { to.new.items ≡ to.old.items ++ take count from.old.items }
-    ensures from { from.new.items ≡ drop count from.old.items }
-    ensures bytes { bytes.new ≡ bytes.old - size_of (take count from.old.items) }
-    ensures capacity { deque_capacity from.new ≡ deque_capacity from.old }
-{
-    for moved in 0..count {
-        if let Some(entry) = from.pop_front() {
-            *bytes = bytes.saturating_sub(entry.len());
-            to.push_reserved(entry);
-        }
-    }
-}
 
 /// What waits to be written to a client: a list of entries within a limit of entries and one of bytes.
 /// A last line may be put beyond both; behind it nothing is put any more. (Profile.)
@@ -44,7 +27,7 @@ fn move_front(from: &mut VecDeque<Entry>, to: &mut Vec<Entry>, count: usize, byt
 pub struct Outbox {
     alloc: Global,
     /// What waits, and behind it what was staged.
-    entries: VecDeque<Entry>,
+    entries: EntryQueue,
     /// How many of the entries wait.
     shown: usize,
     /// The bytes of the entries that wait, and of all entries, while there is no last line.
@@ -65,17 +48,16 @@ impl Model for Outbox {
     ghost Value = { Waiting };
 
     ghost use Rattle.std.specs.Prelude.{take, vec_capacity};
-    ghost use Rattle.std.specs.VecDeque.{deque_capacity};
     ghost use Rattle.outbox.specs.Sound.{IsSound, HasLastLine};
 
     ghost view = { λ b. record {
-      shown = record { entries = take b.shown b.entries.items; shut = b.shut };
-      next = record { entries = b.entries.items; shut = b.closing };
+      shown = record { entries = take b.shown b.entries.entries; shut = b.shut };
+      next = record { entries = b.entries.entries; shut = b.closing };
       max_entries = b.max_entries;
       max_bytes = b.max_bytes;
     } };
 
-    ghost invariant = { λ b. IsSound b.entries.items (deque_capacity b.entries) b.shown b.shown_bytes b.bytes b.shut b.closing b.max_bytes × HasLastLine b.shut b.last_line.items (vec_capacity b.last_line) };
+    ghost invariant = { λ b. IsSound b.entries.entries b.entries.places b.shown b.shown_bytes b.bytes b.shut b.closing b.max_bytes × HasLastLine b.shut b.last_line.items (vec_capacity b.last_line) };
 }
 
 impl Outbox {
@@ -83,7 +65,7 @@ impl Outbox {
     pub fn new(alloc: Global, max_entries: usize, max_bytes: usize) -> Result<Outbox, AllocError>
         ensures { IfOk result (λ outbox. outbox ≡ empty_outbox max_entries max_bytes) }
     {
-        let entries = VecDeque::with_capacity(alloc, 1)?;
+        let entries = EntryQueue::new(alloc)?;
         let last_line = Vec::with_capacity(alloc, LAST_LINE_TEXT)?;
         Ok(Outbox {
             alloc,
@@ -159,7 +141,7 @@ impl Outbox {
     {
         let mut text = mem::replace(&mut self.last_line, Vec::new(self.alloc));
         let _ = text.extend_from_slice(line);
-        self.entries.push_back_reserved(Entry::reply(text));
+        self.entries.push_whole_reserved(Entry::reply(text));
         self.shown = self.entries.len();
         self.shut = true;
         self.closing = true;
@@ -172,9 +154,31 @@ impl Outbox {
         ensures err { OnErr result (self.new ≡ self.old) }
     {
         let size = entry.len();
-        self.entries.reserve(2)?;
-        self.entries.push_back_reserved(entry);
+        self.entries.push(entry)?;
         self.bytes += size;
+        Ok(())
+    }
+
+    /// Puts a message behind all that was put or staged, unseen: what [`Outbox::stage`] does with
+    /// [`Entry::message`]. The line is copied, and of small messages the payload; a larger payload is shared.
+    /// Both come without their CR LF. Want of memory leaves all as it was.
+    pub fn stage_message(
+        &mut self,
+        id: PubId,
+        sub: SubId,
+        mode: Mode,
+        line: &[u8],
+        payload: &Bytes,
+    ) -> Result<(), AllocError>
+        requires fits { length line.now + length payload.now + 4 < 2 ^ 64 }
+        requires room { IsTrue (has_room self.old.max_entries self.old.max_bytes (length (bytes_of line.now (Some payload.now))) self.old.next) }
+        ensures ok { OnOk result (self.new ≡ record self.old { next = with_entry (message_entry id sub mode line.now payload.now) self.old.next }) }
+        ensures err { OnErr result (self.new ≡ self.old) }
+    {
+        let len = line.len() + payload.len() + 2 * LINE_END.len();
+        let tag = Tag::Msg { id, sub, mode };
+        self.entries.push_message(self.alloc, tag, line, payload)?;
+        self.bytes += len;
         Ok(())
     }
 
@@ -187,7 +191,7 @@ impl Outbox {
         ensures err { OnErr result (self.new ≡ self.old) }
     {
         let text = Vec::from_slice(self.alloc, line)?;
-        self.entries.push_back(Entry::reply(text))?;
+        self.entries.push_whole(Entry::reply(text))?;
         self.closing = true;
         Ok(())
     }
@@ -210,6 +214,16 @@ impl Outbox {
         self.closing = self.shut;
     }
 
+    /// Removes the first entries that wait. Takes no memory.
+    fn remove_first(&mut self, count: usize)
+        requires { self.old.next ≡ self.old.shown }
+        ensures { self.new ≡ on_both (without_first count) self.old }
+    {
+        self.entries.drop_front(count, &mut self.bytes);
+        self.shown = self.entries.len();
+        self.shown_bytes = self.bytes;
+    }
+
     /// Gives and removes the first entries that wait, or all where there are fewer. Want of memory
     /// leaves all as it was.
     pub fn take(&mut self, count: usize) -> Result<Vec<Entry>, AllocError>
@@ -219,10 +233,25 @@ impl Outbox {
         ensures err { OnErr result (self.new ≡ self.old) }
     {
         let count = count.min(self.entries.len());
-        let mut taken = Vec::with_capacity(self.alloc, count)?;
-        move_front(&mut self.entries, &mut taken, count, &mut self.bytes);
-        self.shown = self.entries.len();
-        self.shown_bytes = self.bytes;
+        let taken = self.entries.copies(self.alloc, count)?;
+        self.remove_first(count);
         Ok(taken)
+    }
+
+    /// Moves the bytes of the first entries that wait, or of all where there are fewer, behind those that
+    /// are in `out`, in order, and removes these entries. Gives how many they were. Want of memory leaves
+    /// all as it was.
+    pub fn take_bytes(&mut self, count: usize, out: &mut Vec<u8>) -> Result<usize, AllocError>
+        requires { self.old.next ≡ self.old.shown }
+        ensures taken { IfOk result (λ taken. taken ≡ length (take count self.old.shown.entries)) }
+        ensures bytes { OnOk result (out.new.items ≡ out.old.items ++ bytes_of_all (take count self.old.shown.entries)) }
+        ensures ok { OnOk result (self.new ≡ on_both (without_first count) self.old) }
+        ensures err { OnErr result (self.new ≡ self.old) }
+        ensures out { OnErr result (out.new.items ≡ out.old.items) }
+    {
+        let moved = count.min(self.entries.len());
+        self.entries.append_front(moved, out)?;
+        self.remove_first(moved);
+        Ok(moved)
     }
 }

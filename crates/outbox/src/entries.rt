@@ -1,6 +1,7 @@
 //! Entries: what is written to a client as a whole or not at all.
 
-ghost use Rattle.std.specs.Prelude.{◌≡◌, ◌<◌, ◌^◌, ◌+◌, ◌++◌, length, IfOk, OnOk, OnErr};
+ghost use Rattle.std.specs.Prelude.{◌≡◌, ◌<◌, ◌^◌, ◌+◌, ◌++◌, length, Some, IfOk, OnOk, OnErr};
+ghost use Rattle.outbox.specs.Bytes.{bytes_of};
 ghost use Rattle.outbox.specs.Views.{reply_entry, message_entry};
 
 use bytes::Bytes;
@@ -65,6 +66,17 @@ impl Tag {
     }
 }
 
+/// What stands behind the line of an entry.
+#[derive(Debug, Drop)]
+enum Behind {
+    /// Nothing: the line holds all bytes of the entry.
+    Nothing,
+    /// The CR LF of the line.
+    LineEnd,
+    /// The CR LF of the line, and the payload with its own.
+    Payload(Bytes),
+}
+
 /// Something to be written to a client: a line, and behind a message's line its payload, each with its
 /// CR LF. The payload is shared and not copied. (NATS documentation, "Client Protocol".)
 ///
@@ -72,10 +84,8 @@ impl Tag {
 #[derive(Debug, Drop)]
 pub struct Entry {
     tag: Tag,
-    /// Without its CR LF.
     line: Vec<u8>,
-    /// Without its CR LF; None where there is none.
-    payload: Option<Bytes>,
+    behind: Behind,
 }
 
 impl Model for Entry {
@@ -84,11 +94,11 @@ impl Model for Entry {
     ghost Value = { Written };
 
     ghost use Rattle.std.specs.Prelude.{◌<◌, ◌^◌, length};
-    ghost use Rattle.outbox.specs.Bytes.{bytes_of};
+    ghost use Rattle.outbox.specs.Behind.{with_behind};
 
-    ghost view = { λ entry. record { tag = entry.tag; bytes = bytes_of entry.line.items entry.payload } };
+    ghost view = { λ entry. record { tag = entry.tag; bytes = with_behind entry.line.items entry.behind } };
 
-    ghost invariant = { λ entry. length (bytes_of entry.line.items entry.payload) < 2 ^ 64 };
+    ghost invariant = { λ entry. length (with_behind entry.line.items entry.behind) < 2 ^ 64 };
 }
 
 impl Entry {
@@ -100,7 +110,7 @@ impl Entry {
         Entry {
             tag: Tag::Reply,
             line,
-            payload: None,
+            behind: Behind::LineEnd,
         }
     }
 
@@ -109,11 +119,38 @@ impl Entry {
         requires { length line.items + length payload + 4 < 2 ^ 64 }
         ensures { result ≡ message_entry id sub mode line.items payload }
     {
+        Entry::of_parts(Tag::Msg { id, sub, mode }, line, payload)
+    }
+
+    /// An entry of this line and payload, without their CR LF.
+    pub(crate) fn of_parts(tag: Tag, line: Vec<u8>, payload: Bytes) -> Entry
+        requires { length line.items + length payload + 4 < 2 ^ 64 }
+        ensures { result ≡ record { tag = tag; bytes = bytes_of line.items (Some payload) } }
+    {
         Entry {
-            tag: Tag::Msg { id, sub, mode },
+            tag,
             line,
-            payload: Some(payload),
+            behind: Behind::Payload(payload),
         }
+    }
+
+    /// An entry of these bytes.
+    pub(crate) fn of_bytes(tag: Tag, bytes: Vec<u8>) -> Entry
+        ensures { result ≡ record { tag = tag; bytes = bytes.items } }
+    {
+        Entry {
+            tag,
+            line: bytes,
+            behind: Behind::Nothing,
+        }
+    }
+
+    /// What it is, without its bytes.
+    pub(crate) fn into_tag(self) -> Tag
+        ensures { result ≡ self.tag }
+    {
+        let Entry { tag, .. } = self;
+        tag
     }
 
     /// What it is.
@@ -127,11 +164,12 @@ impl Entry {
     pub fn len(&self) -> usize
         ensures { result ≡ length self.now.bytes }
     {
-        let payload = match &self.payload {
-            None => 0,
-            Some(payload) => payload.len() + LINE_END.len(),
+        let behind = match &self.behind {
+            Behind::Nothing => 0,
+            Behind::LineEnd => LINE_END.len(),
+            Behind::Payload(payload) => LINE_END.len() + payload.len() + LINE_END.len(),
         };
-        self.line.len() + LINE_END.len() + payload
+        self.line.len() + behind
     }
 
     /// Puts all its bytes behind those that are there. Want of memory leaves those as they were.
@@ -141,10 +179,14 @@ impl Entry {
     {
         out.reserve(self.len())?;
         out.extend_from_slice(&self.line)?;
-        out.extend_from_slice(LINE_END)?;
-        if let Some(payload) = &self.payload {
-            out.extend_from_slice(payload)?;
-            out.extend_from_slice(LINE_END)?;
+        match &self.behind {
+            Behind::Nothing => {}
+            Behind::LineEnd => out.extend_from_slice(LINE_END)?,
+            Behind::Payload(payload) => {
+                out.extend_from_slice(LINE_END)?;
+                out.extend_from_slice(payload)?;
+                out.extend_from_slice(LINE_END)?;
+            }
         }
         Ok(())
     }
@@ -164,10 +206,11 @@ impl Entry {
     {
         let tag = self.tag.try_clone(alloc)?;
         let line = Vec::from_slice(alloc, &self.line)?;
-        let payload = match &self.payload {
-            None => None,
-            Some(payload) => Some(payload.clone()?),
+        let behind = match &self.behind {
+            Behind::Nothing => Behind::Nothing,
+            Behind::LineEnd => Behind::LineEnd,
+            Behind::Payload(payload) => Behind::Payload(payload.clone()?),
         };
-        Ok(Entry { tag, line, payload })
+        Ok(Entry { tag, line, behind })
     }
 }

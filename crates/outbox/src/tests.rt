@@ -281,6 +281,36 @@ fn take_gives_the_first(rt: HostRuntime) -> Result<(), Fail> {
 }
 
 #[test]
+fn take_bytes_moves_the_first(rt: HostRuntime) -> Result<(), Fail> {
+    let alloc = rt.alloc();
+    // how many are asked for, how many are taken, their bytes behind those that were there, what is left
+    let table: [(usize, usize, &[u8], &[u8]); 4] = [
+        (0, 0, b"> ", b"a\r\nMSG foo 1 5\r\nhello\r\n"),
+        (1, 1, b"> a\r\n", b"MSG foo 1 5\r\nhello\r\n"),
+        (2, 2, b"> a\r\nMSG foo 1 5\r\nhello\r\n", b""),
+        (usize::MAX, 2, b"> a\r\nMSG foo 1 5\r\nhello\r\n", b""),
+    ];
+    for (count, taken, bytes, rest) in table {
+        let mut outbox = Outbox::new(alloc, 2, 23)?;
+        put(&rt, alloc, &mut outbox, b"a")?;
+        let entry = message(&rt, alloc, Mode::Plain, b"MSG foo 1 5", b"hello")?;
+        assert!(rt; outbox.room(entry.len()));
+        outbox.stage(entry)?;
+        outbox.commit();
+        let mut out = Vec::from_slice(alloc, b"> ")?;
+        assert_eq!(rt; outbox.take_bytes(count, &mut out)?, taken);
+        assert_eq!(rt; out.as_slice(), bytes, "{count}");
+        assert_eq!(rt; outbox.room(20), taken == 2);
+        assert_eq!(rt;
+            written(alloc, &outbox.take(9)?)?.as_slice(),
+            rest,
+            "{count}"
+        );
+    }
+    Ok(())
+}
+
+#[test]
 fn the_ring_goes_round(rt: HostRuntime) -> Result<(), Fail> {
     let alloc = rt.alloc();
     let mut outbox = Outbox::new(alloc, 2, 100)?;

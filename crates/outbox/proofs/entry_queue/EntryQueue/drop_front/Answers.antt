@@ -1,0 +1,20 @@
+use Rattle.std.proofs.Common.{◌≡◌, ℕ, ◌+◌, ◌-◌, List, take, drop, length, sym, ap, ◌∙◌, arith}
+use Rattle.std.proofs.lemmas.List.{drop-drop}
+use Rattle.outbox.specs.Views.{Written, size_of}
+use Rattle.outbox.specs.Kept.{Queued}
+use Rattle.outbox.proofs.Seen.{size_of_more}
+use Rattle.outbox.proofs.entry_queue.EntryQueue.drop_front.Goals as goal
+
+pub loop-dropped-preserved : goal.loop-dropped-preserved
+loop-dropped-preserved c =
+    let entries = c.args.self.now.entries in
+    let n = c.loop-dropped.dropped in
+    let kept = c.loop-dropped.invariant in
+    let rest = c.drop_first.ensures.rest in
+    let same : size_of (take 1 c.loop-dropped.self.entries) ≡ size_of (take 1 (drop n entries)) = ap (λ (l : List Written). size_of (take 1 l)) kept.entries in
+    let more = size_of_more entries n in
+    record {
+      entries = ap (λ (q : Queued). q.entries) rest ∙ ap (drop 1) kept.entries ∙ drop-drop 1 n entries;
+      places = ap (λ (q : Queued). q.places) rest ∙ kept.places;
+      bytes = omega (arith, c.drop_first.ensures.bytes, kept.bytes);
+    }

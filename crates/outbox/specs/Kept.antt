@@ -1,0 +1,29 @@
+-- How entries are kept: small ones as bytes one behind another, larger ones and last lines as they came.
+use Rattle.std.specs.Prelude.{◌≡◌, ℕ, ◌+◌, ◌≤◌, List, [], ◌∷◌, ◌++◌, length, take, drop, Option, Some, None}
+use Rattle.outbox.specs.Bytes.{bytes_of}
+use Rattle.outbox.specs.Views.{Written}
+use Rattle.outbox.specs.declared.kept.Kept.{Kept}
+use Rattle.outbox.specs.declared.kept.Kept.TheVariants.{Copied, Whole}
+
+-- how many of the bytes are the entry's
+abbrev pub copied_len : Kept → ℕ
+copied_len (Copied tag len) = len
+copied_len (Whole entry) = 0
+
+-- the entry, whose bytes are the first of these where they were copied
+abbrev pub seen_at : Kept → List ℕ → Written
+seen_at (Copied tag len) bytes = record { tag = tag; bytes = take len bytes }
+seen_at (Whole entry) bytes = entry
+
+abbrev pub seen : List Kept → List ℕ → List Written
+seen [] bytes = []
+seen (kept ∷ others) bytes = seen_at kept bytes ∷ seen others (drop (copied_len kept) bytes)
+
+abbrev pub copied_of : List Kept → ℕ
+copied_of [] = 0
+copied_of (kept ∷ others) = copied_len kept + copied_of others
+
+-- entries in order, and how many there can be without more memory
+pub record Queued : Type 0 where
+  pub entries : List Written
+  pub places : ℕ

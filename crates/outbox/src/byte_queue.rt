@@ -1,0 +1,104 @@
+//! Bytes in order, put behind and dropped in front.
+
+ghost use Rattle.std.specs.Prelude.{◌≡◌, ◌+◌, ◌<◌, ◌≤◌, ◌^◌, ◌++◌, [], length, take, drop, Some, IfOk, OnOk, OnErr};
+ghost use Rattle.outbox.specs.Bytes.{bytes_of};
+
+use crate::entries::{Entry, LINE_END};
+use std::alloc::{AllocError, Global};
+use std::marker::Model;
+
+/// Puts a line and a payload, each with its CR LF, behind the bytes that are there. Want of memory leaves
+/// those as they were.
+fn append_message(line: &[u8], payload: &[u8], out: &mut Vec<u8>) -> Result<(), AllocError>
+    requires { length line.now + length payload.now + 4 < 2 ^ 64 }
+    ensures ok { OnOk result (out.new.items ≡ out.old.items ++ bytes_of line.now (Some payload.now)) }
+    ensures err { OnErr result (out.new.items ≡ out.old.items) }
+{
+    out.reserve(line.len() + payload.len() + 2 * LINE_END.len())?;
+    out.extend_from_slice(line)?;
+    out.extend_from_slice(LINE_END)?;
+    out.extend_from_slice(payload)?;
+    out.extend_from_slice(LINE_END)?;
+    Ok(())
+}
+
+/// Bytes that are put behind one another and dropped in front, in one buffer that is used again.
+///
+/// Seen as the list of the bytes.
+#[derive(Drop)]
+pub(crate) struct ByteQueue {
+    bytes: Vec<u8>,
+    /// Where the first one stands.
+    start: usize,
+}
+
+impl Model for ByteQueue {
+    ghost use Rattle.std.specs.Prelude.{◌≤◌, ℕ, List, drop, vec_len};
+
+    ghost Value = { List ℕ };
+
+    ghost view = { λ q. drop q.start q.bytes.items };
+
+    ghost invariant = { λ q. q.start ≤ vec_len q.bytes };
+}
+
+impl ByteQueue {
+    /// No bytes.
+    pub(crate) fn new(alloc: Global) -> ByteQueue
+        ensures { result ≡ [] }
+    {
+        ByteQueue {
+            bytes: Vec::new(alloc),
+            start: 0,
+        }
+    }
+
+    /// All bytes.
+    pub(crate) fn as_slice(&self) -> &[u8]
+        ensures { result.now ≡ self.now }
+    {
+        &self.bytes[self.start..]
+    }
+
+    /// Puts the bytes of an entry behind. Want of memory leaves all as it was.
+    pub(crate) fn push_entry(&mut self, entry: &Entry) -> Result<(), AllocError>
+        ensures ok { OnOk result (self.new ≡ self.old ++ entry.now.bytes) }
+        ensures err { OnErr result (self.new ≡ self.old) }
+    {
+        entry.append_to(&mut self.bytes)
+    }
+
+    /// Puts a message behind: its line and its payload, given without their CR LF. Gives how many bytes it
+    /// has. Want of memory leaves all as it was.
+    pub(crate) fn push_message(&mut self, line: &[u8], payload: &[u8]) -> Result<usize, AllocError>
+        requires { length line.now + length payload.now + 4 < 2 ^ 64 }
+        ensures len { IfOk result (λ len. len ≡ length (bytes_of line.now (Some payload.now))) }
+        ensures ok { OnOk result (self.new ≡ self.old ++ bytes_of line.now (Some payload.now)) }
+        ensures err { OnErr result (self.new ≡ self.old) }
+    {
+        append_message(line, payload, &mut self.bytes)?;
+        Ok(line.len() + payload.len() + 2 * LINE_END.len())
+    }
+
+    /// Keeps the first bytes.
+    pub(crate) fn truncate(&mut self, kept: usize)
+        requires { kept ≤ length self.old }
+        ensures { self.new ≡ take kept self.old }
+    {
+        self.bytes.truncate(self.start + kept);
+    }
+
+    /// Drops the first bytes.
+    pub(crate) fn drop_front(&mut self, count: usize)
+        requires { count ≤ length self.old }
+        ensures { self.new ≡ drop count self.old }
+    {
+        self.start += count;
+        if self.start > self.bytes.len() - self.start {
+            let kept = self.bytes.len() - self.start;
+            self.bytes.copy_within(self.start.., 0);
+            self.bytes.truncate(kept);
+            self.start = 0;
+        }
+    }
+}
