@@ -1,4 +1,4 @@
-"""Builds the measuring program of the repository, and takes the best of some runs of it."""
+"""Builds a measuring program of the repository, and takes the best of some runs of it."""
 import json
 import os
 import subprocess
@@ -9,17 +9,21 @@ sys.path.insert(0, os.path.join(TOP, "tools"))
 
 from build import build  # noqa: E402
 
-PROGRAM = os.path.join(TOP, "crates", "mesh_bench", "out", "mesh_bench")
 
-
-def cases_of(measure, number):
-    """What one run of the measure tells, by the name of the case."""
-    output = subprocess.run([PROGRAM, measure, str(number)], check=True, stdout=subprocess.PIPE, text=True).stdout
+def cases_of(program, words):
+    """What one run of the program on these words tells, by the name of the case."""
+    path = os.path.join(TOP, "crates", program, "out", program)
+    output = subprocess.run([path, *words], check=True, stdout=subprocess.PIPE, text=True).stdout
     return {case["case"]: case for case in map(json.loads, output.splitlines())}
 
 
 def best_cases(measure, runs, number):
-    """The fastest run of each case."""
-    build("mesh_bench")
-    measured = [cases_of(measure, number) for _ in range(runs)]
+    """The fastest run of each case of a measure of `mesh_bench`."""
+    return best_cases_of("mesh_bench", [measure, str(number)], runs)
+
+
+def best_cases_of(program, words, runs):
+    """The fastest run of each case that the program tells on these words."""
+    build(program)
+    measured = [cases_of(program, words) for _ in range(runs)]
     return [min((run[name] for run in measured), key=lambda case: case["nanoseconds"]) for name in measured[0]]

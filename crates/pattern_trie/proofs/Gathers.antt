@@ -20,16 +20,16 @@ use Rattle.pattern_trie.proofs.Lists.{begins_itself, none_below}
 
 -- ---- lists of token lists
 
-gathered_append : (held : List Held) (path : List ℕ) (ms ns : List (List (List ℕ))) → gathered held path (ms ++ ns) ≡ gathered held path ms ++ gathered held path ns
+gathered_append : {V : Type 0} (held : List (Held V)) (path : List ℕ) (ms ns : List (List (List ℕ))) → gathered held path (ms ++ ns) ≡ gathered held path ms ++ gathered held path ns
 gathered_append held path [] ns = refl
 gathered_append held path (m ∷ ms) ns = ap (λ vs. values_for (extended path m) held ++ vs) (gathered_append held path ms ns) ∙ sym (append_assoc (values_for (extended path m) held) (gathered held path ms) (gathered held path ns))
 
-gathered_behind : (held : List Held) (path token : List ℕ) (ms : List (List (List ℕ))) → gathered held path (map (λ m. token ∷ m) ms) ≡ gathered held (dotted path token) ms
+gathered_behind : {V : Type 0} (held : List (Held V)) (path token : List ℕ) (ms : List (List (List ℕ))) → gathered held path (map (λ m. token ∷ m) ms) ≡ gathered held (dotted path token) ms
 gathered_behind held path token [] = refl
 gathered_behind held path token (m ∷ ms) = ap (λ vs. values_for (extended (dotted path token) m) held ++ vs) (gathered_behind held path token ms)
 
 -- the values of one token more: `>`, then the token, then `*`
-pub gathered_step : (held : List Held) (path token : List ℕ) (tokens : List (List ℕ))
+pub gathered_step : {V : Type 0} (held : List (Held V)) (path token : List ℕ) (tokens : List (List ℕ))
     → gathered held path (matchers (token ∷ tokens)) ≡ values_for (dotted path (codes ">")) held ++ (gathered held (dotted path token) (matchers tokens) ++ gathered held (dotted path (codes "*")) (matchers tokens))
 gathered_step held path token tokens =
     ap (λ vs. values_for (dotted path (codes ">")) held ++ vs)
@@ -66,7 +66,7 @@ extended_begins b path [] = begins_itself (b ∷ path)
 extended_begins b path (t ∷ ts) = ap (is_beginning (b ∷ path)) (extended_is b path (t ∷ ts)) ∙ begins_more (b ∷ path) (t ++ tail ts)
 
 -- nothing is held under a text, where nothing is under one that begins it
-none_under : (p q : List ℕ) (held : List Held) → is_beginning p q ≡ true → count_below p held ≡ 0 → values_for q held ≡ []
+none_under : {V : Type 0} (p q : List ℕ) (held : List (Held V)) → is_beginning p q ≡ true → count_below p held ≡ 0 → values_for q held ≡ []
 none_under p q [] begins none = refl
 none_under p q (h ∷ held) begins none =
     elim (cases_Bool (bytes_eq q h.0)) [
@@ -76,12 +76,12 @@ none_under p q (h ∷ held) begins none =
       | inr n ↦ cond-false (bytes_eq q h.0) (h.1 ∷ values_for q held) (values_for q held) n ∙ none_under p q held begins (omega arith)
     ]
 
-none_gathered : (b : ℕ) (path : List ℕ) (held : List Held) (ms : List (List (List ℕ))) → count_below (b ∷ path) held ≡ 0 → gathered held (b ∷ path) ms ≡ []
+none_gathered : {V : Type 0} (b : ℕ) (path : List ℕ) (held : List (Held V)) (ms : List (List (List ℕ))) → count_below (b ∷ path) held ≡ 0 → gathered held (b ∷ path) ms ≡ []
 none_gathered b path held [] none = refl
 none_gathered b path held (m ∷ ms) none = ap (λ vs. vs ++ gathered held (b ∷ path) ms) (none_under (b ∷ path) (extended (b ∷ path) m) held (extended_begins b path m) none) ∙ none_gathered b path held ms none
 
 -- where there is no node
-pub gathered_none : (held : List Held) (nodes : Nodes) (path : List ℕ) (ms : List (List (List ℕ))) → Holds held nodes → is_empty path ≡ false → below_at nodes path ≡ 0 → gathered held path ms ≡ []
+pub gathered_none : {V : Type 0} (held : List (Held V)) (nodes : Nodes V) (path : List ℕ) (ms : List (List (List ℕ))) → Holds held nodes → is_empty path ≡ false → below_at nodes path ≡ 0 → gathered held path ms ≡ []
 gathered_none held nodes [] ms is empty none = cc
 gathered_none held nodes (b ∷ path) ms is empty none = none_gathered b path held ms (sym (is.counts (b ∷ path)) ∙ none)
 
@@ -99,7 +99,7 @@ cut_back n path more token is at = ap (λ k. take k more) is ∙ ap (take (lengt
 
 -- ---- a wildcard that no node is known for
 
-not_counted : (held : List Held) (nodes : Nodes) (path : List ℕ) (k : Bool) → Holds held nodes → is_empty path ≡ false → has_wild k nodes path ≡ false → count_below (dotted path (wild_token k)) held ≡ 0
+not_counted : {V : Type 0} (held : List (Held V)) (nodes : Nodes V) (path : List ℕ) (k : Bool) → Holds held nodes → is_empty path ≡ false → has_wild k nodes path ≡ false → count_below (dotted path (wild_token k)) held ≡ 0
 not_counted held nodes [] k is some none = cc
 not_counted held nodes (b ∷ path) k is some none =
     elim (cases_Bool (nat_lt 0 (count_below (with_wild k (b ∷ path)) held))) [
@@ -111,24 +111,24 @@ not_counted held nodes (b ∷ path) k is some none =
     no e = cc
 
 -- wildcards that may have nodes behind the path: where one is not among them, it has none
-abbrev pub AreKnown : Wilds → Nodes → List ℕ → Type 0
+abbrev pub AreKnown : {V : Type 0} → Wilds → Nodes V → List ℕ → Type 0
 AreKnown w nodes path = (k : Bool) → is_in k w ≡ false → (is_empty path ≡ false) × (has_wild k nodes path ≡ false)
 
-rest_is : (held : List Held) (nodes : Nodes) (path : List ℕ) (b : Bool) → Holds held nodes → (b ≡ false → (is_empty path ≡ false) × (has_wild false nodes path ≡ false)) → cond b (values_at nodes (dotted path (codes ">"))) [] ≡ values_for (dotted path (codes ">")) held
+rest_is : {V : Type 0} (held : List (Held V)) (nodes : Nodes V) (path : List ℕ) (b : Bool) → Holds held nodes → (b ≡ false → (is_empty path ≡ false) × (has_wild false nodes path ≡ false)) → cond b (values_at nodes (dotted path (codes ">"))) [] ≡ values_for (dotted path (codes ">")) held
 rest_is held nodes path true is known = is.values (dotted path (codes ">"))
 rest_is held nodes path false is known = let none = known refl in sym (none_below (dotted path (codes ">")) held (not_counted held nodes path false is none.0 none.1))
 
-star_none : (held : List Held) (nodes : Nodes) (path : List ℕ) (ms : List (List (List ℕ))) → Holds held nodes → is_empty path ≡ false → has_wild true nodes path ≡ false → gathered held (dotted path (codes "*")) ms ≡ []
+star_none : {V : Type 0} (held : List (Held V)) (nodes : Nodes V) (path : List ℕ) (ms : List (List (List ℕ))) → Holds held nodes → is_empty path ≡ false → has_wild true nodes path ≡ false → gathered held (dotted path (codes "*")) ms ≡ []
 star_none held nodes [] ms is some none = cc
 star_none held nodes (b ∷ path) ms is some none = none_gathered b (path ++ 46 ∷ codes "*") held ms (not_counted held nodes (b ∷ path) true is some none)
 
 -- the whole of a step
-module _ (held : List Held) (nodes : Nodes) (w : Wilds) (path token : List ℕ) (tokens : List (List ℕ)) (f0 f1 f2 : List ℕ) (is : Holds held nodes) (known : AreKnown w nodes path)
+module _ {V : Type 0} (held : List (Held V)) (nodes : Nodes V) (w : Wilds) (path token : List ℕ) (tokens : List (List ℕ)) (f0 f1 f2 : List V) (is : Holds held nodes) (known : AreKnown w nodes path)
     (one : f1 ≡ f0 ++ cond w.rest (values_at nodes (dotted path (codes ">"))) []) (two : f2 ≡ f1 ++ gathered held (dotted path token) (matchers tokens)) where
-  joined : (f a b d : List ℕ) → ((f ++ a) ++ b) ++ d ≡ f ++ (a ++ (b ++ d))
+  joined : (f a b d : List V) → ((f ++ a) ++ b) ++ d ≡ f ++ (a ++ (b ++ d))
   joined f a b d = append_assoc (f ++ a) b d ∙ append_assoc f a (b ++ d)
 
-  pub walked : (f3 : List ℕ) → f3 ≡ f2 ++ gathered held (dotted path (codes "*")) (matchers tokens) → f3 ≡ f0 ++ gathered held path (matchers (token ∷ tokens))
+  pub walked : (f3 : List V) → f3 ≡ f2 ++ gathered held (dotted path (codes "*")) (matchers tokens) → f3 ≡ f0 ++ gathered held path (matchers (token ∷ tokens))
   walked f3 three =
       let a = values_for (dotted path (codes ">")) held in
       let b = gathered held (dotted path token) (matchers tokens) in
@@ -140,7 +140,7 @@ module _ (held : List Held) (nodes : Nodes) (w : Wilds) (path token : List ℕ) 
       let none = known true plain in
       walked f2 (sym (append-nil f2) ∙ ap (λ d. f2 ++ d) (sym (star_none held nodes path (matchers tokens) is none.0 none.1)))
 
-pub none_counted : (o : Option Node) → is_some o ≡ false → count_of o ≡ 0
+pub none_counted : {V : Type 0} (o : Option (Node V)) → is_some o ≡ false → count_of o ≡ 0
 none_counted None no_one = refl
 none_counted (Some n) no_one = cc
 

@@ -1,6 +1,5 @@
 -- What one more or one less held changes.
 use Rattle.std.proofs.Common.{◌≡◌, ℕ, ◌+◌, ◌≤◌, Bool, length, drop, true, false, cond, ◌&&◌, ◌||◌, List, [], ◌∷◌, ◌++◌, refl, ap, sym, ◌∙◌, arith, inl, inr}
-use Rattle.std.specs.Bool.{nat_eq}
 use Rattle.std.specs.List.{list_any}
 use Rattle.std.specs.Str.{bytes_eq}
 use Rattle.std.specs.Cmp.Lexicographic.{bytes_decides, nat_list_eq_equiv}
@@ -12,7 +11,7 @@ use Rattle.pattern_trie.proofs.Dots.{behind_dot}
 
 -- ---- one more
 
-pub count_push : (q text : List ℕ) (v : ℕ) (held : List Held) → count_below q (held ++ (text, v) ∷ []) ≡ count_below q held + one_if (is_beginning q text)
+pub count_push : {V : Type 0} (q text : List ℕ) (v : V) (held : List (Held V)) → count_below q (held ++ (text, v) ∷ []) ≡ count_below q held + one_if (is_beginning q text)
 count_push q text v [] = turn (one_if (is_beginning q text)) where
   turn : (n : ℕ) → n + 0 ≡ 0 + n
   turn n = omega arith
@@ -20,7 +19,7 @@ count_push q text v (h ∷ held) = ap (λ n. one_if (is_beginning q h.0) + n) (c
   move : (a b c : ℕ) → a + (b + c) ≡ a + b + c
   move a b c = omega arith
 
-pub values_push_here : (q text : List ℕ) (v : ℕ) (held : List Held) → bytes_eq q text ≡ true → values_for q (held ++ (text, v) ∷ []) ≡ values_for q held ++ v ∷ []
+pub values_push_here : {V : Type 0} (q text : List ℕ) (v : V) (held : List (Held V)) → bytes_eq q text ≡ true → values_for q (held ++ (text, v) ∷ []) ≡ values_for q held ++ v ∷ []
 values_push_here q text v [] is = cond-true (bytes_eq q text) (v ∷ []) [] is
 values_push_here q text v (h ∷ held) is =
     elim (bytes_eq q h.0) as (λ b. cond b (h.1 ∷ values_for q (held ++ (text, v) ∷ [])) (values_for q (held ++ (text, v) ∷ [])) ≡ cond b (h.1 ∷ values_for q held) (values_for q held) ++ v ∷ []) [
@@ -28,7 +27,7 @@ values_push_here q text v (h ∷ held) is =
       | false ↦ values_push_here q text v held is
     ]
 
-pub values_push_other : (q text : List ℕ) (v : ℕ) (held : List Held) → bytes_eq q text ≡ false → values_for q (held ++ (text, v) ∷ []) ≡ values_for q held
+pub values_push_other : {V : Type 0} (q text : List ℕ) (v : V) (held : List (Held V)) → bytes_eq q text ≡ false → values_for q (held ++ (text, v) ∷ []) ≡ values_for q held
 values_push_other q text v [] is = cond-false (bytes_eq q text) (v ∷ []) [] is
 values_push_other q text v (h ∷ held) is = ap (λ vs. cond (bytes_eq q h.0) (h.1 ∷ vs) vs) (values_push_other q text v held is)
 
@@ -37,7 +36,7 @@ values_push_other q text v (h ∷ held) is = ap (λ vs. cond (bytes_eq q h.0) (h
 pub begins_itself : (q : List ℕ) → is_beginning q q ≡ true
 begins_itself q = ap (λ b. b || is_before_dot q q) (nat_list_eq_equiv.refl q)
 
-pub none_below : (q : List ℕ) (held : List Held) → count_below q held ≡ 0 → values_for q held ≡ []
+pub none_below : {V : Type 0} (q : List ℕ) (held : List (Held V)) → count_below q held ≡ 0 → values_for q held ≡ []
 none_below q [] none = refl
 none_below q (h ∷ held) none =
     elim (cases_Bool (bytes_eq q h.0)) [
@@ -55,55 +54,55 @@ swap a b = omega arith
 slide : (a b c d : ℕ) → b + c ≡ d → a + b + c ≡ a + d
 slide a b c d e = omega arith
 
-pub count_without : (q text : List ℕ) (v : ℕ) (held : List Held) → list_any (nat_eq v) (values_for text held) ≡ true
-    → count_below q (without_held text v held) + one_if (is_beginning q text) ≡ count_below q held
-count_without q text v [] has = cc
-count_without q text v (h ∷ held) has =
-    elim (bytes_eq text h.0) as (λ b. bytes_eq text h.0 ≡ b → list_any (nat_eq v) (cond b (h.1 ∷ values_for text held) (values_for text held)) ≡ true
-    → count_below q (cond (b && nat_eq v h.1) held (h ∷ without_held text v held)) + one_if (is_beginning q text) ≡ one_if (is_beginning q h.0) + count_below q held) [
+pub count_without : {V : Type 0} (eq : V → V → Bool) (q text : List ℕ) (v : V) (held : List (Held V)) → list_any (eq v) (values_for text held) ≡ true
+    → count_below q (without_held eq text v held) + one_if (is_beginning q text) ≡ count_below q held
+count_without eq q text v [] has = cc
+count_without eq q text v (h ∷ held) has =
+    elim (bytes_eq text h.0) as (λ b. bytes_eq text h.0 ≡ b → list_any (eq v) (cond b (h.1 ∷ values_for text held) (values_for text held)) ≡ true
+    → count_below q (cond (b && eq v h.1) held (h ∷ without_held eq text v held)) + one_if (is_beginning q text) ≡ one_if (is_beginning q h.0) + count_below q held) [
       | true ↦ λ is.
-          elim (nat_eq v h.1) as (λ c. (c || list_any (nat_eq v) (values_for text held)) ≡ true
-          → count_below q (cond c held (h ∷ without_held text v held)) + one_if (is_beginning q text) ≡ one_if (is_beginning q h.0) + count_below q held) [
+          elim (eq v h.1) as (λ c. (c || list_any (eq v) (values_for text held)) ≡ true
+          → count_below q (cond c held (h ∷ without_held eq text v held)) + one_if (is_beginning q text) ≡ one_if (is_beginning q h.0) + count_below q held) [
             | true ↦ λ some. ap (λ t. count_below q held + one_if (is_beginning q t)) ((bytes_decides text h.0).0 is) ∙ swap (count_below q held) (one_if (is_beginning q h.0))
-            | false ↦ λ some. slide (one_if (is_beginning q h.0)) (count_below q (without_held text v held)) (one_if (is_beginning q text)) (count_below q held) (count_without q text v held some)
+            | false ↦ λ some. slide (one_if (is_beginning q h.0)) (count_below q (without_held eq text v held)) (one_if (is_beginning q text)) (count_below q held) (count_without eq q text v held some)
           ]
-      | false ↦ λ is some. slide (one_if (is_beginning q h.0)) (count_below q (without_held text v held)) (one_if (is_beginning q text)) (count_below q held) (count_without q text v held some)
+      | false ↦ λ is some. slide (one_if (is_beginning q h.0)) (count_below q (without_held eq text v held)) (one_if (is_beginning q text)) (count_below q held) (count_without eq q text v held some)
     ] refl has
 
-pub without_absent : (text : List ℕ) (v : ℕ) (held : List Held) → list_any (nat_eq v) (values_for text held) ≡ false → without_held text v held ≡ held
-without_absent text v [] none = refl
-without_absent text v (h ∷ held) none =
-    elim (bytes_eq text h.0) as (λ b. list_any (nat_eq v) (cond b (h.1 ∷ values_for text held) (values_for text held)) ≡ false → cond (b && nat_eq v h.1) held (h ∷ without_held text v held) ≡ h ∷ held) [
+pub without_absent : {V : Type 0} (eq : V → V → Bool) (text : List ℕ) (v : V) (held : List (Held V)) → list_any (eq v) (values_for text held) ≡ false → without_held eq text v held ≡ held
+without_absent eq text v [] none = refl
+without_absent eq text v (h ∷ held) none =
+    elim (bytes_eq text h.0) as (λ b. list_any (eq v) (cond b (h.1 ∷ values_for text held) (values_for text held)) ≡ false → cond (b && eq v h.1) held (h ∷ without_held eq text v held) ≡ h ∷ held) [
       | true ↦
-          elim (nat_eq v h.1) as (λ c. (c || list_any (nat_eq v) (values_for text held)) ≡ false → cond c held (h ∷ without_held text v held) ≡ h ∷ held) [
+          elim (eq v h.1) as (λ c. (c || list_any (eq v) (values_for text held)) ≡ false → cond c held (h ∷ without_held eq text v held) ≡ h ∷ held) [
             | true ↦ λ some. cc
-            | false ↦ λ some. ap (λ l. h ∷ l) (without_absent text v held some)
+            | false ↦ λ some. ap (λ l. h ∷ l) (without_absent eq text v held some)
           ]
-      | false ↦ λ some. ap (λ l. h ∷ l) (without_absent text v held some)
+      | false ↦ λ some. ap (λ l. h ∷ l) (without_absent eq text v held some)
     ] none
 
-pub values_without_here : (q : List ℕ) (v : ℕ) (held : List Held) → values_for q (without_held q v held) ≡ without_value v (values_for q held)
-values_without_here q v [] = refl
-values_without_here q v (h ∷ held) =
-    elim (bytes_eq q h.0) as (λ b. bytes_eq q h.0 ≡ b → values_for q (cond (b && nat_eq v h.1) held (h ∷ without_held q v held)) ≡ without_value v (cond b (h.1 ∷ values_for q held) (values_for q held))) [
+pub values_without_here : {V : Type 0} (eq : V → V → Bool) (q : List ℕ) (v : V) (held : List (Held V)) → values_for q (without_held eq q v held) ≡ without_value eq v (values_for q held)
+values_without_here eq q v [] = refl
+values_without_here eq q v (h ∷ held) =
+    elim (bytes_eq q h.0) as (λ b. bytes_eq q h.0 ≡ b → values_for q (cond (b && eq v h.1) held (h ∷ without_held eq q v held)) ≡ without_value eq v (cond b (h.1 ∷ values_for q held) (values_for q held))) [
       | true ↦ λ is.
-          elim (nat_eq v h.1) as (λ c. values_for q (cond c held (h ∷ without_held q v held)) ≡ cond c (values_for q held) (h.1 ∷ without_value v (values_for q held))) [
+          elim (eq v h.1) as (λ c. values_for q (cond c held (h ∷ without_held eq q v held)) ≡ cond c (values_for q held) (h.1 ∷ without_value eq v (values_for q held))) [
             | true ↦ refl
-            | false ↦ cond-true (bytes_eq q h.0) (h.1 ∷ values_for q (without_held q v held)) (values_for q (without_held q v held)) is ∙ ap (λ vs. h.1 ∷ vs) (values_without_here q v held)
+            | false ↦ cond-true (bytes_eq q h.0) (h.1 ∷ values_for q (without_held eq q v held)) (values_for q (without_held eq q v held)) is ∙ ap (λ vs. h.1 ∷ vs) (values_without_here eq q v held)
           ]
-      | false ↦ λ is. cond-false (bytes_eq q h.0) (h.1 ∷ values_for q (without_held q v held)) (values_for q (without_held q v held)) is ∙ values_without_here q v held
+      | false ↦ λ is. cond-false (bytes_eq q h.0) (h.1 ∷ values_for q (without_held eq q v held)) (values_for q (without_held eq q v held)) is ∙ values_without_here eq q v held
     ] refl
 
-pub values_without_other : (q text : List ℕ) (v : ℕ) (held : List Held) → bytes_eq q text ≡ false → values_for q (without_held text v held) ≡ values_for q held
-values_without_other q text v [] other = refl
-values_without_other q text v (h ∷ held) other =
-    elim (bytes_eq text h.0) as (λ b. bytes_eq text h.0 ≡ b → values_for q (cond (b && nat_eq v h.1) held (h ∷ without_held text v held)) ≡ cond (bytes_eq q h.0) (h.1 ∷ values_for q held) (values_for q held)) [
+pub values_without_other : {V : Type 0} (eq : V → V → Bool) (q text : List ℕ) (v : V) (held : List (Held V)) → bytes_eq q text ≡ false → values_for q (without_held eq text v held) ≡ values_for q held
+values_without_other eq q text v [] other = refl
+values_without_other eq q text v (h ∷ held) other =
+    elim (bytes_eq text h.0) as (λ b. bytes_eq text h.0 ≡ b → values_for q (cond (b && eq v h.1) held (h ∷ without_held eq text v held)) ≡ cond (bytes_eq q h.0) (h.1 ∷ values_for q held) (values_for q held)) [
       | true ↦ λ is.
-          elim (nat_eq v h.1) as (λ c. values_for q (cond c held (h ∷ without_held text v held)) ≡ cond (bytes_eq q h.0) (h.1 ∷ values_for q held) (values_for q held)) [
+          elim (eq v h.1) as (λ c. values_for q (cond c held (h ∷ without_held eq text v held)) ≡ cond (bytes_eq q h.0) (h.1 ∷ values_for q held) (values_for q held)) [
             | true ↦ sym (cond-false (bytes_eq q h.0) (h.1 ∷ values_for q held) (values_for q held) (ap (bytes_eq q) (sym ((bytes_decides text h.0).0 is)) ∙ other))
-            | false ↦ ap (λ vs. cond (bytes_eq q h.0) (h.1 ∷ vs) vs) (values_without_other q text v held other)
+            | false ↦ ap (λ vs. cond (bytes_eq q h.0) (h.1 ∷ vs) vs) (values_without_other eq q text v held other)
           ]
-      | false ↦ λ is. ap (λ vs. cond (bytes_eq q h.0) (h.1 ∷ vs) vs) (values_without_other q text v held other)
+      | false ↦ λ is. ap (λ vs. cond (bytes_eq q h.0) (h.1 ∷ vs) vs) (values_without_other eq q text v held other)
     ] refl
 
 -- ---- a beginning and one token more
@@ -126,7 +125,7 @@ fewer true false so = absurd (no (so refl)) where
 fewer false true so = omega arith
 fewer false false so = omega arith
 
-pub fewer_behind : (q more : List ℕ) (held : List Held) → count_below (q ++ 46 ∷ more) held ≤ count_below q held
+pub fewer_behind : {V : Type 0} (q more : List ℕ) (held : List (Held V)) → count_below (q ++ 46 ∷ more) held ≤ count_below q held
 fewer_behind q more [] = omega arith
 fewer_behind q more (h ∷ held) =
     let one = fewer (is_beginning (q ++ 46 ∷ more) h.0) (is_beginning q h.0) (begins_too q more h.0) in

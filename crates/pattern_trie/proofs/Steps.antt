@@ -1,5 +1,5 @@
 -- One step of the loops over a pattern's beginnings.
-use Rattle.std.proofs.Common.{◌≡◌, ℕ, ◌+◌, ◌-◌, ◌<◌, ◌≤◌, Bool, true, false, ◌&&◌, List, [], length, take, drop, get_or, refl, ap, sym, ◌∙◌, arith, inl, inr}
+use Rattle.std.proofs.Common.{◌≡◌, ℕ, ◌+◌, ◌-◌, ◌<◌, ◌≤◌, Bool, true, false, ◌&&◌, List, length, take, drop, get_or, refl, ap, sym, ◌∙◌, arith, inl, inr}
 use Rattle.std.specs.Prelude.{codes}
 use Rattle.std.specs.Str.{bytes_eq}
 use Rattle.std.specs.Cmp.Lexicographic.{bytes_decides}
@@ -43,21 +43,21 @@ behind_are w text one rest true = one
 behind_are w text one rest false = rest
 
 module _ (text : List ℕ) where
-  pub leaves_one : (at : ℕ) (old mid new : Nodes) → at < length text → is_dot (get_or text at 0) ≡ true → LeavesEach (λ q. is_before_dot_of at q text) old mid → Leaves (take at text) mid new → LeavesEach (λ q. is_before_dot_of (at + 1) q text) old new
+  pub leaves_one : {V : Type 0} (at : ℕ) (old mid new : Nodes V) → at < length text → is_dot (get_or text at 0) ≡ true → LeavesEach (λ q. is_before_dot_of at q text) old mid → Leaves (take at text) mid new → LeavesEach (λ q. is_before_dot_of (at + 1) q text) old new
   leaves_one at old mid new within dot so one = record {
     counts = λ q. one.counts q ∙ ap (λ n. n - one_if (bytes_eq (take at text) q)) (so.counts q) ∙ less_twice (below_at old q) (one_if (is_before_dot_of at q text)) (one_if (bytes_eq (take at text) q)) ∙ ap (λ n. below_at old q - n) (sym (one_more text at q within dot));
     values = λ q. one.values q ∙ so.values q;
     wilds = λ k q some had. one.wilds k q some (so.wilds k q (still (below_at new q) (below_at mid q) (one_if (bytes_eq (take at text) q)) (one.counts q) some) had);
   }
 
-  pub leaves_none : (at : ℕ) (old mid : Nodes) → is_dot (get_or text at 0) ≡ false → LeavesEach (λ q. is_before_dot_of at q text) old mid → LeavesEach (λ q. is_before_dot_of (at + 1) q text) old mid
+  pub leaves_none : {V : Type 0} (at : ℕ) (old mid : Nodes V) → is_dot (get_or text at 0) ≡ false → LeavesEach (λ q. is_before_dot_of at q text) old mid → LeavesEach (λ q. is_before_dot_of (at + 1) q text) old mid
   leaves_none at old mid other so = record {
     counts = λ q. so.counts q ∙ ap (λ b. below_at old q - one_if b) (sym (none_more text at q other));
     values = so.values;
     wilds = so.wilds;
   }
 
-  pub enters_one : (at : ℕ) (behind : Bool → Bool) (old mid new : Nodes) → at < length text → is_dot (get_or text at 0) ≡ true → ((k : Bool) → behind k ≡ is_beginning (wild_token k) (drop (at + 1) text))
+  pub enters_one : {V : Type 0} (at : ℕ) (behind : Bool → Bool) (old mid new : Nodes V) → at < length text → is_dot (get_or text at 0) ≡ true → ((k : Bool) → behind k ≡ is_beginning (wild_token k) (drop (at + 1) text))
       → EntersEach (λ q. is_before_dot_of at q text) (λ k q. is_wild_behind k at q text) old mid → Enters (take at text) behind mid new
       → EntersEach (λ q. is_before_dot_of (at + 1) q text) (λ k q. is_wild_behind k (at + 1) q text) old new
   enters_one at behind old mid new within dot known so one = record {
@@ -79,7 +79,7 @@ module _ (text : List ℕ) where
               one.wilds k q (so.marked k q (and_both (is_before_dot_of at q text) (is_beginning (wild_token k) (drop (length q + 1) text)) earlier behind_q))
         ]
 
-  pub enters_none : (at : ℕ) (old mid : Nodes) → is_dot (get_or text at 0) ≡ false → EntersEach (λ q. is_before_dot_of at q text) (λ k q. is_wild_behind k at q text) old mid → EntersEach (λ q. is_before_dot_of (at + 1) q text) (λ k q. is_wild_behind k (at + 1) q text) old mid
+  pub enters_none : {V : Type 0} (at : ℕ) (old mid : Nodes V) → is_dot (get_or text at 0) ≡ false → EntersEach (λ q. is_before_dot_of at q text) (λ k q. is_wild_behind k at q text) old mid → EntersEach (λ q. is_before_dot_of (at + 1) q text) (λ k q. is_wild_behind k (at + 1) q text) old mid
   enters_none at old mid other so = record {
     counts = λ q. so.counts q ∙ ap (λ b. below_at old q + one_if b) (sym (none_more text at q other));
     values = so.values;
@@ -88,17 +88,17 @@ module _ (text : List ℕ) where
   }
 
   -- what may leave at the end may leave at its turn
-  pub still_held : (at end : ℕ) (old mid : Nodes) → at < end → end ≤ length text → is_dot (get_or text at 0) ≡ true → CanLeaveEach (λ q. is_before_dot_of end q text) old → LeavesEach (λ q. is_before_dot_of at q text) old mid
-      → (0 < below_at mid (take at text)) × (below_at mid (take at text) ≡ 1 → values_at mid (take at text) ≡ [])
+  pub still_held : {V : Type 0} (at end : ℕ) (old mid : Nodes V) → at < end → end ≤ length text → is_dot (get_or text at 0) ≡ true → CanLeaveEach (λ q. is_before_dot_of end q text) old → LeavesEach (λ q. is_before_dot_of at q text) old mid
+      → (0 < below_at mid (take at text)) × (below_at mid (take at text) ≡ 1 → length (values_at mid (take at text)) ≡ 0)
   still_held at end old mid below within dot can so =
       let this : is_before_dot_of end (take at text) text ≡ true = before_this text at end (omega arith) below dot in
       let same : below_at mid (take at text) ≡ below_at old (take at text) = so.counts (take at text) ∙ ap (λ b. below_at old (take at text) - one_if b) (not_before_itself text at (omega arith)) ∙ less_none (below_at old (take at text)) in
       let held = can.held (take at text) this in
-      (omega arith, λ one. so.values (take at text) ∙ can.last_is_empty (take at text) this (sym same ∙ one)) where
+      (omega arith, λ one. ap length (so.values (take at text)) ∙ can.last_is_empty (take at text) this (sym same ∙ one)) where
         less_none : (a : ℕ) → a - 0 ≡ a
         less_none a = omega arith
 
-  pub enters_all : (behind : Bool → Bool) (old mid new : Nodes) → EntersEach (λ q. is_before_dot_of (length text) q text) (λ k q. is_wild_behind k (length text) q text) old mid → Enters text behind mid new
+  pub enters_all : {V : Type 0} (behind : Bool → Bool) (old mid new : Nodes V) → EntersEach (λ q. is_before_dot_of (length text) q text) (λ k q. is_wild_behind k (length text) q text) old mid → Enters text behind mid new
       → EntersEach (λ q. is_beginning q text) (λ k q. is_beginning (with_wild k q) text) old new
   enters_all behind old mid new so one = record {
     counts = λ q. one.counts q ∙ ap (λ n. n + one_if (bytes_eq text q)) (so.counts q) ∙ plus_twice (below_at old q) (one_if (is_before_dot_of (length text) q text)) (one_if (bytes_eq text q)) ∙ ap (λ n. below_at old q + n) (sym (all_beginnings q text));
@@ -107,7 +107,7 @@ module _ (text : List ℕ) where
     marked = λ k q mark. one.wilds k q (so.marked k q (ap (λ b. b && is_beginning (wild_token k) (drop (length q + 1) text)) (all_before q text) ∙ sym (behind_dot q (wild_token k) text) ∙ mark));
   }
 
-  pub leaves_all : (old mid new : Nodes) → LeavesEach (λ q. is_before_dot_of (length text) q text) old mid → Leaves text mid new → LeavesEach (λ q. is_beginning q text) old new
+  pub leaves_all : {V : Type 0} (old mid new : Nodes V) → LeavesEach (λ q. is_before_dot_of (length text) q text) old mid → Leaves text mid new → LeavesEach (λ q. is_beginning q text) old new
   leaves_all old mid new so one = record {
     counts = λ q. one.counts q ∙ ap (λ n. n - one_if (bytes_eq text q)) (so.counts q) ∙ less_twice (below_at old q) (one_if (is_before_dot_of (length text) q text)) (one_if (bytes_eq text q)) ∙ ap (λ n. below_at old q - n) (sym (all_beginnings q text));
     values = λ q. one.values q ∙ so.values q;

@@ -1,5 +1,5 @@
 -- What a change at one key leaves at any bytes.
-use Rattle.std.proofs.Common.{◌≡◌, ℕ, ◌+◌, ◌-◌, ◌<◌, Bool, true, false, cond, ◌||◌, List, refl, ap, sym, subst, ◌∙◌, arith, inl, inr}
+use Rattle.std.proofs.Common.{◌≡◌, ℕ, ◌+◌, ◌-◌, ◌<◌, Bool, true, false, cond, ◌||◌, List, [], ◌∷◌, length, refl, ap, sym, subst, ◌∙◌, arith, inl, inr}
 use Rattle.std.specs.Prelude.{Option}
 use Rattle.std.specs.Str.{bytes_eq}
 use Rattle.std.specs.Map.{lookup, KeepsOthers, IsKeyTest, AreApart}
@@ -18,12 +18,12 @@ same_bytes x y = bytes_eq x.items y.items
 apart : (bs cs ks : List ℕ) → bytes_eq bs cs ≡ false → bytes_eq bs ks ≡ true → bytes_eq cs ks ≡ false
 apart bs cs ks n y = nat_list_eq_equiv.symm cs ks ∙ sym (nat_list_eq_equiv.congr bs ks cs y) ∙ n
 
-others : (test : Vec ℕ Global → Bool) (old new : List (Vec ℕ Global × Node)) → KeepsOthers same_bytes test old new → (other : Vec ℕ Global → Bool) → IsKeyTest same_bytes other → AreApart test other → lookup other new ≡ lookup other old
+others : {V : Type 0} (test : Vec ℕ Global → Bool) (old new : List (Vec ℕ Global × Node V)) → KeepsOthers same_bytes test old new → (other : Vec ℕ Global → Bool) → IsKeyTest same_bytes other → AreApart test other → lookup other new ≡ lookup other old
 unfolding KeepsOthers
 others test old new h = h
 
 -- what the map has at any bytes, after a change at these
-pub updated : (bs : List ℕ) (m n : Nodes) (w : Option Node) → UpdatesBy same_bytes (has_bytes bs) m n w → (q : List ℕ) → node_at n q ≡ cond (bytes_eq bs q) w (node_at m q)
+pub updated : {V : Type 0} (bs : List ℕ) (m n : Nodes V) (w : Option (Node V)) → UpdatesBy same_bytes (has_bytes bs) m n w → (q : List ℕ) → node_at n q ≡ cond (bytes_eq bs q) w (node_at m q)
 updated bs m n w h q =
     elim (cases_Bool (bytes_eq bs q)) [
       | inl y ↦ ap (node_at n) (sym ((bytes_decides bs q).0 y)) ∙ h.1 ∙ sym (cond-true (bytes_eq bs q) w (node_at m q) y)
@@ -31,7 +31,7 @@ updated bs m n w h q =
     ]
 
 -- the counts and the values at any bytes, where those at bs change to these
-counted : (bs : List ℕ) (m n : Nodes) (w : Option Node) → ((q : List ℕ) → node_at n q ≡ cond (bytes_eq bs q) w (node_at m q)) → (below : ℕ → ℕ → ℕ) (here : count_of w ≡ below (below_at m bs) 1) (there : (a : ℕ) → below a 0 ≡ a)
+counted : {V : Type 0} (bs : List ℕ) (m n : Nodes V) (w : Option (Node V)) → ((q : List ℕ) → node_at n q ≡ cond (bytes_eq bs q) w (node_at m q)) → (below : ℕ → ℕ → ℕ) (here : count_of w ≡ below (below_at m bs) 1) (there : (a : ℕ) → below a 0 ≡ a)
     → values_of w ≡ values_at m bs → (q : List ℕ) → (below_at n q ≡ below (below_at m q) (one_if (bytes_eq bs q))) × (values_at n q ≡ values_at m q)
 counted bs m n w h below here there values q =
     elim (cases_Bool (bytes_eq bs q)) [
@@ -51,7 +51,7 @@ less_none : (a : ℕ) → a - 0 ≡ a
 less_none a = omega arith
 
 -- the wildcards at any bytes, where those at bs stay as long as something is held below
-below_kept : (bs : List ℕ) (m n : Nodes) (w : Option Node) → UpdatesBy same_bytes (has_bytes bs) m n w → ((k : Bool) → 0 < count_of w → has_wild k m bs ≡ true → wild_of k w ≡ true) → KeepsWildsBelow m n
+below_kept : {V : Type 0} (bs : List ℕ) (m n : Nodes V) (w : Option (Node V)) → UpdatesBy same_bytes (has_bytes bs) m n w → ((k : Bool) → 0 < count_of w → has_wild k m bs ≡ true → wild_of k w ≡ true) → KeepsWildsBelow m n
 below_kept bs m n w h keeps k q some had =
     elim (cases_Bool (bytes_eq bs q)) [
       | inl y ↦
@@ -61,7 +61,7 @@ below_kept bs m n w h keeps k q some had =
     ]
 
 -- the same, where they stay anyway
-wilds_kept : (bs : List ℕ) (m n : Nodes) (w : Option Node) → UpdatesBy same_bytes (has_bytes bs) m n w → ((k : Bool) → has_wild k m bs ≡ true → wild_of k w ≡ true) → KeepsWilds m n
+wilds_kept : {V : Type 0} (bs : List ℕ) (m n : Nodes V) (w : Option (Node V)) → UpdatesBy same_bytes (has_bytes bs) m n w → ((k : Bool) → has_wild k m bs ≡ true → wild_of k w ≡ true) → KeepsWilds m n
 wilds_kept bs m n w h keeps k q had =
     elim (cases_Bool (bytes_eq bs q)) [
       | inl y ↦ ap (wild_of k) (updated bs m n w h q ∙ cond-true (bytes_eq bs q) w (node_at m q) y) ∙ keeps k (ap (has_wild k m) ((bytes_decides bs q).0 y) ∙ had)
@@ -85,24 +85,24 @@ pub in_second : (k : Bool) (a b c : Wilds) → c.one ≡ (a.one || b.one) → c.
 in_second true a b c one rest so = or_right a.one b.one c.one one so
 in_second false a b c one rest so = or_right a.rest b.rest c.rest rest so
 
-pub entered : (bs : List ℕ) (behind : Bool → Bool) (m n : Nodes) (w : Option Node) → UpdatesBy same_bytes (has_bytes bs) m n w → count_of w ≡ below_at m bs + 1 → values_of w ≡ values_at m bs
+pub entered : {V : Type 0} (bs : List ℕ) (behind : Bool → Bool) (m n : Nodes V) (w : Option (Node V)) → UpdatesBy same_bytes (has_bytes bs) m n w → count_of w ≡ below_at m bs + 1 → values_of w ≡ values_at m bs
     → ((k : Bool) → has_wild k m bs ≡ true → wild_of k w ≡ true) → ((k : Bool) → behind k ≡ true → wild_of k w ≡ true) → Enters bs behind m n
 entered bs behind m n w h here values keeps marks =
     let all = counted bs m n w (updated bs m n w h) (λ a b. a + b) here plus_none values in
     record { counts = λ q. (all q).0; values = λ q. (all q).1; wilds = wilds_kept bs m n w h keeps; marked = λ k so. ap (wild_of k) h.1 ∙ marks k so }
 
-pub left : (bs : List ℕ) (m n : Nodes) (w : Option Node) → UpdatesBy same_bytes (has_bytes bs) m n w → count_of w ≡ below_at m bs - 1 → values_of w ≡ values_at m bs
+pub left : {V : Type 0} (bs : List ℕ) (m n : Nodes V) (w : Option (Node V)) → UpdatesBy same_bytes (has_bytes bs) m n w → count_of w ≡ below_at m bs - 1 → values_of w ≡ values_at m bs
     → ((k : Bool) → 0 < count_of w → has_wild k m bs ≡ true → wild_of k w ≡ true) → Leaves bs m n
 left bs m n w h here values keeps =
     let all = counted bs m n w (updated bs m n w h) (λ a b. a - b) here less_none values in
     record { counts = λ q. (all q).0; values = λ q. (all q).1; wilds = below_kept bs m n w h keeps }
 
-pub same : (bs : List ℕ) (m n : Nodes) (w : Option Node) → UpdatesBy same_bytes (has_bytes bs) m n w → count_of w ≡ below_at m bs → values_of w ≡ values_at m bs → ((k : Bool) → has_wild k m bs ≡ true → wild_of k w ≡ true) → IsSame m n
+pub same : {V : Type 0} (bs : List ℕ) (m n : Nodes V) (w : Option (Node V)) → UpdatesBy same_bytes (has_bytes bs) m n w → count_of w ≡ below_at m bs → values_of w ≡ values_at m bs → ((k : Bool) → has_wild k m bs ≡ true → wild_of k w ≡ true) → IsSame m n
 same bs m n w h here values keeps =
     let all = counted bs m n w (updated bs m n w h) (λ a b. a) here (λ a. refl) values in
     record { counts = λ q. (all q).0; values = λ q. (all q).1; wilds = λ k q some. wilds_kept bs m n w h keeps k q }
 
-pub valued : (bs vs : List ℕ) (m n : Nodes) (w : Option Node) → UpdatesBy same_bytes (has_bytes bs) m n w → count_of w ≡ below_at m bs → values_of w ≡ vs → ((k : Bool) → has_wild k m bs ≡ true → wild_of k w ≡ true) → Values bs vs m n
+pub valued : {V : Type 0} (bs : List ℕ) (vs : List V) (m n : Nodes V) (w : Option (Node V)) → UpdatesBy same_bytes (has_bytes bs) m n w → count_of w ≡ below_at m bs → values_of w ≡ vs → ((k : Bool) → has_wild k m bs ≡ true → wild_of k w ≡ true) → Values bs vs m n
 valued bs vs m n w h here values keeps = record { counts = λ q. (all q).0; values_are = λ q. (all q).1; wilds = wilds_kept bs m n w h keeps } where
   all : (q : List ℕ) → (below_at n q ≡ below_at m q) × (values_at n q ≡ cond (bytes_eq bs q) vs (values_at m q))
   all q =
@@ -118,7 +118,7 @@ valued bs vs m n w h here values keeps = record { counts = λ q. (all q).0; valu
       ]
 
 -- where nothing changed
-pub unvalued : (bs vs : List ℕ) (m : Nodes) → vs ≡ values_at m bs → Values bs vs m m
+pub unvalued : {V : Type 0} (bs : List ℕ) (vs : List V) (m : Nodes V) → vs ≡ values_at m bs → Values bs vs m m
 unvalued bs vs m is = record { counts = λ q. refl; values_are = at; wilds = λ k q had. had } where
   at : (q : List ℕ) → values_at m q ≡ cond (bytes_eq bs q) vs (values_at m q)
   at q =
@@ -126,3 +126,7 @@ unvalued bs vs m is = record { counts = λ q. refl; values_are = at; wilds = λ 
         | inl y ↦ ap (values_at m) (sym ((bytes_decides bs q).0 y)) ∙ sym is ∙ sym (cond-true (bytes_eq bs q) vs (values_at m q) y)
         | inr e ↦ sym (cond-false (bytes_eq bs q) vs (values_at m q) e)
       ]
+
+pub none_left : {V : Type 0} (xs : List V) → length xs ≡ 0 → xs ≡ []
+none_left [] e = refl
+none_left (x ∷ xs) e = absurd (omega arith)

@@ -9,7 +9,7 @@ use crate::wilds::Wilds;
 use std::alloc::{AllocError, Global};
 
 /// Counts one less at each beginning before a dot among the first `end` bytes. Takes no memory.
-fn leave_before(nodes: &mut Nodes, text: &[u8], end: usize)
+fn leave_before<V: Drop>(nodes: &mut Nodes<V>, text: &[u8], end: usize)
     requires within { end ≤ length text.now }
     requires held { CanLeaveEach (λ q. is_before_dot_of end q text.now) nodes.old }
     ensures { LeavesEach (λ q. is_before_dot_of end q text.now) nodes.old nodes.new }
@@ -22,7 +22,7 @@ fn leave_before(nodes: &mut Nodes, text: &[u8], end: usize)
 }
 
 /// Counts one more at each beginning before a dot.
-fn enter_before(alloc: Global, nodes: &mut Nodes, text: &[u8]) -> Result<(), AllocError>
+fn enter_before<V: Drop>(alloc: Global, nodes: &mut Nodes<V>, text: &[u8]) -> Result<(), AllocError>
     ensures ok { OnOk result (EntersEach (λ q. is_before_dot_of (length text.now) q text.now) (λ k q. is_wild_behind k (length text.now) q text.now) nodes.old nodes.new) }
     ensures err { OnErr result (IsSame nodes.old nodes.new) }
 {
@@ -39,7 +39,11 @@ fn enter_before(alloc: Global, nodes: &mut Nodes, text: &[u8]) -> Result<(), All
 }
 
 /// Counts one more at each beginning of the text.
-pub(crate) fn enter_all(alloc: Global, nodes: &mut Nodes, text: &[u8]) -> Result<(), AllocError>
+pub(crate) fn enter_all<V: Drop>(
+    alloc: Global,
+    nodes: &mut Nodes<V>,
+    text: &[u8],
+) -> Result<(), AllocError>
     ensures ok { OnOk result (EntersEach (λ q. is_beginning q text.now) (λ k q. is_beginning (with_wild k q) text.now) nodes.old nodes.new) }
     ensures err { OnErr result (IsSame nodes.old nodes.new) }
 {
@@ -52,7 +56,7 @@ pub(crate) fn enter_all(alloc: Global, nodes: &mut Nodes, text: &[u8]) -> Result
 }
 
 /// Counts one less at each beginning of the text. Takes no memory.
-pub(crate) fn leave_all(nodes: &mut Nodes, text: &[u8])
+pub(crate) fn leave_all<V: Drop>(nodes: &mut Nodes<V>, text: &[u8])
     requires held { CanLeaveEach (λ q. is_beginning q text.now) nodes.old }
     ensures { LeavesEach (λ q. is_beginning q text.now) nodes.old nodes.new }
 {

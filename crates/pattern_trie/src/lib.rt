@@ -12,37 +12,40 @@ use crate::nodes::{Nodes, push_value, take_value};
 use crate::walks::gather;
 use std::alloc::{AllocError, Global};
 use std::collections::HashMap;
+use std::hash::BuildHasherDefault;
 use subj::{Pattern, Subject};
 
 mod beginnings;
 mod node;
 mod nodes;
+mod text_hasher;
 mod walks;
 mod wilds;
 
-/// Values, each held under a pattern.
+/// Values, each held under a pattern: serials of subscriptions, or whatever else is copied and compared
+/// by `==`.
 #[derive(Drop)]
-pub struct PatternTrie {
+pub struct PatternTrie<V> {
     alloc: Global,
-    nodes: Nodes,
-    ghost filled: { ∥ ((held : List Held) × Holds held nodes) ∥₁ },
+    nodes: Nodes<V>,
+    ghost filled: { ∥ ((held : List (Held V)) × Holds held nodes) ∥₁ },
 }
 
-impl PatternTrie {
+impl<V: Copy + PartialEq> PatternTrie<V> {
     /// A trie that holds nothing.
-    pub fn new(alloc: Global) -> PatternTrie
+    pub fn new(alloc: Global) -> PatternTrie<V>
         ensures { Holds [] result.nodes }
     {
         PatternTrie {
             alloc,
-            nodes: HashMap::new(alloc),
+            nodes: HashMap::with_hasher(alloc, BuildHasherDefault::new()),
         }
     }
 
     /// Holds one more value. Want of memory leaves the trie as it was.
-    pub fn insert(&mut self, pattern: &Pattern, value: u64) -> Result<(), AllocError>
-        ensures ok { (held : List Held) → Holds held self.old.nodes → OnOk result (Holds (held ++ (pattern.now, value) ∷ []) self.new.nodes) }
-        ensures err { (held : List Held) → Holds held self.old.nodes → OnErr result (Holds held self.new.nodes) }
+    pub fn insert(&mut self, pattern: &Pattern, value: V) -> Result<(), AllocError>
+        ensures ok { (held : List (Held V)) → Holds held self.old.nodes → OnOk result (Holds (held ++ (pattern.now, value) ∷ []) self.new.nodes) }
+        ensures err { (held : List (Held V)) → Holds held self.old.nodes → OnErr result (Holds held self.new.nodes) }
     {
         let text = pattern.bytes();
         enter_all(self.alloc, &mut self.nodes, text)?;
@@ -53,20 +56,20 @@ impl PatternTrie {
         Ok(())
     }
 
-    /// Holds the first such value under the pattern no longer. Takes no memory.
-    pub fn remove(&mut self, pattern: &Pattern, value: u64)
-        ensures { (held : List Held) → Holds held self.old.nodes → Holds (without_held pattern.now value held) self.new.nodes }
+    /// Holds the first value under the pattern that is equal to this one no longer. Takes no memory.
+    pub fn remove(&mut self, pattern: &Pattern, value: V)
+        ensures { (held : List (Held V)) → Holds held self.old.nodes → Holds (without_held V.eq pattern.now value held) self.new.nodes }
     {
         let text = pattern.bytes();
-        if take_value(&mut self.nodes, text, value) {
+        if take_value(&mut self.nodes, text, &value) {
             leave_all(&mut self.nodes, text);
         }
     }
 
     /// Adds the values held under the patterns that match the subject, once for each time that they
     /// are held. In which order they come is not said.
-    pub fn matching(&self, subject: &Subject, found: &mut Vec<u64>) -> Result<(), AllocError>
-        ensures { (held : List Held) → Holds held self.now.nodes → OnOk result (IsPermutation (found.old.items ++ matched subject.now held) found.new.items) }
+    pub fn matching(&self, subject: &Subject, found: &mut Vec<V>) -> Result<(), AllocError>
+        ensures { (held : List (Held V)) → Holds held self.now.nodes → OnOk result (IsPermutation (found.old.items ++ matched subject.now held) found.new.items) }
     {
         let text = subject.bytes();
         let mut path = Vec::with_capacity(self.alloc, text.len())?;
@@ -76,7 +79,7 @@ impl PatternTrie {
     /// How many nodes there are: one for each beginning of the token lists of the patterns under
     /// which something is held, and one for the beginning without a token. Takes no memory.
     pub fn nodes(&self) -> usize
-        ensures { (held : List Held) → Holds held self.now.nodes → result ≡ node_count held }
+        ensures { (held : List (Held V)) → Holds held self.now.nodes → result ≡ node_count held }
     {
         self.nodes.len() + 1
     }

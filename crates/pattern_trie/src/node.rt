@@ -6,11 +6,11 @@ use crate::wilds::Wilds;
 
 /// What is held at a beginning and below it.
 #[derive(Drop)]
-pub(crate) struct Node {
+pub(crate) struct Node<V> {
     /// How many values are held at patterns that begin so.
     pub(crate) below: usize,
     /// Those held at the pattern that is this beginning, in order of insertion.
-    pub(crate) values: Vec<u64>,
+    pub(crate) values: Vec<V>,
     /// The wildcards that patterns had right behind this beginning since there is a node for it.
     pub(crate) wilds: Wilds,
     ghost some: { 0 < below },

@@ -1,21 +1,22 @@
 //! The nodes of a trie, each by the bytes of the beginning that it stands for.
 
-ghost use Rattle.std.specs.Prelude.{◌≡◌, ℕ, ◌+◌, ◌-◌, ◌<◌, ◌∷◌, [], ◌++◌, IfOk, OnOk, OnErr, is_some, position, remove, if◌then◌else◌};
-ghost use Rattle.std.specs.Bool.{nat_eq};
+ghost use Rattle.std.specs.Prelude.{◌≡◌, ℕ, ◌+◌, ◌-◌, ◌<◌, ◌∷◌, [], ◌++◌, length, IfOk, OnOk, OnErr, is_some, position, remove, if◌then◌else◌};
 ghost use Rattle.std.specs.List.{list_any};
 ghost use Rattle.pattern_trie.specs.Nodes.{below_at, values_at, node_at, is_in, Enters, Leaves, IsSame, Values, without_value};
 
 use crate::node::Node;
+use crate::text_hasher::TextHasher;
 use crate::wilds::Wilds;
 use std::alloc::{AllocError, Global};
 use std::collections::HashMap;
+use std::hash::BuildHasherDefault;
 
-pub(crate) type Nodes = HashMap<Vec<u8>, Node>;
+pub(crate) type Nodes<V> = HashMap<Vec<u8>, Node<V>, BuildHasherDefault<TextHasher>>;
 
 /// Counts one more value below, at a pattern that goes on with these wildcards.
-pub(crate) fn enter(
+pub(crate) fn enter<V: Drop>(
     alloc: Global,
-    nodes: &mut Nodes,
+    nodes: &mut Nodes<V>,
     text: &[u8],
     wilds: Wilds,
 ) -> Result<(), AllocError>
@@ -38,7 +39,7 @@ pub(crate) fn enter(
 }
 
 /// How many values are held at patterns that begin so.
-fn below(nodes: &Nodes, text: &[u8]) -> usize
+fn below<V: Drop>(nodes: &Nodes<V>, text: &[u8]) -> usize
     ensures { result ≡ below_at nodes.now text.now }
 {
     match nodes.get(text) {
@@ -48,9 +49,9 @@ fn below(nodes: &Nodes, text: &[u8]) -> usize
 }
 
 /// Counts one less below. Takes no memory.
-pub(crate) fn leave(nodes: &mut Nodes, text: &[u8])
+pub(crate) fn leave<V: Drop>(nodes: &mut Nodes<V>, text: &[u8])
     requires held { 0 < below_at nodes.old text.now }
-    requires last_is_empty { below_at nodes.old text.now ≡ 1 → values_at nodes.old text.now ≡ [] }
+    requires last_is_empty { below_at nodes.old text.now ≡ 1 → length (values_at nodes.old text.now) ≡ 0 }
     ensures { Leaves text.now nodes.old nodes.new }
 {
     if below(nodes, text) == 1 {
@@ -63,7 +64,11 @@ pub(crate) fn leave(nodes: &mut Nodes, text: &[u8])
 }
 
 /// Puts one more value behind those at the text.
-pub(crate) fn push_value(nodes: &mut Nodes, text: &[u8], value: u64) -> Result<(), AllocError>
+pub(crate) fn push_value<V: Drop>(
+    nodes: &mut Nodes<V>,
+    text: &[u8],
+    value: V,
+) -> Result<(), AllocError>
     requires held { 0 < below_at nodes.old text.now }
     ensures ok { OnOk result (Values text.now (values_at nodes.old text.now ++ value ∷ []) nodes.old nodes.new) }
     ensures err { OnErr result (IsSame nodes.old nodes.new) }
@@ -77,16 +82,16 @@ pub(crate) fn push_value(nodes: &mut Nodes, text: &[u8], value: u64) -> Result<(
 }
 
 /// Where the first such value of a list stands.
-fn place_of(values: &[u64], value: u64) -> Option<usize>
-    ensures { result ≡ position (nat_eq value) values.now }
+fn place_of<V: PartialEq>(values: &[V], value: &V) -> Option<usize>
+    ensures { result ≡ position (V.eq value.now) values.now }
 {
-    values.iter().position(|held| value == *held)
+    values.iter().position(|held| value == held)
 }
 
 /// Takes the first such value out of a list, where there is one.
-fn remove_first(values: &mut Vec<u64>, value: u64) -> bool
-    ensures some { result ≡ list_any (nat_eq value) values.old.items }
-    ensures left { values.new.items ≡ without_value value values.old.items }
+fn remove_first<V: PartialEq + Drop>(values: &mut Vec<V>, value: &V) -> bool
+    ensures some { result ≡ list_any (V.eq value.now) values.old.items }
+    ensures left { values.new.items ≡ without_value V.eq value.now values.old.items }
 {
     match place_of(values, value) {
         Some(place) => {
@@ -98,9 +103,9 @@ fn remove_first(values: &mut Vec<u64>, value: u64) -> bool
 }
 
 /// Takes out the first such value at the text, where there is one. Takes no memory.
-pub(crate) fn take_value(nodes: &mut Nodes, text: &[u8], value: u64) -> bool
-    ensures some { result ≡ list_any (nat_eq value) (values_at nodes.old text.now) }
-    ensures left { Values text.now (without_value value (values_at nodes.old text.now)) nodes.old nodes.new }
+pub(crate) fn take_value<V: PartialEq + Drop>(nodes: &mut Nodes<V>, text: &[u8], value: &V) -> bool
+    ensures some { result ≡ list_any (V.eq value.now) (values_at nodes.old text.now) }
+    ensures left { Values text.now (without_value V.eq value.now (values_at nodes.old text.now)) nodes.old nodes.new }
 {
     match nodes.get_mut(text) {
         Some(node) => remove_first(&mut node.values, value),

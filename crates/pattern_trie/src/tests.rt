@@ -6,7 +6,7 @@ use std::test::Fail;
 use subj::{Pattern, Subject};
 
 /// The values found for a subject behind a number that was there, in rising order.
-fn found(alloc: Global, trie: &PatternTrie, subject: &[u8]) -> Result<Vec<u64>, Fail> {
+fn found(alloc: Global, trie: &PatternTrie<u64>, subject: &[u8]) -> Result<Vec<u64>, Fail> {
     let subject = Subject::read(alloc, subject)?;
     let mut found = Vec::from_slice(alloc, &[0])?;
     trie.matching(&subject, &mut found)?;
@@ -14,13 +14,23 @@ fn found(alloc: Global, trie: &PatternTrie, subject: &[u8]) -> Result<Vec<u64>, 
     Ok(found)
 }
 
-fn insert(alloc: Global, trie: &mut PatternTrie, pattern: &[u8], value: u64) -> Result<(), Fail> {
+fn insert(
+    alloc: Global,
+    trie: &mut PatternTrie<u64>,
+    pattern: &[u8],
+    value: u64,
+) -> Result<(), Fail> {
     let pattern = Pattern::read(alloc, pattern)?;
     trie.insert(&pattern, value)?;
     Ok(())
 }
 
-fn remove(alloc: Global, trie: &mut PatternTrie, pattern: &[u8], value: u64) -> Result<(), Fail> {
+fn remove(
+    alloc: Global,
+    trie: &mut PatternTrie<u64>,
+    pattern: &[u8],
+    value: u64,
+) -> Result<(), Fail> {
     let pattern = Pattern::read(alloc, pattern)?;
     trie.remove(&pattern, value);
     Ok(())

@@ -23,7 +23,7 @@ fn push_token(path: &mut Vec<u8>, token: &[u8]) -> Result<(), AllocError>
 }
 
 /// Adds what is held under a pattern.
-fn add_values(nodes: &Nodes, path: &[u8], found: &mut Vec<u64>) -> Result<(), AllocError>
+fn add_values<V: Copy>(nodes: &Nodes<V>, path: &[u8], found: &mut Vec<V>) -> Result<(), AllocError>
     ensures { OnOk result (found.new.items ≡ found.old.items ++ values_at nodes.now path.now) }
 {
     match nodes.get(path) {
@@ -34,7 +34,7 @@ fn add_values(nodes: &Nodes, path: &[u8], found: &mut Vec<u64>) -> Result<(), Al
 
 /// The wildcards that there may be a node for right behind the path, or None where nothing is held
 /// under patterns that begin with it.
-fn wilds_behind(nodes: &Nodes, path: &[u8]) -> Option<Wilds>
+fn wilds_behind<V: Copy>(nodes: &Nodes<V>, path: &[u8]) -> Option<Wilds>
     ensures none { IfNone result ((is_empty path.now ≡ false) × (below_at nodes.now path.now ≡ 0)) }
     ensures some { IfSome result (λ wilds. (k : Bool) → is_in k wilds ≡ false → (is_empty path.now ≡ false) × (has_wild k nodes.now path.now ≡ false)) }
 {
@@ -48,11 +48,11 @@ fn wilds_behind(nodes: &Nodes, path: &[u8]) -> Option<Wilds>
 }
 
 /// Adds what is held under the path and `>`, where that may be something.
-fn add_rest(
-    nodes: &Nodes,
+fn add_rest<V: Copy>(
+    nodes: &Nodes<V>,
     path: &mut Vec<u8>,
     wilds: Wilds,
-    found: &mut Vec<u64>,
+    found: &mut Vec<V>,
 ) -> Result<(), AllocError>
     ensures path { OnOk result (path.new.items ≡ path.old.items) }
     ensures found { OnOk result (found.new.items ≡ found.old.items ++ (if wilds.rest then values_at nodes.now (dotted path.old.items (codes ">")) else [])) }
@@ -70,14 +70,14 @@ fn add_rest(
 /// Adds what is held under the patterns that begin with the path and go on as the tokens behind it
 /// want.
 #[tactic(auto, using(crate::proofs::Gathers::gathered_step, crate::proofs::Gathers::gathered_none, crate::proofs::Gathers::dotted_back))]
-pub(crate) fn gather(
-    nodes: &Nodes,
+pub(crate) fn gather<V: Copy>(
+    nodes: &Nodes<V>,
     path: &mut Vec<u8>,
     behind: Option<&[u8]>,
-    found: &mut Vec<u64>,
+    found: &mut Vec<V>,
 ) -> Result<(), AllocError>
     ensures path { OnOk result (path.new.items ≡ path.old.items) }
-    ensures found { (held : List Held) → Holds held nodes.now → OnOk result (found.new.items ≡ found.old.items ++ gathered held path.old.items (matchers (tokens_behind (option_copied behind.entry)))) }
+    ensures found { (held : List (Held V)) → Holds held nodes.now → OnOk result (found.new.items ≡ found.old.items ++ gathered held path.old.items (matchers (tokens_behind (option_copied behind.entry)))) }
 {
     let Some(text) = behind else {
         return add_values(nodes, path, found);

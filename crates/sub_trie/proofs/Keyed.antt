@@ -98,14 +98,6 @@ keyed_set test change same_serial (e ∷ es) s keyed found =
           ∙ and_both (nat_eq e.0 e.1.serial) (is_keyed (set_value test es (change s))) first (keyed_set test change same_serial es s rest found_there)
     ]
 
-pub set_none : (test : ℕ → Bool) (w : Subscription) (es : List (ℕ × Subscription)) → lookup test es ≡ None → set_value test es w ≡ es
-set_none test w [] none = refl
-set_none test w (e ∷ es) none =
-    elim (test e.0) as (λ b. cond b (Some e.1) (lookup test es) ≡ None → cond b ((e.0, w) ∷ es) (e ∷ set_value test es w) ≡ e ∷ es) [
-      | true ↦ λ found. cc
-      | false ↦ λ found. ap (λ l. e ∷ l) (set_none test w es found)
-    ] none
-
 pub changed_nowhere : (n : ℕ) (change : Subscription → Subscription) (subs : List Subscription) → find (has_serial n) subs ≡ None → with_changed n change subs ≡ subs
 changed_nowhere n change [] none = refl
 changed_nowhere n change (s ∷ subs) none =

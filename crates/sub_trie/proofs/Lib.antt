@@ -3,3 +3,4 @@ mod Orders
 mod Keyed
 mod Owned
 mod Below
+mod Closing

@@ -1,5 +1,5 @@
 -- The serials of the subscriptions that a test holds of: what a change to the list changes.
-use Rattle.std.proofs.Common.{◌≡◌, ℕ, ◌<◌, Bool, true, false, cond, not, ◌&&◌, List, [], ◌∷◌, ◌++◌, length, map, Option, Some, None, Ok, Err, refl, ap, sym, ◌∙◌, arith, inl, inr, All}
+use Rattle.std.proofs.Common.{◌≡◌, ℕ, ◌<◌, Bool, true, false, cond, not, ◌&&◌, List, [], ◌∷◌, ◌++◌, map, Some, None, Ok, Err, refl, ap, sym, ◌∙◌, arith, inl, inr, All}
 use Rattle.std.specs.Prelude.{nat_eq, nat_lt, find, filter, unwrap_or, Result, OnOk, OnErr}
 use Rattle.std.specs.Result.{is_err}
 use Rattle.std.specs.declared.alloc.AllocError.{AllocError}
@@ -12,7 +12,7 @@ use Rattle.std.proofs.lemmas.Bool.{cases_Bool, cond-true, cond-false}
 use Rattle.std.proofs.lemmas.Bool.Decides.{nat_tests}
 use Rattle.std.proofs.lemmas.List.Elements.{recursion_from_All}
 use Rattle.sub_table.specs.declared.Subscription.{Subscription}
-use Rattle.sub_table.specs.Subscriptions.{has_serial, without_serial, with_changed, serial_of, serials_of, is_of, is_of_another, is_called}
+use Rattle.sub_table.specs.Subscriptions.{has_serial, without_serial, with_changed, serial_of, serials_of, is_of, is_called}
 use Rattle.sub_trie.specs.Groups.{first_of, is_other, called_eq, serials_called}
 use Rattle.sub_trie.specs.Rising.{all_above, is_rising}
 use Rattle.sub_trie.proofs.Risen.{and_first, and_second}
@@ -140,27 +140,6 @@ last_is sub subs below = last_found sub subs (recursion_from_All (λ (other : Su
 
 -- ---- all of a connection
 
-pub others_left : (conn n : ℕ) (subs : List Subscription) (sub : Subscription) → find (has_serial n) subs ≡ Some sub → is_of conn sub ≡ true → filter (is_of_another conn) (without_serial n subs) ≡ filter (is_of_another conn) subs
-others_left conn n [] sub found of = cc
-others_left conn n (s ∷ subs) sub found of =
-    elim (cases_Bool (has_serial n s)) [
-      | inl so ↦
-          let is : s ≡ sub = first_is s sub (sym (cond-true (has_serial n s) (Some s) (find (has_serial n) subs) so) ∙ found) in
-          ap (filter (is_of_another conn)) (cond-true (has_serial n s) subs (s ∷ without_serial n subs) so)
-          ∙ sym (cond-false (is_of_another conn s) (s ∷ filter (is_of_another conn) subs) (filter (is_of_another conn) subs) (ap not (ap (is_of conn) is ∙ of)))
-      | inr other ↦
-          ap (filter (is_of_another conn)) (cond-false (has_serial n s) subs (s ∷ without_serial n subs) other)
-          ∙ ap (λ l. cond (is_of_another conn s) (s ∷ l) l) (others_left conn n subs sub (sym (cond-false (has_serial n s) (Some s) (find (has_serial n) subs) other) ∙ found) of)
-    ]
-
-pub none_left : (conn : ℕ) (subs : List Subscription) → find (is_of conn) subs ≡ None → filter (is_of_another conn) subs ≡ subs
-none_left conn [] none = refl
-none_left conn (s ∷ subs) none =
-    elim (is_of conn s) as (λ b. cond b (Some s) (find (is_of conn) subs) ≡ None → cond (not b) (s ∷ filter (is_of_another conn) subs) (filter (is_of_another conn) subs) ≡ s ∷ subs) [
-      | true ↦ λ e. cc
-      | false ↦ λ e. ap (λ l. s ∷ l) (none_left conn subs e)
-    ] none
-
 -- ---- a change that keeps serials, connections and ids
 
 pub changed_if : (p : Subscription → Bool) (n : ℕ) (change : Subscription → Subscription) → ((s : Subscription) → (change s).serial ≡ s.serial) → ((s : Subscription) → p (change s) ≡ p s) → (subs : List Subscription)
@@ -223,43 +202,6 @@ without_nowhere n (s ∷ subs) none =
       | true ↦ λ e. cc
       | false ↦ λ e. ap (λ l. s ∷ l) (without_nowhere n subs e)
     ] none
-
-pub shorter : (n : ℕ) (subs : List Subscription) (sub : Subscription) → find (has_serial n) subs ≡ Some sub → length (without_serial n subs) < length subs
-shorter n [] sub found = cc
-shorter n (s ∷ subs) sub found =
-    elim (has_serial n s) as (λ b. cond b (Some s) (find (has_serial n) subs) ≡ Some sub → length (cond b subs (s ∷ without_serial n subs)) < length (s ∷ subs)) [
-      | true ↦ λ e. omega arith
-      | false ↦ λ e. let rest = shorter n subs sub e in omega arith
-    ] found
-
-above_found : (m n : ℕ) (subs : List Subscription) (sub : Subscription) → all_above m subs ≡ true → find (has_serial n) subs ≡ Some sub → m < n
-above_found m n [] sub above found = cc
-above_found m n (s ∷ subs) sub above found =
-    elim (cases_Bool (has_serial n s)) [
-      | inl so ↦ let first = and_first (nat_lt m s.serial) (all_above m subs) above in grind (arith, nat_tests)
-      | inr other ↦ above_found m n subs sub (and_second (nat_lt m s.serial) (all_above m subs) above) (sym (cond-false (has_serial n s) (Some s) (find (has_serial n) subs) other) ∙ found)
-    ]
-
-pub first_of_conn : (conn n : ℕ) (subs : List Subscription) → is_rising subs ≡ true → option_map serial_of (find (is_of conn) subs) ≡ Some n → (sub : Subscription) × (find (has_serial n) subs ≡ Some sub) × (is_of conn sub ≡ true)
-first_of_conn conn n [] rising first = cc
-first_of_conn conn n (s ∷ subs) rising first =
-    elim (cases_Bool (is_of conn s)) [
-      | inl so ↦
-          let is : s.serial ≡ n = ap (λ o. unwrap_or o 0) (sym (ap (option_map serial_of) (cond-true (is_of conn s) (Some s) (find (is_of conn) subs) so)) ∙ first) in
-          let own : has_serial n s ≡ true = grind (arith, nat_tests) in
-          (s, cond-true (has_serial n s) (Some s) (find (has_serial n) subs) own, so)
-      | inr other ↦
-          let rest = first_of_conn conn n subs (and_second (all_above s.serial subs) (is_rising subs) rising) (sym (ap (option_map serial_of) (cond-false (is_of conn s) (Some s) (find (is_of conn) subs) other)) ∙ first) in
-          let below = above_found s.serial n subs rest.0 (and_first (all_above s.serial subs) (is_rising subs) rising) rest.1 in
-          let apart : has_serial n s ≡ false = grind (arith, nat_tests) in
-          (rest.0, cond-false (has_serial n s) (Some s) (find (has_serial n) subs) apart ∙ rest.1, rest.2)
-    ]
-
-pub none_of_conn : (conn : ℕ) (subs : List Subscription) → option_map serial_of (find (is_of conn) subs) ≡ None → find (is_of conn) subs ≡ None
-none_of_conn conn subs none = go (find (is_of conn) subs) none where
-  go : (o : Option Subscription) → option_map serial_of o ≡ None → o ≡ None
-  go None e = refl
-  go (Some s) e = cc
 
 -- ---- an answer that is known
 

@@ -1,5 +1,5 @@
 -- Subscriptions in order of opening: what a change to the list changes.
-use Rattle.std.proofs.Common.{◌≡◌, ℕ, zero, suc, length, get_or, not, ◌+◌, ◌<◌, ◌≤◌, Bool, true, false, cond, ◌&&◌, List, [], ◌∷◌, ◌++◌, Some, refl, ap, sym, ◌∙◌, arith, inl, inr, All}
+use Rattle.std.proofs.Common.{◌≡◌, ℕ, ◌+◌, ◌<◌, Bool, true, false, cond, ◌&&◌, List, [], ◌∷◌, ◌++◌, Some, refl, ap, sym, ◌∙◌, arith, inl, inr, All}
 use Rattle.std.specs.Prelude.{nat_lt, find, unwrap_or, filter}
 use Rattle.std.specs.Bool.{nat_eq}
 use Rattle.std.specs.Str.{bytes_eq}
@@ -11,7 +11,7 @@ use Rattle.std.proofs.lemmas.List.Elements.{recursion_from_All}
 use Rattle.std.specs.List.{AllByRecursion}
 use Rattle.subj.specs.Keys.{cost_of}
 use Rattle.sub_table.specs.declared.Subscription.{Subscription}
-use Rattle.sub_table.specs.Subscriptions.{has_serial, without_serial, with_changed, total_cost, is_of_another}
+use Rattle.sub_table.specs.Subscriptions.{has_serial, without_serial, with_changed, total_cost}
 use Rattle.pattern_trie.specs.Held.{without_held, is_held}
 use Rattle.sub_trie.specs.Rising.{all_above, is_rising, held_of}
 
@@ -124,36 +124,36 @@ found_serial n (s ∷ subs) sub found =
       | inr other ↦ found_serial n subs sub (sym (cond-false (has_serial n s) (Some s) (find (has_serial n) subs) other) ∙ found)
     ]
 
-itself : (s : Subscription) → is_held s.key.pattern s.serial (s.key.pattern, s.serial) ≡ true
+itself : (s : Subscription) → is_held nat_eq s.key.pattern s.serial (s.key.pattern, s.serial) ≡ true
 itself s = and_both (bytes_eq s.key.pattern s.key.pattern) (nat_eq s.serial s.serial) (nat_list_eq_equiv.refl s.key.pattern) (grind (arith, nat_tests))
 
-pub held_without : (n : ℕ) (subs : List Subscription) (sub : Subscription) → find (has_serial n) subs ≡ Some sub → held_of (without_serial n subs) ≡ without_held sub.key.pattern sub.serial (held_of subs)
+pub held_without : (n : ℕ) (subs : List Subscription) (sub : Subscription) → find (has_serial n) subs ≡ Some sub → held_of (without_serial n subs) ≡ without_held nat_eq sub.key.pattern sub.serial (held_of subs)
 held_without n [] sub found = cc
 held_without n (s ∷ subs) sub found =
     elim (cases_Bool (has_serial n s)) [
       | inl so ↦
           let is = first_is s sub (sym (cond-true (has_serial n s) (Some s) (find (has_serial n) subs) so) ∙ found) in
           ap held_of (cond-true (has_serial n s) subs (s ∷ without_serial n subs) so)
-          ∙ sym (ap (λ t. without_held t.key.pattern t.serial (held_of (s ∷ subs))) (sym is) ∙ cond-true (is_held s.key.pattern s.serial (s.key.pattern, s.serial)) (held_of subs) ((s.key.pattern, s.serial) ∷ without_held s.key.pattern s.serial (held_of subs)) (itself s))
+          ∙ sym (ap (λ t. without_held nat_eq t.key.pattern t.serial (held_of (s ∷ subs))) (sym is) ∙ cond-true (is_held nat_eq s.key.pattern s.serial (s.key.pattern, s.serial)) (held_of subs) ((s.key.pattern, s.serial) ∷ without_held nat_eq s.key.pattern s.serial (held_of subs)) (itself s))
       | inr other ↦
           let rest : find (has_serial n) subs ≡ Some sub = sym (cond-false (has_serial n s) (Some s) (find (has_serial n) subs) other) ∙ found in
           let serial = found_serial n subs sub rest in
           let apart : nat_eq sub.serial s.serial ≡ false = grind (arith, nat_tests) in
           ap held_of (cond-false (has_serial n s) subs (s ∷ without_serial n subs) other)
           ∙ ap (λ hs. (s.key.pattern, s.serial) ∷ hs) (held_without n subs sub rest)
-          ∙ sym (cond-false (is_held sub.key.pattern sub.serial (s.key.pattern, s.serial)) (held_of subs) ((s.key.pattern, s.serial) ∷ without_held sub.key.pattern sub.serial (held_of subs)) (ap (λ b. bytes_eq sub.key.pattern s.key.pattern && b) apart ∙ and_none (bytes_eq sub.key.pattern s.key.pattern)))
+          ∙ sym (cond-false (is_held nat_eq sub.key.pattern sub.serial (s.key.pattern, s.serial)) (held_of subs) ((s.key.pattern, s.serial) ∷ without_held nat_eq sub.key.pattern sub.serial (held_of subs)) (ap (λ b. bytes_eq sub.key.pattern s.key.pattern && b) apart ∙ and_none (bytes_eq sub.key.pattern s.key.pattern)))
     ]
 
 -- what was held last, taken out again
-held_below : (text : List ℕ) (n : ℕ) (subs : List Subscription) → AllByRecursion (λ other. other.serial < n) subs → without_held text n (held_of subs ++ (text, n) ∷ []) ≡ held_of subs
+held_below : (text : List ℕ) (n : ℕ) (subs : List Subscription) → AllByRecursion (λ other. other.serial < n) subs → without_held nat_eq text n (held_of subs ++ (text, n) ∷ []) ≡ held_of subs
 held_below text n [] below = cond-true (bytes_eq text text && nat_eq n n) [] ((text, n) ∷ []) (and_both (bytes_eq text text) (nat_eq n n) (nat_list_eq_equiv.refl text) (grind (arith, nat_tests)))
 held_below text n (s ∷ subs) below =
     let lower = below.0 in
     let apart : nat_eq n s.serial ≡ false = grind (arith, nat_tests) in
-    cond-false (is_held text n (s.key.pattern, s.serial)) (held_of subs ++ (text, n) ∷ []) ((s.key.pattern, s.serial) ∷ without_held text n (held_of subs ++ (text, n) ∷ [])) (ap (λ b. bytes_eq text s.key.pattern && b) apart ∙ and_none (bytes_eq text s.key.pattern))
+    cond-false (is_held nat_eq text n (s.key.pattern, s.serial)) (held_of subs ++ (text, n) ∷ []) ((s.key.pattern, s.serial) ∷ without_held nat_eq text n (held_of subs ++ (text, n) ∷ [])) (ap (λ b. bytes_eq text s.key.pattern && b) apart ∙ and_none (bytes_eq text s.key.pattern))
     ∙ ap (λ hs. (s.key.pattern, s.serial) ∷ hs) (held_below text n subs below.1)
 
-pub held_again : (text : List ℕ) (n : ℕ) (subs : List Subscription) → All (λ other. other.serial < n) subs → without_held text n (held_of subs ++ (text, n) ∷ []) ≡ held_of subs
+pub held_again : (text : List ℕ) (n : ℕ) (subs : List Subscription) → All (λ other. other.serial < n) subs → without_held nat_eq text n (held_of subs ++ (text, n) ∷ []) ≡ held_of subs
 held_again text n subs below = held_below text n subs (recursion_from_All (λ (other : Subscription). other.serial < n) subs below)
 
 pub cost_without : (n : ℕ) (subs : List Subscription) (sub : Subscription) → find (has_serial n) subs ≡ Some sub → total_cost subs ≡ cost_of sub.key + total_cost (without_serial n subs)
@@ -172,61 +172,6 @@ cost_without n (s ∷ subs) sub found =
     swapped : (a b c : ℕ) → a + (b + c) ≡ b + (a + c)
     swapped a b c = omega arith
 
--- ---- those of a connection, one after another
-
--- the list without those of the connection among the first so many
-abbrev pub left_of : ℕ → ℕ → List Subscription → List Subscription
-left_of conn zero subs = subs
-left_of conn (suc i) [] = []
-left_of conn (suc i) (s ∷ subs) = cond (nat_eq s.conn conn) (left_of conn i subs) (s ∷ left_of conn i subs)
-
-pub above_at : (n : ℕ) (subs : List Subscription) (i : ℕ) (d : Subscription) → all_above n subs ≡ true → i < length subs → n < (get_or subs i d).serial
-above_at n [] i d all within = absurd (omega arith)
-above_at n (s ∷ subs) zero d all within = let first = and_first (nat_lt n s.serial) (all_above n subs) all in grind (arith, nat_tests)
-above_at n (s ∷ subs) (suc i) d all within = above_at n subs i d (and_second (nat_lt n s.serial) (all_above n subs) all) (omega arith)
-
-gone : (conn : ℕ) (subs : List Subscription) (i : ℕ) (d : Subscription) → i < length subs → is_rising subs ≡ true → nat_eq (get_or subs i d).conn conn ≡ true
-    → held_of (left_of conn (suc i) subs) ≡ without_held (get_or subs i d).key.pattern (get_or subs i d).serial (held_of (left_of conn i subs))
-gone conn [] i d within rising of = absurd (omega arith)
-gone conn (s ∷ subs) zero d within rising of =
-    ap held_of (cond-true (nat_eq s.conn conn) subs (s ∷ subs) of)
-    ∙ sym (cond-true (is_held s.key.pattern s.serial (s.key.pattern, s.serial)) (held_of subs) ((s.key.pattern, s.serial) ∷ without_held s.key.pattern s.serial (held_of subs)) (itself s))
-gone conn (s ∷ subs) (suc i) d within rising of =
-    let above = above_at s.serial subs i d (and_first (all_above s.serial subs) (is_rising subs) rising) (omega arith) in
-    let rest = gone conn subs i d (omega arith) (and_second (all_above s.serial subs) (is_rising subs) rising) of in
-    let p = (get_or subs i d).key.pattern in
-    let n = (get_or subs i d).serial in
-    let apart : nat_eq n s.serial ≡ false = grind (arith, nat_tests) in
-    elim (nat_eq s.conn conn) as (λ b. held_of (cond b (left_of conn (suc i) subs) (s ∷ left_of conn (suc i) subs)) ≡ without_held p n (held_of (cond b (left_of conn i subs) (s ∷ left_of conn i subs)))) [
-      | true ↦ rest
-      | false ↦
-          ap (λ hs. (s.key.pattern, s.serial) ∷ hs) rest
-          ∙ sym (cond-false (is_held p n (s.key.pattern, s.serial)) (held_of (left_of conn i subs)) ((s.key.pattern, s.serial) ∷ without_held p n (held_of (left_of conn i subs))) (ap (λ b. bytes_eq p s.key.pattern && b) apart ∙ and_none (bytes_eq p s.key.pattern)))
-    ]
-
-kept : (conn : ℕ) (subs : List Subscription) (i : ℕ) (d : Subscription) → i < length subs → nat_eq (get_or subs i d).conn conn ≡ false → left_of conn (suc i) subs ≡ left_of conn i subs
-kept conn [] i d within of = absurd (omega arith)
-kept conn (s ∷ subs) zero d within of = cond-false (nat_eq s.conn conn) subs (s ∷ subs) of
-kept conn (s ∷ subs) (suc i) d within of = ap (λ l. cond (nat_eq s.conn conn) l (s ∷ l)) (kept conn subs i d (omega arith) of)
-
-one_more : (i : ℕ) → i + 1 ≡ suc i
-one_more i = omega arith
-
-pub gone_next : (conn : ℕ) (subs : List Subscription) (i : ℕ) (d : Subscription) → i < length subs → is_rising subs ≡ true → nat_eq (get_or subs i d).conn conn ≡ true
-    → held_of (left_of conn (i + 1) subs) ≡ without_held (get_or subs i d).key.pattern (get_or subs i d).serial (held_of (left_of conn i subs))
-gone_next conn subs i d within rising of = ap (λ k. held_of (left_of conn k subs)) (one_more i) ∙ gone conn subs i d within rising of
-
-pub kept_next : (conn : ℕ) (subs : List Subscription) (i : ℕ) (d : Subscription) → i < length subs → nat_eq (get_or subs i d).conn conn ≡ false → left_of conn (i + 1) subs ≡ left_of conn i subs
-kept_next conn subs i d within of = ap (λ k. left_of conn k subs) (one_more i) ∙ kept conn subs i d within of
-
-pub all_left : (conn : ℕ) (subs : List Subscription) → left_of conn (length subs) subs ≡ filter (is_of_another conn) subs
-all_left conn [] = refl
-all_left conn (s ∷ subs) =
-    elim (nat_eq s.conn conn) as (λ b. cond b (left_of conn (length subs) subs) (s ∷ left_of conn (length subs) subs) ≡ cond (not b) (s ∷ filter (is_of_another conn) subs) (filter (is_of_another conn) subs)) [
-      | true ↦ all_left conn subs
-      | false ↦ ap (λ l. s ∷ l) (all_left conn subs)
-    ]
-
 above_filter : (n : ℕ) (p : Subscription → Bool) (subs : List Subscription) → all_above n subs ≡ true → all_above n (filter p subs) ≡ true
 above_filter n p [] all = refl
 above_filter n p (s ∷ subs) all =
@@ -244,14 +189,4 @@ rising_filter p (s ∷ subs) rising =
     elim (p s) as (λ b. is_rising (cond b (s ∷ filter p subs) (filter p subs)) ≡ true) [
       | true ↦ and_both (all_above s.serial (filter p subs)) (is_rising (filter p subs)) (above_filter s.serial p subs (and_first (all_above s.serial subs) (is_rising subs) rising)) rest
       | false ↦ rest
-    ]
-
-pub cost_filter : (p : Subscription → Bool) (subs : List Subscription) → total_cost (filter p subs) ≤ total_cost subs
-cost_filter p [] = omega arith
-cost_filter p (s ∷ subs) =
-    let rest = cost_filter p subs in
-    let whole = cost_cons s subs in
-    elim (p s) as (λ b. total_cost (cond b (s ∷ filter p subs) (filter p subs)) ≤ total_cost (s ∷ subs)) [
-      | true ↦ let more = cost_cons s (filter p subs) in grind arith
-      | false ↦ grind arith
     ]

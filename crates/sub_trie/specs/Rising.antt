@@ -14,7 +14,7 @@ is_rising [] = true
 is_rising (sub ∷ subs) = all_above sub.serial subs && is_rising subs
 
 -- each serial, held under its pattern
-abbrev pub held_of : List Subscription → List Held
+abbrev pub held_of : List Subscription → List (Held ℕ)
 held_of [] = []
 held_of (sub ∷ subs) = (sub.key.pattern, sub.serial) ∷ held_of subs
 

@@ -63,6 +63,21 @@ pub(crate) fn take_serial<K: Eq + Hash + Drop>(
     }
 }
 
+/// Takes the key away with its serials, and gives these. Takes no memory.
+pub(crate) fn take_all<K: Eq + Hash + Drop>(
+    alloc: Global,
+    groups: &mut HashMap<K, Vec<u64>>,
+    key: &K,
+) -> Vec<u64>
+    ensures given { result.items ≡ list_at K.eq groups.old key.now }
+    ensures left { (q : K) → list_at K.eq groups.new q ≡ (if K.eq key.now q then [] else list_at K.eq groups.old q) }
+{
+    match groups.remove(key) {
+        Some(list) => list,
+        None => Vec::new(alloc),
+    }
+}
+
 /// The first serial under the key. Takes no memory.
 pub(crate) fn first_serial<K: Eq + Hash + Drop>(
     groups: &HashMap<K, Vec<u64>>,

@@ -21,7 +21,7 @@ use subj::Subject;
 pub(crate) struct Opened {
     alloc: Global,
     pub(crate) subs: BTreeMap<u64, Subscription>,
-    trie: PatternTrie,
+    trie: PatternTrie<u64>,
     /// What they count together.
     cost: u64,
     ghost keyed: { is_keyed subs.entries ≡ true },

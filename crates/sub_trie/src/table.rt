@@ -4,12 +4,12 @@ ghost use Rattle.std.specs.Prelude.{◌≡◌, ℕ, map, filter};
 ghost use Rattle.std.specs.Bool.{nat_eq};
 ghost use Rattle.std.specs.BTreeMap.{values};
 ghost use Rattle.arrayvec.specs.ArrayVec.{ArrayVec as Items};
-ghost use Rattle.sub_table.specs.Subscriptions.{is_called, serial_of, serials_of};
+ghost use Rattle.sub_table.specs.Subscriptions.{serials_of, without_serial};
 ghost use Rattle.pattern_trie.specs.Starts.{node_count};
-ghost use Rattle.sub_trie.specs.Groups.{list_at, called_eq, serials_called};
+ghost use Rattle.sub_trie.specs.Groups.{list_at, AreCalled, without_each};
 ghost use Rattle.sub_trie.specs.Rising.{held_of};
 
-use crate::groups::{copy_serials, first_serial, push_serial, take_serial};
+use crate::groups::{copy_serials, first_serial, push_serial, take_all, take_serial};
 use crate::opened::Opened;
 use arrayvec::ArrayVec;
 use std::alloc::{AllocError, Global};
@@ -20,11 +20,37 @@ use subj::{ConnId, MAX_SID, Sid, Subject};
 /// A connection, and what it calls a subscription.
 type Called = (u64, ArrayVec<u8, MAX_SID>);
 
+/// The serials of what each connection calls by an id.
+type BySid = HashMap<Called, Vec<u64>>;
+
 fn called(conn: ConnId, sid: &Sid) -> Called
     ensures conn { result.0 ≡ conn }
     ensures sid { result.1.items ≡ sid.now }
 {
     (conn.get(), ArrayVec::try_from(sid.bytes()).unwrap())
+}
+
+/// Closes the one of this serial, and takes it away from its connection's id. Takes no memory.
+fn close_one(opened: &mut Opened, by_sid: &mut BySid, serial: u64)
+    requires { AreCalled by_sid.old (values opened.old.subs) }
+    ensures closed { values opened.new.subs ≡ without_serial serial (values opened.old.subs) }
+    ensures called { AreCalled by_sid.new (values opened.new.subs) }
+{
+    match opened.remove(serial) {
+        None => {}
+        Some(sub) => take_serial(by_sid, &called(sub.conn, &sub.sid), serial),
+    }
+}
+
+/// Closes those of these serials, and takes each away from its connection's id. Takes no memory.
+fn close_each(opened: &mut Opened, by_sid: &mut BySid, serials: &[u64])
+    requires { AreCalled by_sid.old (values opened.old.subs) }
+    ensures closed { values opened.new.subs ≡ without_each serials.now (values opened.old.subs) }
+    ensures called { AreCalled by_sid.new (values opened.new.subs) }
+{
+    for serial in serials {
+        close_one(opened, by_sid, *serial);
+    }
 }
 
 /// A table that finds what a subject matches, what a connection calls by an id, and all of a
@@ -36,9 +62,9 @@ pub struct TrieTable {
     /// The serials of each connection's subscriptions.
     by_conn: HashMap<u64, Vec<u64>>,
     /// The serials of what a connection calls by an id.
-    by_sid: HashMap<Called, Vec<u64>>,
+    by_sid: BySid,
     ghost owned: { (conn : ℕ) → list_at nat_eq by_conn conn ≡ serials_of conn (values opened.subs) },
-    ghost called: { (key : ℕ × Items ℕ) → list_at called_eq by_sid key ≡ serials_called key (values opened.subs) },
+    ghost called: { AreCalled by_sid (values opened.subs) },
 }
 
 impl TrieTable {
@@ -124,8 +150,7 @@ impl SubTable for TrieTable {
     }
 
     fn close(&mut self, conn: ConnId) {
-        while let Some(serial) = first_serial(&self.by_conn, &conn.get()) {
-            self.remove(serial);
-        }
+        let serials = take_all(self.alloc, &mut self.by_conn, &conn.get());
+        close_each(&mut self.opened, &mut self.by_sid, &serials);
     }
 }

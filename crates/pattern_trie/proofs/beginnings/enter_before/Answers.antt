@@ -8,7 +8,7 @@ use Rattle.pattern_trie.proofs.beginnings.enter_before.Goals as goal
 use Rattle.pattern_trie.proofs.beginnings.enter_before.Goals.{then-text-at-eq46+else-is_err, else-text-at-eq46}
 
 pub loop-at-preserved : goal.loop-at-preserved
-loop-at-preserved c =
+loop-at-preserved g c =
     elim c.if-text-at-eq46.branch [
       | then-text-at-eq46+else-is_err w ↦
           let this : Enters (take c.loop-at.at c.args.text.now) (λ k. is_in k w.of_first_token-wilds.result) c.loop-at.nodes w.enter.new.nodes = search rules in

@@ -3,4 +3,4 @@ use Rattle.pattern_trie.specs.Beginnings.{is_before_dot_of, is_wild_behind}
 use Rattle.pattern_trie.proofs.beginnings.enter_before.Given as goal
 
 abbrev pub invariant-loop-at : goal.invariant-loop-at
-invariant-loop-at l = EntersEach (λ q. is_before_dot_of l.at q l.text) (λ k q. is_wild_behind k l.at q l.text) l.fn.nodes l.nodes
+invariant-loop-at g l = EntersEach (λ q. is_before_dot_of l.at q l.text) (λ k q. is_wild_behind k l.at q l.text) l.fn.nodes l.nodes

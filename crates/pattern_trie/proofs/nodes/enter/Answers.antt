@@ -5,20 +5,20 @@ use Rattle.pattern_trie.proofs.Updates.{entered, same, in_first, in_second}
 use Rattle.pattern_trie.proofs.nodes.enter.Goals as goal
 
 pub returns-in_err-node-clause-err : goal.returns-in_err-node-clause-err
-returns-in_err-node-clause-err c =
+returns-in_err-node-clause-err g c =
     let had : node_at c.args.nodes.now c.args.text.now ≡ Some c.in-Some.node.now = sym c.get_mut.ensures.value ∙ ap option_copied_mut c.in-Some.is in
     let is : IsSame c.args.nodes.now (c.get_mut.follows.lender c.in-Some.node.now) = same c.args.text.now c.args.nodes.now (c.get_mut.follows.lender c.in-Some.node.now) (Some c.in-Some.node.now) ((c.get_mut.follows.holds c.in-Some.node.now).3 (search rules)) (sym (ap count_of had)) (sym (ap values_of had)) (λ k so. ap (wild_of k) (sym had) ∙ so) in
     search (rules, is)
 
 pub returns-in-Some-clause-ok : goal.returns-in-Some-clause-ok
-returns-in-Some-clause-ok c =
+returns-in-Some-clause-ok g c =
     let had : node_at c.args.nodes.now c.args.text.now ≡ Some c.in-Some.node.now = sym c.get_mut.ensures.value ∙ ap option_copied_mut c.in-Some.is in
     let below : c.in_ok-node.field-0 ≡ c.in-Some.node.now.below + 1 = grind arith in
     entered c.args.text.now (λ k. is_in k c.args.wilds) c.args.nodes.now _ (Some _) ((c.get_mut.follows.holds _).3 (search rules)) (below ∙ ap (λ n. n + 1) (sym (ap count_of had))) (sym (ap values_of had))
     (λ k so. in_first k c.in-Some.node.now.wilds c.args.wilds c.or-node.result c.or-node.ensures.one c.or-node.ensures.rest (ap (wild_of k) (sym had) ∙ so)) (λ k so. in_second k c.in-Some.node.now.wilds c.args.wilds c.or-node.result c.or-node.ensures.one c.or-node.ensures.rest so)
 
 pub returns-clause-ok : goal.returns-clause-ok
-returns-clause-ok c =
+returns-clause-ok g c =
     let same = c.get_mut.follows.holds-at-none in
     let none : node_at c.args.nodes.now c.args.text.now ≡ None = sym c.get_mut.ensures.value ∙ ap option_copied_mut c.in_default.is in
     let items = c.in_ok-key.ensures.items in

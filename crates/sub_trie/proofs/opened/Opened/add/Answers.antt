@@ -1,3 +1,4 @@
+use Rattle.std.specs.Bool.{nat_eq}
 use Rattle.std.proofs.Common.{rules, arith, ◌≡◌, ℕ, ◌+◌, ◌<◌, ◌∷◌, [], ◌++◌, true, sym, ◌∙◌, ap, subst}
 use Rattle.std.specs.Prelude.{nat_eq}
 use Rattle.std.specs.Ordering.{nat_cmp}
@@ -48,7 +49,7 @@ invariant_of-self-in-Err c =
     let p = c.args.sub.key.pattern in
     let entries : c.insert-2.new.self.entries ≡ c.args.self.now.subs.entries = c.in-Err.ensures.err in
     let held : Holds (held_of subs ++ (p, n) ∷ []) c.insert.new.self.nodes = search (rules, c.in_ok-insert.ensures.ok (held_of subs) c.args.self.now.held) in
-    let back : Holds (without_held p n (held_of subs ++ (p, n) ∷ [])) c.remove.new.self.nodes = subst (λ pair. Holds (without_held pair.1.key.pattern n (held_of subs ++ (p, n) ∷ [])) c.remove.new.self.nodes) c.in-Err.ensures.value_returned (c.remove.ensures (held_of subs ++ (p, n) ∷ []) held) in
+    let back : Holds (without_held nat_eq p n (held_of subs ++ (p, n) ∷ [])) c.remove.new.self.nodes = subst (λ pair. Holds (without_held nat_eq pair.1.key.pattern n (held_of subs ++ (p, n) ∷ [])) c.remove.new.self.nodes) c.in-Err.ensures.value_returned (c.remove.ensures (held_of subs ++ (p, n) ∷ []) held) in
     record {
       keyed = ap is_keyed entries ∙ c.args.self.now.keyed;
       rising = ap (λ es. is_rising (values_of es)) entries ∙ c.args.self.now.rising;
