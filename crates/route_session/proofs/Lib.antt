@@ -1,3 +1,5 @@
 mod Best
-mod Kept
+mod BestStays
 mod Computed
+mod Sound
+mod Judged

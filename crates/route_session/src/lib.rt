@@ -5,11 +5,15 @@ mod examples;
 mod faults;
 mod ids;
 mod laws;
+mod offers;
+mod sessions;
+mod standing;
 
 pub use examples::{crossed_dials, refusals_in_order, the_worse_session_is_refused};
 pub use faults::SessionFault;
 pub use ids::SessionId;
 pub use laws::{both_ends_keep_the_same, the_better_session_stays};
+pub use sessions::{Kept, Sessions};
 
 #[cfg(test)]
 mod tests;

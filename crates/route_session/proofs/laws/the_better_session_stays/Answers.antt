@@ -1,4 +1,4 @@
-use Rattle.route_session.proofs.Kept.{info_keeps_best, connect_keeps_best}
+use Rattle.route_session.proofs.BestStays.{info_keeps_best, connect_keeps_best}
 use Rattle.route_session.proofs.laws.the_better_session_stays.Goals as goal
 
 pub returns-clause-info : goal.returns-clause-info

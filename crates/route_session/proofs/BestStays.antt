@@ -109,7 +109,7 @@ info_lost server s session info least kept e = by session.dialed (past (is_some 
             let same = eq_true (place server info.server_name) q (and_true (nat_eq (place server info.server_name) q) (is_peer server q) (not_false (nat_eq (place server info.server_name) q && is_peer server q) f)).0 in
             ap (λ p. against (info_offer server session info) (kept_for p s.standing)) same ∙ past (nat_lt info.inc least) OldIncarnation (against (info_offer server session info) (kept_for q s.standing)) kept refl h
 
-same_number : (k : ℕ) (xs : List Session) (x : Session) → session_at k xs ≡ Some x → x.number ≡ k
+pub same_number : (k : ℕ) (xs : List Session) (x : Session) → session_at k xs ≡ Some x → x.number ≡ k
 same_number k [] x at = absurd (none-some x at)
 same_number k (y ∷ xs) x at = go (same_number k xs x) (nat_eq y.number k) refl at
   where
