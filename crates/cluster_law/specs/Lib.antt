@@ -2,6 +2,7 @@ pub mod Rules
 pub mod Names
 pub mod Interest
 pub mod Messages
+pub mod Values
 pub mod Config
 pub mod History
 pub mod Hub

@@ -15,7 +15,7 @@ use bytes::Bytes;
 use client_frames::{
     Awaited, ClientLine, ErrText, InfoData, PubHead, ReplyFrame, ServerFrame, decode_line, encode,
 };
-use shard_core::{BeginFault, Shard, ShardFault};
+use shard_core::{BeginFault, PlainShard, ShardFault};
 use std::alloc::{AllocError, Global};
 use std::mem;
 use sub_table::ListTable;
@@ -42,7 +42,7 @@ pub enum Next {
 #[derive(Drop)]
 pub struct PipeClient {
     alloc: Global,
-    shard: Shard<ListTable>,
+    shard: PlainShard<ListTable>,
     conn: ConnId,
     origin: NodeId,
     inc: Incarnation,
@@ -53,7 +53,11 @@ pub struct PipeClient {
 }
 
 /// Moves what waits for the connection to what is to be written.
-fn take(shard: &mut Shard<ListTable>, conn: ConnId, output: &mut Vec<u8>) -> Result<(), AllocError>
+fn take(
+    shard: &mut PlainShard<ListTable>,
+    conn: ConnId,
+    output: &mut Vec<u8>,
+) -> Result<(), AllocError>
     requires { is_there conn shard.old ≡ true }
     ensures text { OnOk result (output.new.items ≡ output.old.items ++ waiting_bytes conn shard.old) }
     ensures taken { OnOk result (shard.new ≡ emptied conn shard.old) }
@@ -70,7 +74,7 @@ fn take(shard: &mut Shard<ListTable>, conn: ConnId, output: &mut Vec<u8>) -> Res
 }
 
 /// The one connection of a new shard.
-fn attach(shard: &mut Shard<ListTable>) -> Result<ConnId, AllocError>
+fn attach(shard: &mut PlainShard<ListTable>) -> Result<ConnId, AllocError>
     requires { shard.old ≡ new_shard 1 1 }
     ensures { IfOk result (λ conn. (conn ≡ 1) × (shard.new ≡ at_rest at_first)) }
 {
@@ -92,7 +96,7 @@ impl PipeClient {
         let Some(inc) = Incarnation::new(1) else {
             unreachable!()
         };
-        let mut shard = Shard::new(alloc, 1, 1)?;
+        let mut shard = PlainShard::new(alloc, 1, 1)?;
         let conn = attach(&mut shard)?;
         let info = InfoData {
             name: origin,

@@ -16,13 +16,14 @@ use Rattle.interest.specs.declared.changes.Delta.{Delta}
 use Rattle.sub_table.specs.Subscriptions.{gets, serial_of, with_max}
 use Rattle.sub_table.specs.declared.Subscription.{Subscription}
 use Rattle.subj.specs.Matching.{subject_matches}
+use Rattle.subj.specs.QueueNames.{is_named}
 use Rattle.subj.specs.declared.jobs.Job.{Job}
 use Rattle.subj.specs.declared.keys.Key.{Key}
 use Rattle.client_frames.specs.Frames.{reply_line}
 use Rattle.outbox.specs.Views.{with_entry, reply_entry}
 use Rattle.shard_core.specs.Shards.{State, Client, client_at, is_open, fits, changed}
 use Rattle.shard_core.specs.Closings.{serials_of, is_left, left_of, without}
-use Rattle.shard_core.specs.Owed.{Walk, walk, walked, give, shut_slow, first_step, is_due, is_plain, is_named, is_wanted, is_permitted, due_entry, after_walk, counted, tried, claimed, candidate_of, candidate_named, is_candidate, slow_consumer}
+use Rattle.shard_core.specs.Owed.{Walk, walk, walked, give, shut_slow, first_step, is_due, is_plain, is_wanted, is_permitted, due_entry, after_walk, counted, tried, claimed, candidate_of, candidate_named, is_candidate, slow_consumer}
 use Rattle.shard_core.specs.ShardEvents.{Attach, Subscribe, Unsubscribe, Reply, Shut, Detach, Take, Begin, Claim, End, DropJob, Collect}
 use Rattle.shard_core.specs.ShardSteps.{called, new_sub, subscribed, ended_now, unsubscribed, was_shut, answer_fits, done_with, begin_refusal, claim_refusal, end_refusal}
 use Rattle.shard_core.specs.Lines.{Turns, SoundLine, HasJob, waiting_after, first_of, rest_of}

@@ -1,3 +1,16 @@
+pub mod ClosedSubs
+pub mod LawEvents
+pub mod Outboxes
+mod Lookups
+mod ConnOrder
+mod ConnStaging
+mod Messages
+mod Kept
+mod Serials
+pub mod Opened
+mod TallySteps
+mod Ended
+mod Claims
 mod Places
 mod Each
 mod Clients
@@ -7,10 +20,5 @@ mod Counts
 mod Written
 mod Numbers
 mod Staged
-pub mod ClosedSubs
-pub mod LawEvents
-pub mod Outboxes
-mod Lookups
-mod ConnOrder
-mod ConnStaging
-mod Messages
+mod Rows
+mod Limits

@@ -22,7 +22,7 @@ use Rattle.shard_core.proofs.LawEvents.{candidate_is}
 
 -- ---- one connection changes
 
-changed_here : (change : Shelf → Shelf) (k : ℕ) (xs : List Client) → client_at k (changed change k xs) ≡ option_map (with_outbox change) (client_at k xs)
+pub changed_here : (change : Shelf → Shelf) (k : ℕ) (xs : List Client) → client_at k (changed change k xs) ≡ option_map (with_outbox change) (client_at k xs)
 changed_here change k [] = refl
 changed_here change k (x ∷ xs) = go (changed_here change k xs) (has_number k x) refl
   where
@@ -30,7 +30,7 @@ changed_here change k (x ∷ xs) = go (changed_here change k xs) (has_number k x
     go below true e = ap (λ t. cond t (Some (with_outbox change x)) (client_at k xs)) e
     go below false e = ap (λ t. cond t (Some x) (client_at k (changed change k xs))) e ∙ below
 
-changed_there : (change : Shelf → Shelf) (k j : ℕ) (xs : List Client) → k ≢ j → client_at k (changed change j xs) ≡ client_at k xs
+pub changed_there : (change : Shelf → Shelf) (k j : ℕ) (xs : List Client) → k ≢ j → client_at k (changed change j xs) ≡ client_at k xs
 changed_there change k j [] apart = refl
 changed_there change k j (x ∷ xs) apart = go (changed_there change k j xs apart) (has_number j x) refl
   where
@@ -40,7 +40,7 @@ changed_there change k j (x ∷ xs) apart = go (changed_there change k j xs apar
         ap (λ t. cond t (Some (with_outbox change x)) (client_at k xs)) no ∙ sym (ap (λ t. cond t (Some x) (client_at k xs)) no)
     go below false e = ap (λ t. cond (nat_eq x.number k) (Some x) t) below
 
-gone : (j : ℕ) (ys : List Client) → client_at j (detached j ys) ≡ None
+pub gone : (j : ℕ) (ys : List Client) → client_at j (detached j ys) ≡ None
 gone j [] = refl
 gone j (y ∷ ys) = by (gone j ys) (nat_eq y.number j) refl
   where
@@ -48,7 +48,7 @@ gone j (y ∷ ys) = by (gone j ys) (nat_eq y.number j) refl
     by below true e = below
     by below false e = ap (λ t. cond t (Some y) (client_at j (detached j ys))) e ∙ below
 
-stays : (k j : ℕ) → k ≢ j → (ys : List Client) → client_at k (detached j ys) ≡ client_at k ys
+pub stays : (k j : ℕ) → k ≢ j → (ys : List Client) → client_at k (detached j ys) ≡ client_at k ys
 stays k j apart [] = refl
 stays k j apart (y ∷ ys) = by (stays k j apart ys) (nat_eq y.number j) refl
   where
@@ -109,7 +109,7 @@ put_at change entry puts j xs there k = go (nat_eq k j) refl
     go false e = ap entries_of (changed_there change k j xs (eq_false k j e)) ∙ sym (append_nil (waits_for k xs)) ∙ sym (ap (λ t. waits_for k xs ++ t) (entries_there k j entry (eq_false k j e)))
 
 -- whether a connection takes events after a change
-stays_open : (entry : Written) (k j : ℕ) (xs : List Client) → is_open k (changed (with_entry entry) j xs) ≡ is_open k xs
+pub stays_open : (entry : Written) (k j : ℕ) (xs : List Client) → is_open k (changed (with_entry entry) j xs) ≡ is_open k xs
 stays_open entry k j xs = go (nat_eq k j) refl
   where
     by : (x : Option Client) → takes_events (option_map (with_outbox (with_entry entry)) x) ≡ takes_events x
@@ -127,7 +127,7 @@ shuts line j xs = ap takes_events (changed_here (with_last line) j xs) ∙ by (c
     by None = refl
     by (Some x) = refl
 
-stays_shut : (line : List ℕ) (k j : ℕ) (xs : List Client) → is_open k xs ≡ false → is_open k (changed (with_last line) j xs) ≡ false
+pub stays_shut : (line : List ℕ) (k j : ℕ) (xs : List Client) → is_open k xs ≡ false → is_open k (changed (with_last line) j xs) ≡ false
 stays_shut line k j xs was = go (nat_eq k j) refl
   where
     go : (b : Bool) → nat_eq k j ≡ b → is_open k (changed (with_last line) j xs) ≡ false

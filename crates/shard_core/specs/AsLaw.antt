@@ -3,14 +3,13 @@ use Rattle.std.specs.Prelude.{◌≡◌, ◌≢◌, ℕ, ◌+◌, Bool, true, fa
 use Rattle.std.specs.List.{list_any}
 use Rattle.cluster_law.specs.Config.{Config, every_rule}
 use Rattle.cluster_law.specs.History as history
-use Rattle.cluster_law.specs.Messages as messages
 use Rattle.cluster_law.specs.Names as law_names
 use Rattle.cluster_law.specs.Race.{Race, Keeps, WinsPair}
 use Rattle.cluster_law.specs.Shard as law
+use Rattle.cluster_law.specs.Values.{content_of}
 use Rattle.list_laws.specs.Lists.{In, Each, Pairs}
 use Rattle.sub_table.specs.declared.Subscription.{Subscription}
 use Rattle.subj.specs.Matching.{subject_matches}
-use Rattle.subj.specs.Messages.{Content}
 use Rattle.subj.specs.declared.identities.PubId.{PubId}
 use Rattle.subj.specs.declared.jobs.Job.{Job}
 use Rattle.subj.specs.declared.keys.Key.{Key}
@@ -25,9 +24,6 @@ use Rattle.shard_core.specs.Lines.{SoundLine, HasJob, waiting_after}
 -- said for any way to name them.
 abbrev pub Naming : Type 0
 Naming = PubId → law_names.PubId
-
-abbrev pub content_of : Content → messages.Content
-content_of message = record { subject = message.subject; reply = message.reply; payload = message.payload }
 
 abbrev pub job_of : Naming → ℕ → ℕ → Job → history.Job
 job_of names n inc job = record { node = n; inc = inc; turn = job.turn; id = names job.id; content = content_of job.message; names = job.queues }

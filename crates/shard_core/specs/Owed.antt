@@ -1,6 +1,5 @@
 -- What a shard owes for a job: to plain subscriptions at Begin, and to one member of a queue group at a Claim.
 use Rattle.std.specs.Prelude.{ℕ, ◌+◌, ◌%◌, Bool, false, not, ◌&&◌, ◌||◌, nat_eq, nat_le, List, [], ◌∷◌, ◌++◌, length, filter, map, Option, Some, None, is_none, slice_get, if◌then◌else◌}
-use Rattle.std.specs.Str.{bytes_eq}
 use Rattle.std.specs.List.{list_any}
 use Rattle.client_frames.specs.ErrTexts.{err_line}
 use Rattle.client_frames.specs.Messages.{due_line, no_headers}
@@ -10,6 +9,7 @@ use Rattle.outbox.specs.declared.entries.Mode.{Mode}
 use Rattle.outbox.specs.declared.entries.Mode.TheVariants.{Plain, Queue}
 use Rattle.sub_table.specs.Subscriptions.{gets}
 use Rattle.sub_table.specs.declared.Subscription.{Subscription}
+use Rattle.subj.specs.QueueNames.{is_named}
 use Rattle.subj.specs.declared.jobs.Job.{Job}
 use Rattle.shard_core.specs.declared.calls.Placed.{Placed}
 use Rattle.shard_core.specs.Shards.{State, Client, client_at, is_open, changed, fits}
@@ -31,10 +31,6 @@ is_wanted job sub = gets job.message.subject sub && is_permitted job sub
 -- NATS documentation, "Queue Groups": a subscription without a queue name is a member of no group
 abbrev pub is_plain : Subscription → Bool
 is_plain sub = is_none sub.key.queue
-
-abbrev pub is_named : List ℕ → Option (List ℕ) → Bool
-is_named name None = false
-is_named name (Some other) = bytes_eq other name
 
 abbrev pub mode_of : Option (List ℕ) → Mode
 mode_of None = Plain

@@ -23,11 +23,12 @@ pub struct Placed {
 /// What a begin did.
 #[derive(Debug, Drop)]
 pub struct Begun {
-    /// Copies of the entries, in the order of placing.
+    /// Copies of the entries, in the order of placing, where they were asked for; else none.
     pub placed: Vec<Placed>,
     /// The connections that were shut for want of room, in order.
     pub closed: Vec<ConnId>,
-    /// The subscriptions that closed with them, in order.
+    /// The subscriptions that closed, in order: with the message that reached their maximum, or with
+    /// their connections.
     pub ended: Vec<SubId>,
 }
 

@@ -4,6 +4,7 @@
 ghost use Rattle.std.specs.Prelude.{ℕ};
 ghost use Rattle.shard_core.specs.AsLaw.{ShardFollows};
 ghost use Rattle.shard_core.specs.EntryBytes.{EntriesAreMessages};
+ghost use Rattle.shard_core.specs.Limits.{LimitsStay};
 ghost use Rattle.shard_core.specs.Puts.{ArePut};
 ghost use Rattle.shard_core.specs.ShardEvents.{Event};
 ghost use Rattle.shard_core.specs.Shards.{State};
@@ -23,4 +24,9 @@ pub fn entries_are_put()
 /// The bytes of a message's entry are those of the server's frame of that message.
 pub fn entries_are_messages()
     ensures { EntriesAreMessages }
+{}
+
+/// Each connection has the limits `OUTBOX_ENTRIES` and `OUTBOX_BYTES`, whatever the shard was asked since it started.
+pub fn limits_stay()
+    ensures { LimitsStay }
 {}

@@ -1,18 +1,28 @@
 //! The shard.
 
-ghost use Rattle.std.specs.Prelude.{◌≡◌, ◌≤◌, ◌<◌, [], ◌∷◌, true, length, IfOk, OnOk, OnErr};
-ghost use Rattle.shard_core.specs.State.{State, is_open};
-ghost use Rattle.shard_core.specs.Events.{Attach, Subscribe, Reply, Shut, Begin, End, Take, Attached, Replied, WasShut, Began, Finished, Taken};
-ghost use Rattle.shard_core.specs.Steps.{shard_refusal, IsStep, new_shard, was_shut, subscribe_refusal, is_full as full};
-ghost use Rattle.shard_core.specs.Walk.{ended_with};
-ghost use Rattle.shard_core.specs.Answers.{answer_of, IsAnsweredOrBack};
+ghost use Rattle.std.specs.Prelude.{◌≡◌, ◌≤◌, [], false, ◌||◌, ◌/◌, ◌+◌, map, length, nat_le, true, None, option_map, option_to_list, not, IfOk, OnOk, OnErr};
+ghost use Rattle.std.specs.Option.{option_copied};
 ghost use Rattle.subj.specs.Answers.{IsAnswered, IsDecided};
+ghost use Rattle.subj.specs.Keys.{cost_of};
+ghost use Rattle.sub_table.specs.Subscriptions.{total_cost};
+ghost use Rattle.shard_core.specs.Answers.{answer_of, call_of, HasBegun, IsAnsweredOrBack};
+ghost use Rattle.outbox.specs.Views.{with_last};
+ghost use Rattle.shard_core.specs.Boxes.{IsSettled, on_both};
+ghost use Rattle.shard_core.specs.Closings.{id_of, left_of, ended_ids};
+ghost use Rattle.shard_core.specs.Held.{DoesStep, IsLeft, Chooses, Stands, settled, kept_for, placed_chosen, ended_by_chosen};
+ghost use Rattle.shard_core.specs.Opened.{AreApart, AreRising, with_closings};
+ghost use Rattle.shard_core.specs.Shards.{new_shard, changed, is_open as opened};
+ghost use Rattle.shard_core.specs.ShardEvents.{Attach, Subscribe, Unsubscribe, Reply, Shut, Detach, Take, Begin, Claim, End, DropJob, Collect, Attached, Unsubscribed, Replied, WasShut, Detached, Taken, Finished, Dropped, Collected};
+ghost use Rattle.shard_core.specs.ShardSteps.{shard_refusal, called as call, ended_now, IsHanded};
 
-use crate::calls::{BeginFault, Begun, Subscribed};
-use crate::conns::{Conn, attach, has_room_for, put, shut_with, take_from, takes_events};
+use crate::calls::{BeginFault, Begun, Placed, Subscribed};
+use crate::claim::{QueueClaim, choose};
+use crate::connections::Conns;
 use crate::faults::ShardFault;
-use crate::walk::{close_all, ended, place};
-use client_frames::{ErrText, ReplyFrame, reply_line};
+use crate::openings::Openings;
+use crate::walk::{Tally, due_entry, is_last, named, place_all};
+use client_frames::{ErrText, MessageLines, ReplyFrame, reply_line};
+use interest::Delta;
 use outbox::{Entry, LAST_LINE_TEXT};
 use std::alloc::{AllocError, Global};
 use std::marker::Model;
@@ -22,12 +32,107 @@ use subj::{
     SUBSCRIPTIONS, Sid, SubId, Turn,
 };
 
+/// Drops a candidate that stands, with its entry.
+fn drop_candidate(conns: &mut Conns, chosen: &mut Option<u64>)
+    ensures conns { conns.new ≡ record { shown = conns.old.shown; next = conns.old.shown } }
+    ensures chosen { chosen.new ≡ None }
+{
+    conns.rollback();
+    *chosen = None;
+}
+
+/// The serials of a connection's subscriptions, in order.
+fn serials_of<T: SubTable>(
+    alloc: Global,
+    openings: &Openings<T>,
+    conn: ConnId,
+) -> Result<Vec<u64>, AllocError>
+    ensures left { IfOk result (λ serials. serials.items ≡ left_of conn [] openings.now.subs) }
+    ensures apart { IfOk result (λ serials. AreApart serials.items) }
+{
+    let mut serials = Vec::new(alloc);
+    openings.table().serials_of(conn, &mut serials)?;
+    Ok(serials)
+}
+
+/// Puts the last line of a connection that is open, and closes all its subscriptions. Gives those. Want of
+/// memory leaves all as it was.
+fn shut_with<T: SubTable>(
+    alloc: Global,
+    shard: u64,
+    conns: &mut Conns,
+    openings: &mut Openings<T>,
+    conn: ConnId,
+    line: &[u8],
+) -> Result<Vec<SubId>, AllocError>
+    requires settled { IsSettled conns.old }
+    requires once { opened conn conns.old.shown ≡ true }
+    requires small { length line.now ≤ LAST_LINE_TEXT }
+    ensures ended { IfOk result (λ ended. ended.items ≡ ended_ids shard (left_of conn [] openings.old.subs)) }
+    ensures conns { OnOk result (conns.new ≡ on_both (changed (with_last line.now) conn) conns.old) }
+    ensures openings { OnOk result (openings.new ≡ with_closings (left_of conn [] openings.old.subs) openings.old) }
+    ensures err { OnErr result ((conns.new ≡ conns.old) × (openings.new ≡ openings.old)) }
+{
+    let serials = serials_of(alloc, openings, conn)?;
+    let ended = named(alloc, shard, &serials)?;
+    conns.shut(conn, line);
+    openings.close_all(&serials);
+    Ok(ended)
+}
+
+/// Whether one more subscription to the key is beyond the shard's share of the limits.
+fn is_full<T: SubTable>(table: &T, shards: u64, key: &Key) -> bool
+    requires { 1 ≤ shards }
+    ensures { result ≡ (nat_le (SUBSCRIPTIONS / shards) (length (T.contents table.now)) || not (nat_le (total_cost (T.contents table.now) + cost_of key.now) (SUBSCRIPTION_BYTES / shards))) }
+{
+    table.len() as u64 >= SUBSCRIPTIONS / shards
+        || !table.fits(key.cost(), SUBSCRIPTION_BYTES / shards)
+}
+
+/// What a connection calls by an id, and whether a maximum closes it at once.
+#[derive(Clone, Copy)]
+struct CalledSub {
+    serial: u64,
+    ends: bool,
+}
+
+/// Whether the maximum closes the subscription at once.
+fn ends_now(max: Option<u64>, sub: &Subscription) -> bool
+    ensures { result ≡ ended_now max sub.now }
+{
+    match max {
+        None => true,
+        Some(max) => sub.delivered >= max,
+    }
+}
+
+/// What the connection calls by this id.
+fn called<T: SubTable>(table: &T, conn: ConnId, sid: &Sid, max: Option<u64>) -> Option<CalledSub>
+    requires { AreRising (T.contents table.now) }
+    ensures { result ≡ option_map (call_of max) (call conn sid.now (T.contents table.now)) }
+{
+    let serial = table.find(conn, sid)?;
+    let sub = table.get(serial)?;
+    Some(CalledSub {
+        serial: sub.serial,
+        ends: ends_now(max, sub),
+    })
+}
+
+/// The name of the subscription of this serial.
+fn named_one(shard: u64, serial: Option<u64>) -> Option<SubId>
+    ensures { result ≡ option_map (id_of shard) serial }
+{
+    let serial = serial?;
+    Some(SubId { shard, serial })
+}
+
 /// One shard of a server, over any table of subscriptions. (Profile.)
 ///
-/// Seen as its number among how many, the counts of its connections and openings, the last turn that it
-/// finished, the job in hand, its connections with what waits for them, and its open subscriptions.
-/// Each call is the shard's step: it is refused by the first cause, or does what the step says; want of
-/// memory comes only where there is no cause, and leaves all as it was.
+/// Seen as the shard's state, and the member of a queue group that stands as the candidate of the last
+/// call. Each call is the shard's step: it is refused by the first cause, or does what the step says; want
+/// of memory comes only where there is no cause. Both leave the state as it was. Every call but
+/// [`Shard::place`] drops a candidate that stands.
 #[derive(Drop)]
 pub struct Shard<T: SubTable> {
     alloc: Global,
@@ -39,33 +144,47 @@ pub struct Shard<T: SubTable> {
     opened: u64,
     finished: Turn,
     hand: Option<Job>,
-    conns: Vec<Conn>,
-    /// Where the last walk staged entries; kept for its memory.
-    places: Vec<usize>,
-    table: T,
+    /// The index of the queue name of the job in hand that is to be claimed next.
+    next_index: u64,
+    conns: Conns,
+    openings: Openings<T>,
+    /// The serial of the candidate that stands, whose entry is staged.
+    chosen: Option<u64>,
 }
 
 impl<T: SubTable> Model for Shard<T> {
-    ghost use Rattle.shard_core.specs.State.{State};
+    ghost use Rattle.shard_core.specs.Held.{Held, IsSound, with_serial};
 
-    ghost Value = { State };
-
-    ghost use Rattle.std.specs.Prelude.{map};
-    ghost use Rattle.shard_core.specs.Views.{shown_of};
-    ghost use Rattle.shard_core.specs.Sound.{IsSound};
+    ghost Value = { Held };
 
     ghost view = { λ s. record {
+      state = record {
+        shard = s.shard;
+        shards = s.shards;
+        next_conn = s.next_conn;
+        opened = s.opened;
+        finished = s.finished;
+        hand = s.hand;
+        next_index = s.next_index;
+        clients = s.conns.shown;
+        subs = s.openings.subs;
+        deltas = s.openings.deltas;
+      };
+      chosen = with_serial s.chosen s.openings.subs;
+    } };
+
+    ghost invariant = { λ s. IsSound (record {
       shard = s.shard;
       shards = s.shards;
       next_conn = s.next_conn;
       opened = s.opened;
       finished = s.finished;
       hand = s.hand;
-      clients = map shown_of s.conns.items;
-      subs = T.contents s.table;
-    } };
-
-    ghost invariant = { λ s. IsSound s.shards s.next_conn s.opened s.conns.items (T.contents s.table) };
+      next_index = s.next_index;
+      clients = s.conns.shown;
+      subs = s.openings.subs;
+      deltas = s.openings.deltas;
+    }) (with_serial s.chosen s.openings.subs) s.conns.next };
 }
 
 impl<T: SubTable> Shard<T> {
@@ -74,9 +193,9 @@ impl<T: SubTable> Shard<T> {
         requires first { 1 ≤ shard }
         requires last { shard ≤ shards }
         requires few { shards ≤ MAX_SHARDS }
-        ensures { IfOk result (λ s. s ≡ new_shard shard shards) }
+        ensures { IfOk result (λ s. s ≡ settled (new_shard shard shards)) }
     {
-        let table = T::new(alloc)?;
+        let openings = Openings::new(alloc)?;
         Ok(Shard {
             alloc,
             shard,
@@ -85,47 +204,56 @@ impl<T: SubTable> Shard<T> {
             opened: 0,
             finished: Turn::zero(),
             hand: None,
-            conns: Vec::new(alloc),
-            places: Vec::new(alloc),
-            table,
+            next_index: 0,
+            conns: Conns::new(alloc),
+            openings,
+            chosen: None,
         })
     }
 
     /// A new connection. Shard s of K numbers its connections s, s + K, s + 2K, ..; refused with
     /// [`ShardFault::Spent`] where the number would be above [`MAX_COUNTER`].
     pub fn attach(&mut self) -> Result<ConnId, Failure<ShardFault>>
-        ensures { IsAnswered (shard_refusal self.old Attach) (λ conn. IsStep self.old Attach (Attached conn) self.new) (self.new ≡ self.old) result }
+        ensures { IsAnswered (shard_refusal self.old.state Attach) (λ conn. DoesStep self.old Attach (Attached conn) self.new) (IsLeft self.old self.new) result }
     {
+        drop_candidate(&mut self.conns, &mut self.chosen);
         if self.next_conn > MAX_COUNTER {
             return Err(Failure::Refused(ShardFault::Spent));
         }
-        let number = self.next_conn;
-        attach(self.alloc, &mut self.conns, number)?;
+        let conn = ConnId::new(self.next_conn);
+        self.conns.attach(conn)?;
         self.next_conn += self.shards;
-        Ok(ConnId::new(number))
+        Ok(conn)
     }
 
-    /// Opens a subscription, unless the connection has one of this id open. Refused with
-    /// [`ShardFault::NoConn`] where the connection is not there or shut; then, where the id is not
-    /// open, with [`ShardFault::TooManySubs`] at the shard's share of [`SUBSCRIPTIONS`] or of
+    /// Opens a subscription, and notes it for the hub, unless the connection has one of this id open.
+    /// Refused with [`ShardFault::NoConn`] where the connection is not there or shut; then, where the id
+    /// is not open, with [`ShardFault::TooManySubs`] at the shard's share of [`SUBSCRIPTIONS`] or of
     /// [`SUBSCRIPTION_BYTES`], and with [`ShardFault::Spent`] past [`MAX_SERIAL`] openings.
-    #[tactic(auto, using(crate::proofs::Counts::counted_after_open, crate::proofs::Counts::next_is_above))]
     pub fn subscribe(
         &mut self,
         conn: ConnId,
         key: Key,
         sid: Sid,
     ) -> Result<Subscribed, Failure<ShardFault>>
-        ensures { IsAnswered (shard_refusal self.old (Subscribe conn key sid)) (λ done. IsStep self.old (Subscribe conn key sid) (answer_of done) self.new) (self.new ≡ self.old) result }
+        ensures { IsAnswered (shard_refusal self.old.state (Subscribe conn key sid)) (λ done. DoesStep self.old (Subscribe conn key sid) (answer_of done) self.new) (IsLeft self.old self.new) result }
     {
-        if let Some(fault) = self.subscribe_fault(conn, &key, &sid) {
-            return Err(Failure::Refused(fault));
+        drop_candidate(&mut self.conns, &mut self.chosen);
+        if !self.conns.is_open(conn) {
+            return Err(Failure::Refused(ShardFault::NoConn));
         }
-        if self.table.find(conn, &sid).is_some() {
+        let table = self.openings.table();
+        if table.find(conn, &sid).is_some() {
             return Ok(Subscribed::Same);
         }
+        if is_full(table, self.shards, &key) {
+            return Err(Failure::Refused(ShardFault::TooManySubs));
+        }
+        if self.opened >= MAX_SERIAL {
+            return Err(Failure::Refused(ShardFault::Spent));
+        }
         let serial = self.opened + 1;
-        self.table.add(Subscription {
+        self.openings.open(Subscription {
             serial,
             conn,
             key,
@@ -140,48 +268,35 @@ impl<T: SubTable> Shard<T> {
         }))
     }
 
-    /// Whether one more subscription to the key is beyond the shard's share of the limits.
-    fn is_full(&self, key: &Key) -> bool
-        ensures { result ≡ full self.now key.now }
+    /// Closes what the connection calls by this id: at once, or, with a maximum, once so many messages
+    /// were delivered since it opened. A later maximum takes the place of an earlier one; an id that is
+    /// not open changes nothing. Gives the subscription that closed. Refused with
+    /// [`ShardFault::NoConn`] where the connection is not there or shut. Takes no memory. (NATS
+    /// documentation, "Client Protocol": `UNSUB`.)
+    pub fn unsubscribe(
+        &mut self,
+        conn: ConnId,
+        sid: &Sid,
+        max: Option<u64>,
+    ) -> Result<Option<SubId>, ShardFault>
+        ensures { IsDecided (shard_refusal self.old.state (Unsubscribe conn sid.now max)) (λ ended. DoesStep self.old (Unsubscribe conn sid.now max) (Unsubscribed (option_to_list ended)) self.new) (IsLeft self.old self.new) result }
     {
-        self.table.len() as u64 >= SUBSCRIPTIONS / self.shards
-            || !self
-                .table
-                .fits(key.cost(), SUBSCRIPTION_BYTES / self.shards)
-    }
-
-    /// Why a subscribe is refused.
-    fn subscribe_fault(&self, conn: ConnId, key: &Key, sid: &Sid) -> Option<ShardFault>
-        ensures { result ≡ subscribe_refusal self.now conn key.now sid.now }
-    {
-        if !takes_events(&self.conns, conn.get()) {
-            return Some(ShardFault::NoConn);
+        drop_candidate(&mut self.conns, &mut self.chosen);
+        if !self.conns.is_open(conn) {
+            return Err(ShardFault::NoConn);
         }
-        if self.table.find(conn, sid).is_some() {
-            return None;
+        let Some(called) = called(self.openings.table(), conn, sid, max) else {
+            return Ok(None);
+        };
+        if !called.ends {
+            self.openings.set_max(called.serial, max);
+            return Ok(None);
         }
-        if self.is_full(key) {
-            return Some(ShardFault::TooManySubs);
-        }
-        if self.opened >= MAX_SERIAL {
-            return Some(ShardFault::Spent);
-        }
-        None
-    }
-
-    /// Shuts a connection that is open: its last line is put, and all its subscriptions close. Gives
-    /// those.
-    fn close(&mut self, conn: ConnId, line: &[u8]) -> Result<Vec<SubId>, AllocError>
-        requires opened { is_open conn self.old.clients ≡ true }
-        requires small { length line.now ≤ LAST_LINE_TEXT }
-        ensures ended { IfOk result (λ ended. ended.items ≡ ended_with self.old.shard (conn ∷ []) self.old.subs) }
-        ensures ok { OnOk result (self.new ≡ was_shut self.old conn line.now) }
-        ensures err { OnErr result (self.new ≡ self.old) }
-    {
-        let ended = ended(self.alloc, self.shard, &self.table, &[conn])?;
-        shut_with(&mut self.conns, conn.get(), line);
-        self.table.close(conn);
-        Ok(ended)
+        self.openings.close(called.serial);
+        Ok(Some(SubId {
+            shard: self.shard,
+            serial: called.serial,
+        }))
     }
 
     /// Puts an answer for a connection; where there is no room for it the connection is shut with
@@ -192,42 +307,83 @@ impl<T: SubTable> Shard<T> {
         conn: ConnId,
         frame: &ReplyFrame,
     ) -> Result<Vec<SubId>, Failure<ShardFault>>
-        ensures { IsAnswered (shard_refusal self.old (Reply conn frame.now)) (λ ended. IsStep self.old (Reply conn frame.now) (Replied ended.items) self.new) (self.new ≡ self.old) result }
+        ensures { IsAnswered (shard_refusal self.old.state (Reply conn frame.now)) (λ ended. DoesStep self.old (Reply conn frame.now) (Replied ended.items) self.new) (IsLeft self.old self.new) result }
     {
-        if !takes_events(&self.conns, conn.get()) {
+        drop_candidate(&mut self.conns, &mut self.chosen);
+        if !self.conns.is_open(conn) {
             return Err(Failure::Refused(ShardFault::NoConn));
         }
         let line = reply_line(self.alloc, frame)?;
-        if !has_room_for(&self.conns, conn.get(), &line) {
-            let ended = self.close(conn, ErrText::SlowConsumer.line())?;
-            return Ok(ended);
+        if self.conns.has_room_for(conn, &line) {
+            self.conns.put(conn, Entry::reply(line))?;
+            return Ok(Vec::new(self.alloc));
         }
-        if put(&mut self.conns, conn.get(), Entry::reply(line)).is_err() {
-            return Err(Failure::OutOfMemory);
-        }
-        Ok(Vec::new(self.alloc))
+        let line = ErrText::SlowConsumer.line();
+        let (conns, openings) = (&mut self.conns, &mut self.openings);
+        let ended = shut_with(self.alloc, self.shard, conns, openings, conn, line)?;
+        Ok(ended)
     }
 
     /// Shuts a connection with this text: its last line is put, and all its subscriptions close. Gives
     /// those. Refused with [`ShardFault::NoConn`] where the connection is not there or shut already.
     pub fn shut(&mut self, conn: ConnId, text: ErrText) -> Result<Vec<SubId>, Failure<ShardFault>>
-        ensures { IsAnswered (shard_refusal self.old (Shut conn text)) (λ ended. IsStep self.old (Shut conn text) (WasShut ended.items) self.new) (self.new ≡ self.old) result }
+        ensures { IsAnswered (shard_refusal self.old.state (Shut conn text)) (λ ended. DoesStep self.old (Shut conn text) (WasShut ended.items) self.new) (IsLeft self.old self.new) result }
     {
-        if !takes_events(&self.conns, conn.get()) {
+        drop_candidate(&mut self.conns, &mut self.chosen);
+        if !self.conns.is_open(conn) {
             return Err(Failure::Refused(ShardFault::NoConn));
         }
-        let ended = self.close(conn, text.line())?;
+        let (conns, openings) = (&mut self.conns, &mut self.openings);
+        let ended = shut_with(self.alloc, self.shard, conns, openings, conn, text.line())?;
         Ok(ended)
     }
 
-    /// Takes a job in hand, and places it for each open plain subscription that matches and is
-    /// permitted, in order of serial. Where an outbox has no room its connection is shut with 'Slow
-    /// Consumer' and all its subscriptions close; what was placed before stands. Refused, with the job
-    /// handed back, with [`ShardFault::JobInHand`], and then with [`ShardFault::WrongTurn`] where the
-    /// turn is not the one behind the last that was finished.
-    pub fn begin(&mut self, job: Job) -> Result<Begun, BeginFault>
-        ensures { IsAnsweredOrBack (shard_refusal self.old (Begin job)) job (λ begun. IsStep self.old (Begin job) (Began begun.placed.items begun.closed.items begun.ended.items) self.new) (self.new ≡ self.old) result }
+    /// The connection goes with all that waits for it, and all its subscriptions close. Gives those.
+    /// Refused with [`ShardFault::NoConn`] where it is not there.
+    pub fn detach(&mut self, conn: ConnId) -> Result<Vec<SubId>, Failure<ShardFault>>
+        ensures { IsAnswered (shard_refusal self.old.state (Detach conn)) (λ ended. DoesStep self.old (Detach conn) (Detached ended.items) self.new) (IsLeft self.old self.new) result }
     {
+        drop_candidate(&mut self.conns, &mut self.chosen);
+        if !self.conns.is_known(conn) {
+            return Err(Failure::Refused(ShardFault::NoConn));
+        }
+        let serials = serials_of(self.alloc, &self.openings, conn)?;
+        let ended = named(self.alloc, self.shard, &serials)?;
+        self.conns.detach(conn);
+        self.openings.close_all(&serials);
+        Ok(ended)
+    }
+
+    /// Gives and removes the first entries that wait for a connection, or all where there are fewer,
+    /// also for one that is shut. Refused with [`ShardFault::NoConn`] where it is not there.
+    pub fn take(&mut self, conn: ConnId, count: usize) -> Result<Vec<Entry>, Failure<ShardFault>>
+        ensures { IsAnswered (shard_refusal self.old.state (Take conn count)) (λ entries. DoesStep self.old (Take conn count) (Taken entries.items) self.new) (IsLeft self.old self.new) result }
+    {
+        drop_candidate(&mut self.conns, &mut self.chosen);
+        if !self.conns.is_known(conn) {
+            return Err(Failure::Refused(ShardFault::NoConn));
+        }
+        let entries = self.conns.take(conn, count)?;
+        Ok(entries)
+    }
+
+    /// The job in hand.
+    pub fn hand(&self) -> Option<&Job>
+        ensures { option_copied result ≡ self.now.state.hand }
+    {
+        self.hand.as_ref()
+    }
+
+    /// Takes a job in hand, and places it for each open plain subscription that matches and is
+    /// permitted, in order of serial. A subscription closes with the message that reaches its maximum.
+    /// Where an outbox has no room its connection is shut with 'Slow Consumer' and all its subscriptions
+    /// close; what was placed before stands. With `copies` the answer has copies of the entries. Refused,
+    /// with the job handed back, with [`ShardFault::JobInHand`], and then with [`ShardFault::WrongTurn`]
+    /// where the turn is not the one behind the last that was finished.
+    pub fn begin(&mut self, job: Job, copies: bool) -> Result<Begun, BeginFault>
+        ensures { IsAnsweredOrBack (shard_refusal self.old.state (Begin job)) job (λ begun. HasBegun copies self.old job begun self.new) (IsLeft self.old self.new) result }
+    {
+        drop_candidate(&mut self.conns, &mut self.chosen);
         if self.hand.is_some() {
             return Err(BeginFault {
                 job,
@@ -240,50 +396,143 @@ impl<T: SubTable> Shard<T> {
                 cause: Failure::Refused(ShardFault::WrongTurn),
             });
         }
-        let Ok(begun) = place(
-            self.alloc,
-            self.shard,
-            &mut self.conns,
-            &self.table,
-            &job,
-            &mut self.places,
-        ) else {
+        let tally = Tally::new(self.alloc, self.shard, copies);
+        let Ok(begun) = place_all(tally, &mut self.conns, &mut self.openings, &job) else {
             return Err(BeginFault {
                 job,
                 cause: Failure::OutOfMemory,
             });
         };
-        close_all(&mut self.table, &begun.closed);
         self.hand = Some(job);
+        self.next_index = 0;
         Ok(begun)
+    }
+
+    /// Tries the queue name of this index of the job in hand, which is the next one. Chooses a member of
+    /// the queue group: of those that are open, match, are permitted and have room, in order of serial,
+    /// the one at the place of the turn modulo their number. It stands as the candidate of the index,
+    /// with its entry, until the next call. None where there is no such member. Refused with
+    /// [`ShardFault::NoJob`], and with [`ShardFault::BadIndex`] where the index is not the next one.
+    /// (NATS documentation, "Queue Groups".)
+    pub fn candidate(&mut self, index: u64) -> Result<Option<SubId>, Failure<ShardFault>>
+        ensures { IsAnswered (shard_refusal self.old.state (Claim index false)) (λ name. Chooses self.old index name self.new) (IsLeft self.old self.new) result }
+    {
+        drop_candidate(&mut self.conns, &mut self.chosen);
+        let Some(job) = &self.hand else {
+            return Err(Failure::Refused(ShardFault::NoJob));
+        };
+        let names = job.queues.as_slice();
+        if index != self.next_index || index >= names.len() as u64 {
+            return Err(Failure::Refused(ShardFault::BadIndex));
+        }
+        let claim = QueueClaim {
+            alloc: self.alloc,
+            shard: self.shard,
+            job,
+            name: &names[index as usize],
+        };
+        self.chosen = choose(&claim, &mut self.conns, &self.openings)?;
+        self.next_index += 1;
+        Ok(named_one(self.shard, self.chosen))
+    }
+
+    /// A copy of the entry that is kept for the candidate, with its connection. None where none stands.
+    pub fn kept_entry(&self) -> Result<Option<Placed>, AllocError>
+        ensures { IfOk result (λ kept. kept ≡ kept_for self.now.state.shard self.now.state.hand self.now.chosen) }
+    {
+        let Some(job) = &self.hand else {
+            return Ok(None);
+        };
+        let Some(serial) = self.chosen else {
+            return Ok(None);
+        };
+        let Some(sub) = self.openings.table().get(serial) else {
+            return Ok(None);
+        };
+        let lines = MessageLines::new(self.alloc, &job.message)?;
+        let entry = due_entry(self.alloc, self.shard, job, &lines, sub)?;
+        Ok(Some(Placed {
+            conn: sub.conn,
+            entry,
+        }))
+    }
+
+    /// The candidate of this index, which the last call gave, gets its entry; it closes if that is the last
+    /// message of its maximum, and is given then. Takes no memory.
+    pub fn place(&mut self, index: u64) -> Option<SubId>
+        requires { Stands index self.old }
+        ensures placed { self.new ≡ settled (placed_chosen self.old.state self.old.state.hand self.old.chosen) }
+        ensures ended { option_to_list result ≡ ended_ids self.old.state.shard (ended_by_chosen self.old.chosen) }
+    {
+        prove!(index < self.next_index);
+        let Some(serial) = self.chosen.take() else {
+            unreachable!()
+        };
+        let Some(sub) = self.openings.table().get(serial) else {
+            unreachable!()
+        };
+        let ends = is_last(sub);
+        self.conns.commit();
+        self.openings.count(serial);
+        if !ends {
+            return None;
+        }
+        self.openings.close(serial);
+        Some(SubId {
+            shard: self.shard,
+            serial,
+        })
     }
 
     /// Finishes the turn in hand. Refused with [`ShardFault::NoJob`], and with
     /// [`ShardFault::NotAllTried`] where a queue name of the job was not tried. Takes no memory.
     pub fn end(&mut self) -> Result<(), ShardFault>
-        ensures { IsDecided (shard_refusal self.old End) (λ _. IsStep self.old End Finished self.new) (self.new ≡ self.old) result }
+        ensures { IsDecided (shard_refusal self.old.state End) (λ _. DoesStep self.old End Finished self.new) (IsLeft self.old self.new) result }
     {
+        drop_candidate(&mut self.conns, &mut self.chosen);
         let Some(job) = &self.hand else {
             return Err(ShardFault::NoJob);
         };
-        if !job.queues.as_slice().is_empty() {
+        if self.next_index != job.queues.as_slice().len() as u64 {
             return Err(ShardFault::NotAllTried);
         }
         self.finished = job.turn;
         self.hand = None;
+        self.next_index = 0;
         Ok(())
     }
 
-    /// Gives and removes the first entries that wait for a connection, or all where there are fewer,
-    /// also for one that is shut. Refused with [`ShardFault::NoConn`] where it is not there.
-    pub fn take(&mut self, conn: ConnId, count: usize) -> Result<Vec<Entry>, Failure<ShardFault>>
-        ensures { IsAnswered (shard_refusal self.old (Take conn count)) (λ entries. IsStep self.old (Take conn count) (Taken entries.items) self.new) (self.new ≡ self.old) result }
+    /// Finishes the job in hand without the rest of it, or, where none is in hand, the job that waits,
+    /// unbegun: it is handed over then, and is that of the next turn. Gives the job that is done. Takes
+    /// no memory.
+    pub fn drop_job(&mut self, waiting: Option<Job>) -> Option<Job>
+        requires { IsHanded self.old.state.finished self.old.state.hand waiting }
+        ensures { DoesStep self.old (DropJob waiting) (Dropped result) self.new }
     {
-        let entries = match take_from(&mut self.conns, conn.get(), count) {
-            Ok(entries) => entries,
-            Err(Failure::Refused(fault)) => return Err(Failure::Refused(fault)),
-            Err(Failure::OutOfMemory) => return Err(Failure::OutOfMemory),
+        drop_candidate(&mut self.conns, &mut self.chosen);
+        let done = match self.hand.take() {
+            None => waiting,
+            Some(job) => Some(job),
         };
-        Ok(entries)
+        if let Some(job) = &done {
+            self.finished = job.turn;
+            self.next_index = 0;
+        }
+        done
+    }
+
+    /// The openings and closings that the hub was not told of yet, in order. (Profile.)
+    pub fn deltas(&self) -> &[Delta]
+        ensures { result.now ≡ self.now.state.deltas }
+    {
+        self.openings.deltas()
+    }
+
+    /// The hub was told of all openings and closings. Takes no memory.
+    pub fn take_deltas(&mut self)
+        ensures { DoesStep self.old Collect (Collected self.old.state.deltas) self.new }
+    {
+        drop_candidate(&mut self.conns, &mut self.chosen);
+        self.openings.take_deltas();
     }
 }

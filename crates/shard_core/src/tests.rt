@@ -1,178 +1,245 @@
-//! Examples: numbers of connections, a job on its way, echo, and the slow consumer.
+//! Examples: a job on its way, echo, one member of a queue group, maxima, and the slow consumer.
 
-use crate::{Conns, Shard, ShardFault, Subscribed};
+use crate::{Begun, Shard, ShardFault, Subscribed};
 use bytes::Bytes;
 use client_frames::{ErrText, ReplyFrame};
-use outbox::Entry;
 use std::alloc::Global;
+use std::process::Abort;
 use std::test::Fail;
 use sub_table::ListTable;
 use subj::{
-    ConnId, Failure, Incarnation, Job, Key, Message, NodeId, Pattern, PubId, QueueNames, Sid,
-    SubId, Subject, Turn,
+    ConnId, Failure, Incarnation, Job, Key, Message, NodeId, Pattern, PubId, QueueName, QueueNames,
+    Sid, SubId, Subject, Turn,
 };
 
 type ListShard = Shard<ListTable>;
 
-/// Opens a plain subscription to `foo` with this id.
+/// The queue name or none, from its bytes.
+fn queue_of(alloc: Global, queue: &[u8]) -> Result<Option<QueueName>, Fail> {
+    if queue.is_empty() {
+        return Ok(None);
+    }
+    let name = QueueName::read(alloc, queue)?;
+    Ok(Some(name))
+}
+
+/// The key of `foo` in this queue group, or in none.
+fn foo(alloc: Global, queue: &[u8]) -> Result<Key, Fail> {
+    let queue = queue_of(alloc, queue)?;
+    let pattern = Pattern::read(alloc, b"foo")?;
+    Ok(Key { pattern, queue })
+}
+
+/// Opens a subscription to `foo` with this id.
 fn open(
     shard: &mut ListShard,
     alloc: Global,
     conn: ConnId,
+    queue: &[u8],
     sid: &[u8],
 ) -> Result<Subscribed, Fail> {
-    let pattern = Pattern::read(alloc, b"foo")?;
     let sid = Sid::read(alloc, sid)?;
-    let key = Key {
-        pattern,
-        queue: None,
-    };
-    let opened = shard.subscribe(conn, key, sid)?;
-    Ok(opened)
+    let key = foo(alloc, queue)?;
+    Ok(shard.subscribe(conn, key, sid)?)
 }
 
-/// A job of `hello` on `foo`, as its connection published it.
-fn job(alloc: Global, turn: u64, publisher: Option<ConnId>, echo: bool) -> Result<Job, Fail> {
+/// The queue names of a job: none, or this one.
+fn names(alloc: Global, queue: &[u8]) -> Result<QueueNames, Fail> {
+    let Some(name) = queue_of(alloc, queue)? else {
+        return Ok(QueueNames::new());
+    };
+    let mut names = Vec::new(alloc);
+    names.push(name)?;
+    Ok(QueueNames::from_names(alloc, names)?.ok_or("names")?)
+}
+
+fn hello(alloc: Global) -> Result<Message, Fail> {
     let subject = Subject::read(alloc, b"foo")?;
-    let message = Message::new(subject, None, Bytes::from_static(b"hello")).ok_or("a message")?;
-    let origin = NodeId::read(b"n1").ok().ok_or("a name")?;
-    let inc = Incarnation::new(1).ok_or("an incarnation")?;
-    Ok(Job {
-        turn: Turn::new(turn).ok_or("a turn")?,
-        id: PubId {
-            origin,
-            inc,
-            number: turn,
-        },
-        message,
-        publisher,
-        echo,
-        queues: QueueNames::new(),
+    Ok(Message::new(subject, None, Bytes::from_static(b"hello")).ok_or("a message")?)
+}
+
+fn publication(number: u64) -> Result<PubId, Fail> {
+    Ok(PubId {
+        origin: NodeId::read(b"n1").ok().ok_or("a name")?,
+        inc: Incarnation::new(1).ok_or("an incarnation")?,
+        number,
     })
 }
 
-/// Begins and ends a job, and gives how many entries it placed.
-fn work(shard: &mut ListShard, job: Job) -> Result<usize, Fail> {
-    let begun = shard.begin(job)?;
+/// A job of `hello` on `foo`, which must serve this queue name, or none; without echo where there is a
+/// publisher.
+fn job(alloc: Global, number: u64, publisher: Option<ConnId>, queue: &[u8]) -> Result<Job, Fail> {
+    let turn = Turn::new(number).ok_or("a turn")?;
+    let id = publication(number)?;
+    let message = hello(alloc)?;
+    let queues = names(alloc, queue)?;
+    Ok(Job {
+        turn,
+        id,
+        message,
+        publisher,
+        echo: publisher.is_none(),
+        queues,
+    })
+}
+
+/// Begins and ends a job without queue names.
+fn work(
+    shard: &mut ListShard,
+    alloc: Global,
+    turn: u64,
+    publisher: Option<ConnId>,
+) -> Result<Begun, Fail> {
+    let job = job(alloc, turn, publisher, b"")?;
+    let begun = shard.begin(job, true)?;
     shard.end().ok().ok_or("the turn is in hand")?;
-    Ok(begun.placed.len())
+    Ok(begun)
 }
 
-/// All bytes that wait for a connection.
-fn taken(shard: &mut ListShard, alloc: Global, conn: ConnId) -> Result<Vec<u8>, Fail> {
-    let mut bytes = Vec::new(alloc);
-    let entries = shard.take(conn, usize::MAX)?;
-    for entry in &entries {
-        entry.append_to(&mut bytes)?;
-    }
-    Ok(bytes)
+/// Whether the first entry that waits has these bytes.
+fn is_first(
+    shard: &mut ListShard,
+    alloc: Global,
+    conn: ConnId,
+    bytes: &[u8],
+) -> Result<bool, Fail> {
+    let entries = shard.take(conn, 1)?;
+    Ok(entries.first().ok_or("an entry")?.bytes(alloc)?.as_slice() == bytes)
 }
 
-#[test]
-fn connections_are_counted_by_shard(rt: HostRuntime) -> Result<(), Fail> {
-    let mut shard: ListShard = Shard::new(rt.alloc(), 2, 3)?;
-    for number in [2, 5, 8] {
-        assert_eq!(rt; shard.attach()?.get(), number);
-    }
-    Ok(())
-}
-
-#[test]
-fn a_doubled_subscription_gets_one_message(rt: HostRuntime) -> Result<(), Fail> {
-    let alloc = rt.alloc();
-    let mut shard: ListShard = Shard::new(alloc, 1, 1)?;
-    let conn = shard.attach()?;
-    let opened = open(&mut shard, alloc, conn, b"1")?;
-    let first = SubId {
-        shard: 1,
-        serial: 1,
-    };
-    assert_eq!(rt; opened, Subscribed::New(first));
-    assert_eq!(rt; open(&mut shard, alloc, conn, b"1")?, Subscribed::Same);
-    let job = job(alloc, 1, Some(conn), true)?;
-    assert_eq!(rt; work(&mut shard, job)?, 1);
-    let bytes = taken(&mut shard, alloc, conn)?;
-    assert_eq!(rt; bytes.as_slice(), b"MSG foo 1 5\r\nhello\r\n".as_slice());
+fn no_echo(rt: &impl Abort, shard: &mut ListShard, alloc: Global) -> Result<(), Fail> {
+    let publisher = shard.attach()?;
+    let other = shard.attach()?;
+    open(shard, alloc, publisher, b"", b"1")?;
+    open(shard, alloc, other, b"", b"1")?;
+    assert_eq!(rt; work(shard, alloc, 1, None)?.placed.len(), 2);
+    assert_eq!(rt; work(shard, alloc, 2, Some(publisher))?.placed.len(), 1);
+    assert!(rt; is_first(shard, alloc, other, b"MSG foo 1 5\r\nhello\r\n")?);
     Ok(())
 }
 
 #[test]
 fn echo_keeps_from_the_publisher_alone(rt: HostRuntime) -> Result<(), Fail> {
-    let alloc = rt.alloc();
-    let mut shard: ListShard = Shard::new(alloc, 1, 1)?;
-    let publisher = shard.attach()?;
-    let other = shard.attach()?;
-    open(&mut shard, alloc, publisher, b"1")?;
-    open(&mut shard, alloc, other, b"1")?;
-    for (turn, echo, placed) in [(1, true, 2), (2, false, 1)] {
-        let job = job(alloc, turn, Some(publisher), echo)?;
-        assert_eq!(rt; work(&mut shard, job)?, placed, "turn {turn}");
+    let mut shard: ListShard = Shard::new(rt.alloc(), 1, 1)?;
+    no_echo(&rt, &mut shard, rt.alloc())
+}
+
+fn group(shard: &mut ListShard, alloc: Global) -> Result<ConnId, Fail> {
+    let conn = shard.attach()?;
+    for sid in [b"1", b"2", b"3"] {
+        open(shard, alloc, conn, b"work", sid)?;
     }
+    let job = job(alloc, 1, None, b"work")?;
+    shard.begin(job, true)?;
+    Ok(conn)
+}
+
+/// The place of turn 1 among three members is the second.
+fn one_is_chosen(rt: &impl Abort, shard: &mut ListShard, alloc: Global) -> Result<(), Fail> {
+    let conn = group(shard, alloc)?;
+    let second = SubId {
+        shard: 1,
+        serial: 2,
+    };
+    assert_eq!(rt; shard.candidate(0)?, Some(second));
+    assert_eq!(rt; shard.place(0), None);
+    assert!(rt; is_first(shard, alloc, conn, b"MSG foo 2 5\r\nhello\r\n")?);
+    assert_eq!(rt; shard.take(conn, 9)?.len(), 0);
+    Ok(())
+}
+
+#[test]
+fn one_member_of_a_group(rt: HostRuntime) -> Result<(), Fail> {
+    let mut shard: ListShard = Shard::new(rt.alloc(), 1, 1)?;
+    one_is_chosen(&rt, &mut shard, rt.alloc())
+}
+
+fn turns_are_refused(rt: &impl Abort, shard: &mut ListShard, alloc: Global) -> Result<(), Fail> {
+    group(shard, alloc)?;
+    let again = job(alloc, 2, None, b"work")?;
+    let cause = shard.begin(again, true).err().map(|fault| fault.cause);
+    assert_eq!(rt; cause, Some(Failure::Refused(ShardFault::JobInHand)));
+    assert_eq!(rt; shard.end().err(), Some(ShardFault::NotAllTried));
+    assert!(rt; shard.candidate(0)?.is_some());
+    assert_eq!(rt;
+        shard.candidate(0).err(),
+        Some(Failure::Refused(ShardFault::BadIndex))
+    );
+    Ok(())
+}
+
+#[test]
+fn an_index_is_tried_once(rt: HostRuntime) -> Result<(), Fail> {
+    let mut shard: ListShard = Shard::new(rt.alloc(), 1, 1)?;
+    turns_are_refused(&rt, &mut shard, rt.alloc())
+}
+
+fn two_are_delivered(rt: &impl Abort, shard: &mut ListShard, alloc: Global) -> Result<(), Fail> {
+    let conn = shard.attach()?;
+    open(shard, alloc, conn, b"", b"7")?;
+    let sid = Sid::read(alloc, b"7")?;
+    assert_eq!(rt; shard.unsubscribe(conn, &sid, Some(2)).ok(), Some(None));
+    assert_eq!(rt; work(shard, alloc, 1, None)?.ended.len(), 0);
+    assert_eq!(rt; work(shard, alloc, 2, None)?.ended.len(), 1);
+    assert_eq!(rt; work(shard, alloc, 3, None)?.placed.len(), 0);
+    assert_eq!(rt; shard.deltas().len(), 2);
+    shard.take_deltas();
+    assert_eq!(rt; shard.deltas().len(), 0);
+    Ok(())
+}
+
+#[test]
+fn maximum_of_two(rt: HostRuntime) -> Result<(), Fail> {
+    let mut shard: ListShard = Shard::new(rt.alloc(), 1, 1)?;
+    two_are_delivered(&rt, &mut shard, rt.alloc())
+}
+
+/// Whether so many entries wait, and the last one has these bytes.
+fn is_last(
+    shard: &mut ListShard,
+    alloc: Global,
+    conn: ConnId,
+    count: usize,
+    bytes: &[u8],
+) -> Result<bool, Fail> {
+    let entries = shard.take(conn, 2_000)?;
+    let last = entries.last().ok_or("an entry")?.bytes(alloc)?;
+    Ok(entries.len() == count && last.as_slice() == bytes)
+}
+
+fn outbox_is_filled(rt: &impl Abort, shard: &mut ListShard, alloc: Global) -> Result<(), Fail> {
+    let conn = shard.attach()?;
+    open(shard, alloc, conn, b"", b"1")?;
+    for turn in 1..=1_024 {
+        assert_eq!(rt; work(shard, alloc, turn, None)?.placed.len(), 1);
+    }
+    assert_eq!(rt; work(shard, alloc, 1_025, None)?.closed.len(), 1);
+    assert!(rt; is_last(shard, alloc, conn, 1_025, b"-ERR 'Slow Consumer'\r\n")?);
     Ok(())
 }
 
 #[test]
 fn slow_consumer(rt: HostRuntime) -> Result<(), Fail> {
-    let alloc = rt.alloc();
-    let mut shard: ListShard = Shard::new(alloc, 1, 1)?;
-    let conn = shard.attach()?;
-    open(&mut shard, alloc, conn, b"1")?;
-    for turn in 1..=1_024 {
-        let job = job(alloc, turn, None, true)?;
-        assert_eq!(rt; work(&mut shard, job)?, 1);
-    }
-    let last = job(alloc, 1_025, None, true)?;
-    assert_eq!(rt; work(&mut shard, last)?, 0);
-    let entries = shard.take(conn, 2_000)?;
-    assert_eq!(rt; entries.len(), 1_025);
-    let last = entries.last().ok_or("a last entry")?.bytes(alloc)?;
-    assert_eq!(rt; last.as_slice(), b"-ERR 'Slow Consumer'\r\n".as_slice());
-    Ok(())
+    let mut shard: ListShard = Shard::new(rt.alloc(), 1, 1)?;
+    outbox_is_filled(&rt, &mut shard, rt.alloc())
 }
 
-#[test]
-fn shut_connections_refuse(rt: HostRuntime) -> Result<(), Fail> {
-    let alloc = rt.alloc();
-    let mut shard: ListShard = Shard::new(alloc, 1, 1)?;
+fn connection_ends(rt: &impl Abort, shard: &mut ListShard, alloc: Global) -> Result<(), Fail> {
     let conn = shard.attach()?;
+    assert_eq!(rt; conn.get(), 2);
+    open(shard, alloc, conn, b"", b"1")?;
     shard.reply(conn, &ReplyFrame::Ok)?;
-    shard.shut(conn, ErrText::ParserError)?;
+    assert_eq!(rt; shard.shut(conn, ErrText::ParserError)?.len(), 1);
     let refused = Some(Failure::Refused(ShardFault::NoConn));
-    assert_eq!(rt; shard.shut(conn, ErrText::ParserError).err(), refused);
     assert_eq!(rt; shard.reply(conn, &ReplyFrame::Pong).err(), refused);
-    let bytes = taken(&mut shard, alloc, conn)?;
-    assert_eq!(rt;
-        bytes.as_slice(),
-        b"+OK\r\n-ERR 'Parser Error'\r\n".as_slice()
-    );
-    assert_eq!(rt; shard.take(ConnId::new(0), 1).err(), refused);
+    assert_eq!(rt; shard.take(conn, 9)?.len(), 2);
+    shard.detach(conn)?;
+    assert_eq!(rt; shard.detach(conn).err(), refused);
     Ok(())
 }
 
 #[test]
-fn connections_stage_and_show(rt: HostRuntime) -> Result<(), Fail> {
-    let alloc = rt.alloc();
-    // whether what was staged is shown, and how many entries wait then
-    for (shown, waiting) in [(true, 1), (false, 0)] {
-        let mut conns = Conns::new(alloc);
-        let conn = ConnId::new(3);
-        conns.attach(conn)?;
-        let entry = Entry::reply(Vec::from_slice(alloc, b"+OK")?);
-        assert!(rt; conns.has_room(conn, &entry));
-        conns.stage(conn, entry)?;
-        if shown {
-            conns.commit();
-        } else {
-            conns.rollback();
-        }
-        assert_eq!(rt; conns.take(conn, 9)?.len(), waiting, "{shown}");
-        assert!(rt; conns.is_open(conn));
-        conns.shut(conn, b"-ERR 'Slow Consumer'");
-        assert!(rt; !conns.is_open(conn));
-        assert!(rt; conns.is_known(conn));
-        assert_eq!(rt; conns.take(conn, 9)?.len(), 1);
-        conns.detach(conn);
-        assert!(rt; !conns.is_known(conn));
-    }
-    Ok(())
+fn shut_and_gone(rt: HostRuntime) -> Result<(), Fail> {
+    let mut shard: ListShard = Shard::new(rt.alloc(), 2, 3)?;
+    connection_ends(&rt, &mut shard, rt.alloc())
 }

@@ -1,257 +1,288 @@
 //! The walk over the subscriptions that a job is due to.
 
-ghost use Rattle.std.specs.Prelude.{◌≡◌, [], map, filter, length, ◌&&◌, ◌++◌, IfOk, OnOk, OnErr};
+ghost use Rattle.std.specs.Prelude.{◌≡◌, ◌+◌, ◌<◌, ◌^◌, true, filter, All, IfOk, OnOk, OnErr};
 ghost use Rattle.client_frames.specs.Messages.{line_parts};
-ghost use Rattle.shard_core.specs.State.{Client};
-ghost use Rattle.shard_core.specs.Sound.{AreRising, IsStagedWithin};
-ghost use Rattle.shard_core.specs.Views.{number_of, next_of, shown_of, walk_of, shown_walk, behind, put_if_due, walk_matching};
-ghost use Rattle.shard_core.specs.Walk.{is_due, is_plain, is_permitted, due_entry as entry_due, put_one, walk, ended_with, without, sub_id};
-ghost use Rattle.sub_table.specs.Subscriptions.{is_of};
+ghost use Rattle.outbox.specs.Views.{with_last};
+ghost use Rattle.shard_core.specs.Boxes.{IsSettled};
+ghost use Rattle.shard_core.specs.Closings.{ended_ids};
+ghost use Rattle.shard_core.specs.Opened.{AreRising, AreApart};
+ghost use Rattle.shard_core.specs.Owed.{is_due, is_plain, is_permitted, due_entry as entry_due, put_one, walk, walked, reaches, slow_consumer};
+ghost use Rattle.shard_core.specs.Shards.{State, is_open as opened, changed};
+ghost use Rattle.shard_core.specs.Tallies.{Follows, HasPlaced, IsTallied, none_tallied, with_given, with_shut, put_if_due as put_matching};
 
 use crate::calls::{Begun, Placed};
-use crate::conns::{Conn, commit, place_of, rollback};
+use crate::connections::Conns;
+use crate::openings::Openings;
 use client_frames::{ErrText, MessageLines};
 use outbox::{Entry, Mode};
 use std::alloc::{AllocError, Global};
+use std::marker::Model;
 use sub_table::{SubTable, Subscription};
 use subj::{ConnId, Job, SubId};
 
-/// Whether the subscription is plain and permitted to get the job.
-fn may_get(job: &Job, sub: &Subscription) -> bool
-    ensures { result ≡ (is_plain sub.now && is_permitted job.now sub.now) }
+/// Whether the subscription may get the job: not where it is the publisher's own, without echo.
+pub fn may_get(job: &Job, sub: &Subscription) -> bool
+    ensures { result ≡ is_permitted job.now sub.now }
 {
-    sub.key.queue.is_none() && (job.echo || job.publisher != Some(sub.conn))
+    job.echo || job.publisher != Some(sub.conn)
 }
 
-/// The entry that the subscription is owed.
-fn due_entry(
+/// The entry that the subscription is owed, in its mode.
+pub fn due_entry(
+    alloc: Global,
+    shard: u64,
     job: &Job,
     lines: &MessageLines,
-    shard: u64,
     sub: &Subscription,
 ) -> Result<Entry, AllocError>
     requires { lines.now ≡ line_parts job.now.message }
-    ensures { IfOk result (λ entry. (client : Client) → entry ≡ entry_due job.now shard sub.now client) }
+    ensures { IfOk result (λ entry. entry ≡ entry_due shard job.now sub.now.key.queue sub.now) }
 {
     let line = lines.line(&sub.sid)?;
     let payload = job.message.payload().clone()?;
+    let mode = match &sub.key.queue {
+        None => Mode::Plain,
+        Some(name) => Mode::Queue(name.try_clone(alloc)?),
+    };
     let id = SubId {
         shard,
         serial: sub.serial,
     };
-    Ok(Entry::message(job.id, id, Mode::Plain, line, payload))
+    Ok(Entry::message(job.id, id, mode, line, payload))
 }
 
-/// One step of the walk, unseen.
-#[tactic(auto, using(crate::proofs::Clients::numbers_kept, crate::proofs::Staged::staged_at, crate::proofs::Staged::place_added))]
-fn stage_one(
-    conns: &mut [Conn],
-    sub: &Subscription,
-    job: &Job,
-    lines: &MessageLines,
-    shard: u64,
-    alloc: Global,
-    placed: &mut Vec<Placed>,
-    closed: &mut Vec<ConnId>,
-    places: &mut Vec<usize>,
-) -> Result<(), AllocError>
-    requires lines { lines.now ≡ line_parts job.now.message }
-    requires rising { AreRising conns.old }
-    requires within { IsStagedWithin places.old.items conns.old }
-    ensures within { IsStagedWithin places.new.items conns.new }
-    ensures same { map shown_of conns.new ≡ map shown_of conns.old }
-    ensures numbers { map number_of conns.new ≡ map number_of conns.old }
-    ensures ok { OnOk result (walk_of conns.new placed.new.items closed.new.items ≡ put_one job.now shard (walk_of conns.old placed.old.items closed.old.items) sub.now) }
+/// The names of the subscriptions of these serials.
+pub fn named(alloc: Global, shard: u64, serials: &[u64]) -> Result<Vec<SubId>, AllocError>
+    ensures { IfOk result (λ names. names.items ≡ ended_ids shard serials.now) }
 {
-    let Some(place) = place_of(conns, sub.conn.get()) else {
-        return Ok(());
-    };
-    places.push(place)?;
-    let conn = &mut conns[place];
-    if conn.outbox.is_closing() {
-        return Ok(());
-    }
-    let entry = due_entry(job, lines, shard, sub)?;
-    if conn.outbox.room(entry.len()) {
-        let copy = entry.try_clone(alloc)?;
-        placed.push(Placed {
-            conn: sub.conn,
-            entry: copy,
-        })?;
-        conn.outbox.stage(entry)?;
-    } else {
-        closed.push(sub.conn)?;
-        conn.outbox.stage_last(ErrText::SlowConsumer.line())?;
-    }
-    Ok(())
-}
-
-/// One subscription that matches, unseen.
-fn stage_if_due(
-    conns: &mut [Conn],
-    sub: &Subscription,
-    job: &Job,
-    lines: &MessageLines,
-    shard: u64,
-    alloc: Global,
-    placed: &mut Vec<Placed>,
-    closed: &mut Vec<ConnId>,
-    places: &mut Vec<usize>,
-) -> Result<(), AllocError>
-    requires lines { lines.now ≡ line_parts job.now.message }
-    requires rising { AreRising conns.old }
-    requires within { IsStagedWithin places.old.items conns.old }
-    ensures within { IsStagedWithin places.new.items conns.new }
-    ensures same { map shown_of conns.new ≡ map shown_of conns.old }
-    ensures numbers { map number_of conns.new ≡ map number_of conns.old }
-    ensures ok { OnOk result (walk_of conns.new placed.new.items closed.new.items ≡ put_if_due job.now shard (walk_of conns.old placed.old.items closed.old.items) sub.now) }
-{
-    if !may_get(job, sub) {
-        return Ok(());
-    }
-    stage_one(conns, sub, job, lines, shard, alloc, placed, closed, places)
-}
-
-/// The whole walk, unseen.
-fn stage_all(
-    conns: &mut [Conn],
-    matching: &[&Subscription],
-    job: &Job,
-    shard: u64,
-    alloc: Global,
-    placed: &mut Vec<Placed>,
-    closed: &mut Vec<ConnId>,
-    places: &mut Vec<usize>,
-) -> Result<(), AllocError>
-    requires rising { AreRising conns.old }
-    requires within { IsStagedWithin places.old.items conns.old }
-    ensures within { IsStagedWithin places.new.items conns.new }
-    ensures same { map shown_of conns.new ≡ map shown_of conns.old }
-    ensures numbers { map number_of conns.new ≡ map number_of conns.old }
-    ensures ok { OnOk result (walk_of conns.new placed.new.items closed.new.items ≡ walk_matching job.now shard (behind matching.now) (walk_of conns.old placed.old.items closed.old.items)) }
-{
-    let lines = MessageLines::new(alloc, &job.message)?;
-    for sub in matching {
-        stage_if_due(
-            conns, sub, job, &lines, shard, alloc, placed, closed, places,
-        )?;
-    }
-    Ok(())
-}
-
-/// The subscriptions of these connections.
-pub fn ended<T: SubTable>(
-    alloc: Global,
-    shard: u64,
-    table: &T,
-    conns: &[ConnId],
-) -> Result<Vec<SubId>, AllocError>
-    ensures { IfOk result (λ ended. ended.items ≡ ended_with shard conns.now (T.contents table.now)) }
-{
-    let mut ended = Vec::new(alloc);
-    for conn in conns {
-        add_ended(alloc, shard, table, *conn, &mut ended)?;
-    }
-    Ok(ended)
-}
-
-/// The subscriptions of one connection, behind those that are there.
-#[tactic(auto, using(crate::proofs::Due::ids_of_serials))]
-fn add_ended<T: SubTable>(
-    alloc: Global,
-    shard: u64,
-    table: &T,
-    conn: ConnId,
-    ended: &mut Vec<SubId>,
-) -> Result<(), AllocError>
-    ensures { OnOk result (ended.new.items ≡ ended.old.items ++ map (sub_id shard) (filter (is_of conn) (T.contents table.now))) }
-{
-    let mut serials = Vec::new(alloc);
-    table.serials_of(conn, &mut serials)?;
-    for serial in &serials {
-        ended.push(SubId {
+    let mut names = Vec::new(alloc);
+    for serial in serials {
+        names.push(SubId {
             shard,
             serial: *serial,
         })?;
     }
-    Ok(())
+    Ok(names)
 }
 
-/// Closes the subscriptions of these connections.
-pub fn close_all<T: SubTable>(table: &mut T, conns: &[ConnId])
-    ensures { T.contents table.new ≡ without conns.now (T.contents table.old) }
+/// Whether the message that comes next is the last one of the subscription.
+pub fn is_last(sub: &Subscription) -> bool
+    requires { sub.now.delivered + 1 < 2 ^ 64 }
+    ensures { result ≡ reaches sub.now.max (sub.now.delivered + 1) }
 {
-    for conn in conns {
-        table.close(*conn);
+    match sub.max {
+        None => false,
+        Some(max) => max <= sub.delivered + 1,
     }
 }
 
-/// What a begin does, unseen, and all that it will answer.
-#[tactic(auto, using(crate::proofs::Due::walk_of_matching))]
-fn stage<T: SubTable>(
+/// What a walk did so far.
+#[derive(Drop)]
+pub struct Tally {
     alloc: Global,
     shard: u64,
-    conns: &mut [Conn],
-    table: &T,
+    /// Whether copies of the entries are asked for.
+    copies: bool,
+    placed: Vec<Placed>,
+    /// The subscriptions that got an entry, by their serials.
+    given: Vec<u64>,
+    /// The connections that were shut.
+    shut: Vec<ConnId>,
+    /// The subscriptions that close, by their serials.
+    ended: Vec<u64>,
+}
+
+impl Model for Tally {
+    ghost use Rattle.shard_core.specs.Tallies.{Tallied};
+
+    ghost Value = { Tallied };
+
+    ghost view = { λ t. record {
+      shard = t.shard;
+      copies = t.copies;
+      placed = t.placed.items;
+      given = t.given.items;
+      shut = t.shut.items;
+      ended = t.ended.items;
+    } };
+}
+
+impl Tally {
+    /// Nothing so far.
+    pub fn new(alloc: Global, shard: u64, copies: bool) -> Tally
+        ensures { result ≡ none_tallied shard copies }
+    {
+        Tally {
+            alloc,
+            shard,
+            copies,
+            placed: Vec::new(alloc),
+            given: Vec::new(alloc),
+            shut: Vec::new(alloc),
+            ended: Vec::new(alloc),
+        }
+    }
+
+    /// Notes who was given an entry.
+    fn note(&mut self, entry: &Entry, sub: &Subscription) -> Result<(), AllocError>
+        requires { sub.now.delivered + 1 < 2 ^ 64 }
+        ensures { OnOk result (self.new ≡ with_given entry.now sub.now self.old) }
+    {
+        if self.copies {
+            let entry = entry.try_clone(self.alloc)?;
+            self.placed.push(Placed {
+                conn: sub.conn,
+                entry,
+            })?;
+        }
+        self.given.push(sub.serial)?;
+        if is_last(sub) {
+            self.ended.push(sub.serial)?;
+        }
+        Ok(())
+    }
+
+    /// Shuts a connection that has no room, unseen; all its subscriptions are to close.
+    fn shut<T: SubTable>(
+        &mut self,
+        conns: &mut Conns,
+        openings: &Openings<T>,
+        conn: ConnId,
+    ) -> Result<(), AllocError>
+        requires { opened conn conns.old.next ≡ true }
+        ensures shown { conns.new.shown ≡ conns.old.shown }
+        ensures conns { OnOk result (conns.new.next ≡ changed (with_last slow_consumer) conn conns.old.next) }
+        ensures tally { OnOk result (self.new ≡ with_shut openings.now.subs conn self.old) }
+    {
+        let left = openings.left_of(conn, &self.ended)?;
+        self.ended.extend_from_slice(&left)?;
+        self.shut.push(conn)?;
+        conns.stage_last(conn, ErrText::SlowConsumer.line())?;
+        Ok(())
+    }
+
+    /// One step of the walk, unseen.
+    fn put<T: SubTable>(
+        &mut self,
+        conns: &mut Conns,
+        openings: &Openings<T>,
+        job: &Job,
+        lines: &MessageLines,
+        sub: &Subscription,
+    ) -> Result<(), AllocError>
+        requires lines { lines.now ≡ line_parts job.now.message }
+        requires plain { is_plain sub.now ≡ true }
+        requires counts { sub.now.delivered + 1 < 2 ^ 64 }
+        ensures shown { conns.new.shown ≡ conns.old.shown }
+        ensures ok { OnOk result (Follows openings.now.subs job.now (λ s w. put_one s job.now w sub.now) conns.old.next self.old conns.new.next self.new) }
+    {
+        if !conns.stays_open(sub.conn) {
+            return Ok(());
+        }
+        let entry = due_entry(self.alloc, self.shard, job, lines, sub)?;
+        if !conns.has_room(sub.conn, &entry) {
+            return self.shut(conns, openings, sub.conn);
+        }
+        self.note(&entry, sub)?;
+        conns.stage(sub.conn, entry)?;
+        Ok(())
+    }
+
+    /// One subscription that matches, unseen.
+    fn put_if_due<T: SubTable>(
+        &mut self,
+        conns: &mut Conns,
+        openings: &Openings<T>,
+        job: &Job,
+        lines: &MessageLines,
+        sub: &Subscription,
+    ) -> Result<(), AllocError>
+        requires lines { lines.now ≡ line_parts job.now.message }
+        requires counts { sub.now.delivered + 1 < 2 ^ 64 }
+        ensures shown { conns.new.shown ≡ conns.old.shown }
+        ensures ok { OnOk result (Follows openings.now.subs job.now (λ s w. put_matching s job.now w sub.now) conns.old.next self.old conns.new.next self.new) }
+    {
+        if sub.key.queue.is_some() || !may_get(job, sub) {
+            return Ok(());
+        }
+        self.put(conns, openings, job, lines, sub)
+    }
+
+    /// The whole walk, unseen.
+    fn walk<T: SubTable>(
+        &mut self,
+        conns: &mut Conns,
+        openings: &Openings<T>,
+        job: &Job,
+    ) -> Result<(), AllocError>
+        requires { All (λ sub. sub.delivered + 1 < 2 ^ 64) openings.now.subs }
+        ensures shown { conns.new.shown ≡ conns.old.shown }
+        ensures rising { OnOk result (AreRising openings.now.subs) }
+        ensures ok { OnOk result (Follows openings.now.subs job.now (λ s w. walk s job.now (filter (is_due job.now) s.subs) w) conns.old.next self.old conns.new.next self.new) }
+    {
+        let lines = MessageLines::new(self.alloc, &job.message)?;
+        let matching = openings.table().matching(job.message.subject())?;
+        for sub in &matching {
+            self.put_if_due(conns, openings, job, &lines, sub)?;
+        }
+        Ok(())
+    }
+}
+
+/// Places a job for the subscriptions that it is due to, and shows what was placed; counts, and closes those
+/// that have come to their maximum and those of the connections that were shut. Want of memory leaves all
+/// as it was.
+pub fn place_all<T: SubTable>(
+    tally: Tally,
+    conns: &mut Conns,
+    openings: &mut Openings<T>,
     job: &Job,
-    places: &mut Vec<usize>,
 ) -> Result<Begun, AllocError>
-    requires rising { AreRising conns.old }
-    requires within { IsStagedWithin places.old.items conns.old }
-    ensures within { IsStagedWithin places.new.items conns.new }
-    ensures same { map shown_of conns.new ≡ map shown_of conns.old }
-    ensures numbers { map number_of conns.new ≡ map number_of conns.old }
-    ensures walked { IfOk result (λ begun. walk_of conns.new begun.placed.items begun.closed.items ≡ walk job.now shard (filter (is_due job.now) (T.contents table.now)) (walk_of conns.old [] [])) }
-    ensures ended { IfOk result (λ begun. begun.ended.items ≡ ended_with shard begun.closed.items (T.contents table.now)) }
+    requires fresh { tally ≡ none_tallied tally.shard tally.copies }
+    requires settled { IsSettled conns.old }
+    requires counts { All (λ sub. sub.delivered + 1 < 2 ^ 64) openings.old.subs }
+    ensures ok { IfOk result (λ begun. (s : State) → s.shard ≡ tally.shard → s.subs ≡ openings.old.subs → s.clients ≡ conns.old.shown → HasPlaced tally.copies s job.now openings.old begun conns.new openings.new) }
+    ensures err { OnErr result ((conns.new ≡ conns.old) × (openings.new ≡ openings.old)) }
 {
-    let matching = table.matching(job.message.subject())?;
-    let mut placed = Vec::new(alloc);
-    let mut closed = Vec::new(alloc);
-    stage_all(
-        conns,
-        &matching,
-        job,
-        shard,
-        alloc,
-        &mut placed,
-        &mut closed,
-        places,
-    )?;
-    let ended = ended(alloc, shard, table, &closed)?;
+    let mut tally = tally;
+    let Ok(ended) = stage(&mut tally, conns, openings, job) else {
+        conns.rollback();
+        return Err(AllocError);
+    };
+    conns.commit();
+    let Tally {
+        placed,
+        given,
+        shut,
+        ended: serials,
+        ..
+    } = tally;
+    openings.count_all(&given);
+    openings.close_all(&serials);
     Ok(Begun {
         placed,
-        closed,
+        closed: shut,
         ended,
     })
 }
 
-/// Places a job for the subscriptions that it is due to, and shows what was placed. Want of memory
-/// leaves what waits as it was. The places are kept for their memory alone.
-pub fn place<T: SubTable>(
-    alloc: Global,
-    shard: u64,
-    conns: &mut [Conn],
-    table: &T,
+/// The whole walk, unseen, and the names of those that close.
+fn stage<T: SubTable>(
+    tally: &mut Tally,
+    conns: &mut Conns,
+    openings: &Openings<T>,
     job: &Job,
-    places: &mut Vec<usize>,
-) -> Result<Begun, AllocError>
-    requires rising { AreRising conns.old }
-    requires settled { map next_of conns.old ≡ map shown_of conns.old }
-    ensures numbers { map number_of conns.new ≡ map number_of conns.old }
-    ensures settled { map next_of conns.new ≡ map shown_of conns.new }
-    ensures err { OnErr result (map shown_of conns.new ≡ map shown_of conns.old) }
-    ensures walked { IfOk result (λ begun. shown_walk conns.new begun.placed.items begun.closed.items ≡ walk job.now shard (filter (is_due job.now) (T.contents table.now)) (shown_walk conns.old [] [])) }
-    ensures ended { IfOk result (λ begun. begun.ended.items ≡ ended_with shard begun.closed.items (T.contents table.now)) }
+) -> Result<Vec<SubId>, AllocError>
+    requires fresh { tally.old ≡ none_tallied tally.old.shard tally.old.copies }
+    requires settled { IsSettled conns.old }
+    requires counts { All (λ sub. sub.delivered + 1 < 2 ^ 64) openings.now.subs }
+    ensures shown { conns.new.shown ≡ conns.old.shown }
+    ensures ok { IfOk result (λ ended. (s : State) → s.shard ≡ tally.old.shard → s.subs ≡ openings.now.subs → s.clients ≡ conns.old.shown → IsTallied tally.old.copies s job.now (walked s job.now) conns.new.next tally.new) }
+    ensures ended { IfOk result (λ ended. ended.items ≡ ended_ids tally.old.shard tally.new.ended) }
+    ensures given_apart { IfOk result (λ ended. AreApart tally.new.given) }
+    ensures ended_apart { IfOk result (λ ended. AreApart tally.new.ended) }
 {
-    places.clear();
-    match stage(alloc, shard, conns, table, job, places) {
-        Ok(begun) => {
-            commit(conns, places);
-            Ok(begun)
-        }
-        Err(fault) => {
-            rollback(conns, places);
-            Err(fault)
-        }
-    }
+    tally.walk(conns, openings, job)?;
+    let ended = named(tally.alloc, tally.shard, &tally.ended)?;
+    Ok(ended)
 }

@@ -1,35 +1,12 @@
-use Rattle.std.proofs.Common.{map, sym, ap, ◌∙◌, subst, arith}
-use Rattle.shard_core.specs.Sound.{AreRising}
-use Rattle.shard_core.specs.Views.{number_of}
-use Rattle.shard_core.proofs.Counts.{counted_after_closes}
-use Rattle.shard_core.proofs.Written.{settled_written, numbered_written}
+use Rattle.std.proofs.Common.{◌+◌, ◌≤◌, refl, sym, ap, ◌∙◌, subst}
+use Rattle.subj.specs.declared.limits.TheConstants.{MAX_COUNTER}
+use Rattle.shard_core.specs.Boxes.{Clients}
+use Rattle.shard_core.specs.Tallies.{Tallied}
+use Rattle.shard_core.proofs.Kept.{sound_begun}
 use Rattle.shard_core.proofs.shard.Shard.begin.Goals as goal
-
-pub place-requires-clause-rising : goal.place-requires-clause-rising
-place-requires-clause-rising g c = subst AreRising (sym c.deref_mut.ensures.value) c.self.invariant.numbered.rising
-
-pub invariant_of-self : goal.invariant_of-self
-invariant_of-self g c =
-    let items = c.self.inside.conns.items in
-    let len = c.self.inside.conns.len in
-    record {
-      some = c.self.invariant.some;
-      few = c.self.invariant.few;
-      numbers = c.self.invariant.numbers;
-      numbered = numbered_written c.self.inside.next_conn len c.place.new.conns items items (omega (arith, c.place.auto.conns, c.deref_mut.ensures.len)) c.self.inside.conns.ok.0 (c.place.ensures.numbers ∙ ap (map number_of) c.deref_mut.ensures.value) c.self.invariant.numbered;
-      settled = settled_written len c.place.new.conns items (omega (arith, c.place.auto.conns, c.deref_mut.ensures.len)) c.self.inside.conns.ok.0 c.place.ensures.settled;
-      serials = c.self.invariant.serials;
-    }
 
 pub invariant_of-self-2 : goal.invariant_of-self-2
 invariant_of-self-2 g c =
-    let items = c.self.inside.conns.items in
-    let len = c.self.inside.conns.len in
-    record {
-      some = c.self.invariant.some;
-      few = c.self.invariant.few;
-      numbers = c.self.invariant.numbers;
-      numbered = numbered_written c.self.inside.next_conn len c.place.new.conns items items (omega (arith, c.place.auto.conns, c.deref_mut.ensures.len)) c.self.inside.conns.ok.0 (c.place.ensures.numbers ∙ ap (map number_of) c.deref_mut.ensures.value) c.self.invariant.numbered;
-      settled = settled_written len c.place.new.conns items (omega (arith, c.place.auto.conns, c.deref_mut.ensures.len)) c.self.inside.conns.ok.0 c.place.ensures.settled;
-      serials = counted_after_closes c.self.inside.opened c.deref.result.now (g.T.SubTable.contents c.self.inside.table) (g.T.SubTable.contents c.close_all.new.table) c.close_all.ensures c.self.invariant.serials;
-    }
+    sound_begun _ _ _ _ c.place_all.new.conns c.place_all.new.openings c.args.job c.new-tally.result.copies c.in-Ok.begun c.self.invariant c.drop_candidate.ensures.chosen (sym c.is_some.ensures ∙ c.if-is_some.false)
+    (c.in-Ok.ensures.ok _ (sym (ap (λ (t : Tallied). t.shard) c.new-tally.ensures)) refl (sym (ap (λ (l : Clients). l.shown) c.drop_candidate.ensures.conns)))
+    (sym c.get.ensures.same ∙ c.if-get.false ∙ ap (λ n. n + 1) c.get-2.ensures.same) (subst (λ n. n ≤ MAX_COUNTER) c.get.ensures.same c.get.ensures.most)

@@ -1,0 +1,5 @@
+use Rattle.shard_core.proofs.Rows.{claims_once}
+use Rattle.shard_core.proofs.examples.claims_place_once.Goals as goal
+
+pub returns : goal.returns
+returns c = claims_once

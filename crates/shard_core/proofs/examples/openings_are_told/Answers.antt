@@ -1,0 +1,5 @@
+use Rattle.shard_core.proofs.Rows.{tells_once}
+use Rattle.shard_core.proofs.examples.openings_are_told.Goals as goal
+
+pub returns : goal.returns
+returns c = tells_once

@@ -1,0 +1,5 @@
+use Rattle.shard_core.proofs.Rows.{closes_the_slow}
+use Rattle.shard_core.proofs.examples.the_slow_are_closed.Goals as goal
+
+pub returns : goal.returns
+returns c = closes_the_slow

@@ -1,0 +1,144 @@
+-- A shard between two calls, and how its calls go.
+use Rattle.std.specs.Prelude.{◌≡◌, ℕ, ◌+◌, ◌*◌, ◌<◌, ◌≤◌, true, false, List, [], find, Option, Some, None, is_some, option_map, All}
+use Rattle.outbox.specs.Views.{with_entry}
+use Rattle.sub_table.specs.Subscriptions.{has_serial, serial_of}
+use Rattle.sub_table.specs.declared.Subscription.{Subscription}
+use Rattle.subj.specs.declared.identities.SubId.{SubId}
+use Rattle.subj.specs.declared.jobs.Job.{Job}
+use Rattle.subj.specs.declared.limits.TheConstants.{MAX_COUNTER, MAX_SHARDS, MAX_QUEUE_NAMES}
+use Rattle.shard_core.specs.declared.calls.Placed.{Placed}
+use Rattle.shard_core.specs.Shards.{State, Client, new_shard, changed}
+use Rattle.shard_core.specs.Closings.{id_of}
+use Rattle.shard_core.specs.Owed.{due_entry, placed_for, placed_one, candidate_named, candidate_of, ended_by, tried}
+use Rattle.shard_core.specs.ShardEvents.{Event, Answer, Claim}
+use Rattle.shard_core.specs.ShardSteps.{shard_refusal, shard_after, shard_answer}
+
+-- its state, and the member of a queue group that the last call chose, whose entry is kept for it unseen
+pub record Held : Type 0 where
+  pub state : State
+  pub chosen : Option Subscription
+
+-- a shard of these parts, which has done nothing
+abbrev pub shard_with : ℕ → List Client → List Subscription → State
+shard_with shard clients subs = record (new_shard shard 0) { clients = clients; subs = subs }
+
+-- no candidate stands
+abbrev pub settled : State → Held
+settled s = record { state = s; chosen = None }
+
+-- ---- what a call does
+
+-- it is the step of this event, with this answer, and no candidate stands behind it
+pub record DoesStep (old : Held) (event : Event) (answer : Answer) (new : Held) : Type 0 where
+  pub answered : answer ≡ shard_answer old.state event
+  pub after : new ≡ settled (shard_after old.state event)
+
+-- it leaves the state as it was; a candidate that stood is dropped
+abbrev pub IsLeft : Held → Held → Type 0
+IsLeft old new = new ≡ settled old.state
+
+-- ---- a claim in two calls
+
+-- the name of a candidate
+abbrev pub name_of : ℕ → Option Subscription → Option SubId
+name_of shard chosen = option_map (λ sub. id_of shard sub.serial) chosen
+
+-- the index is tried, and the candidate stands
+pub record Chooses (old : Held) (index : ℕ) (name : Option SubId) (new : Held) : Type 0 where
+  pub named : name ≡ name_of old.state.shard (candidate_of old.state old.state.hand index)
+  pub after : new ≡ record { state = tried old.state; chosen = candidate_of old.state old.state.hand index }
+
+-- the last call chose a candidate for this index
+pub record Stands (index : ℕ) (held : Held) : Type 0 where
+  pub chosen : is_some held.chosen ≡ true
+  pub hand : is_some held.state.hand ≡ true
+  pub tried : held.state.next_index ≡ index + 1
+
+-- the entry that is kept for the candidate
+abbrev pub kept_for : ℕ → Option Job → Option Subscription → Option Placed
+kept_for shard None chosen = None
+kept_for shard (Some job) None = None
+kept_for shard (Some job) (Some sub) = Some (placed_for shard job sub.key.queue sub)
+
+-- the candidate gets it
+abbrev pub placed_chosen : State → Option Job → Option Subscription → State
+placed_chosen s None chosen = s
+placed_chosen s (Some job) None = s
+placed_chosen s (Some job) (Some sub) = placed_one s job sub
+
+-- what closes with it
+abbrev pub ended_by_chosen : Option Subscription → List ℕ
+ended_by_chosen None = []
+ended_by_chosen (Some sub) = ended_by sub
+
+-- the open subscription of this serial
+abbrev pub with_serial : Option ℕ → List Subscription → Option Subscription
+with_serial None subs = None
+with_serial (Some serial) subs = find (has_serial serial) subs
+
+-- what waits once the candidate's entry is shown
+abbrev pub staged_in : Option Job → Subscription → ℕ → List Client → List Client
+staged_in None sub shard clients = clients
+staged_in (Some job) sub shard clients = changed (with_entry (due_entry shard job sub.key.queue sub)) sub.conn clients
+
+abbrev pub staged_for : Option Subscription → Option Job → ℕ → List Client → List Client
+staged_for None hand shard clients = clients
+staged_for (Some sub) hand shard clients = staged_in hand sub shard clients
+
+-- the member that a claim chooses by this name, and what waits once its entry is shown
+pub record HasChosen (s : State) (job : Job) (name : List ℕ) (serial : Option ℕ) (next : List Client) : Type 0 where
+  pub named : serial ≡ option_map serial_of (candidate_named s job (Some name))
+  pub chosen : with_serial serial s.subs ≡ candidate_named s job (Some name)
+  pub staged : next ≡ staged_for (candidate_named s job (Some name)) (Some job) s.shard s.clients
+
+-- Placed by the next call, it is the step of a claim that is won; else that of one that is not.
+pub record IsWhole (old : State) (index : ℕ) (mid : Held) : Type 0 where
+  pub not_won : mid.state ≡ shard_after old (Claim index false)
+  pub stands : is_some mid.chosen ≡ true → Stands index mid
+  pub won : is_some mid.chosen ≡ true → placed_chosen mid.state mid.state.hand mid.chosen ≡ shard_after old (Claim index true)
+
+abbrev pub ClaimsAreWhole : Type 0
+ClaimsAreWhole = (old mid : Held) (index : ℕ) (name : Option SubId) → shard_refusal old.state (Claim index false) ≡ None → Chooses old index name mid → IsWhole old.state index mid
+
+-- ---- what its fields keep
+
+-- the numbers of its connections are below the next one
+pub record AreNumbered (shards next_conn : ℕ) (clients : List Client) : Type 0 where
+  pub some : 0 < shards
+  pub few : shards ≤ MAX_SHARDS
+  pub numbers : next_conn ≤ MAX_COUNTER + MAX_SHARDS
+  pub below : All (λ client. client.number < next_conn) clients
+
+-- the job in hand is that of the next turn
+abbrev pub IsNextTurn : ℕ → Option Job → Type 0
+IsNextTurn finished None = Unit {0}
+IsNextTurn finished (Some job) = (job.turn ≡ finished + 1) × (job.turn ≤ MAX_COUNTER)
+
+pub record HasTurns (finished next_index : ℕ) (hand : Option Job) : Type 0 where
+  pub last : finished ≤ MAX_COUNTER
+  pub tried : next_index ≤ MAX_QUEUE_NAMES
+  pub turn : IsNextTurn finished hand
+
+-- A subscription gets at most one message at each Begin and at each Claim: so many since the shard began. The message of a
+-- candidate that stands is not among them.
+abbrev pub each_turn : ℕ
+each_turn = MAX_QUEUE_NAMES + 1
+
+abbrev pub most_counts : Option Job → Option Subscription → ℕ → ℕ → ℕ
+most_counts None chosen finished next_index = finished * each_turn
+most_counts (Some job) None finished next_index = finished * each_turn + next_index + 1
+most_counts (Some job) (Some sub) finished next_index = finished * each_turn + next_index
+
+-- its serial was given, and its count is possible
+pub record IsPossible (opened most : ℕ) (sub : Subscription) : Type 0 where
+  pub serial : sub.serial ≤ opened
+  pub delivered : sub.delivered ≤ most
+
+abbrev pub ArePossible : ℕ → ℕ → List Subscription → Type 0
+ArePossible opened most subs = All (λ sub. IsPossible opened most sub) subs
+
+pub record IsSound (s : State) (chosen : Option Subscription) (next : List Client) : Type 0 where
+  pub numbered : AreNumbered s.shards s.next_conn s.clients
+  pub turns : HasTurns s.finished s.next_index s.hand
+  pub possible : ArePossible s.opened (most_counts s.hand chosen s.finished s.next_index) s.subs
+  pub staged : next ≡ staged_for chosen s.hand s.shard s.clients

@@ -1,0 +1,158 @@
+//! Open subscriptions, and the openings and closings that the hub was not told of yet.
+
+ghost use Rattle.std.specs.Prelude.{◌≡◌, ◌+◌, ◌≤◌, [], ◌∷◌, length, vec_capacity, IfOk, OnOk, OnErr};
+ghost use Rattle.sub_table.specs.Subscriptions.{with_max};
+ghost use Rattle.shard_core.specs.Closings.{left_of};
+ghost use Rattle.shard_core.specs.Opened.{AreRising, AreApart, IsNext, CanCount, CanCountEach, none_opened, with_opening, with_counts, with_closings, all_told};
+
+use interest::Delta;
+use std::alloc::{AllocError, Global};
+use std::marker::Model;
+use sub_table::{SubTable, Subscription};
+use subj::ConnId;
+
+/// Takes the memory of so many closing deltas, of an opening one, and of the closing one that is to follow it.
+fn reserve_for(deltas: &mut Vec<Delta>, closings: usize) -> Result<(), AllocError>
+    ensures items { deltas.new.items ≡ deltas.old.items }
+    ensures places { OnOk result (length deltas.old.items + closings + 2 ≤ vec_capacity deltas.new) }
+    ensures kept { vec_capacity deltas.old ≤ vec_capacity deltas.new }
+{
+    let places = closings.checked_add(2).ok_or(AllocError)?;
+    deltas.reserve(places)
+}
+
+/// The open subscriptions of a shard, over any table of them, with the openings and closings that the
+/// hub was not told of yet: each opening and each closing leaves one [`Delta`], in order. (Profile.)
+///
+/// Seen as the list of the subscriptions in order of opening, which is that of their serials, and the list
+/// of the deltas. An opening takes the memory of its own delta and of the closing one, so that a closing
+/// takes none.
+#[derive(Drop)]
+pub struct Openings<T: SubTable> {
+    alloc: Global,
+    table: T,
+    deltas: Vec<Delta>,
+}
+
+impl<T: SubTable> Model for Openings<T> {
+    ghost use Rattle.shard_core.specs.Opened.{Opened, IsOpened};
+
+    ghost Value = { Opened };
+
+    ghost use Rattle.std.specs.Prelude.{vec_capacity};
+
+    ghost view = { λ o. record { subs = T.contents o.table; deltas = o.deltas.items } };
+
+    ghost invariant = { λ o. IsOpened (T.contents o.table) o.deltas.items (vec_capacity o.deltas) };
+}
+
+impl<T: SubTable> Openings<T> {
+    /// No subscription is open.
+    pub fn new(alloc: Global) -> Result<Self, AllocError>
+        ensures { IfOk result (λ openings. openings ≡ none_opened) }
+    {
+        Ok(Openings {
+            alloc,
+            table: T::new(alloc)?,
+            deltas: Vec::new(alloc),
+        })
+    }
+
+    /// The table of the open subscriptions.
+    pub fn table(&self) -> &T
+        ensures subs { T.contents result.now ≡ self.now.subs }
+        ensures rising { AreRising self.now.subs }
+    {
+        &self.table
+    }
+
+    /// What the hub was not told of yet, in order.
+    pub fn deltas(&self) -> &[Delta]
+        ensures { result.now ≡ self.now.deltas }
+    {
+        &self.deltas
+    }
+
+    /// Opens one more, whose serial is above all others. Want of memory leaves all as it was.
+    pub fn open(&mut self, sub: Subscription) -> Result<(), AllocError>
+        requires { IsNext sub.serial self.old.subs }
+        ensures ok { OnOk result (self.new ≡ with_opening sub self.old) }
+        ensures err { OnErr result (self.new ≡ self.old) }
+    {
+        let key = sub.key.try_clone(self.alloc)?;
+        reserve_for(&mut self.deltas, self.table.len())?;
+        self.table.add(sub)?;
+        self.deltas.push_reserved(Delta { key, up: true });
+        Ok(())
+    }
+
+    /// Counts one more message that the one of this serial got, where it is open. Takes no memory.
+    pub fn count(&mut self, serial: u64)
+        requires { CanCount serial self.old.subs }
+        ensures { self.new ≡ with_counts (serial ∷ []) self.old }
+    {
+        let Some(sub) = self.table.get(serial) else {
+            return;
+        };
+        let delivered = sub.delivered + 1;
+        self.table.set_count(serial, delivered);
+    }
+
+    /// Counts one more message that each of these serials got, where it is open. Takes no memory.
+    pub fn count_all(&mut self, given: &[u64])
+        requires apart { AreApart given.now }
+        requires room { CanCountEach given.now self.old.subs }
+        ensures { self.new ≡ with_counts given.now self.old }
+    {
+        for serial in given {
+            self.count(*serial);
+        }
+    }
+
+    /// Notes how many messages the one of this serial is to get, where it is open. Takes no memory.
+    pub fn set_max(&mut self, serial: u64, max: Option<u64>)
+        ensures { self.new ≡ record self.old { subs = with_max serial max self.old.subs } }
+    {
+        self.table.set_max(serial, max);
+    }
+
+    /// Closes the one of this serial, where it is open. Takes no memory.
+    pub fn close(&mut self, serial: u64)
+        ensures { self.new ≡ with_closings (serial ∷ []) self.old }
+    {
+        if let Some(sub) = self.table.remove(serial) {
+            let Subscription { key, .. } = sub;
+            self.deltas.push_reserved(Delta { key, up: false });
+        }
+    }
+
+    /// Closes those of these serials that are open, in this order. Takes no memory.
+    pub fn close_all(&mut self, ended: &[u64])
+        requires { AreApart ended.now }
+        ensures { self.new ≡ with_closings ended.now self.old }
+    {
+        for serial in ended {
+            self.close(*serial);
+        }
+    }
+
+    /// The serials of a connection's subscriptions but these, in order of opening.
+    pub fn left_of(&self, conn: ConnId, ended: &[u64]) -> Result<Vec<u64>, AllocError>
+        ensures { IfOk result (λ left. left.items ≡ left_of conn ended.now self.now.subs) }
+    {
+        let mut left = Vec::new(self.alloc);
+        self.table.serials_of(conn, &mut left)?;
+        left.retain(|serial| !ended.contains(serial));
+        Ok(left)
+    }
+
+    /// The hub was told of all. Takes no memory, and keeps what closings need.
+    pub fn take_deltas(&mut self)
+        ensures { self.new ≡ all_told self.old }
+    {
+        self.deltas.clear();
+    }
+}
+
+#[cfg(test)]
+mod tests;
