@@ -28,7 +28,7 @@ counts_queue_names = record { most = (refl, refl); too_many = refl; next = λ ne
 
 pub takes_frames : TakesFrames
 unfolding busy_of
-takes_frames = record { first = (refl, refl); repeated = refl; rejoined = refl; skips = (refl, refl); old = refl; anew = (refl, refl); stale = refl }
+takes_frames = record { first = (refl, refl); repeated = refl; rejoined = refl; equal = refl; below = refl; skips = (refl, refl); old = refl; anew = (refl, refl); stale = refl }
 
 pub hears_in_order : HearsInOrder
 hears_in_order = record { gap = refl; later = (refl, refl); late = refl; next = (refl, refl) }

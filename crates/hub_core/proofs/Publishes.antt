@@ -19,7 +19,8 @@ use Rattle.hub_core.specs.declared.faults.HubFault.TheVariants.{Spent, TooManyQu
 use Rattle.hub_core.specs.State.{Peer}
 use Rattle.hub_core.specs.Choice.{is_eligible, names_for}
 use Rattle.hub_core.specs.Publishing.{subject_of, names_of, choice_of, busy_fault, publish_fault, is_owed, frames_from, frames_of}
-use Rattle.hub_core.specs.AsLaw.{content_of, frame_of, hub_of, peer_of, PublishesInLaw}
+use Rattle.cluster_law.specs.Values.{content_of}
+use Rattle.hub_core.specs.AsLaw.{frame_of, hub_of, peer_of, PublishesInLaw}
 use Rattle.hub_core.proofs.Places.{named}
 use Rattle.hub_core.proofs.Names.{Distinct, names_distinct, for_distinct, names_apart, fewer}
 use Rattle.hub_core.proofs.Known.{frames_unseen, frames_length}

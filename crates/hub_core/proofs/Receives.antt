@@ -29,16 +29,17 @@ use Rattle.hub_core.proofs.Known.{known_is, peer_set, peer_unseen, changed_lengt
 use Rattle.hub_core.proofs.Rooms.{or_none, map_none, has_room}
 
 -- what the tests say that each frame meets
-record FromPeer (server : Server) (hub : State) (finished : List ℕ) (frame : Frame) : Type 0 where
-  me_is : place server frame.to ≡ server.me
-  inc_is : frame.to_inc ≡ server.inc
-  other : place server frame.from ≢ server.me
-  peer : Peer
-  at : slice_get hub.peers (place server frame.from) ≡ Some peer
-  fresh : peer.seen ≤ frame.inc
-  none : body_fault server hub (known peer frame.inc) frame.number finished frame.body ≡ None
+pub record FromPeer (server : Server) (hub : State) (finished : List ℕ) (frame : Frame) : Type 0 where
+  pub me_is : place server frame.to ≡ server.me
+  pub inc_is : frame.to_inc ≡ server.inc
+  pub is : is_peer server (place server frame.from) ≡ true
+  pub other : place server frame.from ≢ server.me
+  pub peer : Peer
+  pub at : slice_get hub.peers (place server frame.from) ≡ Some peer
+  pub fresh : peer.seen ≤ frame.inc
+  pub none : body_fault server hub (known peer frame.inc) frame.number finished frame.body ≡ None
 
-from_peer : (server : Server) → IsListed server → (hub : State) (finished : List ℕ) (frame : Frame) → receive_refusal server hub finished frame ≡ None → FromPeer server hub finished frame
+pub from_peer : (server : Server) → IsListed server → (hub : State) (finished : List ℕ) (frame : Frame) → receive_refusal server hub finished frame ≡ None → FromPeer server hub finished frame
 from_peer server is hub finished frame e =
     let f = no_cause (not (bytes_eq frame.to (own_name server))) NotMe (if not (nat_eq frame.to_inc server.inc) then Some OtherMe else origin_fault server hub finished frame (named_peer server hub frame.from)) e in
     let g = no_cause (not (nat_eq frame.to_inc server.inc)) OtherMe (origin_fault server hub finished frame (named_peer server hub frame.from)) f.1 in
@@ -49,7 +50,7 @@ from_peer server is hub finished frame e =
     by true f None at k l h = absurd (none-some NotInCluster (sym h))
     by true f (Some peer) at k l h =
         let g = no_cause (nat_lt frame.inc peer.seen) StaleOrigin (body_fault server hub (known peer frame.inc) frame.number finished frame.body) h in
-        record { me_is = k; inc_is = l; other = not_own server (place server frame.from) f; peer = peer; at = at; fresh = lt_false frame.inc peer.seen g.0; none = g.1 }
+        record { me_is = k; inc_is = l; is = f; other = not_own server (place server frame.from) f; peer = peer; at = at; fresh = lt_false frame.inc peer.seen g.0; none = g.1 }
 
 -- a change that is taken is the next one
 next : (mark number : ℕ) (view : View) (change : Change) → change_fault mark view number change ≡ None → number ≡ suc mark

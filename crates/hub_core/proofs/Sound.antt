@@ -1,6 +1,7 @@
 -- A hub is sound at its start, and each step keeps it so.
-use Rattle.std.proofs.Common.{◌≡◌, ℕ, zero, suc, ◌+◌, ◌≤◌, Bool, true, false, true≢false, cond, not, nat_eq, nat_lt, ◌&&◌, List, [], ◌∷◌, ◌++◌, map, drop, length, replicate, Option, Some, None, Result, Ok, Err, refl, sym, ap, ◌∙◌, subst, arith, lit≤}
-use Rattle.std.specs.Prelude.{filter, slice_get}
+use Rattle.std.proofs.Common.{◌≡◌, ℕ, zero, suc, ◌+◌, ◌<◌, ◌≤◌, Bool, true, false, true≢false, cond, not, nat_eq, nat_lt, ◌&&◌, List, [], ◌∷◌, ◌++◌, map, drop, length, replicate, Option, Some, None, Result, Ok, Err, refl, sym, ap, ◌∙◌, subst, arith, lit≤}
+use Rattle.std.specs.Prelude.{filter, slice_get, All}
+use Rattle.std.proofs.lemmas.List.Elements.{All-nil, All-append}
 use Rattle.list_laws.proofs.Lists.{read_set, read_map, read_replicate}
 use Rattle.list_laws.proofs.Changes.{filter_append}
 use Rattle.list_laws.proofs.Tests.{lt_true, lt_false, le_true, and_true}
@@ -24,7 +25,7 @@ use Rattle.hub_core.specs.Events.{Event, Publish, Receive, Collect, Up, Cut, Tak
 use Rattle.hub_core.specs.Steps.{IsAsked, HubStep, StaysSound, hub_after}
 use Rattle.hub_core.proofs.Places.{not_own}
 use Rattle.hub_core.proofs.Known.{changed_length, frames_length, map_length}
-use Rattle.hub_core.proofs.Walks.{walk, at_most, waits}
+use Rattle.hub_core.proofs.Walks.{walk, at_most, all_listed, waits}
 
 abbrev AllSound : Server → List Peer → Type 0
 AllSound server peers = (q : ℕ) (peer : Peer) → slice_get peers q ≡ Some peer → IsSoundAt server q peer
@@ -107,10 +108,13 @@ module _ (server : Server) (is : IsListed server) (number : ℕ) (content : Cont
           omega arith
       go false e le = omega arith
 
-  frames_fit : (peers : List Peer) → length peers ≡ length server.names → AllSound server peers → (q : ℕ) (peer : Peer) → slice_get peers q ≡ Some peer → length peer.outbox + length (filter (is_to server q) (frames_from server number content choice all 0 peers)) ≤ ROUTE_FRAMES
+  pub frames_fit : (peers : List Peer) → length peers ≡ length server.names → AllSound server peers → (q : ℕ) (peer : Peer) → slice_get peers q ≡ Some peer → length peer.outbox + length (filter (is_to server q) (frames_from server number content choice all 0 peers)) ≤ ROUTE_FRAMES
   frames_fit peers placed sound q peer at =
       sent_fits q peer (sound q peer at).room (length (filter (is_to server q) (frames_from server number content choice all 0 peers)))
       (subst (λ frames. length (filter (is_to server q) frames) ≤ cond (is_sent q peer) 1 0) (sym (walked 0 peers)) (at_most server is is_sent message_to (λ q peer. refl) q 0 q peers peer (omega arith) at (omega arith)))
+
+  pub frames_listed : (peers : List Peer) → length peers ≡ length server.names → All (λ (frame : Frame). place server frame.to < length server.names) (frames_from server number content choice all 0 peers)
+  frames_listed peers placed = subst (λ (frames : List Frame). All (λ (frame : Frame). place server frame.to < length server.names) frames) (sym (walked 0 peers)) (all_listed server is is_sent message_to (λ q peer. refl) 0 peers (omega arith))
 
 -- ---- a collect
 
@@ -157,10 +161,17 @@ module _ (server : Server) (is : IsListed server) (count : ℕ) where
         room = old.room;
       })
 
+-- what a collect puts has room
+pub collect_fits : (server : Server) (old : State) (deltas : List Delta) → IsListed server → IsSound server old → (q : ℕ) (new : Peer) → slice_get (map (without_slow (count_of_changes old deltas)) old.peers) q ≡ Some new → length new.outbox + length (filter (is_to server q) (collect_frames server old deltas)) ≤ ROUTE_FRAMES
+collect_fits server old deltas is sound q new at =
+    let x = read_map (without_slow (count_of_changes old deltas)) old.peers q new at in
+    subst (λ (peer : Peer). length peer.outbox + length (filter (is_to server q) (collect_frames server old deltas)) ≤ ROUTE_FRAMES) (sym x.2)
+    (told_fits server is (count_of_changes old deltas) x.0 (length (filter (is_to server q) (collect_frames server old deltas))) (sound.peers q x.0 x.1).room (changes_few server is (count_of_changes old deltas) old.changed (changes_of old deltas) old.peers sound.placed q x.0 x.1))
+
 collect_sound : (server : Server) (old : State) (deltas : List Delta) → IsListed server → IsSound server old → IsSound server (collected server old deltas)
 collect_sound server old deltas is sound = record {
   placed = frames_length server frames 0 (map (without_slow count) old.peers) ∙ map_length (without_slow count) old.peers ∙ sound.placed;
-  peers = put_sound server frames (map (without_slow count) old.peers) (slow_sound server is count old.peers sound.peers) fits;
+  peers = put_sound server frames (map (without_slow count) old.peers) (slow_sound server is count old.peers sound.peers) (collect_fits server old deltas is sound);
 } where
   count : ℕ
   count = count_of_changes old deltas
@@ -168,11 +179,12 @@ collect_sound server old deltas is sound = record {
   frames : List Frame
   frames = collect_frames server old deltas
 
-  fits : (q : ℕ) (new : Peer) → slice_get (map (without_slow (count_of_changes old deltas)) old.peers) q ≡ Some new → length new.outbox + length (filter (is_to server q) (collect_frames server old deltas)) ≤ ROUTE_FRAMES
-  fits q new at =
-      let x = read_map (without_slow (count_of_changes old deltas)) old.peers q new at in
-      subst (λ (peer : Peer). length peer.outbox + length (filter (is_to server q) (collect_frames server old deltas)) ≤ ROUTE_FRAMES) (sym x.2)
-      (told_fits server is (count_of_changes old deltas) x.0 (length (filter (is_to server q) (collect_frames server old deltas))) (sound.peers q x.0 x.1).room (changes_few server is (count_of_changes old deltas) old.changed (changes_of old deltas) old.peers sound.placed q x.0 x.1))
+-- and each is to a server of the cluster
+pub changes_listed : (server : Server) → IsListed server → (count number : ℕ) (changes : List Change) (peers : List Peer) → length peers ≡ length server.names → All (λ (frame : Frame). place server frame.to < length server.names) (frames_behind server count number changes peers)
+changes_listed server is count number [] peers placed = All-nil (λ (frame : Frame). place server frame.to < length server.names)
+changes_listed server is count number (change ∷ changes) peers placed = All-append (λ (frame : Frame). place server frame.to < length server.names) (frames_of_change server count (number + 1) change 0 peers) (frames_behind server count (number + 1) changes peers)
+    (subst (λ (frames : List Frame). All (λ (frame : Frame). place server frame.to < length server.names) frames) (sym (walked_change server is count (number + 1) change 0 peers)) (all_listed server is (λ q peer. is_told count peer) (change_to server is count (number + 1) change) (λ q peer. refl) 0 peers (omega arith)))
+    (changes_listed server is count (number + 1) changes peers placed)
 
 publish_sound : (server : Server) (old : State) (p : Publication) → IsListed server → IsSound server old → IsSound server (published server old p)
 publish_sound server old p is sound = record {
@@ -182,7 +194,7 @@ publish_sound server old p is sound = record {
 
 -- ---- each event
 
-after_sound : (server : Server) (old : State) (event : Event) → IsListed server → IsSound server old → IsAsked server old event → IsSound server (hub_after server old event)
+pub after_sound : (server : Server) (old : State) (event : Event) → IsListed server → IsSound server old → IsAsked server old event → IsSound server (hub_after server old event)
 after_sound server old (Publish p finished) is sound asked = publish_sound server old p is sound
 after_sound server old (Receive frame finished) is sound asked =
     let q = place server frame.from in

@@ -1,6 +1,7 @@
 -- Frames of a walk over the peers: one at most for each, to its name.
 use Rattle.std.proofs.Common.{◌≡◌, ◌≢◌, ℕ, zero, suc, ◌+◌, ◌<◌, ◌≤◌, Bool, true, false, cond, List, [], ◌∷◌, ◌++◌, length, Some, refl, sym, ap, ◌∙◌, subst, arith, lit≤}
-use Rattle.std.specs.Prelude.{filter, slice_get}
+use Rattle.std.specs.Prelude.{filter, slice_get, All}
+use Rattle.std.proofs.lemmas.List.Elements.{All-nil, All-cons}
 use Rattle.std.proofs.lemmas.Option.{none-some, same_Some, slice_get_within}
 use Rattle.list_laws.proofs.Changes.{filter_append}
 use Rattle.subj.specs.Servers.{Server, IsListed, name_of, place}
@@ -66,6 +67,18 @@ module _ (server : Server) (is : IsListed server) (sent : ℕ → Peer → Bool)
       let listed : k < length server.names = omega arith in
       let all = filter_append (is_to server k) (here q first) (walk (suc q) peers) ∙ ap (λ t. t ++ filter (is_to server k) (walk (suc q) peers)) (elsewhere k q first listed (omega arith) apart) in
       subst (λ count. count ≤ cond (sent k peer) 1 0) (sym (ap length all)) (at_most k (suc q) n peers peer (omega arith) at (omega arith))
+
+  -- each is to a server of the cluster
+  pub all_listed : (q : ℕ) (peers : List Peer) → q + length peers ≤ length server.names → All (λ (frame : Frame). place server frame.to < length server.names) (walk q peers)
+  all_listed q [] fits = All-nil (λ (frame : Frame). place server frame.to < length server.names)
+  all_listed q (peer ∷ peers) fits = go (sent q peer) (all_listed (suc q) peers (omega arith))
+    where
+      listed : place server (frame q peer).to < length server.names
+      listed = let same = ap (place server) (to q peer) ∙ named server is q (omega arith) in omega arith
+
+      go : (b : Bool) → All (λ (frame : Frame). place server frame.to < length server.names) (walk (suc q) peers) → All (λ (frame : Frame). place server frame.to < length server.names) (cond b (frame q peer ∷ []) [] ++ walk (suc q) peers)
+      go true later = All-cons (λ (frame : Frame). place server frame.to < length server.names) (frame q peer) (walk (suc q) peers) listed later
+      go false later = later
 
 -- ---- what waits after
 

@@ -6,6 +6,7 @@ use Rattle.cluster_law.specs.Hub.{HubPublishes, HubReceives, HubHears, HubMeets,
 use Rattle.cluster_law.specs.Interest as interest
 use Rattle.cluster_law.specs.Messages as messages
 use Rattle.cluster_law.specs.Names as names
+use Rattle.cluster_law.specs.Values.{content_of}
 use Rattle.subj.specs.declared.identities.PubId.{PubId}
 use Rattle.subj.specs.declared.keys.Key.{Key}
 use Rattle.subj.specs.declared.limits.TheConstants.{MAX_QUEUE_NAMES, WINDOW}
@@ -40,9 +41,6 @@ view_of view = map weighted_of view
 abbrev pub change_of : Change → interest.Change
 change_of (Up weighted) = interest.Up (weighted_of weighted)
 change_of (Gone key) = interest.Gone (key_of key)
-
-abbrev pub content_of : Content → messages.Content
-content_of content = record { subject = content.subject; reply = content.reply; payload = content.payload }
 
 abbrev pub id_of : Server → PubId → names.PubId
 id_of server id = record { origin = place server id.origin; inc = id.inc; number = id.number }

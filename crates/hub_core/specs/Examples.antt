@@ -199,6 +199,9 @@ pub record TakesFrames : Type 0 where
   pub first : Gives (n1 1) three (from_n2 7 5 1 message) (Routed (routed 7 1))
   pub repeated : Refuses (n1 1) (after_all (n1 1) three (from_n2 7 5 1 message ∷ [])) (from_n2 7 5 1 message) Late
   pub rejoined : Refuses (n1 1) (after_all (n1 1) three (from_n2 7 5 1 message ∷ Cut 1 ∷ Up 1 7 ∷ [])) (from_n2 7 5 1 message) Late
+  -- a number at the mark, and below it, of a frame that never came
+  pub equal : Refuses (n1 1) known_n2 (from_n2 7 5 9 message) Late
+  pub below : Refuses (n1 1) known_n2 (from_n2 7 5 8 message) Late
   -- numbers may be left out
   pub skips : Gives (n1 1) known_n2 (from_n2 7 5 12 message) (Routed (routed 7 12))
   -- a frame for an incarnation before this one

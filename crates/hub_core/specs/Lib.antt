@@ -8,5 +8,8 @@ pub mod Telling
 pub mod Peers
 pub mod Events
 pub mod Steps
+pub mod Calls
+pub mod Hubs
 pub mod AsLaw
 pub mod Examples
+pub mod Chosen

@@ -2,19 +2,37 @@
 //! a view of each peer's interest, and tells which frames of peers it takes.
 #![tactic(auto)]
 
+mod answers;
+mod choice;
+mod collecting;
+mod collects;
 mod examples;
 mod faults;
+mod hub;
 mod laws;
+mod peers;
+mod publishing;
+mod putting;
+mod receiving;
+mod telling;
+mod window;
 
+pub use answers::{Received, Told};
 pub use examples::{
     a_peer_comes_up, a_publication_is_split, changes_are_heard_in_order, frames_are_taken_once,
     frames_need_room, queue_names_are_counted, the_window_is_kept, weights_are_units,
 };
 pub use faults::HubFault;
+pub use hub::Hub;
 pub use laws::{
     collects_follow_the_law, publishes_follow_the_law, queue_names_are_wanted,
     receives_follow_the_law, sessions_follow_the_law, sound_hubs_stay_sound, the_rest_is_unseen,
 };
+pub use publishing::PublishPlan;
 
+#[cfg(test)]
+mod hub_tests;
+#[cfg(test)]
+mod publish_tests;
 #[cfg(test)]
 mod tests;

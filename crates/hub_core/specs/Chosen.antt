@@ -1,0 +1,61 @@
+-- What a choice finds in code, and what a publish owes by it.
+use Rattle.std.specs.Prelude.{◌≡◌, ℕ, suc, ◌<◌, ◌≤◌, true, nat_le, ◌&&◌, ◌||◌, List, [], ◌∷◌, ◌++◌, length, Option, Some, None, Result, Ok, Err, if◌then◌else◌}
+use Rattle.subj.specs.declared.limits.TheConstants.{MAX_COUNTER, MAX_QUEUE_NAMES}
+use Rattle.std.specs.Option.{option_or}
+use Rattle.subj.specs.declared.messages.Pub.{Pub}
+use Rattle.subj.specs.Messages.{Content}
+use Rattle.subj.specs.QueueNames.{is_named, are_queue_names}
+use Rattle.subj.specs.declared.jobs.Job.{Job}
+use Rattle.subj.specs.Servers.{Server, name_of, own_name}
+use Rattle.route_values.specs.declared.bodies.Body.TheVariants.{Msg}
+use Rattle.route_values.specs.Frames.{Frame}
+use Rattle.hub_core.specs.declared.faults.HubFault.{HubFault}
+use Rattle.hub_core.specs.declared.faults.HubFault.TheVariants.{Spent}
+use Rattle.hub_core.specs.State.{State, Peer}
+use Rattle.hub_core.specs.Choice.{is_eligible}
+use Rattle.hub_core.specs.Publishing.{Publication, busy_fault, is_owed, own_job, frames_of}
+
+-- all names are found, or they are more than a publication may have
+abbrev pub AreFound : {E : Type 0} → List (List ℕ) → Result (List (List ℕ)) E → Type 0
+AreFound all (Ok names) = (names ≡ all) × (length all ≤ MAX_QUEUE_NAMES)
+AreFound all (Err fault) = MAX_QUEUE_NAMES < length all
+
+-- of names, each with the server that was chosen for it, those of one server
+abbrev pub chosen_for : List ℕ → List (List ℕ) → List (Option (List ℕ)) → List (List ℕ)
+chosen_for server_name [] servers = []
+chosen_for server_name (name ∷ names) [] = []
+chosen_for server_name (name ∷ names) (server ∷ servers) = if is_named server_name server then name ∷ chosen_for server_name names servers else chosen_for server_name names servers
+
+-- ---- the frames of a message, by what queue names each server serves
+
+abbrev pub message_frame : Server → ℕ → Content → List (List ℕ) → ℕ → Peer → Frame
+message_frame server number content queues q peer = record { from = own_name server; inc = server.inc; to = name_of server q; to_inc = peer.seen; number = number; body = Msg content queues }
+
+abbrev pub frame_at : Server → ℕ → Content → List (List ℕ) → ℕ → Peer → List Frame
+frame_at server number content queues q peer =
+    if is_eligible server q peer && is_owed content.subject queues peer then message_frame server number content queues q peer ∷ [] else []
+
+abbrev pub sent_from : Server → ℕ → Content → (List ℕ → List (List ℕ)) → ℕ → List Peer → List Frame
+sent_from server number content queues_of q [] = []
+sent_from server number content queues_of q (peer ∷ peers) =
+    frame_at server number content (queues_of (name_of server q)) q peer ++ sent_from server number content queues_of (suc q) peers
+
+-- ---- a publication whose names are split over the servers
+
+-- each name has its server, and the names of each server are queue names
+pub record IsSplit (names : List (List ℕ)) (servers : List (Option (List ℕ))) : Type 0 where
+  pub few : length names ≤ length servers
+  pub ordered : (server_name : List ℕ) → are_queue_names (chosen_for server_name names servers) ≡ true
+
+-- what a publish owes; nothing is changed yet
+pub record IsPlanOf (server : Server) (hub : State) (p : Publication) (its_job : Job) (sent : List Frame) : Type 0 where
+  pub job : its_job ≡ own_job server hub p
+  pub frames : sent ≡ frames_of server hub p
+
+-- a publication of its parts
+abbrev pub publication : ℕ → Pub → ℕ → Publication
+publication conn said word = record { conn = conn; said = said; word = word }
+
+-- why no turn is issued: 60, 62
+abbrev pub turn_refusal : Server → State → List ℕ → Option HubFault
+turn_refusal server hub finished = option_or (busy_fault server hub finished) (if nat_le MAX_COUNTER hub.published || nat_le MAX_COUNTER hub.issued then Some Spent else None)

@@ -1,0 +1,22 @@
+//! What the calls on a hub answer.
+
+use interest::Change;
+use subj::Job;
+
+/// What becomes of a frame that is taken.
+#[derive(Debug, Drop)]
+pub enum Received {
+    /// The job of a message, with the queue names that its origin picked this server for.
+    Routed(Job),
+    /// News were heard: the number of the last change of interest that is known now.
+    Heard(u64),
+}
+
+/// What was told of deltas that were counted.
+#[derive(Debug, Drop)]
+pub struct Told {
+    /// The changes that the peers are told, in their order.
+    pub changes: Vec<Change>,
+    /// The peers that were cut since they had no room for all of them, by their places.
+    pub cut: Vec<usize>,
+}

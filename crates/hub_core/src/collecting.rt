@@ -1,0 +1,138 @@
+//! What peers are told of the server's own interest.
+
+ghost use Rattle.std.specs.Prelude.{◌≡◌, ◌≤◌, ◌<◌, ◌+◌, ◌++◌, true, map, length, slice_get, Some, IfOk, OnOk};
+ghost use Rattle.subj.specs.declared.limits.TheConstants.{MAX_COUNTER, ROUTE_FRAMES};
+ghost use Rattle.hub_core.specs.Telling.{is_told as told, is_slow as slow, slow_from, without_slow, frames_of_change, frames_behind, body_of as told_as};
+ghost use Rattle.hub_core.specs.Calls.{WereSeen, change_to};
+
+use crate::peers::Peer;
+use crate::telling::frame_to;
+use interest::Change;
+use route_values::{Body, Numbered};
+use std::alloc::{AllocError, Global};
+use subj::{ROUTE_FRAMES, Server};
+
+/// Whether the peer is up, with room for so many frames more.
+fn is_told(peer: &Peer, count: usize) -> bool
+    ensures { result ≡ told count peer.now }
+{
+    peer.up && count <= ROUTE_FRAMES && peer.outbox.len() + count <= ROUTE_FRAMES
+}
+
+/// Whether the peer is up, without room for so many frames more.
+fn is_slow(peer: &Peer, count: usize) -> bool
+    ensures { result ≡ slow count peer.now }
+{
+    peer.up && !is_told(peer, count)
+}
+
+/// What a peer is told of a change; a copy.
+fn body_of(alloc: Global, change: &Change) -> Result<Body, AllocError>
+    ensures { IfOk result (λ body. body ≡ told_as change.now) }
+{
+    match change {
+        Change::Up(weighted) => Ok(Body::Plus(weighted.try_clone(alloc)?)),
+        Change::Gone(key) => Ok(Body::Minus(key.try_clone(alloc)?)),
+    }
+}
+
+/// The frame that tells the peer at the place of a change.
+fn frame_of_change(
+    alloc: Global,
+    server: &Server,
+    place: usize,
+    peer: &Peer,
+    number: u64,
+    change: &Change,
+) -> Result<Numbered, AllocError>
+    requires place { place < length server.now.names }
+    requires seen { 1 ≤ peer.now.seen }
+    requires first { 1 ≤ number }
+    requires last { number ≤ MAX_COUNTER }
+    ensures { IfOk result (λ frame. frame ≡ change_to server.now number change.now place peer.now) }
+{
+    let body = body_of(alloc, change)?;
+    let inc = peer.incarnation();
+    Ok(frame_to(server, place, inc, number, body))
+}
+
+/// The peers that are up without room for so many frames more, by their places.
+pub(crate) fn slow_peers(
+    alloc: Global,
+    peers: &[Peer],
+    count: usize,
+) -> Result<Vec<usize>, AllocError>
+    ensures { IfOk result (λ places. places.items ≡ slow_from count 0 peers.now) }
+{
+    let mut places = Vec::new(alloc);
+    for place in 0..peers.len() {
+        if is_slow(&peers[place], count) {
+            places.push(place)?;
+        }
+    }
+    Ok(places)
+}
+
+/// A peer that is up without room for so many frames more is so no longer.
+fn cut_if_slow(peer: &mut Peer, count: usize)
+    ensures { peer.new ≡ without_slow count peer.old }
+{
+    peer.up = is_told(peer, count);
+}
+
+/// The peers that are up without room for so many frames more are so no longer.
+pub(crate) fn cut_slow(peers: &mut [Peer], count: usize)
+    ensures { peers.new ≡ map (without_slow count) peers.old }
+{
+    for peer in peers {
+        cut_if_slow(peer, count);
+    }
+}
+
+/// Adds the frames that tell of the change of this number, of so many, to each peer that is told all.
+fn add_frames(
+    server: &Server,
+    peers: &[Peer],
+    count: usize,
+    number: u64,
+    change: &Change,
+    frames: &mut Vec<Numbered>,
+) -> Result<(), AllocError>
+    requires placed { length peers.now ≡ length server.now.names }
+    requires seen { WereSeen peers.now }
+    requires first { 1 ≤ number }
+    requires last { number ≤ MAX_COUNTER }
+    ensures { OnOk result (frames.new.items ≡ frames.old.items ++ frames_of_change server.now count number change.now 0 peers.now) }
+{
+    let alloc = *frames.allocator();
+    for place in 0..peers.len() {
+        let peer = &peers[place];
+        if is_told(peer, count) {
+            frames.push(frame_of_change(alloc, server, place, peer, number, change)?)?;
+        }
+    }
+    Ok(())
+}
+
+/// The frames that tell of these changes, which follow the one of this number, in order of change and
+/// then of peer.
+pub(crate) fn frames_of_changes(
+    alloc: Global,
+    server: &Server,
+    peers: &[Peer],
+    changed: u64,
+    changes: &[Change],
+) -> Result<Vec<Numbered>, AllocError>
+    requires placed { length peers.now ≡ length server.now.names }
+    requires seen { WereSeen peers.now }
+    requires numbers { changed + length changes.now ≤ MAX_COUNTER }
+    ensures { IfOk result (λ frames. frames.items ≡ frames_behind server.now (length changes.now) changed changes.now peers.now) }
+{
+    let mut frames = Vec::new(alloc);
+    let mut number = changed;
+    for change in changes {
+        number += 1;
+        add_frames(server, peers, changes.len(), number, change, &mut frames)?;
+    }
+    Ok(frames)
+}
