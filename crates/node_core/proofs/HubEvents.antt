@@ -11,6 +11,7 @@ use Rattle.cluster_law.specs.Hub as law_hub
 use Rattle.cluster_law.specs.History as history
 use Rattle.cluster_law.specs.Messages as messages
 use Rattle.cluster_law.specs.Node as law
+use Rattle.cluster_law.specs.Values.{content_of}
 use Rattle.cluster_law.specs.Cluster.{IsOwn}
 use Rattle.subj.specs.Servers.{Server, IsListed, own_name, place, is_peer}
 use Rattle.subj.specs.declared.jobs.Job.{Job}
@@ -26,7 +27,7 @@ use Rattle.hub_core.specs.Publishing.{Publication, publish_refusal, published, o
 use Rattle.hub_core.specs.Receiving.{receive_refusal, received, routed_job}
 use Rattle.hub_core.specs.Telling.{collect_refusal, collected, collect_frames, changes_of}
 use Rattle.hub_core.specs.Peers.{up, snapshot_to}
-use Rattle.hub_core.specs.AsLaw.{hub_of, id_of, frame_of, content_of, IsPublished}
+use Rattle.hub_core.specs.AsLaw.{hub_of, id_of, frame_of, IsPublished}
 use Rattle.hub_core.proofs.Places.{named}
 use Rattle.hub_core.proofs.Rooms.{map_none}
 use Rattle.hub_core.proofs.Known.{set_length}
@@ -213,7 +214,7 @@ connect_greets server s (Some x) connect least e = go x.dialed (no_cause (is_som
         let b = and_true (nat_eq (place server connect.to) server.me) (is_peer server (place server connect.server_name)) (not_false (nat_eq (place server connect.to) server.me && is_peer server (place server connect.server_name)) g.0) in
         peer_greets server connect.server_name connect.inc least b.1 (or_false (nat_lt connect.inc least) (not (nat_eq connect.to_inc server.inc)) (no_cause (nat_lt connect.inc least || not (nat_eq connect.to_inc server.inc)) OldIncarnation (against (connect_offer server connect) (kept_for (place server connect.server_name) s.standing)) g.1).0).0
 
-get_some : {A : Type 0} (xs : List A) (n : ℕ) → n < length xs → (x : A) × (slice_get xs n ≡ Some x)
+pub get_some : {A : Type 0} (xs : List A) (n : ℕ) → n < length xs → (x : A) × (slice_get xs n ≡ Some x)
 get_some [] n lt = absurd (omega arith)
 get_some (x ∷ xs) zero lt = (x, refl)
 get_some (x ∷ xs) (suc n) lt = get_some xs n (omega arith)

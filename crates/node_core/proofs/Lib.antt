@@ -11,3 +11,16 @@ pub mod OneWinner
 pub mod Placing
 pub mod OneJob
 pub mod Ends
+pub mod Raced
+pub mod Composed
+pub mod Starts
+pub mod KeptSessions
+pub mod PeersKept
+pub mod Replays
+pub mod CountsOpen
+pub mod PlacedOnce
+pub mod LastLines
+pub mod OutboxesKnown
+pub mod HubsSound
+pub mod Greeting
+pub mod Claiming

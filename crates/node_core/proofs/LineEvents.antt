@@ -111,7 +111,7 @@ no_lives DropJob line won e is n inc now place = go line.shard.hand (first_of li
     go (Some job) f g = subst (λ x. lives_by n inc now place line.shard x ≡ []) (same_Some (of_shard.DropJob None) e g) refl
 
 -- whether a claim is won does not decide whether it is refused
-same_refusal : (work : ShardWork) (line : Line) (won : Bool) → event_refusal line (work_event work false line) ≡ event_refusal line (work_event work won line)
+pub same_refusal : (work : ShardWork) (line : Line) (won : Bool) → event_refusal line (work_event work false line) ≡ event_refusal line (work_event work won line)
 same_refusal Attach line won = refl
 same_refusal Begin line won = refl
 same_refusal (Claim index) line won = refl

@@ -2,6 +2,7 @@
 use Rattle.std.proofs.Common.{◌≡◌, ℕ, Bool, List, [], ◌∷◌, map, Option, Some, None, refl, sym, subst}
 use Rattle.list_laws.proofs.Lists.{each_cons, each_one}
 use Rattle.cluster_law.specs.Node as law
+use Rattle.cluster_law.specs.Values.{content_of}
 use Rattle.subj.specs.Servers.{Server, IsListed, place}
 use Rattle.sub_table.specs.declared.Subscription.{Subscription}
 use Rattle.claim_race.specs.Race.{RaceState}
@@ -9,7 +10,7 @@ use Rattle.hub_core.specs.State as hub
 use Rattle.hub_core.specs.Publishing.{publish_refusal}
 use Rattle.hub_core.specs.Receiving.{receive_refusal}
 use Rattle.hub_core.specs.Peers.{taken, snapshot_to}
-use Rattle.hub_core.specs.AsLaw.{hub_of, frame_of, content_of, HasPeers}
+use Rattle.hub_core.specs.AsLaw.{hub_of, frame_of, HasPeers}
 use Rattle.hub_core.proofs.Rooms.{map_none}
 use Rattle.hub_core.proofs.Receives.{cuts_unseen, takes_unseen}
 use Rattle.route_session.specs.State.{session_at, peer_of_session}

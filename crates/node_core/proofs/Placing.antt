@@ -1,10 +1,10 @@
 -- What a Claim puts behind the outboxes.
-use Rattle.std.proofs.Common.{◌≡◌, ℕ, suc, ◌-◌, Bool, true, false, cond, nat_eq, List, [], ◌∷◌, ◌++◌, set, Option, Some, None, refl, sym, ap, ◌∙◌, subst, ⊎_elim, arith}
+use Rattle.std.proofs.Common.{◌≡◌, ℕ, suc, ◌-◌, Bool, true, false, cond, nat_eq, List, [], ◌++◌, set, Option, Some, None, refl, sym, ap, ◌∙◌, subst, ⊎_elim, arith}
 use Rattle.std.specs.Prelude.{slice_get}
 use Rattle.std.proofs.lemmas.Option.{none-some}
 use Rattle.list_laws.specs.Lists.{Each}
 use Rattle.list_laws.proofs.Tests.{eq_true, eq_false}
-use Rattle.list_laws.proofs.Changes.{get_set_here, get_set_there}
+use Rattle.list_laws.proofs.Changes.{append_nil, get_set_here, get_set_there}
 use Rattle.subj.specs.Servers.{Server}
 use Rattle.subj.specs.declared.jobs.Job.{Job}
 use Rattle.sub_table.specs.declared.Subscription.{Subscription}
@@ -25,10 +25,6 @@ use Rattle.node_core.specs.Steps.{shard_line, work_refusal, line_after, set_line
 use Rattle.node_core.specs.Sound.{SoundNode}
 use Rattle.node_core.specs.OneServer.{Claimed, claims_by, claimed_at, claimed_with, placed_with, placed_by, ClaimsPlace}
 use Rattle.node_core.proofs.LineEvents.{found}
-
-append_nil : {A : Type 0} (xs : List A) → xs ++ [] ≡ xs
-append_nil [] = refl
-append_nil (x ∷ xs) = ap (λ t. x ∷ t) (append_nil xs)
 
 claim_placed : (s : shards.State) (job : Job) (u : Option Subscription) (won : Bool) → put_by_claim s (Some job) u won ≡ placed_with s.shard job u won
 claim_placed s job None won = refl

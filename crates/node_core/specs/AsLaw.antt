@@ -9,6 +9,7 @@ use Rattle.cluster_law.specs.Messages as messages
 use Rattle.cluster_law.specs.Names as names
 use Rattle.cluster_law.specs.Node as law
 use Rattle.cluster_law.specs.Shard as law_shard
+use Rattle.cluster_law.specs.Values.{content_of}
 use Rattle.subj.specs.Servers.{Server, IsListed, place}
 use Rattle.subj.specs.Matching.{subject_matches}
 use Rattle.subj.specs.declared.jobs.Job.{Job}
@@ -25,7 +26,7 @@ use Rattle.route_values.specs.declared.bodies.Body.{Body}
 use Rattle.route_values.specs.declared.bodies.Body.TheVariants.{Plus, Minus, Snapshot, Msg}
 use Rattle.route_values.specs.declared.frames.RouteFrame.{RouteFrame}
 use Rattle.route_values.specs.declared.frames.RouteFrame.TheVariants as route
-use Rattle.hub_core.specs.AsLaw.{hub_of, id_of, frame_of, content_of, change_of, follow}
+use Rattle.hub_core.specs.AsLaw.{hub_of, id_of, frame_of, change_of, follow}
 use Rattle.hub_core.specs.Publishing.{Publication, own_job, next_id}
 use Rattle.hub_core.specs.Receiving.{routed_job}
 use Rattle.hub_core.specs.Telling.{changes_of}

@@ -3,7 +3,14 @@ pub mod Race
 pub mod State
 pub mod Events
 pub mod Steps
+pub mod Answers
 pub mod Sound
 pub mod AsLaw
 pub mod Runs
 pub mod OneServer
+pub mod PeersKept
+pub mod CountsOpen
+pub mod PlacedOnce
+pub mod Outboxes
+pub mod HubsSound
+pub mod Served

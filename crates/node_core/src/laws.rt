@@ -3,6 +3,11 @@
 ghost use Rattle.node_core.specs.Race.{RaceFollows};
 ghost use Rattle.node_core.specs.AsLaw.{NodeFollows, StaysSound};
 ghost use Rattle.node_core.specs.Runs.{RunsStaySound};
+ghost use Rattle.node_core.specs.HubsSound.{HubsStaySound};
+ghost use Rattle.node_core.specs.Outboxes.{OutboxesAreKnown};
+ghost use Rattle.node_core.specs.PeersKept.{KeepsPeers};
+ghost use Rattle.node_core.specs.CountsOpen.{CountsStayOpen};
+ghost use Rattle.node_core.specs.PlacedOnce.{PlacesOnce, PutsOnce};
 ghost use Rattle.node_core.specs.OneServer.{ClaimsPlace, EndedTurns, OneJob, OneWinner, TurnsAreFresh};
 
 /// Each call of a race is a move of the cluster law's race: over the window, the same pairs are won.
@@ -54,3 +59,44 @@ pub fn one_job()
 pub fn ended_turns()
     ensures { EndedTurns }
 {}
+
+/// A peer is up at an incarnation just where a kept session with it has that incarnation, which is the greatest seen of the
+/// peer; and no two sessions are kept with one peer.
+pub fn peers_are_kept()
+    ensures { KeepsPeers }
+{}
+
+/// Of each key the hub's count, together with what the shards have still to tell it, is the number of the open
+/// subscriptions. So a Collect is never refused for its deltas: each shard keeps within its share of the server's limits.
+pub fn counts_are_open()
+    ensures { CountsStayOpen }
+{
+    interest::openings_are_counted();
+    interest::counts_and_changes_agree()
+}
+
+/// Over a whole run and all shards, what is placed for one queue name of a turn is one message where any of its claims had a
+/// candidate, and none otherwise.
+pub fn places_once()
+    ensures { PlacesOnce }
+{}
+
+/// Of each connection, since it was attached: what was taken from its outbox and what waits there are the replies put for it
+/// and the messages owed to it, in order, and behind them its last line, just where it is shut.
+pub fn outboxes_are_known()
+    ensures { OutboxesAreKnown }
+{}
+
+/// Over a whole run and all shards, whatever the events, at most one message is put for a queue name of a turn, where that
+/// stands at most once among the queue names of the turn's job.
+pub fn puts_once()
+    ensures { PutsOnce }
+{}
+
+/// Of every run whose INFO and CONNECT tell incarnations from 1 on: no route outbox has more frames than its limit, whoever is
+/// up was seen, the server itself is never up, and each kept session is with another server of the cluster.
+pub fn hubs_stay_sound()
+    ensures { HubsStaySound }
+{
+    hub_core::sound_hubs_stay_sound()
+}

@@ -1,0 +1,406 @@
+//! A server as one value.
+
+ghost use Rattle.std.specs.Prelude.{◌≡◌, ◌≤◌, ◌<◌, ◌-◌, nat_eq, length, if◌then◌else◌, Some, None, true, false, slice_get, option_to_list, IfOk, IfSome};
+ghost use Rattle.std.specs.Option.{option_map};
+ghost use Rattle.subj.specs.Answers.{IsAnswered, IsDecided};
+ghost use Rattle.subj.specs.declared.limits.TheConstants.{MAX_SHARDS};
+ghost use Rattle.shard_core.specs.Answers.{answer_of};
+ghost use Rattle.shard_core.specs.ShardEvents.{Attached, Unsubscribed, Replied, WasShut, Detached, Taken, Finished, Dropped};
+ghost use Rattle.node_core.specs.Events.{Subscribe, Unsubscribe, Reply, Shut, Detach, Take, Attach, Begin, Claim, End, DropJob, Own, OfConn, AtShard, Publish, Collect, Dial, Accept, CutSession, TakeFrames, Receive, OnInfo, OnConnect};
+ghost use Rattle.node_core.specs.Served.{IsStarted, of_session_answer, of_hub_answer, refusal, place_of_conn as place_given, place_of_shard as place_counted, ConnStep, WorkStep, BeginStep, DialStep, AcceptStep, CutStep, FramesStep, DropStep, ClaimStep, InfoStep, ConnectStep};
+ghost use Rattle.node_core.specs.State.{lines_from};
+ghost use Rattle.hub_core.specs.State.{peer_of, seen_of as seen_by_hub};
+ghost use Rattle.route_session.specs.Calls.{peer_of as peer_by_name};
+
+use crate::faults::NodeFault;
+use crate::lines::{Claimed, Line};
+use claim_race::Race;
+use client_frames::{ErrText, ReplyFrame};
+use hub_core::{Hub, HubFault};
+use outbox::Entry;
+use route_session::{Kept, SessionFault, SessionId, Sessions};
+use route_values::{Numbered, RouteConnect, RouteInfo};
+use shard_core::{Begun, ShardFault, Subscribed};
+use std::alloc::{AllocError, Global};
+use std::marker::Model;
+use sub_table::SubTable;
+use subj::{ConnId, Failure, Key, NodeId, Server, Sid, SubId, Turn};
+
+/// The lines of a server of so many shards.
+#[tactic(auto, using(crate::proofs::Starts::lines_more))]
+fn new_lines<T: SubTable>(alloc: Global, shards: u64) -> Result<Vec<Line<T>>, AllocError>
+    requires first { 1 ≤ shards }
+    requires few { shards ≤ MAX_SHARDS }
+    ensures { IfOk result (λ lines. lines.items ≡ lines_from shards 1 shards) }
+{
+    let mut lines = Vec::new(alloc);
+    for made in 0..shards {
+        lines.push(Line::new(alloc, made + 1, shards)?)?;
+    }
+    Ok(lines)
+}
+
+/// The place of the line that has the connection of this number, of so many lines.
+fn place_of_conn(count: usize, conn: ConnId) -> Option<usize>
+    requires { 1 ≤ count }
+    ensures place { result ≡ place_given count conn }
+    ensures within { IfSome result (λ place. place < count) }
+{
+    let number = conn.get();
+    if number == 0 {
+        return None;
+    }
+    Some(((number - 1) % count as u64) as usize)
+}
+
+/// The place of the line of the shard of this number, of so many lines.
+fn place_of_shard(count: usize, shard: u64) -> Option<usize>
+    ensures place { result ≡ place_counted count shard }
+    ensures within { IfSome result (λ place. place < count) }
+{
+    if shard == 0 || shard > count as u64 {
+        return None;
+    }
+    Some((shard - 1) as usize)
+}
+
+/// The place of the peer of this name.
+#[tactic(auto, using(crate::proofs::Greeting::nobody, crate::proofs::Greeting::at_place))]
+fn peer_named(server: &Server, name: NodeId) -> Option<usize>
+    ensures { result ≡ peer_by_name server.now name }
+{
+    let place = server.place(name)?;
+    server.is_peer(place).then_some(place)
+}
+
+/// The greatest incarnation seen of the peer of this name; 0 before the first, and of anyone else.
+fn seen_of(hub: &Hub, name: NodeId) -> u64
+    ensures { result ≡ seen_by_hub (peer_of hub.now.server hub.now.state name) }
+{
+    match peer_named(hub.server(), name) {
+        None => 0,
+        Some(place) => hub.seen_of(place),
+    }
+}
+
+/// What the sessions answer, as their server's answer.
+fn of_sessions<X>(answer: Result<X, Failure<SessionFault>>) -> Result<X, Failure<NodeFault>>
+    ensures { result ≡ of_session_answer answer }
+{
+    match answer {
+        Ok(x) => Ok(x),
+        Err(Failure::Refused(fault)) => Err(Failure::Refused(NodeFault::Session(fault))),
+        Err(Failure::OutOfMemory) => Err(Failure::OutOfMemory),
+    }
+}
+
+/// What the hub answers, as its server's answer.
+fn of_hub<X>(answer: Result<X, Failure<HubFault>>) -> Result<X, Failure<NodeFault>>
+    ensures { result ≡ of_hub_answer answer }
+{
+    match answer {
+        Ok(x) => Ok(x),
+        Err(Failure::Refused(fault)) => Err(Failure::Refused(NodeFault::Hub(fault))),
+        Err(Failure::OutOfMemory) => Err(Failure::OutOfMemory),
+    }
+}
+
+/// A server, over any table of subscriptions and any race. (Profile.)
+///
+/// Seen as who it is, and its hub, its sessions, the race and the lines of its shards. Each call is a
+/// step of the server: it is refused by the first cause, or does what the step says; want of memory comes
+/// only where there is no cause. Both leave all as it was. Numbers of connections, shards and sessions
+/// may be any.
+#[derive(Drop)]
+pub struct Node<T: SubTable, R: Race> {
+    alloc: Global,
+    hub: Hub,
+    sessions: Sessions,
+    race: R,
+    lines: Vec<Line<T>>,
+}
+
+impl<T: SubTable, R: Race> Model for Node<T, R> {
+    ghost use Rattle.node_core.specs.Served.{Served};
+
+    ghost Value = { Served };
+
+    ghost use Rattle.std.specs.Prelude.{◌≡◌};
+    ghost use Rattle.node_core.specs.Served.{seen, IsKept};
+
+    ghost view = { λ n. seen n.hub.server n.hub.state n.sessions.state (R.contents n.race) n.lines.items };
+
+    ghost invariant = { λ n. (n.sessions.server ≡ n.hub.server) × IsKept (seen n.hub.server n.hub.state n.sessions.state (R.contents n.race) n.lines.items) };
+}
+
+impl<T: SubTable, R: Race> Node<T, R> {
+    /// A server that has just started: nothing is counted, nobody is known, and no job waits.
+    #[tactic(auto, using(crate::proofs::Starts::starts_kept))]
+    pub fn new(alloc: Global, server: Server) -> Result<Node<T, R>, AllocError>
+        ensures { IfOk result (λ node. IsStarted server node) }
+    {
+        let _me = server.me();
+        let lines = new_lines(alloc, server.shards())?;
+        let race = R::new(alloc, server.shards())?;
+        let sessions = Sessions::new(alloc, server.try_clone(alloc)?);
+        let hub = Hub::new(alloc, server)?;
+        Ok(Node {
+            alloc,
+            hub,
+            sessions,
+            race,
+            lines,
+        })
+    }
+
+    /// Opens a subscription, unless the connection has one of this id open. Refused as
+    /// [`Line::subscribe`] is, and with [`ShardFault::NoConn`] where no shard has the connection.
+    pub fn subscribe(
+        &mut self,
+        conn: ConnId,
+        key: Key,
+        sid: Sid,
+    ) -> Result<Subscribed, Failure<NodeFault>>
+        ensures { IsAnswered (refusal self.old (Own (OfConn conn (Subscribe key sid)))) (λ done. ConnStep self.old conn (Subscribe key sid) (answer_of done) self.new) (self.new ≡ self.old) result }
+    {
+        let Some(place) = place_of_conn(self.lines.len(), conn) else {
+            return Err(Failure::Refused(NodeFault::Shard(ShardFault::NoConn)));
+        };
+        let line = &mut self.lines[place];
+        line.subscribe(conn, key, sid)
+    }
+
+    /// Closes what the connection calls by this id: [`Line::unsubscribe`]. Takes no memory.
+    pub fn unsubscribe(
+        &mut self,
+        conn: ConnId,
+        sid: &Sid,
+        max: Option<u64>,
+    ) -> Result<Option<SubId>, NodeFault>
+        ensures { IsDecided (refusal self.old (Own (OfConn conn (Unsubscribe sid.now max)))) (λ ended. ConnStep self.old conn (Unsubscribe sid.now max) (Unsubscribed (option_to_list ended)) self.new) (self.new ≡ self.old) result }
+    {
+        let Some(place) = place_of_conn(self.lines.len(), conn) else {
+            return Err(NodeFault::Shard(ShardFault::NoConn));
+        };
+        let line = &mut self.lines[place];
+        line.unsubscribe(conn, sid, max)
+    }
+
+    /// Puts an answer for a connection: [`Line::reply`].
+    pub fn reply(
+        &mut self,
+        conn: ConnId,
+        frame: &ReplyFrame,
+    ) -> Result<Vec<SubId>, Failure<NodeFault>>
+        ensures { IsAnswered (refusal self.old (Own (OfConn conn (Reply frame.now)))) (λ ended. ConnStep self.old conn (Reply frame.now) (Replied ended.items) self.new) (self.new ≡ self.old) result }
+    {
+        let Some(place) = place_of_conn(self.lines.len(), conn) else {
+            return Err(Failure::Refused(NodeFault::Shard(ShardFault::NoConn)));
+        };
+        let line = &mut self.lines[place];
+        line.reply(conn, frame)
+    }
+
+    /// Shuts a connection with this text: [`Line::shut`].
+    pub fn shut(&mut self, conn: ConnId, text: ErrText) -> Result<Vec<SubId>, Failure<NodeFault>>
+        ensures { IsAnswered (refusal self.old (Own (OfConn conn (Shut text)))) (λ ended. ConnStep self.old conn (Shut text) (WasShut ended.items) self.new) (self.new ≡ self.old) result }
+    {
+        let Some(place) = place_of_conn(self.lines.len(), conn) else {
+            return Err(Failure::Refused(NodeFault::Shard(ShardFault::NoConn)));
+        };
+        let line = &mut self.lines[place];
+        line.shut(conn, text)
+    }
+
+    /// The connection goes: [`Line::detach`].
+    pub fn detach(&mut self, conn: ConnId) -> Result<Vec<SubId>, Failure<NodeFault>>
+        ensures { IsAnswered (refusal self.old (Own (OfConn conn Detach))) (λ ended. ConnStep self.old conn Detach (Detached ended.items) self.new) (self.new ≡ self.old) result }
+    {
+        let Some(place) = place_of_conn(self.lines.len(), conn) else {
+            return Err(Failure::Refused(NodeFault::Shard(ShardFault::NoConn)));
+        };
+        let line = &mut self.lines[place];
+        line.detach(conn)
+    }
+
+    /// Gives and removes the first entries that wait for a connection: [`Line::take`].
+    pub fn take(&mut self, conn: ConnId, count: usize) -> Result<Vec<Entry>, Failure<NodeFault>>
+        ensures { IsAnswered (refusal self.old (Own (OfConn conn (Take count)))) (λ entries. ConnStep self.old conn (Take count) (Taken entries.items) self.new) (self.new ≡ self.old) result }
+    {
+        let Some(place) = place_of_conn(self.lines.len(), conn) else {
+            return Err(Failure::Refused(NodeFault::Shard(ShardFault::NoConn)));
+        };
+        let line = &mut self.lines[place];
+        line.take(conn, count)
+    }
+
+    /// A new connection of the shard. Refused with [`NodeFault::NoShard`] where there is no such shard,
+    /// and as [`Line::attach`] is.
+    pub fn attach(&mut self, shard: u64) -> Result<ConnId, Failure<NodeFault>>
+        ensures { IsAnswered (refusal self.old (Own (AtShard shard Attach))) (λ conn. WorkStep self.old shard Attach false (Attached conn) self.new) (self.new ≡ self.old) result }
+    {
+        let Some(place) = place_of_shard(self.lines.len(), shard) else {
+            return Err(Failure::Refused(NodeFault::NoShard));
+        };
+        let line = &mut self.lines[place];
+        line.attach()
+    }
+
+    /// The shard begins the first job that waits for it: [`Line::begin`]. Refused with
+    /// [`NodeFault::NoShard`] first.
+    pub fn begin(&mut self, shard: u64, copies: bool) -> Result<Begun, Failure<NodeFault>>
+        ensures { IsAnswered (refusal self.old (Own (AtShard shard Begin))) (λ begun. BeginStep copies self.old shard begun self.new) (self.new ≡ self.old) result }
+    {
+        let Some(place) = place_of_shard(self.lines.len(), shard) else {
+            return Err(Failure::Refused(NodeFault::NoShard));
+        };
+        let line = &mut self.lines[place];
+        line.begin(copies)
+    }
+
+    /// The shard claims the queue name of this index of the job in hand, which is the next one:
+    /// [`Line::claim`]. Refused with [`NodeFault::NoShard`] first.
+    pub fn claim(&mut self, shard: u64, index: u64) -> Result<Claimed, Failure<NodeFault>>
+        ensures { IsAnswered (refusal self.old (Own (AtShard shard (Claim index)))) (λ claimed. ClaimStep self.old shard index claimed self.new) (self.new ≡ self.old) result }
+    {
+        let Some(place) = place_of_shard(self.lines.len(), shard) else {
+            return Err(Failure::Refused(NodeFault::NoShard));
+        };
+        let line = &mut self.lines[place];
+        line.claim(&mut self.race, shard, index)
+    }
+
+    /// The shard finishes the turn in hand: [`Line::end`]. Refused with [`NodeFault::NoShard`] first.
+    /// Takes no memory.
+    pub fn end(&mut self, shard: u64) -> Result<(), NodeFault>
+        ensures { IsDecided (refusal self.old (Own (AtShard shard End))) (λ _. WorkStep self.old shard End false Finished self.new) (self.new ≡ self.old) result }
+    {
+        let Some(place) = place_of_shard(self.lines.len(), shard) else {
+            return Err(NodeFault::NoShard);
+        };
+        let line = &mut self.lines[place];
+        match line.end() {
+            Err(fault) => Err(fault),
+            Ok(turn) => {
+                self.race.finish(shard, turn);
+                Ok(())
+            }
+        }
+    }
+
+    /// The shard drops the job in hand, or else the first that waits, and its turn is finished:
+    /// [`Line::drop_job`]. Gives that turn. Refused with [`NodeFault::NoShard`] first. Takes no memory.
+    pub fn drop_job(&mut self, shard: u64) -> Result<Turn, NodeFault>
+        ensures { IsDecided (refusal self.old (Own (AtShard shard DropJob))) (λ turn. DropStep self.old shard turn self.new) (self.new ≡ self.old) result }
+    {
+        let Some(place) = place_of_shard(self.lines.len(), shard) else {
+            return Err(NodeFault::NoShard);
+        };
+        let line = &mut self.lines[place];
+        match line.drop_job() {
+            Err(fault) => Err(fault),
+            Ok(turn) => {
+                self.race.finish(shard, turn);
+                Ok(turn)
+            }
+        }
+    }
+
+    /// Dials the server at this place: [`Sessions::dialed`]. Gives the number of the session.
+    pub fn dial(&mut self, peer: usize) -> Result<SessionId, Failure<NodeFault>>
+        ensures { IsAnswered (refusal self.old (Own (Dial peer))) (λ session. DialStep self.old peer session self.new) (self.new ≡ self.old) result }
+    {
+        of_sessions(self.sessions.dialed(peer))
+    }
+
+    /// Accepts a session: [`Sessions::accepted`]. Gives its number, and the `INFO` to send.
+    pub fn accept(&mut self) -> Result<(SessionId, RouteInfo), Failure<NodeFault>>
+        ensures { IsAnswered (refusal self.old (Own Accept)) (λ given. AcceptStep self.old given.0 given.1 self.new) (self.new ≡ self.old) result }
+    {
+        of_sessions(self.sessions.accepted())
+    }
+
+    /// Ends a session; where it was kept, its peer is not up any more. Gives the place of that peer.
+    /// Refused as [`Sessions::cut`] is. Takes no memory.
+    pub fn cut(&mut self, session: SessionId) -> Result<Option<usize>, NodeFault>
+        ensures { IsDecided (refusal self.old (Own (CutSession session))) (λ peer. CutStep self.old session peer self.new) (self.new ≡ self.old) result }
+    {
+        match self.sessions.cut(session) {
+            Err(fault) => Err(NodeFault::Session(fault)),
+            Ok(None) => Ok(None),
+            Ok(Some(peer)) => {
+                self.hub.peer_cut(peer);
+                Ok(Some(peer))
+            }
+        }
+    }
+
+    /// Completes a dialed session on the `INFO` of the server that was dialed: [`Sessions::on_info`]. The
+    /// peer is up, and a snapshot of all interest is what waits for it. Gives the session that this one
+    /// took the place of, and the `CONNECT` to send.
+    pub fn info(
+        &mut self,
+        session: SessionId,
+        info: &RouteInfo,
+    ) -> Result<(Kept, RouteConnect), Failure<NodeFault>>
+        ensures { IsAnswered (refusal self.old (OnInfo session info.now)) (λ done. InfoStep self.old session info.now done.0.instead_of done.1 self.new) (self.new ≡ self.old) result }
+    {
+        let least = seen_of(&self.hub, info.server_name());
+        if let Some(fault) = self.sessions.info_fault(session, info, least) {
+            return Err(Failure::Refused(NodeFault::Session(fault)));
+        }
+        let Some(place) = peer_named(self.hub.server(), info.server_name()) else {
+            unreachable!()
+        };
+        let inc = info.inc();
+        let _life = inc.get();
+        let Ok(snapshot) = self.hub.plan_up(place, inc) else {
+            return Err(Failure::OutOfMemory);
+        };
+        let Ok(done) = self.sessions.on_info(session, info, least) else {
+            unreachable!()
+        };
+        self.hub.commit_up(place, inc, snapshot);
+        Ok(done)
+    }
+
+    /// Completes an accepted session on the `CONNECT` of the server that dialed:
+    /// [`Sessions::on_connect`]. The peer is up, and a snapshot of all interest is what waits for it.
+    /// Gives the session that this one took the place of.
+    pub fn connect(
+        &mut self,
+        session: SessionId,
+        connect: &RouteConnect,
+    ) -> Result<Kept, Failure<NodeFault>>
+        ensures { IsAnswered (refusal self.old (OnConnect session connect.now)) (λ kept. ConnectStep self.old session connect.now kept.instead_of self.new) (self.new ≡ self.old) result }
+    {
+        let least = seen_of(&self.hub, connect.server_name());
+        if let Some(fault) = self.sessions.connect_fault(session, connect, least) {
+            return Err(Failure::Refused(NodeFault::Session(fault)));
+        }
+        let Some(place) = peer_named(self.hub.server(), connect.server_name()) else {
+            unreachable!()
+        };
+        let inc = connect.inc();
+        let _life = inc.get();
+        let Ok(greeting) = self.hub.plan_up(place, inc) else {
+            return Err(Failure::OutOfMemory);
+        };
+        let Ok(kept) = self.sessions.on_connect(session, connect, least) else {
+            unreachable!()
+        };
+        self.hub.commit_up(place, inc, greeting);
+        Ok(kept)
+    }
+
+    /// Gives and removes the first frames that wait for the peer at the place: [`Hub::take_route`].
+    pub fn take_frames(
+        &mut self,
+        peer: usize,
+        count: usize,
+    ) -> Result<Vec<Numbered>, Failure<NodeFault>>
+        ensures { IsAnswered (refusal self.old (Own (TakeFrames peer count))) (λ frames. FramesStep self.old peer count frames.items self.new) (self.new ≡ self.old) result }
+    {
+        of_hub(self.hub.take_route(peer, count))
+    }
+}
