@@ -1,7 +1,6 @@
 -- What the outboxes gain is what the event puts, and the messages of it are those given.
 use Rattle.std.proofs.Common.{◌≡◌, ℕ, zero, suc, ◌-◌, Bool, true, false, true≢false, cond, nat_eq, List, [], ◌∷◌, ◌++◌, map, set, length, drop, is_none, Option, Some, None, refl, sym, ap, ◌∙◌, subst, inl, inr}
-use Rattle.std.specs.Prelude.{filter, slice_get, if◌then◌else◌}
-use Rattle.std.specs.Option.{option_map}
+use Rattle.std.specs.Prelude.{filter, slice_get}
 use Rattle.std.proofs.lemmas.Option.{none-some}
 use Rattle.list_laws.specs.Lists.{In, Each}
 use Rattle.list_laws.proofs.Tests.{eq_true, eq_false, and_true}
@@ -18,7 +17,6 @@ use Rattle.route_values.specs.Frames.{Frame}
 use Rattle.route_values.specs.declared.bodies.Body.{Body}
 use Rattle.route_values.specs.declared.bodies.Body.TheVariants.{Plus, Minus, Snapshot, Msg}
 use Rattle.shard_core.specs.declared.calls.Placed.{Placed}
-use Rattle.shard_core.specs.declared.faults.ShardFault.{ShardFault}
 use Rattle.shard_core.specs.AsLaw.{given_by, job_by, given_by_claim}
 use Rattle.shard_core.specs.Owed.{due_entry, placed_for, walked, first_step, is_due, is_plain, is_wanted, candidate_of, slow_consumer}
 use Rattle.shard_core.specs.Puts.{put_by, put_by_claim, put_line, entries_for, kept_of, ArePut}
@@ -30,10 +28,12 @@ use Rattle.shard_core.proofs.Outboxes.{entries_append}
 use Rattle.node_core.specs.declared.faults.NodeFault.TheVariants.{NoShard, Shard}
 use Rattle.node_core.specs.AsLaw.{Part, part_if, part_at, part_of, entries_for_job, messages_at, waits_in, is_message, MessagesAreGiven}
 use Rattle.cluster_world.specs.Changes.{entries_at}
-use Rattle.node_core.specs.Events.{ConnEvent, ShardWork, Attach, Begin, Claim, End, DropJob, OfConn, AtShard, Publish, Collect, Dial, Accept, CutSession, TakeFrames, NodeEvent, Own, Receive, OnInfo, OnConnect}
+use Rattle.node_core.specs.Events.{ConnEvent, ShardWork, OfConn, AtShard, Publish, Collect, Dial, Accept, CutSession, TakeFrames, NodeEvent, Own, Receive, OnInfo, OnConnect}
 use Rattle.node_core.specs.State.{Line, Node}
 use Rattle.node_core.specs.Steps.{NodeStep, conn_place, conn_line, shard_line, conn_event, work_event, conn_refusal, no_job, event_refusal, work_refusal, line_after, line_after_if, set_line, queued, node_after, lines_after_body}
 use Rattle.hub_core.specs.Publishing.{own_job}
+use Rattle.hub_core.proofs.Rooms.{map_none}
+use Rattle.node_core.proofs.LineEvents.{found, same_refusal}
 use Rattle.hub_core.specs.Receiving.{routed_job}
 
 -- ---- lists
@@ -185,25 +185,10 @@ module _ (puts : (s : State) (e : of_shard.Event) (conn : ℕ) → ArePut s e co
 
   -- ---- events of a server
 
-  found : (b : Bool) (o : Option Line) (line : Line) → cond b None o ≡ Some line → o ≡ Some line
-  found true o line e = absurd (none-some line e)
-  found false o line e = e
-
-  allowed : (s : State) (e : of_shard.Event) (o : Option ShardFault) → option_map Shard o ≡ None → o ≡ None
-  allowed s e None f = refl
-  allowed s e (Some why) f = absurd (none-some (Shard why) (sym f))
-
   conn_entries : (server : Server) (a : Node) (conn : ℕ) (event : ConnEvent) (o : Option Line) → conn_line server a conn ≡ o → conn_refusal event conn o ≡ None → (place j : ℕ)
       → drop (length (waits_in j (slice_get a.lines place))) (waits_in j (slice_get (set_line a.lines (conn_place server conn) (line_after (conn_event conn event)) o) place)) ≡ entries_at (part_at (conn_place server conn) (λ line. Some (conn_event conn event)) o) place j
   conn_entries server a conn event None at cause place j = same_entries a.lines a.lines place j refl
-  conn_entries server a conn event (Some line) at cause place j = line_entries a.lines (conn_place server conn) line (line_after (conn_event conn event) line) (conn_event conn event) place j (found (nat_eq conn 0) (slice_get a.lines (conn_place server conn)) line at) (allowed line.shard (conn_event conn event) _ cause) refl
-
-  same_refusal : (work : ShardWork) (line : Line) (won : Bool) → event_refusal line (work_event work false line) ≡ event_refusal line (work_event work won line)
-  same_refusal Attach line won = refl
-  same_refusal Begin line won = refl
-  same_refusal (Claim index) line won = refl
-  same_refusal End line won = refl
-  same_refusal DropJob line won = refl
+  conn_entries server a conn event (Some line) at cause place j = line_entries a.lines (conn_place server conn) line (line_after (conn_event conn event) line) (conn_event conn event) place j (found (nat_eq conn 0) (slice_get a.lines (conn_place server conn)) line at) (map_none Shard (shard_refusal line.shard (conn_event conn event)) cause) refl
 
   work_entries : (a : Node) (shard : ℕ) (work : ShardWork) (won : Bool) (o : Option Line) → shard_line a shard ≡ o → work_refusal work o ≡ None → (place j : ℕ)
       → drop (length (waits_in j (slice_get a.lines place))) (waits_in j (slice_get (set_line a.lines (shard - 1) (λ line. line_after_if (work_event work won line) line) o) place)) ≡ entries_at (part_at (shard - 1) (work_event work won) o) place j
@@ -212,7 +197,7 @@ module _ (puts : (s : State) (e : of_shard.Event) (conn : ℕ) → ArePut s e co
     where
       go : (e : Option of_shard.Event) → event_refusal line e ≡ None → drop (length (waits_in j (slice_get a.lines place))) (waits_in j (slice_get (set a.lines (shard - 1) (line_after_if e line)) place)) ≡ entries_at (part_if (shard - 1) line e) place j
       go None f = absurd (none-some (no_job line.shard.hand) (sym f))
-      go (Some e) f = line_entries a.lines (shard - 1) line (line_after e line) e place j (found (nat_eq shard 0) (slice_get a.lines (shard - 1)) line at) (allowed line.shard e _ f) refl
+      go (Some e) f = line_entries a.lines (shard - 1) line (line_after e line) e place j (found (nat_eq shard 0) (slice_get a.lines (shard - 1)) line at) (map_none Shard (shard_refusal line.shard e) f) refl
 
   queued_waits : (job : Job) (lines : List Line) (place j : ℕ) → waits_in j (slice_get (map (queued job) lines) place) ≡ waits_in j (slice_get lines place)
   queued_waits job [] place j = refl

@@ -7,3 +7,5 @@ mod Started
 mod Plays
 mod Runs
 mod Sent
+mod OwnRuns
+mod Printed

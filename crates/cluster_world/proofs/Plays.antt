@@ -1,5 +1,5 @@
 -- Each event has a step: the one that the program on lists makes.
-use Rattle.std.proofs.Common.{◌≡◌, ◌≢◌, ℕ, zero, suc, ◌<◌, ◌≤◌, ◌+◌, ◌-◌, arith, Bool, true, false, true≢false, cond, nat_eq, ◌&&◌, List, [], ◌∷◌, ◌++◌, Option, Some, None, is_none, refl, sym, ap, ◌∙◌, subst}
+use Rattle.std.proofs.Common.{◌≡◌, ℕ, suc, ◌<◌, ◌+◌, ◌-◌, arith, Bool, true, false, true≢false, cond, nat_eq, ◌&&◌, List, [], ◌∷◌, ◌++◌, Option, Some, None, refl, sym, ap, ◌∙◌}
 use Rattle.std.specs.Prelude.{filter, find, map, slice_get, if◌then◌else◌}
 use Rattle.std.specs.Option.{option_map}
 use Rattle.std.proofs.lemmas.Option.{none-some}
@@ -30,7 +30,7 @@ use Rattle.cluster_world.specs.declared.faults.WorldFault.TheVariants as fault
 use Rattle.cluster_world.specs.State.{Cluster, Placement, Running, World, server_at}
 use Rattle.cluster_world.specs.Events.{Event, Start, Stop, At, event_for}
 use Rattle.cluster_world.specs.Events as of_world
-use Rattle.cluster_world.specs.Refusals.{world_refusal, start_refusal, stop_refusal, refusal_at, event_refusal, is_used}
+use Rattle.cluster_world.specs.Refusals.{world_refusal, start_refusal, stop_refusal, refusal_at}
 use Rattle.cluster_world.specs.Changes.{placement_of, placements_of, is_on, new_entries, entries_at, AreGained}
 use Rattle.cluster_world.specs.Steps.{Acts, Starts, Stops, Happens, Decided, WorldStep}
 use Rattle.cluster_world.specs.Headline.{EachUp}

@@ -1,14 +1,13 @@
 -- In the worlds that runs reach nothing is won in a turn that is not issued, so the program on lists makes runs.
-use Rattle.std.proofs.Common.{◌≡◌, ◌≢◌, ℕ, zero, suc, ◌<◌, ◌≤◌, ◌+◌, ◌-◌, arith, Bool, true, false, cond, nat_eq, ◌&&◌, List, [], ◌∷◌, length, set, Option, Some, None, refl, sym, ap, ◌∙◌, subst, inl, inr}
+use Rattle.std.proofs.Common.{◌≡◌, ◌≢◌, ℕ, suc, ◌<◌, ◌≤◌, ◌+◌, ◌-◌, arith, Bool, true, false, cond, nat_eq, ◌&&◌, List, [], ◌∷◌, length, set, Option, Some, None, refl, sym, ap, ◌∙◌, subst, inl, inr}
 use Rattle.std.specs.Prelude.{slice_get}
 use Rattle.std.proofs.lemmas.Option.{none-some, same_Some}
-use Rattle.list_laws.specs.Lists.{In, Each}
+use Rattle.list_laws.specs.Lists.{Each}
 use Rattle.list_laws.proofs.Lists.{read_set, read_replicate}
 use Rattle.list_laws.proofs.Tests.{false_eq}
 use Rattle.claim_race.specs.Race.{RaceState, winner, winner_after, IsIssued, IsClaimed, IsFinished}
 use Rattle.sub_table.specs.declared.Subscription.{Subscription}
 use Rattle.subj.specs.declared.jobs.Job.{Job}
-use Rattle.subj.specs.declared.limits.TheConstants.{WINDOW}
 use Rattle.subj.specs.Servers.{Server}
 use Rattle.route_values.specs.declared.bodies.Body.{Body}
 use Rattle.route_values.specs.declared.bodies.Body.TheVariants.{Plus, Minus, Snapshot, Msg}
@@ -16,8 +15,9 @@ use Rattle.shard_core.specs.Lines.{Turns, begun_turn}
 use Rattle.shard_core.specs.Owed.{candidate_of}
 use Rattle.node_core.specs.Events.{ShardWork, Attach, Begin, Claim, End, DropJob, OfConn, AtShard, Publish, Collect, Dial, Accept, CutSession, TakeFrames, NodeEvent, Own, Receive, OnInfo, OnConnect}
 use Rattle.node_core.specs.Sound.{SoundNode}
+use Rattle.node_core.proofs.LineEvents.{found}
 use Rattle.node_core.specs.State.{Line, Node, new_race}
-use Rattle.node_core.specs.Steps.{NodeStep, NodeRace, WorkRace, ClaimRace, BodyRace, shard_line, node_after}
+use Rattle.node_core.specs.Steps.{NodeRace, WorkRace, ClaimRace, BodyRace, shard_line, node_after}
 use Rattle.cluster_world.specs.declared.faults.WorldFault.{WorldFault}
 use Rattle.cluster_world.specs.State.{Cluster, Running, World, new_world, server_at}
 use Rattle.cluster_world.specs.Events.{Event, Start, Stop, At, event_for}
@@ -60,14 +60,10 @@ issued_turn begun (job ∷ jobs) issued h = let le = issued_turn (suc begun) job
 
 hand_issued : (server : Server) (a : Node) → SoundNode server a → (shard : ℕ) (line : Line) → shard_line a shard ≡ Some line → (job : Job) → line.shard.hand ≡ Some job → job.turn ≤ a.race.issued
 hand_issued server a sound shard line at job hand =
-    let l = (sound.lines (shard - 1) line (found (nat_eq shard 0) at)).sound in
+    let l = (sound.lines (shard - 1) line (found (nat_eq shard 0) (slice_get a.lines (shard - 1)) line at)).sound in
     let is = l.hand job hand in
     let le = issued_turn (suc line.shard.finished) line.waiting a.race.issued (subst (λ h. Turns (begun_turn h line.shard.finished) line.waiting a.race.issued) hand l.turns) in
     omega arith
-  where
-    found : (b : Bool) → cond b None (slice_get a.lines (shard - 1)) ≡ Some line → slice_get a.lines (shard - 1) ≡ Some line
-    found true e = absurd (none-some line e)
-    found false e = e
 
 claim_ahead : (race after : RaceState) (shard index : ℕ) (hand : Option Job) (u : Option Subscription) (won : Bool) → ((job : Job) → hand ≡ Some job → job.turn ≤ race.issued) → ClaimRace race shard index hand u won after → NoneAhead race → NoneAhead after
 claim_ahead race after shard index None None won le r ahead = subst NoneAhead (sym r) ahead

@@ -17,7 +17,7 @@ use Rattle.hub_core.specs.State.{Peer, unknown_peer, known, is_new_life, changed
 use Rattle.hub_core.specs.Publishing.{frames_of, is_to, with_frames}
 use Rattle.hub_core.specs.Receiving.{told_by}
 use Rattle.hub_core.specs.Telling.{collect_frames, count_of_changes, without_slow}
-use Rattle.hub_core.specs.Peers.{snapshot_to, outbox_of, first_frames, cut}
+use Rattle.hub_core.specs.Peers.{snapshot_to, outbox_of}
 use Rattle.route_session.specs.State.{peer_of_session}
 use Rattle.node_core.specs.Events.{OfConn, AtShard, Publish, Collect, Dial, Accept, CutSession, TakeFrames, NodeEvent, Own, Receive, OnInfo, OnConnect}
 use Rattle.node_core.specs.State.{Node}

@@ -8,3 +8,6 @@ pub mod Headline
 pub mod Seen
 pub mod Play
 pub mod Scripts
+pub mod OwnRuns
+pub mod Outcomes
+pub mod Printed

@@ -13,7 +13,8 @@ use Rattle.subj.specs.Messages.{Content}
 use Rattle.subj.specs.Servers.{place_in}
 use Rattle.subj.specs.declared.identities.PubId.{PubId}
 use Rattle.route_values.specs.declared.frames.RouteFrame.{RouteFrame}
-use Rattle.hub_core.specs.AsLaw.{id_of, content_of}
+use Rattle.cluster_law.specs.Values.{content_of}
+use Rattle.hub_core.specs.AsLaw.{id_of}
 use Rattle.shard_core.specs.Owed.{mode_of}
 use Rattle.node_core.specs.AsLaw.{law_of, node_of, sent_of}
 use Rattle.node_core.specs.Sound.{SoundNode}

@@ -6,10 +6,12 @@ ghost use Rattle.node_core.specs.Sound.{SoundNode};
 ghost use Rattle.cluster_world.specs.Changes.{EntriesWerePut};
 ghost use Rattle.cluster_world.specs.Events.{Event};
 ghost use Rattle.cluster_world.specs.Headline.{IsCluster, Headline, Names, EachUp, AreSent};
+ghost use Rattle.cluster_world.specs.OwnRuns.{EachHasRun, EachKeepsItsLaws};
 ghost use Rattle.cluster_world.specs.Play.{IsEvent, NoneAhead, next, played};
 ghost use Rattle.cluster_world.specs.Seen.{Carried, RestsOn};
 ghost use Rattle.cluster_world.specs.State.{Cluster, World, new_world, server_at};
 ghost use Rattle.cluster_world.specs.Steps.{Run, WorldStep};
+ghost use Rattle.cluster_world.specs.Printed.{WritesARestart, WritesStartsAndStops, WritesCrossedDials, WritesClaims, ScriptsAreRuns};
 ghost use Rattle.cluster_world.specs.Scripts.{ARestart, TwoShards, AFullWindow, ALowerIncarnation};
 
 /// The headline. Over every list of publishes, subscribes, unsubscribes, route deliveries, losses, repeats, late frames,
@@ -126,6 +128,23 @@ pub fn new_entries_were_put()
     shard_core::entries_are_put()
 }
 
+/// Of every run: each server that is up came to its state by a run of its own from its start in this incarnation. So what
+/// holds of every run of a server (`node_core::one_winner` and its siblings) holds of it.
+pub fn each_server_ran()
+    ensures { EachHasRun }
+{}
+
+/// And so of every run, each server that is up has over its own run one winner for each queue name of each turn, peers that
+/// are up just where a session is kept, counts of what is open, and outboxes that hold what was put and not taken.
+pub fn servers_keep_their_laws()
+    ensures { EachKeepsItsLaws }
+{
+    node_core::one_winner();
+    node_core::peers_are_kept();
+    node_core::counts_are_open();
+    node_core::outboxes_are_known()
+}
+
 /// Two servers with one member of a queue group: a message reaches it once; the frame handed over again is late, and
 /// after a restart it is for an incarnation that is no more.
 pub fn a_restart()
@@ -148,3 +167,32 @@ pub fn a_full_window()
 pub fn a_lower_incarnation()
     ensures { ALowerIncarnation }
 {}
+
+/// What is written of the events of the first script, line by line.
+pub fn a_restart_is_written()
+    ensures { WritesARestart }
+{}
+
+/// What is written of servers that are up, that are down, and that were up in an incarnation before.
+pub fn starts_and_stops_are_written()
+    ensures { WritesStartsAndStops }
+{}
+
+/// What is written where two servers dial each other at once: both keep the session that the first one dialed, until it
+/// dials again.
+pub fn crossed_dials_are_written()
+    ensures { WritesCrossedDials }
+{}
+
+/// What is written where two shards claim one queue name, and where nobody is left there.
+pub fn claims_are_written()
+    ensures { WritesClaims }
+{}
+
+/// Each closed script is a run of the exact cluster, to the world that it ends in: so the headline and all that holds of
+/// every run holds of it.
+pub fn scripts_are_runs()
+    ensures { ScriptsAreRuns }
+{
+    every_list_is_a_run()
+}
