@@ -4,17 +4,22 @@ ghost use Rattle.std.specs.Prelude.{◌≡◌};
 ghost use Rattle.client_frames.specs.Faults.{line_fault_number};
 
 use subj::Failure;
+use thiserror::Error;
 
 /// Why a control line of a client is refused. (Profile.)
-#[derive(Clone, Copy, Debug, PartialEq, Eq)]
+#[derive(Clone, Copy, Debug, PartialEq, Eq, Error)]
 pub enum LineFault {
     /// The line is empty or begins with a blank, or its first field is no operation.
+    #[error("the line begins with no known operation")]
     UnknownOp = 20,
     /// Too few or too many fields, or a size, a subscription id or the name of a queue group that is none.
+    #[error("the operation has other fields than it takes")]
     BadArgs = 21,
     /// The text of a `CONNECT` is no JSON object, or one of its members is of another kind.
+    #[error("the options are not a JSON object of the members that are known")]
     BadJson = 22,
     /// The pattern of a `SUB` is none, or the subject or the reply of a `PUB`.
+    #[error("the subject is not valid")]
     BadSubject = 23,
 }
 

@@ -14,8 +14,6 @@ mod laws;
 mod message_lines;
 mod operation;
 mod server_frames;
-#[cfg(test)]
-mod tests;
 
 pub use awaited::Awaited;
 pub use client_line::{ClientLine, Options, PubHead};

@@ -1,6 +1,6 @@
 //! The lines in front of delivered payloads.
 
-ghost use Rattle.std.specs.Prelude.{◌≡◌, ◌+◌, ◌≤◌, length, IfOk};
+ghost use Rattle.std.specs.Prelude.{◌≡◌, ◌+◌, ◌≤◌, length, IfOk, OnOk};
 ghost use Rattle.client_frames.specs.Messages.{before_sid as before_the_sid, behind_sid as behind_the_sid, line_parts, line_around, due_line, no_headers};
 
 use itoa::Buffer;
@@ -96,6 +96,28 @@ impl MessageLines {
             before,
             behind,
         })
+    }
+
+    /// How many bytes the line for one subscription has, without its CR LF.
+    pub fn line_len(&self, sid: &Sid) -> usize
+        ensures same { result ≡ length (line_around self.now sid.now) }
+        ensures fits { result ≤ MAX_MESSAGE_LINE }
+    {
+        self.before.len() + sid.bytes().len() + self.behind.len()
+    }
+
+    /// Writes the line for one subscription, without its CR LF, in place of what is in `out`.
+    pub fn write_line(&self, sid: &Sid, out: &mut Vec<u8>) -> Result<(), AllocError>
+        ensures same { OnOk result (out.new.items ≡ line_around self.now sid.now) }
+        ensures fits { OnOk result (length out.new.items ≤ MAX_MESSAGE_LINE) }
+    {
+        let sid = sid.bytes();
+        out.clear();
+        out.reserve(self.before.len() + sid.len() + self.behind.len())?;
+        out.extend_from_slice(&self.before)?;
+        out.extend_from_slice(sid)?;
+        out.extend_from_slice(&self.behind)?;
+        Ok(())
     }
 
     /// The line for one subscription, without its CR LF.

@@ -27,10 +27,3 @@ pub use reading::{decode, payload_size};
 pub use route_values::{
     Body, Numbered, RouteConnect, RouteFrame, RouteInfo, SnapshotKeys, WeightedKey,
 };
-
-#[cfg(test)]
-mod built_tests;
-#[cfg(test)]
-mod line_tests;
-#[cfg(test)]
-mod stream_tests;

@@ -79,13 +79,13 @@ past false why o kept other e = e
 
 -- ---- an INFO
 
-record AfterInfo (server : Server) (s : State) (session : Session) (info : Info) (end : Option SessionFault) : Type 0 where
-  q : ℕ
-  new : is_some session.kept ≡ false
-  peer : place server info.server_name ≡ q
-  told : against (info_offer server session info) (kept_for q s.standing) ≡ end
+pub record AfterInfo (server : Server) (s : State) (session : Session) (info : Info) (end : Option SessionFault) : Type 0 where
+  pub q : ℕ
+  pub new : is_some session.kept ≡ false
+  pub peer : place server info.server_name ≡ q
+  pub told : against (info_offer server session info) (kept_for q s.standing) ≡ end
 
-info_taken : (server : Server) (s : State) (session : Session) (info : Info) (least : ℕ) → info_refusal server s (Some session) info least ≡ None → AfterInfo server s session info None
+pub info_taken : (server : Server) (s : State) (session : Session) (info : Info) (least : ℕ) → info_refusal server s (Some session) info least ≡ None → AfterInfo server s session info None
 info_taken server s session info least e = let f = no_cause (is_some session.kept) UnknownSession (info_fault server s session info least session.dialed) e in by session.dialed f.0 f.1
   where
     by : (o : Option ℕ) → is_some session.kept ≡ false → info_fault server s session info least o ≡ None → AfterInfo server s session info None
@@ -129,11 +129,11 @@ info_keeps_best server s number info least session at = record {
 
 -- ---- a CONNECT
 
-record AfterConnect (server : Server) (s : State) (session : Session) (connect : Connect) : Type 0 where
-  new : is_some session.kept ≡ false
-  told : against (connect_offer server connect) (kept_for (place server connect.server_name) s.standing) ≡ None
+pub record AfterConnect (server : Server) (s : State) (session : Session) (connect : Connect) : Type 0 where
+  pub new : is_some session.kept ≡ false
+  pub told : against (connect_offer server connect) (kept_for (place server connect.server_name) s.standing) ≡ None
 
-connect_taken : (server : Server) (s : State) (session : Session) (connect : Connect) (least : ℕ) → connect_refusal server s (Some session) connect least ≡ None → AfterConnect server s session connect
+pub connect_taken : (server : Server) (s : State) (session : Session) (connect : Connect) (least : ℕ) → connect_refusal server s (Some session) connect least ≡ None → AfterConnect server s session connect
 connect_taken server s session connect least e = let f = no_cause (is_some session.kept) UnknownSession (connect_fault server s connect least session.dialed) e in by session.dialed f.0 f.1
   where
     by : (o : Option ℕ) → is_some session.kept ≡ false → connect_fault server s connect least o ≡ None → AfterConnect server s session connect

@@ -3,3 +3,5 @@ mod BestStays
 mod Computed
 mod Sound
 mod Judged
+mod FirstBest
+mod OverRuns

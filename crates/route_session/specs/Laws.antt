@@ -1,10 +1,11 @@
 -- What is kept, and that two ends keep the same.
-use Rattle.std.specs.Prelude.{◌≡◌, ◌↔◌, ℕ, List, map, Option, Some, None}
+use Rattle.std.specs.Prelude.{◌≡◌, ◌↔◌, ℕ, true, false, List, [], ◌∷◌, ◌++◌, map, Option, Some, None, MatchOption}
+use Rattle.std.specs.List.{AllByRecursion}
 use Rattle.list_laws.specs.Lists.{In}
 use Rattle.subj.specs.Servers.{Server}
 use Rattle.route_values.specs.Records.{Info, Connect}
 use Rattle.route_session.specs.declared.faults.SessionFault.TheVariants.{Duplicate}
-use Rattle.route_session.specs.Best.{Offer, better_of_kept, best_after}
+use Rattle.route_session.specs.Best.{Offer, is_better, better_of_kept, best_after}
 use Rattle.route_session.specs.State.{State, Session, session_at, offer_kept}
 use Rattle.route_session.specs.Steps.{info_offer, connect_offer, session_refusal, session_after}
 use Rattle.route_session.specs.Events.{Event, OnInfo, OnConnect}
@@ -21,6 +22,20 @@ InfoKeepsBest = (server : Server) (s : State) (number : ℕ) (info : Info) (leas
 
 abbrev pub ConnectKeepsBest : Type 0
 ConnectKeepsBest = (server : Server) (s : State) (number : ℕ) (connect : Connect) (least : ℕ) (session : Session) → session_at number s.standing ≡ Some session → BestStays server s (OnConnect number connect least) (connect_offer server connect)
+
+-- ---- the best of those offered
+
+-- it is one of them, better than each before it, and none behind it is better: the best, and of equal ones the first
+pub record IsFirstBest (best : Offer) (offers : List Offer) : Type 0 where
+  pub before : List Offer
+  pub behind : List Offer
+  pub among : offers ≡ before ++ best ∷ behind
+  pub over : AllByRecursion (λ offer. is_better best offer ≡ true) before
+  pub under : AllByRecursion (λ offer. is_better offer best ≡ false) behind
+
+-- where some are offered, this one is kept
+abbrev pub BestIsKept : Type 0
+BestIsKept = (offers : List Offer) → MatchOption (best_after None offers) (offers ≡ []) (λ best. IsFirstBest best offers)
 
 -- ---- two ends
 

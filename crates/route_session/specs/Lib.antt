@@ -6,3 +6,4 @@ pub mod Steps
 pub mod Calls
 pub mod Laws
 pub mod Examples
+pub mod OverRuns

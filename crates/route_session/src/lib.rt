@@ -12,7 +12,9 @@ mod standing;
 pub use examples::{crossed_dials, refusals_in_order, the_worse_session_is_refused};
 pub use faults::SessionFault;
 pub use ids::SessionId;
-pub use laws::{both_ends_keep_the_same, the_better_session_stays};
+pub use laws::{
+    both_ends_keep_the_same, the_best_offer_is_kept, the_best_stays_kept, the_better_session_stays,
+};
 pub use sessions::{Kept, Sessions};
 
 #[cfg(test)]

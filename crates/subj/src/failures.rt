@@ -1,6 +1,9 @@
 //! How a call that can be refused, and that takes memory, fails.
 
 use std::alloc::{AllocError, AllocFailed};
+use std::error::Error;
+use std::fmt;
+use std::fmt::{Display, Formatter, Write};
 
 /// Why a call did not do what it was asked.
 ///
@@ -12,6 +15,17 @@ pub enum Failure<R> {
     /// The allocator gave no memory.
     OutOfMemory,
 }
+
+impl<R: Display> Display for Failure<R> {
+    fn fmt<W: Write>(&self, f: &mut Formatter<W>) -> fmt::Result {
+        match self {
+            Failure::Refused(cause) => write!(f, "{cause}"),
+            Failure::OutOfMemory => f.write_str("out of memory"),
+        }
+    }
+}
+
+impl<R: Error> Error for Failure<R> {}
 
 impl<R> From<AllocError> for Failure<R> {
     ghost use Rattle.std.specs.Prelude.{◌≡◌};

@@ -5,6 +5,7 @@ ghost use Rattle.subj.specs.Numbers.{turn_of, next_turn, finished_turn, no_turn_
 
 use crate::limits::{MAX_COUNTER, MAX_SHARDS};
 use std::marker::Model;
+use thiserror::Error;
 
 /// The turn of a job: a server gives its jobs the turns 1, 2, .. in order, and each of its shards
 /// works them off in that order. Turn 0 stands before the first. (Profile.)
@@ -141,7 +142,8 @@ impl Default for Finished {
 }
 
 /// Why no turn is issued: this shard's last finished turn is too far behind. (Profile.)
-#[derive(Clone, Copy, Debug, PartialEq, Eq)]
+#[derive(Clone, Copy, Debug, PartialEq, Eq, Error)]
+#[error("shard {shard} is a whole window of turns behind")]
 pub struct Busy {
     /// The first such shard, counted from 1.
     pub shard: u64,

@@ -1,7 +1,7 @@
 -- Cutting a stream of bytes into lines and payloads.
 -- NATS documentation, "Client Protocol": a control line ends with CR LF, and so does a payload, whose size its line announces.
 -- Profile: a lone CR or LF is a byte like any other, the limits, and when each fault comes.
-use Rattle.std.specs.Prelude.{ℕ, suc, ◌+◌, ◌<◌, ◌≤◌, List, [], ◌∷◌, ◌++◌, length, take, drop, nat_lt, nat_le, nat_eq, if◌then◌else◌, Bool, true, false, Option, None, Some, Result, Ok, Err}
+use Rattle.std.specs.Prelude.{◌≡◌, ℕ, suc, ◌+◌, ◌<◌, ◌≤◌, List, [], ◌∷◌, ◌++◌, length, take, drop, nat_lt, nat_le, nat_eq, if◌then◌else◌, Bool, true, false, Option, None, Some, IsSome, Result, Ok, Err}
 use Rattle.std.specs.Option.{option_map}
 use Rattle.std.specs.List.{starts_with}
 use Rattle.wire_cut.specs.declared.fault.CutFault.{CutFault}
@@ -137,3 +137,8 @@ IsUnfinished (Some size) s = length s.unread < size + 2
 -- the piece and the CR LF behind it are within the unread bytes
 abbrev pub IsWithinUnread : StreamPiece → CutterState → Type 0
 IsWithinUnread piece s = length (bytes_of piece) + 2 ≤ length s.unread
+
+-- a piece of the kind that has to come next, within its limit
+abbrev pub IsDue : StreamPiece → CutterState → Type 0
+IsDue (line bytes) s = (s.expected ≡ None) × (length bytes ≤ s.line_max)
+IsDue (payload bytes) s = IsSome s.expected × (length bytes ≤ s.payload_max)

@@ -7,7 +7,7 @@ ghost use Rattle.std.specs.Io.KnownBytes.{Keeps};
 ghost use Rattle.wire_cut.specs.Flow.{Gains, ReadsOnce};
 ghost use Rattle.wire_cut.specs.Search.{HasNoCrLf};
 ghost use Rattle.wire_cut.specs.Cut.{cut_of, cr_lf_at, first_cr_lf, fed};
-ghost use Rattle.wire_cut.specs.Cut.{new_cutter, after_expect, expect_fault, IsUnfinished, IsWithinUnread};
+ghost use Rattle.wire_cut.specs.Cut.{new_cutter, after_expect, expect_fault, IsUnfinished, IsWithinUnread, IsDue};
 
 use crate::fault::{CutFault, FeedFault, FillFault};
 use crate::piece::Piece;
@@ -186,6 +186,55 @@ impl Cutter {
                 self.fault = Some(CutFault::NoCrLfAfterPayload);
                 Err(CutFault::NoCrLfAfterPayload)
             }
+            None => Ok(None),
+        }
+    }
+
+    /// What [`Cutter::next`] would answer, and will still: nothing is used up, and no fault is kept. A
+    /// piece is of the kind that has to come, and within the cutter's limits.
+    pub fn peek(&self) -> Result<Option<Piece<'_>>, CutFault>
+        ensures answer { shown result ≡ cut_of self.now }
+        ensures due { IfOk result (λ piece.
+            IfSome piece (λ piece. IsDue (shown_piece piece) self.now)) }
+    {
+        if let Some(fault) = self.fault {
+            return Err(fault);
+        }
+        match self.expected {
+            None => self.peek_line(),
+            Some(size) => self.peek_payload(size),
+        }
+    }
+
+    fn peek_line(&self) -> Result<Option<Piece<'_>>, CutFault>
+        requires no_fault { self.now.fault ≡ None }
+        requires line { self.now.expected ≡ None }
+        ensures answer { shown result ≡ cut_of self.now }
+        ensures due { IfOk result (λ piece.
+            IfSome piece (λ piece. IsDue (shown_piece piece) self.now)) }
+    {
+        let unread = self.window.unread();
+        let longest = self.line_max + CR_LF.len();
+        let reach = unread.len().min(longest);
+        match find_cr_lf(&unread[..reach], self.searched) {
+            Some(length) => Ok(Some(Piece::Line(&unread[..length]))),
+            None if reach == longest => Err(CutFault::LineTooLong),
+            None => Ok(None),
+        }
+    }
+
+    fn peek_payload(&self, size: usize) -> Result<Option<Piece<'_>>, CutFault>
+        requires no_fault { self.now.fault ≡ None }
+        requires payload { self.now.expected ≡ Some size }
+        requires size { size < 2 ^ 32 }
+        ensures answer { shown result ≡ cut_of self.now }
+        ensures due { IfOk result (λ piece.
+            IfSome piece (λ piece. IsDue (shown_piece piece) self.now)) }
+    {
+        let unread = self.window.unread();
+        match has_cr_lf_at(unread, size) {
+            Some(true) => Ok(Some(Piece::Payload(&unread[..size]))),
+            Some(false) => Err(CutFault::NoCrLfAfterPayload),
             None => Ok(None),
         }
     }

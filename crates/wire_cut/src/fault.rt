@@ -5,16 +5,20 @@ ghost use Rattle.wire_cut.specs.declared.fault.FillFault.TheVariants as fill;
 
 use crate::source::ReadFailed;
 use std::alloc::AllocError;
+use thiserror::Error;
 
 /// Why a stream cannot be cut any further. A cutter that has told one answers it to every later
 /// call.
-#[derive(Clone, Copy, Debug, PartialEq, Eq)]
+#[derive(Clone, Copy, Debug, PartialEq, Eq, Error)]
 pub enum CutFault {
     /// The next `line_max + 2` bytes hold no CR LF.
+    #[error("a line is too long")]
     LineTooLong = 10,
     /// The announced payload is above the cutter's limit.
+    #[error("a payload is too long")]
     PayloadTooLong = 11,
     /// The two bytes behind a payload are not CR LF.
+    #[error("a payload is not ended by CR LF")]
     NoCrLfAfterPayload = 12,
 }
 
@@ -30,22 +34,27 @@ impl CutFault {
 }
 
 /// Why bytes were not taken in.
-#[derive(Clone, Copy, Debug, PartialEq, Eq)]
+#[derive(Clone, Copy, Debug, PartialEq, Eq, Error)]
 pub enum FeedFault {
     /// The cutter told this fault before, and keeps nothing any more.
+    #[error("the stream cannot be cut any further: {0}")]
     Cut(CutFault),
     /// No memory was left for the bytes. Nothing has changed.
+    #[error("out of memory")]
     OutOfMemory,
 }
 
 /// Why a read brought no bytes. The cutter is as it was.
-#[derive(Clone, Copy, Debug, PartialEq, Eq)]
+#[derive(Clone, Copy, Debug, PartialEq, Eq, Error)]
 pub enum FillFault {
     /// The cutter told this fault before, and nothing was read.
+    #[error("the stream cannot be cut any further: {0}")]
     Cut(CutFault),
     /// The source's read failed.
+    #[error("reading failed")]
     Read,
     /// No memory was left for the bytes, and nothing was read.
+    #[error("out of memory")]
     OutOfMemory,
 }
 

@@ -4,8 +4,11 @@ ghost use Rattle.std.specs.Io.{WritesAtMost};
 ghost use Rattle.std.specs.Io.KnownBytes.{Appends, WriteAppends};
 ghost use Rattle.wire_cut.specs.Flow.{AppendsFront, CountsFailure};
 
+use thiserror::Error;
+
 /// A write failed. The sink's count of failures tells it too.
-#[derive(Clone, Copy, Debug, PartialEq, Eq)]
+#[derive(Clone, Copy, Debug, PartialEq, Eq, Error)]
+#[error("writing failed")]
 pub struct WriteFailed;
 
 /// A sink of bytes, such as standard output. It keeps what it writes to, so a call takes no

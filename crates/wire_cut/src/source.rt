@@ -4,8 +4,11 @@ ghost use Rattle.std.specs.Io.{ReadsAtMost};
 ghost use Rattle.std.specs.Io.KnownBytes.{ReadConsumes};
 ghost use Rattle.wire_cut.specs.Flow.{CountsFailure};
 
+use thiserror::Error;
+
 /// A read failed. The source's count of failures tells it too.
-#[derive(Clone, Copy, Debug, PartialEq, Eq)]
+#[derive(Clone, Copy, Debug, PartialEq, Eq, Error)]
+#[error("reading failed")]
 pub struct ReadFailed;
 
 /// A source of bytes, such as standard input. It keeps what it reads from, so a call takes no

@@ -1,9 +1,9 @@
 //! Frames that are built part by part, against their bytes in the protocol.
 
-use crate::{
+use bytes::Bytes;
+use route_frames::{
     Body, Numbered, RouteConnect, RouteFrame, RouteInfo, SnapshotKeys, WeightedKey, decode, encode,
 };
-use bytes::Bytes;
 use std::alloc::Global;
 use std::test::Fail;
 use subj::{Incarnation, Key, Message, NodeId, Pattern, QueueName, QueueNames, Subject};

@@ -1,7 +1,7 @@
 //! Lines and payloads whose meaning was worked out by hand from the rules of the route protocol.
 
-use crate::{decode, encode, payload_size};
 use bytes::Bytes;
+use route_frames::{decode, encode, payload_size};
 use std::alloc::{AllocError, Global};
 use std::test::Fail;
 use subj::Failure;

@@ -1,7 +1,7 @@
 //! Frames as they stand in a stream, in one part and byte by byte.
 
-use crate::{RouteLine, encode};
 use bytes::Bytes;
+use route_frames::{RouteLine, encode};
 use std::alloc::Global;
 use std::test::Fail;
 use subj::{MAX_SNAPSHOT, ROUTE_LINE};

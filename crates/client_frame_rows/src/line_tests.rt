@@ -1,10 +1,10 @@
 //! Lines and frames whose meaning and bytes were worked out by hand from the client protocol.
 
-use crate::{
+use bytes::Bytes;
+use client_frames::{
     ClientLine, Delivery, ErrText, InfoData, LineFault, MessageLines, ReplyFrame, ServerFrame,
     decode_line, encode, info_text, message_line, reply_line,
 };
-use bytes::Bytes;
 use std::alloc::{AllocError, Global};
 use std::test::Fail;
 use subj::{ConnId, Failure, Incarnation, Message, NodeId, Sid, Subject};

@@ -1,0 +1,5 @@
+mod Telling
+pub mod Following
+mod Looking
+pub mod Closing
+mod Answering

@@ -1,0 +1,13 @@
+use Rattle.std.proofs.Common.{[], ◌∷◌, ap, ◌∙◌}
+use Rattle.client_frames.specs.declared.server_frames.ReplyFrame.TheVariants as reply
+use Rattle.client_conn.specs.declared.ask.Ask.TheVariants.{Reply}
+use Rattle.client_conn.specs.Items.{first_options}
+use Rattle.client_conn.specs.Streams.{asking_at, end_of}
+use Rattle.client_conn.proofs.Answering.{new_asks}
+use Rattle.client_conn.proofs.conn.Conn.new.Goals as goal
+
+pub returns : goal.returns
+returns c =
+    ap (λ standing. asking_at standing first_options (end_of c.new.result)) c.of.ensures
+    ∙ ap (asking_at (Reply (reply.Info c.args.info) ∷ []) first_options) c.new.ensures.end
+    ∙ new_asks (Reply (reply.Info c.args.info)) first_options

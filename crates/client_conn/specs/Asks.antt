@@ -1,0 +1,117 @@
+-- Asks of a client: what a connection asks of its server, as a function of the bytes fed and of the answers given.
+use Rattle.std.specs.Prelude.{ℕ, List, [], ◌∷◌, ◌++◌, Result, Ok, Err, Bool, true, false, ◌&&◌}
+use Rattle.wire_cut.specs.Reading.{End, waits, closed, Reading, reading_of}
+use Rattle.client_frames.specs.declared.awaited.Awaited.{Awaited}
+use Rattle.client_frames.specs.declared.awaited.Awaited.TheVariants as awaits
+use Rattle.client_frames.specs.declared.client_line.Options.{Options}
+use Rattle.client_frames.specs.declared.err_texts.ErrText.{ErrText}
+use Rattle.client_frames.specs.declared.err_texts.ErrText.TheVariants as text
+use Rattle.client_frames.specs.declared.info.InfoData.{InfoData}
+use Rattle.client_frames.specs.declared.server_frames.ReplyFrame.TheVariants as reply
+use Rattle.client_frames.specs.Streams.{StreamItem, client_grammar}
+use Rattle.client_conn.specs.declared.ask.Ask.{Ask}
+use Rattle.client_conn.specs.declared.ask.Ask.TheVariants.{Reply}
+use Rattle.client_conn.specs.declared.ask.Refusal.{Refusal}
+use Rattle.client_conn.specs.declared.ask.Refusal.TheVariants.{Busy, TooManySubscriptions, NumbersSpent, TooManyQueueGroups, Other}
+use Rattle.client_conn.specs.Items.{first_options, options_after, items_asks}
+
+-- how a connection goes on
+pub data Onward : Type 0 where
+  -- these options hold, this has to come next, and these bytes are there for it
+  listens : Options → Awaited → List ℕ → Onward
+  -- nothing more is read
+  over : Onward
+
+-- what a connection has still to ask, first to last, where each ask is done; and how it goes on
+pub record Asking : Type 0 where
+  pub asks : List Ask
+  pub onward : Onward
+
+-- these are asked before
+abbrev pub behind : List Ask → Asking → Asking
+behind asks s = record s { asks = asks ++ s.asks }
+
+abbrev pub nothing_more : Asking
+nothing_more = record { asks = []; onward = over }
+
+-- ---- bytes
+
+abbrev pub onward_of : Options → End Awaited → Onward
+onward_of options (waits awaited unread) = listens options awaited unread
+onward_of options closed = over
+
+-- what is asked by the stream commands that were read
+abbrev pub asking_of : Options → Reading Awaited StreamItem → Asking
+asking_of options reading = record { asks = items_asks options reading.items; onward = onward_of (options_after reading.items options) reading.end }
+
+abbrev pub read_onward : Onward → List ℕ → Asking
+read_onward (listens options awaited unread) bytes = asking_of options (reading_of client_grammar awaited (unread ++ bytes))
+read_onward over bytes = nothing_more
+
+-- more bytes came
+abbrev pub fed : List ℕ → Asking → Asking
+fed bytes s = behind s.asks (read_onward s.onward bytes)
+
+-- ---- answers
+
+-- the client is told of a refusal, and its connection goes on
+abbrev pub telling : ErrText → List Ask → Onward → Asking
+telling text asks onward = record { asks = Reply (reply.Err text) ∷ asks; onward = onward }
+
+-- A busy server is asked the same again. Four refusals are told; of all others nothing comes any more.
+abbrev pub refused_by : Refusal → Ask → List Ask → Onward → Asking
+refused_by Busy ask asks onward = record { asks = ask ∷ asks; onward = onward }
+refused_by TooManySubscriptions ask asks onward = telling text.TooManySubscriptions asks onward
+refused_by NumbersSpent ask asks onward = telling text.NumbersSpent asks onward
+refused_by TooManyQueueGroups ask asks onward = telling text.TooManyQueueGroups asks onward
+refused_by Other ask asks onward = nothing_more
+
+-- what a server says of an ask: it is done, or refused
+abbrev pub Answer : Type 0
+Answer = Result (Unit {0}) Refusal
+
+abbrev pub answered_of : Answer → Ask → List Ask → Onward → Asking
+answered_of (Ok done) ask asks onward = record { asks = asks; onward = onward }
+answered_of (Err refusal) ask asks onward = refused_by refusal ask asks onward
+
+abbrev pub answered_first : Answer → List Ask → Onward → Asking
+answered_first answer [] onward = record { asks = []; onward = onward }
+answered_first answer (ask ∷ asks) onward = answered_of answer ask asks onward
+
+-- the first ask was answered
+abbrev pub answered : Answer → Asking → Asking
+answered answer s = answered_first answer s.asks s.onward
+
+-- ---- a connection
+
+-- INFO is asked for first
+abbrev pub begun : InfoData → Asking
+begun info = record { asks = Reply (reply.Info info) ∷ []; onward = listens first_options awaits.Line [] }
+
+abbrev pub is_over : Onward → Bool
+is_over (listens options awaited unread) = false
+is_over over = true
+
+abbrev pub no_asks : List Ask → Bool
+no_asks [] = true
+no_asks (ask ∷ asks) = false
+
+-- nothing stands to be asked, and nothing is read any more
+abbrev pub is_finished : Asking → Bool
+is_finished s = no_asks s.asks && is_over s.onward
+
+-- all answers, in order
+abbrev pub answered_all : List Answer → Asking → Asking
+answered_all [] s = s
+answered_all (answer ∷ answers) s = answered_all answers (answered answer s)
+
+-- what stands to be asked after these bytes and these answers
+abbrev pub asking : InfoData → List ℕ → List Answer → Asking
+asking info bytes answers = answered_all answers (fed bytes (begun info))
+
+-- ---- a connection as its callers see it
+
+pub record ConnState : Type 0 where
+  pub asking : Asking
+  -- the first ask was given, and not answered yet
+  pub given : Bool

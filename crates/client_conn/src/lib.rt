@@ -1,0 +1,19 @@
+//! What one client's connection asks of its server: bytes go in, asks come out, and their answers go in.
+//!
+//! The asks are a function of the bytes and of the answers, however the bytes were cut (`asks_follow_bytes_and_answers`).
+#![tactic(auto)]
+
+mod ask;
+mod conn;
+mod faults;
+mod item;
+mod laws;
+mod reader;
+mod standing;
+#[cfg(test)]
+mod tests;
+
+pub use ask::{Ask, Refusal};
+pub use conn::Conn;
+pub use faults::ReadFault;
+pub use laws::asks_follow_bytes_and_answers;
