@@ -7,7 +7,8 @@ use Rattle.outbox.specs.Views.{Written, size_of, bytes_of_all}
 use Rattle.outbox.specs.declared.entries.Tag.{Tag}
 use Rattle.outbox.specs.declared.kept.Kept.{Kept}
 use Rattle.outbox.specs.declared.kept.Kept.TheVariants.{Copied, Whole}
-use Rattle.outbox.specs.Kept.{Queued, copied_len, seen_at, seen, copied_of}
+use Rattle.std.specs.Prelude.{filter}
+use Rattle.outbox.specs.Kept.{Queued, copied_len, seen_at, seen, copied_of, is_whole}
 
 pub length_seen : (ks : List Kept) (bytes : List ℕ) → length (seen ks bytes) ≡ length ks
 length_seen [] bytes = refl
@@ -124,3 +125,12 @@ copied_next ks i k lt = ap copied_of (take_more ks i k lt) ∙ copied_behind (ta
 
 pub queued_same : (es fs : List Written) (n m : ℕ) → es ≡ fs → n ≡ m → ◌≡◌ {A = Queued} (record { entries = es; places = n }) (record { entries = fs; places = m })
 queued_same es fs n m same places = ap (λ l. record { entries = l; places = n }) same ∙ ap (λ k. record { entries = fs; places = k }) places
+
+-- where all entries were copied, the bytes are theirs alone
+pub copied_alone : (ks : List Kept) (bytes : List ℕ) → filter is_whole ks ≡ [] → copied_of ks ≡ length bytes → bytes_of_all (seen ks bytes) ≡ bytes
+copied_alone [] [] none all = refl
+copied_alone [] (b ∷ bytes) none all = absurd (omega arith)
+copied_alone (Copied tag len ∷ ks) bytes none all =
+    let rest : copied_of ks ≡ length (drop len bytes) = let size = length-drop len bytes in omega arith in
+    ap (λ l. take len bytes ++ l) (copied_alone ks (drop len bytes) none rest) ∙ take-append-drop len bytes
+copied_alone (Whole entry ∷ ks) bytes none all = absurd (cc)

@@ -1,5 +1,5 @@
 -- How entries are kept: small ones as bytes one behind another, larger ones and last lines as they came.
-use Rattle.std.specs.Prelude.{◌≡◌, ℕ, ◌+◌, ◌≤◌, List, [], ◌∷◌, ◌++◌, length, take, drop, Option, Some, None}
+use Rattle.std.specs.Prelude.{◌≡◌, ℕ, ◌+◌, ◌≤◌, Bool, true, false, List, [], ◌∷◌, ◌++◌, length, take, drop, Option, Some, None}
 use Rattle.outbox.specs.Bytes.{bytes_of}
 use Rattle.outbox.specs.Views.{Written}
 use Rattle.outbox.specs.declared.kept.Kept.{Kept}
@@ -9,6 +9,10 @@ use Rattle.outbox.specs.declared.kept.Kept.TheVariants.{Copied, Whole}
 abbrev pub copied_len : Kept → ℕ
 copied_len (Copied tag len) = len
 copied_len (Whole entry) = 0
+
+abbrev pub is_whole : Kept → Bool
+is_whole (Copied tag len) = false
+is_whole (Whole entry) = true
 
 -- the entry, whose bytes are the first of these where they were copied
 abbrev pub seen_at : Kept → List ℕ → Written

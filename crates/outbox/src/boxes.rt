@@ -238,9 +238,31 @@ impl Outbox {
         Ok(taken)
     }
 
+    /// Hands the bytes of all entries over in their buffer, where that can be done, and drops the entries.
+    /// Tells whether it was. Takes no memory.
+    fn hand_over(&mut self, out: &mut Vec<u8>) -> bool
+        requires settled { self.old.next ≡ self.old.shown }
+        requires empty { out.old.items ≡ [] }
+        ensures given { result ≡ true → out.new.items ≡ bytes_of_all self.old.shown.entries }
+        ensures left { result ≡ true → self.new ≡ on_both (λ shelf. record { entries = []; shut = shelf.shut }) self.old }
+        ensures same { result ≡ false → self.new ≡ self.old }
+        ensures none { result ≡ false → out.new.items ≡ [] }
+    {
+        if !self.entries.hand_over(out) {
+            return false;
+        }
+        self.shown = 0;
+        self.shown_bytes = 0;
+        self.bytes = 0;
+        true
+    }
+
     /// Moves the bytes of the first entries that wait, or of all where there are fewer, behind those that
     /// are in `out`, in order, and removes these entries. Gives how many they were. Want of memory leaves
     /// all as it was.
+    ///
+    /// Where all are taken, have many bytes together and no shared payload, and nothing is in `out`, the two
+    /// buffers are swapped: no byte is copied, and no memory is taken.
     pub fn take_bytes(&mut self, count: usize, out: &mut Vec<u8>) -> Result<usize, AllocError>
         requires { self.old.next ≡ self.old.shown }
         ensures taken { IfOk result (λ taken. taken ≡ length (take count self.old.shown.entries)) }
@@ -250,6 +272,9 @@ impl Outbox {
         ensures out { OnErr result (out.new.items ≡ out.old.items) }
     {
         let moved = count.min(self.entries.len());
+        if moved == self.entries.len() && out.is_empty() && self.hand_over(out) {
+            return Ok(moved);
+        }
         self.entries.append_front(moved, out)?;
         self.remove_first(moved);
         Ok(moved)

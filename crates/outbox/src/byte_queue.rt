@@ -1,11 +1,12 @@
 //! Bytes in order, put behind and dropped in front.
 
-ghost use Rattle.std.specs.Prelude.{◌≡◌, ◌+◌, ◌<◌, ◌≤◌, ◌^◌, ◌++◌, [], length, take, drop, Some, IfOk, OnOk, OnErr};
+ghost use Rattle.std.specs.Prelude.{◌≡◌, ◌+◌, ◌<◌, ◌≤◌, ◌^◌, ◌++◌, [], vec_len, length, take, drop, Some, IfOk, OnOk, OnErr};
 ghost use Rattle.outbox.specs.Bytes.{bytes_of};
 
 use crate::entries::{Entry, LINE_END};
 use std::alloc::{AllocError, Global};
 use std::marker::Model;
+use std::mem;
 
 /// Puts a line and a payload, each with its CR LF, behind the bytes that are there. Want of memory leaves
 /// those as they were.
@@ -20,6 +21,16 @@ fn append_message(line: &[u8], payload: &[u8], out: &mut Vec<u8>) -> Result<(), 
     out.extend_from_slice(payload)?;
     out.extend_from_slice(LINE_END)?;
     Ok(())
+}
+
+/// Moves the bytes from this place on to the front, and drops those that are left behind.
+fn move_to_front(bytes: &mut Vec<u8>, start: usize)
+    requires { start ≤ vec_len bytes.old }
+    ensures { bytes.new.items ≡ drop start bytes.old.items }
+{
+    let kept = bytes.len() - start;
+    bytes.copy_within(start.., 0);
+    bytes.truncate(kept);
 }
 
 /// Bytes that are put behind one another and dropped in front, in one buffer that is used again.
@@ -95,10 +106,21 @@ impl ByteQueue {
     {
         self.start += count;
         if self.start > self.bytes.len() - self.start {
-            let kept = self.bytes.len() - self.start;
-            self.bytes.copy_within(self.start.., 0);
-            self.bytes.truncate(kept);
+            move_to_front(&mut self.bytes, self.start);
             self.start = 0;
         }
+    }
+    /// Hands all bytes over in their buffer, in place of one without bytes, whose memory is used from here
+    /// on. Takes no memory.
+    pub(crate) fn hand_over(&mut self, out: &mut Vec<u8>)
+        requires { out.old.items ≡ [] }
+        ensures given { out.new.items ≡ self.old }
+        ensures left { self.new ≡ [] }
+    {
+        if self.start > 0 {
+            move_to_front(&mut self.bytes, self.start);
+            self.start = 0;
+        }
+        mem::swap(&mut self.bytes, out);
     }
 }

@@ -1,11 +1,11 @@
 //! Entries in order, with the bytes of small ones in one buffer.
 
-ghost use Rattle.std.specs.Prelude.{◌≡◌, ℕ, ◌+◌, ◌-◌, ◌≤◌, ◌<◌, ◌^◌, List, Some, ◌++◌, ◌∷◌, [], length, take, drop, IfOk, OnOk, OnErr};
+ghost use Rattle.std.specs.Prelude.{◌≡◌, ℕ, ◌+◌, ◌-◌, ◌≤◌, ◌<◌, ◌^◌, List, Some, ◌++◌, ◌∷◌, [], true, false, filter, length, take, drop, IfOk, OnOk, OnErr};
 ghost use Rattle.outbox.specs.Bytes.{bytes_of};
 ghost use Rattle.outbox.specs.Views.{size_of, bytes_of_all};
 ghost use Rattle.std.specs.VecDeque.{deque_capacity};
 ghost use Rattle.outbox.specs.declared.kept.Kept.{Kept as KeptEntry};
-ghost use Rattle.outbox.specs.Kept.{copied_len, copied_of, seen_at, seen};
+ghost use Rattle.outbox.specs.Kept.{copied_len, copied_of, is_whole as is_kept_whole, seen_at, seen};
 
 use crate::byte_queue::ByteQueue;
 use crate::entries::{Entry, Tag};
@@ -17,6 +17,10 @@ use std::marker::Model;
 
 /// The most bytes of an entry that is copied. Larger ones stay as they came, and share their payload.
 const COPIED: usize = 4_096;
+
+/// From how many bytes on they are handed over in their buffer, where all are taken: fewer are copied, so
+/// that large buffers don't go around for little.
+const HANDED_OVER: usize = 4_096;
 
 /// Puts the bytes of an entry behind those that are there, and tells how many of `text`, which begins
 /// with the entry's own, it has. Want of memory leaves all as it was.
@@ -107,6 +111,25 @@ fn append_first(
         at += append_kept(&kept[place], &text[at..], out)?;
     }
     Ok(())
+}
+
+/// Whether the entry is kept as it came.
+fn is_whole(kept: &Kept) -> bool
+    ensures { result ≡ is_kept_whole kept.now }
+{
+    matches!(kept, Kept::Whole(_))
+}
+
+/// Whether any entry is kept as it came.
+fn any_whole(kept: &VecDeque<Kept>) -> bool
+    ensures { result ≡ false → filter is_kept_whole kept.now.items ≡ [] }
+{
+    for place in 0..kept.len() {
+        if is_whole(&kept[place]) {
+            return true;
+        }
+    }
+    false
 }
 
 /// Copies of the first entries.
@@ -295,6 +318,25 @@ impl EntryQueue {
             out.truncate(before);
         }
         appended
+    }
+
+    /// Hands the bytes of all entries over in their buffer, in place of one without bytes, and drops the
+    /// entries, where they have many bytes and none is kept as it came. Tells whether it was done. Takes no
+    /// memory.
+    #[tactic(auto, using(crate::proofs::Seen::copied_alone))]
+    pub(crate) fn hand_over(&mut self, out: &mut Vec<u8>) -> bool
+        requires { out.old.items ≡ [] }
+        ensures given { result ≡ true → out.new.items ≡ bytes_of_all self.old.entries }
+        ensures left { result ≡ true → self.new ≡ record { entries = []; places = self.old.places } }
+        ensures same { result ≡ false → self.new ≡ self.old }
+        ensures none { result ≡ false → out.new.items ≡ [] }
+    {
+        if self.text.as_slice().len() < HANDED_OVER || any_whole(&self.kept) {
+            return false;
+        }
+        self.text.hand_over(out);
+        self.kept.clear();
+        true
     }
 
     /// Copies of the first entries.

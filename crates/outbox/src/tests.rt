@@ -310,6 +310,61 @@ fn take_bytes_moves_the_first(rt: HostRuntime) -> Result<(), Fail> {
     Ok(())
 }
 
+/// So many bytes.
+fn payload_of(alloc: Global, size: usize) -> Result<Bytes, AllocError> {
+    let payload = vec![in alloc; b'x'; size]?;
+    Bytes::copy_from_slice(alloc, &payload)
+}
+
+/// Puts a message by its parts, for which there must be room: a line of 12 bytes, and this payload.
+fn put_parts(rt: &impl Abort, outbox: &mut Outbox, payload: &Bytes) -> Result<(), AllocError>
+    ensures { outbox.new.next ≡ outbox.new.shown }
+{
+    let sub = SubId {
+        shard: 1,
+        serial: 2,
+    };
+    let id = publication(rt, 9);
+    let line = b"MSG foo 1 ??";
+    assert!(rt; payload.len() <= MAX_PAYLOAD);
+    assert!(rt; outbox.room(12 + payload.len() + 4));
+    let staged = outbox.stage_message(id, sub, Mode::Plain, line, payload);
+    outbox.commit();
+    staged
+}
+
+/// Moves the bytes of all that waits. Gives them.
+fn moved(alloc: Global, outbox: &mut Outbox) -> Result<Vec<u8>, AllocError>
+    requires { outbox.old.next ≡ outbox.old.shown }
+{
+    let mut bytes = Vec::new(alloc);
+    outbox.take_bytes(9, &mut bytes)?;
+    Ok(bytes)
+}
+
+/// Whether these are the bytes of that message with a payload of so many.
+fn is_message(bytes: &[u8], size: usize) -> bool {
+    bytes.len().checked_sub(16) == Some(size)
+        && bytes.starts_with(b"MSG foo 1 ??\r\n")
+        && bytes.ends_with(b"\r\n")
+}
+
+/// To 4,096 bytes of line and payload are copied; a larger payload is shared.
+#[test]
+fn messages_are_kept_by_their_parts(rt: HostRuntime) -> Result<(), Fail> {
+    let alloc = rt.alloc();
+    for size in [0, 5, 4_083, 4_084, 4_085, 70_000] {
+        let mut outbox = Outbox::new(alloc, 1, 80_000)?;
+        let payload = payload_of(alloc, size)?;
+        put_parts(&rt, &mut outbox, &payload)?;
+        assert_eq!(rt; outbox.len(), 1);
+        let bytes = moved(alloc, &mut outbox)?;
+        assert!(rt; is_message(&bytes, size), "{size}");
+        assert!(rt; outbox.is_empty());
+    }
+    Ok(())
+}
+
 #[test]
 fn the_ring_goes_round(rt: HostRuntime) -> Result<(), Fail> {
     let alloc = rt.alloc();
