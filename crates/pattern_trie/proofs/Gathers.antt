@@ -1,5 +1,5 @@
 -- What a step of the walk gathers.
-use Rattle.std.proofs.Common.{◌≡◌, ℕ, Bool, true, false, cond, ◌&&◌, ◌||◌, List, [], ◌∷◌, ◌++◌, length, take, map, refl, eq-eqb, ap, sym, ◌∙◌, arith, inl, inr}
+use Rattle.std.proofs.Common.{◌≡◌, ℕ, Bool, true, false, ◌&&◌, ◌||◌, List, [], ◌∷◌, ◌++◌, length, take, map, refl, eq-eqb, ap, sym, ◌∙◌, arith, inl, inr}
 use Rattle.std.specs.Prelude.{codes, nat_lt, Option}
 use Rattle.std.specs.Option.{is_some}
 use Rattle.std.proofs.Common.{Some, None}
@@ -11,12 +11,11 @@ use Rattle.std.proofs.lemmas.Bool.{cases_Bool, cond-false}
 use Rattle.std.proofs.lemmas.Bool.Decides.{nat_tests}
 use Rattle.std.proofs.lemmas.List.{append_assoc, append-nil}
 use Rattle.subj.specs.Names.{is_empty}
-use Rattle.pattern_trie.specs.declared.wilds.Wilds.{Wilds}
-use Rattle.pattern_trie.specs.Nodes.{Nodes, is_in, has_wild, below_at, values_at, count_of, one_if}
-use Rattle.pattern_trie.specs.Beginnings.{is_beginning, is_before_dot, wild_token, with_wild}
+use Rattle.pattern_trie.specs.Nodes.{Nodes, has_mark, below_at, count_of, one_if}
+use Rattle.pattern_trie.specs.Beginnings.{is_beginning, is_before_dot, with_behind}
 use Rattle.pattern_trie.specs.Held.{Held, Holds, count_below, values_for}
 use Rattle.pattern_trie.specs.Matchers.{matchers, dotted, extended, gathered}
-use Rattle.pattern_trie.proofs.Lists.{begins_itself, none_below}
+use Rattle.pattern_trie.proofs.Lists.{begins_itself}
 
 -- ---- lists of token lists
 
@@ -97,48 +96,38 @@ dotted_back (b ∷ path) token = ap (λ l. b ∷ l) (front path (46 ∷ token)) 
 pub cut_back : (n : ℕ) (path more token : List ℕ) → n ≡ length path → more ≡ dotted path token → take n more ≡ path
 cut_back n path more token is at = ap (λ k. take k more) is ∙ ap (take (length path)) at ∙ dotted_back path token
 
--- ---- a wildcard that no node is known for
+-- ---- a token that no node is marked for
 
-not_counted : {V : Type 0} (held : List (Held V)) (nodes : Nodes V) (path : List ℕ) (k : Bool) → Holds held nodes → is_empty path ≡ false → has_wild k nodes path ≡ false → count_below (dotted path (wild_token k)) held ≡ 0
+not_counted : {V : Type 0} (held : List (Held V)) (nodes : Nodes V) (path : List ℕ) (k : List ℕ) → Holds held nodes → is_empty path ≡ false → has_mark k nodes path ≡ false → count_below (dotted path k) held ≡ 0
 not_counted held nodes [] k is some none = cc
 not_counted held nodes (b ∷ path) k is some none =
-    elim (cases_Bool (nat_lt 0 (count_below (with_wild k (b ∷ path)) held))) [
-      | inl y ↦ absurd (no (sym (is.wilds k (b ∷ path) (grind (arith, nat_tests))) ∙ none))
+    elim (cases_Bool (nat_lt 0 (count_below (with_behind k (b ∷ path)) held))) [
+      | inl y ↦ absurd (no (sym (is.marks k (b ∷ path) (grind (arith, nat_tests))) ∙ none))
       | inr n ↦ grind (arith, nat_tests)
     ]
   where
     no : true ≡ false → ⊥
     no e = cc
 
--- wildcards that may have nodes behind the path: where one is not among them, it has none
-abbrev pub AreKnown : {V : Type 0} → Wilds → Nodes V → List ℕ → Type 0
-AreKnown w nodes path = (k : Bool) → is_in k w ≡ false → (is_empty path ≡ false) × (has_wild k nodes path ≡ false)
-
-rest_is : {V : Type 0} (held : List (Held V)) (nodes : Nodes V) (path : List ℕ) (b : Bool) → Holds held nodes → (b ≡ false → (is_empty path ≡ false) × (has_wild false nodes path ≡ false)) → cond b (values_at nodes (dotted path (codes ">"))) [] ≡ values_for (dotted path (codes ">")) held
-rest_is held nodes path true is known = is.values (dotted path (codes ">"))
-rest_is held nodes path false is known = let none = known refl in sym (none_below (dotted path (codes ">")) held (not_counted held nodes path false is none.0 none.1))
-
-star_none : {V : Type 0} (held : List (Held V)) (nodes : Nodes V) (path : List ℕ) (ms : List (List (List ℕ))) → Holds held nodes → is_empty path ≡ false → has_wild true nodes path ≡ false → gathered held (dotted path (codes "*")) ms ≡ []
-star_none held nodes [] ms is some none = cc
-star_none held nodes (b ∷ path) ms is some none = none_gathered b (path ++ 46 ∷ codes "*") held ms (not_counted held nodes (b ∷ path) true is some none)
+-- nothing is held behind a token that is not marked
+pub token_none : {V : Type 0} (held : List (Held V)) (nodes : Nodes V) (path token : List ℕ) (ms : List (List (List ℕ))) → Holds held nodes → (is_empty path ≡ false) × (has_mark token nodes path ≡ false) → gathered held (dotted path token) ms ≡ []
+token_none held nodes [] token ms is none = nothing none.0 where
+  nothing : {A : Type 0} → true ≡ false → A
+  nothing e = cc
+token_none held nodes (b ∷ path) token ms is none = none_gathered b (path ++ 46 ∷ token) held ms (not_counted held nodes (b ∷ path) token is none.0 none.1)
 
 -- the whole of a step
-module _ {V : Type 0} (held : List (Held V)) (nodes : Nodes V) (w : Wilds) (path token : List ℕ) (tokens : List (List ℕ)) (f0 f1 f2 : List V) (is : Holds held nodes) (known : AreKnown w nodes path)
-    (one : f1 ≡ f0 ++ cond w.rest (values_at nodes (dotted path (codes ">"))) []) (two : f2 ≡ f1 ++ gathered held (dotted path token) (matchers tokens)) where
+module _ {V : Type 0} (held : List (Held V)) (path token : List ℕ) (tokens : List (List ℕ)) (f0 f1 f2 f3 : List V) where
   joined : (f a b d : List V) → ((f ++ a) ++ b) ++ d ≡ f ++ (a ++ (b ++ d))
   joined f a b d = append_assoc (f ++ a) b d ∙ append_assoc f a (b ++ d)
 
-  pub walked : (f3 : List V) → f3 ≡ f2 ++ gathered held (dotted path (codes "*")) (matchers tokens) → f3 ≡ f0 ++ gathered held path (matchers (token ∷ tokens))
-  walked f3 three =
+  pub walked : f1 ≡ f0 ++ gathered held (dotted path (codes ">")) (matchers []) → f2 ≡ f1 ++ gathered held (dotted path token) (matchers tokens) → f3 ≡ f2 ++ gathered held (dotted path (codes "*")) (matchers tokens)
+      → f3 ≡ f0 ++ gathered held path (matchers (token ∷ tokens))
+  walked one two three =
       let a = values_for (dotted path (codes ">")) held in
       let b = gathered held (dotted path token) (matchers tokens) in
       let d = gathered held (dotted path (codes "*")) (matchers tokens) in
-      three ∙ ap (λ f. f ++ d) (two ∙ ap (λ f. f ++ b) (one ∙ ap (λ vs. f0 ++ vs) (rest_is held nodes path w.rest is (known false)))) ∙ joined f0 a b d ∙ sym (ap (λ vs. f0 ++ vs) (gathered_step held path token tokens))
-
-  pub walked_plain : w.one ≡ false → f2 ≡ f0 ++ gathered held path (matchers (token ∷ tokens))
-  walked_plain plain =
-      let none = known true plain in
-      walked f2 (sym (append-nil f2) ∙ ap (λ d. f2 ++ d) (sym (star_none held nodes path (matchers tokens) is none.0 none.1)))
+      three ∙ ap (λ f. f ++ d) (two ∙ ap (λ f. f ++ b) (one ∙ ap (λ vs. f0 ++ vs) (append-nil a))) ∙ joined f0 a b d ∙ sym (ap (λ vs. f0 ++ vs) (gathered_step held path token tokens))
 
 pub none_counted : {V : Type 0} (o : Option (Node V)) → is_some o ≡ false → count_of o ≡ 0
 none_counted None no_one = refl

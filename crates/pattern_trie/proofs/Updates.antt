@@ -1,5 +1,5 @@
 -- What a change at one key leaves at any bytes.
-use Rattle.std.proofs.Common.{◌≡◌, ℕ, ◌+◌, ◌-◌, ◌<◌, Bool, true, false, cond, ◌||◌, List, [], ◌∷◌, length, refl, ap, sym, subst, ◌∙◌, arith, inl, inr}
+use Rattle.std.proofs.Common.{◌≡◌, ℕ, ◌+◌, ◌-◌, ◌<◌, Bool, true, false, cond, List, [], ◌∷◌, length, refl, ap, sym, subst, ◌∙◌, arith, inl, inr}
 use Rattle.std.specs.Prelude.{Option}
 use Rattle.std.specs.Str.{bytes_eq}
 use Rattle.std.specs.Map.{lookup, KeepsOthers, IsKeyTest, AreApart}
@@ -9,8 +9,7 @@ use Rattle.std.specs.declared.vec.Vec.{Vec}
 use Rattle.std.specs.declared.alloc.Global.{Global}
 use Rattle.std.proofs.lemmas.Bool.{cases_Bool, cond-true, cond-false}
 use Rattle.pattern_trie.specs.declared.node.Node.{Node}
-use Rattle.pattern_trie.specs.declared.wilds.Wilds.{Wilds}
-use Rattle.pattern_trie.specs.Nodes.{Nodes, has_bytes, node_at, count_of, values_of, below_at, values_at, one_if, is_in, wild_of, has_wild, KeepsWilds, KeepsWildsBelow, IsSame, Enters, Leaves, Values}
+use Rattle.pattern_trie.specs.Nodes.{Nodes, has_bytes, node_at, count_of, values_of, below_at, values_at, one_if, mark_of, has_mark, KeepsMarks, KeepsMarksBelow, IsSame, Enters, Leaves, Values}
 
 abbrev pub same_bytes : Vec ℕ Global → Vec ℕ Global → Bool
 same_bytes x y = bytes_eq x.items y.items
@@ -50,60 +49,43 @@ plus_none a = omega arith
 less_none : (a : ℕ) → a - 0 ≡ a
 less_none a = omega arith
 
--- the wildcards at any bytes, where those at bs stay as long as something is held below
-below_kept : {V : Type 0} (bs : List ℕ) (m n : Nodes V) (w : Option (Node V)) → UpdatesBy same_bytes (has_bytes bs) m n w → ((k : Bool) → 0 < count_of w → has_wild k m bs ≡ true → wild_of k w ≡ true) → KeepsWildsBelow m n
+-- the marks at any bytes, where those at bs stay as long as something is held below
+below_kept : {V : Type 0} (bs : List ℕ) (m n : Nodes V) (w : Option (Node V)) → UpdatesBy same_bytes (has_bytes bs) m n w → ((k : List ℕ) → 0 < count_of w → has_mark k m bs ≡ true → mark_of k w ≡ true) → KeepsMarksBelow m n
 below_kept bs m n w h keeps k q some had =
     elim (cases_Bool (bytes_eq bs q)) [
       | inl y ↦
           let at : node_at n q ≡ w = updated bs m n w h q ∙ cond-true (bytes_eq bs q) w (node_at m q) y in
-          ap (wild_of k) at ∙ keeps k (subst (λ o. 0 < count_of o) at some) (ap (has_wild k m) ((bytes_decides bs q).0 y) ∙ had)
-      | inr e ↦ ap (wild_of k) (updated bs m n w h q ∙ cond-false (bytes_eq bs q) w (node_at m q) e) ∙ had
+          ap (mark_of k) at ∙ keeps k (subst (λ o. 0 < count_of o) at some) (ap (has_mark k m) ((bytes_decides bs q).0 y) ∙ had)
+      | inr e ↦ ap (mark_of k) (updated bs m n w h q ∙ cond-false (bytes_eq bs q) w (node_at m q) e) ∙ had
     ]
 
 -- the same, where they stay anyway
-wilds_kept : {V : Type 0} (bs : List ℕ) (m n : Nodes V) (w : Option (Node V)) → UpdatesBy same_bytes (has_bytes bs) m n w → ((k : Bool) → has_wild k m bs ≡ true → wild_of k w ≡ true) → KeepsWilds m n
-wilds_kept bs m n w h keeps k q had =
+marks_kept : {V : Type 0} (bs : List ℕ) (m n : Nodes V) (w : Option (Node V)) → UpdatesBy same_bytes (has_bytes bs) m n w → ((k : List ℕ) → has_mark k m bs ≡ true → mark_of k w ≡ true) → KeepsMarks m n
+marks_kept bs m n w h keeps k q had =
     elim (cases_Bool (bytes_eq bs q)) [
-      | inl y ↦ ap (wild_of k) (updated bs m n w h q ∙ cond-true (bytes_eq bs q) w (node_at m q) y) ∙ keeps k (ap (has_wild k m) ((bytes_decides bs q).0 y) ∙ had)
-      | inr e ↦ ap (wild_of k) (updated bs m n w h q ∙ cond-false (bytes_eq bs q) w (node_at m q) e) ∙ had
+      | inl y ↦ ap (mark_of k) (updated bs m n w h q ∙ cond-true (bytes_eq bs q) w (node_at m q) y) ∙ keeps k (ap (has_mark k m) ((bytes_decides bs q).0 y) ∙ had)
+      | inr e ↦ ap (mark_of k) (updated bs m n w h q ∙ cond-false (bytes_eq bs q) w (node_at m q) e) ∙ had
     ]
 
-or_left : (a b c : Bool) → c ≡ (a || b) → a ≡ true → c ≡ true
-or_left true b c is so = is
-or_left false b c is so = cc
-
-or_right : (a b c : Bool) → c ≡ (a || b) → b ≡ true → c ≡ true
-or_right true b c is so = is
-or_right false b c is so = is ∙ so
-
--- what is in one of two is in both together
-pub in_first : (k : Bool) (a b c : Wilds) → c.one ≡ (a.one || b.one) → c.rest ≡ (a.rest || b.rest) → is_in k a ≡ true → is_in k c ≡ true
-in_first true a b c one rest so = or_left a.one b.one c.one one so
-in_first false a b c one rest so = or_left a.rest b.rest c.rest rest so
-
-pub in_second : (k : Bool) (a b c : Wilds) → c.one ≡ (a.one || b.one) → c.rest ≡ (a.rest || b.rest) → is_in k b ≡ true → is_in k c ≡ true
-in_second true a b c one rest so = or_right a.one b.one c.one one so
-in_second false a b c one rest so = or_right a.rest b.rest c.rest rest so
-
-pub entered : {V : Type 0} (bs : List ℕ) (behind : Bool → Bool) (m n : Nodes V) (w : Option (Node V)) → UpdatesBy same_bytes (has_bytes bs) m n w → count_of w ≡ below_at m bs + 1 → values_of w ≡ values_at m bs
-    → ((k : Bool) → has_wild k m bs ≡ true → wild_of k w ≡ true) → ((k : Bool) → behind k ≡ true → wild_of k w ≡ true) → Enters bs behind m n
+pub entered : {V : Type 0} (bs : List ℕ) (behind : List ℕ → Bool) (m n : Nodes V) (w : Option (Node V)) → UpdatesBy same_bytes (has_bytes bs) m n w → count_of w ≡ below_at m bs + 1 → values_of w ≡ values_at m bs
+    → ((k : List ℕ) → has_mark k m bs ≡ true → mark_of k w ≡ true) → ((k : List ℕ) → behind k ≡ true → mark_of k w ≡ true) → Enters bs behind m n
 entered bs behind m n w h here values keeps marks =
     let all = counted bs m n w (updated bs m n w h) (λ a b. a + b) here plus_none values in
-    record { counts = λ q. (all q).0; values = λ q. (all q).1; wilds = wilds_kept bs m n w h keeps; marked = λ k so. ap (wild_of k) h.1 ∙ marks k so }
+    record { counts = λ q. (all q).0; values = λ q. (all q).1; marks = marks_kept bs m n w h keeps; marked = λ k so. ap (mark_of k) h.1 ∙ marks k so }
 
 pub left : {V : Type 0} (bs : List ℕ) (m n : Nodes V) (w : Option (Node V)) → UpdatesBy same_bytes (has_bytes bs) m n w → count_of w ≡ below_at m bs - 1 → values_of w ≡ values_at m bs
-    → ((k : Bool) → 0 < count_of w → has_wild k m bs ≡ true → wild_of k w ≡ true) → Leaves bs m n
+    → ((k : List ℕ) → 0 < count_of w → has_mark k m bs ≡ true → mark_of k w ≡ true) → Leaves bs m n
 left bs m n w h here values keeps =
     let all = counted bs m n w (updated bs m n w h) (λ a b. a - b) here less_none values in
-    record { counts = λ q. (all q).0; values = λ q. (all q).1; wilds = below_kept bs m n w h keeps }
+    record { counts = λ q. (all q).0; values = λ q. (all q).1; marks = below_kept bs m n w h keeps }
 
-pub same : {V : Type 0} (bs : List ℕ) (m n : Nodes V) (w : Option (Node V)) → UpdatesBy same_bytes (has_bytes bs) m n w → count_of w ≡ below_at m bs → values_of w ≡ values_at m bs → ((k : Bool) → has_wild k m bs ≡ true → wild_of k w ≡ true) → IsSame m n
+pub same : {V : Type 0} (bs : List ℕ) (m n : Nodes V) (w : Option (Node V)) → UpdatesBy same_bytes (has_bytes bs) m n w → count_of w ≡ below_at m bs → values_of w ≡ values_at m bs → ((k : List ℕ) → has_mark k m bs ≡ true → mark_of k w ≡ true) → IsSame m n
 same bs m n w h here values keeps =
     let all = counted bs m n w (updated bs m n w h) (λ a b. a) here (λ a. refl) values in
-    record { counts = λ q. (all q).0; values = λ q. (all q).1; wilds = λ k q some. wilds_kept bs m n w h keeps k q }
+    record { counts = λ q. (all q).0; values = λ q. (all q).1; marks = λ k q some. marks_kept bs m n w h keeps k q }
 
-pub valued : {V : Type 0} (bs : List ℕ) (vs : List V) (m n : Nodes V) (w : Option (Node V)) → UpdatesBy same_bytes (has_bytes bs) m n w → count_of w ≡ below_at m bs → values_of w ≡ vs → ((k : Bool) → has_wild k m bs ≡ true → wild_of k w ≡ true) → Values bs vs m n
-valued bs vs m n w h here values keeps = record { counts = λ q. (all q).0; values_are = λ q. (all q).1; wilds = wilds_kept bs m n w h keeps } where
+pub valued : {V : Type 0} (bs : List ℕ) (vs : List V) (m n : Nodes V) (w : Option (Node V)) → UpdatesBy same_bytes (has_bytes bs) m n w → count_of w ≡ below_at m bs → values_of w ≡ vs → ((k : List ℕ) → has_mark k m bs ≡ true → mark_of k w ≡ true) → Values bs vs m n
+valued bs vs m n w h here values keeps = record { counts = λ q. (all q).0; values_are = λ q. (all q).1; marks = marks_kept bs m n w h keeps } where
   all : (q : List ℕ) → (below_at n q ≡ below_at m q) × (values_at n q ≡ cond (bytes_eq bs q) vs (values_at m q))
   all q =
       let at = updated bs m n w h q in
@@ -119,7 +101,7 @@ valued bs vs m n w h here values keeps = record { counts = λ q. (all q).0; valu
 
 -- where nothing changed
 pub unvalued : {V : Type 0} (bs : List ℕ) (vs : List V) (m : Nodes V) → vs ≡ values_at m bs → Values bs vs m m
-unvalued bs vs m is = record { counts = λ q. refl; values_are = at; wilds = λ k q had. had } where
+unvalued bs vs m is = record { counts = λ q. refl; values_are = at; marks = λ k q had. had } where
   at : (q : List ℕ) → values_at m q ≡ cond (bytes_eq bs q) vs (values_at m q)
   at q =
       elim (cases_Bool (bytes_eq bs q)) [

@@ -1,5 +1,5 @@
 -- The beginnings of a pattern: what stands before each of its dots, and the pattern itself.
-use Rattle.std.specs.Prelude.{ℕ, ◌+◌, Bool, true, false, ◌&&◌, ◌||◌, nat_lt, List, [], ◌∷◌, ◌++◌, length, drop, codes}
+use Rattle.std.specs.Prelude.{ℕ, ◌+◌, Bool, false, ◌&&◌, ◌||◌, nat_lt, List, [], ◌∷◌, ◌++◌, length, drop}
 use Rattle.std.specs.Bool.{nat_eq}
 use Rattle.std.specs.Str.{bytes_eq}
 use Rattle.subj.specs.Names.{is_dot}
@@ -19,15 +19,10 @@ is_before_dot_of n q text = nat_lt (length q) n && is_before_dot q text
 abbrev pub is_beginning : List ℕ → List ℕ → Bool
 is_beginning q text = bytes_eq q text || is_before_dot q text
 
--- the wildcards as tokens: `*` for true, `>` for false
-abbrev pub wild_token : Bool → List ℕ
-wild_token true = codes "*"
-wild_token false = codes ">"
+-- a beginning, and this text behind a dot
+abbrev pub with_behind : List ℕ → List ℕ → List ℕ
+with_behind more q = q ++ 46 ∷ more
 
--- a beginning, and this wildcard as one token more
-abbrev pub with_wild : Bool → List ℕ → List ℕ
-with_wild k q = q ++ 46 ∷ wild_token k
-
--- whether q stands before a dot among the first so many bytes, with this wildcard right behind it
-abbrev pub is_wild_behind : Bool → ℕ → List ℕ → List ℕ → Bool
-is_wild_behind k n q text = is_before_dot_of n q text && is_beginning (wild_token k) (drop (length q + 1) text)
+-- whether q stands before a dot among the first so many bytes, and this begins what is behind it
+abbrev pub goes_on : List ℕ → ℕ → List ℕ → List ℕ → Bool
+goes_on more n q text = is_before_dot_of n q text && is_beginning more (drop (length q + 1) text)

@@ -1,8 +1,8 @@
 -- What a trie holds: values, each under the bytes of a pattern, in order of insertion.
 use Rattle.std.specs.Prelude.{◌≡◌, ℕ, ◌+◌, ◌<◌, Bool, true, ◌&&◌, List, [], ◌∷◌, if◌then◌else◌}
 use Rattle.std.specs.Str.{bytes_eq}
-use Rattle.pattern_trie.specs.Beginnings.{is_beginning, with_wild}
-use Rattle.pattern_trie.specs.Nodes.{Nodes, below_at, values_at, has_wild, one_if}
+use Rattle.pattern_trie.specs.Beginnings.{is_beginning, with_behind}
+use Rattle.pattern_trie.specs.Nodes.{Nodes, below_at, values_at, has_mark, one_if}
 
 -- a pattern's bytes, and a value held under it
 abbrev pub Held : Type 0 → Type 0
@@ -27,8 +27,8 @@ abbrev pub without_held : {V : Type 0} → (V → V → Bool) → List ℕ → V
 without_held eq text value [] = []
 without_held eq text value (h ∷ held) = if is_held eq text value h then held else h ∷ without_held eq text value held
 
--- the nodes are those of what is held; where a wildcard goes on, its node is known behind the beginning
+-- the nodes are those of what is held; where a text goes on behind a beginning, its class is marked there
 pub record Holds {V : Type 0} (held : List (Held V)) (nodes : Nodes V) : Type 0 where
   pub counts : (q : List ℕ) → below_at nodes q ≡ count_below q held
   pub values : (q : List ℕ) → values_at nodes q ≡ values_for q held
-  pub wilds : (k : Bool) (q : List ℕ) → 0 < count_below (with_wild k q) held → has_wild k nodes q ≡ true
+  pub marks : (more q : List ℕ) → 0 < count_below (with_behind more q) held → has_mark more nodes q ≡ true

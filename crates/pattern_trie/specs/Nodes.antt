@@ -7,7 +7,9 @@ use Rattle.std.specs.declared.hash.BuildHasherDefault.{BuildHasherDefault}
 use Rattle.std.specs.declared.vec.Vec.{Vec}
 use Rattle.std.specs.declared.alloc.Global.{Global}
 use Rattle.pattern_trie.specs.declared.node.Node.{Node}
-use Rattle.pattern_trie.specs.declared.wilds.Wilds.{Wilds}
+use Rattle.subj.specs.Names.{is_empty}
+use Rattle.pattern_trie.specs.declared.marks.Marks.{Marks}
+use Rattle.pattern_trie.specs.Classes.{is_in}
 
 abbrev pub Nodes : Type 0 → Type 0
 Nodes V = HashMap (Vec ℕ Global) (Node V) (BuildHasherDefault TextHasher)
@@ -34,72 +36,71 @@ below_at nodes text = count_of (node_at nodes text)
 abbrev pub values_at : {V : Type 0} → Nodes V → List ℕ → List V
 values_at nodes text = values_of (node_at nodes text)
 
--- whether a wildcard is one of these: `*` for true, `>` for false
-abbrev pub is_in : Bool → Wilds → Bool
-is_in true wilds = wilds.one
-is_in false wilds = wilds.rest
+abbrev pub mark_of : {V : Type 0} → List ℕ → Option (Node V) → Bool
+mark_of more None = false
+mark_of more (Some node) = is_in more node.marks
 
-abbrev pub wild_of : {V : Type 0} → Bool → Option (Node V) → Bool
-wild_of k None = false
-wild_of k (Some node) = is_in k node.wilds
+-- whether there may be nodes for the text and this one behind it
+abbrev pub has_mark : {V : Type 0} → List ℕ → Nodes V → List ℕ → Bool
+has_mark more nodes text = mark_of more (node_at nodes text)
 
--- whether there may be a node for the text and this wildcard behind it
-abbrev pub has_wild : {V : Type 0} → Bool → Nodes V → List ℕ → Bool
-has_wild k nodes text = wild_of k (node_at nodes text)
+-- where a text is not in the marks, there are no nodes for it behind the path
+abbrev pub AreKnown : {V : Type 0} → Marks → Nodes V → List ℕ → Type 0
+AreKnown marks nodes path = (more : List ℕ) → is_in more marks ≡ false → (is_empty path ≡ false) × (has_mark more nodes path ≡ false)
 
 abbrev pub one_if : Bool → ℕ
 one_if b = if b then 1 else 0
 
--- the wildcards of old are among those of new
-abbrev pub KeepsWilds : {V : Type 0} → Nodes V → Nodes V → Type 0
-KeepsWilds old new = (k : Bool) (q : List ℕ) → has_wild k old q ≡ true → has_wild k new q ≡ true
+-- the marks of old are among those of new
+abbrev pub KeepsMarks : {V : Type 0} → Nodes V → Nodes V → Type 0
+KeepsMarks old new = (more q : List ℕ) → has_mark more old q ≡ true → has_mark more new q ≡ true
 
 -- they are where something is still held below
-abbrev pub KeepsWildsBelow : {V : Type 0} → Nodes V → Nodes V → Type 0
-KeepsWildsBelow old new = (k : Bool) (q : List ℕ) → 0 < below_at new q → has_wild k old q ≡ true → has_wild k new q ≡ true
+abbrev pub KeepsMarksBelow : {V : Type 0} → Nodes V → Nodes V → Type 0
+KeepsMarksBelow old new = (more q : List ℕ) → 0 < below_at new q → has_mark more old q ≡ true → has_mark more new q ≡ true
 
 -- new has the counts and the values of old
 pub record IsSame {V : Type 0} (old new : Nodes V) : Type 0 where
   pub counts : (q : List ℕ) → below_at new q ≡ below_at old q
   pub values : (q : List ℕ) → values_at new q ≡ values_at old q
-  pub wilds : KeepsWildsBelow old new
+  pub marks : KeepsMarksBelow old new
 
--- one more is counted at the text, with these wildcards behind it
-pub record Enters {V : Type 0} (text : List ℕ) (behind : Bool → Bool) (old new : Nodes V) : Type 0 where
+-- one more is counted at the text, with these marks behind it
+pub record Enters {V : Type 0} (text : List ℕ) (behind : List ℕ → Bool) (old new : Nodes V) : Type 0 where
   pub counts : (q : List ℕ) → below_at new q ≡ below_at old q + one_if (bytes_eq text q)
   pub values : (q : List ℕ) → values_at new q ≡ values_at old q
-  pub wilds : KeepsWilds old new
-  pub marked : (k : Bool) → behind k ≡ true → has_wild k new text ≡ true
+  pub marks : KeepsMarks old new
+  pub marked : (more : List ℕ) → behind more ≡ true → has_mark more new text ≡ true
 
 -- one less is counted at the text
 pub record Leaves {V : Type 0} (text : List ℕ) (old new : Nodes V) : Type 0 where
   pub counts : (q : List ℕ) → below_at new q ≡ below_at old q - one_if (bytes_eq text q)
   pub values : (q : List ℕ) → values_at new q ≡ values_at old q
-  pub wilds : KeepsWildsBelow old new
+  pub marks : KeepsMarksBelow old new
 
 -- the values at the text become these
 pub record Values {V : Type 0} (text : List ℕ) (values : List V) (old new : Nodes V) : Type 0 where
   pub counts : (q : List ℕ) → below_at new q ≡ below_at old q
   pub values_are : (q : List ℕ) → values_at new q ≡ (if bytes_eq text q then values else values_at old q)
-  pub wilds : KeepsWilds old new
+  pub marks : KeepsMarks old new
 
 -- the list without the first such value, values being compared by eq
 abbrev pub without_value : {V : Type 0} → (V → V → Bool) → V → List V → List V
 without_value eq value [] = []
 without_value eq value (x ∷ xs) = if eq value x then xs else x ∷ without_value eq value xs
 
--- one more is counted where the test says so, with these wildcards behind
-pub record EntersEach {V : Type 0} (test : List ℕ → Bool) (behind : Bool → List ℕ → Bool) (old new : Nodes V) : Type 0 where
+-- one more is counted where the test says so, with these marks behind
+pub record EntersEach {V : Type 0} (test : List ℕ → Bool) (behind : List ℕ → List ℕ → Bool) (old new : Nodes V) : Type 0 where
   pub counts : (q : List ℕ) → below_at new q ≡ below_at old q + one_if (test q)
   pub values : (q : List ℕ) → values_at new q ≡ values_at old q
-  pub wilds : KeepsWilds old new
-  pub marked : (k : Bool) (q : List ℕ) → behind k q ≡ true → has_wild k new q ≡ true
+  pub marks : KeepsMarks old new
+  pub marked : (more q : List ℕ) → behind more q ≡ true → has_mark more new q ≡ true
 
 -- one less is counted where the test says so
 pub record LeavesEach {V : Type 0} (test : List ℕ → Bool) (old new : Nodes V) : Type 0 where
   pub counts : (q : List ℕ) → below_at new q ≡ below_at old q - one_if (test q)
   pub values : (q : List ℕ) → values_at new q ≡ values_at old q
-  pub wilds : KeepsWildsBelow old new
+  pub marks : KeepsMarksBelow old new
 
 -- where the test says so, one more is counted than the values there are for
 pub record CanLeaveEach {V : Type 0} (test : List ℕ → Bool) (nodes : Nodes V) : Type 0 where

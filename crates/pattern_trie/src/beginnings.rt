@@ -2,10 +2,10 @@
 
 ghost use Rattle.std.specs.Prelude.{◌≡◌, ℕ, ◌≤◌, length, OnOk, OnErr};
 ghost use Rattle.pattern_trie.specs.Nodes.{IsSame, EntersEach, LeavesEach, CanLeaveEach};
-ghost use Rattle.pattern_trie.specs.Beginnings.{is_beginning, is_before_dot_of, is_wild_behind, with_wild};
+ghost use Rattle.pattern_trie.specs.Beginnings.{is_beginning, is_before_dot_of, goes_on, with_behind};
 
+use crate::marks::Marks;
 use crate::nodes::{Nodes, enter, leave};
-use crate::wilds::Wilds;
 use std::alloc::{AllocError, Global};
 
 /// Counts one less at each beginning before a dot among the first `end` bytes. Takes no memory.
@@ -23,13 +23,13 @@ fn leave_before<V: Drop>(nodes: &mut Nodes<V>, text: &[u8], end: usize)
 
 /// Counts one more at each beginning before a dot.
 fn enter_before<V: Drop>(alloc: Global, nodes: &mut Nodes<V>, text: &[u8]) -> Result<(), AllocError>
-    ensures ok { OnOk result (EntersEach (λ q. is_before_dot_of (length text.now) q text.now) (λ k q. is_wild_behind k (length text.now) q text.now) nodes.old nodes.new) }
+    ensures ok { OnOk result (EntersEach (λ q. is_before_dot_of (length text.now) q text.now) (λ more q. goes_on more (length text.now) q text.now) nodes.old nodes.new) }
     ensures err { OnErr result (IsSame nodes.old nodes.new) }
 {
     for at in 0..text.len() {
         if text[at] == b'.' {
-            let wilds = Wilds::of_first_token(&text[at + 1..]);
-            if enter(alloc, nodes, &text[..at], wilds).is_err() {
+            let marks = Marks::of_first_token(&text[at + 1..]);
+            if enter(alloc, nodes, &text[..at], marks).is_err() {
                 leave_before(nodes, text, at);
                 return Err(AllocError);
             }
@@ -44,11 +44,11 @@ pub(crate) fn enter_all<V: Drop>(
     nodes: &mut Nodes<V>,
     text: &[u8],
 ) -> Result<(), AllocError>
-    ensures ok { OnOk result (EntersEach (λ q. is_beginning q text.now) (λ k q. is_beginning (with_wild k q) text.now) nodes.old nodes.new) }
+    ensures ok { OnOk result (EntersEach (λ q. is_beginning q text.now) (λ more q. is_beginning (with_behind more q) text.now) nodes.old nodes.new) }
     ensures err { OnErr result (IsSame nodes.old nodes.new) }
 {
     enter_before(alloc, nodes, text)?;
-    if enter(alloc, nodes, text, Wilds::none()).is_err() {
+    if enter(alloc, nodes, text, Marks::none()).is_err() {
         leave_before(nodes, text, text.len());
         return Err(AllocError);
     }

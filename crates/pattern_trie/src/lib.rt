@@ -16,11 +16,11 @@ use std::hash::BuildHasherDefault;
 use subj::{Pattern, Subject};
 
 mod beginnings;
+mod marks;
 mod node;
 mod nodes;
 mod text_hasher;
 mod walks;
-mod wilds;
 
 /// Values, each held under a pattern: serials of subscriptions, or whatever else is copied and compared
 /// by `==`.

@@ -2,7 +2,7 @@
 
 ghost use Rattle.std.specs.Prelude.{◌<◌};
 
-use crate::wilds::Wilds;
+use crate::marks::Marks;
 
 /// What is held at a beginning and below it.
 #[derive(Drop)]
@@ -11,7 +11,7 @@ pub(crate) struct Node<V> {
     pub(crate) below: usize,
     /// Those held at the pattern that is this beginning, in order of insertion.
     pub(crate) values: Vec<V>,
-    /// The wildcards that patterns had right behind this beginning since there is a node for it.
-    pub(crate) wilds: Wilds,
+    /// The tokens that patterns had right behind this beginning since there is a node for it.
+    pub(crate) marks: Marks,
     ghost some: { 0 < below },
 }

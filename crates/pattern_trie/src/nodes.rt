@@ -2,37 +2,38 @@
 
 ghost use Rattle.std.specs.Prelude.{◌≡◌, ℕ, ◌+◌, ◌-◌, ◌<◌, ◌∷◌, [], ◌++◌, length, IfOk, OnOk, OnErr, is_some, position, remove, if◌then◌else◌};
 ghost use Rattle.std.specs.List.{list_any};
-ghost use Rattle.pattern_trie.specs.Nodes.{below_at, values_at, node_at, is_in, Enters, Leaves, IsSame, Values, without_value};
+ghost use Rattle.pattern_trie.specs.Classes.{is_in};
+ghost use Rattle.pattern_trie.specs.Nodes.{below_at, values_at, node_at, Enters, Leaves, IsSame, Values, without_value};
 
+use crate::marks::Marks;
 use crate::node::Node;
 use crate::text_hasher::TextHasher;
-use crate::wilds::Wilds;
 use std::alloc::{AllocError, Global};
 use std::collections::HashMap;
 use std::hash::BuildHasherDefault;
 
 pub(crate) type Nodes<V> = HashMap<Vec<u8>, Node<V>, BuildHasherDefault<TextHasher>>;
 
-/// Counts one more value below, at a pattern that goes on with these wildcards.
+/// Counts one more value below, at a pattern that goes on with these tokens.
 pub(crate) fn enter<V: Drop>(
     alloc: Global,
     nodes: &mut Nodes<V>,
     text: &[u8],
-    wilds: Wilds,
+    marks: Marks,
 ) -> Result<(), AllocError>
-    ensures ok { OnOk result (Enters text.now (λ k. is_in k wilds) nodes.old nodes.new) }
+    ensures ok { OnOk result (Enters text.now (λ more. is_in more marks) nodes.old nodes.new) }
     ensures err { OnErr result (IsSame nodes.old nodes.new) }
 {
     if let Some(node) = nodes.get_mut(text) {
         node.below = node.below.checked_add(1).ok_or(AllocError)?;
-        node.wilds = node.wilds.or(wilds);
+        node.marks = node.marks.or(marks);
         return Ok(());
     }
     let key = Vec::from_slice(alloc, text)?;
     let node = Node {
         below: 1,
         values: Vec::new(alloc),
-        wilds,
+        marks,
     };
     nodes.insert(key, node)?;
     Ok(())

@@ -1,14 +1,14 @@
 //! The walk down the nodes that a subject reaches.
 
-ghost use Rattle.std.specs.Prelude.{◌≡◌, Bool, false, ◌++◌, [], List, codes, OnOk, IfSome, IfNone, if◌then◌else◌};
+ghost use Rattle.std.specs.Prelude.{◌≡◌, false, ◌++◌, List, OnOk, IfSome, IfNone};
 ghost use Rattle.std.specs.Option.{option_copied};
 ghost use Rattle.subj.specs.Names.{is_empty, tokens_behind};
-ghost use Rattle.pattern_trie.specs.Nodes.{below_at, values_at, has_wild, is_in};
+ghost use Rattle.pattern_trie.specs.Nodes.{below_at, values_at, has_mark, AreKnown};
 ghost use Rattle.pattern_trie.specs.Held.{Held, Holds};
 ghost use Rattle.pattern_trie.specs.Matchers.{dotted, gathered, matchers};
 
+use crate::marks::Marks;
 use crate::nodes::Nodes;
-use crate::wilds::Wilds;
 use std::alloc::AllocError;
 use subj::split_token;
 
@@ -32,44 +32,49 @@ fn add_values<V: Copy>(nodes: &Nodes<V>, path: &[u8], found: &mut Vec<V>) -> Res
     }
 }
 
-/// The wildcards that there may be a node for right behind the path, or None where nothing is held
-/// under patterns that begin with it.
-fn wilds_behind<V: Copy>(nodes: &Nodes<V>, path: &[u8]) -> Option<Wilds>
+/// The tokens that there may be nodes for right behind the path, or None where nothing is held under
+/// patterns that begin with it.
+fn marks_behind<V: Copy>(nodes: &Nodes<V>, path: &[u8]) -> Option<Marks>
     ensures none { IfNone result ((is_empty path.now ≡ false) × (below_at nodes.now path.now ≡ 0)) }
-    ensures some { IfSome result (λ wilds. (k : Bool) → is_in k wilds ≡ false → (is_empty path.now ≡ false) × (has_wild k nodes.now path.now ≡ false)) }
+    ensures some { IfSome result (λ marks. AreKnown marks nodes.now path.now) }
 {
     if path.is_empty() {
-        return Some(Wilds::both());
+        return Some(Marks::all());
     }
     match nodes.get(path) {
-        Some(node) => Some(node.wilds),
+        Some(node) => Some(node.marks),
         None => None,
     }
 }
 
-/// Adds what is held under the path and `>`, where that may be something.
-fn add_rest<V: Copy>(
+/// Adds what is held under the patterns that go on behind the path with this token, and then as the
+/// tokens behind that want. Nothing is looked up where the token is not marked there.
+#[cycle(gather)]
+fn gather_token<V: Copy>(
     nodes: &Nodes<V>,
     path: &mut Vec<u8>,
-    wilds: Wilds,
+    is_marked: bool,
+    token: &[u8],
+    behind: Option<&[u8]>,
     found: &mut Vec<V>,
 ) -> Result<(), AllocError>
+    requires known { is_marked ≡ false → (is_empty path.old.items ≡ false) × (has_mark token.now nodes.now path.old.items ≡ false) }
     ensures path { OnOk result (path.new.items ≡ path.old.items) }
-    ensures found { OnOk result (found.new.items ≡ found.old.items ++ (if wilds.rest then values_at nodes.now (dotted path.old.items (codes ">")) else [])) }
+    ensures found { (held : List (Held V)) → Holds held nodes.now → OnOk result (found.new.items ≡ found.old.items ++ gathered held (dotted path.old.items token.now) (matchers (tokens_behind (option_copied behind.entry)))) }
 {
-    if !wilds.rest {
+    if !is_marked {
         return Ok(());
     }
     let len = path.len();
-    push_token(path, b">")?;
-    add_values(nodes, path, found)?;
+    push_token(path, token)?;
+    gather(nodes, path, behind, found)?;
     path.truncate(len);
     Ok(())
 }
 
 /// Adds what is held under the patterns that begin with the path and go on as the tokens behind it
 /// want.
-#[tactic(auto, using(crate::proofs::Gathers::gathered_step, crate::proofs::Gathers::gathered_none, crate::proofs::Gathers::dotted_back))]
+#[cycle(gather)]
 pub(crate) fn gather<V: Copy>(
     nodes: &Nodes<V>,
     path: &mut Vec<u8>,
@@ -82,20 +87,11 @@ pub(crate) fn gather<V: Copy>(
     let Some(text) = behind else {
         return add_values(nodes, path, found);
     };
-    let Some(wilds) = wilds_behind(nodes, path) else {
+    let Some(marks) = marks_behind(nodes, path) else {
         return Ok(());
     };
     let (token, behind) = split_token(text);
-    add_rest(nodes, path, wilds, found)?;
-    let len = path.len();
-    push_token(path, token)?;
-    gather(nodes, path, behind, found)?;
-    path.truncate(len);
-    if !wilds.one {
-        return Ok(());
-    }
-    push_token(path, b"*")?;
-    gather(nodes, path, behind, found)?;
-    path.truncate(len);
-    Ok(())
+    gather_token(nodes, path, marks.has_rest(), b">", None, found)?;
+    gather_token(nodes, path, marks.has(token), token, behind, found)?;
+    gather_token(nodes, path, marks.has_one(), b"*", behind, found)
 }

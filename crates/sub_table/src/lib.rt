@@ -63,6 +63,11 @@ pub trait SubTable: Sized + Drop {
     fn find(&self, conn: ConnId, sid: &Sid) -> Option<u64>
         ensures { result ≡ serial_called conn sid.now (contents self.now) };
 
+    /// Tells that the subject will be looked up. A table may keep in mind what matches it until
+    /// another is opened or closed, and finds that sooner; where memory is wanting it doesn't.
+    fn remember(&mut self, subject: &Subject)
+        ensures { contents self.new ≡ contents self.old };
+
     /// Those whose pattern matches the subject, in order of opening.
     fn matching(&self, subject: &Subject) -> Result<Vec<&Subscription>, AllocError>
         ensures { IfOk result (λ subs. map (λ sub. sub.now) subs.items ≡ filter (gets subject.now) (contents self.now)) };
@@ -148,6 +153,8 @@ impl SubTable for ListTable {
         }
         None
     }
+
+    fn remember(&mut self, _subject: &Subject) {}
 
     fn matching(&self, subject: &Subject) -> Result<Vec<&Subscription>, AllocError> {
         let mut subs = Vec::new(self.alloc);

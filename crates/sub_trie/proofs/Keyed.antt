@@ -1,52 +1,31 @@
 -- Subscriptions under their serials, and their list.
-use Rattle.std.proofs.Common.{◌≡◌, ℕ, ◌<◌, Bool, true, false, cond, List, [], ◌∷◌, ◌++◌, Some, None, refl, ap, sym, ◌∙◌, arith, inl, inr}
-use Rattle.std.specs.Prelude.{nat_eq, nat_lt, find, unwrap_or}
-use Rattle.std.specs.Ordering.{nat_cmp, is_eq, match_ordering}
-use Rattle.std.specs.declared.cmp.Ordering.TheVariants.{Less, Equal, Greater}
+use Rattle.std.proofs.Common.{◌≡◌, ℕ, Bool, true, false, cond, List, [], ◌∷◌, ◌++◌, Some, None, refl, ap, sym, ◌∙◌, arith, inl, inr}
+use Rattle.std.specs.Prelude.{nat_eq, find, unwrap_or}
 use Rattle.std.specs.Map.{lookup, remove_entry, set_value, values_of}
-use Rattle.std.specs.BTreeMap.{is_at, insert_entry}
-use Rattle.std.specs.List.{AllByRecursion}
 use Rattle.std.proofs.lemmas.Bool.{cases_Bool, cond-true, cond-false}
 use Rattle.std.proofs.lemmas.Bool.Decides.{nat_tests}
 use Rattle.sub_table.specs.declared.Subscription.{Subscription}
 use Rattle.sub_table.specs.Subscriptions.{has_serial, without_serial, with_changed}
 use Rattle.sub_trie.specs.Rising.{is_keyed}
 use Rattle.sub_trie.proofs.Risen.{and_first, and_second, and_both}
+use Rattle.sub_trie.proofs.Listing.{flipped}
 
-test_is : (n k : ℕ) → is_at (nat_cmp n) k ≡ nat_eq k n
-test_is n k =
-    elim (cases_Bool (nat_lt n k)) [
-      | inl lt ↦ ap (λ b. is_eq (cond b Less (cond (nat_eq n k) Equal Greater))) lt ∙ sym (apart n k lt)
-      | inr ge ↦
-          elim (cases_Bool (nat_eq n k)) [
-            | inl so ↦ ap (λ b. is_eq (cond b Less (cond (nat_eq n k) Equal Greater))) ge ∙ ap (λ b. is_eq (cond b Equal Greater)) so ∙ sym (turned n k true so)
-            | inr other ↦ ap (λ b. is_eq (cond b Less (cond (nat_eq n k) Equal Greater))) ge ∙ ap (λ b. is_eq (cond b Equal Greater)) other ∙ sym (turned n k false other)
-          ]
-    ]
-  where
-    apart : (n k : ℕ) → nat_lt n k ≡ true → nat_eq k n ≡ false
-    apart n k lt = grind (arith, nat_tests)
-
-    turned : (n k : ℕ) (b : Bool) → nat_eq n k ≡ b → nat_eq k n ≡ b
-    turned n k true so = grind (arith, nat_tests)
-    turned n k false so = grind (arith, nat_tests)
-
-same_test : (n k : ℕ) (sub : Subscription) → nat_eq k sub.serial ≡ true → is_at (nat_cmp n) k ≡ has_serial n sub
-same_test n k sub so = test_is n k ∙ ap (λ m. nat_eq m n) (same k sub.serial so) where
+same_test : (n k : ℕ) (sub : Subscription) → nat_eq k sub.serial ≡ true → nat_eq n k ≡ has_serial n sub
+same_test n k sub so = flipped n k ∙ ap (λ m. nat_eq m n) (same k sub.serial so) where
   same : (a b : ℕ) → nat_eq a b ≡ true → a ≡ b
   same a b so = grind (arith, nat_tests)
 
-pub found_by : (n : ℕ) (es : List (ℕ × Subscription)) → is_keyed es ≡ true → lookup (is_at (nat_cmp n)) es ≡ find (has_serial n) (values_of es)
+pub found_by : (n : ℕ) (es : List (ℕ × Subscription)) → is_keyed es ≡ true → lookup (nat_eq n) es ≡ find (has_serial n) (values_of es)
 found_by n [] keyed = refl
 found_by n (e ∷ es) keyed =
-    ap (λ b. cond b (Some e.1) (lookup (is_at (nat_cmp n)) es)) (same_test n e.0 e.1 (and_first (nat_eq e.0 e.1.serial) (is_keyed es) keyed))
+    ap (λ b. cond b (Some e.1) (lookup (nat_eq n) es)) (same_test n e.0 e.1 (and_first (nat_eq e.0 e.1.serial) (is_keyed es) keyed))
     ∙ ap (λ o. cond (has_serial n e.1) (Some e.1) o) (found_by n es (and_second (nat_eq e.0 e.1.serial) (is_keyed es) keyed))
 
-pub removed_by : (n : ℕ) (es : List (ℕ × Subscription)) → is_keyed es ≡ true → values_of (remove_entry (is_at (nat_cmp n)) es) ≡ without_serial n (values_of es)
+pub removed_by : (n : ℕ) (es : List (ℕ × Subscription)) → is_keyed es ≡ true → values_of (remove_entry (nat_eq n) es) ≡ without_serial n (values_of es)
 removed_by n [] keyed = refl
 removed_by n (e ∷ es) keyed =
-    ap (λ b. values_of (cond b es (e ∷ remove_entry (is_at (nat_cmp n)) es))) (same_test n e.0 e.1 (and_first (nat_eq e.0 e.1.serial) (is_keyed es) keyed))
-    ∙ elim (has_serial n e.1) as (λ b. values_of (cond b es (e ∷ remove_entry (is_at (nat_cmp n)) es)) ≡ cond b (values_of es) (e.1 ∷ without_serial n (values_of es))) [
+    ap (λ b. values_of (cond b es (e ∷ remove_entry (nat_eq n) es))) (same_test n e.0 e.1 (and_first (nat_eq e.0 e.1.serial) (is_keyed es) keyed))
+    ∙ elim (has_serial n e.1) as (λ b. values_of (cond b es (e ∷ remove_entry (nat_eq n) es)) ≡ cond b (values_of es) (e.1 ∷ without_serial n (values_of es))) [
       | true ↦ refl
       | false ↦ ap (λ l. e.1 ∷ l) (removed_by n es (and_second (nat_eq e.0 e.1.serial) (is_keyed es) keyed))
     ]
@@ -64,19 +43,19 @@ keyed_removed test (e ∷ es) keyed =
 first_is : (s t : Subscription) → Some s ≡ Some t → s ≡ t
 first_is s t e = ap (λ o. unwrap_or o s) e
 
-pub set_by : (n : ℕ) (change : Subscription → Subscription) (es : List (ℕ × Subscription)) (s : Subscription) → is_keyed es ≡ true → lookup (is_at (nat_cmp n)) es ≡ Some s
-    → values_of (set_value (is_at (nat_cmp n)) es (change s)) ≡ with_changed n change (values_of es)
+pub set_by : (n : ℕ) (change : Subscription → Subscription) (es : List (ℕ × Subscription)) (s : Subscription) → is_keyed es ≡ true → lookup (nat_eq n) es ≡ Some s
+    → values_of (set_value (nat_eq n) es (change s)) ≡ with_changed n change (values_of es)
 set_by n change [] s keyed found = cc
 set_by n change (e ∷ es) s keyed found =
     let test = same_test n e.0 e.1 (and_first (nat_eq e.0 e.1.serial) (is_keyed es) keyed) in
     elim (cases_Bool (has_serial n e.1)) [
       | inl so ↦
-          let is : e.1 ≡ s = first_is e.1 s (sym (cond-true (is_at (nat_cmp n) e.0) (Some e.1) (lookup (is_at (nat_cmp n)) es) (test ∙ so)) ∙ found) in
-          ap values_of (cond-true (is_at (nat_cmp n) e.0) ((e.0, change s) ∷ es) (e ∷ set_value (is_at (nat_cmp n)) es (change s)) (test ∙ so))
+          let is : e.1 ≡ s = first_is e.1 s (sym (cond-true (nat_eq n e.0) (Some e.1) (lookup (nat_eq n) es) (test ∙ so)) ∙ found) in
+          ap values_of (cond-true (nat_eq n e.0) ((e.0, change s) ∷ es) (e ∷ set_value (nat_eq n) es (change s)) (test ∙ so))
           ∙ ap (λ t. change t ∷ values_of es) (sym is) ∙ sym (cond-true (has_serial n e.1) (change e.1 ∷ values_of es) (e.1 ∷ with_changed n change (values_of es)) so)
       | inr other ↦
-          let rest = sym (cond-false (is_at (nat_cmp n) e.0) (Some e.1) (lookup (is_at (nat_cmp n)) es) (test ∙ other)) ∙ found in
-          ap values_of (cond-false (is_at (nat_cmp n) e.0) ((e.0, change s) ∷ es) (e ∷ set_value (is_at (nat_cmp n)) es (change s)) (test ∙ other))
+          let rest = sym (cond-false (nat_eq n e.0) (Some e.1) (lookup (nat_eq n) es) (test ∙ other)) ∙ found in
+          ap values_of (cond-false (nat_eq n e.0) ((e.0, change s) ∷ es) (e ∷ set_value (nat_eq n) es (change s)) (test ∙ other))
           ∙ ap (λ l. e.1 ∷ l) (set_by n change es s (and_second (nat_eq e.0 e.1.serial) (is_keyed es) keyed) rest)
           ∙ sym (cond-false (has_serial n e.1) (change e.1 ∷ values_of es) (e.1 ∷ with_changed n change (values_of es)) other)
     ]
@@ -105,20 +84,6 @@ changed_nowhere n change (s ∷ subs) none =
       | true ↦ λ found. cc
       | false ↦ λ found. ap (λ l. s ∷ l) (changed_nowhere n change subs found)
     ] none
-
-greater : (n k : ℕ) → k < n → nat_cmp n k ≡ Greater
-greater n k lt =
-    let not_less : nat_lt n k ≡ false = grind (arith, nat_tests) in
-    let not_same : nat_eq n k ≡ false = grind (arith, nat_tests) in
-    ap (λ b. cond b Less (cond (nat_eq n k) Equal Greater)) not_less ∙ ap (λ b. cond b Equal Greater) not_same
-
-pub inserted_last : (n : ℕ) (sub : Subscription) (es : List (ℕ × Subscription)) → is_keyed es ≡ true → AllByRecursion (λ other. other.serial < n) (values_of es) → insert_entry nat_cmp es n sub ≡ es ++ (n, sub) ∷ []
-inserted_last n sub [] keyed below = refl
-inserted_last n sub (e ∷ es) keyed below =
-    let key : nat_eq e.0 e.1.serial ≡ true = and_first (nat_eq e.0 e.1.serial) (is_keyed es) keyed in
-    let lower = below.0 in
-    let lt : e.0 < n = grind (arith, nat_tests) in
-    ap (λ o. match_ordering o ((n, sub) ∷ e ∷ es) ((e.0, sub) ∷ es) (e ∷ insert_entry nat_cmp es n sub)) (greater n e.0 lt) ∙ ap (λ l. e ∷ l) (inserted_last n sub es (and_second (nat_eq e.0 e.1.serial) (is_keyed es) keyed) below.1)
 
 pub values_push : (n : ℕ) (sub : Subscription) (es : List (ℕ × Subscription)) → values_of (es ++ (n, sub) ∷ []) ≡ values_of es ++ sub ∷ []
 values_push n sub [] = refl

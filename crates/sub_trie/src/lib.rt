@@ -3,6 +3,8 @@
 
 mod groups;
 mod opened;
+mod recent;
+mod slot;
 mod table;
 
 pub use table::TrieTable;

@@ -2,12 +2,11 @@
 
 ghost use Rattle.std.specs.Prelude.{◌≡◌, ℕ, map, filter};
 ghost use Rattle.std.specs.Bool.{nat_eq};
-ghost use Rattle.std.specs.BTreeMap.{values};
 ghost use Rattle.arrayvec.specs.ArrayVec.{ArrayVec as Items};
 ghost use Rattle.sub_table.specs.Subscriptions.{serials_of, without_serial};
 ghost use Rattle.pattern_trie.specs.Starts.{node_count};
 ghost use Rattle.sub_trie.specs.Groups.{list_at, AreCalled, without_each};
-ghost use Rattle.sub_trie.specs.Rising.{held_of};
+ghost use Rattle.sub_trie.specs.Rising.{held_of, listed};
 
 use crate::groups::{copy_serials, first_serial, push_serial, take_all, take_serial};
 use crate::opened::Opened;
@@ -32,9 +31,9 @@ fn called(conn: ConnId, sid: &Sid) -> Called
 
 /// Closes the one of this serial, and takes it away from its connection's id. Takes no memory.
 fn close_one(opened: &mut Opened, by_sid: &mut BySid, serial: u64)
-    requires { AreCalled by_sid.old (values opened.old.subs) }
-    ensures closed { values opened.new.subs ≡ without_serial serial (values opened.old.subs) }
-    ensures called { AreCalled by_sid.new (values opened.new.subs) }
+    requires { AreCalled by_sid.old (listed opened.old.subs) }
+    ensures closed { listed opened.new.subs ≡ without_serial serial (listed opened.old.subs) }
+    ensures called { AreCalled by_sid.new (listed opened.new.subs) }
 {
     match opened.remove(serial) {
         None => {}
@@ -44,9 +43,9 @@ fn close_one(opened: &mut Opened, by_sid: &mut BySid, serial: u64)
 
 /// Closes those of these serials, and takes each away from its connection's id. Takes no memory.
 fn close_each(opened: &mut Opened, by_sid: &mut BySid, serials: &[u64])
-    requires { AreCalled by_sid.old (values opened.old.subs) }
-    ensures closed { values opened.new.subs ≡ without_each serials.now (values opened.old.subs) }
-    ensures called { AreCalled by_sid.new (values opened.new.subs) }
+    requires { AreCalled by_sid.old (listed opened.old.subs) }
+    ensures closed { listed opened.new.subs ≡ without_each serials.now (listed opened.old.subs) }
+    ensures called { AreCalled by_sid.new (listed opened.new.subs) }
 {
     for serial in serials {
         close_one(opened, by_sid, *serial);
@@ -63,8 +62,8 @@ pub struct TrieTable {
     by_conn: HashMap<u64, Vec<u64>>,
     /// The serials of what a connection calls by an id.
     by_sid: BySid,
-    ghost owned: { (conn : ℕ) → list_at nat_eq by_conn conn ≡ serials_of conn (values opened.subs) },
-    ghost called: { AreCalled by_sid (values opened.subs) },
+    ghost owned: { (conn : ℕ) → list_at nat_eq by_conn conn ≡ serials_of conn (listed opened.subs) },
+    ghost called: { AreCalled by_sid (listed opened.subs) },
 }
 
 impl TrieTable {
@@ -78,7 +77,7 @@ impl TrieTable {
 }
 
 impl SubTable for TrieTable {
-    ghost contents = { λ table. values table.opened.subs };
+    ghost contents = { λ table. listed table.opened.subs };
 
     fn new(alloc: Global) -> Result<Self, AllocError> {
         Ok(TrieTable {
@@ -120,6 +119,10 @@ impl SubTable for TrieTable {
 
     fn find(&self, conn: ConnId, sid: &Sid) -> Option<u64> {
         first_serial(&self.by_sid, &called(conn, sid))
+    }
+
+    fn remember(&mut self, subject: &Subject) {
+        self.opened.remember(subject);
     }
 
     fn matching(&self, subject: &Subject) -> Result<Vec<&Subscription>, AllocError> {

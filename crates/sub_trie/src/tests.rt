@@ -16,6 +16,9 @@ const LISTS: u64 = 1_000;
 
 const CALLS: u64 = 30;
 
+/// In one of so many lists subjects are kept in mind.
+const KEEPING: u64 = 10;
+
 fn key(alloc: Global, pattern: &[u8], queue: &[u8]) -> Result<Key, Fail> {
     let queue = if queue.is_empty() {
         None
@@ -88,6 +91,17 @@ fn matched<T: SubTable>(alloc: Global, table: &T, subject: &[u8]) -> Result<Vec<
         serials.push(sub.serial)?;
     }
     Ok(serials)
+}
+
+/// Tells the table so often that the subject will be looked up that it keeps it in mind.
+fn keep<T: SubTable>(alloc: Global, table: &mut T, subject: &[u8]) -> Result<(), Fail>
+    ensures { OnOk result (T.contents table.new ≡ T.contents table.old) }
+{
+    let subject = Subject::read(alloc, subject)?;
+    for _ in 0..8 {
+        table.remember(&subject);
+    }
+    Ok(())
 }
 
 /// The serials of a connection's, behind a number that was there.
@@ -261,12 +275,11 @@ fn compare(
     random: &mut Pcg32,
     list: &ListTable,
     trie: &TrieTable,
+    subject: &[u8],
 ) -> Result<(), Fail> {
-    assert_eq!(rt; list.len(), trie.len());
-    let subject = drawn_text(alloc, random, false)?;
     assert_eq!(rt;
-        matched(alloc, list, &subject)?.as_slice(),
-        matched(alloc, trie, &subject)?.as_slice(),
+        matched(alloc, list, subject)?.as_slice(),
+        matched(alloc, trie, subject)?.as_slice(),
         "{subject:?}"
     );
     let conn = 1 + drawn(random, 3);
@@ -347,19 +360,38 @@ fn note_both(random: &mut Pcg32, list: &mut ListTable, trie: &mut TrieTable) {
     trie.set_max(serial, Some(count));
 }
 
+/// Draws a subject, and tells the trie of it, sometimes.
+fn drawn_subject(
+    alloc: Global,
+    random: &mut Pcg32,
+    trie: &mut TrieTable,
+    keeps: bool,
+) -> Result<Vec<u8>, Fail>
+    ensures { OnOk result (⟦<TrieTable as SubTable>⟧.contents trie.new ≡ ⟦<TrieTable as SubTable>⟧.contents trie.old) }
+{
+    let subject = drawn_text(alloc, random, false)?;
+    if keeps && drawn(random, 2) == 0 {
+        keep(alloc, trie, &subject)?;
+    }
+    Ok(subject)
+}
+
 /// One list of calls, then a round of notes.
 fn run_list(rt: &impl Abort, alloc: Global, seed: u64) -> Result<(), Fail> {
     let mut random = Pcg32::new(seed, 54);
     let mut list = ListTable::new(alloc)?;
     let mut trie = TrieTable::new(alloc)?;
+    let keeps = seed % KEEPING == 0;
     let mut last = 0;
     for _ in 0..CALLS {
         last = call_both(rt, alloc, &mut random, &mut list, &mut trie, last)?;
-        compare(rt, alloc, &mut random, &list, &trie)?;
+        let subject = drawn_subject(alloc, &mut random, &mut trie, keeps)?;
+        compare(rt, alloc, &mut random, &list, &trie, &subject)?;
     }
     for _ in 0..5 {
         note_both(&mut random, &mut list, &mut trie);
-        compare(rt, alloc, &mut random, &list, &trie)?;
+        let subject = drawn_subject(alloc, &mut random, &mut trie, keeps)?;
+        compare(rt, alloc, &mut random, &list, &trie, &subject)?;
     }
     Ok(())
 }

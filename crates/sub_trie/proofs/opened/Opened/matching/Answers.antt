@@ -1,45 +1,20 @@
-use Rattle.std.proofs.Common.{rules, arith, ◌≡◌, ◌<◌, ◌∷◌, [], ◌++◌, map, take, length, get_or, Some, None, sym, ◌∙◌, ap, subst, Bor}
-use Rattle.std.specs.Prelude.{find}
-use Rattle.std.specs.Option.{option_to_list, option_copied}
-use Rattle.std.specs.BTreeMap.{values}
-use Rattle.std.specs.List.Sorted.{IsPermutation}
-use Rattle.std.proofs.lemmas.List.{map-append, take_all, append-nil}
-use Rattle.sub_table.specs.declared.Subscription.{Subscription}
-use Rattle.sub_table.specs.Subscriptions.{has_serial, gets}
-use Rattle.pattern_trie.specs.Matchers.{matched}
-use Rattle.sub_trie.specs.Rising.{held_of}
-use Rattle.sub_trie.proofs.Orders.{looked_up, sorted_is, looked_all, looked_more}
+use Rattle.std.proofs.Common.{◌≡◌, ◌∙◌, ap}
+use Rattle.sub_trie.specs.Rising.{listed}
+use Rattle.std.proofs.lemmas.Result.{IfOk-weaker}
+use Rattle.sub_trie.specs.Recalls.{serials_for}
+use Rattle.sub_trie.proofs.Recalls.{looked_for}
 use Rattle.sub_trie.proofs.opened.Opened.matching.Goals as goal
-use Rattle.sub_trie.proofs.opened.Opened.matching.Goals.{in-Some+in_ok-push, in_default}
 
-pub loop-serial-preserved : goal.loop-serial-preserved
-loop-serial-preserved c =
-    let contents = values c.args.self.now.subs in
-    let ns = c.deref-serial-items.result.now in
-    let i = c.loop-serial.serial-index in
-    let n = get_or ns i 0 in
-    let within : i < length ns = search rules in
-    let more = looked_more contents ns i 0 within in
-    let asked : option_copied c.get.result ≡ find (has_serial n) contents = search (rules, c.get.ensures) in
-    elim c.match-get.branch [
-      | in-Some+in_ok-push w ↦
-          let sub = w.in-Some.sub.now in
-          let found : find (has_serial n) contents ≡ Some sub = sym asked ∙ ap option_copied w.in-Some.is in
-          let items : w.push.new.self.items ≡ c.loop-serial.subs.items ++ w.in-Some.sub ∷ [] = search rules in
-          ap (λ v. map (λ (s : Bor Subscription). s.now) v.items) w.subs-is ∙ ap (map (λ (s : Bor Subscription). s.now)) items ∙ map-append (λ (s : Bor Subscription). s.now) c.loop-serial.subs.items (w.in-Some.sub ∷ [])
-          ∙ ap (λ l. l ++ sub ∷ []) c.loop-serial.invariant ∙ sym (more ∙ ap (λ o. looked_up contents (take i ns) ++ option_to_list o) found)
-      | in_default w ↦
-          let found : find (has_serial n) contents ≡ None = sym asked ∙ ap option_copied w.in_default.is in
-          ap (λ v. map (λ (s : Bor Subscription). s.now) v.items) w.subs-is ∙ c.loop-serial.invariant ∙ sym (more ∙ ap (λ o. looked_up contents (take i ns) ++ option_to_list o) found ∙ append-nil (looked_up contents (take i ns)))
-    ]
+pub returns-in-Some : goal.returns-in-Some
+returns-in-Some c =
+    let contents = listed c.args.self.now.subs in
+    let subject = c.args.subject.now in
+    let is : c.in-Some.serials.now ≡ serials_for subject contents = c.in-Some.ensures contents c.args.self.now.right ∙ ap (λ s. serials_for s contents) c.bytes.ensures.same in
+    IfOk-weaker c.look_up.result _ _ (λ subs h. h ∙ looked_for subject contents c.in-Some.serials.now c.args.self.now.rising is) c.look_up.ensures
 
 pub returns : goal.returns
 returns c =
-    let contents = values c.args.self.now.subs in
+    let contents = listed c.args.self.now.subs in
     let subject = c.args.subject.now in
-    let ns = c.deref-serial-items.result.now in
-    let end : c.loop-serial.serial-index ≡ length ns = grind (arith, c.loop-serial-test.false, c.loop-serial.auto.serial-index-end) in
-    let told : IsPermutation (c.new-found.result.items ++ matched subject (held_of contents)) c.matching.new.found.items = search (rules, c.in_ok-matching.ensures (held_of contents) c.args.self.now.held) in
-    let one : IsPermutation (matched subject (held_of contents)) c.matching.new.found.items = subst (λ l. IsPermutation (l ++ matched subject (held_of contents)) c.matching.new.found.items) c.new-found.ensures.items told in
-    let sorted = sorted_is subject contents c.matching.new.found.items c.sort_unstable.new.self.items c.args.self.now.rising one c.sort_unstable.ensures.permutation c.sort_unstable.ensures.sorted in
-    c.loop-serial.invariant ∙ ap (λ k. looked_up contents (take k ns)) end ∙ ap (looked_up contents) (take_all (length ns) ns (omega arith) ∙ c.deref-serial-items.ensures.value ∙ sorted) ∙ looked_all (gets subject) contents c.args.self.now.rising
+    let is : c.deref.result.now ≡ serials_for subject contents = c.deref.ensures.value ∙ c.in_ok-serials.ensures in
+    IfOk-weaker c.look_up-2.result _ _ (λ subs h. h ∙ looked_for subject contents c.deref.result.now c.args.self.now.rising is) c.look_up-2.ensures
