@@ -22,7 +22,9 @@ use Rattle.hub_core.specs.declared.answers.Received.TheVariants.{Routed, Heard}
 use Rattle.hub_core.specs.Events as answer
 use Rattle.hub_core.specs.Events.{Answer}
 use Rattle.interest.specs.Counts.{Counts}
-use Rattle.interest.specs.Told.{counts_told}
+use Rattle.interest.specs.declared.recounts.Recount.{Recount}
+use Rattle.interest.specs.Recounts.{IsRecountOf}
+use Rattle.subj.specs.declared.keys.Key.{Key}
 use Rattle.interest.specs.declared.changes.Delta.{Delta}
 use Rattle.hub_core.specs.Telling.{body_of, without_slow, count_of_changes, changes_of, collect_refusal, collect_frames, slow_peers}
 use Rattle.hub_core.specs.Receiving.{receive_refusal, routed_job}
@@ -98,11 +100,9 @@ pub record WereSeen (peers : List Peer) : Type 0 where
 abbrev pub change_to : Server → ℕ → Change → ℕ → Peer → Frame
 change_to server number change q peer = record { from = own_name server; inc = server.inc; to = name_of server q; to_inc = peer.seen; number = number; body = body_of change }
 
--- a plan of deltas that are not refused
-pub record AreCounted (server : Server) (hub : State) (counts : Counts) (count : ℕ) (frames : List Frame) : Type 0 where
-  pub deltas : List Delta
+-- so many changes and these frames are those of deltas that are not refused
+pub record AreCounted (server : Server) (hub : State) (deltas : List Delta) (count : ℕ) (frames : List Frame) : Type 0 where
   pub taken : collect_refusal hub deltas ≡ None
-  pub counts_are : counts ≡ counts_told hub.counts deltas
   pub count_is : count ≡ count_of_changes hub deltas
   pub frames_are : frames ≡ collect_frames server hub deltas
 
@@ -110,9 +110,9 @@ pub record AreCounted (server : Server) (hub : State) (counts : Counts) (count :
 abbrev pub told_out : Server → State → Counts → ℕ → List Frame → State
 told_out server hub counts count frames = record hub { changed = hub.changed + count; counts = counts; peers = with_frames server frames 0 (map (without_slow count) hub.peers) }
 
--- what a collect of these deltas is planned as
-pub record IsTellingOf (hub : Hub) (deltas : List Delta) (counts : Counts) (changes : List Change) (frames : List Frame) (cut : List ℕ) : Type 0 where
-  pub counts_are : counts ≡ counts_told hub.state.counts deltas
+-- what a collect of these deltas is planned as: what becomes of the counts, the changes, the frames, and the peers that are cut
+pub record IsTellingOf (hub : Hub) (deltas : List Delta) (recount : Recount) (changes : List Change) (frames : List Frame) (cut : List ℕ) : Type 0 where
+  pub recount_is : IsRecountOf hub.state.counts deltas recount
   pub changes_are : changes ≡ changes_of hub.state deltas
   pub frames_are : frames ≡ collect_frames hub.server hub.state deltas
   pub cut_are : cut ≡ slow_peers hub.state deltas

@@ -12,11 +12,10 @@ ghost use Rattle.hub_core.specs.Hubs.{started, refusal, IsStep};
 ghost use Rattle.hub_core.specs.declared.faults.HubFault.TheVariants.{Spent};
 ghost use Rattle.hub_core.specs.Publishing.{busy_fault};
 ghost use Rattle.hub_core.specs.Receiving.{receive_refusal, origin_fault as refused_of_origin, received, has_message};
-ghost use Rattle.hub_core.specs.Calls.{job_of, IsTaken, answer_of, IsPlanned, put_out, AreCounted, told_out};
+ghost use Rattle.hub_core.specs.Calls.{job_of, IsTaken, answer_of, IsPlanned, put_out};
 ghost use Rattle.hub_core.specs.Peers.{snapshot_to, outbox_of};
 
 use crate::answers::Received;
-use crate::collecting::cut_slow;
 use crate::faults::HubFault;
 use crate::peers::{Peer, unknown_peers};
 use crate::putting::put_all;
@@ -66,13 +65,14 @@ impl Hub {
     {
         let _me = server.me();
         let peers = unknown_peers(alloc, server.names().len())?;
+        let counts = Local::new(alloc)?;
         Ok(Hub {
             alloc,
             server,
             issued: Turn::zero(),
             published: 0,
             changed: 0,
-            counts: Local::new(alloc),
+            counts,
             peers,
         })
     }
@@ -191,8 +191,8 @@ impl Hub {
         self.turn_fault(finished)
     }
 
-    /// Why a frame is refused.
-    fn receive_fault(&self, frame: &Numbered, finished: &Finished) -> Option<HubFault>
+    /// Why [`Hub::receive`] refuses a frame. Takes no memory.
+    pub fn receive_fault(&self, frame: &Numbered, finished: &Finished) -> Option<HubFault>
         ensures { result ≡ receive_refusal self.now.server self.now.state finished.now frame.now }
     {
         if let Some(fault) = address_fault(&self.server, frame) {
@@ -298,19 +298,6 @@ impl Hub {
     {
         self.issued = self.issued.next().unwrap();
         self.published += 1;
-        put_all(&self.server, &mut self.peers, frames);
-    }
-
-    /// Tells of deltas that were counted: the counts are these, so many changes take the next numbers,
-    /// peers without room for all of them are cut, and the frames wait for the others. Required: these are
-    /// of deltas that are not refused. Takes no memory.
-    pub(crate) fn commit_collect(&mut self, counts: Local, count: usize, frames: Vec<Numbered>)
-        requires { AreCounted self.old.server self.old.state counts count frames.items }
-        ensures { self.new ≡ record self.old { state = told_out self.old.server self.old.state counts count frames.items } }
-    {
-        self.counts = counts;
-        self.changed += count as u64;
-        cut_slow(&mut self.peers, count);
         put_all(&self.server, &mut self.peers, frames);
     }
 }

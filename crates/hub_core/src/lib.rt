@@ -9,15 +9,19 @@ mod collects;
 mod examples;
 mod faults;
 mod hub;
+mod ids;
 mod laws;
 mod peers;
 mod publishing;
 mod putting;
 mod receiving;
+mod refusals;
 mod telling;
+mod up;
 mod window;
 
 pub use answers::{Received, Told};
+pub use collects::CollectPlan;
 pub use examples::{
     a_peer_comes_up, a_publication_is_split, changes_are_heard_in_order, frames_are_taken_once,
     frames_need_room, queue_names_are_counted, the_window_is_kept, weights_are_units,
@@ -31,7 +35,11 @@ pub use laws::{
 pub use publishing::PublishPlan;
 
 #[cfg(test)]
+mod choice_tests;
+#[cfg(test)]
 mod hub_tests;
+#[cfg(test)]
+mod limit_tests;
 #[cfg(test)]
 mod publish_tests;
 #[cfg(test)]

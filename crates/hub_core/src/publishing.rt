@@ -128,7 +128,7 @@ pub(crate) fn own_job(
 impl Hub {
     /// The turn of the next job. Refused: 60 where a shard is a window behind, 62 where the last number of
     /// a publication or the last turn was used. Takes no memory.
-    fn next_turn(&self, finished: &Finished) -> Result<Turn, HubFault>
+    pub(crate) fn next_turn(&self, finished: &Finished) -> Result<Turn, HubFault>
         ensures { IsDecided (turn_refusal self.now.server self.now.state finished.now) (λ turn. (turn ≡ self.now.state.issued + 1) × (self.now.state.published < MAX_COUNTER)) ⊤ result }
     {
         if let Some(busy) = busy(self.issued, self.server.shards(), finished) {

@@ -22,7 +22,7 @@ use Rattle.interest.specs.Views.{View, told, followed_if, view_after}
 use Rattle.interest.specs.Laws.{StaysWithin, StepsAgree, RunsAgree}
 use Rattle.interest.proofs.Deltas.{opening_of_known, opening_of_unknown, closing_of_unknown}
 use Rattle.interest.proofs.Entries.{nothing, added, changed, removed, counted_at, count_at, no_count}
-use Rattle.interest.proofs.KeyOrder.{key_order_total}
+use Rattle.interest.specs.KeyOrder.{key_order_total}
 use Rattle.interest.proofs.Ties.{tied_plain, tied_weight, placed, absent_below}
 
 -- ---- what counts are told as, where one key changes

@@ -19,7 +19,7 @@ use Rattle.subj.specs.Keys.{key_cmp, cost_of}
 use Rattle.interest.specs.Counts.{Counts, count_of, delta_fault, too_many_if, total_cost, IsInterest}
 use Rattle.interest.specs.Laws.{IsCounting, one_if_same, times, opening, closing}
 use Rattle.interest.proofs.Deltas.{opening_of_known, opening_of_unknown, closing_of_known, has_room}
-use Rattle.interest.proofs.KeyOrder.{key_order_total}
+use Rattle.interest.specs.KeyOrder.{key_order_total}
 use Rattle.interest.proofs.Ties.{tied_cost}
 use Rattle.interest.proofs.Told.{step, is_equal, lookup_tied}
 
@@ -29,11 +29,11 @@ tied key other = is_eq (key_cmp key other)
 -- ---- the keys of counts are among those that they number
 
 -- each number is of one at least
-abbrev AreSome : Counts → Type 0
+abbrev pub AreSome : Counts → Type 0
 AreSome [] = Unit {0}
 AreSome (e ∷ es) = (1 ≤ e.1) × AreSome es
 
-are_some : (counts : Counts) → All (λ count. (1 ≤ count) × (count ≤ MAX_WEIGHT)) (values_of counts) → AreSome counts
+pub are_some : (counts : Counts) → All (λ count. (1 ≤ count) × (count ≤ MAX_WEIGHT)) (values_of counts) → AreSome counts
 are_some [] all = tt
 are_some (e ∷ es) all = ((All-head (λ count. (1 ≤ count) × (count ≤ MAX_WEIGHT)) e.1 (values_of es) all).0, are_some es (All-tail (λ count. (1 ≤ count) × (count ≤ MAX_WEIGHT)) e.1 (values_of es) all))
 
@@ -67,12 +67,15 @@ found_none : (o : Option ℕ) → o ≡ None → unwrap_or o 0 ≡ 0
 found_none o is = ap (λ o. unwrap_or o 0) is
 
 -- behind the first entry its key has no other
-gone_behind : (e : Key × ℕ) (es : Counts) → IsStrictlySortedBy key_cmp (keys_of (e ∷ es)) → count_of es e.0 ≡ 0
-gone_behind e es sorted = found_none (lookup (is_at (key_cmp e.0)) es) (behind es (sorted_head key_cmp e.0 (keys_of es) sorted))
+pub absent_behind : (e : Key × ℕ) (es : Counts) → IsStrictlySortedBy key_cmp (keys_of (e ∷ es)) → lookup (is_at (key_cmp e.0)) es ≡ None
+absent_behind e es sorted = behind es (sorted_head key_cmp e.0 (keys_of es) sorted)
   where
     behind : (fs : Counts) → AllByRecursion (λ y. key_cmp e.0 y ≡ Less) (keys_of fs) → lookup (is_at (key_cmp e.0)) fs ≡ None
     behind [] all = refl
     behind (f ∷ fs) all = ap (λ r. cond (is_eq r) (Some f.1) (lookup (is_at (key_cmp e.0)) fs)) all.0 ∙ behind fs all.1
+
+gone_behind : (e : Key × ℕ) (es : Counts) → IsStrictlySortedBy key_cmp (keys_of (e ∷ es)) → count_of es e.0 ≡ 0
+gone_behind e es sorted = found_none (lookup (is_at (key_cmp e.0)) es) (absent_behind e es sorted)
 
 pub keys_among : (f : Key → ℕ) → ((a b : Key) → key_cmp a b ≡ Equal → f a ≡ f b) → (counts : Counts) (keys : List Key) → IsStrictlySortedBy key_cmp (keys_of counts) → AreSome counts → ((other : Key) → count_of counts other ≤ times other keys) → sum_by (λ (e : Key × ℕ). f e.0) counts ≤ sum_by f keys
 keys_among f same [] keys sorted some among = omega arith

@@ -16,7 +16,7 @@ use Rattle.subj.specs.declared.keys.Key.{Key}
 use Rattle.subj.specs.Keys.{key_cmp, cost_of}
 use Rattle.interest.specs.Places.{IsPlaceOf, IsGapFor}
 use Rattle.interest.specs.Counts.{Counts, count_of, total_cost, is_full, IsInterest}
-use Rattle.interest.proofs.KeyOrder.{key_order_total}
+use Rattle.interest.specs.KeyOrder.{key_order_total}
 use Rattle.interest.proofs.Places.{sorted_inserted, sorted_removed}
 
 abbrev entry_cost : Key × ℕ → ℕ

@@ -1,6 +1,6 @@
 -- Names that are gathered: each has its place, and they never become fewer.
-use Rattle.std.proofs.Common.{◌≡◌, ℕ, suc, ◌+◌, ◌<◌, ◌≤◌, Bool, true, false, ◌||◌, cond, List, [], ◌∷◌, length, get_or, take, drop, Option, Some, None, All, refl, ap, sym, ◌∙◌, arith}
-use Rattle.std.proofs.lemmas.List.{length-map, at_drop_more}
+use Rattle.std.proofs.Common.{◌≡◌, ℕ, suc, ◌+◌, ◌<◌, ◌≤◌, Bool, true, false, ◌||◌, cond, List, [], ◌∷◌, length, take, drop, Option, Some, None, All, refl, ap, sym, ◌∙◌, arith}
+use Rattle.std.proofs.lemmas.List.{length-map}
 use Rattle.std.specs.Prelude.{nat_lt, not, map, insert, unwrap_or, if◌then◌else◌}
 use Rattle.std.specs.List.{list_any, position, position_or_len}
 use Rattle.std.specs.Str.{bytes_eq}
@@ -104,15 +104,3 @@ module _ {X : Type 0} (name_of : X → List ℕ) where
   pub full_is : (name : List ℕ) (items : List X) (names : List (List ℕ)) (most : ℕ) → map name_of items ≡ names → most ≤ length items → has_name name names ≡ false → most < length (add_name name names)
   full_is name items names most view full new =
       let more = one_more name names new in let same = length-map items name_of in let len = ap length view in omega arith
-
--- ---- key by key
-
-pub one_key : (subject : List ℕ) (keys : List Weighted) (i : ℕ) (d : Weighted) (names : List (List ℕ)) → i < length keys → names_in subject (drop i keys) names ≡ names_in subject (drop (i + 1) keys) (add_queue (subject_matches (get_or keys i d).0.pattern subject) (get_or keys i d).0.queue names)
-one_key subject keys i d names below = at_drop_more (λ l. names_in subject l names) keys i d below
-
--- one key gives too many, and so do all
-pub too_many_so_far : (subject : List ℕ) (keys : List Weighted) (i : ℕ) (d : Weighted) (names all : List (List ℕ)) (most : ℕ) → i < length keys → names_in subject (drop i keys) names ≡ all → most < length (add_queue (subject_matches (get_or keys i d).0.pattern subject) (get_or keys i d).0.queue names) → most < length all
-too_many_so_far subject keys i d names all most below is more =
-    let rest = not_fewer_in subject (drop (i + 1) keys) (add_queue (subject_matches (get_or keys i d).0.pattern subject) (get_or keys i d).0.queue names) in
-    let same = ap length (sym (one_key subject keys i d names below) ∙ is) in
-    omega arith

@@ -19,7 +19,7 @@ use Rattle.interest.specs.Places.{IsPlaceOf, IsGapFor}
 use Rattle.interest.specs.Views.{View, has_key, follow_fault}
 use Rattle.interest.specs.declared.changes.Change.TheVariants.{Up, Gone}
 use Rattle.interest.specs.Heard.{IsHeard}
-use Rattle.interest.proofs.KeyOrder.{key_order_total}
+use Rattle.interest.specs.KeyOrder.{key_order_total}
 use Rattle.interest.proofs.Places.{sorted_inserted, sorted_removed}
 use Rattle.interest.proofs.Ties.{same_key, placed}
 

@@ -19,7 +19,7 @@ use Rattle.interest.specs.Tally.{number_behind, is_refused_of, total_after, is_t
 use Rattle.interest.proofs.Agreement.{stays_within, written}
 use Rattle.interest.proofs.Deltas.{closing_of_unknown}
 use Rattle.interest.proofs.Entries.{count_at, no_count, counted_at, total_added, total_set, total_removed}
-use Rattle.interest.proofs.KeyOrder.{key_order_total}
+use Rattle.interest.specs.KeyOrder.{key_order_total}
 use Rattle.interest.proofs.Ties.{placed, tied_cost}
 use Rattle.interest.proofs.Told.{is_equal, lookup_tied, count_with, sorted_after}
 
@@ -67,7 +67,7 @@ refused_is counts delta = go delta.up
     go true = some_if (is_too_much counts delta.key)
     go false = one_if (nat_eq (count_of counts delta.key) 0) InterestFault.UnknownKey
 
-none_if : (fault : Option InterestFault) → is_some fault ≡ false → fault ≡ None
+pub none_if : (fault : Option InterestFault) → is_some fault ≡ false → fault ≡ None
 none_if None is = refl
 none_if (Some fault) is = cc
 
@@ -167,7 +167,7 @@ Standing counts deltas i keys bytes changes = record {
 pub number_here : (counts : Counts) (deltas : List Delta) (key : Key) (n before : ℕ) → IsInterest counts → before ≡ count_of counts key → n ≡ number_behind deltas key before → n ≡ count_of (counts_told counts deltas) key
 number_here counts deltas key n before is weight same = same ∙ ap (number_behind deltas key) weight ∙ sym (number_is_behind deltas counts key is.rising)
 
-fault_here : (counts : Counts) (delta : Delta) (keys bytes n : ℕ) → keys ≡ length counts → bytes ≡ total_cost counts → n ≡ count_of counts delta.key → is_some (delta_fault counts delta) ≡ is_refused_of keys bytes delta n
+pub fault_here : (counts : Counts) (delta : Delta) (keys bytes n : ℕ) → keys ≡ length counts → bytes ≡ total_cost counts → n ≡ count_of counts delta.key → is_some (delta_fault counts delta) ≡ is_refused_of keys bytes delta n
 fault_here counts delta keys bytes n keys_are bytes_are number =
     refused_is counts delta ∙ ap (λ k. is_refused_of k (total_cost counts) delta (count_of counts delta.key)) (sym keys_are)
     ∙ ap (λ b. is_refused_of keys b delta (count_of counts delta.key)) (sym bytes_are) ∙ ap (is_refused_of keys bytes delta) (sym number)

@@ -1,5 +1,4 @@
 mod Calls
-pub mod KeyOrder
 mod Places
 mod Entries
 mod Deltas
@@ -12,3 +11,13 @@ mod Hearing
 pub mod Gathering
 mod Origins
 mod InOrder
+mod Counted
+mod Planned
+mod Recounted
+mod Numbered
+mod ByBytes
+mod FirstTokens
+mod Levels
+mod Looking
+mod Passing
+mod Wanting

@@ -18,7 +18,7 @@ use Rattle.interest.specs.declared.changes.Delta.{Delta}
 use Rattle.subj.specs.Keys.{key_cmp}
 use Rattle.interest.specs.Counts.{Counts, count_of, count_after, with_count, counts_after, delta_fault, too_many_if, is_too_much}
 use Rattle.interest.specs.Told.{is_opening, is_closing, counts_told, AreTaken, CountsOpen}
-use Rattle.interest.proofs.KeyOrder.{key_order_total}
+use Rattle.interest.specs.KeyOrder.{key_order_total}
 use Rattle.interest.proofs.Places.{sorted_inserted, sorted_removed}
 
 pub is_equal : (r : Ordering) → is_eq r ≡ true → r ≡ Equal
@@ -44,7 +44,7 @@ module _ {K X : Type 0} {R : K → K → Ordering} (o : IsTotalOrder R) where
   apart true false x y z not_both = refl
   apart false c x y z not_both = refl
 
-  lookup_inserted : (q k : K) (w : X) (es : List (K × X)) → lookup (is_at (R q)) (insert_entry R es k w) ≡ cond (is_eq (R q k)) (Some w) (lookup (is_at (R q)) es)
+  pub lookup_inserted : (q k : K) (w : X) (es : List (K × X)) → lookup (is_at (R q)) (insert_entry R es k w) ≡ cond (is_eq (R q k)) (Some w) (lookup (is_at (R q)) es)
   lookup_inserted q k w [] = refl
   lookup_inserted q k w (e ∷ es) =
       elim (R k e.0) as (λ r. R k e.0 ≡ r → lookup (is_at (R q)) (match_ordering r ((k, w) ∷ e ∷ es) ((e.0, w) ∷ es) (e ∷ insert_entry R es k w)) ≡ cond (is_eq (R q k)) (Some w) (lookup (is_at (R q)) (e ∷ es))) [
@@ -82,7 +82,7 @@ count_with counts q k n sorted =
       | false ↦ λ some. ap (λ found. unwrap_or found 0) (lookup_inserted key_order_total q k n counts) ∙ unwrapped (is_eq (key_cmp q k)) (lookup (is_at (key_cmp q)) counts) n
     ] refl
 
-sorted_with : (counts : Counts) (k : Key) (n : ℕ) → IsStrictlySortedBy key_cmp (keys_of counts) → IsStrictlySortedBy key_cmp (keys_of (with_count counts k n))
+pub sorted_with : (counts : Counts) (k : Key) (n : ℕ) → IsStrictlySortedBy key_cmp (keys_of counts) → IsStrictlySortedBy key_cmp (keys_of (with_count counts k n))
 sorted_with counts k n sorted =
     elim (nat_eq n 0) as (λ b. IsStrictlySortedBy key_cmp (keys_of (cond b (remove_entry (is_at (key_cmp k)) counts) (insert_entry key_cmp counts k n)))) [
       | true ↦ sorted_removed key_order_total k counts sorted

@@ -1,5 +1,5 @@
 -- Interest counts: of a set of open subscriptions, for each key the number of them.
-use Rattle.std.specs.Prelude.{ℕ, ◌+◌, ◌-◌, ◌≤◌, Bool, ◌&&◌, ◌||◌, nat_eq, nat_lt, nat_le, is_none, List, length, sum_by, All, Option, Some, None, unwrap_or, if◌then◌else◌}
+use Rattle.std.specs.Prelude.{◌≡◌, ℕ, ◌+◌, ◌-◌, ◌≤◌, Bool, ◌&&◌, ◌||◌, nat_eq, nat_lt, nat_le, is_none, List, length, sum_by, All, Option, Some, None, unwrap_or, if◌then◌else◌}
 use Rattle.std.specs.List.Sorted.{IsStrictlySortedBy}
 use Rattle.std.specs.Map.{keys_of, values_of, lookup, remove_entry}
 use Rattle.std.specs.BTreeMap.{is_at, insert_entry}
@@ -79,3 +79,9 @@ pub record IsInterest (counts : Counts) : Type 0 where
   pub counted : All (λ count. (1 ≤ count) × (count ≤ MAX_WEIGHT)) (values_of counts)
   pub few : length counts ≤ MAX_KEYS
   pub small : total_cost counts ≤ SUBSCRIPTION_BYTES
+
+-- counts as they are kept: with what the keys count together, and with so many places, which are enough for all keys that may come
+pub record IsKept (counts : Counts) (cost places : ℕ) : Type 0 where
+  pub valid : IsInterest counts
+  pub cost_is : cost ≡ total_cost counts
+  pub room : MAX_KEYS ≤ places

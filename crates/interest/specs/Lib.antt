@@ -1,10 +1,14 @@
 pub mod Places
 pub mod Faults
+pub mod KeyOrder
 pub mod Counts
 pub mod KeysLeft
 pub mod Told
 pub mod Tally
+pub mod Recounts
 pub mod Views
 pub mod Matches
+pub mod Sights
+pub mod Seeks
 pub mod Heard
 pub mod Laws

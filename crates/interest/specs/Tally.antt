@@ -1,11 +1,11 @@
 -- Deltas counted in order without a table: what each makes of a number, of a total and of what is told.
-use Rattle.std.specs.Prelude.{ℕ, ◌+◌, ◌-◌, Bool, not, ◌&&◌, ◌||◌, nat_eq, nat_lt, nat_le, List, [], ◌∷◌, length, Option, Some, None, if◌then◌else◌}
+use Rattle.std.specs.Prelude.{ℕ, ◌+◌, ◌-◌, Bool, not, ◌&&◌, ◌||◌, nat_eq, nat_lt, nat_le, List, [], ◌∷◌, ◌++◌, length, Option, Some, None, if◌then◌else◌}
 use Rattle.std.specs.Ordering.{is_eq}
 use Rattle.subj.specs.declared.limits.TheConstants.{MAX_KEYS, MAX_WEIGHT, SUBSCRIPTION_BYTES}
 use Rattle.subj.specs.declared.keys.Key.{Key}
 use Rattle.subj.specs.Keys.{key_cmp, cost_of}
 use Rattle.interest.specs.declared.changes.Delta.{Delta}
-use Rattle.interest.specs.Counts.{Counts, count_after, is_plain}
+use Rattle.interest.specs.Counts.{Counts, count_of, count_after, counts_after, is_plain}
 use Rattle.interest.specs.Told.{changes_told, are_refused}
 
 -- how many changes peers are told of these deltas; None where one of them would be refused
@@ -30,3 +30,15 @@ total_after up n total weight = if up && nat_eq n 0 then total + weight else (if
 -- peers are told of a key whose number changes
 abbrev pub is_told_of : Key → ℕ → ℕ → Bool
 is_told_of key before after = nat_eq after 0 || not (is_plain key && nat_lt 0 before)
+
+-- the delta opens a key that has no open subscription
+abbrev pub opens_key : Counts → Delta → Bool
+opens_key counts delta = delta.up && nat_eq (count_of counts delta.key) 0
+
+abbrev pub key_if : Bool → Key → List Key
+key_if there key = if there then key ∷ [] else []
+
+-- the keys that deltas open so, in order
+abbrev pub keys_opened : Counts → List Delta → List Key
+keys_opened counts [] = []
+keys_opened counts (delta ∷ deltas) = key_if (opens_key counts delta) delta.key ++ keys_opened (counts_after counts delta) deltas

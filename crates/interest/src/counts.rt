@@ -1,6 +1,6 @@
 //! How many subscriptions of each key are open.
 
-ghost use Rattle.std.specs.Prelude.{◌≡◌, ◌*◌, ◌^◌, ◌<◌, ◌≤◌, [], MatchResult, IfOk, OnErr};
+ghost use Rattle.std.specs.Prelude.{◌≡◌, ◌*◌, ◌^◌, ◌<◌, ◌≤◌, [], ◌++◌, None, Some, true, false, slice_get, MatchResult, IfOk, OnErr};
 ghost use Rattle.std.specs.List.{list_any};
 ghost use Rattle.std.specs.BTreeMap.{insert_entry};
 ghost use Rattle.std.specs.List.Sorted.{IsStrictlySortedBy};
@@ -9,30 +9,44 @@ ghost use Rattle.interest.specs.Places.{IsPlaceOf, IsGapFor};
 ghost use Rattle.subj.specs.Answers.{IsAnswered};
 ghost use Rattle.subj.specs.Keys.{key_cmp};
 ghost use Rattle.interest.specs.KeysLeft.{keys_left};
-ghost use Rattle.interest.specs.Matches.{weight_in, names_in, AreGathered};
+ghost use Rattle.interest.specs.Matches.{weight_in, names_in as names_of, AreGathered};
+ghost use Rattle.interest.specs.Tally.{opens_key, key_if};
 ghost use Rattle.interest.specs.Counts.{count_after, with_count, count_of, change_between, is_plain_match, IsInterest, is_full, too_many_if, counts_after, delta_fault, change_of};
 
 use crate::changes::{Change, Delta};
 use crate::faults::InterestFault;
 use crate::key_lists::Keys;
-use crate::matches::matching_weight;
+use crate::matches::{has_plain, names_in, weight_of};
 use crate::names::{FoundNames, TooManyNames};
+use crate::seeks::next_match;
 use route_values::WeightedKey;
 use std::alloc::{AllocError, Global};
+use std::collections::VecDeque;
 use std::marker::Model;
 use subj::{Failure, Key, MAX_KEYS, MAX_WEIGHT, QueueName, SUBSCRIPTION_BYTES, Subject};
 
+/// The places for keys, as the length of a list.
+pub(crate) const PLACES: usize = MAX_KEYS as usize;
+
 /// The number of a key's open subscriptions once one more has opened, or one has closed.
-fn number_after(up: bool, count: u64) -> u64
-    requires open { 1 ≤ count }
-    requires fits { count < 2 ^ 63 }
+pub(crate) fn number_after(up: bool, count: u64) -> u64
+    requires { count < 2 ^ 63 }
     ensures { result ≡ count_after up count }
 {
-    if up { count + 1 } else { count - 1 }
+    if up {
+        count + 1
+    } else {
+        count.saturating_sub(1)
+    }
 }
 
 /// What the other servers are told where the number of a key's open subscriptions changes.
-fn change(alloc: Global, key: &Key, before: u64, after: u64) -> Result<Option<Change>, AllocError>
+pub(crate) fn change(
+    alloc: Global,
+    key: &Key,
+    before: u64,
+    after: u64,
+) -> Result<Option<Change>, AllocError>
     requires { after ≤ MAX_WEIGHT }
     ensures { IfOk result (λ change. change ≡ change_between key.now before after) }
 {
@@ -55,6 +69,22 @@ fn place_of(entries: &[(Key, u64)], key: &Key) -> Result<usize, usize>
     entries.binary_search_by(|entry| entry.0.order(key))
 }
 
+/// How many open subscriptions of this queue name the subject matches.
+fn weight_among(entries: &[(Key, u64)], subject: &Subject, name: &QueueName) -> u64
+    requires { IsInterest entries.now }
+    ensures same { result ≡ weight_in subject.now name.now entries.now }
+    ensures most { result ≤ MAX_KEYS * MAX_WEIGHT }
+{
+    let mut total = 0;
+    let mut place = next_match(entries, 0, subject);
+    while place < entries.len() {
+        let (key, count) = &entries[place];
+        total += weight_of(name, key, *count);
+        place = next_match(entries, place + 1, subject);
+    }
+    total
+}
+
 /// How many subscriptions of each key are open, by the deltas that it was told.
 ///
 /// Seen as the list of the keys with an open subscription, each with the number of them, in the order
@@ -63,6 +93,7 @@ fn place_of(entries: &[(Key, u64)], key: &Key) -> Result<usize, usize>
 #[derive(Debug, Drop)]
 pub struct Local {
     pub(crate) alloc: Global,
+    /// It has taken the memory for [`MAX_KEYS`] keys when it was made.
     pub(crate) entries: Vec<(Key, u64)>,
     /// What the keys count together.
     pub(crate) bytes: u64,
@@ -72,25 +103,26 @@ impl Model for Local {
     ghost use Rattle.std.specs.Prelude.{◌≡◌, ℕ, List};
     ghost use Rattle.subj.specs.declared.keys.Key.{Key};
     ghost use Rattle.interest.specs.KeysLeft.{keys_left};
-    ghost use Rattle.interest.specs.Counts.{IsInterest, total_cost};
+    ghost use Rattle.std.specs.Prelude.{vec_capacity};
+    ghost use Rattle.interest.specs.Counts.{IsKept};
 
     ghost Value = { List (Key × ℕ) };
 
     ghost view = { λ local. local.entries.items };
 
-    ghost invariant = { λ local. IsInterest local.entries.items × (local.bytes ≡ total_cost local.entries.items) };
+    ghost invariant = { λ local. IsKept local.entries.items local.bytes (vec_capacity local.entries) };
 }
 
 impl Local {
-    /// No subscription is open.
-    pub fn new(alloc: Global) -> Local
-        ensures { result ≡ [] }
+    /// No subscription is open. Takes the memory for the places of all keys that may come.
+    pub fn new(alloc: Global) -> Result<Local, AllocError>
+        ensures { IfOk result (λ local. local ≡ []) }
     {
-        Local {
+        Ok(Local {
             alloc,
-            entries: Vec::new(alloc),
+            entries: Vec::with_capacity(alloc, PLACES)?,
             bytes: 0,
-        }
+        })
     }
 
     /// Counts one subscription that opened or closed, and answers what the other servers are told.
@@ -122,9 +154,20 @@ impl Local {
         }
         let change = change(self.alloc, key, 0, 1)?;
         let key = key.try_clone(self.alloc)?;
-        self.entries.insert(place, (key, 1))?;
-        self.bytes = bytes;
+        self.put_new(place, key);
         Ok(change)
+    }
+
+    /// The first opening of a key that has room. Takes no memory.
+    fn put_new(&mut self, place: usize, key: Key)
+        requires gap { IsGapFor key_cmp key self.old place }
+        requires room { is_full self.old key ≡ false }
+        ensures { self.new ≡ insert_entry key_cmp self.old key 1 }
+    {
+        self.bytes += key.cost();
+        let Ok(()) = self.entries.insert(place, (key, 1)) else {
+            unreachable!()
+        };
     }
 
     /// Another opening, or a closing, of a key that is there.
@@ -159,13 +202,43 @@ impl Local {
     {
         let before = self.entries[place].1;
         let change = change(self.alloc, key, before, count)?;
+        self.write_count(place, key, count);
+        Ok(change)
+    }
+
+    /// The same where nothing is told. Takes no memory.
+    fn write_count(&mut self, place: usize, key: &Key, count: u64)
+        requires place { IsPlaceOf key_cmp key.now self.old place }
+        requires most { count ≤ MAX_WEIGHT }
+        ensures { self.new ≡ with_count self.old key.now count }
+    {
         if count == 0 {
-            let (gone, _) = self.entries.remove(place);
-            self.bytes -= gone.cost();
-            return Ok(change);
+            self.entries.remove(place);
+            self.bytes -= key.cost();
+            return;
         }
         self.entries[place].1 = count;
-        Ok(change)
+    }
+
+    /// Counts a delta that is not refused, of which nothing is told; a key that it opens anew is the next
+    /// of these. Takes no memory.
+    pub(crate) fn count(&mut self, delta: &Delta, opened: &mut VecDeque<Key>)
+        requires taken { delta_fault self.old delta.now ≡ None }
+        requires next { opens_key self.old delta.now ≡ true → slice_get opened.old.items 0 ≡ Some delta.now.key }
+        ensures counts { self.new ≡ counts_after self.old delta.now }
+        ensures left { opened.old.items ≡ key_if (opens_key self.old delta.now) delta.now.key ++ opened.new.items }
+    {
+        match place_of(&self.entries, &delta.key) {
+            Ok(place) => {
+                let count = number_after(delta.up, self.entries[place].1);
+                self.write_count(place, &delta.key, count);
+            }
+            Err(place) => {
+                if let Some(key) = opened.pop_front() {
+                    self.put_new(place, key);
+                }
+            }
+        }
     }
 
     /// The number of open subscriptions of the key: its weight where it has a queue name.
@@ -184,7 +257,7 @@ impl Local {
     pub fn has_plain(&self, subject: &Subject) -> bool
         ensures { result ≡ list_any (is_plain_match subject.now) self.now }
     {
-        self.entries.iter().any(|(key, _)| key.queue.is_none() && key.pattern.matches(subject))
+        has_plain(&self.entries, subject)
     }
 
     /// How many open subscriptions of this queue name the subject matches. (Profile.)
@@ -192,11 +265,7 @@ impl Local {
         ensures same { result ≡ weight_in subject.now name.now self.now }
         ensures most { result ≤ MAX_KEYS * MAX_WEIGHT }
     {
-        let mut total = 0;
-        for (key, count) in &self.entries {
-            total += matching_weight(subject, name, key, *count);
-        }
-        total
+        weight_among(&self.entries, subject, name)
     }
 
     /// Adds the queue names that the subject matches. Refused where there would be more names than have
@@ -206,12 +275,9 @@ impl Local {
         subject: &Subject,
         names: &mut FoundNames<'a>,
     ) -> Result<(), TooManyNames>
-        ensures { AreGathered (names_in subject.now self.now names.old) names.new result }
+        ensures { AreGathered (names_of subject.now self.now names.old) names.new result }
     {
-        for (key, _) in &self.entries {
-            names.add_match(subject, key)?;
-        }
-        Ok(())
+        names_in(&self.entries, subject, names)
     }
 
     /// The keys that have an open subscription, each with the number of them, in the order of

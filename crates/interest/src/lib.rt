@@ -9,6 +9,10 @@ mod key_lists;
 mod laws;
 mod matches;
 mod names;
+mod ordered;
+mod recounts;
+mod seeks;
+mod sights;
 mod tally;
 mod views;
 
@@ -21,6 +25,8 @@ pub use laws::{
     views_are_of_their_origin,
 };
 pub use names::{FoundNames, TooManyNames};
+pub use recounts::{Numbers, Recount};
+pub use tally::DeltaPlan;
 pub use views::View;
 
 #[cfg(test)]

@@ -1,16 +1,15 @@
 //! Queue names that want a subject.
 
-ghost use Rattle.std.specs.Prelude.{◌≡◌, ◌≤◌, [], length, map, slice_get, unwrap_or, OnErr};
+ghost use Rattle.std.specs.Prelude.{◌≡◌, ◌≤◌, [], true, length, map, slice_get, unwrap_or, OnErr};
 ghost use Rattle.std.specs.Option.{option_copied};
 ghost use Rattle.std.specs.List.{list_any, position};
 ghost use Rattle.std.specs.Str.{bytes_eq};
 ghost use Rattle.subj.specs.QueueNames.{is_before};
-ghost use Rattle.subj.specs.Matching.{subject_matches};
-ghost use Rattle.interest.specs.Matches.{add_name, add_queue, AreGathered};
+ghost use Rattle.interest.specs.Matches.{add_name, add_queue as with_queue, AreGathered};
 
 use arrayvec::ArrayVec;
 use std::marker::Model;
-use subj::{Key, MAX_QUEUE_NAMES, QueueName, Subject};
+use subj::{Key, MAX_QUEUE_NAMES, QueueName};
 
 /// The most names, as the length of a list.
 const PLACES: usize = MAX_QUEUE_NAMES as usize;
@@ -96,15 +95,15 @@ impl<'a> FoundNames<'a> {
         Ok(())
     }
 
-    /// Adds the queue name of the key, where it has one and its pattern matches the subject. Refused where
-    /// it would be one too many, with all as it was.
-    pub(crate) fn add_match(&mut self, subject: &Subject, key: &'a Key) -> Result<(), TooManyNames>
-        ensures gathered { AreGathered (add_queue (subject_matches key.now.pattern subject.now) key.now.queue self.old) self.new result }
+    /// Adds the queue name of the key, where it has one. Refused where it would be one too many, with all as
+    /// it was.
+    pub(crate) fn add_queue(&mut self, key: &'a Key) -> Result<(), TooManyNames>
+        ensures gathered { AreGathered (with_queue true key.now.queue self.old) self.new result }
         ensures err { OnErr result (self.new ≡ self.old) }
     {
         match &key.queue {
-            Some(name) if key.pattern.matches(subject) => self.add(name),
-            _ => Ok(()),
+            Some(name) => self.add(name),
+            None => Ok(()),
         }
     }
 

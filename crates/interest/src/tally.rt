@@ -1,14 +1,23 @@
 //! What deltas would do, counted in order without memory.
 
-ghost use Rattle.std.specs.Prelude.{◌≡◌, ◌+◌, ◌-◌, ◌^◌, ◌<◌, ◌≤◌, false, None, length, IfOk, if◌then◌else◌};
-ghost use Rattle.interest.specs.Tally.{changes_counted, number_behind as behind, is_refused_of, total_after, is_told_of};
-ghost use Rattle.interest.specs.Counts.{count_after, counts_after, change_of, delta_fault};
+ghost use Rattle.std.specs.Prelude.{◌≡◌, ◌+◌, ◌^◌, ◌<◌, ◌≤◌, ◌&&◌, nat_eq, ◌++◌, [], false, length, unwrap_or, option_to_list, IfOk, OnOk, if◌then◌else◌};
+ghost use Rattle.std.specs.Map.{lookup};
+ghost use Rattle.std.specs.BTreeMap.{is_at, insert_entry};
+ghost use Rattle.subj.specs.Keys.{key_cmp};
+ghost use Rattle.interest.specs.Tally.{changes_counted, number_behind as behind, is_refused_of, total_after, is_told_of, key_if, keys_opened};
+ghost use Rattle.interest.specs.Counts.{count_of, count_after, change_between};
+ghost use Rattle.interest.specs.Recounts.{IsPlanOf, IsRecountOf};
+ghost use Rattle.interest.specs.declared.recounts.Recount.TheVariants.{Many};
 ghost use Rattle.interest.specs.Told.{counts_told, changes_told as told, are_refused};
 
 use crate::changes::{Change, Delta};
-use crate::counts::Local;
-use std::alloc::AllocError;
+use crate::counts::{Local, PLACES, change, number_after};
+use crate::ordered::OrderedKey;
+use crate::recounts::{Numbers, Recount, recounted};
+use std::alloc::{AllocError, Global};
 use std::cmp::Ordering;
+use std::collections::{BTreeMap, VecDeque};
+use std::mem::replace;
 use subj::{Key, MAX_KEYS, MAX_WEIGHT, SUBSCRIPTION_BYTES};
 
 /// The number of the key's open subscriptions after these deltas, where it was this one before.
@@ -20,11 +29,7 @@ fn number_behind(deltas: &[Delta], key: &Key, number: u64) -> u64
     let mut number = number;
     for delta in deltas {
         if key.order(&delta.key) == Ordering::Equal {
-            number = if delta.up {
-                number + 1
-            } else {
-                number.saturating_sub(1)
-            };
+            number = number_after(delta.up, number);
         }
     }
     number
@@ -61,14 +66,10 @@ fn total(up: bool, number: u64, total: u64, weight: u64) -> u64
 
 /// How many changes the other servers are told of a delta of a key that had this number: 1 or none.
 fn changes_told(delta: &Delta, number: u64) -> u64
-    requires { number < 2 ^ 64 - 1 }
+    requires { number < 2 ^ 63 }
     ensures { result ≡ (if is_told_of delta.now.key number (count_after delta.now.up number) then 1 else 0) }
 {
-    let after = if delta.up {
-        number + 1
-    } else {
-        number.saturating_sub(1)
-    };
+    let after = number_after(delta.up, number);
     if after == 0 || !(delta.key.queue.is_none() && 0 < number) {
         1
     } else {
@@ -76,10 +77,114 @@ fn changes_told(delta: &Delta, number: u64) -> u64
     }
 }
 
+/// So many deltas are few.
+const FEW: usize = 16;
+
+/// What deltas do, found before anything is changed.
+#[derive(Debug, Drop)]
+pub struct DeltaPlan {
+    /// What they make of the counts.
+    pub recount: Recount,
+    /// What the other servers are told, in order.
+    pub changes: Vec<Change>,
+}
+
+/// What few deltas do.
+#[derive(Drop)]
+struct FewPlan {
+    opened: VecDeque<Key>,
+    changes: Vec<Change>,
+}
+
+/// The key of a delta, where it opens it and there was this number of open subscriptions, none.
+fn opened_key(alloc: Global, delta: &Delta, number: u64) -> Result<Option<Key>, AllocError>
+    ensures { IfOk result (λ key. option_to_list key ≡ key_if (delta.now.up && nat_eq number 0) delta.now.key) }
+{
+    if !delta.up || number != 0 {
+        return Ok(None);
+    }
+    Ok(Some(delta.key.try_clone(alloc)?))
+}
+
+/// Puts the key behind the others, where there is one.
+fn push_key(keys: &mut VecDeque<Key>, key: Option<Key>) -> Result<(), AllocError>
+    ensures { OnOk result (keys.new.items ≡ keys.old.items ++ option_to_list key) }
+{
+    if let Some(key) = key {
+        keys.push_back(key)?;
+    }
+    Ok(())
+}
+
+/// Puts the change behind the others, where there is one.
+fn push_change(changes: &mut Vec<Change>, change: Option<Change>) -> Result<(), AllocError>
+    ensures { OnOk result (changes.new.items ≡ changes.old.items ++ option_to_list change) }
+{
+    if let Some(change) = change {
+        changes.push(change)?;
+    }
+    Ok(())
+}
+
+/// Gives the key this number, in place of the one that it has.
+fn put(
+    numbers: &mut BTreeMap<OrderedKey, u64>,
+    key: OrderedKey,
+    number: u64,
+) -> Result<(), AllocError>
+    ensures { OnOk result (numbers.new.entries ≡ insert_entry key_cmp numbers.old.entries key number) }
+{
+    match numbers.insert(key, number) {
+        Ok(_) => Ok(()),
+        Err(_) => Err(AllocError),
+    }
+}
+
+impl FewPlan {
+    /// Of no deltas.
+    fn new(alloc: Global) -> FewPlan
+        ensures opened { result.opened.items ≡ [] }
+        ensures changes { result.changes.items ≡ [] }
+    {
+        FewPlan {
+            opened: VecDeque::new(alloc),
+            changes: Vec::new(alloc),
+        }
+    }
+
+    /// Of one delta more, whose key had this number of open subscriptions.
+    fn add(&mut self, alloc: Global, delta: &Delta, number: u64) -> Result<(), AllocError>
+        requires fits { count_after delta.now.up number ≤ MAX_WEIGHT }
+        requires few { number ≤ MAX_WEIGHT }
+        ensures opened { OnOk result (self.new.opened.items ≡ self.old.opened.items ++ key_if (delta.now.up && nat_eq number 0) delta.now.key) }
+        ensures changes { OnOk result (self.new.changes.items ≡ self.old.changes.items ++ option_to_list (change_between delta.now.key number (count_after delta.now.up number))) }
+    {
+        let key = opened_key(alloc, delta, number)?;
+        let change = change(alloc, &delta.key, number, number_after(delta.up, number))?;
+        push_key(&mut self.opened, key)?;
+        push_change(&mut self.changes, change)
+    }
+}
+
 impl Local {
     /// How many changes the other servers are told of these deltas, were each counted in its turn by
-    /// [`Local::apply`]; None where one of them would be refused. It counts nothing and takes no memory.
+    /// [`Local::apply`]; None where one of them would be refused. It counts nothing and keeps no memory. The
+    /// time grows with the deltas; where there is no memory for a table of their keys, with their square.
     pub fn changes_of(&self, deltas: &[Delta]) -> Option<u64>
+        ensures { result ≡ changes_counted self.now deltas.now }
+    {
+        if deltas.len() > FEW {
+            match self.plan_many(deltas) {
+                Ok(Some(plan)) => return Some(plan.changes.len() as u64),
+                Ok(None) => return None,
+                Err(_) => {}
+            }
+        }
+        self.changes_one_by_one(deltas)
+    }
+
+    /// The same without memory: the number of each key is found by going over the deltas before.
+    fn changes_one_by_one(&self, deltas: &[Delta]) -> Option<u64>
         ensures { result ≡ changes_counted self.now deltas.now }
     {
         let mut keys = self.entries.len() as u64;
@@ -98,54 +203,121 @@ impl Local {
         Some(changes)
     }
 
-    /// A copy.
-    fn try_clone(&self) -> Result<Local, AllocError>
-        ensures { IfOk result (λ local. local ≡ self.now) }
-    {
-        let mut entries = Vec::new(self.alloc);
-        for (key, count) in &self.entries {
-            entries.push((key.try_clone(self.alloc)?, *count))?;
-        }
-        Ok(Local {
-            alloc: self.alloc,
-            entries,
-            bytes: self.bytes,
-        })
-    }
-
-    /// [`Local::apply`] of a delta that is not refused.
-    fn take(&mut self, delta: &Delta) -> Result<Option<Change>, AllocError>
-        requires { delta_fault self.old delta.now ≡ None }
-        ensures { IfOk result (λ change. (change ≡ change_of self.old delta.now) × (self.new ≡ counts_after self.old delta.now)) }
-    {
-        match self.apply(delta) {
-            Ok(change) => Ok(change),
-            Err(_) => Err(AllocError),
-        }
-    }
-
-    /// [`Local::apply`] of deltas none of which is refused, and what the other servers are told.
-    fn take_all(&mut self, deltas: &[Delta]) -> Result<Vec<Change>, AllocError>
-        requires { are_refused self.old deltas.now ≡ false }
-        ensures { IfOk result (λ changes. (changes.items ≡ told self.old deltas.now) × (self.new ≡ counts_told self.old deltas.now)) }
-    {
-        let mut changes = Vec::new(self.alloc);
-        for delta in deltas {
-            if let Some(change) = self.take(delta)? {
-                changes.push(change)?;
-            }
-        }
-        Ok(changes)
-    }
-
-    /// The counts after these deltas, and what the other servers are told of them; these counts stay as
-    /// they are. Required: none of the deltas is refused, as [`Local::changes_of`] tells.
-    pub fn after(&self, deltas: &[Delta]) -> Result<(Local, Vec<Change>), AllocError>
+    /// What these deltas do, one by one. Required: none of them is refused.
+    fn plan_few(&self, deltas: &[Delta]) -> Result<FewPlan, AllocError>
         requires { are_refused self.now deltas.now ≡ false }
-        ensures { IfOk result (λ after. (after.0 ≡ counts_told self.now deltas.now) × (after.1.items ≡ told self.now deltas.now)) }
+        ensures { IfOk result (λ plan. (plan.opened.items ≡ keys_opened self.now deltas.now) × (plan.changes.items ≡ told self.now deltas.now)) }
     {
-        let mut counts = self.try_clone()?;
-        let changes = counts.take_all(deltas)?;
-        Ok((counts, changes))
+        let mut plan = FewPlan::new(self.alloc);
+        for place in 0..deltas.len() {
+            let delta = &deltas[place];
+            let before = number_behind(&deltas[..place], &delta.key, self.weight(&delta.key));
+            plan.add(self.alloc, delta, before)?;
+        }
+        Ok(plan)
+    }
+
+    /// The number of the key so far: the one that it has among these, or the one that is counted.
+    fn number_so_far(&self, numbers: &BTreeMap<OrderedKey, u64>, key: &OrderedKey) -> u64
+        ensures { result ≡ unwrap_or (lookup (is_at (key_cmp key.now)) numbers.now.entries) (count_of self.now key.now) }
+    {
+        match numbers.get(key) {
+            Some(number) => *number,
+            None => self.weight(key.key()),
+        }
+    }
+
+    /// What these deltas do, for each of their keys; None where one of them is refused.
+    fn plan_many(&self, deltas: &[Delta]) -> Result<Option<DeltaPlan>, AllocError>
+        ensures { IfOk result (IsPlanOf self.now deltas.now) }
+    {
+        let mut numbers = BTreeMap::new(self.alloc);
+        let mut changes = Vec::new(self.alloc);
+        let mut keys = self.entries.len() as u64;
+        let mut bytes = self.bytes;
+        for place in 0..deltas.len() {
+            let delta = &deltas[place];
+            let key = OrderedKey::copy_of(self.alloc, &delta.key)?;
+            let number = self.number_so_far(&numbers, &key);
+            if is_refused(keys, bytes, delta, number) {
+                return Ok(None);
+            }
+            keys = total(delta.up, number, keys, 1);
+            bytes = total(delta.up, number, bytes, delta.key.cost());
+            let after = number_after(delta.up, number);
+            push_change(&mut changes, change(self.alloc, &delta.key, number, after)?)?;
+            put(&mut numbers, key, after)?;
+        }
+        let room = Vec::with_capacity(self.alloc, PLACES + numbers.len())?;
+        let many = Numbers {
+            numbers,
+            bytes,
+            room,
+        };
+        Ok(Some(DeltaPlan {
+            recount: Recount::Many(many),
+            changes,
+        }))
+    }
+
+    /// What these deltas do; None where one of them is refused, were each counted in its turn by
+    /// [`Local::apply`]. It counts nothing. The time grows with the deltas, and hardly with the keys.
+    pub fn plan(&self, deltas: &[Delta]) -> Result<Option<DeltaPlan>, AllocError>
+        ensures { IfOk result (IsPlanOf self.now deltas.now) }
+    {
+        if deltas.len() > FEW {
+            return self.plan_many(deltas);
+        }
+        if self.changes_of(deltas).is_none() {
+            return Ok(None);
+        }
+        let FewPlan { opened, changes } = self.plan_few(deltas)?;
+        Ok(Some(DeltaPlan {
+            recount: Recount::Few(opened),
+            changes,
+        }))
+    }
+
+    /// Counts these deltas one by one. Required: none of them is refused, and the keys are those that they
+    /// open. Takes no memory.
+    fn commit_few(&mut self, deltas: &[Delta], opened: VecDeque<Key>)
+        requires taken { are_refused self.old deltas.now ≡ false }
+        requires planned { opened.items ≡ keys_opened self.old deltas.now }
+        ensures { self.new ≡ counts_told self.old deltas.now }
+    {
+        let mut opened = opened;
+        for delta in deltas {
+            self.count(delta, &mut opened);
+        }
+    }
+
+    /// Gives each of these keys its number. Required: these are the numbers after deltas of which none is
+    /// refused. Takes no memory.
+    fn commit_many(&mut self, deltas: &[Delta], many: Numbers)
+        requires taken { are_refused self.old deltas.now ≡ false }
+        requires planned { IsRecountOf self.old deltas.now (Many many) }
+        ensures { self.new ≡ counts_told self.old deltas.now }
+    {
+        let Numbers {
+            numbers,
+            bytes,
+            room,
+        } = many;
+        let entries = replace(&mut self.entries, Vec::new(self.alloc));
+        self.entries = recounted(entries, numbers, room);
+        self.bytes = bytes;
+    }
+
+    /// Counts these deltas, in order. Required: none of them is refused, and the recount is the one that
+    /// [`Local::plan`] gives for them. Takes no memory.
+    pub fn commit(&mut self, deltas: &[Delta], recount: Recount)
+        requires taken { are_refused self.old deltas.now ≡ false }
+        requires planned { IsRecountOf self.old deltas.now recount }
+        ensures { self.new ≡ counts_told self.old deltas.now }
+    {
+        match recount {
+            Recount::Few(opened) => self.commit_few(deltas, opened),
+            Recount::Many(many) => self.commit_many(deltas, many),
+        }
     }
 }

@@ -58,7 +58,7 @@ fn told(
 
 #[test]
 fn a_plain_key_is_told_first_and_last(rt: HostRuntime) -> Result<(), Fail> {
-    let mut local = Local::new(rt.alloc());
+    let mut local = Local::new(rt.alloc())?;
     let key = key_of(rt.alloc(), b"foo", b"")?;
     let table = [
         (false, REFUSED + 42, 0),
@@ -78,7 +78,7 @@ fn a_plain_key_is_told_first_and_last(rt: HostRuntime) -> Result<(), Fail> {
 
 #[test]
 fn a_queue_key_is_told_each_time(rt: HostRuntime) -> Result<(), Fail> {
-    let mut local = Local::new(rt.alloc());
+    let mut local = Local::new(rt.alloc())?;
     let key = key_of(rt.alloc(), b"foo", b"q")?;
     let table = [
         (true, 1, 1),
@@ -98,7 +98,7 @@ fn a_queue_key_is_told_each_time(rt: HostRuntime) -> Result<(), Fail> {
 
 #[test]
 fn keys_stand_in_order(rt: HostRuntime) -> Result<(), Fail> {
-    let mut local = Local::new(rt.alloc());
+    let mut local = Local::new(rt.alloc())?;
     let opened: [(&[u8], &[u8]); 6] = [
         (b"b", b""),
         (b"a", b"q"),
@@ -132,7 +132,7 @@ fn keys_stand_in_order(rt: HostRuntime) -> Result<(), Fail> {
 
 #[test]
 fn only_plain_keys_match_plainly(rt: HostRuntime) -> Result<(), Fail> {
-    let mut local = Local::new(rt.alloc());
+    let mut local = Local::new(rt.alloc())?;
     assert_eq!(rt; told(rt.alloc(), &mut local, b"foo.*", b"", true)?, 1);
     assert_eq!(rt; told(rt.alloc(), &mut local, b"bar", b"q", true)?, 1);
     let table: [(&[u8], bool); 4] = [
@@ -150,7 +150,7 @@ fn only_plain_keys_match_plainly(rt: HostRuntime) -> Result<(), Fail> {
 
 #[test]
 fn a_key_has_a_greatest_weight(rt: HostRuntime) -> Result<(), Fail> {
-    let mut local = Local::new(rt.alloc());
+    let mut local = Local::new(rt.alloc())?;
     for before in 0..MAX_WEIGHT {
         assert_eq!(rt;
             told(rt.alloc(), &mut local, b"foo", b"q", true)?,
@@ -164,7 +164,7 @@ fn a_key_has_a_greatest_weight(rt: HostRuntime) -> Result<(), Fail> {
 }
 
 /// The last five digits of the number.
-fn numbered(number: u64) -> [u8; 5] {
+pub(crate) fn numbered(number: u64) -> [u8; 5] {
     let mut digits = [b'0'; 5];
     let mut left = number;
     for digit in digits.iter_mut().rev() {
@@ -176,7 +176,7 @@ fn numbered(number: u64) -> [u8; 5] {
 
 #[test]
 fn there_is_a_greatest_number_of_keys(rt: HostRuntime) -> Result<(), Fail> {
-    let mut local = Local::new(rt.alloc());
+    let mut local = Local::new(rt.alloc())?;
     for number in 0..MAX_KEYS {
         assert_eq!(rt;
             told(rt.alloc(), &mut local, &numbered(number), b"", true)?,
@@ -199,7 +199,7 @@ fn there_is_a_greatest_number_of_keys(rt: HostRuntime) -> Result<(), Fail> {
 
 #[test]
 fn keys_have_a_greatest_number_of_bytes(rt: HostRuntime) -> Result<(), Fail> {
-    let mut local = Local::new(rt.alloc());
+    let mut local = Local::new(rt.alloc())?;
     let mut pattern = [b'a'; MAX_SUBJECT];
     let queue = [b'q'; MAX_QUEUE_NAME];
     // 3,771 keys of 1,112 bytes each, and then one of the 952 bytes that are left

@@ -1,11 +1,11 @@
 //! Examples: news that are late, behind a gap, or of a key that is not there; and who wants a subject.
 
-use crate::tests::key_of;
+use crate::tests::{key_of, numbered};
 use crate::{Change, FoundNames, InterestFault, View};
 use route_values::{SnapshotKeys, WeightedKey};
 use std::alloc::Global;
 use std::test::Fail;
-use subj::{Failure, QueueName, Subject};
+use subj::{Failure, MAX_KEYS, QueueName, Subject};
 
 /// The key with this weight.
 fn weighted(alloc: Global, pattern: &[u8], queue: &[u8], weight: u64) -> Result<WeightedKey, Fail> {
@@ -85,5 +85,39 @@ fn heard_keys_want_subjects(rt: HostRuntime) -> Result<(), Fail> {
         let last = names.get(count - 1).ok_or("a name")?;
         assert_eq!(rt; last.bytes(), b"q".as_slice());
     }
+    Ok(())
+}
+
+/// So many keys of five digits each, in their order.
+fn numbered_keys(alloc: Global, count: u64) -> Result<SnapshotKeys, Fail> {
+    let mut keys = Vec::new(alloc);
+    for number in 0..count {
+        keys.push(weighted(alloc, &numbered(number), b"", 1)?)?;
+    }
+    Ok(SnapshotKeys::from_keys(keys).ok_or("a snapshot")?)
+}
+
+#[test]
+fn a_snapshot_has_up_to_65536_keys(rt: HostRuntime) -> Result<(), Fail> {
+    let alloc = rt.alloc();
+    let mut view = View::new(alloc);
+    let keys = numbered_keys(alloc, MAX_KEYS)?;
+    assert!(rt; view.hear_all(9, keys).is_ok());
+    assert_eq!(rt; view.keys().len(), 65_536);
+    let table: [(u64, &[u8], u64, u16); 4] = [
+        (10, b"x", 1, 43),
+        (10, b"00007", 1, 0),
+        (11, b"00007", 0, 0),
+        (12, b"x", 1, 0),
+    ];
+    for (number, pattern, weight, answer) in table {
+        let change = match weight {
+            0 => Change::Gone(key_of(alloc, pattern, b"")?),
+            _ => Change::Up(weighted(alloc, pattern, b"", weight)?),
+        };
+        assert_eq!(rt; number_of(view.hear(number, change)), answer);
+    }
+    assert!(rt; view.hear_all(12, SnapshotKeys::new(alloc)).is_ok());
+    assert_eq!(rt; view.keys().len(), 0);
     Ok(())
 }

@@ -8,15 +8,16 @@ ghost use Rattle.subj.specs.Answers.{IsAnswered, IsDecided};
 ghost use Rattle.subj.specs.Keys.{key_cmp};
 ghost use Rattle.interest.specs.Places.{IsPlaceOf, IsGapFor};
 ghost use Rattle.interest.specs.Heard.{Changed, Whole, IsHeard, nothing_heard, news_fault, heard_after};
-ghost use Rattle.interest.specs.Matches.{has_plain_match, weight_in, names_in, AreGathered};
+ghost use Rattle.interest.specs.Matches.{has_plain_match, weight_in, names_in as names_of, AreGathered};
 ghost use Rattle.interest.specs.Views.{follow_fault as fault_of_following, followed, has_key};
 ghost use Rattle.interest.specs.declared.changes.Change.TheVariants.{Up, Gone};
 ghost use Rattle.interest.specs.declared.faults.InterestFault.TheVariants.{Late, Gap};
 
 use crate::changes::Change;
 use crate::faults::InterestFault;
-use crate::matches::matching_weight;
+use crate::matches::{has_plain, names_in, weight_of};
 use crate::names::{FoundNames, TooManyNames};
+use crate::seeks::next_match;
 use route_values::{SnapshotKeys, WeightedKey};
 use std::alloc::{AllocError, Global};
 use std::marker::Model;
@@ -70,6 +71,22 @@ fn follow(keys: &mut Vec<WeightedKey>, change: Change) -> Result<(), AllocError>
     }
 }
 
+/// What the keys of this queue name that match the subject weigh together.
+fn weight_among(keys: &[WeightedKey], subject: &Subject, name: &QueueName) -> u64
+    requires { IsHeard keys.now }
+    ensures same { result ≡ weight_in subject.now name.now keys.now }
+    ensures most { result ≤ MAX_KEYS * MAX_WEIGHT }
+{
+    let mut total = 0;
+    let mut place = next_match(keys, 0, subject);
+    while place < keys.len() {
+        let weighted = &keys[place];
+        total += weight_of(name, weighted.key(), weighted.weight());
+        place = next_match(keys, place + 1, subject);
+    }
+    total
+}
+
 /// What a server has heard of the interest of one peer's life: its keys with their weights, in the order
 /// of [`Key::order`], and the number of the last change that they stand for. (Profile.)
 ///
@@ -120,10 +137,7 @@ impl View {
     pub fn has_plain(&self, subject: &Subject) -> bool
         ensures { result ≡ has_plain_match subject.now self.now.keys }
     {
-        self.keys.iter().any(|weighted| {
-            let key = weighted.key();
-            key.queue.is_none() && key.pattern.matches(subject)
-        })
+        has_plain(&self.keys, subject)
     }
 
     /// What the keys of this queue name that match the subject weigh together. (Profile.)
@@ -131,11 +145,7 @@ impl View {
         ensures same { result ≡ weight_in subject.now name.now self.now.keys }
         ensures most { result ≤ MAX_KEYS * MAX_WEIGHT }
     {
-        let mut total = 0;
-        for weighted in &self.keys {
-            total += matching_weight(subject, name, weighted.key(), weighted.weight());
-        }
-        total
+        weight_among(&self.keys, subject, name)
     }
 
     /// Adds the queue names of keys that match the subject. Refused where there would be more names than
@@ -145,12 +155,9 @@ impl View {
         subject: &Subject,
         names: &mut FoundNames<'a>,
     ) -> Result<(), TooManyNames>
-        ensures { AreGathered (names_in subject.now self.now.keys names.old) names.new result }
+        ensures { AreGathered (names_of subject.now self.now.keys names.old) names.new result }
     {
-        for weighted in &self.keys {
-            names.add_match(subject, weighted.key())?;
-        }
-        Ok(())
+        names_in(&self.keys, subject, names)
     }
 
     /// Why the change of this number is refused, or None where it is taken: 40 where the number is not

@@ -4,4 +4,8 @@ use Rattle.interest.proofs.Entries.{nothing}
 use Rattle.interest.proofs.counts.Local.new.Goals as goal
 
 pub invariant_of-result : goal.invariant_of-result
-invariant_of-result c = (subst IsInterest (sym c.new.ensures.items) nothing, sym (ap total_cost c.new.ensures.items))
+invariant_of-result c = record {
+  valid = subst IsInterest (sym c.in_ok-with_capacity.ensures.items) nothing;
+  cost_is = sym (ap total_cost c.in_ok-with_capacity.ensures.items);
+  room = c.in_ok-with_capacity.ensures.capacity;
+}

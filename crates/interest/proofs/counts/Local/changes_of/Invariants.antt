@@ -1,5 +1,0 @@
-use Rattle.interest.proofs.InOrder.{Standing}
-use Rattle.interest.proofs.counts.Local.changes_of.Given as goal
-
-abbrev pub invariant-loop-place : goal.invariant-loop-place
-invariant-loop-place l = Standing l.self l.deltas l.place l.keys l.bytes l.changes
