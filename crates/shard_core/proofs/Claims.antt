@@ -18,16 +18,16 @@ use Rattle.sub_table.specs.Subscriptions.{gets, has_serial, serial_of}
 use Rattle.sub_table.specs.declared.Subscription.{Subscription}
 use Rattle.subj.specs.declared.jobs.Job.{Job}
 use Rattle.shard_core.specs.Shards.{State, Client, client_at, changed, fits}
-use Rattle.shard_core.specs.Closings.{id_of, ended_ids}
+use Rattle.shard_core.specs.Closings.{ended_ids}
 use Rattle.subj.specs.QueueNames.{is_named}
 use Rattle.shard_core.specs.Owed.{ended_by, tried, claimed, reaches, candidate_of, due_entry, is_permitted, is_candidate, candidate_named, chosen}
 use Rattle.shard_core.specs.Opened.{Opened, AreRising, part_of, with_counts, with_closings}
 use Rattle.shard_core.specs.Boxes.{Clients}
-use Rattle.subj.specs.declared.identities.SubId.{SubId}
+use Rattle.shard_core.specs.declared.calls.Candidate.{Candidate}
 use Rattle.subj.specs.declared.limits.TheConstants.{MAX_QUEUE_NAMES}
 use Rattle.shard_core.specs.Tallies.{behind}
 use Rattle.shard_core.specs.Claims.{is_member}
-use Rattle.shard_core.specs.Held.{Held, IsWhole, ClaimsAreWhole, settled, ended_by_chosen, HasChosen, Chooses, IsSound, IsPossible, ArePossible, AreNumbered, shard_with, staged_for, staged_in, name_of, with_serial, most_counts, each_turn, placed_chosen}
+use Rattle.shard_core.specs.Held.{Held, IsWhole, ClaimsAreWhole, settled, ended_by_chosen, HasChosen, Chooses, IsSound, IsPossible, ArePossible, AreNumbered, shard_with, staged_for, staged_in, candidate_told, told_of, serial_told, with_serial, most_counts, each_turn, placed_chosen}
 use Rattle.shard_core.proofs.Kept.{sound, more_possible, numbered_changed, possible_left, possible_counted}
 
 named : (name : List ℕ) (q : Option (List ℕ)) → is_named name q ≡ true → q ≡ Some name
@@ -68,14 +68,14 @@ empty_of : {A : Type 0} (xs : List A) → length xs ≡ 0 → xs ≡ []
 empty_of [] e = refl
 empty_of (x ∷ xs) e = absurd (omega arith)
 
-module _ (shard : ℕ) (shown next : List Client) (job : Job) (name : List ℕ) (subs : List Subscription) (looks : List Subscription) (items : List (Bor Subscription)) (settled : next ≡ shown) (matching : looks ≡ filter (gets job.message.subject) subs) (members : behind items ≡ filter (is_member shard next job name) looks) where
+module _ (copies : Bool) (shard : ℕ) (shown next : List Client) (job : Job) (name : List ℕ) (subs : List Subscription) (looks : List Subscription) (items : List (Bor Subscription)) (settled : next ≡ shown) (matching : looks ≡ filter (gets job.message.subject) subs) (members : behind items ≡ filter (is_member shard next job name) looks) where
   candidates : behind items ≡ filter (is_candidate (shard_with shard shown subs) job name) subs
   candidates = members ∙ ap (λ (l : List Client). filter (is_member shard l job name) looks) settled ∙ ap (filter (is_member shard shown job name)) matching ∙ members_are shard shown job name subs subs
 
-  pub nobody_chosen : length items ≡ 0 → HasChosen (shard_with shard shown subs) job name None next
+  pub nobody_chosen : length items ≡ 0 → HasChosen copies (shard_with shard shown subs) job name None next
   nobody_chosen none =
       let e : candidate_named (shard_with shard shown subs) job (Some name) ≡ None = ap (chosen job.turn) (sym candidates ∙ ap behind (empty_of items none)) in
-      record { named = sym (ap (option_map serial_of) e); chosen = sym e; staged = settled ∙ sym (ap (λ o. staged_for o (Some job) shard shown) e) }
+      record { told = sym (ap (option_map (candidate_told copies shard job)) e); chosen = sym e; staged = settled ∙ sym (ap (λ o. staged_for o (Some job) shard shown) e) }
 
   -- the one at the place of the turn
   module _ (i : ℕ) (b : Bor Subscription) (at : slice_get items i ≡ Some b) where
@@ -87,39 +87,38 @@ module _ (shard : ℕ) (shown next : List Client) (job : Job) (name : List ℕ) 
         let both = and_true (is_named name b.now.key.queue) _ (in_filter (is_member shard next job name) looks b.now there).1 in
         ap (fits (client_at b.now.conn next)) due ∙ (and_true (is_permitted job b.now) (fits (client_at b.now.conn next) (due_entry shard job b.now.key.queue b.now)) both.1).1
 
-    pub one_chosen : (entry : Written) (after : List Client) → AreRising subs → i ≡ job.turn % length items → entry ≡ due_entry shard job b.now.key.queue b.now → after ≡ changed (with_entry entry) b.now.conn next → HasChosen (shard_with shard shown subs) job name (Some b.now.serial) after
-    one_chosen entry after rising place due put =
+    pub one_chosen : (entry : Written) (candidate : Candidate) (after : List Client) → candidate ≡ candidate_told copies shard job b.now → AreRising subs → i ≡ job.turn % length items → entry ≡ due_entry shard job b.now.key.queue b.now → after ≡ changed (with_entry entry) b.now.conn next → HasChosen copies (shard_with shard shown subs) job name (Some candidate) after
+    one_chosen entry candidate after is rising place due put =
         let size : length (behind items) ≡ length items = length-map items (λ (x : Bor Subscription). x.now) in
         let here : slice_get (behind items) (job.turn % length (behind items)) ≡ Some b.now = ap (λ n. slice_get (behind items) (job.turn % n)) size ∙ ap (slice_get (behind items)) (sym place) ∙ slice_get-map (λ (x : Bor Subscription). x.now) items i ∙ ap (option_map (λ (x : Bor Subscription). x.now)) at in
         let e : candidate_named (shard_with shard shown subs) job (Some name) ≡ Some b.now = ap (chosen job.turn) (sym candidates) ∙ here in
         let is_open : In b.now subs = (in_filter (is_candidate (shard_with shard shown subs) job name) subs b.now (subst (In b.now) candidates (in_mapped (λ (x : Bor Subscription). x.now) items b (in_read items i b at)))).0 in
         record {
-          named = sym (ap (option_map serial_of) e);
-          chosen = found_by_serial subs b.now rising is_open ∙ sym e;
+          told = ap Some is ∙ sym (ap (option_map (candidate_told copies shard job)) e);
+          chosen = ap (λ (c : Candidate). with_serial (Some c.sub.serial) subs) is ∙ found_by_serial subs b.now rising is_open ∙ sym e;
           staged = put ∙ ap (λ x. changed (with_entry x) b.now.conn next) due ∙ ap (changed (with_entry (due_entry shard job b.now.key.queue b.now)) b.now.conn) settled ∙ sym (ap (λ o. staged_for o (Some job) shard shown) e);
         }
 
 -- ---- the candidate that stands
 
-name_of_serial : (shard : ℕ) (chosen : Option Subscription) → option_map (id_of shard) (option_map serial_of chosen) ≡ name_of shard chosen
-name_of_serial shard None = refl
-name_of_serial shard (Some sub) = refl
-
-module _ (s : State) (job : Job) (index : ℕ) (name : List ℕ) (serial : Option ℕ) (drop conns : Clients) (hand : s.hand ≡ Some job) (at : slice_get job.queues index ≡ Some name)
-    (dropped : drop ≡ record { shown = s.clients; next = s.clients }) (shown : conns.shown ≡ drop.shown) (has : HasChosen (shard_with s.shard drop.shown s.subs) job name serial conns.next) where
+module _ (copies : Bool) (s : State) (job : Job) (index : ℕ) (name : List ℕ) (candidate : Option Candidate) (serial : Option ℕ) (drop conns : Clients) (hand : s.hand ≡ Some job) (at : slice_get job.queues index ≡ Some name)
+    (dropped : drop ≡ record { shown = s.clients; next = s.clients }) (shown : conns.shown ≡ drop.shown) (has : HasChosen copies (shard_with s.shard drop.shown s.subs) job name candidate conns.next) (of : serial ≡ serial_told candidate) where
   clients : conns.shown ≡ s.clients
   clients = shown ∙ ap (λ (c : Clients). c.shown) dropped
 
-  chose : HasChosen (shard_with s.shard s.clients s.subs) job name serial conns.next
-  chose = subst (λ (c : Clients). HasChosen (shard_with s.shard c.shown s.subs) job name serial conns.next) dropped has
+  chose : HasChosen copies (shard_with s.shard s.clients s.subs) job name candidate conns.next
+  chose = subst (λ (c : Clients). HasChosen copies (shard_with s.shard c.shown s.subs) job name candidate conns.next) dropped has
 
   candidate_is : candidate_of s s.hand index ≡ candidate_named (shard_with s.shard s.clients s.subs) job (Some name)
   candidate_is = ap (λ h. candidate_of s h index) hand ∙ ap (candidate_named s job) at
 
-  pub chooses : (result : Option SubId) (c0 : Option Subscription) → result ≡ option_map (id_of s.shard) serial → Chooses (record { state = s; chosen = c0 }) index result (record { state = record s { next_index = s.next_index + 1; clients = conns.shown }; chosen = with_serial serial s.subs })
-  chooses result c0 is = record {
-    named = is ∙ ap (option_map (id_of s.shard)) chose.named ∙ name_of_serial s.shard _ ∙ sym (ap (name_of s.shard) candidate_is);
-    after = λ k. record { state = record s { next_index = s.next_index + 1; clients = clients k }; chosen = (chose.chosen ∙ sym candidate_is) k };
+  standing : with_serial serial s.subs ≡ candidate_named (shard_with s.shard s.clients s.subs) job (Some name)
+  standing = ap (λ n. with_serial n s.subs) of ∙ chose.chosen
+
+  pub chooses : (c0 : Option Subscription) → Chooses copies (record { state = s; chosen = c0 }) index candidate (record { state = record s { next_index = s.next_index + 1; clients = conns.shown }; chosen = with_serial serial s.subs })
+  chooses c0 = record {
+    told = chose.told ∙ sym (ap (option_map (candidate_told copies s.shard job)) candidate_is) ∙ sym (ap (λ h. told_of copies s.shard h (candidate_of s s.hand index)) hand);
+    after = λ k. record { state = record s { next_index = s.next_index + 1; clients = clients k }; chosen = (standing ∙ sym candidate_is) k };
   }
 
   more_counts : (chosen now : Option Subscription) → most_counts (Some job) chosen s.finished s.next_index ≤ most_counts (Some job) now s.finished (s.next_index + 1)
@@ -134,7 +133,7 @@ module _ (s : State) (job : Job) (index : ℕ) (name : List ℕ) (serial : Optio
     turns = record { last = was.turns.last; tried = few; turn = was.turns.turn };
     possible = more_possible s.opened s.opened (most_counts s.hand chosen s.finished s.next_index) (most_counts s.hand (with_serial serial s.subs) s.finished (s.next_index + 1)) s.subs (omega arith)
         (subst (λ h. most_counts h chosen s.finished s.next_index ≤ most_counts h (with_serial serial s.subs) s.finished (s.next_index + 1)) (sym hand) (more_counts chosen (with_serial serial s.subs))) was.possible;
-    staged = chose.staged ∙ ap (λ o. staged_for o (Some job) s.shard s.clients) (sym chose.chosen) ∙ ap (λ h. staged_for (with_serial serial s.subs) h s.shard s.clients) (sym hand) ∙ ap (staged_for (with_serial serial s.subs) s.hand s.shard) (sym clients);
+    staged = chose.staged ∙ ap (λ o. staged_for o (Some job) s.shard s.clients) (sym standing) ∙ ap (λ h. staged_for (with_serial serial s.subs) h s.shard s.clients) (sym hand) ∙ ap (staged_for (with_serial serial s.subs) s.hand s.shard) (sym clients);
   }
 
 pub claims_next : (s : State) (job : Job) (index : ℕ) → s.hand ≡ Some job → index ≡ s.next_index → index < length job.queues → claim_refusal s index s.hand ≡ None
@@ -266,7 +265,7 @@ won_is s index (Some job) None cause some = absurd (cc)
 won_is s index (Some job) (Some u) cause some = (refl, refl)
 
 pub claims_whole : ClaimsAreWhole
-claims_whole old mid index name cause chose =
+claims_whole copies old mid index candidate cause chose =
     let s = old.state in
     let u = candidate_of s s.hand index in
     subst (λ (h : Held). IsWhole s index h) (sym chose.after)

@@ -11,14 +11,8 @@ pub mod Opened
 mod TallySteps
 mod Ended
 mod Claims
-mod Places
-mod Each
-mod Clients
-mod Walks
-mod Due
-mod Counts
-mod Written
-mod Numbers
-mod Staged
+mod Groups
 mod Rows
-mod Limits
+pub mod Limits
+mod Leaving
+pub mod Causes

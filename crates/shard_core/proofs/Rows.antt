@@ -1,11 +1,11 @@
 -- The examples, computed.
 use Rattle.std.proofs.Common.{refl}
 use Rattle.std.specs.Fmt.{digits}
-use Rattle.shard_core.specs.Examples.{ClosesTheSlow, FillsTheRoom, TellsOnce, ChoosesByTurn, ClaimsOnce, KeepsTheMaximum}
+use Rattle.shard_core.specs.Examples.{ClosesTheSlow, FillsTheRoom, TellsOnce, ChoosesByTurn, ClaimsOnce, KeepsTheMaximum, FillsAnOutbox}
 
 pub closes_the_slow : ClosesTheSlow
 unfolding digits
-closes_the_slow = record { began = (refl, refl); left = refl; told = refl; line = refl; shut = refl; other = refl; replied = (refl, refl); replied_line = refl; replied_left = refl; replied_told = refl; was_shut = (refl, refl); shut_left = refl; shut_told = refl; detached = (refl, refl); detached_left = refl; detached_told = refl }
+closes_the_slow = record { began = (refl, refl); left = refl; told = refl; line = refl; shut = refl; other = refl; replied = (refl, refl); answered = (refl, refl); replied_line = refl; replied_left = refl; replied_told = refl; was_shut = (refl, refl); shut_left = refl; shut_told = refl; detached = (refl, refl); detached_left = refl; detached_told = refl }
 
 pub fills_the_room : FillsTheRoom
 unfolding digits
@@ -25,4 +25,8 @@ claims_once = record { won = (refl, refl); placed = refl; lost = (refl, refl); n
 
 pub keeps_the_maximum : KeepsTheMaximum
 unfolding digits
-keeps_the_maximum = record { last = (refl, refl); one_more = (refl, refl); reached = (refl, refl); not_reached = (refl, refl) }
+keeps_the_maximum = record { last = (refl, refl); one_more = (refl, refl); reached = (refl, refl); not_reached = (refl, refl); greater = refl; smaller = refl }
+
+pub fills_an_outbox : FillsAnOutbox
+unfolding digits
+fills_an_outbox = record { attached = (refl, refl); last = (refl, refl); many = refl; full = (refl, refl); taken = (refl, refl) }

@@ -12,13 +12,15 @@ use Rattle.shard_core.specs.Shards.{State, Client, client_at, is_open, changed, 
 use Rattle.shard_core.specs.Opened.{Opened, AreRising, AreApart, with_counts, with_closings}
 use Rattle.shard_core.specs.Boxes.{Clients}
 use Rattle.shard_core.specs.declared.calls.Begun.{Begun}
+use Rattle.shard_core.specs.declared.calls.Placed.{Placed}
+use Rattle.shard_core.specs.Puts.{put_line}
 use Rattle.shard_core.proofs.Ended.{given_apart, ended_apart}
 use Rattle.shard_core.specs.Answers.{copied}
 use Rattle.shard_core.specs.Closings.{serials_of, ended_ids}
 use Rattle.sub_table.specs.Subscriptions.{serial_of}
 use Rattle.shard_core.specs.Owed.{Walk, walk, walked, first_step, put_one, give, shut_slow, slow_consumer, due_entry, placed_for, is_plain, is_permitted, is_due}
 use Rattle.shard_core.specs.Held.{shard_with}
-use Rattle.shard_core.specs.Tallies.{Tallied, none_tallied, with_given, with_shut, tally_of, IsTallied, HasPlaced, Follows, put_if_due, walk_matching, behind}
+use Rattle.shard_core.specs.Tallies.{Tallied, none_tallied, with_given, with_shut, tally_of, IsTallied, IsStaged, with_lines, HasPlaced, Follows, is_placed, put_if_due, walk_matching, behind}
 
 if_true : {A : Type 0} (b : Bool) (x y : A) → b ≡ true → (if b then x else y) ≡ x
 if_true b x y e = ap (λ v. if v then x else y) e
@@ -40,7 +42,7 @@ given_tally : (shard : ℕ) (copies : Bool) (job : Job) (w : Walk) (sub : Subscr
 given_tally shard copies job w sub =
     let more = copies_more copies shard job w.given sub in
     let serials : serials_of w.given ++ sub.serial ∷ [] ≡ serials_of (w.given ++ sub ∷ []) = sym (map-append serial_of w.given (sub ∷ [])) in
-    λ i. record (tally_of shard copies job (give (due_entry shard job None sub) sub w)) { placed = more i; given = serials i }
+    λ i. record (tally_of shard copies job (give (due_entry shard job None sub) sub w)) { put = more i; given = serials i }
 
 pub put_given : (subs : List Subscription) (job : Job) (sub : Subscription) (next after : List Client) (t t2 : Tallied) (entry : Written) → is_open sub.conn next ≡ true → sub.key.queue ≡ None → entry ≡ due_entry t.shard job sub.key.queue sub → fits (client_at sub.conn next) entry ≡ true
     → after ≡ changed (with_entry entry) sub.conn next → t2 ≡ with_given entry sub t → Follows subs job (λ s w. put_one s job w sub) next t after t2
@@ -120,6 +122,17 @@ walk_of_matching s job (sub ∷ subs) w = by (gets job.message.subject sub) (is_
   by false true q e f more = more w
   by false false q e f more = more w
 
+-- a walk over what is not due
+nothing_put : (s : State) (job : Job) (subs : List Subscription) (w : Walk) → filter (is_placed job) subs ≡ [] → walk_matching s job subs w ≡ w
+nothing_put s job [] w none = refl
+nothing_put s job (sub ∷ subs) w none = by (is_placed job sub) refl none (nothing_put s job subs) where
+  by : (b : Bool) → is_placed job sub ≡ b → cond b (sub ∷ filter (is_placed job) subs) (filter (is_placed job) subs) ≡ [] → ((v : Walk) → filter (is_placed job) subs ≡ [] → walk_matching s job subs v ≡ v) → walk_matching s job subs (put_if_due s job w sub) ≡ w
+  by true e some more = absurd (cc)
+  by false e rest more = ap (walk_matching s job subs) (if_false (is_placed job sub) _ _ e) ∙ more w rest
+
+pub walk_of_none : (subs : List Subscription) (job : Job) (looks : List (Bor Subscription)) (next : List Client) (t : Tallied) → filter (is_placed job) (behind looks) ≡ [] → Follows subs job (λ s w. walk_matching s job (behind looks) w) next t next t
+walk_of_none subs job looks next t none copies s w of is = subst (λ v. IsTallied copies s job v next t) (sym (nothing_put s job (behind looks) w none)) is
+
 pub walk_whole : (subs : List Subscription) (job : Job) (looks : List (Bor Subscription)) (first next : List Client) (t0 t : Tallied) → behind looks ≡ filter (gets job.message.subject) subs
     → Follows subs job (λ s w. walk_matching s job (behind looks) w) first t0 next t → Follows subs job (λ s w. walk s job (filter (is_due job) s.subs) w) first t0 next t
 walk_whole subs job looks first next t0 t matching walked copies s w of is =
@@ -137,7 +150,7 @@ walk_staged subs job next shown after t t2 follows settled none s shard of clien
     follows t.copies s (first_step s.clients) of
     (record {
       clients_are = settled ∙ sym clients;
-      tally_is = none ∙ ap (λ n. none_tallied n t.copies) (sym shard) ∙ (λ i. record (none_tallied s.shard t.copies) { placed = sym (no_copies t.copies) i });
+      tally_is = none ∙ ap (λ n. none_tallied n t.copies) (sym shard) ∙ (λ i. record (none_tallied s.shard t.copies) { put = sym (no_copies t.copies) i });
     })
 
 pub staged_shard : (subs : List Subscription) (job : Job) (next shown after : List Client) (t t2 : Tallied) → Follows subs job (λ s w. walk s job (filter (is_due job) s.subs) w) next t after t2 → next ≡ shown → t ≡ none_tallied t.shard t.copies → t2.shard ≡ t.shard
@@ -153,18 +166,27 @@ staged_ended subs job next shown after t t2 follows settled none rising =
     let s = shard_with t.shard shown subs in
     subst AreApart (sym (ap (λ (x : Tallied). x.ended) (walk_staged subs job next shown after t t2 follows settled none s refl refl refl).tally_is)) (ended_apart s job rising)
 
+-- and the last lines behind it
+pub all_staged : (copies : Bool) (s : State) (job : Job) (next : List Client) (t last : Tallied) → IsTallied copies s job (walked s job) next t → last ≡ with_lines t → IsStaged copies s job next last
+all_staged copies s job next t last is lines = record { clients_are = is.clients_are; tally_is = lines ∙ ap with_lines is.tally_is }
+
 -- ---- a walk that is shown
 
-pub has_placed : (job : Job) (copies : Bool) (s : State) (t : Tallied) (next : List Client) (conns : Clients) (openings mid last : Opened) (begun : Begun) → IsTallied copies s job (walked s job) next t
-    → conns ≡ record { shown = next; next = next } → mid ≡ with_counts t.given openings → last ≡ with_closings t.ended mid → begun.placed.items ≡ t.placed → begun.closed.items ≡ t.shut → begun.ended.items ≡ ended_ids s.shard t.ended
+copies_behind : (copies : Bool) (xs ys : List Placed) → copied copies xs ++ copied copies ys ≡ copied copies (xs ++ ys)
+copies_behind true xs ys = refl
+copies_behind false xs ys = refl
+
+pub has_placed : (job : Job) (copies : Bool) (s : State) (t : Tallied) (next : List Client) (conns : Clients) (openings mid last : Opened) (begun : Begun) → IsStaged copies s job next t
+    → conns ≡ record { shown = next; next = next } → mid ≡ with_counts t.given openings → last ≡ with_closings t.ended mid → begun.given ≡ length t.given → begun.put.items ≡ t.put → begun.closed.items ≡ t.shut → begun.ended.items ≡ ended_ids s.shard t.ended
     → HasPlaced copies s job openings begun conns last
-has_placed job copies s t next conns openings mid last begun is shown counts closes placed shut ended =
+has_placed job copies s t next conns openings mid last begun is shown counts closes count put shut ended =
     let w = walked s job in
     record {
       conns = shown ∙ ap (λ (l : List Client). record { shown = l; next = l }) is.clients_are;
       openings_are = closes ∙ ap (λ (x : Tallied). with_closings x.ended mid) is.tally_is ∙ ap (with_closings w.ended) (counts ∙ ap (λ (x : Tallied). with_counts x.given openings) is.tally_is);
       told = record {
-        placed = placed ∙ ap (λ (x : Tallied). x.placed) is.tally_is;
+        given = count ∙ ap (λ (x : Tallied). length x.given) is.tally_is ∙ length-map w.given serial_of;
+        put = put ∙ ap (λ (x : Tallied). x.put) is.tally_is ∙ copies_behind copies (map (placed_for s.shard job None) w.given) (map (put_line slow_consumer) w.shut);
         closed = shut ∙ ap (λ (x : Tallied). x.shut) is.tally_is;
         ended = ended ∙ ap (λ (x : Tallied). ended_ids s.shard x.ended) is.tally_is;
       };

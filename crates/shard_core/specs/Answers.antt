@@ -1,5 +1,5 @@
 -- How the calls of a shard answer.
-use Rattle.std.specs.Prelude.{◌≡◌, ℕ, Bool, true, false, List, [], map, Option, Some, None, Result, Ok, Err}
+use Rattle.std.specs.Prelude.{◌≡◌, ℕ, Bool, true, false, List, [], ◌++◌, length, take, Option, Some, None, Result, Ok, Err}
 use Rattle.subj.specs.declared.failures.Failure.{Failure}
 use Rattle.subj.specs.declared.failures.Failure.TheVariants.{Refused, OutOfMemory}
 use Rattle.subj.specs.declared.jobs.Job.{Job}
@@ -12,10 +12,13 @@ use Rattle.shard_core.specs.declared.faults.ShardFault.{ShardFault}
 use Rattle.shard_core.specs.declared.shard.CalledSub.{CalledSub}
 use Rattle.sub_table.specs.declared.Subscription.{Subscription}
 use Rattle.shard_core.specs.Closings.{ended_ids}
-use Rattle.shard_core.specs.Owed.{Walk, walked, placed_for}
-use Rattle.shard_core.specs.ShardEvents.{Answer, Opened, AlreadyOpen, Begin}
+use Rattle.shard_core.specs.Owed.{walked}
+use Rattle.shard_core.specs.Puts.{put_by}
+use Rattle.shard_core.specs.ShardEvents.{Answer, Opened, AlreadyOpen, Take, Begin}
 use Rattle.shard_core.specs.ShardSteps.{shard_after, ended_now}
 use Rattle.shard_core.specs.Held.{Held, settled}
+use Rattle.shard_core.specs.Shards.{State, waits_for}
+use Rattle.outbox.specs.Views.{bytes_of_all}
 
 -- what `subscribe` answers
 abbrev pub answer_of : Subscribed → Answer
@@ -31,15 +34,22 @@ abbrev pub copied : Bool → List Placed → List Placed
 copied true placed = placed
 copied false placed = []
 
--- what `begin` answers of a walk
-pub record IsTold (copies : Bool) (shard : ℕ) (job : Job) (w : Walk) (begun : Begun) : Type 0 where
-  pub placed : begun.placed.items ≡ copied copies (map (placed_for shard job None) w.given)
-  pub closed : begun.closed.items ≡ w.shut
-  pub ended : begun.ended.items ≡ ended_ids shard w.ended
+-- the bytes of the first entries that wait stand behind those that were there: a take without entries
+pub record TakesBytes (old : Held) (conn count taken : ℕ) (before bytes : List ℕ) (new : Held) : Type 0 where
+  pub told : taken ≡ length (take count (waits_for conn old.state.clients))
+  pub bytes_are : bytes ≡ before ++ bytes_of_all (take count (waits_for conn old.state.clients))
+  pub after : new ≡ settled (shard_after old.state (Take conn count))
 
--- the step of a begin; the answer has the entries only where copies are asked for
+-- what `begin` answers of its walk; the entries that it put, only where copies are asked for
+pub record IsTold (copies : Bool) (s : State) (job : Job) (begun : Begun) : Type 0 where
+  pub given : begun.given ≡ length (walked s job).given
+  pub put : begun.put.items ≡ copied copies (put_by s (Begin job))
+  pub closed : begun.closed.items ≡ (walked s job).shut
+  pub ended : begun.ended.items ≡ ended_ids s.shard (walked s job).ended
+
+-- the step of a begin
 pub record HasBegun (copies : Bool) (old : Held) (job : Job) (begun : Begun) (new : Held) : Type 0 where
-  pub answered : IsTold copies old.state.shard job (walked old.state job) begun
+  pub answered : IsTold copies old.state job begun
   pub after : new ≡ settled (shard_after old.state (Begin job))
 
 -- refused, or without memory, with the job handed back as it was

@@ -1,5 +1,5 @@
 -- Closed examples: what a shard does, by hand.
-use Rattle.std.specs.Prelude.{◌≡◌, ℕ, ◌-◌, Bool, true, false, codes, List, [], ◌∷◌, map, Option, Some, None}
+use Rattle.std.specs.Prelude.{◌≡◌, ℕ, ◌-◌, Bool, true, false, codes, List, [], ◌∷◌, ◌++◌, map, replicate, Option, Some, None}
 use Rattle.std.specs.Option.{option_map}
 use Rattle.client_frames.specs.declared.server_frames.ReplyFrame.TheVariants.{Pong}
 use Rattle.outbox.specs.Views.{Written, reply_entry}
@@ -10,10 +10,10 @@ use Rattle.subj.specs.declared.identities.SubId.{SubId}
 use Rattle.subj.specs.declared.jobs.Job.{Job}
 use Rattle.subj.specs.declared.keys.Key.{Key}
 use Rattle.subj.specs.declared.limits.TheConstants.{OUTBOX_BYTES}
-use Rattle.shard_core.specs.Shards.{State, Client, waits_for, is_open}
+use Rattle.shard_core.specs.Shards.{State, Client, new_shard, waits_for, is_open}
 use Rattle.shard_core.specs.Closings.{id_of}
 use Rattle.shard_core.specs.Owed.{candidate_of, placed_for, due_entry, slow_consumer}
-use Rattle.shard_core.specs.ShardEvents.{Event, Subscribe, Unsubscribe, Reply, Shut, Detach, Begin, Claim, Collect, Answer, Opened, AlreadyOpen, Unsubscribed, Replied, WasShut, Detached, Began, Nobody, Lost, Won, Collected}
+use Rattle.shard_core.specs.ShardEvents.{Event, Attach, Subscribe, Unsubscribe, Reply, Shut, Detach, Take, Begin, Claim, Collect, Answer, Attached, Opened, AlreadyOpen, Unsubscribed, Replied, WasShut, Detached, Taken, Began, Nobody, Lost, Won, Collected}
 use Rattle.shard_core.specs.ShardSteps.{shard_refusal, shard_after, shard_answer, ended_of}
 use Rattle.client_frames.specs.declared.err_texts.ErrText.TheVariants.{ParserError}
 
@@ -92,7 +92,8 @@ pub record ClosesTheSlow : Type 0 where
   pub shut : is_open 1 (shard_after one_full (Begin (job 1))).clients ≡ false
   pub other : waits_for 2 (shard_after one_full (Begin (job 1))).clients ≡ pong ∷ due_entry 1 (job 1) None (sub 3 2 plain) ∷ []
   -- an answer without room, a shut and a detach close them as well, and a detach leaves no connection
-  pub replied : Gives one_full (Reply 1 Pong) (Replied (ids (1 ∷ 2 ∷ 4 ∷ [])))
+  pub replied : Gives one_full (Reply 1 Pong) (Replied true (ids (1 ∷ 2 ∷ 4 ∷ [])))
+  pub answered : Gives one_full (Reply 2 Pong) (Replied false [])
   pub replied_line : waits_for 1 (shard_after one_full (Reply 1 Pong)).clients ≡ pong ∷ reply_entry slow_consumer ∷ []
   pub replied_left : map serial_of (shard_after one_full (Reply 1 Pong)).subs ≡ 3 ∷ []
   pub replied_told : (shard_after one_full (Reply 1 Pong)).deltas ≡ closes plain ∷ closes member ∷ closes plain ∷ []
@@ -188,3 +189,31 @@ pub record KeepsTheMaximum : Type 0 where
   -- a maximum that was reached closes at once
   pub reached : Gives (counted None) (Unsubscribe 2 (codes "7") (Some 1)) (Unsubscribed (ids (1 ∷ [])))
   pub not_reached : Gives (counted None) (Unsubscribe 2 (codes "7") (Some 2)) (Unsubscribed [])
+  -- a later maximum replaces an earlier one, which may be greater or smaller
+  pub greater : (shard_after (counted (Some 2)) (Unsubscribe 2 (codes "7") (Some 3))).subs ≡ (counted (Some 3)).subs
+  pub smaller : (shard_after (counted (Some 3)) (Unsubscribe 2 (codes "7") (Some 2))).subs ≡ (counted (Some 2)).subs
+
+-- ---- an outbox as it comes with its connection: 1,024 entries, and a last line
+
+-- so many messages wait for a connection that was attached to a shard without any, and has one plain subscription
+abbrev pub waiting_entries : ℕ → List Written
+waiting_entries count = replicate count (due_entry 1 (job 1) None (sub 1 1 plain))
+
+abbrev pub attached_with : ℕ → State
+attached_with count = record (shard_after (new_shard 1 1) Attach) {
+  clients = map (λ (c : Client). record c { outbox = record { entries = waiting_entries count; shut = false } }) (shard_after (new_shard 1 1) Attach).clients;
+  subs = sub 1 1 plain ∷ [];
+}
+
+-- what is taken of the shard once it has begun this job
+abbrev pub taken_after : State → ℕ → List Written
+taken_after s turn = waits_for 1 (shard_after s (Begin (job turn))).clients
+
+pub record FillsAnOutbox : Type 0 where
+  pub attached : Gives (new_shard 1 1) Attach (Attached 1)
+  -- the 1,024th has room
+  pub last : Gives (attached_with 1023) (Begin (job 1)) (Began (placed_for 1 (job 1) None (sub 1 1 plain) ∷ []) [] [])
+  pub many : taken_after (attached_with 1023) 1 ≡ waiting_entries 1024
+  -- at the next one the connection is shut, and its client takes 1,025 entries
+  pub full : Gives (attached_with 1024) (Begin (job 1)) (Began [] (1 ∷ []) (ids (1 ∷ [])))
+  pub taken : Gives (shard_after (attached_with 1024) (Begin (job 1))) (Take 1 2000) (Taken (waiting_entries 1024 ++ reply_entry slow_consumer ∷ []))

@@ -1,11 +1,11 @@
 -- A shard between two calls, and how its calls go.
-use Rattle.std.specs.Prelude.{◌≡◌, ℕ, ◌+◌, ◌*◌, ◌<◌, ◌≤◌, true, false, List, [], find, Option, Some, None, is_some, option_map, All}
+use Rattle.std.specs.Prelude.{◌≡◌, ℕ, ◌+◌, ◌*◌, ◌<◌, ◌≤◌, Bool, true, false, List, [], find, Option, Some, None, is_some, option_map, All}
 use Rattle.outbox.specs.Views.{with_entry}
-use Rattle.sub_table.specs.Subscriptions.{has_serial, serial_of}
+use Rattle.sub_table.specs.Subscriptions.{has_serial}
 use Rattle.sub_table.specs.declared.Subscription.{Subscription}
-use Rattle.subj.specs.declared.identities.SubId.{SubId}
 use Rattle.subj.specs.declared.jobs.Job.{Job}
 use Rattle.subj.specs.declared.limits.TheConstants.{MAX_COUNTER, MAX_SHARDS, MAX_QUEUE_NAMES}
+use Rattle.shard_core.specs.declared.calls.Candidate.{Candidate}
 use Rattle.shard_core.specs.declared.calls.Placed.{Placed}
 use Rattle.shard_core.specs.Shards.{State, Client, new_shard, changed}
 use Rattle.shard_core.specs.Closings.{id_of}
@@ -39,13 +39,22 @@ IsLeft old new = new ≡ settled old.state
 
 -- ---- a claim in two calls
 
--- the name of a candidate
-abbrev pub name_of : ℕ → Option Subscription → Option SubId
-name_of shard chosen = option_map (λ sub. id_of shard sub.serial) chosen
+-- a copy of an entry, where it is asked for
+abbrev pub copy_of : Bool → Placed → Option Placed
+copy_of true placed = Some placed
+copy_of false placed = None
+
+-- what is told of a candidate: its name, and a copy of the entry that it gets if the claim is won
+abbrev pub candidate_told : Bool → ℕ → Job → Subscription → Candidate
+candidate_told copies shard job sub = record { sub = id_of shard sub.serial; placed = copy_of copies (placed_for shard job sub.key.queue sub) }
+
+abbrev pub told_of : Bool → ℕ → Option Job → Option Subscription → Option Candidate
+told_of copies shard None chosen = None
+told_of copies shard (Some job) chosen = option_map (candidate_told copies shard job) chosen
 
 -- the index is tried, and the candidate stands
-pub record Chooses (old : Held) (index : ℕ) (name : Option SubId) (new : Held) : Type 0 where
-  pub named : name ≡ name_of old.state.shard (candidate_of old.state old.state.hand index)
+pub record Chooses (copies : Bool) (old : Held) (index : ℕ) (candidate : Option Candidate) (new : Held) : Type 0 where
+  pub told : candidate ≡ told_of copies old.state.shard old.state.hand (candidate_of old.state old.state.hand index)
   pub after : new ≡ record { state = tried old.state; chosen = candidate_of old.state old.state.hand index }
 
 -- the last call chose a candidate for this index
@@ -54,13 +63,7 @@ pub record Stands (index : ℕ) (held : Held) : Type 0 where
   pub hand : is_some held.state.hand ≡ true
   pub tried : held.state.next_index ≡ index + 1
 
--- the entry that is kept for the candidate
-abbrev pub kept_for : ℕ → Option Job → Option Subscription → Option Placed
-kept_for shard None chosen = None
-kept_for shard (Some job) None = None
-kept_for shard (Some job) (Some sub) = Some (placed_for shard job sub.key.queue sub)
-
--- the candidate gets it
+-- the candidate gets its entry
 abbrev pub placed_chosen : State → Option Job → Option Subscription → State
 placed_chosen s None chosen = s
 placed_chosen s (Some job) None = s
@@ -76,6 +79,10 @@ abbrev pub with_serial : Option ℕ → List Subscription → Option Subscriptio
 with_serial None subs = None
 with_serial (Some serial) subs = find (has_serial serial) subs
 
+-- the serial of a candidate
+abbrev pub serial_told : Option Candidate → Option ℕ
+serial_told candidate = option_map (λ (c : Candidate). c.sub.serial) candidate
+
 -- what waits once the candidate's entry is shown
 abbrev pub staged_in : Option Job → Subscription → ℕ → List Client → List Client
 staged_in None sub shard clients = clients
@@ -86,9 +93,9 @@ staged_for None hand shard clients = clients
 staged_for (Some sub) hand shard clients = staged_in hand sub shard clients
 
 -- the member that a claim chooses by this name, and what waits once its entry is shown
-pub record HasChosen (s : State) (job : Job) (name : List ℕ) (serial : Option ℕ) (next : List Client) : Type 0 where
-  pub named : serial ≡ option_map serial_of (candidate_named s job (Some name))
-  pub chosen : with_serial serial s.subs ≡ candidate_named s job (Some name)
+pub record HasChosen (copies : Bool) (s : State) (job : Job) (name : List ℕ) (candidate : Option Candidate) (next : List Client) : Type 0 where
+  pub told : candidate ≡ option_map (candidate_told copies s.shard job) (candidate_named s job (Some name))
+  pub chosen : with_serial (serial_told candidate) s.subs ≡ candidate_named s job (Some name)
   pub staged : next ≡ staged_for (candidate_named s job (Some name)) (Some job) s.shard s.clients
 
 -- Placed by the next call, it is the step of a claim that is won; else that of one that is not.
@@ -98,7 +105,7 @@ pub record IsWhole (old : State) (index : ℕ) (mid : Held) : Type 0 where
   pub won : is_some mid.chosen ≡ true → placed_chosen mid.state mid.state.hand mid.chosen ≡ shard_after old (Claim index true)
 
 abbrev pub ClaimsAreWhole : Type 0
-ClaimsAreWhole = (old mid : Held) (index : ℕ) (name : Option SubId) → shard_refusal old.state (Claim index false) ≡ None → Chooses old index name mid → IsWhole old.state index mid
+ClaimsAreWhole = (copies : Bool) (old mid : Held) (index : ℕ) (candidate : Option Candidate) → shard_refusal old.state (Claim index false) ≡ None → Chooses copies old index candidate mid → IsWhole old.state index mid
 
 -- ---- what its fields keep
 

@@ -14,12 +14,7 @@ pub mod AsLaw
 pub mod Boxes
 pub mod EntryBytes
 pub mod Opened
-pub mod State
-pub mod Walk
-pub mod Events
-pub mod Steps
-pub mod Views
-pub mod Sound
+pub mod Members
 pub mod Examples
-pub mod PlainAnswers
 pub mod Limits
+pub mod Causes

@@ -6,6 +6,8 @@ use Rattle.sub_table.specs.declared.Subscription.{Subscription}
 use Rattle.shard_core.specs.Shards.{State}
 use Rattle.shard_core.specs.Closings.{serials_of, is_left, opening, closings_of}
 use Rattle.shard_core.specs.Owed.{counted}
+use Rattle.shard_core.specs.Members.{AreNoted}
+use Rattle.shard_core.specs.declared.members.Members.{Members}
 
 -- the open subscriptions in order of opening, and the openings and closings not told yet, in order
 pub record Opened : Type 0 where
@@ -59,7 +61,8 @@ all_told o = record o { deltas = [] }
 
 -- ---- what the fields keep
 
-pub record IsOpened (subs : List Subscription) (deltas : List Delta) (capacity : ℕ) : Type 0 where
+pub record IsOpened (subs : List Subscription) (deltas : List Delta) (capacity : ℕ) (members : Members) : Type 0 where
   pub rising : AreRising subs
+  pub noted : AreNoted subs members
   -- a place for the closing delta of each open subscription
   pub places : length deltas + length subs ≤ capacity

@@ -34,7 +34,8 @@ pub data Answer : Type 0 where
   Opened : (sub : SubId) → Answer
   AlreadyOpen : Answer
   Unsubscribed : (ended : List SubId) → Answer
-  Replied : (ended : List SubId) → Answer
+  -- whether the connection was shut for want of room
+  Replied : (shut : Bool) (ended : List SubId) → Answer
   WasShut : (ended : List SubId) → Answer
   Detached : (ended : List SubId) → Answer
   Taken : (entries : List Written) → Answer

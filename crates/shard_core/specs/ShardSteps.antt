@@ -161,7 +161,7 @@ abbrev pub shard_answer : State → Event → Answer
 shard_answer s Attach = Attached s.next_conn
 shard_answer s (Subscribe conn key sid) = subscribed_answer s (called conn sid s.subs)
 shard_answer s (Unsubscribe conn sid max) = Unsubscribed (ended_ids s.shard (ended_by_unsubscribe max (called conn sid s.subs)))
-shard_answer s (Reply conn frame) = Replied (ended_ids s.shard (ended_by_reply s conn (reply_line frame)))
+shard_answer s (Reply conn frame) = Replied (not (answer_fits s conn (reply_line frame))) (ended_ids s.shard (ended_by_reply s conn (reply_line frame)))
 shard_answer s (Shut conn text) = WasShut (ended_ids s.shard (left_of conn [] s.subs))
 shard_answer s (Detach conn) = Detached (ended_ids s.shard (left_of conn [] s.subs))
 shard_answer s (Take conn count) = Taken (take count (waits_for conn s.clients))
@@ -192,7 +192,7 @@ ended_of (Attached conn) = []
 ended_of (Opened sub) = []
 ended_of AlreadyOpen = []
 ended_of (Unsubscribed ended) = ended
-ended_of (Replied ended) = ended
+ended_of (Replied shut ended) = ended
 ended_of (WasShut ended) = ended
 ended_of (Detached ended) = ended
 ended_of (Taken entries) = []

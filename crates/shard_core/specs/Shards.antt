@@ -66,12 +66,16 @@ abbrev pub detached : ℕ → List Client → List Client
 detached number clients = filter (λ client. not (has_number number client)) clients
 
 -- an entry may be put: the connection is there and not shut, and both limits allow it (profile)
-abbrev pub room_of : Client → Written → Bool
-room_of client entry = has_room client.max_entries client.max_bytes (length entry.bytes) client.outbox
+abbrev pub room_of : Client → ℕ → Bool
+room_of client len = has_room client.max_entries client.max_bytes len client.outbox
+
+-- an entry of so many bytes
+abbrev pub fits_len : Option Client → ℕ → Bool
+fits_len None len = false
+fits_len (Some client) len = room_of client len
 
 abbrev pub fits : Option Client → Written → Bool
-fits None entry = false
-fits (Some client) entry = room_of client entry
+fits client entry = fits_len client (length entry.bytes)
 
 -- what waits for the connection
 abbrev pub entries_of : Option Client → List Written

@@ -13,6 +13,15 @@ pub enum Subscribed {
     Same,
 }
 
+/// What a reply closed.
+#[derive(Debug, Drop)]
+pub struct Closed {
+    /// Whether the connection was shut for want of room.
+    pub shut: bool,
+    /// The subscriptions that closed with it, in order.
+    pub ended: Vec<SubId>,
+}
+
 /// An entry, and the connection that it was put for.
 #[derive(Debug, Drop)]
 pub struct Placed {
@@ -23,13 +32,24 @@ pub struct Placed {
 /// What a begin did.
 #[derive(Debug, Drop)]
 pub struct Begun {
-    /// Copies of the entries, in the order of placing, where they were asked for; else none.
-    pub placed: Vec<Placed>,
+    /// How many messages were placed.
+    pub given: usize,
+    /// Copies of the entries that were put, where they were asked for; else none. They are the messages, in
+    /// the order of placing, and behind them the last lines of the connections that were shut, in order.
+    pub put: Vec<Placed>,
     /// The connections that were shut for want of room, in order.
     pub closed: Vec<ConnId>,
     /// The subscriptions that closed, in order: with the message that reached their maximum, or with
     /// their connections.
     pub ended: Vec<SubId>,
+}
+
+/// A member of a queue group that was chosen, and stands until the next call.
+#[derive(Debug, Drop)]
+pub struct Candidate {
+    pub sub: SubId,
+    /// A copy of the entry that is kept for it, where it was asked for; else none.
+    pub placed: Option<Placed>,
 }
 
 /// A job that was not begun, as it was handed in.

@@ -2,15 +2,16 @@
 
 ghost use Rattle.std.specs.Prelude.{map, filter, not, ◌≡◌, ◌==◌, ◌≤◌, ◌+◌, ◌<◌, ◌^◌, ◌++◌, ◌∷◌, [], true, position, take, length, All, IsTrue, IfOk, OnOk, OnErr};
 ghost use Rattle.std.specs.Option.{option_map, option_copied};
-ghost use Rattle.outbox.specs.Views.{with_entry, with_last, without_first, reply_entry};
+ghost use Rattle.outbox.specs.Views.{with_entry, with_last, without_first, reply_entry, message_entry, bytes_of_all};
 ghost use Rattle.shard_core.specs.Boxes.{AreRising, AreConns, IsSettled, IsSettledAt, on_both, seen, shown_shelf, next_shelf, number_of};
-ghost use Rattle.shard_core.specs.Shards.{is_open as opened, is_known as known, client_at, changed, detached, fits, waits_for};
+ghost use Rattle.shard_core.specs.Shards.{is_open as opened, is_known as known, client_at, changed, detached, fits, fits_len, waits_for};
 ghost use Rattle.shard_core.specs.ShardSteps.{new_client};
 
-use outbox::{Entry, LAST_LINE_TEXT, Outbox};
+use bytes::Bytes;
+use outbox::{Entry, LAST_LINE_TEXT, Mode, Outbox};
 use std::alloc::{AllocError, Global};
 use std::marker::Model;
-use subj::{ConnId, OUTBOX_BYTES, OUTBOX_ENTRIES};
+use subj::{ConnId, OUTBOX_BYTES, OUTBOX_ENTRIES, PubId, SubId};
 
 /// A connection.
 #[derive(Drop)]
@@ -185,13 +186,14 @@ impl Conns {
         }
     }
 
-    /// Whether the connection is there and has room for the entry behind all that was put or staged.
-    pub fn has_room(&self, conn: ConnId, entry: &Entry) -> bool
-        ensures { result ≡ fits (client_at conn self.now.next) entry.now }
+    /// Whether the connection is there and has room for an entry of so many bytes behind all that was put
+    /// or staged.
+    pub fn has_room(&self, conn: ConnId, len: usize) -> bool
+        ensures { result ≡ fits_len (client_at conn self.now.next) len }
     {
         match found(&self.conns, conn) {
             None => false,
-            Some(conn) => conn.outbox.room(entry.len()),
+            Some(conn) => conn.outbox.room(len),
         }
     }
 
@@ -217,6 +219,31 @@ impl Conns {
             self.places.push(place)?;
             let conn = &mut self.conns[place];
             conn.outbox.stage(entry)?;
+        }
+        Ok(())
+    }
+
+    /// Puts a message, for which there is room, unseen: its line and its payload, given without their
+    /// CR LF. Want of memory leaves all as it was.
+    pub fn stage_message(
+        &mut self,
+        conn: ConnId,
+        id: PubId,
+        sub: SubId,
+        mode: Mode,
+        line: &[u8],
+        payload: &Bytes,
+    ) -> Result<(), AllocError>
+        requires fits { length line.now + length payload.now + 4 < 2 ^ 64 }
+        requires room { IsTrue (fits (client_at conn self.old.next) (message_entry id sub mode line.now payload.now)) }
+        ensures shown { self.new.shown ≡ self.old.shown }
+        ensures ok { OnOk result (self.new.next ≡ changed (with_entry (message_entry id sub mode line.now payload.now)) conn self.old.next) }
+        ensures err { OnErr result (self.new.next ≡ self.old.next) }
+    {
+        if let Some(place) = place_in(&self.conns, conn) {
+            self.places.push(place)?;
+            let conn = &mut self.conns[place];
+            conn.outbox.stage_message(id, sub, mode, line, payload)?;
         }
         Ok(())
     }
@@ -293,6 +320,32 @@ impl Conns {
                 let conn = &mut self.conns[place];
                 let entries = conn.outbox.take(count)?;
                 Ok(entries)
+            }
+        }
+    }
+
+    /// Moves the bytes of the first entries that wait, or of all where there are fewer, behind those that
+    /// are in `out`, and removes these entries. Gives how many they were. Want of memory leaves all as it
+    /// was.
+    pub fn take_bytes(
+        &mut self,
+        conn: ConnId,
+        count: usize,
+        out: &mut Vec<u8>,
+    ) -> Result<usize, AllocError>
+        requires { IsSettled self.old }
+        ensures taken { IfOk result (λ taken. taken ≡ length (take count (waits_for conn self.old.shown))) }
+        ensures bytes { OnOk result (out.new.items ≡ out.old.items ++ bytes_of_all (take count (waits_for conn self.old.shown))) }
+        ensures ok { OnOk result (self.new ≡ on_both (changed (without_first count) conn) self.old) }
+        ensures err { OnErr result (self.new ≡ self.old) }
+        ensures out { OnErr result (out.new.items ≡ out.old.items) }
+    {
+        match place_in(&self.conns, conn) {
+            None => Ok(0),
+            Some(place) => {
+                let conn = &mut self.conns[place];
+                let taken = conn.outbox.take_bytes(count, out)?;
+                Ok(taken)
             }
         }
     }

@@ -1,6 +1,6 @@
 //! What a shard does in closed examples. The calls do nothing: their contracts are the examples.
 
-ghost use Rattle.shard_core.specs.Examples.{ClosesTheSlow, FillsTheRoom, TellsOnce, ChoosesByTurn, ClaimsOnce, KeepsTheMaximum};
+ghost use Rattle.shard_core.specs.Examples.{ClosesTheSlow, FillsTheRoom, TellsOnce, ChoosesByTurn, ClaimsOnce, KeepsTheMaximum, FillsAnOutbox};
 
 /// A connection without room for its message is shut with one last line, and all its subscriptions close.
 pub fn the_slow_are_closed()
@@ -27,7 +27,12 @@ pub fn claims_place_once()
     ensures { ClaimsOnce }
 {}
 
-/// A subscription closes with the message that reaches its maximum.
+/// A subscription closes with the message that reaches its maximum, and a later maximum replaces an earlier one.
 pub fn maxima_are_kept()
     ensures { KeepsTheMaximum }
+{}
+
+/// A connection has room for 1,024 messages; at the next one it is shut, and its client takes these and the last line.
+pub fn an_outbox_is_filled()
+    ensures { FillsAnOutbox }
 {}

@@ -3,24 +3,34 @@
 ghost use Rattle.std.specs.Prelude.{◌≡◌};
 ghost use Rattle.shard_core.specs.Faults.{shard_fault_number};
 
+use thiserror::Error;
+
 /// Why a shard refuses an event. (Profile.)
-#[derive(Clone, Copy, Debug, PartialEq, Eq)]
+#[derive(Clone, Copy, Debug, PartialEq, Eq, Error)]
 pub enum ShardFault {
     /// The connection is not there, or it is shut.
+    #[error("the connection is not there, or it is shut")]
     NoConn = 50,
     /// A job is in hand already.
+    #[error("a job is in hand already")]
     JobInHand = 51,
     /// No job is in hand.
+    #[error("no job is in hand")]
     NoJob = 52,
     /// The job's turn is not the one behind the last that was finished.
+    #[error("the job is not of the turn behind the last that was finished")]
     WrongTurn = 53,
     /// The open subscriptions have come to the shard's share of a limit.
+    #[error("there is no place for one more subscription")]
     TooManySubs = 54,
     /// The queue name is not the next one of the job in hand.
+    #[error("the queue name is not the next one of the job in hand")]
     BadIndex = 55,
     /// Not every queue name of the job in hand was tried.
+    #[error("not every queue name of the job in hand was tried")]
     NotAllTried = 56,
     /// A counter has come to its limit.
+    #[error("a counter has come to its limit")]
     Spent = 57,
 }
 

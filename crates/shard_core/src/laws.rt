@@ -3,6 +3,7 @@
 
 ghost use Rattle.std.specs.Prelude.{ℕ};
 ghost use Rattle.shard_core.specs.AsLaw.{ShardFollows};
+ghost use Rattle.shard_core.specs.Causes.{SubsStayHeld, SubsGoOn, ClosingsAreTold, ClosesByCause, RoomDecides, NumbersTellShards};
 ghost use Rattle.shard_core.specs.EntryBytes.{EntriesAreMessages};
 ghost use Rattle.shard_core.specs.Limits.{LimitsStay};
 ghost use Rattle.shard_core.specs.Puts.{ArePut};
@@ -29,4 +30,38 @@ pub fn entries_are_messages()
 /// Each connection has the limits `OUTBOX_ENTRIES` and `OUTBOX_BYTES`, whatever the shard was asked since it started.
 pub fn limits_stay()
     ensures { LimitsStay }
+{}
+
+/// Of every shard, whatever it was asked since it started: the serials of open subscriptions rise; each is of a connection that
+/// takes events, under an id of its own; and each got fewer messages than its maximum, where it has one.
+pub fn subs_stay_held()
+    ensures { SubsStayHeld }
+{}
+
+/// What is open after an event was open before, with the messages that the event gave it counted and a maximum that it asks for
+/// noted, or it is what the event opens.
+pub fn subs_go_on()
+    ensures { SubsGoOn }
+{}
+
+/// The answer to an event tells just those subscriptions closed that were open before it and are not after, each once.
+pub fn closings_are_told()
+    ensures { ClosingsAreTold }
+{}
+
+/// An open subscription closes at an event just where its connection goes or is shut, where a message of the event reaches its
+/// maximum, or where it is unsubscribed from, at once or with as many messages delivered.
+pub fn subs_close_by_cause()
+    ensures { ClosesByCause }
+{}
+
+/// A connection takes no more events just where it is detached or shut: by a Shut, or for want of room. Each message that is owed
+/// to a connection is given, unless that is shut.
+pub fn room_decides()
+    ensures { RoomDecides }
+{}
+
+/// The connections of shard s of K have the numbers s, s + K, s + 2K, .. alone, so that a number tells its shard.
+pub fn numbers_tell_shards()
+    ensures { NumbersTellShards }
 {}

@@ -5,27 +5,27 @@
 mod calls;
 mod claim;
 mod connections;
-mod conns;
 mod examples;
 mod faults;
 mod laws;
+mod members;
 mod openings;
-mod plain_shard;
-mod plain_walk;
 mod shard;
 mod walk;
 
-pub use calls::{BeginFault, Begun, Placed, Subscribed};
+pub use calls::{BeginFault, Begun, Candidate, Closed, Placed, Subscribed};
 pub use claim::claims_are_whole;
 pub use connections::Conns;
 pub use examples::{
-    claims_place_once, maxima_are_kept, members_take_turns, openings_are_told, room_is_filled,
-    the_slow_are_closed,
+    an_outbox_is_filled, claims_place_once, maxima_are_kept, members_take_turns, openings_are_told,
+    room_is_filled, the_slow_are_closed,
 };
 pub use faults::ShardFault;
-pub use laws::{entries_are_messages, entries_are_put, limits_stay, shard_follows};
+pub use laws::{
+    closings_are_told, entries_are_messages, entries_are_put, limits_stay, numbers_tell_shards,
+    room_decides, shard_follows, subs_close_by_cause, subs_go_on, subs_stay_held,
+};
 pub use openings::Openings;
-pub use plain_shard::PlainShard;
 pub use shard::Shard;
 
 #[cfg(test)]

@@ -1,15 +1,19 @@
 //! Open subscriptions, and the openings and closings that the hub was not told of yet.
 
-ghost use Rattle.std.specs.Prelude.{◌≡◌, ◌+◌, ◌≤◌, [], ◌∷◌, length, vec_capacity, IfOk, OnOk, OnErr};
-ghost use Rattle.sub_table.specs.Subscriptions.{with_max};
+ghost use Rattle.std.specs.Prelude.{◌≡◌, ◌+◌, ◌≤◌, [], ◌∷◌, filter, length, vec_capacity, IfOk, OnOk, OnErr};
+ghost use Rattle.std.specs.Option.{option_copied};
+ghost use Rattle.sub_table.specs.Subscriptions.{gets, with_max};
+ghost use Rattle.shard_core.specs.Members.{found_at as at_mark, found_of, is_in_group_of};
+ghost use Rattle.shard_core.specs.Tallies.{behind};
 ghost use Rattle.shard_core.specs.Closings.{left_of};
 ghost use Rattle.shard_core.specs.Opened.{AreRising, AreApart, IsNext, CanCount, CanCountEach, none_opened, with_opening, with_counts, with_closings, all_told};
 
+use crate::members::{Member, Members, mark_of};
 use interest::Delta;
 use std::alloc::{AllocError, Global};
 use std::marker::Model;
 use sub_table::{SubTable, Subscription};
-use subj::ConnId;
+use subj::{ConnId, QueueName, Subject};
 
 /// Takes the memory of so many closing deltas, of an opening one, and of the closing one that is to follow it.
 fn reserve_for(deltas: &mut Vec<Delta>, closings: usize) -> Result<(), AllocError>
@@ -32,6 +36,8 @@ pub struct Openings<T: SubTable> {
     alloc: Global,
     table: T,
     deltas: Vec<Delta>,
+    /// What is noted of the members of queue groups, for the claims of one job.
+    members: Members,
 }
 
 impl<T: SubTable> Model for Openings<T> {
@@ -43,7 +49,7 @@ impl<T: SubTable> Model for Openings<T> {
 
     ghost view = { λ o. record { subs = T.contents o.table; deltas = o.deltas.items } };
 
-    ghost invariant = { λ o. IsOpened (T.contents o.table) o.deltas.items (vec_capacity o.deltas) };
+    ghost invariant = { λ o. IsOpened (T.contents o.table) o.deltas.items (vec_capacity o.deltas) o.members };
 }
 
 impl<T: SubTable> Openings<T> {
@@ -55,6 +61,7 @@ impl<T: SubTable> Openings<T> {
             alloc,
             table: T::new(alloc)?,
             deltas: Vec::new(alloc),
+            members: Members::new(alloc),
         })
     }
 
@@ -80,6 +87,7 @@ impl<T: SubTable> Openings<T> {
         ensures err { OnErr result (self.new ≡ self.old) }
     {
         let key = sub.key.try_clone(self.alloc)?;
+        self.members.forget();
         reserve_for(&mut self.deltas, self.table.len())?;
         self.table.add(sub)?;
         self.deltas.push_reserved(Delta { key, up: true });
@@ -113,6 +121,7 @@ impl<T: SubTable> Openings<T> {
     pub fn set_max(&mut self, serial: u64, max: Option<u64>)
         ensures { self.new ≡ record self.old { subs = with_max serial max self.old.subs } }
     {
+        self.members.forget();
         self.table.set_max(serial, max);
     }
 
@@ -120,6 +129,7 @@ impl<T: SubTable> Openings<T> {
     pub fn close(&mut self, serial: u64)
         ensures { self.new ≡ with_closings (serial ∷ []) self.old }
     {
+        self.members.forget();
         if let Some(sub) = self.table.remove(serial) {
             let Subscription { key, .. } = sub;
             self.deltas.push_reserved(Delta { key, up: false });
@@ -134,6 +144,68 @@ impl<T: SubTable> Openings<T> {
         for serial in ended {
             self.close(*serial);
         }
+    }
+
+    /// Tells the table that the subject will be looked up.
+    pub fn remember(&mut self, subject: &Subject)
+        ensures { self.new ≡ self.old }
+    {
+        self.table.remember(subject);
+    }
+
+    /// Notes the members of queue groups that match the subject, where there is memory: [`Openings::members`]
+    /// finds them sooner then.
+    pub fn note_members(&mut self, subject: &Subject)
+        ensures { self.new ≡ self.old }
+    {
+        if self.members.of(subject).is_some() {
+            return;
+        }
+        if let Ok(matching) = self.table.matching(subject) {
+            let _ = self.members.note(subject, &matching);
+        }
+    }
+
+    /// Those that match the subject and may be members of the queue group of this name: all that are, in
+    /// order of opening, and perhaps others.
+    pub fn members(
+        &self,
+        subject: &Subject,
+        name: &QueueName,
+    ) -> Result<Vec<&Subscription>, AllocError>
+        ensures all { IfOk result (λ subs. filter (is_in_group_of name.now) (behind subs.items) ≡ filter (is_in_group_of name.now) (filter (gets subject.now) self.now.subs)) }
+        ensures rising { AreRising self.now.subs }
+    {
+        match self.members.of(subject) {
+            None => self.table.matching(subject),
+            Some(members) => {
+                let subs = self.found(members, mark_of(name.bytes()))?;
+                Ok(subs)
+            }
+        }
+    }
+
+    /// The open ones among the members of this mark, in order.
+    fn found(&self, members: &[Member], mark: u64) -> Result<Vec<&Subscription>, AllocError>
+        ensures { IfOk result (λ subs. behind subs.items ≡ found_of self.now.subs mark members.now) }
+    {
+        let mut subs = Vec::new(self.alloc);
+        for member in members {
+            if let Some(sub) = self.found_at(*member, mark) {
+                subs.push(sub)?;
+            }
+        }
+        Ok(subs)
+    }
+
+    /// The open subscription of a member of this mark.
+    fn found_at(&self, member: Member, mark: u64) -> Option<&Subscription>
+        ensures { option_copied result ≡ at_mark self.now.subs mark member }
+    {
+        if member.mark != mark {
+            return None;
+        }
+        self.table.get(member.serial)
     }
 
     /// The serials of a connection's subscriptions but these, in order of opening.

@@ -5,23 +5,25 @@ ghost use Rattle.std.specs.Option.{option_copied};
 ghost use Rattle.subj.specs.Answers.{IsAnswered, IsDecided};
 ghost use Rattle.subj.specs.Keys.{cost_of};
 ghost use Rattle.sub_table.specs.Subscriptions.{total_cost};
-ghost use Rattle.shard_core.specs.Answers.{answer_of, call_of, HasBegun, IsAnsweredOrBack};
+ghost use Rattle.shard_core.specs.Answers.{answer_of, call_of, HasBegun, IsAnsweredOrBack, TakesBytes};
 ghost use Rattle.outbox.specs.Views.{with_last};
 ghost use Rattle.shard_core.specs.Boxes.{IsSettled, on_both};
-ghost use Rattle.shard_core.specs.Closings.{id_of, left_of, ended_ids};
-ghost use Rattle.shard_core.specs.Held.{DoesStep, IsLeft, Chooses, Stands, settled, kept_for, placed_chosen, ended_by_chosen};
+ghost use Rattle.shard_core.specs.Closings.{left_of, ended_ids};
+ghost use Rattle.shard_core.specs.Held.{DoesStep, IsLeft, Chooses, Stands, settled, serial_told, placed_chosen, ended_by_chosen};
 ghost use Rattle.shard_core.specs.Opened.{AreApart, AreRising, with_closings};
 ghost use Rattle.shard_core.specs.Shards.{new_shard, changed, is_open as opened};
 ghost use Rattle.shard_core.specs.ShardEvents.{Attach, Subscribe, Unsubscribe, Reply, Shut, Detach, Take, Begin, Claim, End, DropJob, Collect, Attached, Unsubscribed, Replied, WasShut, Detached, Taken, Finished, Dropped, Collected};
 ghost use Rattle.shard_core.specs.ShardSteps.{shard_refusal, called as call, ended_now, IsHanded};
 
-use crate::calls::{BeginFault, Begun, Placed, Subscribed};
+mod refusals;
+
+use crate::calls::{BeginFault, Begun, Candidate, Closed, Subscribed};
 use crate::claim::{QueueClaim, choose};
 use crate::connections::Conns;
 use crate::faults::ShardFault;
 use crate::openings::Openings;
-use crate::walk::{Tally, due_entry, is_last, named, place_all};
-use client_frames::{ErrText, MessageLines, ReplyFrame, reply_line};
+use crate::walk::{Tally, is_last, named, place_all};
+use client_frames::{ErrText, ReplyFrame, reply_line};
 use interest::Delta;
 use outbox::{Entry, LAST_LINE_TEXT};
 use std::alloc::{AllocError, Global};
@@ -119,12 +121,23 @@ fn called<T: SubTable>(table: &T, conn: ConnId, sid: &Sid, max: Option<u64>) -> 
     })
 }
 
-/// The name of the subscription of this serial.
-fn named_one(shard: u64, serial: Option<u64>) -> Option<SubId>
-    ensures { result ≡ option_map (id_of shard) serial }
+/// The serial of a candidate.
+fn serial_of(candidate: &Option<Candidate>) -> Option<u64>
+    ensures { result ≡ serial_told candidate.now }
 {
-    let serial = serial?;
-    Some(SubId { shard, serial })
+    match candidate {
+        None => None,
+        Some(candidate) => Some(candidate.sub.serial),
+    }
+}
+
+/// Notes the members for the claims of the job, where there are several.
+fn note_members_for<T: SubTable>(job: &Job, openings: &mut Openings<T>)
+    ensures { openings.new ≡ openings.old }
+{
+    if job.queues.as_slice().len() > 1 {
+        openings.note_members(job.message.subject());
+    }
 }
 
 /// One shard of a server, over any table of subscriptions. (Profile.)
@@ -150,6 +163,8 @@ pub struct Shard<T: SubTable> {
     openings: Openings<T>,
     /// The serial of the candidate that stands, whose entry is staged.
     chosen: Option<u64>,
+    /// The memory of a walk, used again by the next.
+    tally: Tally,
 }
 
 impl<T: SubTable> Model for Shard<T> {
@@ -208,6 +223,7 @@ impl<T: SubTable> Shard<T> {
             conns: Conns::new(alloc),
             openings,
             chosen: None,
+            tally: Tally::new(alloc, shard),
         })
     }
 
@@ -300,14 +316,10 @@ impl<T: SubTable> Shard<T> {
     }
 
     /// Puts an answer for a connection; where there is no room for it the connection is shut with
-    /// 'Slow Consumer' in its place. Gives the subscriptions that closed with it. Refused with
-    /// [`ShardFault::NoConn`] where the connection is not there or shut.
-    pub fn reply(
-        &mut self,
-        conn: ConnId,
-        frame: &ReplyFrame,
-    ) -> Result<Vec<SubId>, Failure<ShardFault>>
-        ensures { IsAnswered (shard_refusal self.old.state (Reply conn frame.now)) (λ ended. DoesStep self.old (Reply conn frame.now) (Replied ended.items) self.new) (IsLeft self.old self.new) result }
+    /// 'Slow Consumer' in its place. Gives whether it was, and the subscriptions that closed with it.
+    /// Refused with [`ShardFault::NoConn`] where the connection is not there or shut.
+    pub fn reply(&mut self, conn: ConnId, frame: &ReplyFrame) -> Result<Closed, Failure<ShardFault>>
+        ensures { IsAnswered (shard_refusal self.old.state (Reply conn frame.now)) (λ closed. DoesStep self.old (Reply conn frame.now) (Replied closed.shut closed.ended.items) self.new) (IsLeft self.old self.new) result }
     {
         drop_candidate(&mut self.conns, &mut self.chosen);
         if !self.conns.is_open(conn) {
@@ -316,12 +328,15 @@ impl<T: SubTable> Shard<T> {
         let line = reply_line(self.alloc, frame)?;
         if self.conns.has_room_for(conn, &line) {
             self.conns.put(conn, Entry::reply(line))?;
-            return Ok(Vec::new(self.alloc));
+            return Ok(Closed {
+                shut: false,
+                ended: Vec::new(self.alloc),
+            });
         }
         let line = ErrText::SlowConsumer.line();
         let (conns, openings) = (&mut self.conns, &mut self.openings);
         let ended = shut_with(self.alloc, self.shard, conns, openings, conn, line)?;
-        Ok(ended)
+        Ok(Closed { shut: true, ended })
     }
 
     /// Shuts a connection with this text: its last line is put, and all its subscriptions close. Gives
@@ -367,6 +382,25 @@ impl<T: SubTable> Shard<T> {
         Ok(entries)
     }
 
+    /// Moves the bytes of the first entries that wait for a connection, or of all where there are fewer,
+    /// behind those that are in `out`, in order, and removes these entries: [`Shard::take`] without
+    /// entries. Gives how many they were. A refusal or want of memory leaves `out` as it was.
+    pub fn take_bytes(
+        &mut self,
+        conn: ConnId,
+        count: usize,
+        out: &mut Vec<u8>,
+    ) -> Result<usize, Failure<ShardFault>>
+        ensures { IsAnswered (shard_refusal self.old.state (Take conn count)) (λ taken. TakesBytes self.old conn count taken out.old.items out.new.items self.new) (IsLeft self.old self.new × (out.new.items ≡ out.old.items)) result }
+    {
+        drop_candidate(&mut self.conns, &mut self.chosen);
+        if !self.conns.is_known(conn) {
+            return Err(Failure::Refused(ShardFault::NoConn));
+        }
+        let taken = self.conns.take_bytes(conn, count, out)?;
+        Ok(taken)
+    }
+
     /// The job in hand.
     pub fn hand(&self) -> Option<&Job>
         ensures { option_copied result ≡ self.now.state.hand }
@@ -377,7 +411,7 @@ impl<T: SubTable> Shard<T> {
     /// Takes a job in hand, and places it for each open plain subscription that matches and is
     /// permitted, in order of serial. A subscription closes with the message that reaches its maximum.
     /// Where an outbox has no room its connection is shut with 'Slow Consumer' and all its subscriptions
-    /// close; what was placed before stands. With `copies` the answer has copies of the entries. Refused,
+    /// close; what was placed before stands. With `copies` the answer has copies of what was put. Refused,
     /// with the job handed back, with [`ShardFault::JobInHand`], and then with [`ShardFault::WrongTurn`]
     /// where the turn is not the one behind the last that was finished.
     pub fn begin(&mut self, job: Job, copies: bool) -> Result<Begun, BeginFault>
@@ -396,8 +430,8 @@ impl<T: SubTable> Shard<T> {
                 cause: Failure::Refused(ShardFault::WrongTurn),
             });
         }
-        let tally = Tally::new(self.alloc, self.shard, copies);
-        let Ok(begun) = place_all(tally, &mut self.conns, &mut self.openings, &job) else {
+        self.tally.start(self.shard, copies);
+        let Ok(begun) = place_all(&mut self.tally, &mut self.conns, &mut self.openings, &job) else {
             return Err(BeginFault {
                 job,
                 cause: Failure::OutOfMemory,
@@ -411,11 +445,15 @@ impl<T: SubTable> Shard<T> {
     /// Tries the queue name of this index of the job in hand, which is the next one. Chooses a member of
     /// the queue group: of those that are open, match, are permitted and have room, in order of serial,
     /// the one at the place of the turn modulo their number. It stands as the candidate of the index,
-    /// with its entry, until the next call. None where there is no such member. Refused with
-    /// [`ShardFault::NoJob`], and with [`ShardFault::BadIndex`] where the index is not the next one.
-    /// (NATS documentation, "Queue Groups".)
-    pub fn candidate(&mut self, index: u64) -> Result<Option<SubId>, Failure<ShardFault>>
-        ensures { IsAnswered (shard_refusal self.old.state (Claim index false)) (λ name. Chooses self.old index name self.new) (IsLeft self.old self.new) result }
+    /// with its entry, until the next call. None where there is no such member. With `copies` the answer
+    /// has a copy of that entry. Refused with [`ShardFault::NoJob`], and with [`ShardFault::BadIndex`]
+    /// where the index is not the next one. (NATS documentation, "Queue Groups".)
+    pub fn candidate(
+        &mut self,
+        index: u64,
+        copies: bool,
+    ) -> Result<Option<Candidate>, Failure<ShardFault>>
+        ensures { IsAnswered (shard_refusal self.old.state (Claim index false)) (λ candidate. Chooses copies self.old index candidate self.new) (IsLeft self.old self.new) result }
     {
         drop_candidate(&mut self.conns, &mut self.chosen);
         let Some(job) = &self.hand else {
@@ -425,36 +463,18 @@ impl<T: SubTable> Shard<T> {
         if index != self.next_index || index >= names.len() as u64 {
             return Err(Failure::Refused(ShardFault::BadIndex));
         }
+        note_members_for(job, &mut self.openings);
         let claim = QueueClaim {
             alloc: self.alloc,
             shard: self.shard,
             job,
             name: &names[index as usize],
+            copies,
         };
-        self.chosen = choose(&claim, &mut self.conns, &self.openings)?;
+        let candidate = choose(&claim, &mut self.conns, &self.openings)?;
+        self.chosen = serial_of(&candidate);
         self.next_index += 1;
-        Ok(named_one(self.shard, self.chosen))
-    }
-
-    /// A copy of the entry that is kept for the candidate, with its connection. None where none stands.
-    pub fn kept_entry(&self) -> Result<Option<Placed>, AllocError>
-        ensures { IfOk result (λ kept. kept ≡ kept_for self.now.state.shard self.now.state.hand self.now.chosen) }
-    {
-        let Some(job) = &self.hand else {
-            return Ok(None);
-        };
-        let Some(serial) = self.chosen else {
-            return Ok(None);
-        };
-        let Some(sub) = self.openings.table().get(serial) else {
-            return Ok(None);
-        };
-        let lines = MessageLines::new(self.alloc, &job.message)?;
-        let entry = due_entry(self.alloc, self.shard, job, &lines, sub)?;
-        Ok(Some(Placed {
-            conn: sub.conn,
-            entry,
-        }))
+        Ok(candidate)
     }
 
     /// The candidate of this index, which the last call gave, gets its entry; it closes if that is the last

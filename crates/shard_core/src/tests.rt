@@ -1,6 +1,6 @@
 //! Examples: a job on its way, echo, one member of a queue group, maxima, and the slow consumer.
 
-use crate::{Begun, Shard, ShardFault, Subscribed};
+use crate::{Begun, Candidate, Shard, ShardFault, Subscribed, claims_are_whole};
 use bytes::Bytes;
 use client_frames::{ErrText, ReplyFrame};
 use std::alloc::Global;
@@ -112,8 +112,8 @@ fn no_echo(rt: &impl Abort, shard: &mut ListShard, alloc: Global) -> Result<(), 
     let other = shard.attach()?;
     open(shard, alloc, publisher, b"", b"1")?;
     open(shard, alloc, other, b"", b"1")?;
-    assert_eq!(rt; work(shard, alloc, 1, None)?.placed.len(), 2);
-    assert_eq!(rt; work(shard, alloc, 2, Some(publisher))?.placed.len(), 1);
+    assert_eq!(rt; work(shard, alloc, 1, None)?.given, 2);
+    assert_eq!(rt; work(shard, alloc, 2, Some(publisher))?.given, 1);
     assert!(rt; is_first(shard, alloc, other, b"MSG foo 1 5\r\nhello\r\n")?);
     Ok(())
 }
@@ -134,6 +134,12 @@ fn group(shard: &mut ListShard, alloc: Global) -> Result<ConnId, Fail> {
     Ok(conn)
 }
 
+/// Whether the candidate is this one, and its entry has these bytes.
+fn is_chosen(candidate: &Candidate, alloc: Global, sub: SubId, bytes: &[u8]) -> Result<bool, Fail> {
+    let placed = candidate.placed.as_ref().ok_or("a copy")?;
+    Ok(candidate.sub == sub && placed.entry.bytes(alloc)?.as_slice() == bytes)
+}
+
 /// The place of turn 1 among three members is the second.
 fn one_is_chosen(rt: &impl Abort, shard: &mut ListShard, alloc: Global) -> Result<(), Fail> {
     let conn = group(shard, alloc)?;
@@ -141,8 +147,14 @@ fn one_is_chosen(rt: &impl Abort, shard: &mut ListShard, alloc: Global) -> Resul
         shard: 1,
         serial: 2,
     };
-    assert_eq!(rt; shard.candidate(0)?, Some(second));
-    assert_eq!(rt; shard.place(0), None);
+    claims_are_whole();
+    match shard.candidate(0, true)? {
+        None => panic!(rt; "there is a candidate"),
+        Some(candidate) => {
+            assert_eq!(rt; shard.place(0), None);
+            assert!(rt; is_chosen(&candidate, alloc, second, b"MSG foo 2 5\r\nhello\r\n")?);
+        }
+    }
     assert!(rt; is_first(shard, alloc, conn, b"MSG foo 2 5\r\nhello\r\n")?);
     assert_eq!(rt; shard.take(conn, 9)?.len(), 0);
     Ok(())
@@ -160,9 +172,9 @@ fn turns_are_refused(rt: &impl Abort, shard: &mut ListShard, alloc: Global) -> R
     let cause = shard.begin(again, true).err().map(|fault| fault.cause);
     assert_eq!(rt; cause, Some(Failure::Refused(ShardFault::JobInHand)));
     assert_eq!(rt; shard.end().err(), Some(ShardFault::NotAllTried));
-    assert!(rt; shard.candidate(0)?.is_some());
+    assert!(rt; shard.candidate(0, false)?.is_some());
     assert_eq!(rt;
-        shard.candidate(0).err(),
+        shard.candidate(0, false).err(),
         Some(Failure::Refused(ShardFault::BadIndex))
     );
     Ok(())
@@ -181,7 +193,7 @@ fn two_are_delivered(rt: &impl Abort, shard: &mut ListShard, alloc: Global) -> R
     assert_eq!(rt; shard.unsubscribe(conn, &sid, Some(2)).ok(), Some(None));
     assert_eq!(rt; work(shard, alloc, 1, None)?.ended.len(), 0);
     assert_eq!(rt; work(shard, alloc, 2, None)?.ended.len(), 1);
-    assert_eq!(rt; work(shard, alloc, 3, None)?.placed.len(), 0);
+    assert_eq!(rt; work(shard, alloc, 3, None)?.given, 0);
     assert_eq!(rt; shard.deltas().len(), 2);
     shard.take_deltas();
     assert_eq!(rt; shard.deltas().len(), 0);
@@ -211,7 +223,7 @@ fn outbox_is_filled(rt: &impl Abort, shard: &mut ListShard, alloc: Global) -> Re
     let conn = shard.attach()?;
     open(shard, alloc, conn, b"", b"1")?;
     for turn in 1..=1_024 {
-        assert_eq!(rt; work(shard, alloc, turn, None)?.placed.len(), 1);
+        assert_eq!(rt; work(shard, alloc, turn, None)?.given, 1);
     }
     assert_eq!(rt; work(shard, alloc, 1_025, None)?.closed.len(), 1);
     assert!(rt; is_last(shard, alloc, conn, 1_025, b"-ERR 'Slow Consumer'\r\n")?);
@@ -242,4 +254,83 @@ fn connection_ends(rt: &impl Abort, shard: &mut ListShard, alloc: Global) -> Res
 fn shut_and_gone(rt: HostRuntime) -> Result<(), Fail> {
     let mut shard: ListShard = Shard::new(rt.alloc(), 2, 3)?;
     connection_ends(&rt, &mut shard, rt.alloc())
+}
+
+/// The key of a pattern of so many bytes.
+fn long_key(alloc: Global, size: usize) -> Result<Key, Fail> {
+    let text = vec![in alloc; b'a'; size]?;
+    let pattern = Pattern::read(alloc, &text)?;
+    Ok(Key {
+        pattern,
+        queue: None,
+    })
+}
+
+/// Opens a subscription to this key, whose id is a number. Gives whether it was refused for a limit.
+fn is_beyond(
+    shard: &mut ListShard,
+    alloc: Global,
+    conn: ConnId,
+    key: Key,
+    number: u64,
+) -> Result<bool, Fail> {
+    let text = format!(in alloc; "{number}")?;
+    let sid = Sid::read(alloc, text.as_bytes())?;
+    match shard.subscribe(conn, key, sid) {
+        Ok(_) => Ok(false),
+        Err(Failure::Refused(ShardFault::TooManySubs)) => Ok(true),
+        Err(_) => Err(Fail::new("another refusal")),
+    }
+}
+
+/// Shard 1 of 8 may count 4,194,304 / 8 bytes, which is 512 times 1,000 with 24 beside them.
+fn bytes_are_kept(rt: &impl Abort, shard: &mut ListShard, alloc: Global) -> Result<(), Fail> {
+    let conn = shard.attach()?;
+    for number in 0..511 {
+        assert!(rt; !is_beyond(shard, alloc, conn, long_key(alloc, 1_000)?, number)?);
+    }
+    assert!(rt; is_beyond(shard, alloc, conn, long_key(alloc, 1_001)?, 511)?);
+    assert!(rt; !is_beyond(shard, alloc, conn, long_key(alloc, 1_000)?, 511)?);
+    assert!(rt; is_beyond(shard, alloc, conn, foo(alloc, b"")?, 512)?);
+    Ok(())
+}
+
+#[test]
+fn share_of_bytes(rt: HostRuntime) -> Result<(), Fail> {
+    let mut shard: ListShard = Shard::new(rt.alloc(), 1, 8)?;
+    bytes_are_kept(&rt, &mut shard, rt.alloc())
+}
+
+/// Shard 1 of 8 may have 65,536 / 8 subscriptions open.
+fn count_is_kept(rt: &impl Abort, shard: &mut ListShard, alloc: Global) -> Result<(), Fail> {
+    let conn = shard.attach()?;
+    for number in 0..8_192 {
+        assert!(rt; !is_beyond(shard, alloc, conn, foo(alloc, b"")?, number)?);
+    }
+    assert!(rt; is_beyond(shard, alloc, conn, foo(alloc, b"")?, 8_192)?);
+    Ok(())
+}
+
+#[test]
+fn share_of_subscriptions(rt: HostRuntime) -> Result<(), Fail> {
+    let mut shard: ListShard = Shard::new(rt.alloc(), 1, 8)?;
+    count_is_kept(&rt, &mut shard, rt.alloc())
+}
+
+/// Behind one answer 1,023 more have room; the next one shuts the connection.
+fn answers_are_counted(rt: &impl Abort, shard: &mut ListShard, alloc: Global) -> Result<(), Fail> {
+    let conn = shard.attach()?;
+    shard.reply(conn, &ReplyFrame::Ok)?;
+    for _ping in 1..1_024 {
+        assert!(rt; !shard.reply(conn, &ReplyFrame::Pong)?.shut);
+    }
+    assert!(rt; shard.reply(conn, &ReplyFrame::Pong)?.shut);
+    assert!(rt; is_last(shard, alloc, conn, 1_025, b"-ERR 'Slow Consumer'\r\n")?);
+    Ok(())
+}
+
+#[test]
+fn too_many_answers(rt: HostRuntime) -> Result<(), Fail> {
+    let mut shard: ListShard = Shard::new(rt.alloc(), 1, 1)?;
+    answers_are_counted(&rt, &mut shard, rt.alloc())
 }

@@ -1,14 +1,15 @@
 //! The walk over the subscriptions that a job is due to.
 
-ghost use Rattle.std.specs.Prelude.{◌≡◌, ◌+◌, ◌<◌, ◌^◌, true, filter, All, IfOk, OnOk, OnErr};
+ghost use Rattle.std.specs.Prelude.{◌≡◌, ℕ, ◌+◌, ◌<◌, ◌^◌, ◌++◌, List, [], Option, None, true, false, filter, length, map, All, IfOk, IsTrue, OnOk, OnErr};
 ghost use Rattle.client_frames.specs.Messages.{line_parts};
-ghost use Rattle.outbox.specs.Views.{with_last};
+ghost use Rattle.outbox.specs.Views.{with_entry, with_last};
 ghost use Rattle.shard_core.specs.Boxes.{IsSettled};
 ghost use Rattle.shard_core.specs.Closings.{ended_ids};
 ghost use Rattle.shard_core.specs.Opened.{AreRising, AreApart};
-ghost use Rattle.shard_core.specs.Owed.{is_due, is_plain, is_permitted, due_entry as entry_due, put_one, walk, walked, reaches, slow_consumer};
-ghost use Rattle.shard_core.specs.Shards.{State, is_open as opened, changed};
-ghost use Rattle.shard_core.specs.Tallies.{Follows, HasPlaced, IsTallied, none_tallied, with_given, with_shut, put_if_due as put_matching};
+ghost use Rattle.shard_core.specs.Owed.{is_due, is_permitted, due_entry as entry_due, put_one, walk, walked, reaches, slow_consumer};
+ghost use Rattle.shard_core.specs.Shards.{State, is_open as opened, changed, client_at, fits};
+ghost use Rattle.shard_core.specs.Puts.{put_line};
+ghost use Rattle.shard_core.specs.Tallies.{behind, is_placed, Follows, HasPlaced, IsStaged, none_tallied, with_given, with_shut, with_lines, put_if_due as put_matching};
 
 use crate::calls::{Begun, Placed};
 use crate::connections::Conns;
@@ -17,6 +18,7 @@ use client_frames::{ErrText, MessageLines};
 use outbox::{Entry, Mode};
 use std::alloc::{AllocError, Global};
 use std::marker::Model;
+use std::mem;
 use sub_table::{SubTable, Subscription};
 use subj::{ConnId, Job, SubId};
 
@@ -25,6 +27,25 @@ pub fn may_get(job: &Job, sub: &Subscription) -> bool
     ensures { result ≡ is_permitted job.now sub.now }
 {
     job.echo || job.publisher != Some(sub.conn)
+}
+
+/// Whether Begin places the job for the subscription, of those that match.
+fn is_due(job: &Job, sub: &Subscription) -> bool
+    ensures { result ≡ is_placed job.now sub.now }
+{
+    sub.key.queue.is_none() && may_get(job, sub)
+}
+
+/// Whether Begin places the job for any of those that match.
+fn any_due(job: &Job, matching: &[&Subscription]) -> bool
+    ensures { result ≡ false → filter (is_placed job.now) (behind matching.now) ≡ [] }
+{
+    for sub in matching {
+        if is_due(job, sub) {
+            return true;
+        }
+    }
+    false
 }
 
 /// The entry that the subscription is owed, in its mode.
@@ -51,6 +72,17 @@ pub fn due_entry(
     Ok(Entry::message(job.id, id, mode, line, payload))
 }
 
+/// The CR LF of a message's line, and that of its payload.
+const ENDS: usize = 4;
+
+/// How many bytes the entry has that the subscription is owed.
+pub fn due_len(job: &Job, lines: &MessageLines, sub: &Subscription) -> usize
+    requires { lines.now ≡ line_parts job.now.message }
+    ensures { (shard : ℕ) (queue : Option (List ℕ)) → result ≡ length (entry_due shard job.now queue sub.now).bytes }
+{
+    lines.line_len(&sub.sid) + job.message.payload().len() + ENDS
+}
+
 /// The names of the subscriptions of these serials.
 pub fn named(alloc: Global, shard: u64, serials: &[u64]) -> Result<Vec<SubId>, AllocError>
     ensures { IfOk result (λ names. names.items ≡ ended_ids shard serials.now) }
@@ -63,6 +95,20 @@ pub fn named(alloc: Global, shard: u64, serials: &[u64]) -> Result<Vec<SubId>, A
         })?;
     }
     Ok(names)
+}
+
+/// Puts the last lines of connections without room behind what is there.
+fn add_lines(alloc: Global, shut: &[ConnId], put: &mut Vec<Placed>) -> Result<(), AllocError>
+    ensures { OnOk result (put.new.items ≡ put.old.items ++ map (put_line slow_consumer) shut.now) }
+{
+    for conn in shut {
+        let line = Vec::from_slice(alloc, ErrText::SlowConsumer.line())?;
+        put.push(Placed {
+            conn: *conn,
+            entry: Entry::reply(line),
+        })?;
+    }
+    Ok(())
 }
 
 /// Whether the message that comes next is the last one of the subscription.
@@ -83,13 +129,15 @@ pub struct Tally {
     shard: u64,
     /// Whether copies of the entries are asked for.
     copies: bool,
-    placed: Vec<Placed>,
+    put: Vec<Placed>,
     /// The subscriptions that got an entry, by their serials.
     given: Vec<u64>,
     /// The connections that were shut.
     shut: Vec<ConnId>,
     /// The subscriptions that close, by their serials.
     ended: Vec<u64>,
+    /// The memory of the line that is put.
+    line: Vec<u8>,
 }
 
 impl Model for Tally {
@@ -100,7 +148,7 @@ impl Model for Tally {
     ghost view = { λ t. record {
       shard = t.shard;
       copies = t.copies;
-      placed = t.placed.items;
+      put = t.put.items;
       given = t.given.items;
       shut = t.shut.items;
       ended = t.ended.items;
@@ -109,28 +157,47 @@ impl Model for Tally {
 
 impl Tally {
     /// Nothing so far.
-    pub fn new(alloc: Global, shard: u64, copies: bool) -> Tally
-        ensures { result ≡ none_tallied shard copies }
+    pub fn new(alloc: Global, shard: u64) -> Tally
+        ensures { result ≡ none_tallied shard false }
     {
         Tally {
             alloc,
             shard,
-            copies,
-            placed: Vec::new(alloc),
+            copies: false,
+            put: Vec::new(alloc),
             given: Vec::new(alloc),
             shut: Vec::new(alloc),
             ended: Vec::new(alloc),
+            line: Vec::new(alloc),
         }
     }
 
-    /// Notes who was given an entry.
-    fn note(&mut self, entry: &Entry, sub: &Subscription) -> Result<(), AllocError>
-        requires { sub.now.delivered + 1 < 2 ^ 64 }
-        ensures { OnOk result (self.new ≡ with_given entry.now sub.now self.old) }
+    /// Another walk starts, in the same memory.
+    pub fn start(&mut self, shard: u64, copies: bool)
+        ensures { self.new ≡ none_tallied shard copies }
+    {
+        self.shard = shard;
+        self.copies = copies;
+        self.put.clear();
+        self.given.clear();
+        self.shut.clear();
+        self.ended.clear();
+    }
+
+    /// Notes who is given an entry.
+    fn note(
+        &mut self,
+        job: &Job,
+        lines: &MessageLines,
+        sub: &Subscription,
+    ) -> Result<(), AllocError>
+        requires lines { lines.now ≡ line_parts job.now.message }
+        requires counts { sub.now.delivered + 1 < 2 ^ 64 }
+        ensures { OnOk result (self.new ≡ with_given (entry_due self.old.shard job.now sub.now.key.queue sub.now) sub.now self.old) }
     {
         if self.copies {
-            let entry = entry.try_clone(self.alloc)?;
-            self.placed.push(Placed {
+            let entry = due_entry(self.alloc, self.shard, job, lines, sub)?;
+            self.put.push(Placed {
                 conn: sub.conn,
                 entry,
             })?;
@@ -138,6 +205,16 @@ impl Tally {
         self.given.push(sub.serial)?;
         if is_last(sub) {
             self.ended.push(sub.serial)?;
+        }
+        Ok(())
+    }
+
+    /// Notes the last lines of the connections that were shut.
+    fn add_last_lines(&mut self) -> Result<(), AllocError>
+        ensures { OnOk result (self.new ≡ with_lines self.old) }
+    {
+        if self.copies {
+            add_lines(self.alloc, &self.shut, &mut self.put)?;
         }
         Ok(())
     }
@@ -161,6 +238,33 @@ impl Tally {
         Ok(())
     }
 
+    /// Gives a subscription without a queue name its entry, for which there is room, unseen.
+    fn give(
+        &mut self,
+        conns: &mut Conns,
+        job: &Job,
+        lines: &MessageLines,
+        sub: &Subscription,
+    ) -> Result<(), AllocError>
+        requires lines { lines.now ≡ line_parts job.now.message }
+        requires plain { sub.now.key.queue ≡ None }
+        requires counts { sub.now.delivered + 1 < 2 ^ 64 }
+        requires room { IsTrue (fits (client_at sub.now.conn conns.old.next) (entry_due self.old.shard job.now None sub.now)) }
+        ensures shown { conns.new.shown ≡ conns.old.shown }
+        ensures conns { OnOk result (conns.new.next ≡ changed (with_entry (entry_due self.old.shard job.now None sub.now)) sub.now.conn conns.old.next) }
+        ensures tally { OnOk result (self.new ≡ with_given (entry_due self.old.shard job.now None sub.now) sub.now self.old) }
+    {
+        self.note(job, lines, sub)?;
+        lines.write_line(&sub.sid, &mut self.line)?;
+        let id = SubId {
+            shard: self.shard,
+            serial: sub.serial,
+        };
+        let payload = job.message.payload();
+        conns.stage_message(sub.conn, job.id, id, Mode::Plain, &self.line, payload)?;
+        Ok(())
+    }
+
     /// One step of the walk, unseen.
     fn put<T: SubTable>(
         &mut self,
@@ -171,7 +275,7 @@ impl Tally {
         sub: &Subscription,
     ) -> Result<(), AllocError>
         requires lines { lines.now ≡ line_parts job.now.message }
-        requires plain { is_plain sub.now ≡ true }
+        requires plain { sub.now.key.queue ≡ None }
         requires counts { sub.now.delivered + 1 < 2 ^ 64 }
         ensures shown { conns.new.shown ≡ conns.old.shown }
         ensures ok { OnOk result (Follows openings.now.subs job.now (λ s w. put_one s job.now w sub.now) conns.old.next self.old conns.new.next self.new) }
@@ -179,12 +283,11 @@ impl Tally {
         if !conns.stays_open(sub.conn) {
             return Ok(());
         }
-        let entry = due_entry(self.alloc, self.shard, job, lines, sub)?;
-        if !conns.has_room(sub.conn, &entry) {
-            return self.shut(conns, openings, sub.conn);
+        if !conns.has_room(sub.conn, due_len(job, lines, sub)) {
+            self.shut(conns, openings, sub.conn)?;
+            return Ok(());
         }
-        self.note(&entry, sub)?;
-        conns.stage(sub.conn, entry)?;
+        self.give(conns, job, lines, sub)?;
         Ok(())
     }
 
@@ -202,7 +305,7 @@ impl Tally {
         ensures shown { conns.new.shown ≡ conns.old.shown }
         ensures ok { OnOk result (Follows openings.now.subs job.now (λ s w. put_matching s job.now w sub.now) conns.old.next self.old conns.new.next self.new) }
     {
-        if sub.key.queue.is_some() || !may_get(job, sub) {
+        if !is_due(job, sub) {
             return Ok(());
         }
         self.put(conns, openings, job, lines, sub)
@@ -220,8 +323,11 @@ impl Tally {
         ensures rising { OnOk result (AreRising openings.now.subs) }
         ensures ok { OnOk result (Follows openings.now.subs job.now (λ s w. walk s job.now (filter (is_due job.now) s.subs) w) conns.old.next self.old conns.new.next self.new) }
     {
-        let lines = MessageLines::new(self.alloc, &job.message)?;
         let matching = openings.table().matching(job.message.subject())?;
+        if !any_due(job, &matching) {
+            return Ok(());
+        }
+        let lines = MessageLines::new(self.alloc, &job.message)?;
         for sub in &matching {
             self.put_if_due(conns, openings, job, &lines, sub)?;
         }
@@ -233,40 +339,36 @@ impl Tally {
 /// that have come to their maximum and those of the connections that were shut. Want of memory leaves all
 /// as it was.
 pub fn place_all<T: SubTable>(
-    tally: Tally,
+    tally: &mut Tally,
     conns: &mut Conns,
     openings: &mut Openings<T>,
     job: &Job,
 ) -> Result<Begun, AllocError>
-    requires fresh { tally ≡ none_tallied tally.shard tally.copies }
+    requires fresh { tally.old ≡ none_tallied tally.old.shard tally.old.copies }
     requires settled { IsSettled conns.old }
     requires counts { All (λ sub. sub.delivered + 1 < 2 ^ 64) openings.old.subs }
-    ensures ok { IfOk result (λ begun. (s : State) → s.shard ≡ tally.shard → s.subs ≡ openings.old.subs → s.clients ≡ conns.old.shown → HasPlaced tally.copies s job.now openings.old begun conns.new openings.new) }
+    ensures ok { IfOk result (λ begun. (s : State) → s.shard ≡ tally.old.shard → s.subs ≡ openings.old.subs → s.clients ≡ conns.old.shown → HasPlaced tally.old.copies s job.now openings.old begun conns.new openings.new) }
     ensures err { OnErr result ((conns.new ≡ conns.old) × (openings.new ≡ openings.old)) }
 {
-    let mut tally = tally;
-    let Ok(ended) = stage(&mut tally, conns, openings, job) else {
+    openings.remember(job.message.subject());
+    let Ok(ended) = stage(tally, conns, openings, job) else {
         conns.rollback();
         return Err(AllocError);
     };
     conns.commit();
-    let Tally {
-        placed,
-        given,
-        shut,
-        ended: serials,
-        ..
-    } = tally;
-    openings.count_all(&given);
-    openings.close_all(&serials);
+    openings.count_all(&tally.given);
+    openings.close_all(&tally.ended);
+    let put = mem::replace(&mut tally.put, Vec::new(tally.alloc));
+    let closed = mem::replace(&mut tally.shut, Vec::new(tally.alloc));
     Ok(Begun {
-        placed,
-        closed: shut,
+        given: tally.given.len(),
+        put,
+        closed,
         ended,
     })
 }
 
-/// The whole walk, unseen, and the names of those that close.
+/// The whole walk of a job, unseen, and the names of those that close.
 fn stage<T: SubTable>(
     tally: &mut Tally,
     conns: &mut Conns,
@@ -277,12 +379,13 @@ fn stage<T: SubTable>(
     requires settled { IsSettled conns.old }
     requires counts { All (λ sub. sub.delivered + 1 < 2 ^ 64) openings.now.subs }
     ensures shown { conns.new.shown ≡ conns.old.shown }
-    ensures ok { IfOk result (λ ended. (s : State) → s.shard ≡ tally.old.shard → s.subs ≡ openings.now.subs → s.clients ≡ conns.old.shown → IsTallied tally.old.copies s job.now (walked s job.now) conns.new.next tally.new) }
+    ensures ok { IfOk result (λ ended. (s : State) → s.shard ≡ tally.old.shard → s.subs ≡ openings.now.subs → s.clients ≡ conns.old.shown → IsStaged tally.old.copies s job.now conns.new.next tally.new) }
     ensures ended { IfOk result (λ ended. ended.items ≡ ended_ids tally.old.shard tally.new.ended) }
     ensures given_apart { IfOk result (λ ended. AreApart tally.new.given) }
     ensures ended_apart { IfOk result (λ ended. AreApart tally.new.ended) }
 {
     tally.walk(conns, openings, job)?;
+    tally.add_last_lines()?;
     let ended = named(tally.alloc, tally.shard, &tally.ended)?;
     Ok(ended)
 }

@@ -3,7 +3,8 @@ use Rattle.std.specs.Prelude.{vec_capacity}
 use Rattle.interest.specs.declared.changes.Delta.{Delta}
 use Rattle.list_laws.proofs.Changes.{append_nil}
 use Rattle.shard_core.specs.Closings.{closings_of}
-use Rattle.shard_core.specs.Opened.{AreRising, IsOpened, with_closings}
+use Rattle.shard_core.specs.Opened.{AreRising, with_closings}
+use Rattle.shard_core.proofs.Groups.{forgotten}
 use Rattle.shard_core.proofs.Opened.{opened_same, rising_left, rest_is, closes_none, closes_one}
 use Rattle.shard_core.proofs.openings.Openings.close.Goals as goal
 
@@ -19,6 +20,7 @@ invariant_of-self g c =
     let places = c.self.invariant.places in
     record {
       rising = subst AreRising (sym left) (rising_left (c.args.serial ∷ []) us rising);
+      noted = c.forget.ensures (g.T.SubTable.contents c.remove.new.self);
       places = omega arith;
     }
 
@@ -27,7 +29,7 @@ invariant_of-self-in_default g c =
     let us = g.T.SubTable.contents c.self.inside.table in
     let none = closes_none c.args.serial us (sym c.in_default.ensures.closed) in
     let same = c.in_default.ensures.rest ∙ rest_is c.args.serial us c.self.invariant.rising ∙ none.0 in
-    subst (λ l. IsOpened l c.self.inside.deltas.items (vec_capacity c.self.inside.deltas)) (sym same) c.self.invariant
+    forgotten us (g.T.SubTable.contents c.remove.new.self) c.self.inside.deltas.items (vec_capacity c.self.inside.deltas) c.self.inside.members c.forget.new.self same c.forget.ensures c.self.invariant
 
 pub returns-in-Some : goal.returns-in-Some
 returns-in-Some g c =

@@ -16,5 +16,9 @@ invariant_of-self-2 g c =
     let many_open : c.len.result ≡ length us = c.len.ensures in
     record {
       rising = subst AreRising (sym added) (rising_push us c.args.sub c.self.invariant.rising next);
+      noted = c.forget.ensures (g.T.SubTable.contents c.add.new.self);
       places = omega arith;
     }
+
+pub add-requires : goal.add-requires
+add-requires g c = subst (λ (o : Opened). IsNext c.args.sub.serial o.subs) (sym c.self.view_is) c.requires

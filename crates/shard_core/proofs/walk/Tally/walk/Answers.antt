@@ -5,7 +5,7 @@ use Rattle.std.specs.Prelude.{filter}
 use Rattle.sub_table.specs.Subscriptions.{gets}
 use Rattle.sub_table.specs.declared.Subscription.{Subscription}
 use Rattle.shard_core.specs.Tallies.{Follows, put_if_due, walk_matching, behind}
-use Rattle.shard_core.proofs.TallySteps.{holds_of_each, walk_on, walk_whole}
+use Rattle.shard_core.proofs.TallySteps.{holds_of_each, walk_on, walk_of_none, walk_whole}
 use Rattle.shard_core.proofs.walk.Tally.walk.Goals as goal
 
 pub put_if_due-requires-clause-counts : goal.put_if_due-requires-clause-counts
@@ -33,3 +33,11 @@ returns-clause-ok g c =
     let looks = ap behind c.deref-sub-items.ensures.value ∙ c.in_ok-matching.ensures ∙ ap (λ (l : List Subscription). filter (gets c.subject.result.now) l) c.table.ensures.subs ∙ ap (λ t. filter (gets t) subs) c.subject.ensures in
     walk_whole subs job items _ _ _ _ looks
     (subst (λ (l : List (Bor Subscription)). Follows subs job (λ s w. walk_matching s job (behind l) w) c.args.conns.now.next c.args.self.now c.loop-sub.conns.next c.loop-sub.self) (take_all c.loop-sub.sub-index items c.loop-sub-test.false) c.loop-sub.invariant.so_far)
+
+pub returns-then-not-any_due-clause-ok : goal.returns-then-not-any_due-clause-ok
+returns-then-not-any_due-clause-ok g c =
+    let subs = c.args.openings.now.subs in
+    let job = c.args.job.now in
+    let items = c.deref.result.now in
+    let looks = ap behind c.deref.ensures.value ∙ c.in_ok-matching.ensures ∙ ap (λ (l : List Subscription). filter (gets c.subject.result.now) l) c.table.ensures.subs ∙ ap (λ t. filter (gets t) subs) c.subject.ensures in
+    walk_whole subs job items _ _ _ _ looks (walk_of_none subs job items c.args.conns.now.next c.args.self.now (c.any_due.ensures c.if-not-any_due.true))

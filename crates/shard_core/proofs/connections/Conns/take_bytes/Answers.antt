@@ -1,0 +1,91 @@
+use Rattle.std.proofs.Common.{take, ◌≡◌, ◌==◌, ◌<◌, ◌++◌, List, [], length, map, append-nil, Some, ap, sym, ◌∙◌, arith}
+use Rattle.std.specs.Prelude.{position, slice_set}
+use Rattle.std.proofs.lemmas.List.{take_all}
+use Rattle.std.proofs.lemmas.List.Quantifiers.{position-Some}
+use Rattle.outbox.specs.Views.{Waiting, Written, bytes_of_all, without_first}
+use Rattle.shard_core.specs.declared.connections.Conn.{Conn}
+use Rattle.shard_core.specs.Boxes.{Clients, seen, shown_shelf, next_shelf}
+use Rattle.shard_core.specs.Shards.{entries_of, waits_for, changed}
+use Rattle.shard_core.proofs.Lookups.{client_none, changed_none, waits_is, changed_is, settled_box}
+use Rattle.shard_core.proofs.ConnStaging.{conns_settled}
+use Rattle.shard_core.proofs.connections.Conns.take_bytes.Goals as goal
+
+pub take_bytes-requires : goal.take_bytes-requires
+take_bytes-requires c =
+    let conns = c.self.inside.conns.items in
+    let n = c.args.conn in
+    let i = c.in-Some.place in
+    let x = c.index_mut-conn.result.now in
+    let is = c.index_mut-conn.ensures.value in
+    let at : position (λ (y : Conn). y.number == n) conns ≡ Some i = sym c.place_in.ensures ∙ c.in-Some.is in
+    let settled : map (seen next_shelf) conns ≡ map (seen shown_shelf) conns = ap (λ (l : Clients). l.next) c.self.view_is ∙ c.requires ∙ sym (ap (λ (l : Clients). l.shown) c.self.view_is) in
+    let alone = settled_box n conns i x at is settled in
+    alone
+
+pub invariant_of-self-in-Some : goal.invariant_of-self-in-Some
+invariant_of-self-in-Some c =
+    let conns = c.self.inside.conns.items in
+    let n = c.args.conn in
+    let i = c.in-Some.place in
+    let x = c.index_mut-conn.result.now in
+    let is = c.index_mut-conn.ensures.value in
+    let at : position (λ (y : Conn). y.number == n) conns ≡ Some i = sym c.place_in.ensures ∙ c.in-Some.is in
+    let settled : map (seen next_shelf) conns ≡ map (seen shown_shelf) conns = ap (λ (l : Clients). l.next) c.self.view_is ∙ c.requires ∙ sym (ap (λ (l : Clients). l.shown) c.self.view_is) in
+    let alone = settled_box n conns i x at is settled in
+    let there : i < length conns = (position-Some (λ (y : Conn). y.number == n) conns i x at).0 in
+    conns_settled c.self.inside.places.items conns i x c.take_bytes.new.self is there (ap (λ (b : Waiting). b.next) c.in_ok-taken-in-Some.ensures.ok ∙ ap (without_first c.args.count) alone ∙ sym (ap (λ (b : Waiting). b.shown) c.in_ok-taken-in-Some.ensures.ok)) c.self.invariant
+
+pub returns-in-None-clause-taken : goal.returns-in-None-clause-taken
+returns-in-None-clause-taken c =
+    let none = sym c.place_in.ensures ∙ c.in-None.is in
+    let nothing : take c.args.count (waits_for c.args.conn c.args.self.now.shown) ≡ [] = sym (ap (λ (l : Clients). take c.args.count (waits_for c.args.conn l.shown)) c.self.view_is) ∙ ap (λ o. take c.args.count (entries_of o)) (client_none shown_shelf c.args.conn c.self.inside.conns.items none) ∙ take_all c.args.count [] (omega arith) in
+    sym (ap length nothing)
+
+pub returns-in-None-clause-bytes : goal.returns-in-None-clause-bytes
+returns-in-None-clause-bytes c =
+    let none = sym c.place_in.ensures ∙ c.in-None.is in
+    let nothing : take c.args.count (waits_for c.args.conn c.args.self.now.shown) ≡ [] = sym (ap (λ (l : Clients). take c.args.count (waits_for c.args.conn l.shown)) c.self.view_is) ∙ ap (λ o. take c.args.count (entries_of o)) (client_none shown_shelf c.args.conn c.self.inside.conns.items none) ∙ take_all c.args.count [] (omega arith) in
+    sym (append-nil c.args.out.now.items) ∙ sym (ap (λ (es : List Written). c.args.out.now.items ++ bytes_of_all es) nothing)
+
+pub returns-in_ok-taken-in-Some-clause-taken : goal.returns-in_ok-taken-in-Some-clause-taken
+returns-in_ok-taken-in-Some-clause-taken c =
+    let conns = c.self.inside.conns.items in
+    let n = c.args.conn in
+    let i = c.in-Some.place in
+    let x = c.index_mut-conn.result.now in
+    let is = c.index_mut-conn.ensures.value in
+    let at : position (λ (y : Conn). y.number == n) conns ≡ Some i = sym c.place_in.ensures ∙ c.in-Some.is in
+    c.in_ok-taken-in-Some.ensures.taken ∙ ap (λ (es : List Written). length (take c.args.count es)) (sym (waits_is shown_shelf n conns i x at is) ∙ ap (λ (l : Clients). waits_for n l.shown) c.self.view_is)
+
+pub returns-in_ok-taken-in-Some-clause-bytes : goal.returns-in_ok-taken-in-Some-clause-bytes
+returns-in_ok-taken-in-Some-clause-bytes c =
+    let conns = c.self.inside.conns.items in
+    let n = c.args.conn in
+    let i = c.in-Some.place in
+    let x = c.index_mut-conn.result.now in
+    let is = c.index_mut-conn.ensures.value in
+    let at : position (λ (y : Conn). y.number == n) conns ≡ Some i = sym c.place_in.ensures ∙ c.in-Some.is in
+    c.in_ok-taken-in-Some.ensures.bytes ∙ ap (λ (es : List Written). c.args.out.now.items ++ bytes_of_all (take c.args.count es)) (sym (waits_is shown_shelf n conns i x at is) ∙ ap (λ (l : Clients). waits_for n l.shown) c.self.view_is)
+
+pub returns-in_ok-taken-in-Some-clause-ok : goal.returns-in_ok-taken-in-Some-clause-ok
+returns-in_ok-taken-in-Some-clause-ok c =
+    let conns = c.self.inside.conns.items in
+    let n = c.args.conn in
+    let i = c.in-Some.place in
+    let x = c.index_mut-conn.result.now in
+    let is = c.index_mut-conn.ensures.value in
+    let at : position (λ (y : Conn). y.number == n) conns ≡ Some i = sym c.place_in.ensures ∙ c.in-Some.is in
+    let change = without_first c.args.count in
+    let shown : map (seen shown_shelf) (slice_set conns i (record { number = x.number; outbox = c.take_bytes.new.self })) ≡ changed change n c.args.self.now.shown = changed_is shown_shelf n conns i x at is change c.take_bytes.new.self (ap (λ (b : Waiting). seen shown_shelf (record { number = x.number; outbox = b })) c.in_ok-taken-in-Some.ensures.ok) ∙ ap (λ (l : Clients). changed change n l.shown) c.self.view_is in
+    let next : map (seen next_shelf) (slice_set conns i (record { number = x.number; outbox = c.take_bytes.new.self })) ≡ changed change n c.args.self.now.next = changed_is next_shelf n conns i x at is change c.take_bytes.new.self (ap (λ (b : Waiting). seen next_shelf (record { number = x.number; outbox = b })) c.in_ok-taken-in-Some.ensures.ok) ∙ ap (λ (l : Clients). changed change n l.next) c.self.view_is in
+    λ k. record { shown = shown k; next = next k }
+
+pub returns-in-None-clause-ok : goal.returns-in-None-clause-ok
+returns-in-None-clause-ok c =
+    let conns = c.self.inside.conns.items in
+    let n = c.args.conn in
+    let change = without_first c.args.count in
+    let none = sym c.place_in.ensures ∙ c.in-None.is in
+    let shown : c.args.self.now.shown ≡ changed change n c.args.self.now.shown = ap (λ (l : Clients). l.shown) (sym c.self.view_is) ∙ sym (changed_none shown_shelf n change conns none) ∙ ap (λ (l : Clients). changed change n l.shown) c.self.view_is in
+    let next : c.args.self.now.next ≡ changed change n c.args.self.now.next = ap (λ (l : Clients). l.next) (sym c.self.view_is) ∙ sym (changed_none next_shelf n change conns none) ∙ ap (λ (l : Clients). changed change n l.next) c.self.view_is in
+    λ k. record { shown = shown k; next = next k }

@@ -1,0 +1,5 @@
+use Rattle.shard_core.proofs.Causes.{closings_are_told}
+use Rattle.shard_core.proofs.laws.closings_are_told.Goals as goal
+
+pub returns : goal.returns
+returns start = closings_are_told

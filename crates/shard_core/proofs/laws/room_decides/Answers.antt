@@ -1,0 +1,5 @@
+use Rattle.shard_core.proofs.Leaving.{room_decides}
+use Rattle.shard_core.proofs.laws.room_decides.Goals as goal
+
+pub returns : goal.returns
+returns start = room_decides

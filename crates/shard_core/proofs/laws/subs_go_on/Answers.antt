@@ -1,0 +1,5 @@
+use Rattle.shard_core.proofs.Causes.{subs_go_on}
+use Rattle.shard_core.proofs.laws.subs_go_on.Goals as goal
+
+pub returns : goal.returns
+returns start = subs_go_on

@@ -1,0 +1,5 @@
+use Rattle.shard_core.proofs.Causes.{subs_stay_held}
+use Rattle.shard_core.proofs.laws.subs_stay_held.Goals as goal
+
+pub returns : goal.returns
+returns start = subs_stay_held
