@@ -285,6 +285,10 @@ zeros : (f : ShardPart → ℕ) → ((s : ℕ) → f (newcomer s) ≡ 0) → (s 
 zeros f none s zero = refl
 zeros f none s (suc n) = λ j. none s j ∷ zeros f none (suc s) n j
 
+no_wins : (s n : ℕ) → wins_in (newcomers s n) ≡ []
+no_wins s zero = refl
+no_wins s (suc n) = no_wins (suc s) n
+
 pub begins : {S : Type 0} (m : Me S View) (shards : ℕ) → m ≡ (everyone shards, []) → IsWhole m × (m.0.count ≡ shards) × IsNew shards (shown m)
 begins m shards e = (
   subst IsWhole (sym e) ((newcomers_length 1 shards, (λ s p at. ap (λ (p : ShardPart). p.shard) (is_new 0 0 0 shards s p at))), refl, refl),
@@ -293,6 +297,7 @@ begins m shards e = (
     issued = refl;
     finished = zeros (λ (p : ShardPart). p.finished) (λ s. refl) 1 shards;
     next = zeros (λ (p : ShardPart). p.next) (λ s. refl) 1 shards;
+    won = no_wins 1 shards;
   }),
 )
 

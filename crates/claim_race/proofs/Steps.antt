@@ -1,5 +1,5 @@
 -- What each call does to the table and to what the race shows.
-use Rattle.std.proofs.Common.{◌≡◌, ◌≢◌, ℕ, zero, suc, ◌∷◌, ◌+◌, ◌-◌, ◌*◌, ◌%◌, ◌<◌, ◌≤◌, true, false, ◌&&◌, cond, List, length, map, get_or, set, Option, Some, None, refl, ap, sym, ◌∙◌, subst, arith, ◌⊎◌, inl, inr, lit<, length-set, get_or-set_same, get_or-set_other}
+use Rattle.std.proofs.Common.{◌≡◌, ◌≢◌, ℕ, zero, suc, [], ◌∷◌, ◌+◌, ◌-◌, ◌*◌, ◌%◌, ◌<◌, ◌≤◌, true, false, ◌&&◌, cond, List, length, map, get_or, set, Option, Some, None, refl, ap, sym, ◌∙◌, subst, arith, ◌⊎◌, inl, inr, lit<, length-set, get_or-set_same, get_or-set_other}
 use Rattle.std.specs.Prelude.{nat_eq, nat_lt, is_none, replicate}
 use Rattle.std.proofs.lemmas.Bool.Decides.{nat_tests}
 use Rattle.std.proofs.lemmas.List.{map-set, set-get_or, get_or-map, length-replicate}
@@ -8,7 +8,7 @@ use Rattle.subj.specs.declared.limits.TheConstants.{WINDOW, MAX_QUEUE_NAMES}
 use Rattle.claim_race.specs.declared.plain_race.Progress.{Progress}
 use Rattle.claim_race.specs.declared.plain_race.Claimed.{Claimed}
 use Rattle.claim_race.specs.Race.{winner, IsNew, busy_of, IsInTurn, IsNextIndex, IsIssued, IsClaimed, IsFinished}
-use Rattle.claim_race.specs.PlainRace.{cell, finished_in, next_in, is_of_turn, shown, IsTable}
+use Rattle.claim_race.specs.PlainRace.{cell, wins_in, finished_in, next_in, is_of_turn, shown, IsTable}
 use Rattle.claim_race.proofs.Behind.{room}
 use Rattle.claim_race.proofs.Turns.{one_turn, same_index, same_row, place_below}
 use Rattle.claim_race.proofs.Table.{holds, winner_in, told, holds_it, nobody, somebody, unchanged, elsewhere}
@@ -207,11 +207,12 @@ same_starts : {A : Type 0} (f : A → ℕ) (n : ℕ) (x : A) → f x ≡ 0 → m
 same_starts f zero x is = refl
 same_starts f (suc n) x is = ap (λ y. y ∷ map f (replicate n x)) is ∙ ap (λ ys. 0 ∷ ys) (same_starts f n x is)
 
-pub begins : (shards issued : ℕ) (progress : List Progress) (table : List (Option Claimed)) (start : Progress) → issued ≡ 0 → progress ≡ replicate shards start → start.finished ≡ 0 → start.next ≡ 0 → IsNew shards (shown issued progress table)
-begins shards issued progress table start issued_is progress_is finished_is next_is = record {
+pub begins : (shards issued : ℕ) (progress : List Progress) (table : List (Option Claimed)) (start : Progress) → issued ≡ 0 → progress ≡ replicate shards start → start.finished ≡ 0 → start.next ≡ 0 → wins_in table ≡ [] → IsNew shards (shown issued progress table)
+begins shards issued progress table start issued_is progress_is finished_is next_is none_won = record {
   issued = issued_is;
   finished = ap finished_in progress_is ∙ same_starts (λ (shard : Progress). shard.finished) shards start finished_is;
   next = ap next_in progress_is ∙ same_starts (λ (shard : Progress). shard.next) shards start next_is;
+  won = none_won;
 }
 
 pub turn_is : (most issued turn : ℕ) → cond (nat_lt most (issued + 1)) None (Some (issued + 1)) ≡ Some turn → turn ≡ issued + 1
@@ -221,6 +222,11 @@ nothing_at : (size place : ℕ) → get_or (replicate size (let free : Option Cl
 nothing_at zero place = refl
 nothing_at (suc size) zero = refl
 nothing_at (suc size) (suc place) = nothing_at size place
+
+-- nothing is won there
+pub none_won : (size : ℕ) → wins_in (replicate size None) ≡ []
+none_won zero = refl
+none_won (suc size) = none_won size
 
 -- the table at the start
 pub starts : (size issued : ℕ) (finished : List ℕ) (table : List (Option Claimed)) → issued ≡ 0 → table ≡ replicate size None → size ≡ WINDOW * MAX_QUEUE_NAMES → IsTable issued finished table

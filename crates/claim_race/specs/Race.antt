@@ -1,5 +1,5 @@
 -- Claims won: of each pair of a turn and an index at most one shard wins, over the window of the newest turns issued (profile).
-use Rattle.std.specs.Prelude.{◌≡◌, ℕ, ◌+◌, ◌-◌, ◌<◌, ◌≤◌, Bool, ◌&&◌, nat_eq, nat_lt, is_none, List, length, find, position, replicate, slice_index, slice_set, Option, Some, None, if◌then◌else◌}
+use Rattle.std.specs.Prelude.{◌≡◌, ℕ, ◌+◌, ◌-◌, ◌<◌, ◌≤◌, Bool, ◌&&◌, nat_eq, nat_lt, is_none, List, [], length, find, position, replicate, slice_index, slice_set, Option, Some, None, if◌then◌else◌}
 use Rattle.std.specs.Option.{option_map}
 use Rattle.subj.specs.declared.limits.TheConstants.{WINDOW, MAX_QUEUE_NAMES}
 use Rattle.subj.specs.declared.turns.Busy.{Busy}
@@ -37,11 +37,12 @@ winner race turn index = option_map (λ win. win.shard) (find (is_of_pair turn i
 pub record KeepsWinners (old new : RaceState) : Type 0 where
   pub winners : (turn index : ℕ) → new.issued < turn + WINDOW → winner new turn index ≡ winner old turn index
 
--- a race at its start
+-- a race at its start: no turn is issued, and nothing is won
 pub record IsNew (shards : ℕ) (race : RaceState) : Type 0 where
   pub issued : race.issued ≡ 0
   pub finished : race.finished ≡ replicate shards 0
   pub next : race.next ≡ replicate shards 0
+  pub won : race.won ≡ []
 
 -- the shard is one of the race, and the turn behind the last that it finished is issued
 pub record IsInTurn (race : RaceState) (shard turn : ℕ) : Type 0 where
