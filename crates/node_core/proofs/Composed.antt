@@ -16,22 +16,25 @@ use Rattle.route_session.specs.Calls as calls
 use Rattle.route_session.specs.Events as of_session
 use Rattle.route_session.specs.State as sessions
 use Rattle.route_session.specs.State.{peer_of_session}
-use Rattle.node_core.specs.declared.faults.NodeFault.TheVariants as hub_fault
+use Rattle.node_law.specs.declared.faults.NodeFault.TheVariants as hub_fault
 use Rattle.subj.specs.Answers.{IsAnswered, IsDecided}
 use Rattle.subj.specs.declared.failures.Failure.{Failure}
 use Rattle.subj.specs.declared.failures.Failure.TheVariants.{Refused, OutOfMemory}
 use Rattle.shard_core.specs.ShardEvents as of_shard
-use Rattle.node_core.specs.declared.faults.NodeFault.{NodeFault}
-use Rattle.node_core.specs.Events.{ConnEvent, ShardWork, End, DropJob, NodeEvent, Own, OfConn, AtShard, CutSession, TakeFrames}
-use Rattle.node_core.specs.State.{Line, Node}
-use Rattle.node_core.specs.Steps.{conn_place, conn_line, shard_line, conn_event, work_event, conn_refusal, event_refusal, work_refusal, WorkRace, line_after, line_after_if, set_line, cut_if}
+use Rattle.node_law.specs.declared.faults.NodeFault.{NodeFault}
+use Rattle.node_law.specs.Events.{NodeEvent, Own, OfConn, AtShard, CutSession, TakeFrames}
+use Rattle.node_law.specs.declared.events.ConnEvent.{ConnEvent}
+use Rattle.node_law.specs.declared.events.ShardWork.{ShardWork}
+use Rattle.node_law.specs.declared.events.ShardWork.TheVariants.{End, DropJob}
+use Rattle.node_law.specs.State.{Line, Node}
+use Rattle.node_law.specs.Steps.{conn_place, conn_line, shard_line, conn_event, work_event, conn_refusal, event_refusal, work_refusal, WorkRace, line_after, line_after_if, set_line, cut_if}
 use Rattle.node_core.specs.Served.{Served, LineStep, LineEnds, LineDrops, DropStep, WaitsNext, dropped_job, dropped_turn, DoesStep, ConnStep, WorkStep, work_answer, IsKept, seen, refusal, answer_at, place_of_conn, place_of_shard}
 use Rattle.subj.specs.declared.jobs.Job.{Job}
 use Rattle.subj.specs.declared.limits.TheConstants.{WINDOW}
 use Rattle.shard_core.specs.Lines.{SoundLine, Turns, begun_turn, first_of}
-use Rattle.node_core.proofs.LineEvents.{found}
-use Rattle.node_core.proofs.NodeMoves.{stays_sound}
-use Rattle.node_core.proofs.Raced.{stays_raced, next_turn}
+use Rattle.node_law.proofs.LineEvents.{found}
+use Rattle.node_law.proofs.NodeMoves.{stays_sound}
+use Rattle.node_law.proofs.Raced.{next_turn}
 
 -- ---- what always holds stays
 
@@ -42,7 +45,6 @@ step_keeps old e won new kept does =
       some = kept.some;
       few = kept.few;
       sound = stays_sound old.server old.node e won does.race new.node kept.listed kept.sound does.step;
-      raced = stays_raced old.server old.node e won does.race new.node kept.sound kept.raced does.step;
     })
 
 pub same_keeps : (old new : Served) → IsKept old → new ≡ old → IsKept new
@@ -329,7 +331,7 @@ held_turn s shard place turn line kept p held = go line.shard.hand refl held
     sound = (kept.sound.lines place line here).sound
 
     finished : finished_of s.node.race shard ≡ line.shard.finished
-    finished = ap (λ q. slice_index s.node.race.finished q) p.at ∙ ap (λ t. slice_index t place) kept.raced.finished ∙ index_map (λ (l : Line). l.shard.finished) s.node.lines place line here
+    finished = ap (λ q. slice_index s.node.race.finished q) p.at ∙ ap (λ t. slice_index t place) kept.sound.raced.finished ∙ index_map (λ (l : Line). l.shard.finished) s.node.lines place line here
 
     go : (hand : Option Job) → line.shard.hand ≡ hand → option_map (λ (job : Job). job.turn) hand ≡ Some turn → (turn ≡ line.shard.finished + 1) × IsInTurn s.node.race shard turn
     go None is e = absurd (none-some turn e)
@@ -337,7 +339,7 @@ held_turn s shard place turn line kept p held = go line.shard.hand refl held
         let t = same_Some job.turn turn e in
         let next = sound.hand job is in
         let most = turns_most (suc line.shard.finished) s.node.race.issued line.waiting (subst (λ h. Turns (begun_turn h line.shard.finished) line.waiting s.node.race.issued) is sound.turns) in
-        let size = ap length kept.raced.finished ∙ map_length (λ (l : Line). l.shard.finished) s.node.lines in
+        let size = ap length kept.sound.raced.finished ∙ map_length (λ (l : Line). l.shard.finished) s.node.lines in
         let last = p.last in
         let at = finished in
         (omega arith, record { first = p.first; last = omega arith; behind = omega arith; issued = omega arith })
@@ -361,7 +363,7 @@ dropped_held s shard place turn line kept p held = go line.shard.hand refl held
     sound = (kept.sound.lines place line here).sound
 
     finished : finished_of s.node.race shard ≡ line.shard.finished
-    finished = ap (λ q. slice_index s.node.race.finished q) p.at ∙ ap (λ t. slice_index t place) kept.raced.finished ∙ index_map (λ (l : Line). l.shard.finished) s.node.lines place line here
+    finished = ap (λ q. slice_index s.node.race.finished q) p.at ∙ ap (λ t. slice_index t place) kept.sound.raced.finished ∙ index_map (λ (l : Line). l.shard.finished) s.node.lines place line here
 
     first : (waiting : List Job) → Turns line.shard.finished waiting s.node.race.issued → option_map (λ (job : Job). job.turn) (first_of waiting) ≡ Some turn → (turn ≡ suc line.shard.finished) × (suc line.shard.finished ≤ s.node.race.issued)
     first [] t e = absurd (none-some turn e)
@@ -373,7 +375,7 @@ dropped_held s shard place turn line kept p held = go line.shard.hand refl held
         let t = first line.waiting (subst (λ h. Turns (begun_turn h line.shard.finished) line.waiting s.node.race.issued) is sound.turns) e in
         let next = t.0 in
         let most = t.1 in
-        let size = ap length kept.raced.finished ∙ map_length (λ (l : Line). l.shard.finished) s.node.lines in
+        let size = ap length kept.sound.raced.finished ∙ map_length (λ (l : Line). l.shard.finished) s.node.lines in
         let last = p.last in
         let at = finished in
         (omega arith, record { first = p.first; last = omega arith; behind = omega arith; issued = omega arith })

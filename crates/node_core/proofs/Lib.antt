@@ -1,26 +1,14 @@
-pub mod Winners
-pub mod ShardKeeps
-pub mod LineMoves
-pub mod HubMoves
-pub mod LineEvents
-pub mod HubEvents
-pub mod GivenApart
-pub mod NodeMoves
-pub mod Runs
-pub mod OneWinner
-pub mod Placing
-pub mod OneJob
-pub mod Ends
-pub mod Raced
 pub mod Composed
 pub mod Starts
-pub mod KeptSessions
-pub mod PeersKept
-pub mod Replays
-pub mod CountsOpen
-pub mod PlacedOnce
-pub mod LastLines
-pub mod OutboxesKnown
-pub mod HubsSound
 pub mod Greeting
 pub mod Claiming
+pub mod GivenJobs
+pub mod Routing
+pub mod Collects
+pub mod Answered
+pub mod Outcomes
+pub mod Refusing
+pub mod Sending
+mod Taking
+pub mod Running
+mod SessionCalls

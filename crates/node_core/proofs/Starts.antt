@@ -1,11 +1,12 @@
 -- A server that has just started.
-use Rattle.std.proofs.Common.{◌≡◌, ℕ, zero, suc, ◌+◌, ◌≤◌, [], ◌∷◌, ◌++◌, replicate, Some, refl, sym, ap, ◌∙◌, subst, arith}
-use Rattle.std.specs.Prelude.{slice_get, slice_index}
+use Rattle.std.proofs.Common.{◌≡◌, ℕ, zero, suc, ◌+◌, [], ◌∷◌, ◌++◌, ap, ◌∙◌, arith}
+use Rattle.claim_race.specs.Race.{IsNew}
 use Rattle.subj.specs.Servers.{Server, IsServer}
-use Rattle.node_core.specs.Served.{Served, IsStarted, IsKept, tried_of}
-use Rattle.node_core.specs.Sound.{LineAt}
-use Rattle.node_core.specs.State.{Line, new_line, lines_from, finished_turns}
-use Rattle.node_core.proofs.Runs.{starts_sound}
+use Rattle.hub_core.specs.State.{new_hub}
+use Rattle.route_session.specs.State.{no_sessions}
+use Rattle.node_core.specs.Served.{Served, started, IsKept}
+use Rattle.node_law.specs.State.{new_line, lines_from}
+use Rattle.node_law.proofs.Runs.{starts_sound}
 
 more : (shards first count : ℕ) → lines_from shards first (suc count) ≡ lines_from shards first count ++ new_line shards (count + first) ∷ []
 more shards first zero = ap (λ k. new_line shards k ∷ []) (none first)
@@ -23,29 +24,12 @@ lines_more shards count = ap (lines_from shards 1) (one count) ∙ more shards 1
     one : (m : ℕ) → m + 1 ≡ suc m
     one m = omega arith
 
-none_finished : (shards first count : ℕ) → replicate count 0 ≡ finished_turns (lines_from shards first count)
-none_finished shards first zero = refl
-none_finished shards first (suc count) = ap (λ t. 0 ∷ t) (none_finished shards (suc first) count)
+-- a server of new parts
+pub starts_as : (server : Server) (s : Served) → s.server ≡ server → s.node.hub ≡ new_hub server → s.node.sessions ≡ no_sessions → IsNew server.shards s.node.race → s.node.lines ≡ lines_from server.shards 1 server.shards → s ≡ started server
+starts_as server s server_is hub_is sessions_are race lines_are = λ i. record {
+  server = server_is i;
+  node = record { hub = hub_is i; sessions = sessions_are i; race = record { issued = race.issued i; finished = race.finished i; next = race.next i; won = race.won i }; lines = lines_are i };
+}
 
-zero_at : (count place k : ℕ) → slice_index (replicate count 0) place ≤ k
-zero_at zero place k = omega arith
-zero_at (suc count) zero k = omega arith
-zero_at (suc count) (suc place) k = zero_at count place k
-
-pub starts_kept : (server : Server) (s : Served) → IsServer server → IsStarted server s → IsKept s
-starts_kept server s is start = subst IsKept (λ k. record { server = sym start.server_is k; node = record { hub = sym start.hub k; sessions = s.node.sessions; race = s.node.race; lines = sym start.lines k } }) (record {
-  listed = is.known;
-  some = is.first_shard;
-  few = is.last_shard;
-  sound = let b = starts_sound server in record {
-    issued = sym start.race.issued;
-    size = b.size;
-    lines = subst (λ t. (place : ℕ) (line : Line) → slice_get (lines_from server.shards 1 server.shards) place ≡ Some line → LineAt server t place line) (sym start.race.issued) b.lines;
-    peers = b.peers;
-    counts = b.counts;
-  };
-  raced = record {
-    finished = start.race.finished ∙ none_finished server.shards 1 server.shards;
-    next = λ place line e. subst (λ t. slice_index t place ≤ tried_of line.shard.hand line.shard.next_index) (sym start.race.next) (zero_at server.shards place (tried_of line.shard.hand line.shard.next_index));
-  };
-})
+pub starts_kept : (server : Server) → IsServer server → IsKept (started server)
+starts_kept server is = record { listed = is.known; some = is.first_shard; few = is.last_shard; sound = starts_sound server }

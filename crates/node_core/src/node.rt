@@ -1,30 +1,38 @@
 //! A server as one value.
 
-ghost use Rattle.std.specs.Prelude.{◌≡◌, ◌≤◌, ◌<◌, ◌-◌, nat_eq, length, if◌then◌else◌, Some, None, true, false, slice_get, option_to_list, IfOk, IfSome};
+ghost use Rattle.std.specs.Prelude.{◌≡◌, ◌≤◌, Some, None, true, false, option_to_list, IfOk};
 ghost use Rattle.std.specs.Option.{option_map};
 ghost use Rattle.subj.specs.Answers.{IsAnswered, IsDecided};
 ghost use Rattle.subj.specs.declared.limits.TheConstants.{MAX_SHARDS};
 ghost use Rattle.shard_core.specs.Answers.{answer_of};
 ghost use Rattle.shard_core.specs.ShardEvents.{Attached, Unsubscribed, Replied, WasShut, Detached, Taken, Finished, Dropped};
-ghost use Rattle.node_core.specs.Events.{Subscribe, Unsubscribe, Reply, Shut, Detach, Take, Attach, Begin, Claim, End, DropJob, Own, OfConn, AtShard, Publish, Collect, Dial, Accept, CutSession, TakeFrames, Receive, OnInfo, OnConnect};
-ghost use Rattle.node_core.specs.Served.{IsStarted, of_session_answer, of_hub_answer, refusal, place_of_conn as place_given, place_of_shard as place_counted, ConnStep, WorkStep, BeginStep, DialStep, AcceptStep, CutStep, FramesStep, DropStep, ClaimStep, InfoStep, ConnectStep};
-ghost use Rattle.node_core.specs.State.{lines_from};
-ghost use Rattle.hub_core.specs.State.{peer_of, seen_of as seen_by_hub};
-ghost use Rattle.route_session.specs.Calls.{peer_of as peer_by_name};
+ghost use Rattle.node_law.specs.Events.{Own, OfConn, AtShard, Publish, Collect, Dial, Accept, CutSession, TakeFrames, Receive, OnInfo, OnConnect};
+ghost use Rattle.node_law.specs.declared.events.ConnEvent.TheVariants.{Subscribe, Unsubscribe, Reply, Shut, Detach, Take};
+ghost use Rattle.node_law.specs.declared.events.ShardWork.TheVariants.{Attach, Begin, Claim, End, DropJob};
+ghost use Rattle.node_core.specs.Served.{started, of_session_answer, of_hub_answer, refusal, ConnStep, WorkStep, BeginStep, DialStep, AcceptStep, CutStep, FramesStep, DropStep, ClaimStep, InfoStep, ConnectStep};
+ghost use Rattle.node_law.specs.State.{lines_from};
 
-use crate::faults::NodeFault;
-use crate::lines::{Claimed, Line};
+mod applying;
+mod lent;
+mod refusals;
+mod running;
+mod sending;
+mod stepping;
+mod taking;
+
 use claim_race::Race;
 use client_frames::{ErrText, ReplyFrame};
 use hub_core::{Hub, HubFault};
+use node_law::NodeFault;
+use node_parts::{Claimed, Line, peer_named, place_of_conn, place_of_shard, seen_of};
 use outbox::Entry;
 use route_session::{Kept, SessionFault, SessionId, Sessions};
 use route_values::{Numbered, RouteConnect, RouteInfo};
-use shard_core::{Begun, ShardFault, Subscribed};
+use shard_core::{Begun, Closed, ShardFault, Subscribed};
 use std::alloc::{AllocError, Global};
 use std::marker::Model;
 use sub_table::SubTable;
-use subj::{ConnId, Failure, Key, NodeId, Server, Sid, SubId, Turn};
+use subj::{ConnId, Failure, Job, Key, Server, Sid, SubId, Turn};
 
 /// The lines of a server of so many shards.
 #[tactic(auto, using(crate::proofs::Starts::lines_more))]
@@ -40,49 +48,6 @@ fn new_lines<T: SubTable>(alloc: Global, shards: u64) -> Result<Vec<Line<T>>, Al
     Ok(lines)
 }
 
-/// The place of the line that has the connection of this number, of so many lines.
-fn place_of_conn(count: usize, conn: ConnId) -> Option<usize>
-    requires { 1 ≤ count }
-    ensures place { result ≡ place_given count conn }
-    ensures within { IfSome result (λ place. place < count) }
-{
-    let number = conn.get();
-    if number == 0 {
-        return None;
-    }
-    Some(((number - 1) % count as u64) as usize)
-}
-
-/// The place of the line of the shard of this number, of so many lines.
-fn place_of_shard(count: usize, shard: u64) -> Option<usize>
-    ensures place { result ≡ place_counted count shard }
-    ensures within { IfSome result (λ place. place < count) }
-{
-    if shard == 0 || shard > count as u64 {
-        return None;
-    }
-    Some((shard - 1) as usize)
-}
-
-/// The place of the peer of this name.
-#[tactic(auto, using(crate::proofs::Greeting::nobody, crate::proofs::Greeting::at_place))]
-fn peer_named(server: &Server, name: NodeId) -> Option<usize>
-    ensures { result ≡ peer_by_name server.now name }
-{
-    let place = server.place(name)?;
-    server.is_peer(place).then_some(place)
-}
-
-/// The greatest incarnation seen of the peer of this name; 0 before the first, and of anyone else.
-fn seen_of(hub: &Hub, name: NodeId) -> u64
-    ensures { result ≡ seen_by_hub (peer_of hub.now.server hub.now.state name) }
-{
-    match peer_named(hub.server(), name) {
-        None => 0,
-        Some(place) => hub.seen_of(place),
-    }
-}
-
 /// What the sessions answer, as their server's answer.
 fn of_sessions<X>(answer: Result<X, Failure<SessionFault>>) -> Result<X, Failure<NodeFault>>
     ensures { result ≡ of_session_answer answer }
@@ -95,7 +60,7 @@ fn of_sessions<X>(answer: Result<X, Failure<SessionFault>>) -> Result<X, Failure
 }
 
 /// What the hub answers, as its server's answer.
-fn of_hub<X>(answer: Result<X, Failure<HubFault>>) -> Result<X, Failure<NodeFault>>
+pub(crate) fn of_hub<X>(answer: Result<X, Failure<HubFault>>) -> Result<X, Failure<NodeFault>>
     ensures { result ≡ of_hub_answer answer }
 {
     match answer {
@@ -113,11 +78,13 @@ fn of_hub<X>(answer: Result<X, Failure<HubFault>>) -> Result<X, Failure<NodeFaul
 /// may be any.
 #[derive(Drop)]
 pub struct Node<T: SubTable, R: Race> {
-    alloc: Global,
-    hub: Hub,
-    sessions: Sessions,
-    race: R,
-    lines: Vec<Line<T>>,
+    pub(crate) alloc: Global,
+    pub(crate) hub: Hub,
+    pub(crate) sessions: Sessions,
+    pub(crate) race: R,
+    pub(crate) lines: Vec<Line<T>>,
+    /// Memory for the copies of a job, which the lines get.
+    pub(crate) copies: Vec<Job>,
 }
 
 impl<T: SubTable, R: Race> Model for Node<T, R> {
@@ -135,9 +102,8 @@ impl<T: SubTable, R: Race> Model for Node<T, R> {
 
 impl<T: SubTable, R: Race> Node<T, R> {
     /// A server that has just started: nothing is counted, nobody is known, and no job waits.
-    #[tactic(auto, using(crate::proofs::Starts::starts_kept))]
     pub fn new(alloc: Global, server: Server) -> Result<Node<T, R>, AllocError>
-        ensures { IfOk result (λ node. IsStarted server node) }
+        ensures { IfOk result (λ node. node ≡ started server) }
     {
         let _me = server.me();
         let lines = new_lines(alloc, server.shards())?;
@@ -150,6 +116,7 @@ impl<T: SubTable, R: Race> Node<T, R> {
             sessions,
             race,
             lines,
+            copies: Vec::new(alloc),
         })
     }
 
@@ -187,12 +154,8 @@ impl<T: SubTable, R: Race> Node<T, R> {
     }
 
     /// Puts an answer for a connection: [`Line::reply`].
-    pub fn reply(
-        &mut self,
-        conn: ConnId,
-        frame: &ReplyFrame,
-    ) -> Result<Vec<SubId>, Failure<NodeFault>>
-        ensures { IsAnswered (refusal self.old (Own (OfConn conn (Reply frame.now)))) (λ ended. ConnStep self.old conn (Reply frame.now) (Replied ended.items) self.new) (self.new ≡ self.old) result }
+    pub fn reply(&mut self, conn: ConnId, frame: &ReplyFrame) -> Result<Closed, Failure<NodeFault>>
+        ensures { IsAnswered (refusal self.old (Own (OfConn conn (Reply frame.now)))) (λ closed. ConnStep self.old conn (Reply frame.now) (Replied closed.shut closed.ended.items) self.new) (self.new ≡ self.old) result }
     {
         let Some(place) = place_of_conn(self.lines.len(), conn) else {
             return Err(Failure::Refused(NodeFault::Shard(ShardFault::NoConn)));
@@ -260,14 +223,19 @@ impl<T: SubTable, R: Race> Node<T, R> {
 
     /// The shard claims the queue name of this index of the job in hand, which is the next one:
     /// [`Line::claim`]. Refused with [`NodeFault::NoShard`] first.
-    pub fn claim(&mut self, shard: u64, index: u64) -> Result<Claimed, Failure<NodeFault>>
-        ensures { IsAnswered (refusal self.old (Own (AtShard shard (Claim index)))) (λ claimed. ClaimStep self.old shard index claimed self.new) (self.new ≡ self.old) result }
+    pub fn claim(
+        &mut self,
+        shard: u64,
+        index: u64,
+        copies: bool,
+    ) -> Result<Claimed, Failure<NodeFault>>
+        ensures { IsAnswered (refusal self.old (Own (AtShard shard (Claim index)))) (λ claimed. ClaimStep copies self.old shard index claimed self.new) (self.new ≡ self.old) result }
     {
         let Some(place) = place_of_shard(self.lines.len(), shard) else {
             return Err(Failure::Refused(NodeFault::NoShard));
         };
         let line = &mut self.lines[place];
-        line.claim(&mut self.race, shard, index)
+        line.claim(&mut self.race, shard, index, copies)
     }
 
     /// The shard finishes the turn in hand: [`Line::end`]. Refused with [`NodeFault::NoShard`] first.

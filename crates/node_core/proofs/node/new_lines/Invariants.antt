@@ -1,5 +1,5 @@
 use Rattle.std.proofs.Common.{◌≡◌}
-use Rattle.node_core.specs.State.{lines_from}
+use Rattle.node_law.specs.State.{lines_from}
 use Rattle.node_core.proofs.node.new_lines.Given as goal
 
 abbrev pub invariant-loop-made : goal.invariant-loop-made

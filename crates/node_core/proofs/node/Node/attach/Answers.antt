@@ -3,9 +3,10 @@ use Rattle.std.specs.Prelude.{slice_get}
 use Rattle.std.proofs.lemmas.Option.{slice_get-get_or}
 use Rattle.subj.specs.Answers.{IsAnswered}
 use Rattle.shard_core.specs.ShardEvents as of_shard
-use Rattle.node_core.specs.Events.{Attach, Own, AtShard}
+use Rattle.node_law.specs.Events.{Own, AtShard}
+use Rattle.node_law.specs.declared.events.ShardWork.TheVariants.{Attach}
 use Rattle.node_core.specs.Served.{DoesStep, LineStep, WorkStep, work_answer, seen, refusal}
-use Rattle.node_core.specs.Steps.{shard_line}
+use Rattle.node_law.specs.Steps.{shard_line}
 use Rattle.node_core.proofs.Composed.{work_call, reworded}
 use Rattle.node_core.proofs.node.Node.attach.Goals as goal
 

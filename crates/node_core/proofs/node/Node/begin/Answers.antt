@@ -2,9 +2,10 @@ use Rattle.std.proofs.Common.{◌≡◌, ◌<◌, false, length, set, Some, refl
 use Rattle.std.specs.Prelude.{slice_get}
 use Rattle.std.proofs.lemmas.Option.{slice_get-get_or}
 use Rattle.subj.specs.Answers.{IsAnswered}
-use Rattle.node_core.specs.Events.{Begin, Own, AtShard}
+use Rattle.node_law.specs.Events.{Own, AtShard}
+use Rattle.node_law.specs.declared.events.ShardWork.TheVariants.{Begin}
 use Rattle.node_core.specs.Served.{DoesStep, LineBegins, BeginStep, IsToldAt, seen, refusal}
-use Rattle.node_core.specs.Steps.{shard_line, begin_of, line_after_if}
+use Rattle.node_law.specs.Steps.{shard_line, begin_of, line_after_if}
 use Rattle.node_core.proofs.Composed.{work_call, reworded}
 use Rattle.node_core.proofs.node.Node.begin.Goals as goal
 

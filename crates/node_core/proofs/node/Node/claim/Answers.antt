@@ -2,7 +2,8 @@ use Rattle.std.proofs.Common.{◌≡◌, ◌<◌, length, set, Some, sym, ap, �
 use Rattle.std.specs.Prelude.{slice_get}
 use Rattle.std.proofs.lemmas.Option.{slice_get-get_or}
 use Rattle.subj.specs.Answers.{IsAnswered}
-use Rattle.node_core.specs.Events.{Claim, Own, AtShard}
+use Rattle.node_law.specs.Events.{Own, AtShard}
+use Rattle.node_law.specs.declared.events.ShardWork.TheVariants.{Claim}
 use Rattle.node_core.specs.Served.{ClaimStep, seen, refusal}
 use Rattle.node_core.proofs.Composed.{shard_found}
 use Rattle.node_core.proofs.Claiming.{may_claim, claim_call}
@@ -30,7 +31,7 @@ invariant_of-self g c =
     let here : slice_get lines c.in-Some.place ≡ Some x = slice_get-get_or lines c.in-Some.place x within ∙ ap Some (sym c.index_mut-line.ensures.value) in
     let before = seen old.hub.server old.hub.state old.sessions.state (g.R.Race.contents old.race) lines in
     let p = shard_found before.node c.args.shard c.len.result c.in-Some.place c.place_of_shard.result x count c.place_of_shard.ensures.place c.in-Some.is here in
-    let called = claim_call old.hub.server old.hub.state old.sessions.state (g.R.Race.contents old.race) (g.R.Race.contents c.claim.new.race) lines c.args.shard c.in-Some.place c.args.index x c.claim.new.self c.claim.result c.self.invariant.1 p here c.claim.ensures in
+    let called = claim_call c.args.copies old.hub.server old.hub.state old.sessions.state (g.R.Race.contents old.race) (g.R.Race.contents c.claim.new.race) lines c.args.shard c.in-Some.place c.args.index x c.claim.new.self c.claim.result c.self.invariant.1 p here c.claim.ensures in
     (c.self.invariant.0, called.keeps)
 
 pub returns : goal.returns
@@ -43,6 +44,6 @@ returns g c =
     let here : slice_get lines c.in-Some.place ≡ Some x = slice_get-get_or lines c.in-Some.place x within ∙ ap Some (sym c.index_mut-line.ensures.value) in
     let before = seen old.hub.server old.hub.state old.sessions.state (g.R.Race.contents old.race) lines in
     let p = shard_found before.node c.args.shard c.len.result c.in-Some.place c.place_of_shard.result x count c.place_of_shard.ensures.place c.in-Some.is here in
-    let called = claim_call old.hub.server old.hub.state old.sessions.state (g.R.Race.contents old.race) (g.R.Race.contents c.claim.new.race) lines c.args.shard c.in-Some.place c.args.index x c.claim.new.self c.claim.result c.self.invariant.1 p here c.claim.ensures in
+    let called = claim_call c.args.copies old.hub.server old.hub.state old.sessions.state (g.R.Race.contents old.race) (g.R.Race.contents c.claim.new.race) lines c.args.shard c.in-Some.place c.args.index x c.claim.new.self c.claim.result c.self.invariant.1 p here c.claim.ensures in
     let after = seen old.hub.server old.hub.state old.sessions.state (g.R.Race.contents c.claim.new.race) (set lines c.in-Some.place c.claim.new.self) in
-    subst (λ s. IsAnswered (refusal s (Own (AtShard c.args.shard (Claim c.args.index)))) (λ y. ClaimStep s c.args.shard c.args.index y after) (after ≡ s) c.claim.result) c.self.view_is called.answers
+    subst (λ s. IsAnswered (refusal s (Own (AtShard c.args.shard (Claim c.args.index)))) (λ y. ClaimStep c.args.copies s c.args.shard c.args.index y after) (after ≡ s) c.claim.result) c.self.view_is called.answers

@@ -3,9 +3,10 @@ use Rattle.hub_core.specs.State.{seen_of, peer_of}
 use Rattle.hub_core.specs.Steps.{IsMeeting}
 use Rattle.route_session.specs.Calls as calls
 use Rattle.route_session.specs.Events as of_session
-use Rattle.node_core.specs.Events.{OnConnect}
+use Rattle.node_law.specs.Events.{OnConnect}
 use Rattle.node_core.specs.Served.{Served, ConnectStep, seen, refusal}
-use Rattle.node_core.proofs.Greeting.{peer_is, same_name, same_seen, same_up, greets_peer, meets, connect_free, connect_done, connect_kept}
+use Rattle.node_parts.proofs.Greeting.{peer_is, same_name, same_seen, same_up, greets_peer, meets, connect_free}
+use Rattle.node_core.proofs.Greeting.{connect_done, connect_kept}
 use Rattle.node_core.proofs.node.Node.connect.Goals as goal
 
 pub unreachable-requires : goal.unreachable-requires

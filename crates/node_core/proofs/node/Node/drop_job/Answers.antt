@@ -1,9 +1,10 @@
 use Rattle.std.proofs.Common.{◌≡◌, ◌<◌, false, length, set, Some, None, sym, ap, ◌∙◌, subst}
 use Rattle.std.specs.Prelude.{slice_get}
 use Rattle.std.proofs.lemmas.Option.{slice_get-get_or}
-use Rattle.node_core.specs.Events.{DropJob, Own, AtShard}
+use Rattle.node_law.specs.Events.{Own, AtShard}
+use Rattle.node_law.specs.declared.events.ShardWork.TheVariants.{DropJob}
 use Rattle.node_core.specs.Served.{DropStep, seen, refusal}
-use Rattle.node_core.specs.Steps.{work_refusal}
+use Rattle.node_law.specs.Steps.{work_refusal}
 use Rattle.node_core.proofs.Composed.{shard_found, dropped_held, waits_next, drop_done, step_keeps, lines_same}
 use Rattle.node_core.proofs.node.Node.drop_job.Goals as goal
 

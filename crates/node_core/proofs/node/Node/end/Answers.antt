@@ -2,9 +2,10 @@ use Rattle.std.proofs.Common.{◌≡◌, ◌<◌, false, length, set, Some, None
 use Rattle.std.specs.Prelude.{slice_get}
 use Rattle.std.proofs.lemmas.Option.{slice_get-get_or}
 use Rattle.shard_core.specs.ShardEvents.{Finished}
-use Rattle.node_core.specs.Events.{End, Own, AtShard}
+use Rattle.node_law.specs.Events.{Own, AtShard}
+use Rattle.node_law.specs.declared.events.ShardWork.TheVariants.{End}
 use Rattle.node_core.specs.Served.{WorkStep, seen, refusal}
-use Rattle.node_core.specs.Steps.{work_refusal}
+use Rattle.node_law.specs.Steps.{work_refusal}
 use Rattle.node_core.proofs.Composed.{shard_found, held_turn, end_done, step_keeps, lines_same}
 use Rattle.node_core.proofs.node.Node.end.Goals as goal
 

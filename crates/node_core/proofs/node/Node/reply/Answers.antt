@@ -3,7 +3,8 @@ use Rattle.std.specs.Prelude.{slice_get}
 use Rattle.std.proofs.lemmas.Option.{slice_get-get_or}
 use Rattle.subj.specs.Answers.{IsAnswered}
 use Rattle.shard_core.specs.ShardEvents.{Replied}
-use Rattle.node_core.specs.Events.{Reply, Own, OfConn}
+use Rattle.node_law.specs.Events.{Own, OfConn}
+use Rattle.node_law.specs.declared.events.ConnEvent.TheVariants.{Reply}
 use Rattle.node_core.specs.Served.{ConnStep, seen, refusal}
 use Rattle.node_core.proofs.Composed.{conn_call}
 use Rattle.node_core.proofs.node.Node.reply.Goals as goal
@@ -16,7 +17,7 @@ invariant_of-self g c =
     let count : c.len.result ≡ length lines = c.len.ensures ∙ old.lines.ok.0 in
     let within : c.in-Some.place < length lines = subst (λ n. c.in-Some.place < n) count c.in-Some.ensures.within in
     let here : slice_get lines c.in-Some.place ≡ Some x = slice_get-get_or lines c.in-Some.place x within ∙ ap Some (sym c.index_mut-line.ensures.value) in
-    (c.self.invariant.0, (conn_call old.hub.server old.hub.state old.sessions.state (g.R.Race.contents old.race) lines c.args.conn c.len.result c.in-Some.place c.place_of_conn.result (Reply c.args.frame.now) x c.reply.new.self (λ ended. Replied ended.items) c.reply.result c.self.invariant.1 count c.place_of_conn.ensures.place c.in-Some.is here c.reply.ensures).keeps)
+    (c.self.invariant.0, (conn_call old.hub.server old.hub.state old.sessions.state (g.R.Race.contents old.race) lines c.args.conn c.len.result c.in-Some.place c.place_of_conn.result (Reply c.args.frame.now) x c.reply.new.self (λ closed. Replied closed.shut closed.ended.items) c.reply.result c.self.invariant.1 count c.place_of_conn.ensures.place c.in-Some.is here c.reply.ensures).keeps)
 
 pub returns : goal.returns
 returns g c =
@@ -28,5 +29,5 @@ returns g c =
     let count : c.len.result ≡ length lines = c.len.ensures ∙ old.lines.ok.0 in
     let within : c.in-Some.place < length lines = subst (λ n. c.in-Some.place < n) count c.in-Some.ensures.within in
     let here : slice_get lines c.in-Some.place ≡ Some x = slice_get-get_or lines c.in-Some.place x within ∙ ap Some (sym c.index_mut-line.ensures.value) in
-    subst (λ s. IsAnswered (refusal s (Own (OfConn c.args.conn e))) (λ y. ConnStep s c.args.conn e (Replied y.items) after) (after ≡ s) c.reply.result) c.self.view_is
-    (conn_call old.hub.server old.hub.state old.sessions.state (g.R.Race.contents old.race) lines c.args.conn c.len.result c.in-Some.place c.place_of_conn.result e x c.reply.new.self (λ ended. Replied ended.items) c.reply.result c.self.invariant.1 count c.place_of_conn.ensures.place c.in-Some.is here c.reply.ensures).answers
+    subst (λ s. IsAnswered (refusal s (Own (OfConn c.args.conn e))) (λ y. ConnStep s c.args.conn e (Replied y.shut y.ended.items) after) (after ≡ s) c.reply.result) c.self.view_is
+    (conn_call old.hub.server old.hub.state old.sessions.state (g.R.Race.contents old.race) lines c.args.conn c.len.result c.in-Some.place c.place_of_conn.result e x c.reply.new.self (λ closed. Replied closed.shut closed.ended.items) c.reply.result c.self.invariant.1 count c.place_of_conn.ensures.place c.in-Some.is here c.reply.ensures).answers

@@ -3,7 +3,8 @@ use Rattle.std.specs.Prelude.{slice_get}
 use Rattle.std.proofs.lemmas.Option.{slice_get-get_or}
 use Rattle.subj.specs.Answers.{IsAnswered}
 use Rattle.shard_core.specs.ShardEvents.{Taken}
-use Rattle.node_core.specs.Events.{Take, Own, OfConn}
+use Rattle.node_law.specs.Events.{Own, OfConn}
+use Rattle.node_law.specs.declared.events.ConnEvent.TheVariants.{Take}
 use Rattle.node_core.specs.Served.{ConnStep, seen, refusal}
 use Rattle.node_core.proofs.Composed.{conn_call}
 use Rattle.node_core.proofs.node.Node.take.Goals as goal

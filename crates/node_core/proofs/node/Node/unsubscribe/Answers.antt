@@ -3,7 +3,8 @@ use Rattle.std.specs.Prelude.{slice_get}
 use Rattle.std.proofs.lemmas.Option.{slice_get-get_or}
 use Rattle.subj.specs.Answers.{IsDecided}
 use Rattle.shard_core.specs.ShardEvents.{Unsubscribed}
-use Rattle.node_core.specs.Events.{Unsubscribe, Own, OfConn}
+use Rattle.node_law.specs.Events.{Own, OfConn}
+use Rattle.node_law.specs.declared.events.ConnEvent.TheVariants.{Unsubscribe}
 use Rattle.node_core.specs.Served.{ConnStep, seen, refusal}
 use Rattle.node_core.proofs.Composed.{conn_decision}
 use Rattle.node_core.proofs.node.Node.unsubscribe.Goals as goal

@@ -1,5 +1,0 @@
-use Rattle.node_core.proofs.HubsSound.{hubs_stay_sound}
-use Rattle.node_core.proofs.laws.hubs_stay_sound.Goals as goal
-
-pub returns : goal.returns
-returns c = hubs_stay_sound c.sound_hubs_stay_sound.ensures

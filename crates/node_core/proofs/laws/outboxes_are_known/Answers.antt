@@ -1,5 +1,0 @@
-use Rattle.node_core.proofs.OutboxesKnown.{outboxes_are_known}
-use Rattle.node_core.proofs.laws.outboxes_are_known.Goals as goal
-
-pub returns : goal.returns
-returns start = outboxes_are_known

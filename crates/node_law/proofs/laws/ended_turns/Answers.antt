@@ -1,0 +1,5 @@
+use Rattle.node_law.proofs.Ends.{ended_turns}
+use Rattle.node_law.proofs.laws.ended_turns.Goals as goal
+
+pub returns : goal.returns
+returns start = ended_turns

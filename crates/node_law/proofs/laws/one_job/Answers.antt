@@ -1,0 +1,5 @@
+use Rattle.node_law.proofs.OneJob.{one_job}
+use Rattle.node_law.proofs.laws.one_job.Goals as goal
+
+pub returns : goal.returns
+returns start = one_job

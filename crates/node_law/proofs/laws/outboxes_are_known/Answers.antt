@@ -1,0 +1,5 @@
+use Rattle.node_law.proofs.OutboxesKnown.{outboxes_are_known}
+use Rattle.node_law.proofs.laws.outboxes_are_known.Goals as goal
+
+pub returns : goal.returns
+returns start = outboxes_are_known

@@ -1,0 +1,5 @@
+use Rattle.node_law.proofs.NodeMoves.{stays_sound}
+use Rattle.node_law.proofs.laws.servers_stay_sound.Goals as goal
+
+pub returns : goal.returns
+returns start = stays_sound

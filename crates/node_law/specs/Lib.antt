@@ -1,0 +1,17 @@
+pub mod Faults
+pub mod Race
+pub mod State
+pub mod Events
+pub mod Steps
+pub mod Answers
+pub mod Sound
+pub mod AsLaw
+pub mod Runs
+pub mod OneServer
+pub mod PeersKept
+pub mod CountsOpen
+pub mod PlacedOnce
+pub mod Outboxes
+pub mod HubsSound
+pub mod Promises
+pub mod EachShard

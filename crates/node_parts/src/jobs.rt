@@ -1,0 +1,113 @@
+//! Jobs on their way to the shards: each line gets one of what is published or received.
+
+ghost use Rattle.std.specs.Prelude.{◌≡◌, ℕ, ◌≤◌, ◌<◌, map, replicate, take, length, slice_get, Some, OnOk};
+ghost use Rattle.subj.specs.Answers.{IsAnswered};
+ghost use Rattle.subj.specs.declared.jobs.Job.{Job as OneJob};
+ghost use Rattle.subj.specs.declared.limits.TheConstants.{MAX_SHARDS, WINDOW};
+ghost use Rattle.claim_race.specs.Race.{shards_of};
+ghost use Rattle.hub_core.specs.Events.{Receive as ReceiveFrame};
+ghost use Rattle.hub_core.specs.Receiving.{has_message};
+ghost use Rattle.hub_core.specs.Hubs.{refusal as hub_refusal, after as hub_after};
+ghost use Rattle.node_law.specs.State.{Line as OneLine};
+ghost use Rattle.node_law.specs.Steps.{queued};
+ghost use Rattle.node_parts.specs.Jobs.{MayIssue, AreGiven, IsReceived, MayRoute, AreRouted};
+
+use crate::lines::Line;
+use crate::peers::is_message;
+use crate::told::Received;
+use claim_race::Race;
+use hub_core::{Hub, HubFault};
+use route_values::Numbered;
+use std::alloc::AllocError;
+use sub_table::SubTable;
+use subj::{Failure, Finished, Job};
+
+/// The last turns that so many shards finished, as the race knows them.
+pub fn finished_by<R: Race>(race: &R, shards: u64) -> Finished
+    requires all { shards ≡ shards_of (R.contents race.now) }
+    requires few { shards ≤ MAX_SHARDS }
+    ensures { take shards result ≡ (R.contents race.now).finished }
+{
+    let mut finished = Finished::new();
+    for place in 0..shards {
+        finished.set(place + 1, race.finished(place + 1));
+    }
+    finished
+}
+
+/// Fills the list with a job and copies of it, so many together.
+pub fn fill(copies: &mut Vec<Job>, job: Job, count: usize) -> Result<(), AllocError>
+    requires { 1 ≤ count }
+    ensures { OnOk result (copies.new.items ≡ replicate count job) }
+{
+    copies.clear();
+    for _made in 1..count {
+        copies.push(job.try_clone()?)?;
+    }
+    copies.push(job)?;
+    Ok(())
+}
+
+/// Each line gets one of the jobs. Takes no memory.
+fn hand_out<T: SubTable>(lines: &mut [Line<T>], jobs: &mut Vec<Job>)
+    requires enough { length jobs.old.items ≡ length lines.old }
+    requires room { (place : ℕ) (line : OneLine) → slice_get lines.old place ≡ Some line → length line.waiting < WINDOW }
+    ensures { (job : OneJob) → jobs.old.items ≡ replicate (length lines.old) job → lines.new ≡ map (queued job) lines.old }
+{
+    for line in lines {
+        let Some(job) = jobs.pop() else {
+            unreachable!()
+        };
+        line.hand_over(job);
+    }
+}
+
+/// The next turn is issued, and each line gets one of the jobs. Takes no memory.
+pub fn issue<T: SubTable, R: Race>(race: &mut R, lines: &mut [Line<T>], jobs: &mut Vec<Job>)
+    requires ready { MayIssue (R.contents race.old) lines.old }
+    requires enough { length jobs.old.items ≡ length lines.old }
+    ensures { AreGiven (R.contents race.old) lines.old jobs.old.items (R.contents race.new) lines.new }
+{
+    let Ok(_) = race.issue() else { unreachable!() };
+    hand_out(lines, jobs);
+}
+
+/// Takes a frame of a peer at the hub; of a message, so many copies of its job are made first.
+pub fn take_in(
+    hub: &mut Hub,
+    frame: &Numbered,
+    finished: &Finished,
+    copies: &mut Vec<Job>,
+    count: usize,
+) -> Result<Received, Failure<HubFault>>
+    requires { 1 ≤ count }
+    ensures { IsAnswered (hub_refusal hub.old (ReceiveFrame frame.now finished.now)) (λ received. (hub.new ≡ hub_after hub.old (ReceiveFrame frame.now finished.now)) × IsReceived hub.old.state frame.now frame.now.body count received copies.new.items) (hub.new ≡ hub.old) result }
+{
+    if !is_message(frame) {
+        let _heard = hub.receive(frame, finished)?;
+        return Ok(Received::Heard(frame.number()));
+    }
+    let Some(job) = hub.plan_receive(frame, finished)? else {
+        unreachable!()
+    };
+    let turn = job.turn;
+    fill(copies, job, count)?;
+    hub.commit_message(frame);
+    Ok(Received::Routed(turn))
+}
+
+/// Of a message each line gets its job; of news none does. Takes no memory.
+pub fn route<T: SubTable, R: Race>(
+    race: &mut R,
+    lines: &mut [Line<T>],
+    jobs: &mut Vec<Job>,
+    frame: &Numbered,
+)
+    requires { MayRoute (has_message frame.now.body) (R.contents race.old) lines.old jobs.old.items }
+    ensures { AreRouted (has_message frame.now.body) (R.contents race.old) lines.old jobs.old.items (R.contents race.new) lines.new }
+{
+    if !is_message(frame) {
+        return;
+    }
+    issue(race, lines, jobs);
+}

@@ -1,0 +1,18 @@
+//! The parts of one server in code: a shard with the jobs that wait for it ([`Line`]), and the hub with its sessions ([`Side`]).
+//!
+//! Whoever has them under one roof is a server; so has whoever keeps each under a lock of its own.
+#![tactic(auto)]
+
+mod jobs;
+mod lines;
+mod peers;
+mod places;
+mod side;
+mod told;
+
+pub use jobs::{fill, finished_by, issue, route, take_in};
+pub use lines::{Claimed, Line};
+pub use peers::{drop_sessions, end_old_session, is_message, peer_named, seen_of};
+pub use places::{place_of_conn, place_of_shard};
+pub use side::Side;
+pub use told::{Issued, Received, Told};

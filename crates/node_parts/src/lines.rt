@@ -1,0 +1,284 @@
+//! A shard, and the jobs that wait for it.
+
+ghost use Rattle.std.specs.Prelude.{◌≡◌, ◌≤◌, ◌<◌, false, length, Some, None, option_to_list, OnOk, OnErr, IfOk};
+ghost use Rattle.subj.specs.Answers.{IsAnswered, IsDecided};
+ghost use Rattle.subj.specs.declared.limits.TheConstants.{MAX_SHARDS, WINDOW};
+ghost use Rattle.shard_core.specs.Answers.{answer_of};
+ghost use Rattle.shard_core.specs.Lines.{first_of};
+ghost use Rattle.shard_core.specs.ShardEvents.{Attach, Subscribe, Unsubscribe, Reply, Shut, Detach, Take, Claim, End, Collect, Attached, Unsubscribed, Replied, WasShut, Detached, Taken, Finished, Collected};
+ghost use Rattle.node_parts.specs.Lines.{LineStep, LineBegins, LineEnds, LineDrops, LineClaims, MayClaim, WaitsNext, of_answer, of_decision};
+ghost use Rattle.node_law.specs.State.{new_line};
+ghost use Rattle.node_law.specs.Steps.{begin_of, drop_of, event_refusal, no_job as no_job_of, queued};
+
+mod refusals;
+mod taking;
+
+use claim_race::Race;
+use client_frames::{ErrText, ReplyFrame};
+use interest::Delta;
+use node_law::NodeFault;
+use outbox::Entry;
+use shard_core::{
+    Begun, Candidate, Closed, Placed, Shard, ShardFault, Subscribed, claims_are_whole,
+};
+use std::alloc::{AllocError, Global};
+use std::collections::VecDeque;
+use std::marker::Model;
+use sub_table::SubTable;
+use subj::{ConnId, Failure, Job, Key, Sid, SubId, Turn, WINDOW};
+
+/// What a shard answers, as its server's answer.
+fn answered<X>(answer: Result<X, Failure<ShardFault>>) -> Result<X, Failure<NodeFault>>
+    ensures { result ≡ of_answer answer }
+{
+    match answer {
+        Ok(x) => Ok(x),
+        Err(Failure::Refused(fault)) => Err(Failure::Refused(NodeFault::Shard(fault))),
+        Err(Failure::OutOfMemory) => Err(Failure::OutOfMemory),
+    }
+}
+
+/// The same of a call that takes no memory.
+fn decided<X>(answer: Result<X, ShardFault>) -> Result<X, NodeFault>
+    ensures { result ≡ of_decision answer }
+{
+    match answer {
+        Ok(x) => Ok(x),
+        Err(fault) => Err(NodeFault::Shard(fault)),
+    }
+}
+
+/// Why no job is begun, where none waits.
+fn no_job<T: SubTable>(shard: &Shard<T>) -> NodeFault
+    ensures { result ≡ no_job_of shard.now.state.hand }
+{
+    match shard.hand() {
+        None => NodeFault::Shard(ShardFault::NoJob),
+        Some(_) => NodeFault::Shard(ShardFault::JobInHand),
+    }
+}
+
+/// What a claim of a queue name comes to.
+#[derive(Debug, Drop)]
+pub enum Claimed {
+    /// The shard has no candidate.
+    Nobody,
+    /// Another shard has won the name.
+    Lost,
+    /// The candidate got the message.
+    Won {
+        sub: SubId,
+        /// A copy of its entry, where it was asked for; else none.
+        placed: Option<Placed>,
+        /// What closed with it.
+        ended: Option<SubId>,
+    },
+}
+
+/// A shard, and the jobs that wait for it, in order of their turns. (Profile.)
+///
+/// Seen as the shard's state and the list of the jobs. It has a place for each job of a window.
+#[derive(Drop)]
+pub struct Line<T: SubTable> {
+    shard: Shard<T>,
+    waiting: VecDeque<Job>,
+}
+
+impl<T: SubTable> Model for Line<T> {
+    ghost use Rattle.node_law.specs.State.{Line};
+
+    ghost Value = { Line };
+
+    ghost use Rattle.std.specs.Prelude.{◌≤◌};
+    ghost use Rattle.std.specs.VecDeque.{deque_capacity};
+    ghost use Rattle.subj.specs.declared.limits.TheConstants.{WINDOW};
+
+    ghost view = { λ line. record { shard = line.shard.state; waiting = line.waiting.items } };
+
+    ghost invariant = { λ line. WINDOW ≤ deque_capacity line.waiting };
+}
+
+impl<T: SubTable> Line<T> {
+    /// The line of the shard of this number, of so many: no job waits.
+    pub fn new(alloc: Global, shard: u64, shards: u64) -> Result<Line<T>, AllocError>
+        requires first { 1 ≤ shard }
+        requires last { shard ≤ shards }
+        requires few { shards ≤ MAX_SHARDS }
+        ensures { IfOk result (λ line. line ≡ new_line shards shard) }
+    {
+        let shard = Shard::new(alloc, shard, shards)?;
+        let waiting = VecDeque::with_capacity(alloc, WINDOW as usize)?;
+        Ok(Line { shard, waiting })
+    }
+
+    /// [`Shard::attach`].
+    pub fn attach(&mut self) -> Result<ConnId, Failure<NodeFault>>
+        ensures { IsAnswered (event_refusal self.old (Some Attach)) (λ conn. LineStep self.old Attach (Attached conn) self.new) (self.new ≡ self.old) result }
+    {
+        answered(self.shard.attach())
+    }
+
+    /// [`Shard::subscribe`].
+    pub fn subscribe(
+        &mut self,
+        conn: ConnId,
+        key: Key,
+        sid: Sid,
+    ) -> Result<Subscribed, Failure<NodeFault>>
+        ensures { IsAnswered (event_refusal self.old (Some (Subscribe conn key sid))) (λ done. LineStep self.old (Subscribe conn key sid) (answer_of done) self.new) (self.new ≡ self.old) result }
+    {
+        answered(self.shard.subscribe(conn, key, sid))
+    }
+
+    /// [`Shard::unsubscribe`].
+    pub fn unsubscribe(
+        &mut self,
+        conn: ConnId,
+        sid: &Sid,
+        max: Option<u64>,
+    ) -> Result<Option<SubId>, NodeFault>
+        ensures { IsDecided (event_refusal self.old (Some (Unsubscribe conn sid.now max))) (λ ended. LineStep self.old (Unsubscribe conn sid.now max) (Unsubscribed (option_to_list ended)) self.new) (self.new ≡ self.old) result }
+    {
+        decided(self.shard.unsubscribe(conn, sid, max))
+    }
+
+    /// [`Shard::reply`].
+    pub fn reply(&mut self, conn: ConnId, frame: &ReplyFrame) -> Result<Closed, Failure<NodeFault>>
+        ensures { IsAnswered (event_refusal self.old (Some (Reply conn frame.now))) (λ closed. LineStep self.old (Reply conn frame.now) (Replied closed.shut closed.ended.items) self.new) (self.new ≡ self.old) result }
+    {
+        answered(self.shard.reply(conn, frame))
+    }
+
+    /// [`Shard::shut`].
+    pub fn shut(&mut self, conn: ConnId, text: ErrText) -> Result<Vec<SubId>, Failure<NodeFault>>
+        ensures { IsAnswered (event_refusal self.old (Some (Shut conn text))) (λ ended. LineStep self.old (Shut conn text) (WasShut ended.items) self.new) (self.new ≡ self.old) result }
+    {
+        answered(self.shard.shut(conn, text))
+    }
+
+    /// [`Shard::detach`].
+    pub fn detach(&mut self, conn: ConnId) -> Result<Vec<SubId>, Failure<NodeFault>>
+        ensures { IsAnswered (event_refusal self.old (Some (Detach conn))) (λ ended. LineStep self.old (Detach conn) (Detached ended.items) self.new) (self.new ≡ self.old) result }
+    {
+        answered(self.shard.detach(conn))
+    }
+
+    /// [`Shard::take`].
+    pub fn take(&mut self, conn: ConnId, count: usize) -> Result<Vec<Entry>, Failure<NodeFault>>
+        ensures { IsAnswered (event_refusal self.old (Some (Take conn count))) (λ entries. LineStep self.old (Take conn count) (Taken entries.items) self.new) (self.new ≡ self.old) result }
+    {
+        answered(self.shard.take(conn, count))
+    }
+
+    /// [`Shard::end`]. Gives the turn that is finished.
+    pub fn end(&mut self) -> Result<Turn, NodeFault>
+        ensures { IsDecided (event_refusal self.old (Some End)) (λ turn. LineEnds self.old turn self.new) (self.new ≡ self.old) result }
+    {
+        let Some(job) = self.shard.hand() else {
+            return Err(NodeFault::Shard(ShardFault::NoJob));
+        };
+        let turn = job.turn;
+        match self.shard.end() {
+            Ok(()) => Ok(turn),
+            Err(fault) => Err(NodeFault::Shard(fault)),
+        }
+    }
+
+    /// Begins the first job that waits: [`Shard::begin`]. A fault leaves it in front. Refused with
+    /// [`ShardFault::JobInHand`], and then with [`ShardFault::NoJob`] where no job waits.
+    pub fn begin(&mut self, copies: bool) -> Result<Begun, Failure<NodeFault>>
+        ensures { IsAnswered (event_refusal self.old (begin_of (first_of self.old.waiting))) (λ begun. LineBegins copies self.old begun self.new) (self.new ≡ self.old) result }
+    {
+        match self.waiting.pop_front() {
+            None => Err(Failure::Refused(no_job(&self.shard))),
+            Some(job) => match self.shard.begin(job, copies) {
+                Ok(begun) => Ok(begun),
+                Err(fault) => {
+                    self.waiting.push_front_reserved(fault.job);
+                    answered(Err(fault.cause))
+                }
+            },
+        }
+    }
+
+    /// Drops the job in hand, or else the first that waits: [`Shard::drop_job`]. Gives the turn that is
+    /// finished. Refused with [`ShardFault::NoJob`] where there is neither. Takes no memory.
+    pub fn drop_job(&mut self) -> Result<Turn, NodeFault>
+        requires { WaitsNext self.old }
+        ensures { IsDecided (event_refusal self.old (drop_of self.old.shard.hand (first_of self.old.waiting))) (λ turn. LineDrops self.old turn self.new) (self.new ≡ self.old) result }
+    {
+        if let Some(job) = self.shard.hand() {
+            let turn = job.turn;
+            let _dropped = self.shard.drop_job(None);
+            return Ok(turn);
+        }
+        match self.waiting.pop_front() {
+            None => Err(NodeFault::Shard(ShardFault::NoJob)),
+            Some(job) => {
+                let turn = job.turn;
+                let _dropped = self.shard.drop_job(Some(job));
+                Ok(turn)
+            }
+        }
+    }
+
+    /// [`Shard::deltas`].
+    pub fn deltas(&self) -> &[Delta]
+        ensures { result.now ≡ self.now.shard.deltas }
+    {
+        self.shard.deltas()
+    }
+
+    /// [`Shard::take_deltas`].
+    pub fn take_deltas(&mut self)
+        ensures { LineStep self.old Collect (Collected self.old.shard.deltas) self.new }
+    {
+        self.shard.take_deltas();
+    }
+
+    /// The job stands behind those that wait. Required: less than a window of jobs wait. Takes no
+    /// memory.
+    pub fn hand_over(&mut self, job: Job)
+        requires { length self.old.waiting < WINDOW }
+        ensures { self.new ≡ queued job self.old }
+    {
+        self.waiting.push_back_reserved(job);
+    }
+}
+
+impl<T: SubTable> Line<T> {
+    /// Claims the queue name of this index of the job in hand, which is the next one: the candidate of the
+    /// shard is chosen ([`Shard::candidate`]); where there is one the race decides, and one that wins gets
+    /// its entry ([`Shard::place`]), of which the answer has a copy with `copies`. Refused as
+    /// [`Shard::candidate`] is. Required: the turn in hand is issued and the next one of the shard in the
+    /// race, where no later index was claimed.
+    pub fn claim<R: Race>(
+        &mut self,
+        race: &mut R,
+        shard: u64,
+        index: u64,
+        copies: bool,
+    ) -> Result<Claimed, Failure<NodeFault>>
+        requires { MayClaim self.old (R.contents race.old) shard }
+        ensures { IsAnswered (event_refusal self.old (Some (Claim index false))) (λ claimed. LineClaims copies self.old (R.contents race.old) shard index claimed self.new (R.contents race.new)) ((self.new ≡ self.old) × (R.contents race.new ≡ R.contents race.old)) result }
+    {
+        claims_are_whole();
+        let Some(job) = self.shard.hand() else {
+            return Err(Failure::Refused(NodeFault::Shard(ShardFault::NoJob)));
+        };
+        let turn = job.turn;
+        let _names = job.queues.as_slice();
+        match self.shard.candidate(index, copies) {
+            Err(fault) => answered(Err(fault)),
+            Ok(None) => Ok(Claimed::Nobody),
+            Ok(Some(candidate)) => {
+                if !race.claim(shard, turn, index) {
+                    return Ok(Claimed::Lost);
+                }
+                let ended = self.shard.place(index);
+                let Candidate { sub, placed } = candidate;
+                Ok(Claimed::Won { sub, placed, ended })
+            }
+        }
+    }
+}

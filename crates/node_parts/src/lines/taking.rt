@@ -1,0 +1,30 @@
+//! Taking bytes of what waits at a line.
+
+ghost use Rattle.std.specs.Prelude.{◌≡◌, Some};
+ghost use Rattle.subj.specs.Answers.{IsAnswered};
+ghost use Rattle.shard_core.specs.ShardEvents.{Take};
+ghost use Rattle.node_law.specs.Steps.{event_refusal};
+ghost use Rattle.node_parts.specs.Lines.{LineTakesBytes};
+
+use super::Line;
+use node_law::NodeFault;
+use sub_table::SubTable;
+use subj::{ConnId, Failure};
+
+impl<T: SubTable> Line<T> {
+    /// [`Shard::take_bytes`](shard_core::Shard::take_bytes).
+    pub fn take_bytes(
+        &mut self,
+        conn: ConnId,
+        count: usize,
+        out: &mut Vec<u8>,
+    ) -> Result<usize, Failure<NodeFault>>
+        ensures { IsAnswered (event_refusal self.old (Some (Take conn count))) (λ taken. LineTakesBytes self.old conn count taken out.old.items out.new.items self.new) ((self.new ≡ self.old) × (out.new.items ≡ out.old.items)) result }
+    {
+        match self.shard.take_bytes(conn, count, out) {
+            Ok(taken) => Ok(taken),
+            Err(Failure::Refused(fault)) => Err(Failure::Refused(NodeFault::Shard(fault))),
+            Err(Failure::OutOfMemory) => Err(Failure::OutOfMemory),
+        }
+    }
+}

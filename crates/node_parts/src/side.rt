@@ -1,0 +1,236 @@
+//! The hub's part of a server: its hub and its sessions.
+
+ghost use Rattle.std.specs.Prelude.{◌≡◌, ⊤, [], true, false, IfOk};
+ghost use Rattle.subj.specs.Answers.{IsAnswered, IsDecided};
+ghost use Rattle.hub_core.specs.Calls.{IsPlanned, IsTaken, job_of, put_out};
+ghost use Rattle.hub_core.specs.Chosen.{IsPlanOf, publication};
+ghost use Rattle.hub_core.specs.Events.{Collect, Receive, TakeFrom, Collected, Heard, Taken};
+ghost use Rattle.hub_core.specs.Publishing.{publish_refusal};
+ghost use Rattle.hub_core.specs.Receiving.{has_message, receive_refusal};
+ghost use Rattle.hub_core.specs.Hubs.{IsStep};
+ghost use Rattle.hub_core.specs.Steps.{hub_refusal};
+ghost use Rattle.hub_core.specs.Telling.{collect_frames};
+ghost use Rattle.route_session.specs.Events.{Dial, Accept, OnInfo, OnConnect, Cut, Dialed, Accepted, KeptAfterInfo, Kept as WasKept, WasCut};
+ghost use Rattle.route_session.specs.Steps.{session_refusal};
+ghost use Rattle.subj.specs.Servers.{IsListed};
+ghost use Rattle.node_parts.specs.Sides.{ByHub, BySessions, OfHub, OfSessions, IsDone, new_side, seen_name, side_after};
+
+use crate::peers::{drop_sessions, end_old_session, peer_named, seen_of};
+use hub_core::{Hub, HubFault, PublishPlan, Told};
+use interest::Delta;
+use route_session::{Kept, SessionFault, SessionId, Sessions};
+use route_values::{Numbered, RouteConnect, RouteInfo};
+use std::alloc::{AllocError, Global};
+use std::marker::Model;
+use subj::{ConnId, Failure, Finished, Job, Pub, Server};
+
+/// Counts the deltas of the shard, and tells of them: [`Hub::collect`].
+fn tell(hub: &mut Hub, shard: u64, deltas: &[Delta]) -> Result<Told, Failure<HubFault>>
+    ensures { IsAnswered (hub_refusal hub.old.server hub.old.state (Collect shard deltas.now)) (λ told. IsStep hub.old (Collect shard deltas.now) (Collected told.changes.items (collect_frames hub.old.server hub.old.state deltas.now) told.cut.items) hub.new) (hub.new ≡ hub.old) result }
+{
+    let _shard = shard;
+    hub.collect(deltas)
+}
+
+/// The hub and the sessions of a server, which are stepped together. (Profile.)
+///
+/// Seen as who the server is, and the states of both. Each call is a step of the one or of the other, with what the
+/// other does at it; a refusal and want of memory leave both as they were.
+#[derive(Drop)]
+pub struct Side {
+    hub: Hub,
+    sessions: Sessions,
+}
+
+impl Model for Side {
+    ghost use Rattle.std.specs.Prelude.{◌≡◌};
+    ghost use Rattle.node_parts.specs.Sides.{Side};
+
+    ghost Value = { Side };
+
+    ghost view = { λ s. record { server = s.hub.server; hub = s.hub.state; sessions = s.sessions.state } };
+
+    ghost invariant = { λ s. s.sessions.server ≡ s.hub.server };
+}
+
+impl Side {
+    /// Those of a server that has just started.
+    pub fn new(alloc: Global, server: Server) -> Result<Side, AllocError>
+        ensures { IfOk result (λ side. side ≡ new_side server) }
+    {
+        let sessions = Sessions::new(alloc, server.try_clone(alloc)?);
+        let hub = Hub::new(alloc, server)?;
+        Ok(Side { hub, sessions })
+    }
+
+    /// The names tell the servers of the cluster apart, and this one is one of them.
+    pub fn is_listed(&self)
+        ensures { IsListed self.now.server }
+    {
+        let _me = self.hub.server().me();
+    }
+
+    /// [`Hub::plan_publish`].
+    pub fn plan_publish(
+        &self,
+        conn: ConnId,
+        said: &Pub,
+        word: u64,
+        finished: &Finished,
+    ) -> Result<PublishPlan, Failure<HubFault>>
+        ensures { IsAnswered (publish_refusal self.now.server self.now.hub (publication conn said.now word) finished.now) (λ plan. IsPlanOf self.now.server self.now.hub (publication conn said.now word) plan.job plan.frames.items) ⊤ result }
+    {
+        self.hub.plan_publish(conn, said, word, finished)
+    }
+
+    /// [`Hub::plan_receive`].
+    pub fn plan_receive(
+        &self,
+        frame: &Numbered,
+        finished: &Finished,
+    ) -> Result<Option<Job>, Failure<HubFault>>
+        ensures { IsAnswered (receive_refusal self.now.server self.now.hub finished.now frame.now) (λ job. job ≡ job_of self.now.hub frame.now frame.now.body) ⊤ result }
+    {
+        self.hub.plan_receive(frame, finished)
+    }
+
+    /// [`Sessions::dialed`].
+    pub fn dial(&mut self, peer: usize) -> Result<SessionId, Failure<SessionFault>>
+        ensures { IsAnswered (session_refusal self.old.server self.old.sessions (Dial peer)) (λ session. IsDone self.old (BySessions (Dial peer)) (OfSessions (Dialed session)) self.new) (self.new ≡ self.old) result }
+    {
+        self.sessions.dialed(peer)
+    }
+
+    /// [`Sessions::accepted`].
+    pub fn accept(&mut self) -> Result<(SessionId, RouteInfo), Failure<SessionFault>>
+        ensures { IsAnswered (session_refusal self.old.server self.old.sessions Accept) (λ given. IsDone self.old (BySessions Accept) (OfSessions (Accepted given.0 given.1)) self.new) (self.new ≡ self.old) result }
+    {
+        self.sessions.accepted()
+    }
+
+    /// [`Sessions::cut`]; the peer of a kept session is not up any more.
+    pub fn cut(&mut self, session: SessionId) -> Result<Option<usize>, SessionFault>
+        ensures { IsDecided (session_refusal self.old.server self.old.sessions (Cut session)) (λ peer. IsDone self.old (BySessions (Cut session)) (OfSessions (WasCut peer)) self.new) (self.new ≡ self.old) result }
+    {
+        match self.sessions.cut(session) {
+            Err(fault) => Err(fault),
+            Ok(None) => Ok(None),
+            Ok(Some(peer)) => {
+                self.hub.peer_cut(peer);
+                Ok(Some(peer))
+            }
+        }
+    }
+
+    /// [`Sessions::on_info`]: the peer is up, and a snapshot of all interest is what waits for it.
+    pub fn info(
+        &mut self,
+        session: SessionId,
+        info: &RouteInfo,
+    ) -> Result<(Kept, RouteConnect), Failure<SessionFault>>
+        ensures { let e = OnInfo session info.now (seen_name self.old info.now.server_name) in IsAnswered (session_refusal self.old.server self.old.sessions e) (λ done. IsDone self.old (BySessions e) (OfSessions (KeptAfterInfo done.0.instead_of done.1)) self.new) (self.new ≡ self.old) result }
+    {
+        let least = seen_of(&self.hub, info.server_name());
+        if let Some(fault) = self.sessions.info_fault(session, info, least) {
+            return Err(Failure::Refused(fault));
+        }
+        let Some(place) = peer_named(self.hub.server(), info.server_name()) else {
+            unreachable!()
+        };
+        let inc = info.inc();
+        let _life = inc.get();
+        let Ok(snapshot) = self.hub.plan_up(place, inc) else {
+            return Err(Failure::OutOfMemory);
+        };
+        let Ok(done) = self.sessions.on_info(session, info, least) else {
+            unreachable!()
+        };
+        self.hub.commit_up(place, inc, snapshot);
+        Ok(done)
+    }
+
+    /// [`Sessions::on_connect`]: the peer is up, and a snapshot of all interest is what waits for it.
+    pub fn connect(
+        &mut self,
+        session: SessionId,
+        connect: &RouteConnect,
+    ) -> Result<Kept, Failure<SessionFault>>
+        ensures { let e = OnConnect session connect.now (seen_name self.old connect.now.server_name) in IsAnswered (session_refusal self.old.server self.old.sessions e) (λ kept. IsDone self.old (BySessions e) (OfSessions (WasKept kept.instead_of)) self.new) (self.new ≡ self.old) result }
+    {
+        let least = seen_of(&self.hub, connect.server_name());
+        if let Some(fault) = self.sessions.connect_fault(session, connect, least) {
+            return Err(Failure::Refused(fault));
+        }
+        let Some(place) = peer_named(self.hub.server(), connect.server_name()) else {
+            unreachable!()
+        };
+        let inc = connect.inc();
+        let _life = inc.get();
+        let Ok(greeting) = self.hub.plan_up(place, inc) else {
+            return Err(Failure::OutOfMemory);
+        };
+        let Ok(kept) = self.sessions.on_connect(session, connect, least) else {
+            unreachable!()
+        };
+        self.hub.commit_up(place, inc, greeting);
+        Ok(kept)
+    }
+
+    /// [`Hub::collect`] of the deltas of the shard; the sessions that are kept with peers that are cut end.
+    pub fn collect(&mut self, shard: u64, deltas: &[Delta]) -> Result<Told, Failure<HubFault>>
+        ensures { IsAnswered (hub_refusal self.old.server self.old.hub (Collect shard deltas.now)) (λ told. IsDone self.old (ByHub (Collect shard deltas.now)) (OfHub (Collected told.changes.items (collect_frames self.old.server self.old.hub deltas.now) told.cut.items)) self.new) (self.new ≡ self.old) result }
+    {
+        let told = match tell(&mut self.hub, shard, deltas) {
+            Ok(told) => told,
+            Err(fault) => return Err(fault),
+        };
+        drop_sessions(&mut self.sessions, &told.cut);
+        Ok(told)
+    }
+
+    /// [`Hub::receive`] of news. A frame of a later life of its peer ends the session that was kept with it.
+    pub fn hear(&mut self, frame: &Numbered, finished: &Finished) -> Result<(), Failure<HubFault>>
+        requires { has_message frame.now.body ≡ false }
+        ensures { IsAnswered (hub_refusal self.old.server self.old.hub (Receive frame.now finished.now)) (λ _. IsDone self.old (ByHub (Receive frame.now finished.now)) (OfHub (Heard frame.now.number)) self.new) (self.new ≡ self.old) result }
+    {
+        let _me = self.hub.server().me();
+        let seen = seen_of(&self.hub, frame.from());
+        let _received = match self.hub.receive(frame, finished) {
+            Ok(received) => received,
+            Err(fault) => return Err(fault),
+        };
+        end_old_session(&mut self.sessions, frame, seen);
+        Ok(())
+    }
+
+    /// [`Hub::commit_message`]. A frame of a later life of its peer ends the session that was kept with it.
+    pub fn take_message(&mut self, frame: &Numbered)
+        requires message { has_message frame.now.body ≡ true }
+        requires taken { IsTaken self.old.server self.old.hub frame.now }
+        ensures { self.new ≡ side_after self.old (ByHub (Receive frame.now [])) }
+    {
+        let _me = self.hub.server().me();
+        let seen = seen_of(&self.hub, frame.from());
+        self.hub.commit_message(frame);
+        end_old_session(&mut self.sessions, frame, seen);
+    }
+
+    /// [`Hub::take_route`].
+    pub fn take_frames(
+        &mut self,
+        peer: usize,
+        count: usize,
+    ) -> Result<Vec<Numbered>, Failure<HubFault>>
+        ensures { IsAnswered (hub_refusal self.old.server self.old.hub (TakeFrom peer count)) (λ frames. IsDone self.old (ByHub (TakeFrom peer count)) (OfHub (Taken frames.items)) self.new) (self.new ≡ self.old) result }
+    {
+        self.hub.take_route(peer, count)
+    }
+
+    /// [`Hub::commit_publish`].
+    pub fn commit_publish(&mut self, frames: Vec<Numbered>)
+        requires { IsPlanned self.old.server self.old.hub frames.items }
+        ensures { self.new ≡ record self.old { hub = put_out self.old.server self.old.hub frames.items } }
+    {
+        self.hub.commit_publish(frames);
+    }
+}

@@ -1,0 +1,12 @@
+pub mod Joining
+pub mod Clients
+pub mod Working
+pub mod Claims
+pub mod Drops
+pub mod Examples
+pub mod Lines
+pub mod Outlets
+pub mod HubCalls
+pub mod Publishing
+pub mod Receiving
+pub mod Parts

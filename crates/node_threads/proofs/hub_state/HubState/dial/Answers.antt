@@ -1,0 +1,12 @@
+use Rattle.node_threads.specs.AtHub.{hub_at}
+use Rattle.route_session.specs.Events.{Dial, Dialed}
+use Rattle.route_session.specs.Steps.{session_refusal}
+use Rattle.node_parts.specs.Sides.{BySessions, OfSessions}
+use Rattle.node_threads.proofs.HubCalls.{does_call, quiet_sessions}
+use Rattle.node_threads.proofs.hub_state.HubState.dial.Goals as goal
+
+pub invariant_of-self : goal.invariant_of-self
+invariant_of-self g c =
+    let s = c.self.inside in
+    let i = c.self.invariant in
+    ((does_call g.N.NodeName.race.shards (hub_at s.side s.seat.part s.finished s.outlet.jobs) c.dial.new.self (BySessions (Dial c.args.peer)) (λ n. OfSessions (Dialed n)) (session_refusal s.side.server s.side.sessions (Dial c.args.peer)) c.dial.result (quiet_sessions s.side (Dial c.args.peer)) i.0 c.dial.ensures).keeps, i.1)

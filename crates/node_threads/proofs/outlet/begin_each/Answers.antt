@@ -1,0 +1,15 @@
+use Rattle.std.proofs.Common.{◌≡◌, ◌+◌, ◌<◌, false, length, map, take, set, All, add-one, arith, sym, ap, ◌∙◌}
+use Rattle.node_threads.specs.Outlets.{Line}
+use Rattle.node_threads.proofs.Lines.{map_set_same, All_take_set}
+use Rattle.node_threads.proofs.outlet.begin_each.Goals as goal
+
+pub loop-line-preserved : goal.loop-line-preserved
+loop-line-preserved g c =
+    let l = c.loop-line in
+    let i = l.invariant in
+    let at = c.line-item.is in
+    let d = c.line-item.result in
+    let lt : l.line-index < length l.lines = omega arith in (
+      map_set_same (λ (line : Line). line.pushed) l.lines l.line-index c.begin.new.self d at (ap (λ (line : Line). line.pushed) (c.begin.ensures ∙ sym (ap (λ (line : Line). record line { taken = false }) at))) ∙ i.0,
+      rw add-one (All_take_set (λ (line : Line). line.taken ≡ false) l.lines l.line-index c.begin.new.self lt i.1 (ap (λ (line : Line). line.taken) c.begin.ensures)),
+    )

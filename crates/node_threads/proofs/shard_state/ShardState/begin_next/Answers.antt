@@ -1,0 +1,49 @@
+use Rattle.std.proofs.Common.{rules, ◌≡◌, false, true≢false, None, sym, ap, subst}
+use Rattle.shard_core.specs.Held.{Held, IsLeft}
+use Rattle.shard_core.specs.ShardEvents.{Begin}
+use Rattle.shard_core.specs.ShardSteps.{shard_refusal}
+use Rattle.node_threads.specs.AtWork.{IsAtWork, seen_as}
+use Rattle.node_threads.specs.Turns.{HasWorked, MayBegin}
+use Rattle.node_threads.proofs.Joining.{makes_nothing, works_nothing}
+use Rattle.node_threads.proofs.Working.{begun_at_work, begun_works, handed_back, waits_for}
+use Rattle.node_threads.proofs.shard_state.ShardState.begin_next.Goals as goal
+
+pub invariant_of-self : goal.invariant_of-self
+invariant_of-self g c =
+    let s = c.self.inside in
+    let i = c.self.invariant in
+    let same = ap (λ (h : Held). h.state) (handed_back (shard_refusal s.shard.state (Begin c.in_ok-job.job)) c.in_ok-job.job c.in-Err.field-0.job (IsLeft s.shard c.begin.new.self) c.in-Err.field-0.cause c.in-Err.ensures) in
+    (subst (λ t. IsAtWork g.N.NodeName.race.shards s.next_index (seen_as t s.seat.part s.lane.popped s.lane.hand s.waits)) (sym same) i.0, i.1, i.2, i.3)
+
+pub returns-in-Err-clause-works : goal.returns-in-Err-clause-works
+returns-in-Err-clause-works g c =
+    let s = c.self.inside in
+    let w = seen_as s.shard.state s.seat.part s.lane.popped s.lane.hand s.waits in
+    let same = ap (λ (h : Held). h.state) (handed_back (shard_refusal s.shard.state (Begin c.in_ok-job.job)) c.in_ok-job.job c.in-Err.field-0.job (IsLeft s.shard c.begin.new.self) c.in-Err.field-0.cause c.in-Err.ensures) in
+    subst (λ t. HasWorked c.args.self.now (seen_as t s.seat.part s.lane.popped s.lane.hand s.waits)) (sym same) (subst (λ old. HasWorked old w) c.self.view_is (works_nothing w w (makes_nothing w)))
+
+pub invariant_of-self-in-Ok : goal.invariant_of-self-in-Ok
+invariant_of-self-in-Ok g c =
+    let s = c.self.inside in
+    let i = c.self.invariant in
+    let w = seen_as s.shard.state s.seat.part s.lane.popped s.lane.hand s.waits in
+    let free : s.shard.state.hand ≡ None = search rules in
+    let may = subst MayBegin (sym c.self.view_is) c.requires free in
+    let waits = waits_for s.waits s.lane.hand c.in_ok-job.job c.in-Some.job.now may.0 c.in-Some.ensures c.in_ok-job.ensures in
+    let after = ap (λ (h : Held). h.state) c.in-Ok.ensures.1.after in (
+      subst (λ t. IsAtWork g.N.NodeName.race.shards 0 (seen_as t s.seat.part s.lane.popped s.lane.hand false)) (sym after) (begun_at_work g.N.NodeName.race.shards s.next_index w c.in_ok-job.job i.0 waits may.1 c.in-Ok.ensures.0),
+      λ e. absurd (true≢false (sym e)),
+      i.2,
+      i.3,
+    )
+
+pub returns-clause-works : goal.returns-clause-works
+returns-clause-works g c =
+    let s = c.self.inside in
+    let w = seen_as s.shard.state s.seat.part s.lane.popped s.lane.hand s.waits in
+    let free : s.shard.state.hand ≡ None = search rules in
+    let may = subst MayBegin (sym c.self.view_is) c.requires free in
+    let waits = waits_for s.waits s.lane.hand c.in_ok-job.job c.in-Some.job.now may.0 c.in-Some.ensures c.in_ok-job.ensures in
+    let after = ap (λ (h : Held). h.state) c.in-Ok.ensures.1.after in
+    subst (λ old. HasWorked old (seen_as c.begin.new.self.state s.seat.part s.lane.popped s.lane.hand false)) c.self.view_is
+    (subst (λ t. HasWorked w (seen_as t s.seat.part s.lane.popped s.lane.hand false)) (sym after) (begun_works w c.in_ok-job.job waits c.in-Ok.ensures.0))

@@ -1,0 +1,66 @@
+use Rattle.std.proofs.Common.{◌-◌, true, false, refl, sym, ◌∙◌, subst}
+use Rattle.std.specs.Prelude.{slice_get}
+use Rattle.node_threads.specs.AtWork.{AtWork, seen_as}
+use Rattle.node_threads.specs.Turns.{MayClaim, ClaimsOne}
+use Rattle.node_threads.proofs.Claims.{seat_claims, claims_nobody, claims_lost, claims_won, claim_at_work, claim_works}
+use Rattle.node_threads.proofs.shard_state.ShardState.claim.Goals as goal
+
+pub invariant_of-self-in-Ok-None : goal.invariant_of-self-in-Ok-None
+invariant_of-self-in-Ok-None g c =
+    let s = c.self.inside in
+    let i = c.self.invariant in
+    let w = seen_as s.shard.state s.seat.part s.lane.popped s.lane.hand s.waits in
+    let m = subst (λ (o : AtWork). MayClaim c.args.index o.state) (sym c.self.view_is) c.requires.next in
+    let low = (seat_claims g.N.NodeName.race.shards s.next_index w c.args.index c.in-Some.job.now i.0 m (sym c.in-Some.ensures) c.as_slice-names.ensures.valid).1 in
+    let did = claims_nobody c.claims_are_whole.ensures w s.shard c.candidate.new.self c.args.index c.in-Ok-None.field-0 refl m low c.in-Ok-None.ensures.1 c.in-Ok-None.field-0-is in
+    (claim_at_work g.N.NodeName.race.shards s.next_index w c.args.index false c.candidate.new.self.state s.seat.part i.0 m did, i.1, i.2, i.3)
+
+pub returns-in-Ok-None-clause-ok : goal.returns-in-Ok-None-clause-ok
+returns-in-Ok-None-clause-ok g c =
+    let s = c.self.inside in
+    let i = c.self.invariant in
+    let w = seen_as s.shard.state s.seat.part s.lane.popped s.lane.hand s.waits in
+    let m = subst (λ (o : AtWork). MayClaim c.args.index o.state) (sym c.self.view_is) c.requires.next in
+    let low = (seat_claims g.N.NodeName.race.shards s.next_index w c.args.index c.in-Some.job.now i.0 m (sym c.in-Some.ensures) c.as_slice-names.ensures.valid).1 in
+    let did = claims_nobody c.claims_are_whole.ensures w s.shard c.candidate.new.self c.args.index c.in-Ok-None.field-0 refl m low c.in-Ok-None.ensures.1 c.in-Ok-None.field-0-is in
+    subst (λ old. ClaimsOne c.args.index old (seen_as c.candidate.new.self.state s.seat.part s.lane.popped s.lane.hand s.waits)) c.self.view_is (claim_works w c.args.index false c.candidate.new.self.state s.seat.part m did)
+
+pub invariant_of-self-then-not-claim : goal.invariant_of-self-then-not-claim
+invariant_of-self-then-not-claim g c =
+    let s = c.self.inside in
+    let i = c.self.invariant in
+    let w = seen_as s.shard.state s.seat.part s.lane.popped s.lane.hand s.waits in
+    let m = subst (λ (o : AtWork). MayClaim c.args.index o.state) (sym c.self.view_is) c.requires.next in
+    let lost = c.claim.ensures.lost c.if-not-claim.true in
+    let did = claims_lost c.claims_are_whole.ensures w s.shard c.candidate.new.self c.args.index c.in-Ok-Some.field-0 c.in-Ok-Some.field-0-0 c.claim.new.seat.part refl i.0.finished m c.in-Ok-Some.ensures.1 c.in-Ok-Some.field-0-is lost in
+    (claim_at_work g.N.NodeName.race.shards s.next_index w c.args.index false c.candidate.new.self.state c.claim.new.seat.part i.0 m did, i.1, c.claim.ensures.race ∙ i.2, (λ k. slice_get g.N.NodeName.lanes ((lost k).shard - 1)) ∙ i.3)
+
+pub returns-then-not-claim-clause-ok : goal.returns-then-not-claim-clause-ok
+returns-then-not-claim-clause-ok g c =
+    let s = c.self.inside in
+    let i = c.self.invariant in
+    let w = seen_as s.shard.state s.seat.part s.lane.popped s.lane.hand s.waits in
+    let m = subst (λ (o : AtWork). MayClaim c.args.index o.state) (sym c.self.view_is) c.requires.next in
+    let lost = c.claim.ensures.lost c.if-not-claim.true in
+    let did = claims_lost c.claims_are_whole.ensures w s.shard c.candidate.new.self c.args.index c.in-Ok-Some.field-0 c.in-Ok-Some.field-0-0 c.claim.new.seat.part refl i.0.finished m c.in-Ok-Some.ensures.1 c.in-Ok-Some.field-0-is lost in
+    subst (λ old. ClaimsOne c.args.index old (seen_as c.candidate.new.self.state c.claim.new.seat.part s.lane.popped s.lane.hand s.waits)) c.self.view_is (claim_works w c.args.index false c.candidate.new.self.state c.claim.new.seat.part m did)
+
+pub invariant_of-self-in-Ok-Some : goal.invariant_of-self-in-Ok-Some
+invariant_of-self-in-Ok-Some g c =
+    let s = c.self.inside in
+    let i = c.self.invariant in
+    let w = seen_as s.shard.state s.seat.part s.lane.popped s.lane.hand s.waits in
+    let m = subst (λ (o : AtWork). MayClaim c.args.index o.state) (sym c.self.view_is) c.requires.next in
+    let won = c.claim.ensures.won c.if-not-claim.false in
+    let did = claims_won c.claims_are_whole.ensures w s.shard c.candidate.new.self c.place-ended.new.self c.args.index c.in-Ok-Some.field-0 c.in-Ok-Some.field-0-0 c.claim.new.seat.part refl i.0.finished m c.in-Ok-Some.ensures.1 c.in-Ok-Some.field-0-is won c.place-ended.ensures.placed in
+    (claim_at_work g.N.NodeName.race.shards s.next_index w c.args.index true c.place-ended.new.self.state c.claim.new.seat.part i.0 m did, i.1, c.claim.ensures.race ∙ i.2, (λ k. slice_get g.N.NodeName.lanes ((won k).shard - 1)) ∙ i.3)
+
+pub returns-clause-ok : goal.returns-clause-ok
+returns-clause-ok g c =
+    let s = c.self.inside in
+    let i = c.self.invariant in
+    let w = seen_as s.shard.state s.seat.part s.lane.popped s.lane.hand s.waits in
+    let m = subst (λ (o : AtWork). MayClaim c.args.index o.state) (sym c.self.view_is) c.requires.next in
+    let won = c.claim.ensures.won c.if-not-claim.false in
+    let did = claims_won c.claims_are_whole.ensures w s.shard c.candidate.new.self c.place-ended.new.self c.args.index c.in-Ok-Some.field-0 c.in-Ok-Some.field-0-0 c.claim.new.seat.part refl i.0.finished m c.in-Ok-Some.ensures.1 c.in-Ok-Some.field-0-is won c.place-ended.ensures.placed in
+    subst (λ old. ClaimsOne c.args.index old (seen_as c.place-ended.new.self.state c.claim.new.seat.part s.lane.popped s.lane.hand s.waits)) c.self.view_is (claim_works w c.args.index true c.place-ended.new.self.state c.claim.new.seat.part m did)

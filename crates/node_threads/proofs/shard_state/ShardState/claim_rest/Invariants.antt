@@ -1,0 +1,5 @@
+use Rattle.node_threads.specs.Turns.{HasWorked, IsTrying}
+use Rattle.node_threads.proofs.shard_state.ShardState.claim_rest.Given as goal
+
+abbrev pub invariant-loop-index : goal.invariant-loop-index
+invariant-loop-index g l = HasWorked l.fn.self l.self × IsTrying l.index l.count l.self.state

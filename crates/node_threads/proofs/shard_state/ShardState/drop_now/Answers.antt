@@ -1,0 +1,36 @@
+use Rattle.std.proofs.Common.{◌≡◌, ◌-◌, true≢false, false, sym, ap, ◌∙◌, subst}
+use Rattle.std.specs.Prelude.{slice_get}
+use Rattle.shard_core.specs.Held.{Held}
+use Rattle.shard_core.specs.ShardEvents.{DropJob}
+use Rattle.shard_core.specs.ShardSteps.{shard_after}
+use Rattle.node_threads.specs.AtWork.{AtWork, IsAtWork, seen_as}
+use Rattle.node_threads.specs.Turns.{HasDropped, MayBegin}
+use Rattle.node_threads.proofs.Drops.{dropped_one, dropped_at_work, has_dropped, same_drop, with_dropped}
+use Rattle.node_threads.proofs.shard_state.ShardState.drop_now.Goals as goal
+
+pub invariant_of-self : goal.invariant_of-self
+invariant_of-self g c =
+    let s = c.self.inside in
+    let i = c.self.invariant in
+    let w = seen_as s.shard.state s.seat.part s.lane.popped s.lane.hand s.waits in
+    let d = dropped_one g.N.NodeName.race.shards s.next_index w i.0 (subst MayBegin (sym c.self.view_is) c.requires.may) in
+    let waits = c.requires.waits ∙ ap (λ (o : AtWork). o.waiting) (sym c.self.view_is) in
+    let after = ap (λ (h : Held). h.state) c.drop_job.ensures.after ∙ ap (λ o. shard_after s.shard.state (DropJob o)) waits in
+    let is : seen_as c.drop_job.new.self.state c.finish.new.seat.part s.lane.popped s.lane.hand false ≡ with_dropped w = λ k. seen_as (after k) (c.finish.ensures.part k) s.lane.popped s.lane.hand false in (
+      subst (IsAtWork g.N.NodeName.race.shards 0) (sym is) (dropped_at_work g.N.NodeName.race.shards s.next_index w d.0 i.0 d.1),
+      λ e. absurd (true≢false (sym e)),
+      c.finish.ensures.race ∙ i.2,
+      (λ k. slice_get g.N.NodeName.lanes ((c.finish.ensures.part k).shard - 1)) ∙ i.3,
+    )
+
+pub returns : goal.returns
+returns g c =
+    let s = c.self.inside in
+    let w = seen_as s.shard.state s.seat.part s.lane.popped s.lane.hand s.waits in
+    let d = dropped_one g.N.NodeName.race.shards s.next_index w c.self.invariant.0 (subst MayBegin (sym c.self.view_is) c.requires.may) in
+    let waits = c.requires.waits ∙ ap (λ (o : AtWork). o.waiting) (sym c.self.view_is) in
+    let after = ap (λ (h : Held). h.state) c.drop_job.ensures.after ∙ ap (λ o. shard_after s.shard.state (DropJob o)) waits in
+    let new = seen_as c.drop_job.new.self.state c.finish.new.seat.part s.lane.popped s.lane.hand false in
+    let is : new ≡ with_dropped w = λ k. seen_as (after k) (c.finish.ensures.part k) s.lane.popped s.lane.hand false in
+    let turn : d.0.turn ≡ c.in-Some.job.turn = same_drop s.shard.state w.waiting c.args.waiting d.0 c.in-Some.job d.1.job_is waits c.in-Some.ensures.answered in
+    record { dropped = subst (λ old. HasDropped old c.in-Some.job.turn new) c.self.view_is (subst (λ n. HasDropped w n new) turn (subst (HasDropped w d.0.turn) (sym is) (has_dropped w d.0 d.1))) }

@@ -1,0 +1,35 @@
+-- The jobs of a hub on their way to the lanes.
+use Rattle.std.specs.Prelude.{◌≡◌, ◌<◌, ℕ, Bool, true, false, List, [], ◌∷◌, ◌++◌, length, All, Option, Some, None}
+use Rattle.subj.specs.declared.jobs.Job.{Job}
+use Rattle.job_lane.specs.Turns.{AreNumbered}
+
+-- the hub's end of a lane: of which shard, counted from 1; what was pushed to the lane; and whether that has the run that is handed out
+pub record Line : Type 0 where
+  pub shard : ℕ
+  pub pushed : List Job
+  pub taken : Bool
+
+-- the run that a lane does not have yet
+abbrev pub owed : Bool → Option (List Job) → List Job
+owed taken None = []
+owed true (Some run) = []
+owed false (Some run) = run
+
+-- what was pushed, and what is still to be
+abbrev pub handed_to : Option (List Job) → List Job → Line → List Job
+handed_to run unsent line = line.pushed ++ (owed line.taken run ++ unsent)
+
+-- the same for all lanes: that of the first
+abbrev pub handed : Option (List Job) → List Job → List Line → List Job
+handed run unsent [] = []
+handed run unsent (line ∷ lines) = handed_to run unsent line
+
+-- all jobs that the shards are handed, and how many more there is room for
+pub record Outlet : Type 0 where
+  pub jobs : List Job
+  pub room : ℕ
+
+pub record IsOutlet (run : Option (List Job)) (unsent : List Job) (lines : List Line) : Type 0 where
+  pub some : 0 < length lines
+  pub alike : All (λ line. handed_to run unsent line ≡ handed run unsent lines) lines
+  pub numbered : AreNumbered (handed run unsent lines)

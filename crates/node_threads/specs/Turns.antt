@@ -1,0 +1,105 @@
+-- What a turn of a shard does.
+use Rattle.std.specs.Prelude.{◌≡◌, ℕ, ◌+◌, ◌<◌, ◌≤◌, Bool, true, false, List, [], ◌∷◌, length, Option, None, Some, is_some, Result, Ok, Err}
+use Rattle.list_laws.specs.Lists.{Each}
+use Rattle.subj.specs.declared.jobs.Job.{Job}
+use Rattle.subj.specs.declared.failures.Failure.{Failure}
+use Rattle.subj.specs.declared.failures.Failure.TheVariants.{Refused, OutOfMemory}
+use Rattle.claim_cells.specs.Seats.{HasTurn}
+use Rattle.shard_core.specs.ShardEvents.{Event, Attach, Subscribe, Unsubscribe, Reply, Shut, Detach, Take, Begin, Claim, End, DropJob, Collect}
+use Rattle.shard_core.specs.declared.faults.ShardFault.{ShardFault}
+use Rattle.shard_core.specs.declared.faults.ShardFault.TheVariants.{NoJob}
+use Rattle.shard_core.specs.Shards.{State}
+use Rattle.node_threads.specs.AtWork.{AtWork, Makes}
+use Rattle.node_threads.specs.Steps.{Done}
+use Rattle.node_threads.specs.declared.turned.Turned.{Turned}
+use Rattle.node_threads.specs.declared.turned.Turned.TheVariants.{Idle, Worked, Short}
+
+-- an event of a turn that is not its end
+abbrev pub is_work : Event → Bool
+is_work Attach = false
+is_work (Subscribe conn key sid) = false
+is_work (Unsubscribe conn sid max) = false
+is_work (Reply conn frame) = false
+is_work (Shut conn text) = false
+is_work (Detach conn) = false
+is_work (Take conn count) = false
+is_work (Begin job) = true
+is_work (Claim index won) = true
+is_work End = false
+is_work (DropJob waiting) = false
+is_work Collect = false
+
+-- steps that a turn makes before its end: each is the shard's step
+pub record Works (old : AtWork) (steps : List Done) (new : AtWork) : Type 0 where
+  pub makes : Makes old steps new
+  pub work : Each (λ d. is_work d.event ≡ true) steps
+
+abbrev pub HasWorked : AtWork → AtWork → Type 0
+HasWorked old new = (steps : List Done) × Works old steps new
+
+-- no job is in hand, and none that was popped has a turn that the shard has seen issued
+pub record HasNone (w : AtWork) : Type 0 where
+  pub hand : w.state.hand ≡ None
+  pub turn : is_some w.waiting ≡ true → ¬ HasTurn w.part
+
+-- after some such steps the job in hand is ended
+pub record HasEnded (old : AtWork) (turn : ℕ) (new : AtWork) : Type 0 where
+  pub last : Done
+  pub earlier : List Done
+  pub makes : Makes old (last ∷ earlier) new
+  pub work : Each (λ d. is_work d.event ≡ true) earlier
+  pub ends : last.event ≡ End
+  pub turn_is : turn ≡ last.before.finished + 1
+
+abbrev pub Turns : AtWork → Turned → AtWork → Type 0
+Turns old Idle new = Makes old [] new × HasNone new
+Turns old (Worked turn) new = HasEnded old turn new
+Turns old Short new = HasWorked old new
+
+-- ---- a job is dropped
+
+-- the job in hand, or else the one that waits, is done without the rest of it
+pub record HasDropped (old : AtWork) (turn : ℕ) (new : AtWork) : Type 0 where
+  pub last : Done
+  pub job : Option Job
+  pub makes : Makes old (last ∷ []) new
+  pub drops : last.event ≡ DropJob job
+  pub turn_is : turn ≡ last.before.finished + 1
+
+abbrev pub Drops : AtWork → Result ℕ (Failure ShardFault) → AtWork → Type 0
+Drops old (Ok turn) new = HasDropped old turn new
+Drops old (Err (Refused why)) new = (why ≡ NoJob) × Makes old [] new × HasNone new
+Drops old (Err OutOfMemory) new = Makes old [] new
+
+-- ---- its parts
+
+-- a job is in hand, or one that was popped has a turn that the shard has seen issued
+abbrev pub MayBegin : AtWork → Type 0
+MayBegin w = w.state.hand ≡ None → (is_some w.waiting ≡ true) × HasTurn w.part
+
+-- the index is the next one of the job in hand
+pub record MayClaim (index : ℕ) (s : State) : Type 0 where
+  pub job : Job
+  pub hand : s.hand ≡ Some job
+  pub next : index ≡ s.next_index
+  pub within : index < length job.queues
+
+-- the index was tried
+pub record ClaimsOne (index : ℕ) (old new : AtWork) : Type 0 where
+  pub works : HasWorked old new
+  pub next : new.state.next_index ≡ index + 1
+  pub hand : new.state.hand ≡ old.state.hand
+
+-- all queue names of the job in hand were tried
+pub record HasTried (s : State) : Type 0 where
+  pub job : Job
+  pub hand : s.hand ≡ Some job
+  pub tried : s.next_index ≡ length job.queues
+
+-- the indices of the job in hand, so many, were tried up to this one
+pub record IsTrying (index count : ℕ) (s : State) : Type 0 where
+  pub job : Job
+  pub hand : s.hand ≡ Some job
+  pub next : s.next_index ≡ index
+  pub names : length job.queues ≡ count
+  pub within : index ≤ count

@@ -1,0 +1,66 @@
+//! Jobs that a shard drops.
+
+ghost use Rattle.std.specs.Prelude.{◌≡◌, IfOk};
+ghost use Rattle.node_threads.specs.Turns.{Drops, HasDropped, MayBegin};
+
+use crate::names::NodeName;
+use crate::shard_state::ShardState;
+use claim_cells::Cells;
+use shard_core::ShardFault;
+use std::alloc::AllocError;
+use std::sync::Wait;
+use sub_table::SubTable;
+use subj::{Failure, Job, Turn};
+
+impl<T: SubTable, N: NodeName> ShardState<T, N> {
+    /// Drops the job in hand, or else the next one, and its turn is finished: [`Shard::drop_job`]. Gives
+    /// that turn. Refused with [`ShardFault::NoJob`] where a turn would be [`Turned::Idle`]; a job that was
+    /// popped stays with the shard, also for want of memory. Required: the race of this server. May wait.
+    ///
+    /// [`Shard::drop_job`]: shard_core::Shard::drop_job
+    /// [`Turned::Idle`]: crate::Turned::Idle
+    pub fn drop_job<R: Wait>(&mut self, rt: &R, cells: &Cells) -> Result<Turn, Failure<ShardFault>>
+        requires { cells.now ≡ N.race }
+        ensures { Drops self.old result self.new }
+    {
+        if !self.has_job(rt, cells) {
+            return Err(Failure::Refused(ShardFault::NoJob));
+        }
+        let Ok(waiting) = self.waiting_copy() else {
+            return Err(Failure::OutOfMemory);
+        };
+        Ok(self.drop_now(cells, waiting))
+    }
+
+    /// A copy of the job that waits.
+    fn waiting_copy(&self) -> Result<Option<Job>, AllocError>
+        ensures { IfOk result (λ waiting. waiting ≡ self.now.waiting) }
+    {
+        if !self.waits {
+            return Ok(None);
+        }
+        match self.lane.in_hand() {
+            None => Ok(None),
+            Some(job) => {
+                let job = job.try_clone()?;
+                Ok(Some(job))
+            }
+        }
+    }
+
+    /// Drops the job in hand, or else the one that waits.
+    fn drop_now(&mut self, cells: &Cells, waiting: Option<Job>) -> Turn
+        requires race { cells.now ≡ N.race }
+        requires may { MayBegin self.old }
+        requires waits { waiting ≡ self.old.waiting }
+        ensures dropped { HasDropped self.old result self.new }
+    {
+        let Some(job) = self.shard.drop_job(waiting) else {
+            unreachable!()
+        };
+        cells.finish(&mut self.seat);
+        self.waits = false;
+        self.next_index = 0;
+        job.turn
+    }
+}

@@ -1,0 +1,318 @@
+//! What stands under the lock of the hub.
+
+ghost use Rattle.std.specs.Prelude.{◌≡◌, ◌<◌, ⊤, [], true, false, All, length, IfOk};
+ghost use Rattle.subj.specs.Answers.{IsAnswered, IsDecided};
+ghost use Rattle.claim_cells.specs.Calls.{IsLooked};
+ghost use Rattle.claim_cells.specs.Rule.{fresh_hub};
+ghost use Rattle.hub_core.specs.Chosen.{IsPlanOf, publication};
+ghost use Rattle.hub_core.specs.Calls.{job_of};
+ghost use Rattle.hub_core.specs.Events.{Receive, TakeFrom, Heard as WasHeard, Taken};
+ghost use Rattle.hub_core.specs.Publishing.{publish_refusal};
+ghost use Rattle.hub_core.specs.Receiving.{has_message, receive_refusal};
+ghost use Rattle.hub_core.specs.Steps.{hub_refusal};
+ghost use Rattle.route_session.specs.Events.{Dial, Accept, OnInfo, OnConnect, Cut, Dialed, Accepted, KeptAfterInfo, Kept as WasKept, WasCut};
+ghost use Rattle.route_session.specs.Steps.{session_refusal};
+ghost use Rattle.node_threads.specs.AtHub.{Collects, Does, Looks, Publishes, Receives, Routes, refuses_busy};
+ghost use Rattle.node_parts.specs.Sides.{ByHub, BySessions, OfHub, OfSessions, new_side, seen_name};
+
+use crate::line::Line;
+use crate::names::NodeName;
+use crate::outlet::Outlet;
+use crate::shard_state::ShardState;
+use claim_cells::{Cells, HubSeat};
+use hub_core::{HubFault, PublishPlan, Told};
+use node_parts::{Issued, Received, Side, is_message};
+use route_session::{Kept, SessionFault, SessionId};
+use route_values::{Numbered, RouteConnect, RouteInfo};
+use std::alloc::{AllocError, Global};
+use std::marker::{Model, PhantomData};
+use std::sync::Wait;
+use sub_table::SubTable;
+use subj::{ConnId, Failure, Finished, Job, Pub, Server, Turn};
+
+/// The hub of a server on threads: the hub and its sessions, its seat at the race, and its ends of the
+/// lanes. (Profile.)
+///
+/// Seen as the hub's and the sessions' states, what its seat knows, the last turns that the shards finished,
+/// as it has loaded them last, and all jobs that it gave to the shards. All that it ever did is a list of
+/// the hub's and the sessions' own steps, and the jobs are those of their answers; what was pushed to each
+/// lane is a beginning of these.
+#[derive(Drop)]
+pub struct HubState<N: NodeName> {
+    side: Side,
+    seat: HubSeat,
+    finished: Finished,
+    outlet: Outlet<N>,
+    of: PhantomData<N>,
+}
+
+impl<N: NodeName> Model for HubState<N> {
+    ghost use Rattle.std.specs.Prelude.{◌≡◌};
+    ghost use Rattle.node_threads.specs.AtHub.{AtHub, IsAtHub, hub_at};
+
+    ghost Value = { AtHub };
+
+    ghost view = { λ s. hub_at s.side s.seat.part s.finished s.outlet.jobs };
+
+    ghost invariant = { λ s. IsAtHub N.race.shards (hub_at s.side s.seat.part s.finished s.outlet.jobs) × (s.seat.race ≡ N.race) };
+}
+
+/// Whether it was refused since a shard is a window behind.
+fn is_busy<X>(planned: &Result<X, Failure<HubFault>>) -> bool
+    ensures { result ≡ refuses_busy planned.now }
+{
+    matches!(planned, Err(Failure::Refused(HubFault::Busy(_))))
+}
+
+impl<N: NodeName> HubState<N> {
+    /// The hub of a server that has just started, with these lanes, one a shard: nothing is issued.
+    pub fn new(
+        alloc: Global,
+        server: Server,
+        cells: &Cells,
+        seat: HubSeat,
+        lines: Vec<Line<N>>,
+    ) -> Result<HubState<N>, AllocError>
+        requires race { (cells.now ≡ N.race) × (seat.race ≡ N.race) }
+        requires shards { server.shards ≡ N.race.shards }
+        requires fresh { seat.part ≡ fresh_hub }
+        requires some { 0 < length lines.items }
+        requires lines { All (λ line. line.pushed ≡ []) lines.items }
+        ensures { IfOk result (λ made. (made.side ≡ new_side server) × (made.issued ≡ [])) }
+    {
+        let side = Side::new(alloc, server)?;
+        let mut seat = seat;
+        let finished = cells.look(&mut seat);
+        Ok(HubState {
+            side,
+            seat,
+            finished,
+            outlet: Outlet::new(alloc, lines),
+            of: PhantomData,
+        })
+    }
+
+    /// Pushes the jobs that were given to the shards and are not pushed yet, oldest first: those of all
+    /// publications since the last call as one run. What a lane has no room for, or for which there is no
+    /// memory, is pushed by a later call. May wait.
+    pub fn push_jobs<R: Wait>(&mut self, rt: &R)
+        ensures { self.new ≡ self.old }
+    {
+        self.outlet.push_all(rt);
+    }
+
+    /// Loads the last turn that each shard finished.
+    fn look(&mut self, cells: &Cells)
+        requires race { cells.now ≡ N.race }
+        ensures loads { IsLooked N.race.shards self.old.part self.new.finished self.new.part }
+        ensures rest { self.new ≡ record self.old { part = self.new.part; finished = self.new.finished } }
+    {
+        self.finished = cells.look(&mut self.seat);
+    }
+
+    /// What a publication owes; the hub looks at the shards where it must.
+    fn plan_publish(
+        &mut self,
+        cells: &Cells,
+        conn: ConnId,
+        said: &Pub,
+        word: u64,
+    ) -> Result<PublishPlan, Failure<HubFault>>
+        requires race { cells.now ≡ N.race }
+        ensures looks { Looks N.race.shards self.old self.new }
+        ensures planned { IsAnswered (publish_refusal self.new.side.server self.new.side.hub (publication conn said.now word) self.new.finished) (λ plan. IsPlanOf self.new.side.server self.new.side.hub (publication conn said.now word) plan.job plan.frames.items) ⊤ result }
+        ensures fresh { refuses_busy result ≡ true → IsLooked N.race.shards self.old.part self.new.finished self.new.part }
+    {
+        let planned = self.side.plan_publish(conn, said, word, &self.finished);
+        if !is_busy(&planned) {
+            return planned;
+        }
+        self.look(cells);
+        self.side.plan_publish(conn, said, word, &self.finished)
+    }
+
+    /// Issues a publication of the connection: it takes the next number and the next turn, its frames wait
+    /// for their peers, and its job is given to each shard. [`HubState::push_jobs`] pushes it. The word
+    /// decides who serves each queue name.
+    ///
+    /// Refused as [`Hub::plan_publish`](hub_core::Hub::plan_publish) is; [`HubFault::Busy`] is told by one
+    /// load of each shard that was made in this call. Any `Err` leaves all as it was. Required: the race of
+    /// this server.
+    pub fn publish(
+        &mut self,
+        cells: &Cells,
+        conn: ConnId,
+        said: &Pub,
+        word: u64,
+    ) -> Result<Issued, Failure<HubFault>>
+        requires { cells.now ≡ N.race }
+        ensures { Publishes N.race.shards self.old (publication conn said.now word) result self.new }
+    {
+        let PublishPlan { job, frames } = self.plan_publish(cells, conn, said, word)?;
+        let Ok(()) = self.outlet.reserve() else {
+            return Err(Failure::OutOfMemory);
+        };
+        let told = Issued {
+            turn: job.turn,
+            frames: frames.len(),
+        };
+        self.side.commit_publish(frames);
+        let Ok(_) = cells.issue(&mut self.seat) else {
+            unreachable!()
+        };
+        self.outlet.add(job);
+        Ok(told)
+    }
+
+    /// The job of a message; the hub looks at the shards where it must.
+    fn plan_message(
+        &mut self,
+        cells: &Cells,
+        frame: &Numbered,
+    ) -> Result<Option<Job>, Failure<HubFault>>
+        requires race { cells.now ≡ N.race }
+        ensures looks { Looks N.race.shards self.old self.new }
+        ensures planned { IsAnswered (receive_refusal self.new.side.server self.new.side.hub self.new.finished frame.now) (λ job. job ≡ job_of self.new.side.hub frame.now frame.now.body) ⊤ result }
+        ensures fresh { refuses_busy result ≡ true → IsLooked N.race.shards self.old.part self.new.finished self.new.part }
+    {
+        let planned = self.side.plan_receive(frame, &self.finished);
+        if !is_busy(&planned) {
+            return planned;
+        }
+        self.look(cells);
+        self.side.plan_receive(frame, &self.finished)
+    }
+
+    /// Takes a message: the turn of its job, which is given to each shard.
+    fn route(&mut self, cells: &Cells, frame: &Numbered) -> Result<Turn, Failure<HubFault>>
+        requires race { cells.now ≡ N.race }
+        requires message { has_message frame.now.body ≡ true }
+        ensures { Routes N.race.shards self.old frame.now result self.new }
+    {
+        let planned = self.plan_message(cells, frame)?;
+        let Some(job) = planned else { unreachable!() };
+        let Ok(()) = self.outlet.reserve() else {
+            return Err(Failure::OutOfMemory);
+        };
+        self.side.is_listed();
+        let turn = job.turn;
+        self.side.take_message(frame);
+        let Ok(_) = cells.issue(&mut self.seat) else {
+            unreachable!()
+        };
+        self.outlet.add(job);
+        Ok(turn)
+    }
+
+    /// Hears news of a peer.
+    fn hear(&mut self, frame: &Numbered) -> Result<(), Failure<HubFault>>
+        requires { has_message frame.now.body ≡ false }
+        ensures { IsAnswered (receive_refusal self.old.side.server self.old.side.hub self.old.finished frame.now) (λ _. Does self.old (ByHub (Receive frame.now self.old.finished)) (OfHub (WasHeard frame.now.number)) self.new) (self.new ≡ self.old) result }
+    {
+        self.side.hear(frame, &self.finished)
+    }
+
+    /// Takes a frame of a peer. A message is issued: its job has the next turn and is given to each shard,
+    /// and [`HubState::push_jobs`] pushes it; news are heard. A frame of a later life of the peer than was
+    /// seen ends the session that was kept with it. Nothing is sent on (NATS documentation, "Cluster
+    /// Protocol").
+    ///
+    /// Refused as [`Hub::plan_receive`](hub_core::Hub::plan_receive) is; [`HubFault::Busy`] is told by one
+    /// load of each shard that was made in this call. Any `Err` leaves all as it was. Required: the race of
+    /// this server.
+    pub fn receive(
+        &mut self,
+        cells: &Cells,
+        frame: &Numbered,
+    ) -> Result<Received, Failure<HubFault>>
+        requires { cells.now ≡ N.race }
+        ensures { Receives N.race.shards self.old frame.now result self.new }
+    {
+        if is_message(frame) {
+            return match self.route(cells, frame) {
+                Ok(turn) => Ok(Received::Routed(turn)),
+                Err(fault) => Err(fault),
+            };
+        }
+        match self.hear(frame) {
+            Ok(()) => Ok(Received::Heard(frame.number())),
+            Err(fault) => Err(fault),
+        }
+    }
+
+    /// [`Sessions::dialed`](route_session::Sessions::dialed).
+    pub fn dial(&mut self, peer: usize) -> Result<SessionId, Failure<SessionFault>>
+        ensures { IsAnswered (session_refusal self.old.side.server self.old.side.sessions (Dial peer)) (λ session. Does self.old (BySessions (Dial peer)) (OfSessions (Dialed session)) self.new) (self.new ≡ self.old) result }
+    {
+        self.side.dial(peer)
+    }
+
+    /// [`Sessions::accepted`](route_session::Sessions::accepted).
+    pub fn accept(&mut self) -> Result<(SessionId, RouteInfo), Failure<SessionFault>>
+        ensures { IsAnswered (session_refusal self.old.side.server self.old.side.sessions Accept) (λ given. Does self.old (BySessions Accept) (OfSessions (Accepted given.0 given.1)) self.new) (self.new ≡ self.old) result }
+    {
+        self.side.accept()
+    }
+
+    /// [`Sessions::cut`](route_session::Sessions::cut); where the session was kept, its peer is not up any
+    /// more. Takes no memory.
+    pub fn cut(&mut self, session: SessionId) -> Result<Option<usize>, SessionFault>
+        ensures { IsDecided (session_refusal self.old.side.server self.old.side.sessions (Cut session)) (λ peer. Does self.old (BySessions (Cut session)) (OfSessions (WasCut peer)) self.new) (self.new ≡ self.old) result }
+    {
+        self.side.cut(session)
+    }
+
+    /// [`Sessions::on_info`](route_session::Sessions::on_info), with the greatest incarnation that the hub
+    /// has seen of the sender. The peer is up then, and a snapshot of all interest is what waits for it.
+    pub fn info(
+        &mut self,
+        session: SessionId,
+        info: &RouteInfo,
+    ) -> Result<(Kept, RouteConnect), Failure<SessionFault>>
+        ensures { let e = OnInfo session info.now (seen_name self.old.side info.now.server_name) in IsAnswered (session_refusal self.old.side.server self.old.side.sessions e) (λ done. Does self.old (BySessions e) (OfSessions (KeptAfterInfo done.0.instead_of done.1)) self.new) (self.new ≡ self.old) result }
+    {
+        self.side.info(session, info)
+    }
+
+    /// [`Sessions::on_connect`](route_session::Sessions::on_connect), with the greatest incarnation that
+    /// the hub has seen of the sender. The peer is up then, and a snapshot of all interest is what waits
+    /// for it.
+    pub fn connect(
+        &mut self,
+        session: SessionId,
+        connect: &RouteConnect,
+    ) -> Result<Kept, Failure<SessionFault>>
+        ensures { let e = OnConnect session connect.now (seen_name self.old.side connect.now.server_name) in IsAnswered (session_refusal self.old.side.server self.old.side.sessions e) (λ kept. Does self.old (BySessions e) (OfSessions (WasKept kept.instead_of)) self.new) (self.new ≡ self.old) result }
+    {
+        self.side.connect(session, connect)
+    }
+
+    /// Counts the deltas of a shard, and tells the peers of them: [`Hub::collect`](hub_core::Hub::collect).
+    /// The shard's deltas are taken then; a peer that is cut loses the session that was kept with it. Any
+    /// `Err` leaves both as they were.
+    pub fn collect<T: SubTable>(
+        &mut self,
+        shard: &mut ShardState<T, N>,
+    ) -> Result<Told, Failure<HubFault>>
+        ensures { Collects self.old shard.old result self.new shard.new }
+    {
+        let number = shard.shard();
+        let told = match self.side.collect(number, shard.deltas()) {
+            Ok(told) => told,
+            Err(fault) => return Err(fault),
+        };
+        shard.take_deltas();
+        Ok(told)
+    }
+
+    /// [`Hub::take_route`](hub_core::Hub::take_route).
+    pub fn take_frames(
+        &mut self,
+        peer: usize,
+        count: usize,
+    ) -> Result<Vec<Numbered>, Failure<HubFault>>
+        ensures { IsAnswered (hub_refusal self.old.side.server self.old.side.hub (TakeFrom peer count)) (λ frames. Does self.old (ByHub (TakeFrom peer count)) (OfHub (Taken frames.items)) self.new) (self.new ≡ self.old) result }
+    {
+        self.side.take_frames(peer, count)
+    }
+}

@@ -1,0 +1,25 @@
+//! One server on threads: the hub and each shard under a lock of its own; the hub hands jobs to the shards by
+//! lanes, and the shards race for claims.
+#![tactic(auto)]
+
+mod dropping;
+mod gates;
+mod hub_state;
+mod laws;
+mod line;
+mod names;
+mod outlet;
+mod shard_state;
+mod turned;
+mod turning;
+
+pub use gates::{Gate, Open};
+pub use hub_state::HubState;
+pub use laws::sides_are_parts;
+pub use line::Line;
+pub use names::NodeName;
+pub use shard_state::ShardState;
+pub use turned::Turned;
+
+#[cfg(test)]
+mod tests;

@@ -1,0 +1,81 @@
+//! The hub's end of a lane.
+
+ghost use Rattle.std.specs.Prelude.{◌≡◌, ◌-◌, ◌++◌, true, false, Some, [], slice_get};
+ghost use Rattle.job_lane.specs.Turns.{AreNumbered};
+ghost use Rattle.node_threads.specs.Outlets.{owed};
+
+use crate::names::NodeName;
+use job_lane::{LaneIn, Run};
+use std::marker::{Model, PhantomData};
+use std::sync::Wait;
+
+/// The end of a shard's lane that runs are pushed at.
+///
+/// Seen as the shard, all jobs pushed, and whether the lane has the run that is handed out.
+#[derive(Drop)]
+pub struct Line<N: NodeName> {
+    shard: u64,
+    lane: LaneIn,
+    taken: bool,
+    of: PhantomData<N>,
+}
+
+impl<N: NodeName> Model for Line<N> {
+    ghost use Rattle.std.specs.Prelude.{◌≡◌, ◌-◌, Some, slice_get};
+    ghost use Rattle.node_threads.specs.Outlets.{Line};
+
+    ghost Value = { Line };
+
+    ghost view = { λ s. record { shard = s.shard; pushed = s.lane.pushed; taken = s.taken } };
+
+    ghost invariant = { λ s. slice_get N.lanes (s.shard - 1) ≡ Some s.lane.lane };
+}
+
+impl<N: NodeName> Line<N> {
+    /// The end of the lane of this shard, counted from 1, to which nothing was pushed. Required: the server's
+    /// name has it as that shard's lane.
+    pub fn new(shard: u64, lane: LaneIn) -> Line<N>
+        requires lane { slice_get N.lanes (shard - 1) ≡ Some lane.lane }
+        requires fresh { lane.pushed ≡ [] }
+        ensures { result ≡ record { shard = shard; pushed = []; taken = false } }
+    {
+        Line {
+            shard,
+            lane,
+            taken: false,
+            of: PhantomData,
+        }
+    }
+
+    /// Whether the lane has the run that is handed out.
+    pub(crate) fn has_taken(&self) -> bool
+        ensures { result ≡ self.now.taken }
+    {
+        self.taken
+    }
+
+    /// Another run is handed out.
+    pub(crate) fn begin(&mut self)
+        ensures { self.new ≡ record self.old { taken = false } }
+    {
+        self.taken = false;
+    }
+
+    /// Pushes the run, unless the lane has it. A lane without room, and want of memory, leave it owed.
+    #[tactic(auto, using(crate::proofs::Outlets::owed_behind, crate::proofs::Outlets::pushed_now))]
+    pub(crate) fn offer<R: Wait>(&mut self, rt: &R, run: &Run)
+        requires { AreNumbered (self.old.pushed ++ owed self.old.taken (Some run.now)) }
+        ensures { (self.new.shard ≡ self.old.shard) × (self.new.pushed ++ owed self.new.taken (Some run.now) ≡ self.old.pushed ++ owed self.old.taken (Some run.now)) }
+    {
+        if self.taken {
+            return;
+        }
+        let Ok(copy) = run.try_clone() else {
+            return;
+        };
+        if self.lane.push(rt, copy).is_err() {
+            return;
+        }
+        self.taken = true;
+    }
+}

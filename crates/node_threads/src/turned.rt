@@ -1,0 +1,15 @@
+//! What a turn comes to.
+
+use subj::Turn;
+
+/// What a turn of a shard comes to. (Profile.)
+#[derive(Clone, Copy, Debug, PartialEq, Eq)]
+pub enum Turned {
+    /// No job can be begun: the lane was empty, or the job that was popped has a turn above the last one
+    /// issued that the shard has seen. That job stays with the shard.
+    Idle,
+    /// The job of this turn was worked to its end.
+    Worked(Turn),
+    /// There was no memory. The job stays with the shard, and the next turn goes on where this one stopped.
+    Short,
+}
