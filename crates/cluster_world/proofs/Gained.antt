@@ -25,14 +25,14 @@ use Rattle.shard_core.specs.Owed.{mode_of, first_step, is_due, candidate_of}
 use Rattle.shard_core.specs.Shards.{State}
 use Rattle.shard_core.specs.ShardEvents as of_shard
 use Rattle.shard_core.proofs.LawEvents.{walk_gives}
-use Rattle.node_core.specs.AsLaw.{Part, part_at, part_if, part_of, given_at, placements_at, entries_for_job, messages_at, waits_in, is_message_tag, is_message, MessagesAreGiven}
-use Rattle.node_core.specs.Events.{OfConn, AtShard, Publish, Collect, Dial, Accept, CutSession, TakeFrames, NodeEvent, Own, Receive, OnInfo, OnConnect}
-use Rattle.node_core.specs.Sound.{SoundNode}
-use Rattle.node_core.specs.State.{Line, Node}
-use Rattle.node_core.specs.Steps.{NodeStep, conn_place, conn_event, work_event}
+use Rattle.node_law.specs.AsLaw.{Part, part_at, part_if, part_of, given_at, placements_at, entries_for_job, messages_at, waits_in, is_message_tag, is_message, MessagesAreGiven}
+use Rattle.node_law.specs.Events.{OfConn, AtShard, Publish, Collect, Dial, Accept, CutSession, TakeFrames, NodeEvent, Own, Receive, OnInfo, OnConnect}
+use Rattle.node_law.specs.Sound.{SoundNode}
+use Rattle.node_law.specs.State.{Line, Node}
+use Rattle.node_law.specs.Steps.{NodeStep, conn_place, conn_event, work_event}
 use Rattle.cluster_world.specs.Changes.{new_entries, placement_of, placements_of, is_on, AreGained}
-use Rattle.cluster_world.specs.Seen.{SeesPlacement}
 use Rattle.cluster_world.specs.State.{Cluster, Placement, server_at}
+use Rattle.cluster_world.proofs.Seen.{SeesPlacement}
 
 -- ---- the new entries of a connection, shard by shard
 
@@ -248,7 +248,7 @@ node_gives given c n inc now a b e won race gained sound step g = go (part_of (s
 
     go : (o : Option Part) → part_of (server_at c n inc) a e won ≡ o → Gives c n inc now o gained
     go None is =
-        let none : gained ≡ [] = none_gained gained (λ conn. g conn ∙ nothing_new (server_at c n inc) now conn a.lines b.lines (λ q. news_are q conn ∙ ap (λ o. placements_of (server_at c n inc) now conn (messages_at o q conn)) is)) in
+        let none : gained ≡ [] = none_gained gained (λ conn. g.outboxes conn ∙ nothing_new (server_at c n inc) now conn a.lines b.lines (λ q. news_are q conn ∙ ap (λ o. placements_of (server_at c n inc) now conn (messages_at o q conn)) is)) in
         record { subs = []; these = record { some = λ u i. absurd i; all = λ u i. absurd i; once = tt }; placements = subst (λ t. Along (SeesPlacement c) t []) (sym none) tt }
     go (Some p) is = by (job_by p.line.shard p.event) refl
       where
@@ -257,7 +257,7 @@ node_gives given c n inc now a b e won race gained sound step g = go (part_of (s
 
         per : (conn : ℕ) → filter (is_on conn) gained ≡ placements_of (server_at c n inc) now conn (entries_for_job p.line.shard.shard (job_by p.line.shard p.event) (filter (is_of conn) (given_by p.line.shard p.event)))
         per conn =
-            g conn
+            g.outboxes conn
             ∙ new_at (server_at c n inc) now conn p.place a.lines b.lines p.line at (λ q apart. news_are q conn ∙ ap (λ o. placements_of (server_at c n inc) now conn (messages_at o q conn)) is ∙ ap (λ t. placements_of (server_at c n inc) now conn (cond t (entries_for_job p.line.shard.shard (job_by p.line.shard p.event) (filter (is_of conn) (given_by p.line.shard p.event))) [])) (false_eq p.place q (λ f. apart (sym f))))
             ∙ news_are p.place conn ∙ ap (λ o. placements_of (server_at c n inc) now conn (messages_at o p.place conn)) is
             ∙ ap (λ t. placements_of (server_at c n inc) now conn (cond t (entries_for_job p.line.shard.shard (job_by p.line.shard p.event) (filter (is_of conn) (given_by p.line.shard p.event))) [])) (true_eq p.place p.place refl)

@@ -25,15 +25,17 @@ use Rattle.shard_core.specs.ShardSteps.{shard_refusal, shard_after, answer_fits}
 use Rattle.shard_core.specs.Shards.{State, waits_for}
 use Rattle.shard_core.proofs.LawEvents.{walk_gives}
 use Rattle.shard_core.proofs.Outboxes.{entries_append}
-use Rattle.node_core.specs.declared.faults.NodeFault.TheVariants.{NoShard, Shard}
-use Rattle.node_core.specs.AsLaw.{Part, part_if, part_at, part_of, entries_for_job, messages_at, waits_in, is_message, MessagesAreGiven}
+use Rattle.node_law.specs.declared.faults.NodeFault.TheVariants.{NoShard, Shard}
+use Rattle.node_law.specs.AsLaw.{Part, part_if, part_at, part_of, entries_for_job, messages_at, waits_in, is_message, MessagesAreGiven}
 use Rattle.cluster_world.specs.Changes.{entries_at}
-use Rattle.node_core.specs.Events.{ConnEvent, ShardWork, OfConn, AtShard, Publish, Collect, Dial, Accept, CutSession, TakeFrames, NodeEvent, Own, Receive, OnInfo, OnConnect}
-use Rattle.node_core.specs.State.{Line, Node}
-use Rattle.node_core.specs.Steps.{NodeStep, conn_place, conn_line, shard_line, conn_event, work_event, conn_refusal, no_job, event_refusal, work_refusal, line_after, line_after_if, set_line, queued, node_after, lines_after_body}
+use Rattle.node_law.specs.declared.events.ConnEvent.{ConnEvent}
+use Rattle.node_law.specs.declared.events.ShardWork.{ShardWork}
+use Rattle.node_law.specs.Events.{OfConn, AtShard, Publish, Collect, Dial, Accept, CutSession, TakeFrames, NodeEvent, Own, Receive, OnInfo, OnConnect}
+use Rattle.node_law.specs.State.{Line, Node}
+use Rattle.node_law.specs.Steps.{NodeStep, conn_place, conn_line, shard_line, conn_event, work_event, conn_refusal, no_job, event_refusal, work_refusal, line_after, line_after_if, set_line, queued, node_after, lines_after_body}
 use Rattle.hub_core.specs.Publishing.{own_job}
 use Rattle.hub_core.proofs.Rooms.{map_none}
-use Rattle.node_core.proofs.LineEvents.{found, same_refusal}
+use Rattle.node_law.proofs.LineEvents.{found, same_refusal}
 use Rattle.hub_core.specs.Receiving.{routed_job}
 
 -- ---- lists

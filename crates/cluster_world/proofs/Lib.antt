@@ -1,5 +1,8 @@
 mod Scripts
+mod Seen
+mod Rests
 mod Gained
+mod Order
 mod Worlds
 mod Whole
 mod Given
@@ -9,3 +12,16 @@ mod Runs
 mod Sent
 mod OwnRuns
 mod Printed
+mod Ended
+mod Making
+mod Living
+mod Finds
+mod Starting
+mod OfRuns
+mod Kept
+mod Waiting
+mod Lives
+mod Sources
+mod MadeOf
+mod Counted
+mod Echo

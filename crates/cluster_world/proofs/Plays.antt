@@ -1,9 +1,10 @@
 -- Each event has a step: the one that the program on lists makes.
-use Rattle.std.proofs.Common.{◌≡◌, ℕ, suc, ◌<◌, ◌+◌, ◌-◌, arith, Bool, true, false, true≢false, cond, nat_eq, ◌&&◌, List, [], ◌∷◌, ◌++◌, Option, Some, None, refl, sym, ap, ◌∙◌}
+use Rattle.std.proofs.Common.{◌≡◌, ℕ, zero, suc, ◌<◌, ◌+◌, ◌-◌, arith, Bool, true, false, true≢false, cond, nat_eq, ◌&&◌, ◌||◌, List, [], ◌∷◌, ◌++◌, Option, Some, None, refl, sym, ap, ◌∙◌, subst}
 use Rattle.std.specs.Prelude.{filter, find, map, slice_get, if◌then◌else◌}
 use Rattle.std.specs.Option.{option_map}
 use Rattle.std.proofs.lemmas.Option.{none-some}
-use Rattle.list_laws.proofs.Tests.{eq_true, eq_false, true_eq, false_eq}
+use Rattle.list_laws.specs.Lists.{SubList}
+use Rattle.list_laws.proofs.Tests.{eq_true, eq_false, true_eq, false_eq, or_false, no_cause}
 use Rattle.claim_race.specs.Race.{RaceState, Win, winner, is_of_pair, winner_after, IsIssued, IsClaimed, IsFinished}
 use Rattle.outbox.specs.declared.entries.Tag.{Tag}
 use Rattle.outbox.specs.declared.entries.Tag.TheVariants as tag
@@ -20,23 +21,28 @@ use Rattle.shard_core.specs.Owed.{candidate_of}
 use Rattle.shard_core.specs.Puts.{put_by, entries_for, ArePut}
 use Rattle.shard_core.specs.ShardEvents as of_shard
 use Rattle.shard_core.specs.Shards.{State}
-use Rattle.node_core.specs.declared.faults.NodeFault.{NodeFault}
-use Rattle.node_core.specs.AsLaw.{Part, part_at, part_if, part_of}
-use Rattle.node_core.specs.Events.{ShardWork, Attach, Begin, Claim, End, DropJob, OfConn, AtShard, Publish, Collect, Dial, Accept, CutSession, TakeFrames, NodeEvent, Own, Receive, OnInfo, OnConnect}
-use Rattle.node_core.specs.State.{Line, Node}
-use Rattle.node_core.specs.Steps.{NodeStep, NodeRace, WorkRace, ClaimRace, BodyRace, conn_line, conn_place, shard_line, conn_event, work_event, node_refusal}
+use Rattle.node_law.specs.declared.faults.NodeFault.{NodeFault}
+use Rattle.node_law.specs.AsLaw.{Part, part_at, part_if, part_of}
+use Rattle.node_law.specs.Answers.{Nothing}
+use Rattle.node_law.specs.declared.events.ShardWork.{ShardWork}
+use Rattle.node_law.specs.declared.events.ShardWork.TheVariants.{Attach, Begin, Claim, End, DropJob}
+use Rattle.node_law.specs.Events.{OfConn, AtShard, Publish, Collect, Dial, Accept, CutSession, TakeFrames, NodeEvent, Own, Receive, OnInfo, OnConnect}
+use Rattle.node_law.specs.State.{Line, Node}
+use Rattle.node_law.specs.Steps.{NodeStep, NodeRace, WorkRace, ClaimRace, BodyRace, conn_line, conn_place, shard_line, conn_event, work_event, node_refusal}
 use Rattle.cluster_world.specs.declared.faults.WorldFault.{WorldFault}
 use Rattle.cluster_world.specs.declared.faults.WorldFault.TheVariants as fault
 use Rattle.cluster_world.specs.State.{Cluster, Placement, Running, World, server_at}
 use Rattle.cluster_world.specs.Events.{Event, Start, Stop, At, event_for}
 use Rattle.cluster_world.specs.Events as of_world
-use Rattle.cluster_world.specs.Refusals.{world_refusal, start_refusal, stop_refusal, refusal_at}
-use Rattle.cluster_world.specs.Changes.{placement_of, placements_of, is_on, new_entries, entries_at, AreGained}
+use Rattle.cluster_world.specs.Outcomes.{Done}
+use Rattle.cluster_world.specs.Refusals.{world_refusal, is_used, start_refusal, stop_refusal, refusal_at}
+use Rattle.cluster_world.specs.Changes.{placement_of, placements_of, is_on, new_entries, entries_at, open_subs}
 use Rattle.cluster_world.specs.Steps.{Acts, Starts, Stops, Happens, Decided, WorldStep}
 use Rattle.cluster_world.specs.Headline.{EachUp}
-use Rattle.cluster_world.specs.Play.{IsEvent, NoneAhead, issued_next, claimed_next, finished_next, with_win, is_free, wins, race_after_claim, work_wins, race_after_work, node_wins, race_after_body, node_race, put_if, put_at, puts, placed_by, next_node, next_act, happened, next_of, next}
+use Rattle.cluster_world.specs.Play.{NoneAhead, issued_next, claimed_next, finished_next, with_win, is_free, wins, race_after_claim, work_wins, race_after_work, node_wins, race_after_body, node_race, put_if, put_at, puts, placements_put, PutsArePlaced, next_node, next_act, happened, next_of, next, slot_answer, answer_of, outcome_of, outcome}
 use Rattle.cluster_world.proofs.Gained.{news, nothing_new, new_at, part_line}
 use Rattle.cluster_world.proofs.Given.{entries_of_step}
+use Rattle.cluster_world.proofs.Order.{in_lines, event_order}
 
 -- ---- the race that forgets nothing is one of those that a step may have
 
@@ -119,21 +125,21 @@ node_moves a (OnConnect session connect) ahead = refl
 -- ---- what the step puts is what the outboxes gain
 
 -- of what is put, the entries of one connection are its placements
-placed_for_conn : (server : Server) (now conn : ℕ) (ps : List Placed) → filter (is_on conn) (placed_by server now ps) ≡ placements_of server now conn (entries_for conn ps)
+placed_for_conn : (server : Server) (now conn : ℕ) (ps : List Placed) → filter (is_on conn) (placements_put server now ps) ≡ placements_of server now conn (entries_for conn ps)
 placed_for_conn server now conn [] = refl
 placed_for_conn server now conn (p ∷ ps) = go p.entry.tag (nat_eq p.conn conn) refl (placed_for_conn server now conn ps)
   where
     of_conn : ℕ → PubId → SubId → Mode → Placement
     of_conn k id sub mode = record { step = now; life = record { node = server.me; inc = server.inc; sub = sub }; conn = k; id = id; mode = mode; bytes = p.entry.bytes }
 
-    go : (t : Tag) (b : Bool) → nat_eq p.conn conn ≡ b → filter (is_on conn) (placed_by server now ps) ≡ placements_of server now conn (entries_for conn ps)
-        → filter (is_on conn) (placement_of server now p.conn p.entry.bytes t ++ placed_by server now ps) ≡ placements_of server now conn (map (λ (put : Placed). put.entry) (cond b (record { conn = p.conn; entry = record { tag = t; bytes = p.entry.bytes } } ∷ filter (λ (put : Placed). nat_eq put.conn conn) ps) (filter (λ (put : Placed). nat_eq put.conn conn) ps)))
+    go : (t : Tag) (b : Bool) → nat_eq p.conn conn ≡ b → filter (is_on conn) (placements_put server now ps) ≡ placements_of server now conn (entries_for conn ps)
+        → filter (is_on conn) (placement_of server now p.conn p.entry.bytes t ++ placements_put server now ps) ≡ placements_of server now conn (map (λ (put : Placed). put.entry) (cond b (record { conn = p.conn; entry = record { tag = t; bytes = p.entry.bytes } } ∷ filter (λ (put : Placed). nat_eq put.conn conn) ps) (filter (λ (put : Placed). nat_eq put.conn conn) ps)))
     go tag.Reply true e below = below
     go tag.Reply false e below = below
-    go (tag.Msg id sub mode) false e below = ap (λ b. cond b (of_conn p.conn id sub mode ∷ filter (is_on conn) (placed_by server now ps)) (filter (is_on conn) (placed_by server now ps))) e ∙ below
-    go (tag.Msg id sub mode) true e below = ap (λ b. cond b (of_conn p.conn id sub mode ∷ filter (is_on conn) (placed_by server now ps)) (filter (is_on conn) (placed_by server now ps))) e ∙ (λ j. of_conn (eq_true p.conn conn e j) id sub mode ∷ below j)
+    go (tag.Msg id sub mode) false e below = ap (λ b. cond b (of_conn p.conn id sub mode ∷ filter (is_on conn) (placements_put server now ps)) (filter (is_on conn) (placements_put server now ps))) e ∙ below
+    go (tag.Msg id sub mode) true e below = ap (λ b. cond b (of_conn p.conn id sub mode ∷ filter (is_on conn) (placements_put server now ps)) (filter (is_on conn) (placements_put server now ps))) e ∙ (λ j. of_conn (eq_true p.conn conn e j) id sub mode ∷ below j)
 
-abbrev put_of : Option Part → List Placed
+abbrev pub put_of : Option Part → List Placed
 put_of None = []
 put_of (Some part) = put_by part.line.shard part.event
 
@@ -145,7 +151,7 @@ put_in place event (Some line) = go (event line)
     go None = refl
     go (Some e) = refl
 
-puts_are : (server : Server) (a : Node) (e : NodeEvent) (won : Bool) → puts server a e won ≡ put_of (part_of server a e won)
+pub puts_are : (server : Server) (a : Node) (e : NodeEvent) (won : Bool) → puts server a e won ≡ put_of (part_of server a e won)
 puts_are server a (Own (OfConn conn event)) won = put_in (conn_place server conn) (λ line. Some (conn_event conn event)) (conn_line server a conn)
 puts_are server a (Own (AtShard shard work)) won = put_in (shard - 1) (work_event work won) (shard_line a shard)
 puts_are server a (Own (Publish p)) won = refl
@@ -161,8 +167,8 @@ puts_are server a (OnConnect session connect) won = refl
 abbrev pub Puts : Type 0
 Puts = (s : State) (e : of_shard.Event) (conn : ℕ) → ArePut s e conn
 
-puts_gained : Puts → (server : Server) (now : ℕ) (a b : Node) (e : NodeEvent) (won : Bool) (race : RaceState) → NodeStep server a e won race b → AreGained server now a.lines b.lines (placed_by server now (puts server a e won))
-puts_gained h server now a b e won race step conn = placed_for_conn server now conn (puts server a e won) ∙ ap (λ t. placements_of server now conn (entries_for conn t)) (puts_are server a e won) ∙ sym (go (part_of server a e won) refl)
+puts_gained : Puts → (server : Server) (now : ℕ) (a b : Node) (e : NodeEvent) (won : Bool) (race : RaceState) (conn : ℕ) → NodeStep server a e won race b → filter (is_on conn) (placements_put server now (puts server a e won)) ≡ placements_of server now conn (new_entries a.lines b.lines conn)
+puts_gained h server now a b e won race conn step = placed_for_conn server now conn (puts server a e won) ∙ ap (λ t. placements_of server now conn (entries_for conn t)) (puts_are server a e won) ∙ sym (go (part_of server a e won) refl)
   where
     news_are : (q : ℕ) → news a.lines b.lines q conn ≡ entries_at (part_of server a e won) q conn
     news_are q = entries_of_step h server a e won race b q conn step
@@ -174,9 +180,16 @@ puts_gained h server now a b e won race step conn = placed_for_conn server now c
         (λ q apart. ap (placements_of server now conn) (news_are q ∙ ap (λ o. entries_at o q conn) is ∙ ap (λ t. cond t (entries_for conn (put_by p.line.shard p.event)) []) (false_eq p.place q (λ f. apart (sym f)))))
         ∙ ap (placements_of server now conn) (news_are p.place ∙ ap (λ o. entries_at o p.place conn) is ∙ ap (λ t. cond t (entries_for conn (put_by p.line.shard p.event)) []) (true_eq p.place p.place refl))
 
+pub puts_placed : Puts → PutsArePlaced
+puts_placed h server now a e won race b step = record { outboxes = λ conn. puts_gained h server now a b e won race conn step; order = subst (λ t. SubList (map (λ (p : Placement). p.life.sub) (placements_put server now t)) (open_subs a.lines)) (sym (puts_are server a e won)) (go (part_of server a e won) refl) }
+  where
+    go : (o : Option Part) → part_of server a e won ≡ o → SubList (map (λ (p : Placement). p.life.sub) (placements_put server now (put_of o))) (open_subs a.lines)
+    go None is = tt
+    go (Some p) is = in_lines a.lines p.place p.line _ (part_line server a e won p is) (event_order server now p.line.shard p.event)
+
 -- ---- the step
 
-acts : Puts → (c : Cluster) (w : World) (n : ℕ) (event : Option NodeEvent) → EachUp (λ k a. NoneAhead a.node.race) w → (o : Option (Option Running)) → slice_get w.nodes n ≡ o → refusal_at c n event o ≡ None → Acts c w n event (next_act c w n o event)
+acts : Puts → (c : Cluster) (w : World) (n : ℕ) (event : Option NodeEvent) → EachUp (λ k a. NoneAhead a.node.race) w → (o : Option (Option Running)) → slice_get w.nodes n ≡ o → refusal_at c n event o ≡ None → Acts c w n event (Done (slot_answer c n o event)) (next_act c w n o event)
 acts h c w n event ahead None at cause = absurd (none-some fault.NoSuch (sym cause))
 acts h c w n event ahead (Some None) at cause = absurd (none-some fault.NodeDown (sym cause))
 acts h c w n None ahead (Some (Some a)) at cause = absurd (none-some fault.NoSuch (sym cause))
@@ -191,8 +204,9 @@ acts h c w n (Some e) ahead (Some (Some a)) at cause =
       race = node_race a.node e;
       b = next_node c n a e;
       steps = steps;
-      gained = placed_by (server_at c n a.inc) (suc w.step) (puts (server_at c n a.inc) a.node e (node_wins a.node e));
-      are_gained = puts_gained h (server_at c n a.inc) (suc w.step) a.node (next_node c n a e) e (node_wins a.node e) (node_race a.node e) steps;
+      told = refl;
+      gained = placements_put (server_at c n a.inc) (suc w.step) (puts (server_at c n a.inc) a.node e (node_wins a.node e));
+      are_gained = puts_placed h (server_at c n a.inc) (suc w.step) a.node e (node_wins a.node e) (node_race a.node e) (next_node c n a e) steps;
       after = refl;
     }
   where
@@ -200,27 +214,36 @@ acts h c w n (Some e) ahead (Some (Some a)) at cause =
     own None f = refl
     own (Some why) f = absurd (none-some (fault.Node why) (sym f))
 
-starts : (c : Cluster) (w : World) (n inc : ℕ) → 0 < inc → (o : Option (Option Running)) → slice_get w.nodes n ≡ o → start_refusal n inc w.started o ≡ None → Starts c w n inc (happened c w (Start n inc))
-starts c w n inc some None at cause = absurd (none-some fault.NoSuch (sym cause))
-starts c w n inc some (Some (Some a)) at cause = absurd (none-some fault.NodeUp (sym cause))
-starts c w n inc some (Some None) at cause = record { some = some; down = at; after = refl }
+above_none : (inc : ℕ) → nat_eq inc 0 ≡ false → 0 < inc
+above_none zero e = absurd (eq_false zero 0 e refl)
+above_none (suc inc) e = omega arith
 
-stops : (c : Cluster) (w : World) (n : ℕ) (o : Option (Option Running)) → slice_get w.nodes n ≡ o → stop_refusal o ≡ None → Stops w n (happened c w (Stop n))
+starts : (c : Cluster) (w : World) (n inc : ℕ) (o : Option (Option Running)) → slice_get w.nodes n ≡ o → start_refusal n inc w.started o ≡ None → Starts c w n inc (Done Nothing) (happened c w (Start n inc))
+starts c w n inc None at cause = absurd (none-some fault.NoSuch (sym cause))
+starts c w n inc (Some (Some a)) at cause = absurd (none-some fault.NodeUp (sym cause))
+starts c w n inc (Some None) at cause = record {
+  some = above_none inc (or_false (nat_eq inc 0) (is_used n inc w.started) (no_cause (nat_eq inc 0 || is_used n inc w.started) fault.UsedIncarnation None cause).0).0;
+  down = at;
+  told = refl;
+  after = refl;
+}
+
+stops : (c : Cluster) (w : World) (n : ℕ) (o : Option (Option Running)) → slice_get w.nodes n ≡ o → stop_refusal o ≡ None → Stops w n (Done Nothing) (happened c w (Stop n))
 stops c w n None at cause = absurd (none-some fault.NoSuch (sym cause))
 stops c w n (Some None) at cause = absurd (none-some fault.NodeDown (sym cause))
-stops c w n (Some (Some a)) at cause = record { a = a; a_is = at; after = refl }
+stops c w n (Some (Some a)) at cause = record { a = a; a_is = at; told = refl; after = refl }
 
-happens : Puts → (c : Cluster) (w : World) (e : Event) → IsEvent e → EachUp (λ k a. NoneAhead a.node.race) w → world_refusal c w e ≡ None → Happens c w e (happened c w e)
-happens h c w (Start n inc) is ahead cause = starts c w n inc is (slice_get w.nodes n) refl cause
-happens h c w (Stop n) is ahead cause = stops c w n (slice_get w.nodes n) refl cause
-happens h c w (of_world.Receive n k) is ahead cause = acts h c w n (event_for w (of_world.Receive n k)) ahead (slice_get w.nodes n) refl cause
-happens h c w (of_world.OnInfo n session k) is ahead cause = acts h c w n (event_for w (of_world.OnInfo n session k)) ahead (slice_get w.nodes n) refl cause
-happens h c w (of_world.OnConnect n session k) is ahead cause = acts h c w n (event_for w (of_world.OnConnect n session k)) ahead (slice_get w.nodes n) refl cause
-happens h c w (At n event) is ahead cause = acts h c w n (event_for w (At n event)) ahead (slice_get w.nodes n) refl cause
+happens : Puts → (c : Cluster) (w : World) (e : Event) → EachUp (λ k a. NoneAhead a.node.race) w → world_refusal c w e ≡ None → Happens c w e (Done (answer_of c w e)) (happened c w e)
+happens h c w (Start n inc) ahead cause = starts c w n inc (slice_get w.nodes n) refl cause
+happens h c w (Stop n) ahead cause = stops c w n (slice_get w.nodes n) refl cause
+happens h c w (of_world.Receive n k) ahead cause = acts h c w n (event_for w (of_world.Receive n k)) ahead (slice_get w.nodes n) refl cause
+happens h c w (of_world.OnInfo n session k) ahead cause = acts h c w n (event_for w (of_world.OnInfo n session k)) ahead (slice_get w.nodes n) refl cause
+happens h c w (of_world.OnConnect n session k) ahead cause = acts h c w n (event_for w (of_world.OnConnect n session k)) ahead (slice_get w.nodes n) refl cause
+happens h c w (At n event) ahead cause = acts h c w n (event_for w (At n event)) ahead (slice_get w.nodes n) refl cause
 
-pub has_step : Puts → (c : Cluster) (w : World) (e : Event) → IsEvent e → EachUp (λ k a. NoneAhead a.node.race) w → WorldStep c w e (next c w e)
-has_step h c w e is ahead = go (world_refusal c w e) refl
+pub has_step : Puts → (c : Cluster) (w : World) (e : Event) → EachUp (λ k a. NoneAhead a.node.race) w → WorldStep c w e (outcome c w e) (next c w e)
+has_step h c w e ahead = go (world_refusal c w e) refl
   where
-    go : (o : Option WorldFault) → world_refusal c w e ≡ o → Decided c w e o (next_of c w e o)
-    go None cause = happens h c w e is ahead cause
-    go (Some why) cause = refl
+    go : (o : Option WorldFault) → world_refusal c w e ≡ o → Decided c w e o (outcome_of c w e o) (next_of c w e o)
+    go None cause = happens h c w e ahead cause
+    go (Some why) cause = (refl, refl)

@@ -1,8 +1,9 @@
 -- In the worlds that runs reach nothing is won in a turn that is not issued, so the program on lists makes runs.
-use Rattle.std.proofs.Common.{◌≡◌, ◌≢◌, ℕ, suc, ◌<◌, ◌≤◌, ◌+◌, ◌-◌, arith, Bool, true, false, cond, nat_eq, ◌&&◌, List, [], ◌∷◌, length, set, Option, Some, None, refl, sym, ap, ◌∙◌, subst, inl, inr}
+use Rattle.std.proofs.Common.{◌≡◌, ◌≢◌, ℕ, suc, ◌<◌, ◌≤◌, ◌+◌, ◌-◌, arith, Bool, true, false, cond, nat_eq, ◌&&◌, List, [], ◌∷◌, ◌++◌, length, set, Option, Some, None, refl, sym, ap, ◌∙◌, subst, inl, inr}
 use Rattle.std.specs.Prelude.{slice_get}
 use Rattle.std.proofs.lemmas.Option.{none-some, same_Some}
 use Rattle.list_laws.specs.Lists.{Each}
+use Rattle.cluster_law.specs.Cluster as cluster
 use Rattle.list_laws.proofs.Lists.{read_set, read_replicate}
 use Rattle.list_laws.proofs.Tests.{false_eq}
 use Rattle.claim_race.specs.Race.{RaceState, winner, winner_after, IsIssued, IsClaimed, IsFinished}
@@ -13,23 +14,26 @@ use Rattle.route_values.specs.declared.bodies.Body.{Body}
 use Rattle.route_values.specs.declared.bodies.Body.TheVariants.{Plus, Minus, Snapshot, Msg}
 use Rattle.shard_core.specs.Lines.{Turns, begun_turn}
 use Rattle.shard_core.specs.Owed.{candidate_of}
-use Rattle.node_core.specs.Events.{ShardWork, Attach, Begin, Claim, End, DropJob, OfConn, AtShard, Publish, Collect, Dial, Accept, CutSession, TakeFrames, NodeEvent, Own, Receive, OnInfo, OnConnect}
-use Rattle.node_core.specs.Sound.{SoundNode}
-use Rattle.node_core.proofs.LineEvents.{found}
-use Rattle.node_core.specs.State.{Line, Node, new_race}
-use Rattle.node_core.specs.Steps.{NodeRace, WorkRace, ClaimRace, BodyRace, shard_line, node_after}
+use Rattle.node_law.specs.declared.events.ShardWork.{ShardWork}
+use Rattle.node_law.specs.declared.events.ShardWork.TheVariants.{Attach, Begin, Claim, End, DropJob}
+use Rattle.node_law.specs.Events.{OfConn, AtShard, Publish, Collect, Dial, Accept, CutSession, TakeFrames, NodeEvent, Own, Receive, OnInfo, OnConnect}
+use Rattle.node_law.specs.Sound.{SoundNode}
+use Rattle.node_law.proofs.LineEvents.{found}
+use Rattle.node_law.specs.State.{Line, Node, new_race}
+use Rattle.node_law.specs.Steps.{NodeRace, WorkRace, ClaimRace, BodyRace, shard_line, node_after}
 use Rattle.cluster_world.specs.declared.faults.WorldFault.{WorldFault}
 use Rattle.cluster_world.specs.State.{Cluster, Running, World, new_world, server_at}
 use Rattle.cluster_world.specs.Events.{Event, Start, Stop, At, event_for}
 use Rattle.cluster_world.specs.Events as of_world
 use Rattle.cluster_world.specs.Refusals.{world_refusal}
-use Rattle.cluster_world.specs.Steps.{Acts, Happens, Decided, WorldStep, Run}
+use Rattle.cluster_world.specs.Steps.{Acts, Happens, Decided, WorldStep, Run, Answers}
 use Rattle.cluster_world.specs.Headline.{IsCluster, EachUp}
-use Rattle.cluster_world.specs.Play.{IsEvent, NoneAhead, next, played}
-use Rattle.cluster_world.specs.Seen.{IsSeen}
+use Rattle.cluster_world.specs.Play.{NoneAhead, next, outcome, answered, played}
+use Rattle.cluster_world.specs.Outcomes.{Outcome}
 use Rattle.cluster_world.proofs.Plays.{Puts, has_step}
 use Rattle.cluster_world.proofs.Worlds.{NodeLaws}
-use Rattle.cluster_world.proofs.Whole.{StepsReach, seen_next, first_seen, sound_of}
+use Rattle.cluster_world.proofs.Seen.{law_for, Sees}
+use Rattle.cluster_world.proofs.Whole.{step_next, first_seen, sound_of}
 
 -- ---- a race
 
@@ -110,44 +114,53 @@ new_ahead : (shards : ℕ) → NoneAhead (new_race shards)
 unfolding winner
 new_ahead shards t i lt = refl
 
-acts_ahead : (c : Cluster) (w w' : World) (n : ℕ) (event : Option NodeEvent) → EachUp (λ k a. SoundNode (server_at c k a.inc) a.node) w → Ahead w.nodes → Acts c w n event w' → Ahead w'.nodes
-acts_ahead c w w' n event sound ahead s = subst (λ (x : World). Ahead x.nodes) (sym s.after) (ahead_set w.nodes n (Some (record { inc = s.a.inc; node = s.b })) ahead (λ a e. subst (λ (x : Running). NoneAhead x.node.race) (same_Some _ a e) here))
+acts_ahead : (c : Cluster) (w w' : World) (n : ℕ) (event : Option NodeEvent) (told : Outcome) → EachUp (λ k a. SoundNode (server_at c k a.inc) a.node) w → Ahead w.nodes → Acts c w n event told w' → Ahead w'.nodes
+acts_ahead c w w' n event told sound ahead s = subst (λ (x : World). Ahead x.nodes) (sym s.after) (ahead_set w.nodes n (Some (record { inc = s.a.inc; node = s.b })) ahead (λ a e. subst (λ (x : Running). NoneAhead x.node.race) (same_Some _ a e) here))
   where
     here : NoneAhead s.b.race
     here = subst (λ (x : Node). NoneAhead x.race) (sym s.steps.after) (after_ahead (server_at c n s.a.inc) s.a.node s.e s.won s.race (sound n s.a s.a_is) s.steps.moves (ahead n s.a s.a_is))
 
-happens_ahead : (c : Cluster) (w w' : World) (e : Event) → EachUp (λ k a. SoundNode (server_at c k a.inc) a.node) w → Ahead w.nodes → Happens c w e w' → Ahead w'.nodes
-happens_ahead c w w' (Start n inc) sound ahead s = subst (λ (x : World). Ahead x.nodes) (sym s.after) (ahead_set w.nodes n _ ahead (λ a e. subst (λ (x : Running). NoneAhead x.node.race) (same_Some _ a e) (new_ahead c.shards)))
-happens_ahead c w w' (Stop n) sound ahead s = subst (λ (x : World). Ahead x.nodes) (sym s.after) (ahead_set w.nodes n None ahead (λ a e. absurd (none-some a e)))
-happens_ahead c w w' (of_world.Receive n k) sound ahead s = acts_ahead c w w' n (event_for w (of_world.Receive n k)) sound ahead s
-happens_ahead c w w' (of_world.OnInfo n session k) sound ahead s = acts_ahead c w w' n (event_for w (of_world.OnInfo n session k)) sound ahead s
-happens_ahead c w w' (of_world.OnConnect n session k) sound ahead s = acts_ahead c w w' n (event_for w (of_world.OnConnect n session k)) sound ahead s
-happens_ahead c w w' (At n event) sound ahead s = acts_ahead c w w' n (event_for w (At n event)) sound ahead s
+happens_ahead : (c : Cluster) (w w' : World) (e : Event) (told : Outcome) → EachUp (λ k a. SoundNode (server_at c k a.inc) a.node) w → Ahead w.nodes → Happens c w e told w' → Ahead w'.nodes
+happens_ahead c w w' (Start n inc) told sound ahead s = subst (λ (x : World). Ahead x.nodes) (sym s.after) (ahead_set w.nodes n _ ahead (λ a e. subst (λ (x : Running). NoneAhead x.node.race) (same_Some _ a e) (new_ahead c.shards)))
+happens_ahead c w w' (Stop n) told sound ahead s = subst (λ (x : World). Ahead x.nodes) (sym s.after) (ahead_set w.nodes n None ahead (λ a e. absurd (none-some a e)))
+happens_ahead c w w' (of_world.Receive n k) told sound ahead s = acts_ahead c w w' n (event_for w (of_world.Receive n k)) told sound ahead s
+happens_ahead c w w' (of_world.OnInfo n session k) told sound ahead s = acts_ahead c w w' n (event_for w (of_world.OnInfo n session k)) told sound ahead s
+happens_ahead c w w' (of_world.OnConnect n session k) told sound ahead s = acts_ahead c w w' n (event_for w (of_world.OnConnect n session k)) told sound ahead s
+happens_ahead c w w' (At n event) told sound ahead s = acts_ahead c w w' n (event_for w (At n event)) told sound ahead s
 
-pub step_ahead : (c : Cluster) (w w' : World) (e : Event) → EachUp (λ k a. SoundNode (server_at c k a.inc) a.node) w → Ahead w.nodes → WorldStep c w e w' → Ahead w'.nodes
-step_ahead c w w' e sound ahead s = go (world_refusal c w e) s
+pub step_ahead : (c : Cluster) (w w' : World) (e : Event) (told : Outcome) → EachUp (λ k a. SoundNode (server_at c k a.inc) a.node) w → Ahead w.nodes → WorldStep c w e told w' → Ahead w'.nodes
+step_ahead c w w' e told sound ahead s = go (world_refusal c w e) s
   where
-    go : (o : Option WorldFault) → Decided c w e o w' → Ahead w'.nodes
-    go None d = happens_ahead c w w' e sound ahead d
-    go (Some why) d = subst (λ (x : World). Ahead x.nodes) (sym d) ahead
+    go : (o : Option WorldFault) → Decided c w e o told w' → Ahead w'.nodes
+    go None d = happens_ahead c w w' e told sound ahead d
+    go (Some why) d = subst (λ (x : World). Ahead x.nodes) (sym d.1) ahead
 
 first_ahead : (c : Cluster) → Ahead (new_world c).nodes
 first_ahead c n a e = absurd (none-some a (sym (read_replicate (length c.names) None (Some a) n e)))
 
 -- ---- runs
 
-over_ahead : NodeLaws → StepsReach → (c : Cluster) → IsCluster c → (w : World) (es : List Event) (w' : World) → Run c w es w' → IsSeen c w → Ahead w.nodes → Ahead w'.nodes
-over_ahead laws reach c set_up w [] w' r s ahead = subst (λ (x : World). Ahead x.nodes) (sym r) ahead
-over_ahead laws reach c set_up w (e ∷ es) w' r s ahead = over_ahead laws reach c set_up r.0 es w' r.2 (seen_next laws reach c set_up w e r.0 r.1 s) (step_ahead c w r.0 e (sound_of c w s) ahead r.1)
+-- one more step at the end
+pub one_more : (c : Cluster) (w : World) (es : List Event) (w' : World) (e : Event) (told : Outcome) (w'' : World) → Run c w es w' → WorldStep c w' e told w'' → Run c w (es ++ e ∷ []) w''
+one_more c w [] w' e told w'' r step = (w'', told, subst (λ (x : World). WorldStep c x e told w'') r step, refl)
+one_more c w (x ∷ es) w' e told w'' r step = (r.0, r.1, r.2, one_more c r.0 es w' e told w'' r.3 step)
 
-pub reached_step : Puts → NodeLaws → StepsReach → (c : Cluster) → IsCluster c → (es : List Event) (w : World) → Run c (new_world c) es w → (e : Event) → IsEvent e → WorldStep c w e (next c w e)
-reached_step puts laws reach c set_up es w r e is = has_step puts c w e is (over_ahead laws reach c set_up (new_world c) es w r (first_seen c) (first_ahead c))
+over_ahead : NodeLaws → (c : Cluster) → IsCluster c → (w : World) (v : cluster.World) (es : List Event) (w' : World) → Run c w es w' → Sees c w v → Ahead w.nodes → Ahead w'.nodes
+over_ahead laws c set_up w v [] w' r h ahead = subst (λ (x : World). Ahead x.nodes) (sym r) ahead
+over_ahead laws c set_up w v (e ∷ es) w' r h ahead =
+    let first = step_next laws c set_up w v e r.1 r.0 r.2 h in
+    over_ahead laws c set_up r.0 first.seen es w' r.3 first.sees (step_ahead c w r.0 e r.1 (sound_of c w v h) ahead r.2)
 
-over_played : Puts → NodeLaws → StepsReach → (c : Cluster) → IsCluster c → (w : World) (es : List Event) → Each IsEvent es → IsSeen c w → Ahead w.nodes → Run c w es (played c w es)
-over_played puts laws reach c set_up w [] are s ahead = refl
-over_played puts laws reach c set_up w (e ∷ es) are s ahead =
-    let step = has_step puts c w e (are e (inl refl)) ahead in
-    (next c w e, step, over_played puts laws reach c set_up (next c w e) es (λ x i. are x (inr i)) (seen_next laws reach c set_up w e (next c w e) step s) (step_ahead c w (next c w e) e (sound_of c w s) ahead step))
+pub reached_step : Puts → NodeLaws → (c : Cluster) → IsCluster c → (es : List Event) (w : World) → Run c (new_world c) es w → (e : Event) → WorldStep c w e (outcome c w e) (next c w e)
+reached_step puts laws c set_up es w r e = has_step puts c w e (over_ahead laws c set_up (new_world c) (cluster.begin (law_for c)) es w r (first_seen c) (first_ahead c))
 
-pub played_run : Puts → NodeLaws → StepsReach → (c : Cluster) → IsCluster c → (es : List Event) → Each IsEvent es → Run c (new_world c) es (played c (new_world c) es)
-played_run puts laws reach c set_up es are = over_played puts laws reach c set_up (new_world c) es are (first_seen c) (first_ahead c)
+over_played : Puts → NodeLaws → (c : Cluster) → IsCluster c → (w : World) (v : cluster.World) (es : List Event) → Sees c w v → Ahead w.nodes → Answers c w es (answered c w es) (played c w es)
+over_played puts laws c set_up w v [] h ahead = (refl, refl)
+over_played puts laws c set_up w v (e ∷ es) h ahead =
+    let step = has_step puts c w e ahead in
+    let first = step_next laws c set_up w v e (outcome c w e) (next c w e) step h in
+    let rest = over_played puts laws c set_up (next c w e) first.seen es first.sees (step_ahead c w (next c w e) e (outcome c w e) (sound_of c w v h) ahead step) in
+    ((next c w e, outcome c w e, step, rest.0), ap (λ t. outcome c w e ∷ t) rest.1)
+
+pub played_run : Puts → NodeLaws → (c : Cluster) → IsCluster c → (es : List Event) → Answers c (new_world c) es (answered c (new_world c) es) (played c (new_world c) es)
+played_run puts laws c set_up es = over_played puts laws c set_up (new_world c) (cluster.begin (law_for c)) es (first_seen c) (first_ahead c)

@@ -4,7 +4,7 @@ use Rattle.std.specs.Fmt.{digits}
 use Rattle.interest.specs.Counts.{counts_after, delta_fault, change_of}
 use Rattle.claim_race.specs.Race.{winner, busy_of}
 use Rattle.route_values.specs.Snapshots.{key_line}
-use Rattle.cluster_world.specs.Scripts.{ARestart, TwoShards, AFullWindow, ALowerIncarnation}
+use Rattle.cluster_world.specs.Scripts.{ARestart, TwoShards, AFullWindow, ALowerIncarnation, ASnapshot}
 
 pub a_restart : ARestart
 unfolding counts_after delta_fault change_of winner busy_of key_line digits
@@ -21,3 +21,7 @@ a_full_window = record { outcomes = refl }
 pub a_lower_incarnation : ALowerIncarnation
 unfolding counts_after delta_fault change_of winner busy_of key_line digits
 a_lower_incarnation = record { outcomes = refl }
+
+pub a_snapshot : ASnapshot
+unfolding counts_after delta_fault change_of winner busy_of key_line digits
+a_snapshot = record { outcomes = refl; sent = refl; placements = refl }

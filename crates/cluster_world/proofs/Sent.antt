@@ -19,13 +19,14 @@ use Rattle.hub_core.specs.Receiving.{told_by}
 use Rattle.hub_core.specs.Telling.{collect_frames, count_of_changes, without_slow}
 use Rattle.hub_core.specs.Peers.{snapshot_to, outbox_of}
 use Rattle.route_session.specs.State.{peer_of_session}
-use Rattle.node_core.specs.Events.{OfConn, AtShard, Publish, Collect, Dial, Accept, CutSession, TakeFrames, NodeEvent, Own, Receive, OnInfo, OnConnect}
-use Rattle.node_core.specs.State.{Node}
-use Rattle.node_core.specs.Steps.{node_after, node_frames, deltas_at, shard_line, cut_if}
+use Rattle.node_law.specs.Events.{OfConn, AtShard, Publish, Collect, Dial, Accept, CutSession, TakeFrames, NodeEvent, Own, Receive, OnInfo, OnConnect}
+use Rattle.node_law.specs.State.{Node}
+use Rattle.node_law.specs.Steps.{node_after, node_frames, deltas_at, shard_line, cut_if}
 use Rattle.cluster_world.specs.declared.faults.WorldFault.{WorldFault}
 use Rattle.cluster_world.specs.State.{Cluster, Running, World, new_world, server_at}
 use Rattle.cluster_world.specs.Events.{Event, Start, Stop, At, event_for}
 use Rattle.cluster_world.specs.Events as of_world
+use Rattle.cluster_world.specs.Outcomes.{Outcome}
 use Rattle.cluster_world.specs.Refusals.{world_refusal}
 use Rattle.cluster_world.specs.Steps.{Acts, Happens, Decided, WorldStep, Run}
 use Rattle.cluster_world.specs.Headline.{AreSent}
@@ -125,32 +126,32 @@ new_waits : (sent : List RouteFrame) (k : ℕ) → Waits sent (replicate k unkno
 new_waits sent zero x i = absurd i
 new_waits sent (suc k) x i = ⊎_elim (λ e. subst (Out sent) (sym e) (λ f j. absurd j)) (λ j. new_waits sent k x j) i
 
-acts_wait : (c : Cluster) (w w' : World) (n : ℕ) (event : Option NodeEvent) → AllWait w.sent w.nodes → Acts c w n event w' → AllWait w'.sent w'.nodes
-acts_wait c w w' n event h s = subst (λ (x : World). AllWait x.sent x.nodes) (sym s.after)
+acts_wait : (c : Cluster) (w w' : World) (n : ℕ) (event : Option NodeEvent) (told : Outcome) → AllWait w.sent w.nodes → Acts c w n event told w' → AllWait w'.sent w'.nodes
+acts_wait c w w' n event told h s = subst (λ (x : World). AllWait x.sent x.nodes) (sym s.after)
     (wait_set (w.sent ++ node_frames (server_at c n s.a.inc) s.a.node s.e) w.nodes n (Some (record { inc = s.a.inc; node = s.b })) (λ k a at. more_sent w.sent (node_frames (server_at c n s.a.inc) s.a.node s.e) a.node.hub.peers (h k a at))
     (λ a e. subst (λ (x : Running). Waits (w.sent ++ node_frames (server_at c n s.a.inc) s.a.node s.e) x.node.hub.peers) (same_Some _ a e) here))
   where
     here : Waits (w.sent ++ node_frames (server_at c n s.a.inc) s.a.node s.e) s.b.hub.peers
     here = subst (λ (x : Node). Waits (w.sent ++ node_frames (server_at c n s.a.inc) s.a.node s.e) x.hub.peers) (sym s.steps.after) (after_waits w.sent (server_at c n s.a.inc) s.a.node s.e s.won s.race (h n s.a s.a_is))
 
-happens_wait : (c : Cluster) (w w' : World) (e : Event) → AllWait w.sent w.nodes → Happens c w e w' → AllWait w'.sent w'.nodes
-happens_wait c w w' (Start n inc) h s = subst (λ (x : World). AllWait x.sent x.nodes) (sym s.after) (wait_set w.sent w.nodes n _ h (λ a e. subst (λ (x : Running). Waits w.sent x.node.hub.peers) (same_Some _ a e) (new_waits w.sent (length c.names))))
-happens_wait c w w' (Stop n) h s = subst (λ (x : World). AllWait x.sent x.nodes) (sym s.after) (wait_set w.sent w.nodes n None h (λ a e. absurd (none-some a e)))
-happens_wait c w w' (of_world.Receive n k) h s = acts_wait c w w' n (event_for w (of_world.Receive n k)) h s
-happens_wait c w w' (of_world.OnInfo n session k) h s = acts_wait c w w' n (event_for w (of_world.OnInfo n session k)) h s
-happens_wait c w w' (of_world.OnConnect n session k) h s = acts_wait c w w' n (event_for w (of_world.OnConnect n session k)) h s
-happens_wait c w w' (At n event) h s = acts_wait c w w' n (event_for w (At n event)) h s
+happens_wait : (c : Cluster) (w w' : World) (e : Event) (told : Outcome) → AllWait w.sent w.nodes → Happens c w e told w' → AllWait w'.sent w'.nodes
+happens_wait c w w' (Start n inc) told h s = subst (λ (x : World). AllWait x.sent x.nodes) (sym s.after) (wait_set w.sent w.nodes n _ h (λ a e. subst (λ (x : Running). Waits w.sent x.node.hub.peers) (same_Some _ a e) (new_waits w.sent (length c.names))))
+happens_wait c w w' (Stop n) told h s = subst (λ (x : World). AllWait x.sent x.nodes) (sym s.after) (wait_set w.sent w.nodes n None h (λ a e. absurd (none-some a e)))
+happens_wait c w w' (of_world.Receive n k) told h s = acts_wait c w w' n (event_for w (of_world.Receive n k)) told h s
+happens_wait c w w' (of_world.OnInfo n session k) told h s = acts_wait c w w' n (event_for w (of_world.OnInfo n session k)) told h s
+happens_wait c w w' (of_world.OnConnect n session k) told h s = acts_wait c w w' n (event_for w (of_world.OnConnect n session k)) told h s
+happens_wait c w w' (At n event) told h s = acts_wait c w w' n (event_for w (At n event)) told h s
 
-step_wait : (c : Cluster) (w w' : World) (e : Event) → AllWait w.sent w.nodes → WorldStep c w e w' → AllWait w'.sent w'.nodes
-step_wait c w w' e h s = go (world_refusal c w e) s
+step_wait : (c : Cluster) (w w' : World) (e : Event) (told : Outcome) → AllWait w.sent w.nodes → WorldStep c w e told w' → AllWait w'.sent w'.nodes
+step_wait c w w' e told h s = go (world_refusal c w e) s
   where
-    go : (o : Option WorldFault) → Decided c w e o w' → AllWait w'.sent w'.nodes
-    go None d = happens_wait c w w' e h d
-    go (Some why) d = subst (λ (x : World). AllWait x.sent x.nodes) (sym d) h
+    go : (o : Option WorldFault) → Decided c w e o told w' → AllWait w'.sent w'.nodes
+    go None d = happens_wait c w w' e told h d
+    go (Some why) d = subst (λ (x : World). AllWait x.sent x.nodes) (sym d.1) h
 
 over_wait : (c : Cluster) (w : World) (es : List Event) (w' : World) → Run c w es w' → AllWait w.sent w.nodes → AllWait w'.sent w'.nodes
 over_wait c w [] w' r h = subst (λ (x : World). AllWait x.sent x.nodes) (sym r) h
-over_wait c w (e ∷ es) w' r h = over_wait c r.0 es w' r.2 (step_wait c w r.0 e h r.1)
+over_wait c w (e ∷ es) w' r h = over_wait c r.0 es w' r.3 (step_wait c w r.0 e r.1 h r.2)
 
 pub are_sent : (c : Cluster) (es : List Event) (w : World) → Run c (new_world c) es w → AreSent w
 are_sent c es w r n a at q count = go (slice_get a.node.hub.peers q) refl

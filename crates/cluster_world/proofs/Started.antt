@@ -5,9 +5,9 @@ use Rattle.cluster_law.specs.Hub.{unheard}
 use Rattle.subj.specs.Servers.{Server}
 use Rattle.hub_core.specs.AsLaw as hub
 use Rattle.hub_core.specs.State.{unknown_peer}
-use Rattle.node_core.specs.AsLaw.{line_of, IsStarted}
-use Rattle.node_core.specs.State.{lines_from}
-use Rattle.node_core.proofs.Runs.{starts_sound}
+use Rattle.node_law.specs.AsLaw.{line_of, IsStarted}
+use Rattle.node_law.specs.State.{lines_from}
+use Rattle.node_law.proofs.Runs.{starts_sound}
 
 lines_seen : (server : Server) (first count : ℕ) → map (line_of server) (lines_from server.shards first count) ≡ replicate count cluster.new_shard
 lines_seen server first zero = refl

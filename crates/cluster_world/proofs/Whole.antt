@@ -4,11 +4,11 @@ use Rattle.std.specs.Prelude.{slice_get}
 use Rattle.std.proofs.lemmas.Option.{none-some, same_Some, slice_get_within}
 use Rattle.list_laws.specs.Lists.{In, Each, Pairs, Along}
 use Rattle.list_laws.proofs.Lists.{in_map, in_left, in_right, read_replicate, pairs_weaker}
-use Rattle.list_laws.proofs.Tests.{true_eq, has_in, no_cause}
-use Rattle.list_laws.proofs.Changes.{append_nil, get_set_there, in_mapped, along_in, along_pairs, pairs_map_back}
+use Rattle.list_laws.proofs.Tests.{true_eq, has_in, or_false, no_cause}
+use Rattle.list_laws.proofs.Changes.{append_nil, append_assoc, map_append, get_set_there, in_mapped, along_in, along_pairs, pairs_map_back}
 use Rattle.cluster_law.specs.Cluster as cluster
 use Rattle.cluster_law.specs.Cluster.{Step, Reached, applied, all_closings}
-use Rattle.cluster_law.specs.Config.{Config, every_rule}
+use Rattle.cluster_law.specs.Config.{every_rule}
 use Rattle.cluster_law.specs.Headline as law_headline
 use Rattle.cluster_law.specs.History as history
 use Rattle.cluster_law.specs.History.{Output, nothing}
@@ -30,20 +30,23 @@ use Rattle.shard_core.specs.Owed.{mode_of}
 use Rattle.shard_core.specs.Puts.{ArePut}
 use Rattle.shard_core.specs.ShardEvents as of_shard
 use Rattle.shard_core.specs.Shards.{State}
-use Rattle.node_core.specs.AsLaw.{NodeFollows, StaysSound, node_of, line_of}
-use Rattle.node_core.specs.Events.{NodeEvent, Own}
-use Rattle.node_core.specs.Sound.{SoundNode}
-use Rattle.node_core.specs.State.{Line, new_node}
+use Rattle.node_law.specs.AsLaw.{NodeFollows, StaysSound, node_of, line_of}
+use Rattle.node_law.specs.Events.{NodeEvent, Own}
+use Rattle.node_law.specs.Sound.{SoundNode}
+use Rattle.node_law.specs.State.{Line, new_node}
+use Rattle.node_law.specs.AsLaw.{is_open_in}
 use Rattle.cluster_world.specs.declared.faults.WorldFault.{WorldFault}
 use Rattle.cluster_world.specs.declared.faults.WorldFault.TheVariants as fault
-use Rattle.cluster_world.specs.Changes.{is_open, is_open_at, is_open_in}
+use Rattle.cluster_world.specs.Changes.{is_open, is_open_at}
 use Rattle.cluster_world.specs.Events.{Event, Start, Stop, Receive, OnInfo, OnConnect, At, event_for}
 use Rattle.cluster_world.specs.Headline.{IsCluster, Headline, IsOwed, PlainOnce, OneMember, InOrder, Names, EachUp}
 use Rattle.cluster_world.specs.Refusals.{world_refusal, start_refusal, is_used, is_start}
-use Rattle.cluster_world.specs.Seen.{law_for, pub_of, publication_of, law_id, own_id, own_content, life_of, seen_node, SeesPlacement, Sees, IsSeen}
+use Rattle.cluster_world.specs.Made.{Passed, acting_in, acting_if, acting, passed, jobs_of, jobs_made, changes_of, changes_made}
+use Rattle.cluster_world.specs.Outcomes.{Outcome}
 use Rattle.cluster_world.specs.State.{Cluster, LifeId, Placement, Running, World, server_at, new_world}
 use Rattle.cluster_world.specs.Steps.{Starts, Stops, Happens, Decided, WorldStep, Run, set_node}
 use Rattle.cluster_world.proofs.Given.{messages_are_given}
+use Rattle.cluster_world.proofs.Seen.{law_for, pub_of, publication_of, law_id, own_id, own_content, life_of, seen_node, SeesPlacement, Sees, law_job, law_change}
 use Rattle.cluster_world.proofs.Started.{is_started}
 use Rattle.cluster_world.proofs.Worlds.{NodeLaws, Next, seen_set, sound_set, lives_same, numbered_after, open_after, closed_after, acts_next, Given, given_numbered, given_info, given_connect, set_size, server_is}
 
@@ -52,7 +55,7 @@ use Rattle.cluster_world.proofs.Worlds.{NodeLaws, Next, seen_set, sound_set, liv
 start_used : (n inc : ℕ) (x : ℕ × ℕ) → (n, inc) ≡ x → is_start n inc x ≡ true
 start_used n inc x e = ap (λ (y : ℕ × ℕ). is_start n inc y) (sym e) ∙ ap (λ t. t && nat_eq inc inc) (true_eq n n refl) ∙ true_eq inc inc refl
 
-unused : (n inc : ℕ) (started : List (ℕ × ℕ)) → is_used n inc started ≡ false → In (n, inc) started → ⊥
+pub unused : (n inc : ℕ) (started : List (ℕ × ℕ)) → is_used n inc started ≡ false → In (n, inc) started → ⊥
 unused n inc [] e i = i
 unused n inc (x ∷ xs) e i = go (unused n inc xs) (is_start n inc x) refl e
   where
@@ -60,18 +63,25 @@ unused n inc (x ∷ xs) e i = go (unused n inc xs) (is_start n inc x) refl e
     go rest true f h = absurd (true≢false h)
     go rest false f h = ⊎_elim (λ (g : (n, inc) ≡ x). true≢false (sym (start_used n inc x g) ∙ f)) (λ (j : In (n, inc) xs). rest h j) i
 
+-- what starts was never there
+pub not_used : (n inc : ℕ) (started : List (ℕ × ℕ)) → start_refusal n inc started (Some None) ≡ None → is_used n inc started ≡ false
+not_used n inc started cause = (or_false (nat_eq inc 0) (is_used n inc started) (no_cause (nat_eq inc 0 || is_used n inc started) fault.UsedIncarnation None cause).0).1
+
 abbrev after_start : Cluster → World → ℕ → ℕ → List (Option Running)
 after_start c w n inc = set_node w n (Some (record { inc = inc; node = new_node (server_at c n inc) }))
 
-start_next : NodeLaws → (c : Cluster) → IsCluster c → (w : World) (v : cluster.World) (n inc : ℕ) (w' : World) → start_refusal n inc w.started (slice_get w.nodes n) ≡ None → Starts c w n inc w' → Sees c w v → Next c v w'
-start_next laws c set_up w v n inc w' cause s h =
+start_next : NodeLaws → (c : Cluster) → IsCluster c → (w : World) (v : cluster.World) (n inc : ℕ) (outcome : Outcome) (w' : World) → start_refusal n inc w.started (slice_get w.nodes n) ≡ None → Starts c w n inc outcome w' → Sees c w v → Next c v w' None
+start_next laws c set_up w v n inc outcome w' cause s h =
     let new : Option Running = Some (record { inc = inc; node = new_node (server_at c n inc) }) in
     let is = server_is c set_up n inc (let lt = slice_get_within w.nodes n None s.down in let size = h.size in omega arith) in
     let started = laws.started (server_at c n inc) is in
-    let fresh : is_used n inc w.started ≡ false = (no_cause (is_used n inc w.started) fault.UsedIncarnation None (sym (ap (start_refusal n inc w.started) s.down) ∙ cause)).0 in (
-      record { nodes = set v.nodes n (cluster.new_node (law_for c) inc); step = suc v.step; past = record v.past { started = v.past.started ++ (n, inc) ∷ [] } },
-      (cluster.Start n inc, inl (record { before = cluster.no_node; before_is = h.nodes n None s.down; was_down = refl; some = s.some; fresh = λ i. unused n inc w.started fresh (subst (In (n, inc)) h.started i); after = refl })),
-      subst (λ x. Sees c x (record { nodes = set v.nodes n (cluster.new_node (law_for c) inc); step = suc v.step; past = record v.past { started = v.past.started ++ (n, inc) ∷ [] } })) (sym s.after) (record {
+    let fresh : is_used n inc w.started ≡ false = not_used n inc w.started (sym (ap (start_refusal n inc w.started) s.down) ∙ cause) in record {
+      seen = record { nodes = set v.nodes n (cluster.new_node (law_for c) inc); step = suc v.step; past = record v.past { started = v.past.started ++ (n, inc) ∷ [] } };
+      event = cluster.Start n inc;
+      steps = inl (record { before = cluster.no_node; before_is = h.nodes n None s.down; was_down = refl; some = s.some; fresh = λ i. unused n inc w.started fresh (subst (In (n, inc)) h.started i); after = refl });
+      jobs = sym (append_nil v.past.jobs);
+      changes = sym (append_nil v.past.changes);
+      sees = subst (λ x. Sees c x (record { nodes = set v.nodes n (cluster.new_node (law_for c) inc); step = suc v.step; past = record v.past { started = v.past.started ++ (n, inc) ∷ [] } })) (sym s.after) (record {
         step = ap suc h.step;
         size = set_size w.nodes n new ∙ h.size;
         nodes = subst (λ x. (k : ℕ) (o : Option Running) → slice_get (set w.nodes n new) k ≡ Some o → slice_get (set v.nodes n x) k ≡ Some (seen_node c k o)) started.seen (seen_set c w.nodes v.nodes n None new s.down h.nodes);
@@ -85,8 +95,8 @@ start_next laws c set_up w v n inc w' cause s h =
         closed_lives = h.closed_lives;
         listed = h.listed;
         placements = h.placements;
-      }),
-    )
+      });
+    }
   where
     -- what is open is at another server
     still : (id : LifeId) → is_open w.nodes id ≡ true → is_open (after_start c w n inc) id ≡ true
@@ -116,13 +126,16 @@ in_all server now q (line ∷ lines) (suc t) k e =
     one_more : (m j : ℕ) → suc m + j ≡ m + suc j
     one_more m j = omega arith
 
-stop_next : (c : Cluster) → (w : World) (v : cluster.World) (n : ℕ) (w' : World) → Stops w n w' → Sees c w v → Next c v w'
-stop_next c w v n w' s h =
+stop_next : (c : Cluster) → (w : World) (v : cluster.World) (n : ℕ) (outcome : Outcome) (w' : World) → Stops w n outcome w' → Sees c w v → Next c v w' None
+stop_next c w v n outcome w' s h =
     let before = node_of (server_at c n s.a.inc) s.a.node in
-    let out : Output = record nothing { closings = all_closings n before.inc (suc v.step) 0 before.shards } in (
-      applied v n cluster.no_node out,
-      (cluster.Stop n, inl (record { before = before; before_is = h.nodes n (Some s.a) s.a_is; was_up = refl; after = refl })),
-      subst (λ x. Sees c x (applied v n cluster.no_node out)) (sym s.after) (record {
+    let out : Output = record nothing { closings = all_closings n before.inc (suc v.step) 0 before.shards } in record {
+      seen = applied v n cluster.no_node out;
+      event = cluster.Stop n;
+      steps = inl (record { before = before; before_is = h.nodes n (Some s.a) s.a_is; was_up = refl; after = refl });
+      jobs = refl;
+      changes = refl;
+      sees = subst (λ x. Sees c x (applied v n cluster.no_node out)) (sym s.after) (record {
         step = ap suc h.step;
         size = set_size w.nodes n None ∙ h.size;
         nodes = seen_set c w.nodes v.nodes n (Some s.a) None s.a_is h.nodes;
@@ -137,31 +150,38 @@ stop_next c w v n w' s h =
             (λ id own here my was now_not. subst (λ k. In (record { life = law_id id; step = suc k }) out.closings) h.step (subst (λ (x : names.LifeId). In (record { life = x; step = suc v.step }) out.closings) (λ j. record { node = sym here j; inc = sym my j; shard = none_more (law_id id).shard j; serial = id.sub.serial }) (in_all (server_at c n s.a.inc) (suc v.step) 0 s.a.node.lines (law_id id).shard id.sub.serial was)));
         listed = h.listed;
         placements = subst (Along (SeesPlacement c) w.placements) (sym (append_nil v.past.placements)) h.placements;
-      }),
-    )
+      });
+    }
   where
     none_more : (k : ℕ) → 0 + k ≡ k
     none_more k = omega arith
 
 -- ---- any step
 
-refused_next : (c : Cluster) (w : World) (v : cluster.World) (w' : World) → w' ≡ record w { step = suc w.step } → Sees c w v → Next c v w'
-refused_next c w v w' is h = (record v { step = suc v.step }, (cluster.Stop 0, inr refl), subst (λ x. Sees c x (record v { step = suc v.step })) (sym is) (record { step = ap suc h.step; size = h.size; nodes = h.nodes; sound = h.sound; started = h.started; publications = h.publications; sent = h.sent; lives = h.lives; numbered = h.numbered; open_lives = h.open_lives; closed_lives = h.closed_lives; listed = h.listed; placements = h.placements }))
+refused_next : (c : Cluster) (w : World) (v : cluster.World) (w' : World) → w' ≡ record w { step = suc w.step } → Sees c w v → Next c v w' None
+refused_next c w v w' is h = record {
+  seen = record v { step = suc v.step };
+  event = cluster.Stop 0;
+  steps = inr refl;
+  jobs = sym (append_nil v.past.jobs);
+  changes = sym (append_nil v.past.changes);
+  sees = subst (λ x. Sees c x (record v { step = suc v.step })) (sym is) (record { step = ap suc h.step; size = h.size; nodes = h.nodes; sound = h.sound; started = h.started; publications = h.publications; sent = h.sent; lives = h.lives; numbered = h.numbered; open_lives = h.open_lives; closed_lives = h.closed_lives; listed = h.listed; placements = h.placements });
+}
 
-happens_next : NodeLaws → (c : Cluster) → IsCluster c → (w : World) (v : cluster.World) (e : Event) (w' : World) → world_refusal c w e ≡ None → Happens c w e w' → Sees c w v → Next c v w'
-happens_next laws c set_up w v (Start n inc) w' cause s h = start_next laws c set_up w v n inc w' cause s h
-happens_next laws c set_up w v (Stop n) w' cause s h = stop_next c w v n w' s h
-happens_next laws c set_up w v (Receive n k) w' cause s h = acts_next laws c set_up w v n (event_for w (Receive n k)) w' (given_numbered w k) s h
-happens_next laws c set_up w v (OnInfo n session k) w' cause s h = acts_next laws c set_up w v n (event_for w (OnInfo n session k)) w' (given_info w session k) s h
-happens_next laws c set_up w v (OnConnect n session k) w' cause s h = acts_next laws c set_up w v n (event_for w (OnConnect n session k)) w' (given_connect w session k) s h
-happens_next laws c set_up w v (At n e) w' cause s h = acts_next laws c set_up w v n (Some (Own e)) w' (λ x is. subst (λ (y : NodeEvent). Given w y) (same_Some (Own e) x is) tt) s h
+happens_next : NodeLaws → (c : Cluster) → IsCluster c → (w : World) (v : cluster.World) (e : Event) (outcome : Outcome) (w' : World) → world_refusal c w e ≡ None → Happens c w e outcome w' → Sees c w v → Next c v w' (acting_in w e)
+happens_next laws c set_up w v (Start n inc) outcome w' cause s h = start_next laws c set_up w v n inc outcome w' cause s h
+happens_next laws c set_up w v (Stop n) outcome w' cause s h = stop_next c w v n outcome w' s h
+happens_next laws c set_up w v (Receive n k) outcome w' cause s h = acts_next laws c set_up w v n (event_for w (Receive n k)) outcome w' (given_numbered w k) s h
+happens_next laws c set_up w v (OnInfo n session k) outcome w' cause s h = acts_next laws c set_up w v n (event_for w (OnInfo n session k)) outcome w' (given_info w session k) s h
+happens_next laws c set_up w v (OnConnect n session k) outcome w' cause s h = acts_next laws c set_up w v n (event_for w (OnConnect n session k)) outcome w' (given_connect w session k) s h
+happens_next laws c set_up w v (At n e) outcome w' cause s h = acts_next laws c set_up w v n (Some (Own e)) outcome w' (λ x is. subst (λ (y : NodeEvent). Given w y) (same_Some (Own e) x is) tt) s h
 
-step_next : NodeLaws → (c : Cluster) → IsCluster c → (w : World) (v : cluster.World) (e : Event) (w' : World) → WorldStep c w e w' → Sees c w v → Next c v w'
-step_next laws c set_up w v e w' s h = go (world_refusal c w e) refl s
+pub step_next : NodeLaws → (c : Cluster) → IsCluster c → (w : World) (v : cluster.World) (e : Event) (outcome : Outcome) (w' : World) → WorldStep c w e outcome w' → Sees c w v → Next c v w' (acting c w e)
+step_next laws c set_up w v e outcome w' s h = go (world_refusal c w e) refl s
   where
-    go : (o : Option WorldFault) → world_refusal c w e ≡ o → Decided c w e o w' → Next c v w'
-    go None is d = happens_next laws c set_up w v e w' is d h
-    go (Some why) is d = refused_next c w v w' d h
+    go : (o : Option WorldFault) → world_refusal c w e ≡ o → Decided c w e o outcome w' → Next c v w' (acting_if w e o)
+    go None is d = happens_next laws c set_up w v e outcome w' is d h
+    go (Some why) is d = refused_next c w v w' d.1 h
 
 -- ---- the laws below
 
@@ -170,16 +190,39 @@ laws_of follows stays puts = record { follows = follows; stays = stays; started 
 
 -- ---- runs
 
--- one more step of the machine keeps a world reached: the cluster law's own
-abbrev pub StepsReach : Type 0
-StepsReach = (c : Config) (w w' : cluster.World) (e : cluster.Event) → Reached every_rule c w → Step every_rule c w e w' → Reached every_rule c w'
+-- the machine's run along a run: what it ends in, and the jobs and changes that it made
+pub record Over (c : Cluster) (v : cluster.World) (w' : World) (steps : List Passed) : Type 0 where
+  pub seen : cluster.World
+  pub events : List cluster.Event
+  pub run : cluster.Run every_rule (law_for c) v events seen
+  pub sees : Sees c w' seen
+  pub jobs : seen.past.jobs ≡ v.past.jobs ++ map (law_job c) (jobs_made c steps)
+  pub changes : seen.past.changes ≡ v.past.changes ++ map law_change (changes_made c steps)
 
-pub seen_next : NodeLaws → StepsReach → (c : Cluster) → IsCluster c → (w : World) (e : Event) (w' : World) → WorldStep c w e w' → IsSeen c w → IsSeen c w'
-seen_next laws reach c set_up w e w' step s = let next = step_next laws c set_up w s.0 e w' step s.2 in (next.0, reach (law_for c) s.0 next.0 (next.1.0) s.1 next.1.1, next.2)
+-- what two steps add, one after the other
+both_add : {A B : Type 0} (f : A → B) (old mid new : List B) (here later : List A) → mid ≡ old ++ map f here → new ≡ mid ++ map f later → new ≡ old ++ map f (here ++ later)
+both_add f old mid new here later first second = second ∙ ap (λ t. t ++ map f later) first ∙ append_assoc old (map f here) (map f later) ∙ ap (λ t. old ++ t) (sym (map_append f here later))
 
-pub over : NodeLaws → StepsReach → (c : Cluster) → IsCluster c → (w : World) (es : List Event) (w' : World) → Run c w es w' → IsSeen c w → IsSeen c w'
-over laws reach c set_up w [] w' r s = subst (IsSeen c) (sym r) s
-over laws reach c set_up w (e ∷ es) w' r s = over laws reach c set_up r.0 es w' r.2 (seen_next laws reach c set_up w e r.0 r.1 s)
+pub over : NodeLaws → (c : Cluster) → IsCluster c → (w : World) (v : cluster.World) (es : List Event) (w' : World) (r : Run c w es w') → Sees c w v → Over c v w' (passed c w es w' r)
+over laws c set_up w v [] w' r h = record {
+  seen = v;
+  events = [];
+  run = refl;
+  sees = subst (λ x. Sees c x v) (sym r) h;
+  jobs = sym (append_nil v.past.jobs);
+  changes = sym (append_nil v.past.changes);
+}
+over laws c set_up w v (e ∷ es) w' r h =
+    let first = step_next laws c set_up w v e r.1 r.0 r.2 h in
+    let rest = over laws c set_up r.0 first.seen es w' r.3 first.sees in
+    record {
+      seen = rest.seen;
+      events = first.event ∷ rest.events;
+      run = (first.seen, first.steps, rest.run);
+      sees = rest.sees;
+      jobs = both_add (law_job c) v.past.jobs first.seen.past.jobs rest.seen.past.jobs (jobs_of c (acting c w e)) (jobs_made c (passed c r.0 es w' r.3)) first.jobs rest.jobs;
+      changes = both_add law_change v.past.changes first.seen.past.changes rest.seen.past.changes (changes_of (acting c w e)) (changes_made c (passed c r.0 es w' r.3)) first.changes rest.changes;
+    }
 
 replicate_size : {A : Type 0} (k : ℕ) (x : A) → length (replicate k x) ≡ k
 replicate_size zero x = refl
@@ -190,29 +233,28 @@ same_place zero x a y n e = absurd (none-some a e)
 same_place (suc k) x a y zero e = refl
 same_place (suc k) x a y (suc n) e = same_place k x a y n e
 
-pub first_seen : (c : Cluster) → IsSeen c (new_world c)
-first_seen c = (
-  cluster.begin (law_for c),
-  record { events = []; run = refl },
-  record {
-    step = refl;
-    size = replicate_size (length c.names) None;
-    nodes = λ n o e. subst (λ x. slice_get (replicate (length c.names) cluster.no_node) n ≡ Some (seen_node c n x)) (sym (read_replicate (length c.names) None o n e)) (same_place (length c.names) None o cluster.no_node n e);
-    sound = λ n a e. absurd (none-some a (sym (read_replicate (length c.names) None (Some a) n e)));
-    started = refl;
-    publications = refl;
-    sent = refl;
-    lives = refl;
-    numbered = λ l i. absurd i;
-    open_lives = λ l i. absurd i;
-    closed_lives = λ l i. absurd i;
-    listed = λ p i. absurd i;
-    placements = tt;
-  },
-)
+pub first_seen : (c : Cluster) → Sees c (new_world c) (cluster.begin (law_for c))
+first_seen c = record {
+  step = refl;
+  size = replicate_size (length c.names) None;
+  nodes = λ n o e. subst (λ x. slice_get (replicate (length c.names) cluster.no_node) n ≡ Some (seen_node c n x)) (sym (read_replicate (length c.names) None o n e)) (same_place (length c.names) None o cluster.no_node n e);
+  sound = λ n a e. absurd (none-some a (sym (read_replicate (length c.names) None (Some a) n e)));
+  started = refl;
+  publications = refl;
+  sent = refl;
+  lives = refl;
+  numbered = λ l i. absurd i;
+  open_lives = λ l i. absurd i;
+  closed_lives = λ l i. absurd i;
+  listed = λ p i. absurd i;
+  placements = tt;
+}
 
-pub seen_reached : NodeLaws → StepsReach → (c : Cluster) → IsCluster c → (es : List Event) (w : World) → Run c (new_world c) es w → IsSeen c w
-seen_reached laws reach c set_up es w r = over laws reach c set_up (new_world c) es w r (first_seen c)
+pub seen_over : NodeLaws → (c : Cluster) → IsCluster c → (es : List Event) (w : World) (r : Run c (new_world c) es w) → Over c (cluster.begin (law_for c)) w (passed c (new_world c) es w r)
+seen_over laws c set_up es w r = over laws c set_up (new_world c) (cluster.begin (law_for c)) es w r (first_seen c)
+
+pub is_reached : (c : Cluster) (w : World) (steps : List Passed) (o : Over c (cluster.begin (law_for c)) w steps) → Reached every_rule (law_for c) o.seen
+is_reached c w steps o = record { events = o.events; run = o.run }
 
 -- ---- what it says
 
@@ -281,8 +323,8 @@ headline_of c w v s h = record {
           bytes = a.bytes ∙ (λ j. due_bytes (own_content (sym content j)) ((sym due.sid ∙ ap (λ (x : history.Life). x.sid) life.2) j) no_headers);
         }
 
-pub sound_of : (c : Cluster) (w : World) → IsSeen c w → EachUp (λ n a. SoundNode (server_at c n a.inc) a.node) w
-sound_of c w s n a at = s.2.sound n a at
+pub sound_of : (c : Cluster) (w : World) (v : cluster.World) → Sees c w v → EachUp (λ n a. SoundNode (server_at c n a.inc) a.node) w
+sound_of c w v s n a at = s.sound n a at
 
 pub names_of : (c : Cluster) (w : World) (v : cluster.World) → Sees c w v → law_headline.Unique v.past → Names w
 names_of c w v s unique = record {

@@ -18,21 +18,28 @@ use Rattle.route_values.specs.declared.frames.RouteFrame.{RouteFrame}
 use Rattle.route_values.specs.declared.frames.RouteFrame.TheVariants as route
 use Rattle.subj.specs.Servers.{IsListed}
 use Rattle.hub_core.proofs.Places.{named}
+use Rattle.hub_core.specs.AsLaw.{change_of}
+use Rattle.interest.specs.declared.changes.Change.{Change}
 use Rattle.shard_core.specs.AsLaw as of_shard
 use Rattle.shard_core.specs.ShardSteps.{called}
-use Rattle.node_core.specs.AsLaw.{Shown, IsOpenAt, NodeFollows, StaysSound, IsStarted, MessagesAreGiven, part_of, node_of}
-use Rattle.node_core.specs.AsLaw as node
-use Rattle.node_core.specs.Events.{ConnEvent, Subscribe, Unsubscribe, Reply, Shut, Detach, Take, OfConn, AtShard, Publish, Collect, Dial, Accept, CutSession, TakeFrames, NodeEvent, Own, Receive, OnInfo, OnConnect}
-use Rattle.node_core.specs.Sound.{SoundNode}
-use Rattle.node_core.specs.State.{Line, Node}
-use Rattle.node_core.specs.Steps.{node_frames, conn_line, conn_place, shard_line}
-use Rattle.cluster_world.specs.Changes.{publication, publications_of, lives_of, lives_at, new_life, looked_at, is_open, is_open_at, is_open_in}
+use Rattle.node_law.specs.AsLaw.{Shown, IsOpenAt, NodeFollows, StaysSound, IsStarted, MessagesAreGiven, part_of, node_of, jobs_by, changes_by}
+use Rattle.node_law.specs.AsLaw as node
+use Rattle.node_law.specs.declared.events.ConnEvent.{ConnEvent}
+use Rattle.node_law.specs.declared.events.ConnEvent.TheVariants.{Subscribe, Unsubscribe, Reply, Shut, Detach, Take}
+use Rattle.node_law.specs.Events.{OfConn, AtShard, Publish, Collect, Dial, Accept, CutSession, TakeFrames, NodeEvent, Own, Receive, OnInfo, OnConnect}
+use Rattle.node_law.specs.Sound.{SoundNode}
+use Rattle.node_law.specs.State.{Line, Node}
+use Rattle.node_law.specs.Steps.{node_frames, conn_line, conn_place, shard_line}
+use Rattle.node_law.specs.AsLaw.{is_open_in}
+use Rattle.cluster_world.specs.Changes.{publication, publications_of, lives_of, conn_lives, new_life, looked_at, is_open, is_open_at}
 use Rattle.cluster_world.specs.Events.{frame_at, numbered, info_on, connect_on}
 use Rattle.cluster_world.specs.Headline.{IsCluster}
-use Rattle.cluster_world.specs.Seen.{law_for, frame_of, publication_of, law_id, own_id, life_of, seen_node, SeesPlacement, Sees}
+use Rattle.cluster_world.specs.Made.{Acting, acting_at, jobs_of, changes_of}
+use Rattle.cluster_world.specs.Outcomes.{Outcome}
 use Rattle.cluster_world.specs.State.{Cluster, Publication, LifeId, Life, Running, World, server_at}
 use Rattle.cluster_world.specs.Steps.{Acts, set_node}
 use Rattle.cluster_world.proofs.Gained.{node_gives}
+use Rattle.cluster_world.proofs.Seen.{law_for, frame_of, publication_of, law_id, own_id, life_of, seen_node, SeesPlacement, Sees, law_job, law_change}
 
 -- the laws of one server
 pub record NodeLaws : Type 0 where
@@ -41,9 +48,14 @@ pub record NodeLaws : Type 0 where
   pub started : (server : Server) → IsListed server → IsStarted server
   pub given : MessagesAreGiven
 
--- the next world of the machine, and that it is reached
-abbrev pub Next : Cluster → cluster.World → World → Type 0
-Next c v w' = (v' : cluster.World) × ((e : cluster.Event) × Step every_rule (law_for c) v e v') × Sees c w' v'
+-- the next world of the machine, by a step that makes just these jobs and changes
+pub record Next (c : Cluster) (v : cluster.World) (w' : World) (x : Option Acting) : Type 0 where
+  pub seen : cluster.World
+  pub event : cluster.Event
+  pub steps : Step every_rule (law_for c) v event seen
+  pub sees : Sees c w' seen
+  pub jobs : seen.past.jobs ≡ v.past.jobs ++ map (law_job c) (jobs_of c x)
+  pub changes : seen.past.changes ≡ v.past.changes ++ map law_change (changes_of x)
 
 -- ---- one server changes
 
@@ -82,10 +94,10 @@ pub lives_same : (now : ℕ) (nodes : List (Option Running)) (ls : List Life) �
 lives_same now nodes ls = map_map (looked_at now nodes) life_of ls ∙ map_same (λ l. life_of (looked_at now nodes l)) life_of ls (life_same now nodes)
 
 -- it closes now, or it stays as it is and is not one that should have closed
-abbrev Fate : ℕ → List (Option Running) → Life → Life → Type 0
+abbrev pub Fate : ℕ → List (Option Running) → Life → Life → Type 0
 Fate now nodes l after = ((l.closed ≡ None) × (is_open nodes l.id ≡ false) × (after ≡ record l { closed = Some now })) ⊎ ((after ≡ l) × (l.closed ≡ None → is_open nodes l.id ≡ true))
 
-fate : (now : ℕ) (nodes : List (Option Running)) (l : Life) → Fate now nodes l (looked_at now nodes l)
+pub fate : (now : ℕ) (nodes : List (Option Running)) (l : Life) → Fate now nodes l (looked_at now nodes l)
 fate now nodes l = go l.closed refl (is_open nodes l.id) refl
   where
     go : (o : Option ℕ) → l.closed ≡ o → (q : Bool) → is_open nodes l.id ≡ q → Fate now nodes l (cond (is_none o && not q) (record l { closed = Some now }) l)
@@ -189,7 +201,7 @@ step_of c w v v' n inc (OnConnect session connect) x sent given shown acts = han
 
 -- it hasn't closed, and its shard has the number of its place
 new_at : (c : Cluster) (n inc now conn : ℕ) (event : ConnEvent) (a : Node) (place : ℕ) (o : Option Line) → ((line : Line) → o ≡ Some line → line.shard.shard ≡ suc place)
-    → Each (λ l. (l.closed ≡ None) × (l.id.sub.shard ≡ suc place) × (l.id.node ≡ n) × (l.id.inc ≡ inc)) (lives_at (server_at c n inc) now conn event o)
+    → Each (λ l. (l.closed ≡ None) × (l.id.sub.shard ≡ suc place) × (l.id.node ≡ n) × (l.id.inc ≡ inc)) (conn_lives (server_at c n inc) now conn event o)
 new_at c n inc now conn event a place None h l i = absurd i
 new_at c n inc now conn (Subscribe key sid) a place (Some line) h l i = go (called conn sid line.shard.subs) i
   where
@@ -202,7 +214,7 @@ new_at c n inc now conn (Shut text) a place (Some line) h l i = absurd i
 new_at c n inc now conn Detach a place (Some line) h l i = absurd i
 new_at c n inc now conn (Take count) a place (Some line) h l i = absurd i
 
-conn_line_at : (server : Server) (a : Node) (conn : ℕ) (line : Line) → conn_line server a conn ≡ Some line → slice_get a.lines (conn_place server conn) ≡ Some line
+pub conn_line_at : (server : Server) (a : Node) (conn : ℕ) (line : Line) → conn_line server a conn ≡ Some line → slice_get a.lines (conn_place server conn) ≡ Some line
 conn_line_at server a conn line e = go (nat_eq conn 0) e
   where
     go : (b : Bool) → cond b None (slice_get a.lines (conn_place server conn)) ≡ Some line → slice_get a.lines (conn_place server conn) ≡ Some line
@@ -232,7 +244,7 @@ new_lives c n inc now a (OnConnect session connect) sound l i = absurd i
 
 -- they are the law's
 lives_are_at : (c : Cluster) (n inc now conn : ℕ) (event : ConnEvent) (place : ℕ) (o : Option Line) → place ≡ conn_place (server_at c n inc) conn → ((line : Line) → o ≡ Some line → line.shard.shard ≡ suc place)
-    → node.conn_lives (server_at c n inc) now conn event o ≡ map life_of (lives_at (server_at c n inc) now conn event o)
+    → node.conn_lives (server_at c n inc) now conn event o ≡ map life_of (conn_lives (server_at c n inc) now conn event o)
 lives_are_at c n inc now conn event place None same h = refl
 lives_are_at c n inc now conn (Subscribe key sid) place (Some line) same h = go (called conn sid line.shard.subs)
   where
@@ -299,11 +311,14 @@ server_is c set_up n inc lt = record { apart = set_up.apart; listed = lt }
 
 -- ---- a step of a server
 
+changes_seen : (n inc : ℕ) (changes : List Change) → map (law.noted n inc) (map change_of changes) ≡ map law_change (map (λ change. record { node = n; inc = inc; change = change }) changes)
+changes_seen n inc changes = map_map change_of (law.noted n inc) changes ∙ sym (map_map (λ change. record { node = n; inc = inc; change = change }) law_change changes)
+
 abbrev pub after_act : World → ℕ → ℕ → Node → List (Option Running)
 after_act w n inc b = set_node w n (Some (record { inc = inc; node = b }))
 
-pub acts_next : NodeLaws → (c : Cluster) → IsCluster c → (w : World) (v : cluster.World) (n : ℕ) (event : Option NodeEvent) (w' : World) → ((e : NodeEvent) → event ≡ Some e → Given w e) → Acts c w n event w' → Sees c w v → Next c v w'
-acts_next laws c set_up w v n event w' given s h =
+pub acts_next : NodeLaws → (c : Cluster) → IsCluster c → (w : World) (v : cluster.World) (n : ℕ) (event : Option NodeEvent) (outcome : Outcome) (w' : World) → ((e : NodeEvent) → event ≡ Some e → Given w e) → Acts c w n event outcome w' → Sees c w v → Next c v w' (acting_at n (slice_get w.nodes n) event)
+acts_next laws c set_up w v n event outcome w' given s h =
     let server = server_at c n s.a.inc in
     let now = suc w.step in
     let new : Option Running = Some (record { inc = s.a.inc; node = s.b }) in
@@ -320,10 +335,15 @@ acts_next laws c set_up w v n event w' given s h =
       new = node_of (server_at c n s.a.inc) s.b;
       steps = subst (λ k. law.NodeStep every_rule (law_for c) n (suc k) (node_of (server_at c n s.a.inc) s.a.node) moves.0 m.out (node_of (server_at c n s.a.inc) s.b)) (sym h.step) m.steps;
       after = refl;
-    } in (
-      applied v n (node_of (server_at c n s.a.inc) s.b) m.out,
-      step_of c w v (applied v n (node_of (server_at c n s.a.inc) s.b) m.out) n s.a.inc s.e moves.0 h.sent (given s.e s.is) moves.1 acts,
-      subst (λ x. Sees c x (applied v n (node_of (server_at c n s.a.inc) s.b) m.out)) (sym s.after) (record {
+    } in
+    let stepped = step_of c w v (applied v n (node_of (server_at c n s.a.inc) s.b) m.out) n s.a.inc s.e moves.0 h.sent (given s.e s.is) moves.1 acts in
+    subst (Next c v w') (sym (λ i. acting_at n (s.a_is i) (s.is i))) (record {
+      seen = applied v n (node_of (server_at c n s.a.inc) s.b) m.out;
+      event = stepped.0;
+      steps = stepped.1;
+      jobs = ap (λ t. v.past.jobs ++ t) (m.jobs_are ∙ sym (map_map (λ job. record { node = n; inc = s.a.inc; job = job }) (law_job c) (jobs_by (server_at c n s.a.inc) s.a.node s.e)));
+      changes = ap (λ t. v.past.changes ++ t) (m.changes_are ∙ changes_seen n s.a.inc (changes_by s.a.node s.e));
+      sees = subst (λ x. Sees c x (applied v n (node_of (server_at c n s.a.inc) s.b) m.out)) (sym s.after) (record {
         step = ap suc h.step;
         size = set_size w.nodes n new ∙ h.size;
         nodes = seen_set c w.nodes v.nodes n (Some s.a) new s.a_is h.nodes;
@@ -343,8 +363,8 @@ acts_next laws c set_up w v n event w' given s h =
             (λ l i k is. absurd (none-some k (sym (new_lives c n s.a.inc (suc w.step) s.a.node s.e sound l i).0 ∙ is)));
         listed = each_append (λ p. place_in p.id.origin c.names < length c.names) w.publications (publications_of (server_at c n s.a.inc) (suc w.step) s.a.node s.e) h.listed (new_listed c n s.a.inc (suc w.step) is s.a.node s.e);
         placements = along_append (SeesPlacement c) w.placements s.gained v.past.placements m.out.placements h.placements (subst (Along (SeesPlacement c) s.gained) (sym m.placements_are) gives.placements);
-      }),
-    )
+      });
+    })
   where
     is_at : (id : LifeId) → id.node ≡ n → slice_get (after_act w n s.a.inc s.b) id.node ≡ Some (Some (record { inc = s.a.inc; node = s.b }))
     is_at id here = ap (slice_get (after_act w n s.a.inc s.b)) here ∙ get_set_here w.nodes n (Some s.a) (Some (record { inc = s.a.inc; node = s.b })) s.a_is

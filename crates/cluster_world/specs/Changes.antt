@@ -1,5 +1,6 @@
 -- What a step adds to the lists: by what the event is, and by comparing the server before and after it.
-use Rattle.std.specs.Prelude.{◌≡◌, ℕ, ◌+◌, Bool, false, not, ◌&&◌, nat_eq, List, [], ◌∷◌, ◌++◌, length, drop, filter, Option, Some, None, is_none, slice_get, if◌then◌else◌}
+use Rattle.std.specs.Prelude.{◌≡◌, ℕ, ◌+◌, Bool, false, not, ◌&&◌, nat_eq, List, [], ◌∷◌, ◌++◌, length, drop, filter, map, Option, Some, None, is_none, slice_get, if◌then◌else◌}
+use Rattle.list_laws.specs.Lists.{SubList}
 use Rattle.outbox.specs.Views.{Written}
 use Rattle.outbox.specs.declared.entries.Tag.{Tag}
 use Rattle.outbox.specs.declared.entries.Tag.TheVariants as tag
@@ -9,16 +10,18 @@ use Rattle.subj.specs.declared.keys.Key.{Key}
 use Rattle.subj.specs.Servers.{Server}
 use Rattle.hub_core.specs.Publishing as hub
 use Rattle.hub_core.specs.Publishing.{next_id}
-use Rattle.shard_core.specs.AsLaw.{is_open_serial}
-use Rattle.shard_core.specs.Closings.{id_of}
+use Rattle.shard_core.specs.Closings.{id_of, serials_of}
 use Rattle.shard_core.specs.Shards.{waits_for}
 use Rattle.shard_core.specs.Puts.{put_by, entries_for}
 use Rattle.claim_race.specs.Race.{RaceState}
-use Rattle.node_core.specs.AsLaw.{Part, part_of, waits_at}
+use Rattle.node_law.specs.AsLaw.{Part, part_of, waits_at, is_open_in}
 use Rattle.shard_core.specs.ShardSteps.{called}
-use Rattle.node_core.specs.State.{Line, Node}
-use Rattle.node_core.specs.Events.{ConnEvent, Subscribe, Unsubscribe, Reply, Shut, Detach, Take, OwnEvent, OfConn, AtShard, Publish, Collect, Dial, Accept, CutSession, TakeFrames, NodeEvent, Own, Receive, OnInfo, OnConnect}
-use Rattle.node_core.specs.Steps.{NodeStep, conn_line, shard_line}
+use Rattle.node_law.specs.Sound.{SoundNode}
+use Rattle.node_law.specs.State.{Line, Node}
+use Rattle.node_law.specs.declared.events.ConnEvent.{ConnEvent}
+use Rattle.node_law.specs.declared.events.ConnEvent.TheVariants.{Subscribe, Unsubscribe, Reply, Shut, Detach, Take}
+use Rattle.node_law.specs.Events.{OwnEvent, OfConn, AtShard, Publish, Collect, Dial, Accept, CutSession, TakeFrames, NodeEvent, Own, Receive, OnInfo, OnConnect}
+use Rattle.node_law.specs.Steps.{NodeStep, conn_line, shard_line}
 use Rattle.cluster_world.specs.State.{Publication, LifeId, Life, Placement, Running}
 
 -- ---- publications: each publish that is accepted (profile)
@@ -48,17 +51,17 @@ abbrev pub new_life : Server → ℕ → ℕ → Key → List ℕ → Line → O
 new_life server now conn key sid line (Some same) = []
 new_life server now conn key sid line None = record { id = record { node = server.me; inc = server.inc; sub = id_of line.shard.shard (line.shard.opened + 1) }; conn = conn; key = key; sid = sid; opened = now; closed = None } ∷ []
 
-abbrev pub lives_at : Server → ℕ → ℕ → ConnEvent → Option Line → List Life
-lives_at server now conn event None = []
-lives_at server now conn (Subscribe key sid) (Some line) = new_life server now conn key sid line (called conn sid line.shard.subs)
-lives_at server now conn (Unsubscribe sid max) (Some line) = []
-lives_at server now conn (Reply frame) (Some line) = []
-lives_at server now conn (Shut text) (Some line) = []
-lives_at server now conn Detach (Some line) = []
-lives_at server now conn (Take count) (Some line) = []
+abbrev pub conn_lives : Server → ℕ → ℕ → ConnEvent → Option Line → List Life
+conn_lives server now conn event None = []
+conn_lives server now conn (Subscribe key sid) (Some line) = new_life server now conn key sid line (called conn sid line.shard.subs)
+conn_lives server now conn (Unsubscribe sid max) (Some line) = []
+conn_lives server now conn (Reply frame) (Some line) = []
+conn_lives server now conn (Shut text) (Some line) = []
+conn_lives server now conn Detach (Some line) = []
+conn_lives server now conn (Take count) (Some line) = []
 
 abbrev pub own_lives : Server → ℕ → Node → OwnEvent → List Life
-own_lives server now a (OfConn conn event) = lives_at server now conn event (conn_line server a conn)
+own_lives server now a (OfConn conn event) = conn_lives server now conn event (conn_line server a conn)
 own_lives server now a (AtShard shard work) = []
 own_lives server now a (Publish p) = []
 own_lives server now a (Collect shard) = []
@@ -74,10 +77,6 @@ lives_of server now a (OnInfo session info) = []
 lives_of server now a (OnConnect session connect) = []
 
 -- ---- and it closes with the step after which it is open no more
-
-abbrev pub is_open_in : ℕ → Option Line → Bool
-is_open_in serial None = false
-is_open_in serial (Some line) = is_open_serial serial line.shard.subs
 
 -- at this server, where it is up in the life's incarnation
 abbrev pub is_open_at : ℕ → SubId → Option (Option Running) → Bool
@@ -111,10 +110,22 @@ placements_of server now conn (entry ∷ entries) = placement_of server now conn
 abbrev pub is_on : ℕ → Placement → Bool
 is_on conn p = nat_eq p.conn conn
 
--- these are the placements, where the shards' lines were the first and are the second: those of each connection in the order
--- of its outbox, and between connections in any order
-abbrev pub AreGained : Server → ℕ → List Line → List Line → List Placement → Type 0
-AreGained server now old new gained = (conn : ℕ) → filter (is_on conn) gained ≡ placements_of server now conn (new_entries old new conn)
+-- all open subscriptions, shard by shard, in order of opening
+abbrev pub open_subs : List Line → List SubId
+open_subs [] = []
+open_subs (line ∷ lines) = map (id_of line.shard.shard) (serials_of line.shard.subs) ++ open_subs lines
+
+-- these are the placements, where the shards' lines were the first and are the second: of each connection the new messages of
+-- its outbox, in their order; and all of them in the order of their subscriptions
+pub record AreGained (server : Server) (now : ℕ) (old new : List Line) (gained : List Placement) : Type 0 where
+  pub outboxes : (conn : ℕ) → filter (is_on conn) gained ≡ placements_of server now conn (new_entries old new conn)
+  pub order : SubList (map (λ p. p.life.sub) gained) (open_subs old)
+
+-- so there is one such list, where the server is sound
+abbrev pub PlacementsAreOne : Type 0
+PlacementsAreOne =
+    (server : Server) (now : ℕ) (a : Node) (after : List Line) (gained other : List Placement)
+    → SoundNode server a → AreGained server now a.lines after gained → AreGained server now a.lines after other → gained ≡ other
 
 -- ---- what stands new behind what waited, messages and lines: what the event puts for a connection of the shard at this place, in order
 

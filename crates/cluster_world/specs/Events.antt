@@ -2,8 +2,8 @@
 use Rattle.std.specs.Prelude.{ℕ, zero, suc, List, Option, Some, None, slice_get}
 use Rattle.route_values.specs.declared.frames.RouteFrame.{RouteFrame}
 use Rattle.route_values.specs.declared.frames.RouteFrame.TheVariants as route
-use Rattle.node_core.specs.Events as of_node
-use Rattle.node_core.specs.Events.{OwnEvent, NodeEvent, Own}
+use Rattle.node_law.specs.Events as of_node
+use Rattle.node_law.specs.Events.{OwnEvent, NodeEvent, Own}
 use Rattle.cluster_world.specs.State.{World}
 
 pub data Event : Type 0 where

@@ -1,6 +1,6 @@
 -- The numbers of the refusals (profile).
 use Rattle.std.specs.Prelude.{ℕ}
-use Rattle.node_core.specs.Faults.{node_fault_number}
+use Rattle.node_law.specs.Faults.{node_fault_number}
 use Rattle.cluster_world.specs.declared.faults.WorldFault.{WorldFault}
 use Rattle.cluster_world.specs.declared.faults.WorldFault.TheVariants as fault
 

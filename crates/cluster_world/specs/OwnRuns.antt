@@ -1,32 +1,30 @@
 -- Each server that is up came to its state by a run of its own, so that what holds of all runs of a server holds of it.
-use Rattle.std.specs.Prelude.{ℕ, List}
+use Rattle.std.specs.Prelude.{List}
+use Rattle.list_laws.specs.Lists.{Each}
 use Rattle.subj.specs.Servers.{Server, IsListed}
-use Rattle.node_core.specs.AsLaw.{waits_at}
-use Rattle.node_core.specs.CountsOpen.{CountsAreOpen}
-use Rattle.node_core.specs.OneServer.{claims_of, HasOneWinner}
-use Rattle.node_core.specs.Outboxes.{history_of, is_shut_at, IsKnown}
-use Rattle.node_core.specs.PeersKept.{PeersAreKept, seen_of_run}
-use Rattle.node_core.specs.Runs.{Done, Ran}
-use Rattle.node_core.specs.State.{Node}
+use Rattle.node_law.specs.EachShard.{ShardsAreHeld}
+use Rattle.node_law.specs.HubsSound.{IsSpelt, HubIsSound}
+use Rattle.node_law.specs.Promises.{KeepsPromises}
+use Rattle.node_law.specs.Runs.{Done, Ran}
+use Rattle.node_law.specs.State.{Node}
 use Rattle.cluster_world.specs.Events.{Event}
 use Rattle.cluster_world.specs.Headline.{IsCluster, EachUp}
 use Rattle.cluster_world.specs.State.{Cluster, World, new_world, server_at}
 use Rattle.cluster_world.specs.Steps.{Run}
 
--- from its start in this incarnation these steps led the server here
+-- from its start in this incarnation these steps led the server here; each INFO and CONNECT that it was handed can be spelt
 pub record HasRun (server : Server) (a : Node) : Type 0 where
   pub listed : IsListed server
   pub steps : List Done
   pub ran : Ran server steps a
+  pub spelt : Each (λ d. IsSpelt d.event) steps
 
--- and what holds of it: one winner for each queue name of each turn; peers that are up just where a session is kept; counts of
--- what is open; and outboxes that hold what was put and not taken
+-- And what holds of it: all that one server promises of what it did; its hub is sound; and each of its shards keeps what shards keep.
 pub record KeepsItsLaws (server : Server) (a : Node) : Type 0 where
   pub run : HasRun server a
-  pub winners : HasOneWinner (claims_of run.steps)
-  pub peers : PeersAreKept a (seen_of_run server run.steps)
-  pub counts : CountsAreOpen server a
-  pub outboxes : (place conn : ℕ) → IsKnown (history_of server run.steps place conn) (waits_at a place conn) (is_shut_at a place conn)
+  pub promises : KeepsPromises server run.steps a
+  pub hub : HubIsSound server a
+  pub shards : ShardsAreHeld server a
 
 abbrev pub EachHasRun : Type 0
 EachHasRun = (c : Cluster) → IsCluster c → (events : List Event) (w : World) → Run c (new_world c) events w → EachUp (λ n a. HasRun (server_at c n a.inc) a.node) w

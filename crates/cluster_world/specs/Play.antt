@@ -1,4 +1,4 @@
--- The exact cluster as a program on lists: with a race that forgets nothing, each event has one next world.
+-- The exact cluster as a program on lists: with a race that forgets nothing, each event has one outcome and one next world.
 use Rattle.std.specs.Prelude.{◌≡◌, ℕ, suc, ◌+◌, ◌-◌, ◌<◌, Bool, true, false, List, [], ◌∷◌, ◌++◌, map, slice_set, Option, Some, None, is_none, slice_get}
 use Rattle.claim_race.specs.Race.{RaceState, Win, winner}
 use Rattle.sub_table.specs.declared.Subscription.{Subscription}
@@ -10,16 +10,20 @@ use Rattle.shard_core.specs.declared.calls.Placed.{Placed}
 use Rattle.shard_core.specs.ShardEvents as of_shard
 use Rattle.shard_core.specs.Owed.{candidate_of}
 use Rattle.shard_core.specs.Puts.{put_by}
-use Rattle.node_core.specs.State.{Line, Node, new_node}
-use Rattle.node_core.specs.Events.{ShardWork, Attach, Begin, Claim, End, DropJob, OfConn, AtShard, Publish, Collect, Dial, Accept, CutSession, TakeFrames, NodeEvent, Own, Receive, OnInfo, OnConnect}
-use Rattle.node_core.specs.Steps.{conn_line, shard_line, conn_event, work_event, node_after}
+use Rattle.node_law.specs.State.{Line, Node, new_node}
+use Rattle.node_law.specs.Answers.{Answer, Nothing, node_answer}
+use Rattle.node_law.specs.declared.events.ShardWork.{ShardWork}
+use Rattle.node_law.specs.declared.events.ShardWork.TheVariants.{Attach, Begin, Claim, End, DropJob}
+use Rattle.node_law.specs.Events.{OfConn, AtShard, Publish, Collect, Dial, Accept, CutSession, TakeFrames, NodeEvent, Own, Receive, OnInfo, OnConnect}
+use Rattle.node_law.specs.Steps.{NodeStep, conn_line, shard_line, conn_event, work_event, node_after}
 use Rattle.cluster_world.specs.declared.faults.WorldFault.{WorldFault}
 use Rattle.cluster_world.specs.State.{Cluster, Placement, Running, World, server_at}
 use Rattle.cluster_world.specs.Events.{Event, Start, Stop, At, event_for}
 use Rattle.cluster_world.specs.Events as of_world
+use Rattle.cluster_world.specs.Outcomes.{Outcome, Refused, Done}
 use Rattle.cluster_world.specs.Refusals.{world_refusal}
-use Rattle.cluster_world.specs.Changes.{placement_of, looked_at}
-use Rattle.cluster_world.specs.Steps.{set_node, acted}
+use Rattle.cluster_world.specs.Changes.{placement_of, looked_at, AreGained}
+use Rattle.cluster_world.specs.Steps.{acted, started, stopped}
 
 -- ---- a race that forgets nothing
 
@@ -126,9 +130,15 @@ puts server a (Receive frame) won = []
 puts server a (OnInfo session info) won = []
 puts server a (OnConnect session connect) won = []
 
-abbrev pub placed_by : Server → ℕ → List Placed → List Placement
-placed_by server now [] = []
-placed_by server now (put ∷ puts) = placement_of server now put.conn put.entry.bytes put.entry.tag ++ placed_by server now puts
+abbrev pub placements_put : Server → ℕ → List Placed → List Placement
+placements_put server now [] = []
+placements_put server now (put ∷ puts) = placement_of server now put.conn put.entry.bytes put.entry.tag ++ placements_put server now puts
+
+-- they are what the step adds to the placements
+abbrev pub PutsArePlaced : Type 0
+PutsArePlaced =
+    (server : Server) (now : ℕ) (a : Node) (e : NodeEvent) (won : Bool) (race : RaceState) (b : Node)
+    → NodeStep server a e won race b → AreGained server now a.lines b.lines (placements_put server now (puts server a e won))
 
 -- ---- the next world
 
@@ -139,11 +149,11 @@ abbrev pub next_act : Cluster → World → ℕ → Option (Option Running) → 
 next_act c w n None event = w
 next_act c w n (Some None) event = w
 next_act c w n (Some (Some a)) None = w
-next_act c w n (Some (Some a)) (Some e) = acted c w n a e (next_node c n a e) (placed_by (server_at c n a.inc) (suc w.step) (puts (server_at c n a.inc) a.node e (node_wins a.node e)))
+next_act c w n (Some (Some a)) (Some e) = acted c w n a e (next_node c n a e) (placements_put (server_at c n a.inc) (suc w.step) (puts (server_at c n a.inc) a.node e (node_wins a.node e)))
 
 abbrev pub happened : Cluster → World → Event → World
-happened c w (Start n inc) = record w { step = suc w.step; nodes = set_node w n (Some (record { inc = inc; node = new_node (server_at c n inc) })); started = w.started ++ (n, inc) ∷ [] }
-happened c w (Stop n) = record w { step = suc w.step; nodes = set_node w n None; lives = map (looked_at (suc w.step) (set_node w n None)) w.lives }
+happened c w (Start n inc) = started c w n inc
+happened c w (Stop n) = stopped w n
 happened c w (of_world.Receive n k) = next_act c w n (slice_get w.nodes n) (event_for w (of_world.Receive n k))
 happened c w (of_world.OnInfo n session k) = next_act c w n (slice_get w.nodes n) (event_for w (of_world.OnInfo n session k))
 happened c w (of_world.OnConnect n session k) = next_act c w n (slice_get w.nodes n) (event_for w (of_world.OnConnect n session k))
@@ -160,21 +170,35 @@ abbrev pub played : Cluster → World → List Event → World
 played c w [] = w
 played c w (e ∷ es) = played c (next c w e) es
 
--- why each event is refused, if it is
-abbrev pub refusals : Cluster → World → List Event → List (Option WorldFault)
-refusals c w [] = []
-refusals c w (e ∷ es) = world_refusal c w e ∷ refusals c (next c w e) es
+-- ---- and what is answered
 
--- ---- where that is a step
+-- what the server answers that it is for
+abbrev pub slot_answer : Cluster → ℕ → Option (Option Running) → Option NodeEvent → Answer
+slot_answer c n None event = Nothing
+slot_answer c n (Some None) event = Nothing
+slot_answer c n (Some (Some a)) None = Nothing
+slot_answer c n (Some (Some a)) (Some e) = node_answer (server_at c n a.inc) a.node e (node_wins a.node e)
 
--- an incarnation is at least 1 (profile)
-abbrev pub IsEvent : Event → Type 0
-IsEvent (Start n inc) = 0 < inc
-IsEvent (Stop n) = Unit {0}
-IsEvent (of_world.Receive n k) = Unit {0}
-IsEvent (of_world.OnInfo n session k) = Unit {0}
-IsEvent (of_world.OnConnect n session k) = Unit {0}
-IsEvent (At n event) = Unit {0}
+abbrev pub answer_of : Cluster → World → Event → Answer
+answer_of c w (Start n inc) = Nothing
+answer_of c w (Stop n) = Nothing
+answer_of c w (of_world.Receive n k) = slot_answer c n (slice_get w.nodes n) (event_for w (of_world.Receive n k))
+answer_of c w (of_world.OnInfo n session k) = slot_answer c n (slice_get w.nodes n) (event_for w (of_world.OnInfo n session k))
+answer_of c w (of_world.OnConnect n session k) = slot_answer c n (slice_get w.nodes n) (event_for w (of_world.OnConnect n session k))
+answer_of c w (At n event) = slot_answer c n (slice_get w.nodes n) (event_for w (At n event))
+
+abbrev pub outcome_of : Cluster → World → Event → Option WorldFault → Outcome
+outcome_of c w e None = Done (answer_of c w e)
+outcome_of c w e (Some why) = Refused why
+
+abbrev pub outcome : Cluster → World → Event → Outcome
+outcome c w e = outcome_of c w e (world_refusal c w e)
+
+abbrev pub answered : Cluster → World → List Event → List Outcome
+answered c w [] = []
+answered c w (e ∷ es) = outcome c w e ∷ answered c (next c w e) es
+
+-- ---- where that is a step: in every world where
 
 -- nothing is won in a turn that is not issued
 abbrev pub NoneAhead : RaceState → Type 0

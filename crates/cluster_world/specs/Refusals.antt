@@ -1,9 +1,9 @@
 -- Why a cluster refuses an event, the first cause first (profile): 83 for the server; 80 or 81; 82, or 83 for the frame; and then the server's own.
-use Rattle.std.specs.Prelude.{ℕ, Bool, nat_eq, ◌&&◌, List, Option, Some, None, slice_get, if◌then◌else◌}
+use Rattle.std.specs.Prelude.{ℕ, Bool, nat_eq, ◌&&◌, ◌||◌, List, Option, Some, None, slice_get, if◌then◌else◌}
 use Rattle.std.specs.Option.{option_map}
 use Rattle.std.specs.List.{list_any}
-use Rattle.node_core.specs.Events.{NodeEvent}
-use Rattle.node_core.specs.Steps.{node_refusal}
+use Rattle.node_law.specs.Events.{NodeEvent}
+use Rattle.node_law.specs.Steps.{node_refusal}
 use Rattle.cluster_world.specs.declared.faults.WorldFault.{WorldFault}
 use Rattle.cluster_world.specs.declared.faults.WorldFault.TheVariants as fault
 use Rattle.cluster_world.specs.State.{Cluster, Running, World, server_at}
@@ -15,10 +15,11 @@ is_start n inc start = nat_eq start.0 n && nat_eq start.1 inc
 abbrev pub is_used : ℕ → ℕ → List (ℕ × ℕ) → Bool
 is_used n inc started = list_any (is_start n inc) started
 
+-- an incarnation is at least 1: 0 counts as used (profile)
 abbrev pub start_refusal : ℕ → ℕ → List (ℕ × ℕ) → Option (Option Running) → Option WorldFault
 start_refusal n inc started None = Some fault.NoSuch
 start_refusal n inc started (Some (Some running)) = Some fault.NodeUp
-start_refusal n inc started (Some None) = if is_used n inc started then Some fault.UsedIncarnation else None
+start_refusal n inc started (Some None) = if nat_eq inc 0 || is_used n inc started then Some fault.UsedIncarnation else None
 
 abbrev pub stop_refusal : Option (Option Running) → Option WorldFault
 stop_refusal None = Some fault.NoSuch

@@ -1,26 +1,31 @@
 -- Closed scripts, with what comes of them.
 use Rattle.std.specs.Prelude.{◌≡◌, ℕ, true, List, [], ◌∷◌, ◌++◌, codes, map, replicate, Option, Some, None}
-use Rattle.std.specs.Option.{option_map}
 use Rattle.client_frames.specs.declared.server_frames.ReplyFrame.TheVariants.{Pong}
 use Rattle.outbox.specs.declared.entries.Mode.{Mode}
 use Rattle.outbox.specs.declared.entries.Mode.TheVariants.{Plain, Queue}
 use Rattle.subj.specs.declared.limits.TheConstants.{WINDOW}
 use Rattle.hub_core.specs.Publishing.{Publication}
-use Rattle.node_core.specs.Events.{Subscribe, Unsubscribe, Reply, Detach, Take, Attach, Begin, Claim, End, DropJob, OfConn, AtShard, Publish, Collect, Dial, Accept}
+use Rattle.route_values.specs.declared.bodies.Body.TheVariants.{Plus, Snapshot}
+use Rattle.route_values.specs.declared.frames.RouteFrame.{RouteFrame}
+use Rattle.route_values.specs.declared.frames.RouteFrame.TheVariants as route
+use Rattle.node_law.specs.declared.events.ConnEvent.TheVariants.{Subscribe, Unsubscribe, Reply, Detach, Take}
+use Rattle.node_law.specs.declared.events.ShardWork.TheVariants.{Attach, Begin, Claim, End, DropJob}
+use Rattle.node_law.specs.Events.{OfConn, AtShard, Publish, Collect, Dial, Accept}
 use Rattle.cluster_world.specs.Faults.{world_fault_number}
 use Rattle.cluster_world.specs.State.{Cluster, Placement, World, new_world}
 use Rattle.cluster_world.specs.Events.{Event, Start, Stop, Receive, OnInfo, OnConnect, At}
-use Rattle.cluster_world.specs.Play.{played, refusals}
+use Rattle.cluster_world.specs.Outcomes.{Outcome, Refused, Done}
+use Rattle.cluster_world.specs.Play.{answered, played}
 
 -- ---- words
 
 -- the numbers of the refusals, with 0 for an event that is done
-abbrev pub number_of : Option ℕ → ℕ
-number_of None = 0
-number_of (Some number) = number
+abbrev pub number_of : Outcome → ℕ
+number_of (Refused why) = world_fault_number why
+number_of (Done answer) = 0
 
 abbrev pub outcomes : Cluster → List Event → List ℕ
-outcomes c events = map (λ why. number_of (option_map world_fault_number why)) (refusals c (new_world c) events)
+outcomes c events = map number_of (answered c (new_world c) events)
 
 abbrev pub end_of : Cluster → List Event → World
 end_of c events = played c (new_world c) events
@@ -109,12 +114,12 @@ two_shards =
     ∷ begin 0 2 ∷ claim 0 2 0 ∷ begin 0 1 ∷ claim 0 1 0
     ∷ At 0 (OfConn 1 (Reply Pong)) ∷ At 0 (OfConn 1 (Take 10)) ∷ At 0 (OfConn 1 Detach) ∷ At 0 (OfConn 1 Detach)
     ∷ drop_job 0 1 ∷ drop_job 0 1 ∷ claim 0 5 0
-    ∷ Start 0 1 ∷ Stop 5 ∷ Stop 0 ∷ Stop 0 ∷ publish 0 ∷ Start 0 1 ∷ []
+    ∷ Start 0 1 ∷ Stop 5 ∷ Stop 0 ∷ Stop 0 ∷ publish 0 ∷ Start 0 1 ∷ Start 0 0 ∷ []
 
--- 51, 56 and 55; 50; 52 and 58; 81, 83, 80, 80 and 82
+-- 51, 56 and 55; 50; 52 and 58; 81, 83, 80, 80 and 82; and 82 of 0, which is no incarnation
 abbrev pub two_shards_outcomes : List ℕ
 two_shards_outcomes =
-    done 12 ++ (51 ∷ 56 ∷ 55 ∷ (done 12 ++ (50 ∷ 0 ∷ 52 ∷ 58 ∷ 81 ∷ 83 ∷ 0 ∷ 80 ∷ 80 ∷ 82 ∷ [])))
+    done 12 ++ (51 ∷ 56 ∷ 55 ∷ (done 12 ++ (50 ∷ 0 ∷ 52 ∷ 58 ∷ 81 ∷ 83 ∷ 0 ∷ 80 ∷ 80 ∷ 82 ∷ 82 ∷ [])))
 
 -- the plain one, up to its maximum; the claim of turn 1 that was first; and that of turn 2
 abbrev pub two_shards_placements : List Placement
@@ -156,3 +161,28 @@ a_lower_incarnation =
 -- there, but 80 of a server that is down, whatever the frame; 82 of the used incarnation, and a greater one is welcome
 pub record ALowerIncarnation : Type 0 where
   pub outcomes : outcomes pair a_lower_incarnation ≡ done 11 ++ (71 ∷ 66 ∷ 0 ∷ 64 ∷ 83 ∷ 83 ∷ 83 ∷ 83 ∷ 83 ∷ 83 ∷ 0 ∷ 80 ∷ 82 ∷ done 5)
+
+-- ---- what is not collected yet is in no snapshot, and placements stand in the order of their subscriptions; a frame for another
+-- server is refused before all else
+
+-- n2 has two plain subscriptions of one key, the first one at its connection 2; frame 1 is its INFO, 2 the CONNECT and 3 the
+-- snapshot of n1, 4 the snapshot of n2, and 5 its change
+abbrev pub a_snapshot : List Event
+a_snapshot =
+    Start 0 1 ∷ Start 1 4 ∷ attach 1 1 ∷ attach 1 1 ∷ subscribe 1 2 None (codes "a") ∷ subscribe 1 1 None (codes "b")
+    ∷ At 0 (Dial 1) ∷ At 1 Accept ∷ OnInfo 0 1 1 ∷ OnConnect 1 1 2 ∷ collect 1 1
+    ∷ publish 1 ∷ begin 1 1 ∷ end 1 1 ∷ Receive 0 3 ∷ []
+
+abbrev pub a_snapshot_sent : List RouteFrame
+a_snapshot_sent =
+    route.Info (record { server_name = codes "n2"; inc = 4 })
+    ∷ route.Connect (record { server_name = codes "n1"; inc = 1; to = codes "n2"; to_inc = 4; serial = 1 })
+    ∷ route.Numbered (record { from = codes "n1"; inc = 1; to = codes "n2"; to_inc = 4; number = 0; body = Snapshot [] })
+    ∷ route.Numbered (record { from = codes "n2"; inc = 4; to = codes "n1"; to_inc = 1; number = 0; body = Snapshot [] })
+    ∷ route.Numbered (record { from = codes "n2"; inc = 4; to = codes "n1"; to_inc = 1; number = 1; body = Plus (record { pattern = codes "foo"; queue = None }, 1) })
+    ∷ []
+
+pub record ASnapshot : Type 0 where
+  pub outcomes : outcomes pair a_snapshot ≡ done 14 ++ (63 ∷ [])
+  pub sent : (end_of pair a_snapshot).sent ≡ a_snapshot_sent
+  pub placements : (end_of pair a_snapshot).placements ≡ hi_to 13 1 4 1 1 2 (codes "n2") Plain (codes "a") 4 1 ∷ hi_to 13 1 4 1 2 1 (codes "n2") Plain (codes "b") 4 1 ∷ []

@@ -7,7 +7,7 @@ use Rattle.subj.specs.declared.keys.Key.{Key}
 use Rattle.subj.specs.Messages.{Content}
 use Rattle.subj.specs.Servers.{Server}
 use Rattle.route_values.specs.declared.frames.RouteFrame.{RouteFrame}
-use Rattle.node_core.specs.State.{Node}
+use Rattle.node_law.specs.State.{Node}
 
 -- what is fixed: the names of the servers, in the order in which all of them list them, and how many shards each has
 pub record Cluster : Type 0 where

@@ -4,19 +4,25 @@ ghost use Rattle.std.specs.Prelude.{◌≡◌};
 ghost use Rattle.cluster_world.specs.Faults.{world_fault_number};
 
 use node_core::NodeFault;
+use thiserror::Error;
 
 /// Why a cluster refuses an event. (Profile.) A refused event is counted as a step, and changes nothing else.
-#[derive(Clone, Copy, Debug, PartialEq, Eq)]
+#[derive(Clone, Copy, Debug, PartialEq, Eq, Error)]
 pub enum WorldFault {
     /// The server is not up.
+    #[error("the server is not up")]
     NodeDown,
     /// The server is up already.
+    #[error("the server is up already")]
     NodeUp,
     /// The server has had this incarnation before.
+    #[error("the server has had this incarnation before")]
     UsedIncarnation,
     /// There is no such server, or no frame of that kind with that number.
+    #[error("there is no such server, or no frame of that kind with that number")]
     NoSuch,
     /// The server refuses it.
+    #[error("{0}")]
     Node(NodeFault),
 }
 

@@ -1,18 +1,36 @@
 //! The exact cluster: servers that start and stop, the frames that they send to each other, and what was published,
 //! subscribed and placed, found by comparing each server before and after a step.
 //!
-//! So far it has the definitions of a cluster's step and their laws. Each function here has an empty body, and its
-//! contract is a law. The code of a cluster is not there yet.
+//! The definitions of a cluster's step and their laws stand here, and in code [`World`], each of whose steps is such a step.
+//! Each law is a function with an empty body.
 #![tactic(auto)]
 
+mod events;
 mod faults;
+mod frames;
 mod laws;
+mod lists;
+mod nodes;
+mod noted;
+mod outcomes;
+mod records;
+mod values;
+mod world;
 
+pub use events::Event;
 pub use faults::WorldFault;
 pub use laws::{
-    a_full_window, a_lower_incarnation, a_restart, a_restart_is_written, carried_at_first,
-    carried_on, carried_says, claims_are_written, crossed_dials_are_written, each_event_goes_on,
-    each_event_has_a_step, each_server_ran, every_list_is_a_run, headline, it_rests_on_this,
-    new_entries_were_put, scripts_are_runs, servers_are_sound, servers_keep_their_laws,
-    starts_and_stops_are_written, taken_frames_were_sent, two_shards, unique_names,
+    a_cut_is_written, a_full_window, a_lower_incarnation, a_restart, a_restart_is_written,
+    a_snapshot, a_stale_message_is_written, carried_at_first, carried_on, carried_rests,
+    carried_says, claims_are_written, connections_are_written, crossed_dials_are_written,
+    each_event_goes_on, each_event_has_a_step, each_server_ran, echo_is_kept, every_list_is_a_run,
+    finished_turns_stay, headline, it_rests_on_this, lives_close_by_cause, new_entries_were_put,
+    open_lives_are_subscriptions, own_messages_are_written, placements_are_one,
+    publications_are_counted, puts_are_placed, scripts_are_runs, servers_are_sound,
+    servers_keep_their_laws, starts_and_stops_are_written, taken_frames_were_sent, two_shards,
+    two_words_are_written, unique_names, waiting_entries_are_kept,
 };
+pub use outcomes::Outcome;
+pub use records::{Life, LifeId, Placements, Publication};
+pub use values::{carried_echo, carried_names, carried_open, carried_sent};
+pub use world::World;

@@ -1,5 +1,5 @@
-use Rattle.cluster_world.proofs.Whole.{first_seen}
+use Rattle.std.proofs.Common.{[], refl}
 use Rattle.cluster_world.proofs.laws.carried_at_first.Goals as goal
 
 pub returns : goal.returns
-returns c = λ l. ∣ first_seen l ∣₁
+returns start = λ l. ∣ ([], refl) ∣₁

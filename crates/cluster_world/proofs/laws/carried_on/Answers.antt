@@ -1,6 +1,8 @@
+use Rattle.std.proofs.Common.{[], ◌∷◌, ◌++◌}
 use Rattle.std.proofs.Math.Logic.{∥∥₁_map}
-use Rattle.cluster_world.proofs.Whole.{laws_of, seen_next}
+use Rattle.cluster_world.specs.State.{new_world}
+use Rattle.cluster_world.proofs.Runs.{one_more}
 use Rattle.cluster_world.proofs.laws.carried_on.Goals as goal
 
 pub returns : goal.returns
-returns c = λ l set_up w e w' step s. ∥∥₁_map s (seen_next (laws_of c.servers_follow_the_law.ensures c.servers_stay_sound.ensures c.entries_are_put.ensures) c.steps_reach.ensures l set_up w e w' step)
+returns start = λ l w e outcome w' step s. ∥∥₁_map s (λ r. (r.0 ++ e ∷ [], one_more l (new_world l) r.0 w e outcome w' r.1 step))

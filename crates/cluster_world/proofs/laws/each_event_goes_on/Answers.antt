@@ -3,4 +3,4 @@ use Rattle.cluster_world.proofs.Whole.{laws_of}
 use Rattle.cluster_world.proofs.laws.each_event_goes_on.Goals as goal
 
 pub returns : goal.returns
-returns c = reached_step c.entries_are_put.ensures (laws_of c.servers_follow_the_law.ensures c.servers_stay_sound.ensures c.entries_are_put.ensures) c.steps_reach.ensures
+returns c = reached_step c.entries_are_put.ensures (laws_of c.servers_follow_the_law.ensures c.servers_stay_sound.ensures c.entries_are_put.ensures)

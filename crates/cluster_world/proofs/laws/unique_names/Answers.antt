@@ -1,6 +1,8 @@
-use Rattle.cluster_world.specs.Seen.{law_for}
-use Rattle.cluster_world.proofs.Whole.{laws_of, seen_reached, names_of}
+use Rattle.cluster_world.specs.Made.{passed}
+use Rattle.cluster_world.specs.State.{new_world}
+use Rattle.cluster_world.proofs.Seen.{law_for}
+use Rattle.cluster_world.proofs.Whole.{laws_of, seen_over, is_reached, names_of}
 use Rattle.cluster_world.proofs.laws.unique_names.Goals as goal
 
 pub returns : goal.returns
-returns c = λ l set_up events w run. let s = seen_reached (laws_of c.servers_follow_the_law.ensures c.servers_stay_sound.ensures c.entries_are_put.ensures) c.steps_reach.ensures l set_up events w run in names_of l w s.0 s.2 (c.unique_names.ensures (law_for l) s.0 s.1)
+returns c = λ l set_up events w run. let o = seen_over (laws_of c.servers_follow_the_law.ensures c.servers_stay_sound.ensures c.entries_are_put.ensures) l set_up events w run in let r = is_reached l w (passed l (new_world l) events w run) o in names_of l w o.seen o.sees (c.unique_names.ensures (law_for l) o.seen r)

@@ -2,9 +2,9 @@
 use Rattle.std.specs.Prelude.{◌≡◌, ℕ, suc, ◌-◌, ◌<◌, true, length, map, slice_get, Option, Some, None}
 use Rattle.list_laws.specs.Lists.{In, Each, Along}
 use Rattle.cluster_law.specs.Cluster as cluster
-use Rattle.cluster_law.specs.Config.{Config, every_rule}
-use Rattle.cluster_law.specs.Headline.{Routing, EachView}
+use Rattle.cluster_law.specs.Config.{Config}
 use Rattle.cluster_law.specs.History as history
+use Rattle.cluster_law.specs.Interest as interest
 use Rattle.cluster_law.specs.Messages as messages
 use Rattle.cluster_law.specs.Names as names
 use Rattle.cluster_law.specs.Node as law
@@ -14,12 +14,14 @@ use Rattle.subj.specs.Servers.{place_in}
 use Rattle.subj.specs.declared.identities.PubId.{PubId}
 use Rattle.route_values.specs.declared.frames.RouteFrame.{RouteFrame}
 use Rattle.cluster_law.specs.Values.{content_of}
-use Rattle.hub_core.specs.AsLaw.{id_of}
+use Rattle.hub_core.specs.AsLaw.{id_of, change_of}
+use Rattle.shard_core.specs.AsLaw.{job_of}
 use Rattle.shard_core.specs.Owed.{mode_of}
-use Rattle.node_core.specs.AsLaw.{law_of, node_of, sent_of}
-use Rattle.node_core.specs.Sound.{SoundNode}
+use Rattle.node_law.specs.AsLaw.{law_of, node_of, sent_of}
+use Rattle.node_law.specs.Sound.{SoundNode}
 use Rattle.cluster_world.specs.State.{Cluster, Publication, LifeId, Life, Placement, Running, World, server_at}
 use Rattle.cluster_world.specs.Changes.{is_open}
+use Rattle.cluster_world.specs.Made.{MadeJob, MadeChange}
 
 abbrev pub law_for : Cluster → Config
 law_for c = law_of c.names c.shards
@@ -81,20 +83,10 @@ pub record Sees (c : Cluster) (w : World) (v : cluster.World) : Type 0 where
   pub listed : Each (λ p. place_in p.id.origin c.names < length c.names) w.publications
   pub placements : Along (SeesPlacement c) w.placements v.past.placements
 
--- some world that the law's machine reaches is what it sees; what the machine alone remembers (jobs, changes of interest,
--- closings, claims of old turns) is in that world
-abbrev pub IsSeen : Cluster → World → Type 0
-IsSeen c w = (v : cluster.World) × cluster.Reached every_rule (law_for c) v × Sees c w v
+-- the jobs and the changes of interest that a run made, as the law has them
 
--- in this form a cluster of code can keep it beside its lists
-abbrev pub Carried : Cluster → World → Type 0
-Carried c w = ∥ IsSeen c w ∥₁
+abbrev pub law_job : Cluster → MadeJob → history.Job
+law_job c made = job_of (pub_of c) made.node made.inc made.job
 
--- What the headline rests on, said of what is seen: a publication has one frame for a peer, its queue names are split without
--- overlap, and a server takes it once over all its incarnations; and each view that a server keeps of another is the interest of
--- the incarnation that it has seen, after as many changes as its mark says. The jobs and changes ever made are the machine's.
-pub record RestsOn (c : Cluster) (w : World) : Type 0 where
-  pub seen : cluster.World
-  pub sees : Sees c w seen
-  pub routing : Routing (law_for c) seen.past
-  pub views : EachView (law_for c) seen
+abbrev pub law_change : MadeChange → interest.Noted
+law_change made = law.noted made.node made.inc (change_of made.change)

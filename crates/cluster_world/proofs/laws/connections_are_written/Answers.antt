@@ -1,0 +1,5 @@
+use Rattle.cluster_world.proofs.Printed.{writes_connections}
+use Rattle.cluster_world.proofs.laws.connections_are_written.Goals as goal
+
+pub returns : goal.returns
+returns start = writes_connections

@@ -1,0 +1,5 @@
+use Rattle.cluster_world.proofs.Order.{placements_are_one}
+use Rattle.cluster_world.proofs.laws.placements_are_one.Goals as goal
+
+pub returns : goal.returns
+returns start = placements_are_one

@@ -1,0 +1,5 @@
+use Rattle.cluster_world.proofs.Counted.{publications_are_counted}
+use Rattle.cluster_world.proofs.laws.publications_are_counted.Goals as goal
+
+pub returns : goal.returns
+returns start = publications_are_counted

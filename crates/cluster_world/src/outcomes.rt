@@ -1,0 +1,28 @@
+//! What a cluster answers.
+
+ghost use Rattle.std.specs.Prelude.{◌≡◌};
+ghost use Rattle.cluster_world.specs.InCode.{fault_in};
+
+use crate::faults::WorldFault;
+use node_core::Answer;
+
+/// What a cluster answers to an event. (Profile.)
+#[derive(Debug, Drop)]
+pub enum Outcome {
+    /// Why it is refused.
+    Refused(WorldFault),
+    /// What the server answers that it is for.
+    Done(Answer),
+}
+
+impl Outcome {
+    /// Why the event was refused; none where it was done.
+    pub fn fault(&self) -> Option<WorldFault>
+        ensures { result ≡ fault_in self.now }
+    {
+        match self {
+            Outcome::Refused(fault) => Some(*fault),
+            Outcome::Done(_) => None,
+        }
+    }
+}

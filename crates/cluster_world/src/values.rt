@@ -1,0 +1,40 @@
+//! What a cluster as a value can say of itself, of the run that ends in it: laws over the definitions, each the contract of a
+//! function that does nothing.
+
+ghost use Rattle.cluster_world.specs.Echo.{EchoIsKept};
+ghost use Rattle.cluster_world.specs.Headline.{IsCluster, Names, AreSent};
+ghost use Rattle.cluster_world.specs.State.{Cluster, World};
+ghost use Rattle.cluster_world.specs.Steps.{Carried};
+ghost use Rattle.cluster_world.specs.Value.{LivesAreOpen};
+
+use crate::laws::{echo_is_kept, taken_frames_were_sent, unique_names};
+
+/// Each subscription that has not closed is open at its server, which is up in its incarnation.
+pub fn carried_open()
+    ensures { (c : Cluster) → IsCluster c → (w : World) → Carried c w → LivesAreOpen w }
+{
+    shard_core::entries_are_put();
+    node_core::servers_follow_the_law();
+    node_core::servers_stay_sound()
+}
+
+/// No two publications have one name, nor two subscriptions.
+pub fn carried_names()
+    ensures { (c : Cluster) → IsCluster c → (w : World) → Carried c w → ∥ Names w ∥₁ }
+{
+    unique_names()
+}
+
+/// Each frame that a take from a peer gives was sent.
+pub fn carried_sent()
+    ensures { (c : Cluster) (w : World) → Carried c w → ∥ AreSent w ∥₁ }
+{
+    taken_frames_were_sent()
+}
+
+/// What was published without echo was placed for no subscription of the connection that published it.
+pub fn carried_echo()
+    ensures { (c : Cluster) → IsCluster c → (w : World) → Carried c w → ∥ EchoIsKept c w ∥₁ }
+{
+    echo_is_kept()
+}

@@ -1,0 +1,324 @@
+//! A cluster as one value.
+
+ghost use Rattle.std.specs.Prelude.{◌≡◌, ◌+◌, None, Some, IfOk, OnErr, map, true};
+ghost use Rattle.std.specs.List.{flat_map};
+ghost use Rattle.cluster_world.specs.Events.{Event as Asked, Start, Stop};
+ghost use Rattle.cluster_world.specs.Outcomes.{Refused};
+ghost use Rattle.cluster_world.specs.Echo.{EchoIsKept};
+ghost use Rattle.cluster_world.specs.Headline.{Headline, Names, AreSent};
+ghost use Rattle.cluster_world.specs.InCode.{event_of, outcome_of, publication_of, life_of, placements_in, items_of};
+ghost use Rattle.cluster_world.specs.Refusals.{world_refusal};
+ghost use Rattle.cluster_world.specs.RestsOn.{CameSo};
+ghost use Rattle.cluster_world.specs.Value.{IsFor, IsStepped, Ran, IsPart, new_cluster};
+
+use crate::events::Event;
+use crate::faults::WorldFault;
+use crate::frames::asked_by;
+use crate::laws::{carried_at_first, carried_on, carried_rests, carried_says, puts_are_placed};
+use crate::lists::{Acted, Lists};
+use crate::nodes::{Made, Nodes, server_of, start_fault, stop_fault};
+use crate::outcomes::Outcome;
+use crate::records::{Life, Placements, Publication};
+use crate::values::{carried_echo, carried_names, carried_open, carried_sent};
+use claim_race::Race;
+use node_core::{Answer, Node};
+use route_values::RouteFrame;
+use std::alloc::{AllocError, Global};
+use std::marker::Model;
+use sub_table::SubTable;
+use subj::{Incarnation, NodeId, Server};
+
+/// A cluster of servers, over any table of subscriptions and any race. (Profile.)
+///
+/// Seen as the cluster and its world: the servers that are up, and the lists of what was published,
+/// subscribed, placed and sent. Some run of the exact cluster ends in it; so the headline holds of its lists,
+/// whoever made the value and whatever was done with it.
+#[derive(Drop)]
+pub struct World<T: SubTable, R: Race> {
+    alloc: Global,
+    /// The names of the servers and the number of shards, as a server's at the first place.
+    server: Server,
+    step: u64,
+    nodes: Nodes<T, R>,
+    lists: Lists,
+}
+
+impl<T: SubTable, R: Race> Model for World<T, R> {
+    ghost use Rattle.cluster_world.specs.Value.{Shown};
+
+    ghost Value = { Shown };
+
+    ghost use Rattle.cluster_world.specs.Value.{listed, world_of, shown, IsKept};
+
+    ghost view = { λ w. shown w.server w.step w.nodes (listed w.lists) };
+
+    ghost invariant = { λ w. IsKept w.server w.nodes (world_of w.step w.nodes (listed w.lists)) };
+}
+
+impl<T: SubTable, R: Race> World<T, R> {
+    /// The cluster of the servers of these names, each with so many shards; all are down. None where that
+    /// is no cluster: there is no name, there are more than [`subj::MAX_NODES`], two are one, or the
+    /// number of shards is not 1 to [`subj::MAX_SHARDS`].
+    pub fn new(
+        alloc: Global,
+        names: Vec<NodeId>,
+        shards: u64,
+    ) -> Result<Option<World<T, R>>, AllocError>
+        ensures { IfOk result (λ made. made ≡ new_cluster (record { names = names.items; shards = shards })) }
+    {
+        carried_at_first();
+        let Some(inc) = Incarnation::new(1) else {
+            unreachable!()
+        };
+        let Some(server) = Server::new(names, 0, inc, shards) else {
+            return Ok(None);
+        };
+        let _me = server.me();
+        let nodes = Nodes::new(alloc, server.names().len())?;
+        Ok(Some(World {
+            alloc,
+            server,
+            step: 0,
+            nodes,
+            lists: Lists::new(alloc),
+        }))
+    }
+
+    /// What was published so far, in order.
+    pub fn publications(&self) -> &[Publication]
+        ensures { map publication_of result.now ≡ self.now.world.publications }
+    {
+        &self.lists.publications
+    }
+
+    /// What was subscribed so far, in order of opening.
+    pub fn lives(&self) -> &[Life]
+        ensures { map life_of result.now ≡ self.now.world.lives }
+    {
+        &self.lists.lives
+    }
+
+    /// What was placed so far, step by step.
+    pub fn placements(&self) -> &[Placements]
+        ensures { flat_map placements_in result.now ≡ self.now.world.placements }
+    {
+        &self.lists.placements
+    }
+
+    /// What was sent so far, step by step. Frames are counted from 1, over all steps.
+    pub fn sent(&self) -> &[Vec<RouteFrame>]
+        ensures { flat_map items_of result.now ≡ self.now.world.sent }
+    {
+        &self.lists.sent
+    }
+
+    /// What holds of every value, whoever made it and whatever was done with it, for every table and every
+    /// race. It does nothing.
+    ///
+    /// - Each publication is placed at most once for a plain subscription, and for a queue name for at most one
+    ///   member in the whole cluster: over all servers, incarnations, connections and steps. What is placed is
+    ///   the exact `MSG` of a publication of an earlier step, for a subscription of that connection, id and
+    ///   queue name that matches and was open at that step; and of one subscription the publications of one
+    ///   incarnation come in rising number.
+    /// - No two publications have one name, nor two subscriptions.
+    /// - What that rests on holds of the run that ends here.
+    /// - Each frame that a take from a peer gives was sent.
+    /// - What was published without echo was placed for no subscription of the connection that published it.
+    pub fn keeps_headline(&self)
+        ensures headline { ∥ Headline self.now.world ∥₁ }
+        ensures names { ∥ Names self.now.world ∥₁ }
+        ensures echo { ∥ EchoIsKept self.now.cluster self.now.world ∥₁ }
+        ensures rests { ∥ CameSo self.now.cluster self.now.world ∥₁ }
+        ensures sent { ∥ AreSent self.now.world ∥₁ }
+    {
+        let _step = self.step;
+        carried_says();
+        carried_names();
+        carried_echo();
+        carried_rests();
+        carried_sent()
+    }
+
+    /// A refusal: only the step is counted. Required: some event is refused so.
+    fn refuse(&mut self, fault: WorldFault, now: u64) -> Outcome
+        requires now { now ≡ self.old.world.step + 1 }
+        requires cause { (e : Asked) × (world_refusal self.old.cluster self.old.world e ≡ Some fault) }
+        ensures told { outcome_of result ≡ Refused fault }
+        ensures stepped { (e : Asked) → world_refusal self.old.cluster self.old.world e ≡ Some fault → IsStepped self.old e (Refused fault) self.new }
+    {
+        carried_on();
+        self.step = now;
+        Outcome::Refused(fault)
+    }
+
+    /// The step of a server that is up and does not refuse it.
+    fn act(&mut self, n: usize, event: &Event, now: u64) -> Result<Outcome, AllocError>
+        requires now { now ≡ self.old.world.step + 1 }
+        requires at { IsFor n (event_of event.now) }
+        requires cause { world_refusal self.old.cluster self.old.world (event_of event.now) ≡ None }
+        ensures ok { IfOk result (λ outcome. IsStepped self.old (event_of event.now) (outcome_of outcome) self.new) }
+        ensures err { OnErr result (self.new ≡ self.old) }
+    {
+        carried_on();
+        carried_open();
+        puts_are_placed();
+        self.lists.make_room()?;
+        let asked = asked_by(event, &self.lists.sent);
+        let Made { inc, noted, did } = match self.nodes.step(n, &asked, now) {
+            Ok(made) => made,
+            Err(error) => return Err(error),
+        };
+        let acted = Acted {
+            step: now,
+            node: n,
+            inc,
+        };
+        let answer = self.lists.keep(acted, noted, did);
+        self.step = now;
+        Ok(Outcome::Done(answer))
+    }
+
+    /// An event for a server that has to be up.
+    fn ask(&mut self, n: usize, event: &Event, now: u64) -> Result<Outcome, AllocError>
+        requires now { now ≡ self.old.world.step + 1 }
+        requires at { IsFor n (event_of event.now) }
+        ensures ok { IfOk result (λ outcome. IsStepped self.old (event_of event.now) (outcome_of outcome) self.new) }
+        ensures err { OnErr result (self.new ≡ self.old) }
+    {
+        let asked = asked_by(event, &self.lists.sent);
+        match self.nodes.fault(n, &asked) {
+            Some(fault) => Ok(self.refuse(fault, now)),
+            None => self.act(n, event, now),
+        }
+    }
+
+    /// The server at the place starts. Required: that is not refused.
+    fn bring_up(&mut self, n: usize, inc: Incarnation, now: u64) -> Result<Outcome, AllocError>
+        requires now { now ≡ self.old.world.step + 1 }
+        requires cause { world_refusal self.old.cluster self.old.world (Start n inc) ≡ None }
+        ensures ok { IfOk result (λ outcome. IsStepped self.old (Start n inc) (outcome_of outcome) self.new) }
+        ensures err { OnErr result (self.new ≡ self.old) }
+    {
+        carried_on();
+        let _first = inc.get();
+        let Some(server) = server_of(self.alloc, &self.server, n, inc)? else {
+            unreachable!()
+        };
+        let node = match Node::new(self.alloc, server) {
+            Ok(node) => node,
+            Err(error) => return Err(error),
+        };
+        self.lists.add_start(n, inc)?;
+        self.nodes.put(n, Some(node));
+        self.step = now;
+        Ok(Outcome::Done(Answer::Nothing))
+    }
+
+    /// The server at the place starts, unless that is refused.
+    fn start(&mut self, n: usize, inc: Incarnation, now: u64) -> Result<Outcome, AllocError>
+        requires now { now ≡ self.old.world.step + 1 }
+        ensures ok { IfOk result (λ outcome. IsStepped self.old (Start n inc) (outcome_of outcome) self.new) }
+        ensures err { OnErr result (self.new ≡ self.old) }
+    {
+        match start_fault(&self.nodes, &self.lists, n, inc) {
+            Some(fault) => Ok(self.refuse(fault, now)),
+            None => self.bring_up(n, inc, now),
+        }
+    }
+
+    /// The server at the place stops, and its subscriptions close. Required: that is not refused. Takes no
+    /// memory.
+    fn take_down(&mut self, n: usize, now: u64) -> Outcome
+        requires now { now ≡ self.old.world.step + 1 }
+        requires cause { world_refusal self.old.cluster self.old.world (Stop n) ≡ None }
+        ensures { IsStepped self.old (Stop n) (outcome_of result) self.new }
+    {
+        carried_on();
+        carried_open();
+        let Some(inc) = self.nodes.inc_at(n) else {
+            unreachable!()
+        };
+        let acted = Acted {
+            step: now,
+            node: n,
+            inc,
+        };
+        self.lists.close_all(acted);
+        self.nodes.put(n, None);
+        self.step = now;
+        Outcome::Done(Answer::Nothing)
+    }
+
+    /// The server at the place stops, unless that is refused. Takes no memory.
+    fn stop(&mut self, n: usize, now: u64) -> Outcome
+        requires now { now ≡ self.old.world.step + 1 }
+        ensures { IsStepped self.old (Stop n) (outcome_of result) self.new }
+    {
+        match stop_fault(&self.nodes, n) {
+            Some(fault) => self.refuse(fault, now),
+            None => self.take_down(n, now),
+        }
+    }
+
+    /// One event: a step of the exact cluster, with its outcome.
+    ///
+    /// Refused with [`WorldFault::NoSuch`] where there is no such server; a start then with
+    /// [`WorldFault::NodeUp`] and [`WorldFault::UsedIncarnation`], and what is for a server that has to be up
+    /// with [`WorldFault::NodeDown`], then with [`WorldFault::NoSuch`] where there is no frame of that kind with
+    /// its number, and then as the server refuses it ([`Node::step`]). A refusal is counted as a step, and
+    /// changes nothing else. Want of memory is no step, and leaves all as it was; it is also told once `u64::MAX`
+    /// steps were made.
+    pub fn step(&mut self, event: &Event) -> Result<Outcome, AllocError>
+        ensures ok { IfOk result (λ outcome. IsStepped self.old (event_of event.now) (outcome_of outcome) self.new) }
+        ensures err { OnErr result (self.new ≡ self.old) }
+    {
+        if self.step == u64::MAX {
+            return Err(AllocError);
+        }
+        let now = self.step + 1;
+        match event {
+            Event::Start { node, inc } => self.start(*node, *inc, now),
+            Event::Stop { node } => Ok(self.stop(*node, now)),
+            Event::Receive { node, .. } => self.ask(*node, event, now),
+            Event::OnInfo { node, .. } => self.ask(*node, event, now),
+            Event::OnConnect { node, .. } => self.ask(*node, event, now),
+            Event::At { node, .. } => self.ask(*node, event, now),
+        }
+    }
+
+    /// The steps of events in turn, up to the first for which memory is wanting.
+    fn make(&mut self, events: &[Event]) -> Result<Vec<Outcome>, AllocError>
+        ensures ok { IfOk result (λ outcomes. Ran self.old (map event_of events.now) (map outcome_of outcomes.items) self.new) }
+        ensures err { OnErr result (IsPart self.old (map event_of events.now) self.new) }
+    {
+        let mut outcomes = Vec::new(self.alloc);
+        for event in events {
+            if let Err(error) = outcomes.reserve(1) {
+                return Err(error);
+            }
+            let outcome = match self.step(event) {
+                Ok(outcome) => outcome,
+                Err(error) => return Err(error),
+            };
+            outcomes.push_reserved(outcome);
+        }
+        Ok(outcomes)
+    }
+
+    /// Events in turn: a run of the exact cluster, with an outcome for each. Where memory is wanting, the events
+    /// before it are made, and the lists are those of these. Either way the headline holds of the lists, and
+    /// what it rests on, as [`World::keeps_headline`] says.
+    pub fn run(&mut self, events: &[Event]) -> Result<Vec<Outcome>, AllocError>
+        ensures ok { IfOk result (λ outcomes. Ran self.old (map event_of events.now) (map outcome_of outcomes.items) self.new) }
+        ensures err { OnErr result (IsPart self.old (map event_of events.now) self.new) }
+        ensures headline { ∥ Headline self.new.world ∥₁ }
+        ensures names { ∥ Names self.new.world ∥₁ }
+        ensures echo { ∥ EchoIsKept self.new.cluster self.new.world ∥₁ }
+        ensures rests { ∥ CameSo self.new.cluster self.new.world ∥₁ }
+        ensures sent { ∥ AreSent self.new.world ∥₁ }
+    {
+        let outcomes = self.make(events);
+        self.keeps_headline();
+        outcomes
+    }
+}
