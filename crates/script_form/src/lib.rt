@@ -1,0 +1,20 @@
+//! The form of a script.
+//!
+//! A script is JSON that names the servers of a cluster and says step by step what is done in it. [`Script::read`] reads just
+//! those bytes that are one, and tells of all others the first cause for which they are none.
+#![tactic(auto)]
+
+mod acts;
+mod faults;
+mod member;
+mod members;
+mod reading;
+mod steps;
+#[cfg(test)]
+mod tests;
+mod verbs;
+
+pub use faults::{Place, ScriptError, ScriptFault};
+pub use member::Member;
+pub use reading::Script;
+pub use steps::{Act, Step};
