@@ -9,6 +9,12 @@ pub enum Command {
     Lanes(u64),
     /// Frames of a client, of about so many megabytes.
     Frames(u64),
+    /// Tables of subscriptions, with so many subjects.
+    Matches(u64),
+    /// A hub, with about so many publications in each case.
+    Hubs(u64),
+    /// A shard, with about so many entries in each case.
+    Shards(u64),
 }
 
 /// The command of these words; None where they are none.
@@ -20,6 +26,9 @@ pub fn command_of(measure: Option<&str>, number: Option<&str>) -> Option<Command
     match measure {
         "lanes" => Some(Command::Lanes(number)),
         "frames" => Some(Command::Frames(number)),
+        "matches" => Some(Command::Matches(number)),
+        "hub" => Some(Command::Hubs(number)),
+        "shard" => Some(Command::Shards(number)),
         _ => None,
     }
 }

@@ -7,14 +7,26 @@ mod command;
 mod frame_reading;
 mod frame_stream;
 mod frames;
+mod hub_run;
+mod hub_setup;
+mod hubs;
 mod lane_jobs;
 mod lane_run;
 mod lanes;
 mod locked_run;
+mod match_calls;
+mod match_subjects;
+mod matches;
+mod shard_run;
+mod shard_setup;
+mod shards;
 
 use command::{Command, command_of};
 use frames::measure_frames;
+use hubs::measure_hubs;
 use lanes::measure_lanes;
+use matches::measure_matches;
+use shards::measure_shards;
 use std::alloc::Global;
 use std::rt::{Clock, Env};
 use std::sync::Wait;
@@ -29,10 +41,16 @@ where
     match command {
         Command::All => {
             measure_lanes(rt, None)?;
-            measure_frames(rt, None)
+            measure_frames(rt, None)?;
+            measure_matches(rt, None)?;
+            measure_shards(rt, None)?;
+            measure_hubs(rt, None)
         }
         Command::Lanes(jobs) => measure_lanes(rt, Some(jobs)),
         Command::Frames(megabytes) => measure_frames(rt, Some(megabytes)),
+        Command::Matches(subjects) => measure_matches(rt, Some(subjects)),
+        Command::Hubs(publications) => measure_hubs(rt, Some(publications)),
+        Command::Shards(entries) => measure_shards(rt, Some(entries)),
     }
 }
 

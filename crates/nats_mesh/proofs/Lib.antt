@@ -1,6 +1,13 @@
-pub mod Rest
-pub mod Said
-pub mod Looks
-pub mod Runs
-pub mod Serves
-pub mod Rows
+mod Balance
+mod NamesOpen
+mod Alone
+mod Working
+mod Calls
+mod Collecting
+mod Publishing
+mod Heard
+mod Answering
+mod Said
+mod Runs
+mod Serves
+mod Rows

@@ -1,258 +1,192 @@
 -- A pipe's text so far.
-use Rattle.std.proofs.Common.{◌≡◌, ℕ, true, false, List, [], ◌∷◌, ◌++◌, length, take, drop, Option, Result, Ok, Err, refl, ap, sym, ◌∙◌, subst, arith, append_assoc, append-nil, take-append-drop}
+use Rattle.std.proofs.Common.{◌≡◌, ℕ, true, false, List, [], ◌∷◌, ◌++◌, length, Option, Result, Ok, Err, refl, ap, sym, ◌∙◌, subst, arith, append_assoc, append-nil}
 use Rattle.std.specs.Result.{IsErrAnd}
 use Rattle.std.specs.Io.KnownBytes.{Appends, Consumes}
 use Rattle.std.proofs.KnownBytes.{Appends-nil, Appends-trans, Consumes-nil, Consumes-trans}
-use Rattle.subj.specs.declared.limits.TheConstants.{CLIENT_LINE, MAX_PAYLOAD}
-use Rattle.wire_cut.specs.Cut.{CutterState, new_cutter, first_cr_lf}
-use Rattle.wire_cut.specs.Flow.{AppendsFront, Gains}
-use Rattle.wire_cut.specs.Reading.{reading_of}
-use Rattle.client_frames.specs.declared.awaited.Awaited.TheVariants as awaits
-use Rattle.client_frames.specs.Streams.{client_grammar, size_awaited}
+use Rattle.client_conn.specs.declared.ask.Ask.{Ask}
+use Rattle.client_conn.specs.Asks.{Asking, ConnState, Onward, listens, over, begun, fed, read_onward}
+use Rattle.client_conn.specs.Feeding.{HasRead as Gains}
+use Rattle.client_conn.specs.Shuts.{AsksToShut}
+use Rattle.client_conn.proofs.Closing.{shuts_at_the_end, shut_behind}
+use Rattle.client_conn.proofs.Following.{fed_twice, settled_fed, settled_begun}
 use Rattle.nats_mesh.specs.declared.pipe.PipeEnd.{PipeEnd}
 use Rattle.nats_mesh.specs.declared.pipe.PipeFault.{PipeFault}
 use Rattle.nats_mesh.specs.declared.pipe.PipeFault.TheVariants.{Read, Write, OutOfMemory}
-use Rattle.nats_mesh.specs.declared.pipe_client.Flow.{Flow}
-use Rattle.nats_mesh.specs.declared.pipe_client.Flow.TheVariants.{Open, Closed}
-use Rattle.nats_mesh.specs.declared.pipe_client.PipeClient.{PipeClient}
-use Rattle.nats_mesh.specs.PipeText.{behind, at_first, answer_bytes, pipe_info, pipe_said, pipe_text, pipe_closes, items_said}
-use Rattle.nats_mesh.specs.PipeStates.{IsNew}
-use Rattle.nats_mesh.specs.PipeRuns.{Standing, said_from, standing, Waits, GoesOn, Ends, IsInStep, IsFlushed, HasStarved, HasEnded, HasBegun, CountsWrites, Works}
+use Rattle.nats_mesh.specs.declared.pipe_server.PipeServer.{PipeServer}
+use Rattle.nats_mesh.specs.PipeText.{Served, Spoken, at_first, behind, asks_said, pipe_info, pipe_said, pipe_text, pipe_closes}
+use Rattle.nats_mesh.specs.PipeStates.{IsNew, served}
+use Rattle.nats_mesh.specs.PipeRuns.{Standing, said_from, standing, Waits, GoesOn, IsInStep, HasAnswered, HasFinished, HasFronted, CountsWrites}
 use Rattle.nats_mesh.specs.PipeTheorem.{AppendsBeginning, WritesText, Pipes, CountsReads, CountsFailedWrites}
 use Rattle.nats_mesh.proofs.Said.{waits_there, behind-behind}
-use Rattle.nats_mesh.proofs.Runs.{in_step_still, stands_still}
 
 -- ---- what was read tells this text, and then what is said from there
 
 pub record Tells (read text : List ℕ) (at : Standing) : Type 0 where
   pub whatever_follows : (more : List ℕ) → pipe_said (read ++ more) ≡ behind text (said_from at more)
 
-abbrev first_standing : Standing
-first_standing = record { served = at_first; awaited = awaits.Line; unread = [] }
-
-tells_at_first : Tells [] (answer_bytes pipe_info) first_standing
-tells_at_first = record { whatever_follows = λ more. refl }
-
-waits_at_first : Waits first_standing
-unfolding first_cr_lf
-waits_at_first = waits_there first_standing refl
-
 tells_further : (read text said : List ℕ) (at to : Standing) → Tells read text at → GoesOn at said to → Tells read (text ++ said) to
 tells_further read text said at to tells goes = record {
   whatever_follows = λ more. tells.whatever_follows more ∙ ap (behind text) (goes.whatever_follows more) ∙ behind-behind text said (said_from to more);
 }
 
-tells_fed : (read text bytes : List ℕ) (at : Standing) → Tells read text at → Tells (read ++ bytes) text (record at { unread = at.unread ++ bytes })
+abbrev fed_at : Standing → List ℕ → Standing
+fed_at at bytes = record at { asking = fed bytes at.asking }
+
+tells_fed : (read text bytes : List ℕ) (at : Standing) → Tells read text at → Tells (read ++ bytes) text (fed_at at bytes)
 tells_fed read text bytes at tells = record {
   whatever_follows = λ more. ap pipe_said (append_assoc read bytes more) ∙ tells.whatever_follows (bytes ++ more)
-      ∙ ap (λ l. behind text (items_said (reading_of client_grammar at.awaited l).items at.served)) (sym (append_assoc at.unread bytes more));
+      ∙ ap (λ (s : Asking). behind text (asks_said s.asks at.served)) (sym (fed_twice at.asking bytes more));
 }
 
 tells_all : (read text : List ℕ) (at : Standing) → Tells read text at → pipe_said read ≡ behind text (said_from at [])
 tells_all read text at tells = sym (ap pipe_said (append-nil read)) ∙ tells.whatever_follows []
 
 tells_text : (read text : List ℕ) (at : Standing) → Tells read text at → pipe_text read ≡ text ++ (said_from at []).text
-tells_text read text at tells = ap (λ r. r.text) (tells_all read text at tells)
+tells_text read text at tells = ap (λ (r : Spoken). r.text) (tells_all read text at tells)
 
 waiting_text : (read text : List ℕ) (at : Standing) → Tells read text at → Waits at → pipe_text read ≡ text
-waiting_text read text at tells waits = tells_text read text at tells ∙ ap (λ r. text ++ r.text) waits ∙ append-nil text
+waiting_text read text at tells waits = tells_text read text at tells ∙ ap (λ (r : Spoken). text ++ r.text) waits ∙ append-nil text
 
 waiting_closes : (read text : List ℕ) (at : Standing) → Tells read text at → Waits at → pipe_closes read ≡ false
-waiting_closes read text at tells waits = ap (λ r. r.closed) (tells_all read text at tells) ∙ ap (λ r. r.closed) waits
+waiting_closes read text at tells waits = ap (λ (r : Spoken). r.closed) (tells_all read text at tells) ∙ ap (λ (r : Spoken). r.closed) waits
 
-ending_text : (read text said : List ℕ) (at : Standing) → Tells read text at → Ends at said → pipe_text read ≡ text ++ said
-ending_text read text said at tells ends = tells_text read text at tells ∙ ap (λ l. text ++ l) (ends.text [])
+-- ---- a pipe that is to answer what was read, and one that has
 
-ending_closes : (read text said : List ℕ) (at : Standing) → Tells read text at → Ends at said → pipe_closes read ≡ true
-ending_closes read text said at tells ends = ap (λ r. r.closed) (tells_all read text at tells) ∙ ends.closed []
-
--- ---- the pipe before a read, and behind one
-
-pub record HasServed (client : PipeClient) (cutter : CutterState) (before left was is : Option (List ℕ)) : Type 0 where
+pub record HasRead (conn : ConnState) (server : PipeServer) (before left was is : Option (List ℕ)) : Type 0 where
   pub read : List ℕ
   pub put : List ℕ
   pub consumed : Consumes before left read
   pub written : Appends was is put
-  pub empty : client.output.items ≡ []
-  pub in_step : IsInStep client cutter
-  pub waits : Waits (standing client cutter)
-  pub tells : Tells read put (standing client cutter)
+  pub empty : server.output.items ≡ []
+  pub in_step : IsInStep conn server
+  pub tells : Tells read put (standing conn server)
 
-pub record HasRead (client : PipeClient) (cutter : CutterState) (before left was is : Option (List ℕ)) : Type 0 where
-  pub read : List ℕ
-  pub put : List ℕ
-  pub consumed : Consumes before left read
-  pub written : Appends was is put
-  pub empty : client.output.items ≡ []
-  pub in_step : IsInStep client cutter
-  pub tells : Tells read put (standing client cutter)
+pub record HasServed (conn : ConnState) (server : PipeServer) (before left was is : Option (List ℕ)) : Type 0 where
+  pub reads : HasRead conn server before left was is
+  pub none : conn.asking.asks ≡ []
 
--- the new client and cutter
-new_in_step : (client : PipeClient) → IsNew client → IsInStep client (new_cutter CLIENT_LINE MAX_PAYLOAD)
-new_in_step client is = record {
-  ready = is.ready;
-  stands = record { expected = sym (ap size_awaited is.awaited); fault = refl; line_max = refl; payload_max = refl };
-  within = λ size e. absurd (cc);
+waits_now : (conn : ConnState) (server : PipeServer) → IsInStep conn server → conn.asking.asks ≡ [] → Waits (standing conn server)
+waits_now conn server step none = waits_there (standing conn server) step.settled none
+
+-- ---- the start
+
+begins_with : (s t : Served) → s ≡ t → (let at : Standing = record { asking = begun pipe_info; served = s } in at) ≡ record { asking = begun pipe_info; served = t }
+begins_with s t e = ap (λ u. let at : Standing = record { asking = begun pipe_info; served = u } in at) e
+
+pub read_first : (conn : ConnState) (server : PipeServer) (before was : Option (List ℕ)) → conn.asking ≡ begun pipe_info → IsNew server → HasRead conn server before before was was
+read_first conn server before was begins new = record {
+  read = [];
+  put = [];
+  consumed = Consumes-nil before;
+  written = Appends-nil was;
+  empty = new.empty;
+  in_step = record {
+    ready = new.ready;
+    settled = ap (fed []) begins ∙ settled_begun pipe_info ∙ sym begins;
+    shuts = λ ends. absurd (not_over (sym (ap (λ (s : Asking). s.onward) begins) ∙ ends));
+  };
+  tells = record { whatever_follows = λ more. ap (λ (s : Asking). asks_said (fed more s).asks at_first) (sym begins) ∙ ap (asks_said (fed more conn.asking).asks) (sym new.same) };
 }
-
-new_standing : (client : PipeClient) → IsNew client → standing client (new_cutter CLIENT_LINE MAX_PAYLOAD) ≡ first_standing
-new_standing client is =
-    ap (λ s. let at : Standing = record { served = s; awaited = client.awaited; unread = [] } in at) is.same
-    ∙ ap (λ a. let at : Standing = record { served = at_first; awaited = a; unread = [] } in at) is.awaited
-
-pub served_first : (client new : PipeClient) (cutter : CutterState) (before was is : Option (List ℕ)) → IsNew client → cutter ≡ new_cutter CLIENT_LINE MAX_PAYLOAD → IsFlushed client was new is → HasServed new cutter before before was is
-served_first client new cutter before was is fresh cut flushed =
-    let fresh_cutter = new_cutter CLIENT_LINE MAX_PAYLOAD in
-    let stands : standing new fresh_cutter ≡ first_standing = stands_still client new fresh_cutter flushed.same ∙ new_standing client fresh in
-    subst (λ c. HasServed new c before before was is) (sym cut) (record {
-      read = [];
-      put = client.output.items;
-      consumed = Consumes-nil before;
-      written = flushed.written;
-      empty = flushed.empty;
-      in_step = in_step_still client new fresh_cutter flushed.same (new_in_step client fresh);
-      waits = subst Waits (sym stands) waits_at_first;
-      tells = subst (λ l. Tells [] l (standing new fresh_cutter)) (sym fresh.text) (subst (Tells [] (answer_bytes pipe_info)) (sym stands) tells_at_first);
-    })
+  where
+    not_over : (begun pipe_info).onward ≡ over → ⊥
+    not_over e = cc
 
 -- ---- a read
 
-fed_in_step : (client : PipeClient) (cutter : CutterState) (unread : List ℕ) → IsInStep client cutter → IsInStep client (record cutter { unread = unread })
-fed_in_step client cutter unread step = record {
-  ready = step.ready;
-  stands = record { expected = step.stands.expected; fault = step.stands.fault; line_max = step.stands.line_max; payload_max = step.stands.payload_max };
-  within = step.within;
+fed_shuts : (s : Asking) (bytes : List ℕ) → (s.onward ≡ over → AsksToShut s.asks) → (fed bytes s).onward ≡ over → AsksToShut (fed bytes s).asks
+fed_shuts s bytes shuts ends = go s.onward refl ends
+  where
+    go : (onward : Onward) → s.onward ≡ onward → (read_onward s.onward bytes).onward ≡ over → AsksToShut (s.asks ++ (read_onward s.onward bytes).asks)
+    go (listens options awaited unread) is e =
+        shut_behind s.asks (read_onward s.onward bytes).asks (subst (λ (o : Onward). AsksToShut (read_onward o bytes).asks) (sym is) (shuts_at_the_end options awaited (unread ++ bytes) (ap (λ (o : Onward). (read_onward o bytes).onward) (sym is) ∙ e)))
+    go over is e = subst (λ (o : Onward). AsksToShut (s.asks ++ (read_onward o bytes).asks)) (sym is) (subst AsksToShut (sym (append-nil s.asks)) (shuts is))
+
+pub read_on : (conn new : ConnState) (server : PipeServer) (before left now was is : Option (List ℕ)) (asked n : ℕ) → HasServed conn server before left was is → Gains conn.asking new.asking left now asked n → HasRead new server before now was is
+read_on conn new server before left now was is asked n serves gains =
+    let reads = serves.reads in
+    record {
+      read = reads.read ++ gains.bytes;
+      put = reads.put;
+      consumed = Consumes-trans before left now reads.read gains.bytes reads.consumed gains.consumed;
+      written = reads.written;
+      empty = reads.empty;
+      in_step = record {
+        ready = reads.in_step.ready;
+        settled = ap (fed []) gains.came ∙ settled_fed conn.asking gains.bytes ∙ sym gains.came;
+        shuts = λ ends. subst (λ (s : Asking). AsksToShut s.asks) (sym gains.came) (fed_shuts conn.asking gains.bytes reads.in_step.shuts (sym (ap (λ (s : Asking). s.onward) gains.came) ∙ ends));
+      };
+      tells = subst (λ (s : Asking). Tells (reads.read ++ gains.bytes) reads.put (record { asking = s; served = served server })) (sym gains.came) (tells_fed reads.read reads.put gains.bytes (standing conn server) reads.tells);
+    }
+
+-- the connection reads on: nothing stands to be asked
+pub not_over : (conn : ConnState) (server : PipeServer) (before left was is : Option (List ℕ)) → HasServed conn server before left was is → conn.asking.onward ≡ over → ⊥
+not_over conn server before left was is serves ends =
+    let shuts = serves.reads.in_step.shuts ends in none_shut shuts.behind _ shuts.before (sym serves.none ∙ shuts.are)
+  where
+    none_shut : (last : List Ask) (a : Ask) (front : List Ask) → [] ≡ front ++ (a ∷ last) → ⊥
+    none_shut last a [] e = cc
+    none_shut last a (x ∷ front) e = cc
+
+-- ---- behind the answers
+
+pub served_again : (conn new_conn : ConnState) (server new : PipeServer) (before left was is now : Option (List ℕ)) → HasRead conn server before left was is → HasAnswered conn server is new_conn new now → HasServed new_conn new before left was now
+served_again conn new_conn server new before left was is now reads answered = record {
+  reads = record {
+    read = reads.read;
+    put = reads.put ++ answered.said;
+    consumed = reads.consumed;
+    written = Appends-trans was is now reads.put answered.said reads.written answered.written;
+    empty = answered.empty;
+    in_step = answered.in_step;
+    tells = tells_further reads.read reads.put answered.said (standing conn server) (standing new_conn new) reads.tells answered.goes;
+  };
+  none = answered.none;
 }
 
-pub read_on_from : (client : PipeClient) (cutter new : CutterState) (before left now was is : Option (List ℕ)) (asked n : ℕ) → HasServed client cutter before left was is → new ≡ record cutter { unread = new.unread }
-    → Gains cutter.unread new.unread left now asked n → HasRead client new before now was is
-read_on_from client cutter new before left now was is asked n serves same gains =
-    let fed : new ≡ record cutter { unread = cutter.unread ++ gains.bytes } = same ∙ ap (λ l. let c : CutterState = record cutter { unread = l } in c) gains.grown in
-    subst (λ c. HasRead client c before now was is) (sym fed) (record {
-      read = serves.read ++ gains.bytes;
-      put = serves.put;
-      consumed = Consumes-trans before left now serves.read gains.bytes serves.consumed gains.consumed;
-      written = serves.written;
-      empty = serves.empty;
-      in_step = fed_in_step client cutter (cutter.unread ++ gains.bytes) serves.in_step;
-      tells = tells_fed serves.read serves.put gains.bytes (standing client cutter) serves.tells;
-    })
+pub closed_text : (conn : ConnState) (server : PipeServer) (before left was is now : Option (List ℕ)) (reads : HasRead conn server before left was is) → HasFinished conn server is now → WritesText reads.read was now true
+closed_text conn server before left was is now reads finished = record {
+  written = subst (Appends was now) (sym (tells_text reads.read reads.put (standing conn server) reads.tells ∙ ap (λ l. reads.put ++ l) (finished.ends.text [])))
+      (Appends-trans was is now reads.put finished.said reads.written finished.written);
+  closing = ap (λ (r : Spoken). r.closed) (tells_all reads.read reads.put (standing conn server) reads.tells) ∙ finished.ends.closed [];
+}
+
+pub begun_text : (conn : ConnState) (server : PipeServer) (before left was is now : Option (List ℕ)) (reads : HasRead conn server before left was is) → HasFronted conn server is now → AppendsBeginning was now (pipe_text reads.read)
+begun_text conn server before left was is now reads front = record {
+  front = reads.put ++ front.put;
+  rest = front.rest [];
+  written = Appends-trans was is now reads.put front.put reads.written front.written;
+  whole = tells_text reads.read reads.put (standing conn server) reads.tells ∙ ap (λ l. reads.put ++ l) (front.text []) ∙ sym (append_assoc reads.put front.put (front.rest []));
+}
 
 -- ---- the end
 
-pub whole_text : (client : PipeClient) (cutter : CutterState) (before left was is : Option (List ℕ)) (serves : HasServed client cutter before left was is) → WritesText serves.read was is false
-whole_text client cutter before left was is serves = record {
-  written = subst (Appends was is) (sym (waiting_text serves.read serves.put (standing client cutter) serves.tells serves.waits)) serves.written;
-  closing = waiting_closes serves.read serves.put (standing client cutter) serves.tells serves.waits;
-}
+pub whole_text : (conn : ConnState) (server : PipeServer) (before left was is : Option (List ℕ)) (serves : HasServed conn server before left was is) → WritesText serves.reads.read was is false
+whole_text conn server before left was is serves =
+    let waits = waits_now conn server serves.reads.in_step serves.none in
+    record {
+      written = subst (Appends was is) (sym (waiting_text serves.reads.read serves.reads.put (standing conn server) serves.reads.tells waits)) serves.reads.written;
+      closing = waiting_closes serves.reads.read serves.reads.put (standing conn server) serves.reads.tells waits;
+    }
 
 no_bytes : (bytes : List ℕ) (n : ℕ) → length bytes ≡ n → n ≡ 0 → bytes ≡ []
 no_bytes [] n is none = refl
 no_bytes (b ∷ bytes) n is none = absurd (omega arith)
 
-pub read_to_end : (client : PipeClient) (cutter new : CutterState) (before left now was is : Option (List ℕ)) (asked n : ℕ) (serves : HasServed client cutter before left was is) → Gains cutter.unread new.unread left now asked n → n ≡ 0 → Consumes before now serves.read
-read_to_end client cutter new before left now was is asked n serves gains none =
-    subst (Consumes before now) (ap (λ l. serves.read ++ l) (no_bytes gains.bytes n gains.count none) ∙ append-nil serves.read)
-    (Consumes-trans before left now serves.read gains.bytes serves.consumed gains.consumed)
+pub read_to_end : (conn new : ConnState) (server : PipeServer) (before left now was is : Option (List ℕ)) (asked n : ℕ) (serves : HasServed conn server before left was is) → Gains conn.asking new.asking left now asked n → n ≡ 0 → Consumes before now serves.reads.read
+read_to_end conn new server before left now was is asked n serves gains none =
+    subst (Consumes before now) (ap (λ l. serves.reads.read ++ l) (no_bytes gains.bytes n gains.count none) ∙ append-nil serves.reads.read)
+    (Consumes-trans before left now serves.reads.read gains.bytes serves.reads.consumed gains.consumed)
 
--- ---- behind the work
-
-moved_text : (put now old said : List ℕ) → put ++ now ≡ old ++ said → old ≡ [] → put ++ now ≡ said
-moved_text put now old said is none = is ∙ ap (λ l. l ++ said) none
-
--- all that was put was written
-all_written : (client mid new : PipeClient) (cutter : CutterState) (before left was is then_is now : Option (List ℕ)) (reads : HasRead client cutter before left was is) (put said : List ℕ)
-    → Appends is then_is put → put ++ mid.output.items ≡ client.output.items ++ said → IsFlushed mid then_is new now → Appends was now (reads.put ++ said)
-all_written client mid new cutter before left was is then_is now reads put said written text flushed =
-    subst (λ l. Appends was now (reads.put ++ l)) (moved_text put mid.output.items client.output.items said text reads.empty)
-    (Appends-trans was is now reads.put (put ++ mid.output.items) reads.written (Appends-trans is then_is now put mid.output.items written flushed.written))
-
-pub served_again : (client mid new : PipeClient) (cutter mid_cutter : CutterState) (before left was is then_is now : Option (List ℕ)) → HasRead client cutter before left was is → HasStarved client cutter is mid mid_cutter then_is → IsFlushed mid then_is new now
-    → HasServed new mid_cutter before left was now
-served_again client mid new cutter mid_cutter before left was is then_is now reads starved flushed =
-    let moved = starved.moved in
-    let stands = stands_still mid new mid_cutter flushed.same in
-    record {
-      read = reads.read;
-      put = reads.put ++ moved.said;
-      consumed = reads.consumed;
-      written = all_written client mid new cutter before left was is then_is now reads moved.put moved.said moved.written moved.text flushed;
-      empty = flushed.empty;
-      in_step = in_step_still mid new mid_cutter flushed.same moved.in_step;
-      waits = subst Waits (sym stands) starved.waits;
-      tells = subst (Tells reads.read (reads.put ++ moved.said)) (sym stands) (tells_further reads.read reads.put moved.said (standing client cutter) (standing mid mid_cutter) reads.tells moved.goes);
-    }
-
-pub closed_text : (client mid new : PipeClient) (cutter : CutterState) (before left was is then_is now : Option (List ℕ)) (reads : HasRead client cutter before left was is) → HasEnded client cutter is mid then_is → IsFlushed mid then_is new now → WritesText reads.read was now true
-closed_text client mid new cutter before left was is then_is now reads ended flushed = record {
-  written = subst (Appends was now) (sym (ending_text reads.read reads.put ended.said (standing client cutter) reads.tells ended.ends))
-      (all_written client mid new cutter before left was is then_is now reads ended.put ended.said ended.written ended.text flushed);
-  closing = ending_closes reads.read reads.put ended.said (standing client cutter) reads.tells ended.ends;
-}
-
--- ---- a beginning
-
-pub begun_text : (client : PipeClient) (cutter : CutterState) (before left was is now : Option (List ℕ)) (reads : HasRead client cutter before left was is) → HasBegun client cutter is now → AppendsBeginning was now (pipe_text reads.read)
-begun_text client cutter before left was is now reads begun = record {
-  front = reads.put ++ begun.put;
-  rest = begun.rest [];
-  written = Appends-trans was is now reads.put begun.put reads.written begun.written;
-  whole = tells_text reads.read reads.put (standing client cutter) reads.tells
-      ∙ ap (λ l. reads.put ++ l) (sym (ap (λ l. l ++ (said_from (standing client cutter) []).text) reads.empty) ∙ begun.text [])
-      ∙ sym (append_assoc reads.put begun.put (begun.rest []));
-}
-
-pub whole_beginning : (client : PipeClient) (cutter : CutterState) (before left was is : Option (List ℕ)) (serves : HasServed client cutter before left was is) → AppendsBeginning was is (pipe_text serves.read)
-whole_beginning client cutter before left was is serves = record {
-  front = serves.put;
+pub whole_beginning : (conn : ConnState) (server : PipeServer) (before left was is : Option (List ℕ)) (serves : HasServed conn server before left was is) → AppendsBeginning was is (pipe_text serves.reads.read)
+whole_beginning conn server before left was is serves = record {
+  front = serves.reads.put;
   rest = [];
-  written = serves.written;
-  whole = waiting_text serves.read serves.put (standing client cutter) serves.tells serves.waits ∙ sym (append-nil serves.put);
+  written = serves.reads.written;
+  whole = waiting_text serves.reads.read serves.reads.put (standing conn server) serves.reads.tells (waits_now conn server serves.reads.in_step serves.none) ∙ sym (append-nil serves.reads.put);
 }
-
--- the last flush broke off
-front_of : (front now whole : List ℕ) (was is : Option (List ℕ)) (n : ℕ) → Appends was is (front ++ take n now) → whole ≡ front ++ now → AppendsBeginning was is whole
-front_of front now whole was is n written is_whole = record {
-  front = front ++ take n now;
-  rest = drop n now;
-  written = written;
-  whole = is_whole ∙ ap (λ l. front ++ l) (sym (take-append-drop n now)) ∙ sym (append_assoc front (take n now) (drop n now));
-}
-
-front_behind : (client mid : PipeClient) (cutter : CutterState) (before left was is then_is now : Option (List ℕ)) (reads : HasRead client cutter before left was is) (put said : List ℕ)
-    → Appends is then_is put → put ++ mid.output.items ≡ client.output.items ++ said → pipe_text reads.read ≡ reads.put ++ said → AppendsFront then_is now mid.output.items → AppendsBeginning was now (pipe_text reads.read)
-front_behind client mid cutter before left was is then_is now reads put said written text whole front =
-    front_of (reads.put ++ put) mid.output.items (pipe_text reads.read) was now front.0
-    (Appends-trans was then_is now (reads.put ++ put) (take front.0 mid.output.items) (Appends-trans was is then_is reads.put put reads.written written) front.2)
-    (whole ∙ ap (λ l. reads.put ++ l) (sym (moved_text put mid.output.items client.output.items said text reads.empty)) ∙ sym (append_assoc reads.put put mid.output.items))
-
-pub starved_front : (client mid : PipeClient) (cutter mid_cutter : CutterState) (before left was is then_is now : Option (List ℕ)) (reads : HasRead client cutter before left was is) → HasStarved client cutter is mid mid_cutter then_is
-    → AppendsFront then_is now mid.output.items → AppendsBeginning was now (pipe_text reads.read)
-starved_front client mid cutter mid_cutter before left was is then_is now reads starved front =
-    let moved = starved.moved in
-    let tells = tells_further reads.read reads.put moved.said (standing client cutter) (standing mid mid_cutter) reads.tells moved.goes in
-    front_behind client mid cutter before left was is then_is now reads moved.put moved.said moved.written moved.text (waiting_text reads.read (reads.put ++ moved.said) (standing mid mid_cutter) tells starved.waits) front
-
-pub ended_front : (client mid : PipeClient) (cutter : CutterState) (before left was is then_is now : Option (List ℕ)) (reads : HasRead client cutter before left was is) → HasEnded client cutter is mid then_is
-    → AppendsFront then_is now mid.output.items → AppendsBeginning was now (pipe_text reads.read)
-ended_front client mid cutter before left was is then_is now reads ended front =
-    front_behind client mid cutter before left was is then_is now reads ended.put ended.said ended.written ended.text (ending_text reads.read reads.put ended.said (standing client cutter) reads.tells ended.ends) front
-
-pub works_front : (flow : Flow) (client mid : PipeClient) (cutter mid_cutter : CutterState) (before left was is then_is now : Option (List ℕ)) (reads : HasRead client cutter before left was is) → Works (Ok flow) client cutter is mid mid_cutter then_is
-    → AppendsFront then_is now mid.output.items → AppendsBeginning was now (pipe_text reads.read)
-works_front Open client mid cutter mid_cutter before left was is then_is now reads works front = starved_front client mid cutter mid_cutter before left was is then_is now reads works front
-works_front Closed client mid cutter mid_cutter before left was is then_is now reads works front = ended_front client mid cutter before left was is then_is now reads works front
-
--- ---- before the first read
-
-first_text : pipe_text [] ≡ answer_bytes pipe_info
-first_text = waiting_text [] (answer_bytes pipe_info) first_standing tells_at_first waits_at_first
 
 pub nothing_written : (was : Option (List ℕ)) → AppendsBeginning was was (pipe_text [])
 nothing_written was = record { front = []; rest = pipe_text []; written = Appends-nil was; whole = refl }
-
-pub info_front : (client : PipeClient) (was is : Option (List ℕ)) → IsNew client → AppendsFront was is client.output.items → AppendsBeginning was is (pipe_text [])
-info_front client was is fresh front = front_of [] client.output.items (pipe_text []) was is front.0 front.2 (first_text ∙ sym fresh.text)
 
 -- ---- faults
 

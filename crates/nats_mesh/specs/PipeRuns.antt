@@ -1,34 +1,27 @@
 -- What a pipe still has to say, and what its steps do about it.
-use Rattle.std.specs.Prelude.{◌≡◌, ℕ, ◌+◌, ◌<◌, ◌≤◌, true, List, [], ◌++◌, length, Option, Some, None, Result, Ok, Err}
+use Rattle.std.specs.Prelude.{◌≡◌, ℕ, ◌+◌, ◌<◌, true, List, [], ◌++◌, sum_by, Option, Some, None, Result, Ok, Err}
 use Rattle.std.specs.Io.KnownBytes.{Appends}
-use Rattle.subj.specs.declared.limits.TheConstants.{MAX_PAYLOAD}
-use Rattle.wire_cut.specs.Cut.{CutterState}
-use Rattle.wire_cut.specs.declared.fault.CutFault.{CutFault}
-use Rattle.client_frames.specs.ErrTexts.{cut_fault_text}
-use Rattle.wire_cut.specs.Reading.{StandsAt, reading_of}
-use Rattle.client_frames.specs.declared.awaited.Awaited.{Awaited}
-use Rattle.client_frames.specs.Streams.{client_grammar}
+use Rattle.client_conn.specs.Asks.{Asking, ConnState, over, fed}
+use Rattle.client_conn.specs.Shuts.{AsksToShut}
 use Rattle.nats_mesh.specs.declared.pipe.PipeFault.{PipeFault}
 use Rattle.nats_mesh.specs.declared.pipe.PipeFault.TheVariants.{Read, Write, OutOfMemory}
-use Rattle.nats_mesh.specs.declared.pipe_client.Flow.{Flow}
-use Rattle.nats_mesh.specs.declared.pipe_client.Flow.TheVariants.{Open, Closed}
-use Rattle.nats_mesh.specs.declared.pipe_client.PipeClient.{PipeClient}
-use Rattle.nats_mesh.specs.PipeText.{Served, Spoken, silent, behind, refusal, items_said}
-use Rattle.nats_mesh.specs.PipeStates.{IsReady, HasAnswered, served}
+use Rattle.nats_mesh.specs.declared.pipe.Flow.{Flow}
+use Rattle.nats_mesh.specs.declared.pipe.Flow.TheVariants.{Open, Closed}
+use Rattle.nats_mesh.specs.declared.pipe_server.PipeServer.{PipeServer}
+use Rattle.nats_mesh.specs.PipeText.{Served, Spoken, silent, behind, asks_said}
+use Rattle.nats_mesh.specs.PipeStates.{IsReady, served, asks_of}
 
 -- ---- where a pipe stands in its stream
 
 pub record Standing : Type 0 where
+  pub asking : Asking
   pub served : Served
-  pub awaited : Awaited
-  -- the bytes at hand
-  pub unread : List ℕ
 
--- what is said of the bytes at hand and of those behind them
+-- what is said of what stands to be asked, and of what these bytes ask for
 abbrev pub said_from : Standing → List ℕ → Spoken
-said_from at more = items_said (reading_of client_grammar at.awaited (at.unread ++ more)).items at.served
+said_from at more = asks_said (fed more at.asking).asks at.served
 
--- the bytes at hand are no whole piece
+-- nothing is said before more bytes come
 abbrev pub Waits : Standing → Type 0
 Waits at = said_from at [] ≡ silent at.served
 
@@ -41,51 +34,51 @@ pub record Ends (from : Standing) (said : List ℕ) : Type 0 where
   pub text : (more : List ℕ) → (said_from from more).text ≡ said
   pub closed : (more : List ℕ) → (said_from from more).closed ≡ true
 
--- ---- the client and its cutter
+-- ---- the connection and its server
 
-abbrev pub standing : PipeClient → CutterState → Standing
-standing client cutter = record { served = served client; awaited = client.awaited; unread = cutter.unread }
+abbrev pub standing : ConnState → PipeServer → Standing
+standing conn server = record { asking = conn.asking; served = served server }
 
--- the cutter stands where the client does
-pub record IsInStep (client : PipeClient) (cutter : CutterState) : Type 0 where
-  pub ready : IsReady client
-  pub stands : StandsAt client_grammar client.awaited cutter
-  pub within : (size : ℕ) → cutter.expected ≡ Some size → size ≤ MAX_PAYLOAD
+pub record IsInStep (conn : ConnState) (server : PipeServer) : Type 0 where
+  pub ready : IsReady server
+  -- all that the bytes ask for stands to be asked
+  pub settled : fed [] conn.asking ≡ conn.asking
+  -- and where nothing is read any more, it is asked to shut the connection
+  pub shuts : conn.asking.onward ≡ over → AsksToShut conn.asking.asks
 
--- what the announcement of a payload leads to
-abbrev pub Announced : Option CutFault → PipeClient → Flow → PipeClient → Type 0
-Announced None old flow new = (flow ≡ Open) × (new ≡ old)
-Announced (Some fault) old flow new = HasAnswered (refusal (cut_fault_text fault) (served old)) old flow new
+-- how much is left to be asked
+abbrev pub left_of : ConnState → ℕ
+left_of conn = sum_by asks_of conn.asking.asks
 
--- a piece was worked off
-pub record HasWorked (old : PipeClient) (old_cutter : CutterState) (new : PipeClient) (new_cutter : CutterState) : Type 0 where
+-- an ask was answered
+pub record HasWorked (old_conn : ConnState) (old : PipeServer) (new_conn : ConnState) (new : PipeServer) : Type 0 where
   pub said : List ℕ
   pub put : new.output.items ≡ old.output.items ++ said
-  pub in_step : IsInStep new new_cutter
-  pub goes : GoesOn (standing old old_cutter) said (standing new new_cutter)
-  pub fewer : length new_cutter.unread < length old_cutter.unread
+  pub in_step : IsInStep new_conn new
+  pub goes : GoesOn (standing old_conn old) said (standing new_conn new)
+  pub fewer : left_of new_conn < left_of old_conn
 
--- a piece was worked off, behind which nothing is said
-pub record HasClosed (old : PipeClient) (old_cutter : CutterState) (new : PipeClient) : Type 0 where
+-- an ask was answered, behind which nothing is said
+pub record HasClosed (old_conn : ConnState) (old new : PipeServer) : Type 0 where
   pub said : List ℕ
   pub put : new.output.items ≡ old.output.items ++ said
-  pub ends : Ends (standing old old_cutter) said
+  pub ends : Ends (standing old_conn old) said
 
--- nothing changed, for lack of bytes
-pub record IsStarved (old : PipeClient) (old_cutter : CutterState) (new : PipeClient) (new_cutter : CutterState) : Type 0 where
+-- nothing is asked, for lack of bytes
+pub record IsStarved (old_conn : ConnState) (old : PipeServer) (new_conn : ConnState) (new : PipeServer) : Type 0 where
   pub same : new ≡ old
-  pub same_cutter : new_cutter ≡ old_cutter
-  pub waits : Waits (standing old old_cutter)
+  pub asking : new_conn.asking ≡ old_conn.asking
+  pub none : old_conn.asking.asks ≡ []
 
-abbrev pub HasLooked : Option Flow → PipeClient → CutterState → PipeClient → CutterState → Type 0
-HasLooked None old old_cutter new new_cutter = IsStarved old old_cutter new new_cutter
-HasLooked (Some Open) old old_cutter new new_cutter = HasWorked old old_cutter new new_cutter
-HasLooked (Some Closed) old old_cutter new new_cutter = HasClosed old old_cutter new
+abbrev pub HasLooked : Option Flow → ConnState → PipeServer → ConnState → PipeServer → Type 0
+HasLooked None old_conn old new_conn new = IsStarved old_conn old new_conn new
+HasLooked (Some Open) old_conn old new_conn new = HasWorked old_conn old new_conn new
+HasLooked (Some Closed) old_conn old new_conn new = HasClosed old_conn old new
 
 -- ---- the sink
 
 -- all that was put was written
-pub record IsFlushed (old : PipeClient) (was : Option (List ℕ)) (new : PipeClient) (is : Option (List ℕ)) : Type 0 where
+pub record IsFlushed (old : PipeServer) (was : Option (List ℕ)) (new : PipeServer) (is : Option (List ℕ)) : Type 0 where
   pub written : Appends was is old.output.items
   pub empty : new.output.items ≡ []
   pub same : new ≡ record old { output = new.output }
@@ -97,36 +90,65 @@ CountsWrites (Err Write) old new = new ≡ old + 1
 CountsWrites (Err OutOfMemory) old new = new ≡ old
 CountsWrites (Err Read) old new = ⊥
 
--- pieces were worked off; of what was put and said, this was written
-pub record HasMoved (old : PipeClient) (old_cutter : CutterState) (was : Option (List ℕ)) (new : PipeClient) (new_cutter : CutterState) (is : Option (List ℕ)) : Type 0 where
+-- asks were answered; of what was put and said, this was written
+pub record HasMoved (old_conn : ConnState) (old : PipeServer) (was : Option (List ℕ)) (new_conn : ConnState) (new : PipeServer) (is : Option (List ℕ)) : Type 0 where
   pub put : List ℕ
   pub said : List ℕ
   pub written : Appends was is put
   pub text : put ++ new.output.items ≡ old.output.items ++ said
-  pub in_step : IsInStep new new_cutter
-  pub goes : GoesOn (standing old old_cutter) said (standing new new_cutter)
+  pub in_step : IsInStep new_conn new
+  pub goes : GoesOn (standing old_conn old) said (standing new_conn new)
 
--- all pieces at hand were worked off
-pub record HasStarved (old : PipeClient) (old_cutter : CutterState) (was : Option (List ℕ)) (new : PipeClient) (new_cutter : CutterState) (is : Option (List ℕ)) : Type 0 where
-  pub moved : HasMoved old old_cutter was new new_cutter is
-  pub waits : Waits (standing new new_cutter)
+-- all that stood to be asked was answered
+pub record HasStarved (old_conn : ConnState) (old : PipeServer) (was : Option (List ℕ)) (new_conn : ConnState) (new : PipeServer) (is : Option (List ℕ)) : Type 0 where
+  pub moved : HasMoved old_conn old was new_conn new is
+  pub none : new_conn.asking.asks ≡ []
 
--- pieces were worked off, behind which nothing is said
-pub record HasEnded (old : PipeClient) (old_cutter : CutterState) (was : Option (List ℕ)) (new : PipeClient) (is : Option (List ℕ)) : Type 0 where
+-- asks were answered, behind which nothing is said
+pub record HasEnded (old_conn : ConnState) (old : PipeServer) (was : Option (List ℕ)) (new : PipeServer) (is : Option (List ℕ)) : Type 0 where
   pub put : List ℕ
   pub said : List ℕ
   pub written : Appends was is put
   pub text : put ++ new.output.items ≡ old.output.items ++ said
-  pub ends : Ends (standing old old_cutter) said
+  pub ends : Ends (standing old_conn old) said
 
 -- what was written is a beginning of what was put and is to be said, whatever comes behind
-pub record HasBegun (old : PipeClient) (old_cutter : CutterState) (was is : Option (List ℕ)) : Type 0 where
+pub record HasBegun (old_conn : ConnState) (old : PipeServer) (was is : Option (List ℕ)) : Type 0 where
   pub put : List ℕ
   pub rest : List ℕ → List ℕ
   pub written : Appends was is put
-  pub text : (more : List ℕ) → old.output.items ++ (said_from (standing old old_cutter) more).text ≡ put ++ rest more
+  pub text : (more : List ℕ) → old.output.items ++ (said_from (standing old_conn old) more).text ≡ put ++ rest more
 
-abbrev pub Works : Result Flow PipeFault → PipeClient → CutterState → Option (List ℕ) → PipeClient → CutterState → Option (List ℕ) → Type 0
-Works (Ok Open) old old_cutter was new new_cutter is = HasStarved old old_cutter was new new_cutter is
-Works (Ok Closed) old old_cutter was new new_cutter is = HasEnded old old_cutter was new is
-Works (Err fault) old old_cutter was new new_cutter is = HasBegun old old_cutter was is
+abbrev pub Works : Result Flow PipeFault → ConnState → PipeServer → Option (List ℕ) → ConnState → PipeServer → Option (List ℕ) → Type 0
+Works (Ok Open) old_conn old was new_conn new is = HasStarved old_conn old was new_conn new is
+Works (Ok Closed) old_conn old was new_conn new is = HasEnded old_conn old was new is
+Works (Err fault) old_conn old was new_conn new is = HasBegun old_conn old was is
+
+-- ---- all that stands to be asked, where nothing was put
+
+-- it was answered, and all of it was written
+pub record HasAnswered (old_conn : ConnState) (old : PipeServer) (was : Option (List ℕ)) (new_conn : ConnState) (new : PipeServer) (is : Option (List ℕ)) : Type 0 where
+  pub said : List ℕ
+  pub written : Appends was is said
+  pub empty : new.output.items ≡ []
+  pub none : new_conn.asking.asks ≡ []
+  pub in_step : IsInStep new_conn new
+  pub goes : GoesOn (standing old_conn old) said (standing new_conn new)
+
+-- and behind it nothing is said
+pub record HasFinished (old_conn : ConnState) (old : PipeServer) (was is : Option (List ℕ)) : Type 0 where
+  pub said : List ℕ
+  pub written : Appends was is said
+  pub ends : Ends (standing old_conn old) said
+
+-- a beginning of it was written
+pub record HasFronted (old_conn : ConnState) (old : PipeServer) (was is : Option (List ℕ)) : Type 0 where
+  pub put : List ℕ
+  pub rest : List ℕ → List ℕ
+  pub written : Appends was is put
+  pub text : (more : List ℕ) → (said_from (standing old_conn old) more).text ≡ put ++ rest more
+
+abbrev pub AnswersAll : Result Flow PipeFault → ConnState → PipeServer → Option (List ℕ) → ConnState → PipeServer → Option (List ℕ) → Type 0
+AnswersAll (Ok Open) old_conn old was new_conn new is = HasAnswered old_conn old was new_conn new is
+AnswersAll (Ok Closed) old_conn old was new_conn new is = HasFinished old_conn old was is
+AnswersAll (Err fault) old_conn old was new_conn new is = HasFronted old_conn old was is

@@ -1,113 +1,69 @@
--- What the client of a pipe is between two pieces of its stream, and what its calls do.
-use Rattle.std.specs.Prelude.{◌≡◌, ℕ, ◌^◌, ◌-◌, Bool, true, false, nat_le, List, ◌++◌, length, flat_map, take, codes, is_some, Ok, Err}
-use Rattle.subj.specs.declared.limits.TheConstants.{OUTBOX_BYTES}
-use Rattle.client_frames.specs.Streams.{StreamItem, asked, published, refused}
-use Rattle.client_frames.specs.Lines.{Meaning}
-use Rattle.client_frames.specs.declared.awaited.Awaited.{Awaited}
-use Rattle.client_frames.specs.declared.awaited.Awaited.TheVariants as awaits
-use Rattle.client_frames.specs.declared.client_line.ClientLine.{ClientLine}
-use Rattle.client_frames.specs.declared.client_line.ClientLine.TheVariants.{Connect, Pub, PubBad, Sub, Unsub, Ping, Pong}
-use Rattle.client_frames.specs.declared.faults.LineFault.TheVariants.{BadSubject}
-use Rattle.client_frames.specs.declared.server_frames.ReplyFrame.{ReplyFrame}
-use Rattle.outbox.specs.Views.{without_first}
-use Rattle.shard_core.specs.State.{State, client_at}
-use Rattle.shard_core.specs.Steps.{changed, entries_of}
-use Rattle.nats_mesh.specs.declared.pipe_client.Flow.{Flow}
-use Rattle.nats_mesh.specs.declared.pipe_client.Flow.TheVariants.{Open, Closed}
-use Rattle.nats_mesh.specs.declared.pipe_client.Next.{Next}
-use Rattle.nats_mesh.specs.declared.pipe_client.Next.TheVariants.{Payload, Answered}
-use Rattle.nats_mesh.specs.declared.pipe_client.PipeClient.{PipeClient}
-use Rattle.nats_mesh.specs.PipeText.{Served, Spoken, at_first, at_rest, pipe_info, answer_bytes, silent, item_said}
-
--- ---- what waits at the shard
-
--- all that one call takes
-abbrev pub all_entries : ℕ
-all_entries = 2 ^ 64 - 1
-
-abbrev pub is_there : ℕ → State → Bool
-is_there conn s = is_some (client_at conn s.clients)
-
-abbrev pub waiting_bytes : ℕ → State → List ℕ
-waiting_bytes conn s = flat_map (λ entry. entry.bytes) (take all_entries (entries_of (client_at conn s.clients)))
-
-abbrev pub emptied : ℕ → State → State
-emptied conn s = record s { clients = changed (without_first all_entries) conn s.clients }
-
--- the answer fits an empty outbox
-abbrev pub is_short : ReplyFrame → Bool
-is_short frame = nat_le (length (answer_bytes frame)) OUTBOX_BYTES
-
--- ---- the client
+-- What the server of a pipe is between two asks of its client's connection, and what its calls do.
+use Rattle.std.specs.Prelude.{◌≡◌, ℕ, Bool, true, false, [], ◌++◌, Ok, Err}
+use Rattle.client_frames.specs.declared.err_texts.ErrText.TheVariants as text
+use Rattle.client_conn.specs.declared.ask.Ask.{Ask}
+use Rattle.client_conn.specs.declared.ask.Ask.TheVariants as ask
+use Rattle.client_conn.specs.declared.ask.Refusal.{Refusal}
+use Rattle.client_conn.specs.declared.ask.Refusal.TheVariants.{Busy, TooManySubscriptions, NumbersSpent, TooManyQueueGroups, Other}
+use Rattle.nats_mesh.specs.declared.pipe_server.Outcome.{Outcome}
+use Rattle.nats_mesh.specs.declared.pipe_server.Outcome.TheVariants.{Answered, Closed}
+use Rattle.nats_mesh.specs.declared.pipe_server.PipeServer.{PipeServer}
+use Rattle.nats_mesh.specs.PipeText.{Served, Spoken, at_first, at_rest, served_by, told}
+use Rattle.nats_mesh.specs.PipeServing.{IsServing, shard_in, waiting_in}
 
 -- what the answers depend on
-abbrev pub served : PipeClient → Served
-served client = record { subs = client.shard.subs; opened = client.shard.opened; jobs = client.shard.finished }
+abbrev pub served : PipeServer → Served
+served server = served_by (shard_in server.node)
 
--- all that was put for the client was taken
-pub record IsReady (client : PipeClient) : Type 0 where
-  pub shard : client.shard ≡ at_rest (served client)
-  pub conn : client.conn ≡ 1
-  pub origin : client.origin ≡ codes "n1"
-  pub inc : client.inc ≡ 1
-  pub turn : client.turn ≡ client.shard.finished
+-- no job waits, all that was put was taken, and the hub was told of all
+pub record IsReady (server : PipeServer) : Type 0 where
+  pub serving : IsServing server.node
+  pub conn : server.conn ≡ 1
+  pub shard : shard_in server.node ≡ at_rest (served server)
+  pub waiting : waiting_in server.node ≡ []
 
--- INFO is put, and a line awaited
-pub record IsNew (client : PipeClient) : Type 0 where
-  pub text : client.output.items ≡ answer_bytes pipe_info
-  pub awaited : client.awaited ≡ awaits.Line
-  pub ready : IsReady client
-  pub same : served client ≡ at_first
+-- nothing was done yet
+pub record IsNew (server : PipeServer) : Type 0 where
+  pub ready : IsReady server
+  pub same : served server ≡ at_first
+  pub empty : server.output.items ≡ []
 
--- the client behind what was said, where that does not close
-pub record IsServed (said : Spoken) (client : PipeClient) : Type 0 where
-  pub ready : IsReady client
-  pub same : served client ≡ said.served
+-- ---- an ask
 
-abbrev pub flow_of : Bool → Flow
-flow_of true = Closed
-flow_of false = Open
-
--- a call put what was said, and nothing else
-pub record HasSaid (said : Spoken) (old new : PipeClient) : Type 0 where
+-- this was put, and behind it this is served
+pub record HasSaid (said : Spoken) (old new : PipeServer) : Type 0 where
   pub text : new.output.items ≡ old.output.items ++ said.text
-  pub awaited : new.awaited ≡ old.awaited
-  pub after : said.closed ≡ false → IsServed said new
+  pub ready : IsReady new
+  pub same : served new ≡ said.served
 
-pub record HasAnswered (said : Spoken) (old : PipeClient) (flow : Flow) (new : PipeClient) : Type 0 where
-  pub goes : flow ≡ flow_of said.closed
-  pub put : HasSaid said old new
+-- whether the connection was shut
+abbrev pub outcome_by : Bool → Outcome
+outcome_by true = Closed
+outcome_by false = Answered (Ok tt)
 
--- what a line that is no publication leads to
-pub record HasDone (item : StreamItem) (old : PipeClient) (next : Next) (new : PipeClient) : Type 0 where
-  pub goes : next ≡ Answered (flow_of (item_said item (served old)).closed)
-  pub put : HasSaid (item_said item (served old)) old new
+-- the client is to be told of a refusal
+abbrev pub IsTold : Refusal → Served → Spoken → Type 0
+IsTold Busy s said = ⊥
+IsTold TooManySubscriptions s said = said ≡ told text.TooManySubscriptions s
+IsTold NumbersSpent s said = said ≡ told text.NumbersSpent s
+IsTold TooManyQueueGroups s said = said ≡ told text.TooManyQueueGroups s
+IsTold Other s said = ⊥
 
--- a publication puts nothing before its payload is there
-pub record Announces (awaited : Awaited) (size : ℕ) (old : PipeClient) (next : Next) (new : PipeClient) : Type 0 where
-  pub goes : next ≡ Payload size
-  pub awaiting : new ≡ record old { awaited = awaited }
+abbrev pub HasServed : Outcome → Spoken → PipeServer → PipeServer → Type 0
+HasServed (Answered (Ok done)) said old new = (said.closed ≡ false) × HasSaid said old new
+HasServed (Answered (Err why)) said old new = IsTold why (served old) said × (new ≡ old)
+HasServed Closed said old new = (said.closed ≡ true) × (new.output.items ≡ old.output.items ++ said.text)
 
--- what a command leads to
-abbrev pub DoesCommand : ClientLine → PipeClient → Next → PipeClient → Type 0
-DoesCommand (Pub head) old next new = Announces (awaits.Payload head) head.size old next new
-DoesCommand (PubBad size) old next new = Announces (awaits.LostPayload size) size old next new
-DoesCommand (Connect options) old next new = HasDone (asked (Connect options)) old next new
-DoesCommand (Sub pattern queue sid) old next new = HasDone (asked (Sub pattern queue sid)) old next new
-DoesCommand (Unsub sid max) old next new = HasDone (asked (Unsub sid max)) old next new
-DoesCommand Ping old next new = HasDone (asked Ping) old next new
-DoesCommand Pong old next new = HasDone (asked Pong) old next new
+-- how much an ask leads to, where of a refusal the client is told
+abbrev pub asks_of : Ask → ℕ
+asks_of (ask.Reply frame) = 1
+asks_of (ask.Shut text) = 1
+asks_of (ask.Subscribe key sid) = 2
+asks_of (ask.Unsubscribe sid max) = 1
+asks_of (ask.Publish p) = 2
 
--- what a line leads to
-abbrev pub DoesLine : Meaning → PipeClient → Next → PipeClient → Type 0
-DoesLine (Ok command) old next new = DoesCommand command old next new
-DoesLine (Err fault) old next new = HasDone (refused fault) old next new
-
--- what is said of an awaited payload
-abbrev pub payload_answer : Awaited → List ℕ → Served → Spoken
-payload_answer awaits.Line payload s = silent s
-payload_answer (awaits.Payload head) payload s = item_said (published head payload) s
-payload_answer (awaits.LostPayload size) payload s = item_said (refused BadSubject) s
-
-abbrev pub payload_said : PipeClient → List ℕ → Spoken
-payload_said client payload = payload_answer client.awaited payload (served client)
+-- a refusal is told of the asks that lead to more than one
+abbrev pub MayBeTold : Outcome → Ask → Type 0
+MayBeTold (Answered (Ok done)) a = Unit {0}
+MayBeTold (Answered (Err why)) a = asks_of a ≡ 2
+MayBeTold Closed a = Unit {0}

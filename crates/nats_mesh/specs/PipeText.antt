@@ -1,33 +1,32 @@
 -- The pipe's text: what one client is written, of what was read of it.
--- NATS documentation, "Client Protocol": INFO comes first, PONG answers PING, `+OK` each well-formed SUB and PUB, and
--- `-ERR` what is refused. The order of the answers, and when a connection closes, are this project's profile.
-use Rattle.std.specs.Prelude.{ℕ, Bool, true, false, not, List, [], ◌∷◌, ◌++◌, flat_map, codes, Option, Some, None, if◌then◌else◌}
-use Rattle.subj.specs.Numbers.{next_turn}
+-- NATS documentation, "Client Protocol", is what its asks rest on. The order of the answers, and when a connection closes,
+-- are this project's profile.
+use Rattle.std.specs.Prelude.{ℕ, zero, suc, ◌+◌, Bool, true, false, not, nat_le, nat_lt, List, [], ◌∷◌, ◌++◌, length, map, codes, Option, Some, None, if◌then◌else◌}
 use Rattle.subj.specs.declared.jobs.Job.{Job}
 use Rattle.subj.specs.declared.keys.Key.{Key}
-use Rattle.client_frames.specs.declared.client_line.ClientLine.{ClientLine}
-use Rattle.client_frames.specs.declared.client_line.ClientLine.TheVariants.{Connect, Pub, PubBad, Sub, Unsub, Ping, Pong}
-use Rattle.client_frames.specs.declared.client_line.PubHead.{PubHead}
+use Rattle.subj.specs.declared.limits.TheConstants.{MAX_COUNTER, MAX_QUEUE_NAMES}
+use Rattle.subj.specs.declared.messages.Pub.{Pub}
 use Rattle.client_frames.specs.declared.err_texts.ErrText.{ErrText}
-use Rattle.client_frames.specs.declared.err_texts.ErrText.TheVariants.{ParserError, TooManySubscriptions, NumbersSpent}
-use Rattle.client_frames.specs.declared.server_frames.ReplyFrame.{ReplyFrame}
+use Rattle.client_frames.specs.declared.err_texts.ErrText.TheVariants.{TooManySubscriptions, TooManyQueueGroups, NumbersSpent}
+use Rattle.client_frames.specs.declared.info.InfoData.{InfoData}
 use Rattle.client_frames.specs.declared.server_frames.ReplyFrame.TheVariants as reply
-use Rattle.client_frames.specs.ErrTexts.{text_closes, line_fault_text, cut_fault_text}
-use Rattle.client_frames.specs.Frames.{reply_line}
-use Rattle.client_frames.specs.Messages.{line_end}
-use Rattle.client_frames.specs.Streams.{StreamItem, asked, published, refused, unreadable, stream_commands}
+use Rattle.client_conn.specs.declared.ask.Ask.{Ask}
+use Rattle.client_conn.specs.declared.ask.Ask.TheVariants as ask
+use Rattle.client_conn.specs.Asks.{asking}
+use Rattle.outbox.specs.Views.{bytes_of_all}
 use Rattle.sub_table.specs.declared.Subscription.{Subscription}
+use Rattle.interest.specs.Matches.{names_in}
 use Rattle.shard_core.specs.declared.faults.ShardFault.{ShardFault}
 use Rattle.shard_core.specs.declared.faults.ShardFault.TheVariants.{TooManySubs, Spent}
-use Rattle.shard_core.specs.Events.{Subscribe, Begin, End}
-use Rattle.shard_core.specs.State.{State, client_at, is_open}
-use Rattle.shard_core.specs.Steps.{new_shard, attached, shard_refusal, shard_after, entries_of}
+use Rattle.shard_core.specs.ShardEvents.{Event, Subscribe, Unsubscribe, Reply, Shut, Begin, Claim, End}
+use Rattle.shard_core.specs.Shards.{State, new_shard, is_open, waits_for}
+use Rattle.shard_core.specs.ShardSteps.{attached, shard_refusal, shard_after}
 
 -- ---- the server of a pipe (profile)
 
 -- node `n1` in its first life takes one client, by no port
-unfoldable pub pipe_info : ReplyFrame
-pipe_info = reply.Info (record { name = codes "n1"; inc = 1; client_id = 1; port = 0 })
+unfoldable pub pipe_info : InfoData
+pipe_info = record { name = codes "n1"; inc = 1; client_id = 1; port = 0 }
 
 -- what an answer depends on: the open subscriptions in order of opening, how many were opened, and how many jobs were made
 pub record Served : Type 0 where
@@ -57,93 +56,88 @@ silent s = record { text = []; served = s; closed = false }
 abbrev pub behind : List ℕ → Spoken → Spoken
 behind text said = record said { text = text ++ said.text }
 
+-- nothing comes behind what closes
 abbrev pub and_then : Spoken → (Served → Spoken) → Spoken
 and_then first rest = if first.closed then first else behind first.text (rest first.served)
 
-abbrev pub answer_bytes : ReplyFrame → List ℕ
-answer_bytes frame = reply_line frame ++ line_end
+abbrev pub served_by : State → Served
+served_by t = record { subs = t.subs; opened = t.opened; jobs = t.finished }
 
-abbrev pub answered : ReplyFrame → Served → Spoken
-answered frame s = record { text = answer_bytes frame; served = s; closed = false }
-
-abbrev pub refusal : ErrText → Served → Spoken
-refusal text s = record { text = answer_bytes (reply.Err text); served = s; closed = text_closes text }
-
--- all that the shard has put for the connection
+-- all that the shard has put for the connection, and whether it was shut
 abbrev pub heard : State → Spoken
-heard s = record {
-  text = flat_map (λ entry. entry.bytes) (entries_of (client_at 1 s.clients));
-  served = record { subs = s.subs; opened = s.opened; jobs = s.finished };
-  closed = not (is_open 1 s.clients);
-}
+heard t = record { text = bytes_of_all (waits_for 1 t.clients); served = served_by t; closed = not (is_open 1 t.clients) }
 
--- ---- SUB: `+OK`, and then the subscription is opened or refused
+-- what one event leads to
+abbrev pub after_event : Event → Served → Spoken
+after_event event s = heard (shard_after (at_rest s) event)
+
+-- the client is told of a refusal
+abbrev pub told : ErrText → Served → Spoken
+told text s = after_event (Reply 1 (reply.Err text)) s
+
+-- ---- a subscription is opened, or the client is told why not
 
 -- the two causes for which the shard of one open connection refuses a subscription; the others have no text
 abbrev pub opening_refused : ShardFault → Served → Spoken
-opening_refused TooManySubs s = refusal TooManySubscriptions s
-opening_refused Spent s = refusal NumbersSpent s
+opening_refused TooManySubs s = told TooManySubscriptions s
+opening_refused Spent s = told NumbersSpent s
 opening_refused fault s = silent s
 
-abbrev pub opened_or_not : Served → Key → List ℕ → Option ShardFault → Spoken
-opened_or_not s key sid None = heard (shard_after (at_rest s) (Subscribe 1 key sid))
-opened_or_not s key sid (Some fault) = opening_refused fault s
+abbrev pub opened_or_not : Key → List ℕ → Served → Option ShardFault → Spoken
+opened_or_not key sid s None = after_event (Subscribe 1 key sid) s
+opened_or_not key sid s (Some fault) = opening_refused fault s
 
 abbrev pub opening : Key → List ℕ → Served → Spoken
-opening key sid s = opened_or_not s key sid (shard_refusal (at_rest s) (Subscribe 1 key sid))
+opening key sid s = opened_or_not key sid s (shard_refusal (at_rest s) (Subscribe 1 key sid))
 
--- ---- PUB: `+OK`, and then what the shard owes of a job of the next turn, as far as there is room for it
+-- ---- a publication makes a job of the next turn, which is worked off
 
-abbrev pub job_of : PubHead → List ℕ → ℕ → Job
-job_of head payload turn = record {
-  turn = turn;
-  id = record { origin = codes "n1"; inc = 1; number = turn };
-  message = record { subject = head.subject; reply = head.reply; payload = payload };
+-- NATS documentation, "Queue Groups": the queue names of open subscriptions that match, each once, in the order of bytes
+abbrev pub names_wanted : List ℕ → List Subscription → List (List ℕ)
+names_wanted subject subs = names_in subject (map (λ sub. (sub.key, 1)) subs) []
+
+abbrev pub job_of : Pub → Served → Job
+job_of p s = record {
+  turn = s.jobs + 1;
+  id = record { origin = codes "n1"; inc = 1; number = s.jobs + 1 };
+  message = p.message;
   publisher = Some 1;
-  echo = true;
-  queues = [];
+  echo = p.echo;
+  queues = names_wanted p.message.subject s.subs;
 }
 
-abbrev pub placed : Job → Served → Spoken
-placed job s = heard (shard_after (shard_after (at_rest s) (Begin job)) End)
+-- the first so many queue names of the job in hand are claimed, in order, and each claim with a candidate is won
+abbrev pub claimed_first : ℕ → State → State
+claimed_first zero t = t
+claimed_first (suc n) t = shard_after (claimed_first n t) (Claim n true)
 
-abbrev pub placed_or_not : PubHead → List ℕ → Served → Option ℕ → Spoken
-placed_or_not head payload s None = refusal NumbersSpent s
-placed_or_not head payload s (Some turn) = placed (job_of head payload turn) s
+abbrev pub worked_off : Job → State → State
+worked_off job t = shard_after (claimed_first (length job.queues) (shard_after t (Begin job))) End
 
-abbrev pub placing : PubHead → List ℕ → Served → Spoken
-placing head payload s = placed_or_not head payload s (next_turn s.jobs)
+-- numbers are asked for first, and then whether the job has places for all queue names (profile)
+abbrev pub placing : Pub → Served → Spoken
+placing p s =
+    if nat_le MAX_COUNTER s.jobs then told NumbersSpent s
+    else (if nat_lt MAX_QUEUE_NAMES (length (names_wanted p.message.subject s.subs)) then told TooManyQueueGroups s
+    else heard (worked_off (job_of p s) (at_rest s)))
 
--- ---- all that a stream tells
+-- ---- all that a client's connection asks
 
--- what is well-formed, and not served yet: options, queue groups, and ends of subscriptions
-abbrev pub not_served : Served → Spoken
-not_served s = refusal ParserError s
-
--- no PUB is told without its payload
-abbrev pub command_said : ClientLine → Served → Spoken
-command_said Ping s = answered reply.Pong s
-command_said Pong s = silent s
-command_said (Sub pattern None sid) s = and_then (answered reply.Ok s) (opening (record { pattern = pattern; queue = None }) sid)
-command_said (Sub pattern (Some queue) sid) s = not_served s
-command_said (Connect options) s = not_served s
-command_said (Unsub sid max) s = not_served s
-command_said (Pub head) s = silent s
-command_said (PubBad size) s = silent s
-
-abbrev pub item_said : StreamItem → Served → Spoken
-item_said (asked command) s = command_said command s
-item_said (published head payload) s = and_then (answered reply.Ok s) (placing head payload)
-item_said (refused fault) s = refusal (line_fault_text fault) s
-item_said (unreadable fault) s = refusal (cut_fault_text fault) s
+abbrev pub ask_said : Ask → Served → Spoken
+ask_said (ask.Reply frame) s = after_event (Reply 1 frame) s
+ask_said (ask.Shut text) s = after_event (Shut 1 text) s
+ask_said (ask.Subscribe key sid) s = opening key sid s
+ask_said (ask.Unsubscribe sid max) s = after_event (Unsubscribe 1 sid max) s
+ask_said (ask.Publish p) s = placing p s
 
 -- one after the other, up to the first that closes
-unfoldable pub items_said : List StreamItem → Served → Spoken
-items_said [] s = silent s
-items_said (item ∷ items) s = and_then (item_said item s) (items_said items)
+unfoldable pub asks_said : List Ask → Served → Spoken
+asks_said [] s = silent s
+asks_said (a ∷ asks) s = and_then (ask_said a s) (asks_said asks)
 
+-- what a connection asks of these bytes where each ask is done: a refused one is told in its place
 abbrev pub pipe_said : List ℕ → Spoken
-pipe_said bytes = and_then (answered pipe_info at_first) (items_said (stream_commands bytes))
+pipe_said bytes = asks_said (asking pipe_info bytes []).asks at_first
 
 -- what is written of a stream
 abbrev pub pipe_text : List ℕ → List ℕ

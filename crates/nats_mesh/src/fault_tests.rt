@@ -79,7 +79,7 @@ fn each_cut_in_two_is_read_alike(rt: HostRuntime) -> Result<(), Fail> {
 }
 
 /// Puts a line of a number between two texts.
-fn put_line(
+pub fn put_line(
     out: &mut Vec<u8>,
     before: &[u8],
     number: usize,

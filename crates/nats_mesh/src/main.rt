@@ -5,7 +5,10 @@ mod command;
 #[cfg(test)]
 mod fault_tests;
 mod pipe;
-mod pipe_client;
+mod pipe_server;
+#[cfg(test)]
+mod served_tests;
+mod serving;
 #[cfg(test)]
 mod tests;
 

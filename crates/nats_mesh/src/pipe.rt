@@ -1,20 +1,31 @@
 //! One client on a reader and a writer.
 
-ghost use Rattle.std.specs.Prelude.{◌≡◌, ◌≤◌, ◌+◌, IsTrue, IfOk, OnOk, OnErr};
+ghost use Rattle.std.specs.Prelude.{◌≡◌, ◌≤◌, ◌+◌, [], IfOk, OnOk, OnErr};
 ghost use Rattle.wire_cut.specs.Flow.{AppendsFront};
-ghost use Rattle.wire_cut.specs.Cut.{expect_fault, after_expect};
 ghost use Rattle.nats_mesh.specs.PipeTheorem.{Pipes, CountsReads, CountsFailedWrites, all_reads};
-ghost use Rattle.nats_mesh.specs.PipeStates.{IsReady};
-ghost use Rattle.nats_mesh.specs.PipeRuns.{IsInStep, IsFlushed, CountsWrites, Announced, HasLooked, Works};
+ghost use Rattle.client_conn.specs.Asks.{begun};
+ghost use Rattle.nats_mesh.specs.PipeText.{pipe_info};
+ghost use Rattle.nats_mesh.specs.PipeStates.{IsNew};
+ghost use Rattle.nats_mesh.specs.PipeRuns.{IsInStep, IsFlushed, CountsWrites, HasLooked, Works, AnswersAll};
 
-use crate::pipe_client::{Flow, Next, PipeClient};
-use client_frames::ErrText;
+use crate::pipe_server::{Outcome, PipeServer};
+use crate::serving::info;
+use client_conn::{Conn, ReadFault};
 use std::alloc::{AllocError, AllocFailed, Global};
 use std::error::Error;
 use std::fmt;
 use std::fmt::{Display, Formatter, Write};
-use subj::{CLIENT_LINE, MAX_PAYLOAD, READ_BYTES};
-use wire_cut::{Cutter, FillFault, Piece, Sink, Source, WriteFailed};
+use subj::READ_BYTES;
+use wire_cut::{Sink, Source, WriteFailed};
+
+/// Whether the connection goes on.
+#[derive(Clone, Copy, Debug, PartialEq, Eq)]
+pub enum Flow {
+    /// More bytes are needed.
+    Open,
+    /// A closing text was put.
+    Closed,
+}
 
 /// How a pipe ended.
 #[derive(Clone, Copy, Debug, PartialEq, Eq)]
@@ -89,22 +100,40 @@ pub fn pipe_run<S: Source, W: Sink>(
     ensures reads { CountsReads result (S.reads source.old) (S.reads source.new) (S.failures source.old) (S.failures source.new) }
     ensures writes { CountsFailedWrites result (W.failures sink.old) (W.failures sink.new) }
 {
-    let mut client = PipeClient::new(alloc)?;
-    let mut cutter = Cutter::new(alloc, CLIENT_LINE, MAX_PAYLOAD as u64);
-    flush(&mut client, sink)?;
+    let mut conn = Conn::new(alloc, info());
+    let mut server = PipeServer::new(alloc)?;
+    serve(&mut conn, &mut server, source, sink)
+}
+
+/// Serves a client of whom nothing was read yet.
+fn serve<S: Source, W: Sink>(
+    conn: &mut Conn,
+    server: &mut PipeServer,
+    source: &mut S,
+    sink: &mut W,
+) -> Result<PipeEnd, PipeFault>
+    requires asks { conn.old.asking ≡ begun pipe_info }
+    requires new { IsNew server.old }
+    ensures text { Pipes result (S.remaining source.old) (S.remaining source.new) (W.written sink.old) (W.written sink.new) }
+    ensures most_reads { S.reads source.new ≤ S.reads source.old + all_reads }
+    ensures reads { CountsReads result (S.reads source.old) (S.reads source.new) (S.failures source.old) (S.failures source.new) }
+    ensures writes { CountsFailedWrites result (W.failures sink.old) (W.failures sink.new) }
+{
+    match answer_all(conn, server, sink)? {
+        Flow::Open => {}
+        Flow::Closed => return Ok(PipeEnd::Closed),
+    }
     for _ in 0..u64::MAX {
-        let count = match cutter.read_from(source, READ_BYTES) {
+        let count = match conn.read_from(source, READ_BYTES) {
             Ok(count) => count,
-            Err(FillFault::OutOfMemory) => return Err(PipeFault::OutOfMemory),
-            Err(FillFault::Read) => return Err(PipeFault::Read),
-            Err(FillFault::Cut(_)) => unreachable!(),
+            Err(ReadFault::OutOfMemory) => return Err(PipeFault::OutOfMemory),
+            Err(ReadFault::Failed) => return Err(PipeFault::Read),
+            Err(ReadFault::Closed) => unreachable!(),
         };
         if count == 0 {
             return Ok(PipeEnd::Ended);
         }
-        let flow = work(&mut cutter, &mut client, sink)?;
-        flush(&mut client, sink)?;
-        match flow {
+        match answer_all(conn, server, sink)? {
             Flow::Open => {}
             Flow::Closed => return Ok(PipeEnd::Closed),
         }
@@ -112,65 +141,66 @@ pub fn pipe_run<S: Source, W: Sink>(
     Err(PipeFault::Read)
 }
 
-/// Writes what was put.
-fn flush<W: Sink>(client: &mut PipeClient, sink: &mut W) -> Result<(), PipeFault>
-    ensures ok { OnOk result (IsFlushed client.old (W.written sink.old) client.new (W.written sink.new)) }
-    ensures err { OnErr result (AppendsFront (W.written sink.old) (W.written sink.new) client.old.output.items) }
+/// Does all that is asked, and writes what was put.
+fn answer_all<W: Sink>(
+    conn: &mut Conn,
+    server: &mut PipeServer,
+    sink: &mut W,
+) -> Result<Flow, PipeFault>
+    requires step { IsInStep conn.old server.old }
+    requires empty { server.old.output.items ≡ [] }
+    ensures answers { AnswersAll result conn.old server.old (W.written sink.old) conn.new server.new (W.written sink.new) }
     ensures failures { CountsWrites result (W.failures sink.old) (W.failures sink.new) }
 {
-    sink.write_all(client.output())?;
-    client.clear_output();
+    let flow = work(conn, server, sink)?;
+    flush(server, sink)?;
+    Ok(flow)
+}
+
+/// Writes what was put.
+fn flush<W: Sink>(server: &mut PipeServer, sink: &mut W) -> Result<(), PipeFault>
+    ensures ok { OnOk result (IsFlushed server.old (W.written sink.old) server.new (W.written sink.new)) }
+    ensures err { OnErr result (AppendsFront (W.written sink.old) (W.written sink.new) server.old.output.items) }
+    ensures failures { CountsWrites result (W.failures sink.old) (W.failures sink.new) }
+{
+    sink.write_all(server.output())?;
+    server.clear_output();
     Ok(())
 }
 
-/// Works off the pieces that are there. What was put is written as soon as it is [`READ_BYTES`] long.
-fn work<W: Sink>(
-    cutter: &mut Cutter,
-    client: &mut PipeClient,
-    sink: &mut W,
-) -> Result<Flow, PipeFault>
-    requires { IsInStep client.old cutter.old }
-    ensures works { Works result client.old cutter.old (W.written sink.old) client.new cutter.new (W.written sink.new) }
+/// Does all that is asked. What was put is written as soon as it is [`READ_BYTES`] long.
+fn work<W: Sink>(conn: &mut Conn, server: &mut PipeServer, sink: &mut W) -> Result<Flow, PipeFault>
+    requires { IsInStep conn.old server.old }
+    ensures works { Works result conn.old server.old (W.written sink.old) conn.new server.new (W.written sink.new) }
     ensures failures { CountsWrites result (W.failures sink.old) (W.failures sink.new) }
 {
     loop {
-        match look(cutter, client)? {
+        match look(conn, server)? {
             None => return Ok(Flow::Open),
             Some(Flow::Closed) => return Ok(Flow::Closed),
             Some(Flow::Open) => {}
         }
-        if client.output().len() < READ_BYTES {
+        if server.output().len() < READ_BYTES {
             continue;
         }
-        flush(client, sink)?;
+        flush(server, sink)?;
     }
 }
 
-/// Works off the next piece. None where more bytes are needed for one.
-fn look(cutter: &mut Cutter, client: &mut PipeClient) -> Result<Option<Flow>, AllocError>
-    requires { IsInStep client.old cutter.old }
-    ensures { IfOk result (λ looked. HasLooked looked client.old cutter.old client.new cutter.new) }
+/// Does what is asked next. None where more bytes are needed.
+fn look(conn: &mut Conn, server: &mut PipeServer) -> Result<Option<Flow>, AllocError>
+    requires { IsInStep conn.old server.old }
+    ensures { IfOk result (λ looked. HasLooked looked conn.old server.old conn.new server.new) }
 {
-    match cutter.next() {
-        Ok(None) => Ok(None),
-        Ok(Some(Piece::Line(line))) => match client.line(line)? {
-            Next::Answered(flow) => Ok(Some(flow)),
-            Next::Payload(size) => Ok(Some(announce(cutter, client, size)?)),
-        },
-        Ok(Some(Piece::Payload(payload))) => Ok(Some(client.payload(payload)?)),
-        Err(fault) => Ok(Some(client.refuse(ErrText::of_cut(fault))?)),
-    }
-}
-
-/// Announces a payload to the cutter; one that is too large is refused at once.
-fn announce(cutter: &mut Cutter, client: &mut PipeClient, size: u64) -> Result<Flow, AllocError>
-    requires ready { IsReady client.old }
-    requires behind_line { IsTrue cutter.old.after_line }
-    ensures announced { IfOk result (λ flow. Announced (expect_fault cutter.old.fault cutter.old.payload_max size) client.old flow client.new) }
-    ensures expects { cutter.new ≡ after_expect cutter.old size }
-{
-    match cutter.expect(size) {
-        Ok(()) => Ok(Flow::Open),
-        Err(fault) => client.refuse(ErrText::of_cut(fault)),
+    let outcome = match conn.next()? {
+        None => return Ok(None),
+        Some(ask) => server.serve(ask)?,
+    };
+    match outcome {
+        Outcome::Closed => Ok(Some(Flow::Closed)),
+        Outcome::Answered(answer) => {
+            conn.answer(answer);
+            Ok(Some(Flow::Open))
+        }
     }
 }

@@ -49,7 +49,7 @@ pub fn check<R: Abort + Alloc<A = Global>>(
 #[test]
 fn worked_examples(rt: HostRuntime) -> Result<(), Fail> {
     let long_line = vec![in rt.alloc(); b'a'; 4_097]?;
-    let table: [(&[u8], &[u8], PipeEnd); 27] = [
+    let table: [(&[u8], &[u8], PipeEnd); 24] = [
         // First message, empty payload, tab and blanks.
         (FIRST_MESSAGE, FIRST_ANSWER, PipeEnd::Ended),
         (
@@ -119,18 +119,6 @@ fn worked_examples(rt: HostRuntime) -> Result<(), Fail> {
             b"PUB foo 0000000005\r\nhello\r\n",
             b"+OK\r\n",
             PipeEnd::Ended,
-        ),
-        // Until the node stands.
-        (
-            b"CONNECT {}\r\n",
-            b"-ERR 'Parser Error'\r\n",
-            PipeEnd::Closed,
-        ),
-        (b"UNSUB 1\r\n", b"-ERR 'Parser Error'\r\n", PipeEnd::Closed),
-        (
-            b"SUB foo q 1\r\n",
-            b"-ERR 'Parser Error'\r\n",
-            PipeEnd::Closed,
         ),
         // A bad pattern is told, and the connection stays; bad arguments and bad JSON close it.
         (
