@@ -13,3 +13,4 @@ pub mod Hubs
 pub mod AsLaw
 pub mod Examples
 pub mod Chosen
+pub mod Serving

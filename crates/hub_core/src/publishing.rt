@@ -9,6 +9,7 @@ ghost use Rattle.hub_core.specs.Publishing.{is_owed as owed, publish_refusal, fr
 ghost use Rattle.hub_core.specs.Events.{Publish, Issued};
 ghost use Rattle.hub_core.specs.Hubs.{IsStep};
 ghost use Rattle.hub_core.specs.Chosen.{IsSplit, chosen_for, frame_at, sent_from, IsPlanOf, publication, turn_refusal};
+ghost use Rattle.hub_core.specs.Serving.{IsServed};
 
 use crate::choice::{is_eligible, names_for, queue_names, servers_for};
 use crate::faults::HubFault;
@@ -143,8 +144,65 @@ impl Hub {
         }
     }
 
-    /// What a publication owes that has this turn and these queue names.
+    /// What a publication owes that has this turn and these queue names, each of which the server at its place serves.
+    fn plan_by(
+        &self,
+        turn: Turn,
+        conn: ConnId,
+        said: &Pub,
+        word: u64,
+        names: &FoundNames<'_>,
+        servers: &[Option<NodeId>],
+    ) -> Result<PublishPlan, AllocError>
+        requires turn { turn ≡ self.now.state.issued + 1 }
+        requires number { self.now.state.published < MAX_COUNTER }
+        requires names { names.now ≡ wanted_names self.now.server self.now.state said.now.message.subject }
+        requires servers { IsServed self.now.server self.now.state (publication conn said.now word) names.now servers.now }
+        ensures { IfOk result (λ plan. IsPlanOf self.now.server self.now.state (publication conn said.now word) plan.job plan.frames.items) }
+    {
+        let _word = word;
+        let queues = names_for(self.alloc, names, servers, self.server.name())?;
+        let id = PubId {
+            origin: self.server.name(),
+            inc: self.server.inc(),
+            number: self.published + 1,
+        };
+        let job = own_job(turn, id, conn, said, queues)?;
+        let out = Outgoing {
+            alloc: self.alloc,
+            server: &self.server,
+            number: self.published + 1,
+            message: &said.message,
+            names,
+            servers,
+        };
+        let frames = frames_for(&out, &self.peers)?;
+        Ok(PublishPlan { job, frames })
+    }
+
+    /// What a publication owes that has this turn and these queue names. Where there are none, no room is made for their
+    /// servers.
     fn plan_of(
+        &self,
+        turn: Turn,
+        conn: ConnId,
+        said: &Pub,
+        word: u64,
+        names: &FoundNames<'_>,
+    ) -> Result<PublishPlan, AllocError>
+        requires turn { turn ≡ self.now.state.issued + 1 }
+        requires number { self.now.state.published < MAX_COUNTER }
+        requires names { names.now ≡ wanted_names self.now.server self.now.state said.now.message.subject }
+        ensures { IfOk result (λ plan. IsPlanOf self.now.server self.now.state (publication conn said.now word) plan.job plan.frames.items) }
+    {
+        if names.len() == 0 {
+            return self.plan_by(turn, conn, said, word, names, &[]);
+        }
+        self.plan_split(turn, conn, said, word, names)
+    }
+
+    /// The same, with a look at who serves each of the names.
+    fn plan_split(
         &self,
         turn: Turn,
         conn: ConnId,
@@ -166,23 +224,7 @@ impl Hub {
             word,
             names,
         );
-        let queues = names_for(self.alloc, names, &servers, self.server.name())?;
-        let id = PubId {
-            origin: self.server.name(),
-            inc: self.server.inc(),
-            number: self.published + 1,
-        };
-        let job = own_job(turn, id, conn, said, queues)?;
-        let out = Outgoing {
-            alloc: self.alloc,
-            server: &self.server,
-            number: self.published + 1,
-            message: &said.message,
-            names,
-            servers: &servers,
-        };
-        let frames = frames_for(&out, &self.peers)?;
-        Ok(PublishPlan { job, frames })
+        self.plan_by(turn, conn, said, word, names, &servers)
     }
 
     /// What a publish of the connection owes, where the word decides who serves each queue name. It changes

@@ -1,58 +1,15 @@
-use Rattle.std.proofs.Common.{◌≡◌, ℕ, ◌+◌, List, length, take, Some, sym, ap, ◌∙◌, subst, arith}
-use Rattle.std.specs.Prelude.{map, slice_get}
-use Rattle.subj.specs.QueueNames.{are_rising}
-use Rattle.subj.specs.Servers.{own_name}
-use Rattle.pick.specs.Pick.{picked}
-use Rattle.hub_core.specs.State.{State, Peer}
-use Rattle.hub_core.specs.Hubs.{Hub}
-use Rattle.hub_core.specs.Choice.{weights_from, names_for, queue_names}
-use Rattle.hub_core.specs.Publishing.{choice_of, names_of}
-use Rattle.hub_core.specs.Chosen.{chosen_for, IsPlanOf, publication, sent_from}
-use Rattle.hub_core.proofs.Sending.{chosen_is, split_is, sent_is}
-use Rattle.hub_core.proofs.Wanted.{names_are_wanted}
+use Rattle.std.proofs.Common.{◌≡◌, ℕ, List, [], ◌∷◌, length, sym, ◌∙◌, refl, arith}
+use Rattle.subj.specs.Servers.{Server}
+use Rattle.hub_core.specs.State.{State}
+use Rattle.hub_core.specs.Publishing.{Publication}
+use Rattle.hub_core.specs.Chosen.{publication}
+use Rattle.hub_core.specs.Serving.{IsServed}
 use Rattle.hub_core.proofs.hub.Hub.plan_of.Goals as goal
 
-pub names_for-requires-clause-ordered : goal.names_for-requires-clause-ordered
-names_for-requires-clause-ordered c =
-    let server = c.self.inside.server in
-    let state : State = record { issued = c.self.inside.issued; published = c.self.inside.published; changed = c.self.inside.changed; counts = c.self.inside.counts; peers = c.self.inside.peers.items } in
-    let names = c.args.names.now in let servers = c.servers_for-servers.result in let subject = c.args.said.now.message.subject in
-    let p = publication c.args.conn c.args.said.now c.args.word in
-    let picks : take (length names) servers ≡ map (choice_of server state p) names = c.servers_for-servers.ensures.same
-    ∙ (λ k. map (λ name. picked (weights_from server c.self.inside.counts (c.subject-subject.ensures k) name 0 (c.deref.ensures.value k)) c.args.word) names) in
-    let names_is : names ≡ queue_names server state subject = c.requires.names ∙ ap (λ (hub : Hub). queue_names hub.server hub.state subject) (sym c.self.view_is) in
-    let split = split_is (choice_of server state p) names servers (omega arith) picks (ap are_rising names_is ∙ names_are_wanted.rising server state subject) c.servers_for-servers.ensures.few in
-    split.ordered c.name.result
+none_are_served : (server : Server) (hub : State) (p : Publication) (names : List (List ℕ)) → length names ≡ 0 → IsServed server hub p names []
+none_are_served server hub p [] none = record { few = omega arith; room = omega arith; picks = refl }
+none_are_served server hub p (name ∷ names) none = absurd (omega arith)
 
-pub frames_for-requires-clause-split : goal.frames_for-requires-clause-split
-frames_for-requires-clause-split c =
-    let server = c.self.inside.server in
-    let state : State = record { issued = c.self.inside.issued; published = c.self.inside.published; changed = c.self.inside.changed; counts = c.self.inside.counts; peers = c.self.inside.peers.items } in
-    let names = c.args.names.now in let servers = c.servers_for-servers.result in let subject = c.args.said.now.message.subject in
-    let p = publication c.args.conn c.args.said.now c.args.word in
-    let picks : take (length names) servers ≡ map (choice_of server state p) names = c.servers_for-servers.ensures.same
-    ∙ (λ k. map (λ name. picked (weights_from server c.self.inside.counts (c.subject-subject.ensures k) name 0 (c.deref.ensures.value k)) c.args.word) names) in
-    let names_is : names ≡ queue_names server state subject = c.requires.names ∙ ap (λ (hub : Hub). queue_names hub.server hub.state subject) (sym c.self.view_is) in
-    split_is (choice_of server state p) names servers (omega arith) picks (ap are_rising names_is ∙ names_are_wanted.rising server state subject) c.servers_for-servers.ensures.few
-
-pub frames_for-requires-clause-seen : goal.frames_for-requires-clause-seen
-frames_for-requires-clause-seen c = λ q peer at up. (c.self.invariant.sound.peers q peer (ap (λ (peers : List Peer). slice_get peers q) (sym c.deref-2.ensures.value) ∙ at)).seen up
-
-pub returns : goal.returns
-returns c =
-    let server = c.self.inside.server in
-    let state : State = record { issued = c.self.inside.issued; published = c.self.inside.published; changed = c.self.inside.changed; counts = c.self.inside.counts; peers = c.self.inside.peers.items } in
-    let names = c.args.names.now in let servers = c.servers_for-servers.result in let subject = c.args.said.now.message.subject in
-    let p = publication c.args.conn c.args.said.now c.args.word in
-    let picks : take (length names) servers ≡ map (choice_of server state p) names = c.servers_for-servers.ensures.same
-    ∙ (λ k. map (λ name. picked (weights_from server c.self.inside.counts (c.subject-subject.ensures k) name 0 (c.deref.ensures.value k)) c.args.word) names) in
-    let names_is : names ≡ queue_names server state subject = c.requires.names ∙ ap (λ (hub : Hub). queue_names hub.server hub.state subject) (sym c.self.view_is) in
-    let turn_is : c.args.turn ≡ c.self.inside.issued + 1 = c.requires.turn ∙ ap (λ (hub : Hub). hub.state.issued + 1) (sym c.self.view_is) in
-    let queues_is : c.in_ok-queues.queues ≡ names_for (choice_of server state p) (own_name server) (names_of server state p) = c.in_ok-queues.ensures
-    ∙ ap (λ (name : List ℕ). chosen_for name names servers) c.name.ensures ∙ chosen_is (choice_of server state p) (own_name server) names servers picks
-    ∙ ap (names_for (choice_of server state p) (own_name server)) names_is in
-    subst (λ (hub : Hub). IsPlanOf hub.server hub.state p c.in_ok-job.job c.in_ok-frames.frames.items) c.self.view_is (record {
-      job = c.in_ok-job.ensures ∙ (λ k. record { turn = turn_is k; id = record { origin = c.name-2.ensures k; inc = c.inc.ensures k; number = c.self.inside.published + 1 }; message = c.args.said.now.message; publisher = Some c.args.conn; echo = c.args.said.now.echo; queues = queues_is k });
-      frames = c.in_ok-frames.ensures ∙ (λ k. sent_from server (c.self.inside.published + 1) c.args.said.now.message (λ name. (chosen_is (choice_of server state p) name names servers picks ∙ ap (names_for (choice_of server state p) name) names_is) k) 0 (c.deref-2.ensures.value k))
-          ∙ sent_is server (c.self.inside.published + 1) c.args.said.now.message (choice_of server state p) (names_of server state p) 0 c.self.inside.peers.items;
-    })
+pub plan_by-requires-clause-servers : goal.plan_by-requires-clause-servers
+plan_by-requires-clause-servers c =
+    none_are_served c.args.self.now.server c.args.self.now.state (publication c.args.conn c.args.said.now c.args.word) c.args.names.now (sym c.len.ensures.same ∙ c.if-len-eq0.true)
