@@ -35,6 +35,20 @@ fn tell<R: Alloc<A = Global> + Print>(
     )
 }
 
+/// The line ends that a search finds, and how many nanoseconds it took.
+fn searched<R: Clock>(rt: &R, bytes: &[u8]) -> io::Result<(usize, u128)> {
+    let start = Instant::now(rt)?;
+    let ends = count_line_ends(bytes);
+    Ok((ends, start.elapsed(rt)?.as_nanos()))
+}
+
+/// What the cutter and the decoder find, and how many nanoseconds they took.
+fn cut<R: Alloc<A = Global> + Clock>(rt: &R, bytes: Vec<u8>) -> io::Result<(Read, u128)> {
+    let start = Instant::now(rt)?;
+    let read = read_all(rt.alloc(), bytes)?;
+    Ok((read, start.elapsed(rt)?.as_nanos()))
+}
+
 /// Reads a stream with payloads of this size in both ways.
 fn measure_size<R>(rt: &R, size: usize, given: Option<u64>) -> io::Result<()>
 where
@@ -42,23 +56,14 @@ where
 {
     let rounds = given.map_or(FEW, |megabytes| rounds_in(megabytes, size));
     let bytes = stream(rt.alloc(), rounds, size)?;
-    let start = Instant::now(rt)?;
-    let ends = count_line_ends(&bytes);
-    let searched = start.elapsed(rt)?;
     let len = bytes.len();
-    let start = Instant::now(rt)?;
-    let read = read_all(rt.alloc(), bytes)?;
-    let cut = start.elapsed(rt)?;
-    let Read { lines, payloads } = read;
-    match given {
-        None => println!(rt;
-            "payloads of {size} bytes: {lines} lines, {payloads} payloads, {ends} line ends"
-        ),
-        Some(_) => {
-            tell(rt, "cutter and decoder", size, len, cut.as_nanos())?;
-            tell(rt, "memchr", size, len, searched.as_nanos())
-        }
+    let (ends, search_time) = searched(rt, &bytes)?;
+    let (Read { lines, payloads }, cut_time) = cut(rt, bytes)?;
+    if given.is_some() {
+        tell(rt, "cutter and decoder", size, len, cut_time)?;
+        return tell(rt, "memchr", size, len, search_time);
     }
+    println!(rt; "payloads of {size} bytes: {lines} lines, {payloads} payloads, {ends} line ends")
 }
 
 /// Reads a stream for each size of payload.

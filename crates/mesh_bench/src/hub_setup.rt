@@ -97,17 +97,36 @@ fn meet(hub: &mut Hub, place: usize, inc: Incarnation) -> io::Result<()> {
     Ok(())
 }
 
+/// The peer of this number comes up, and tells of its keys.
+fn bring_up(alloc: Global, hub: &mut Hub, wanting: Wanting, number: u64) -> io::Result<()> {
+    meet(hub, number as usize, life()?)?;
+    let told = snapshot(alloc, wanting, number)?;
+    match hub.receive(&told, &Finished::new()) {
+        Ok(_) => Ok(()),
+        Err(_) => Err(invalid()),
+    }
+}
+
+/// What is published.
+fn publication(alloc: Global) -> io::Result<Pub> {
+    let subject = Subject::read(alloc, b"orders.eu.new").map_err(|_| invalid())?;
+    let payload = Bytes::copy_from_slice(alloc, b"sixteen bytes ..")?;
+    Pub::new(subject, None, payload, true).ok_or_else(invalid)
+}
+
 /// The hub with what it counts and what it was told.
-pub fn set_up_hub(alloc: Global, wanting: Wanting) -> io::Result<Publishing> {
+fn told_hub(alloc: Global, wanting: Wanting) -> io::Result<Hub> {
     let mut hub = new_hub(alloc, wanting.peers)?;
     count_own(alloc, &mut hub, wanting)?;
     for number in 1..=wanting.peers {
-        meet(&mut hub, number as usize, life()?)?;
-        let told = snapshot(alloc, wanting, number)?;
-        let _heard = hub.receive(&told, &Finished::new()).map_err(|_| invalid())?;
+        bring_up(alloc, &mut hub, wanting, number)?;
     }
-    let subject = Subject::read(alloc, b"orders.eu.new").map_err(|_| invalid())?;
-    let payload = Bytes::copy_from_slice(alloc, b"sixteen bytes ..")?;
-    let said = Pub::new(subject, None, payload, true).ok_or_else(invalid)?;
+    Ok(hub)
+}
+
+/// The hub with what it counts and what it was told, and what is published.
+pub fn set_up_hub(alloc: Global, wanting: Wanting) -> io::Result<Publishing> {
+    let said = publication(alloc)?;
+    let hub = told_hub(alloc, wanting)?;
     Ok(Publishing { hub, said })
 }

@@ -4,34 +4,34 @@ use crate::player::{NODES, SHARDS, new_world};
 use claim_race::Race;
 use cluster_world::{Event, Outcome, World};
 use std::alloc::Global;
-use std::fmt::Debug;
 use sub_table::SubTable;
 
-/// A list in full.
-fn text_of<V: Debug>(alloc: Global, values: &[V]) -> anyhow::Result<String> {
-    Ok(format!(in alloc; "{values:?}")?)
-}
-
-fn is_same<V: Debug>(alloc: Global, values: &[V], others: &[V]) -> anyhow::Result<bool> {
-    let text = text_of(alloc, values)?;
-    let other = text_of(alloc, others)?;
-    Ok(text.as_str() == other.as_str())
-}
-
-/// Whether these events come to the same outcomes and lists, on a cluster of this table and this race.
-pub fn is_alike<T: SubTable, R: Race, U: SubTable, S: Race>(
+/// What a cluster has answered, and its lists, in full.
+pub fn text_of<T: SubTable, R: Race>(
     alloc: Global,
-    events: &[Event],
     outcomes: &[Outcome],
     world: &World<T, R>,
+) -> anyhow::Result<String> {
+    let publications = world.publications();
+    let lives = world.lives();
+    let placements = world.placements();
+    let sent = world.sent();
+    Ok(format!(in alloc; "{outcomes:?} {publications:?} {lives:?} {placements:?} {sent:?}")?)
+}
+
+/// What these events come to on a cluster of this table and this race.
+fn text_on<T: SubTable, R: Race>(alloc: Global, events: &[Event]) -> anyhow::Result<String> {
+    let mut world: World<T, R> = new_world(alloc, NODES, SHARDS)?;
+    let outcomes = world.run(events)?;
+    text_of(alloc, &outcomes, &world)
+}
+
+/// Whether these events come to the outcomes and lists of this text, on a cluster of this table and this race.
+pub fn is_alike<T: SubTable, R: Race>(
+    alloc: Global,
+    events: &[Event],
+    wanted: &str,
 ) -> anyhow::Result<bool> {
-    let mut other: World<U, S> = new_world(alloc, NODES, SHARDS)?;
-    let others = other.run(events)?;
-    Ok(
-        is_same(alloc, outcomes, &others)?
-            && is_same(alloc, world.publications(), other.publications())?
-            && is_same(alloc, world.lives(), other.lives())?
-            && is_same(alloc, world.placements(), other.placements())?
-            && is_same(alloc, world.sent(), other.sent())?,
-    )
+    let text = text_on::<T, R>(alloc, events)?;
+    Ok(text.as_str() == wanted)
 }

@@ -1,6 +1,6 @@
 //! The drill: lists of events are drawn and played, looked at by the checker, and played again.
 
-use crate::alike::is_alike;
+use crate::alike::{is_alike, text_of};
 use crate::lists::{Lists, faults_in};
 use crate::plants::{PLANTS, is_found};
 use crate::player::Player;
@@ -83,13 +83,11 @@ fn is_alike_everywhere(
     alloc: Global,
     player: &Player<ListTable, PlainRace>,
 ) -> anyhow::Result<bool> {
-    let (events, outcomes) = (&player.events, &player.outcomes);
-    let world = &player.world;
-    Ok(
-        is_alike::<_, _, TrieTable, PlainRace>(alloc, events, outcomes, world)?
-            && is_alike::<_, _, ListTable, CellsRace>(alloc, events, outcomes, world)?
-            && is_alike::<_, _, TrieTable, CellsRace>(alloc, events, outcomes, world)?,
-    )
+    let wanted = text_of(alloc, &player.outcomes, &player.world)?;
+    let on_trie = is_alike::<TrieTable, PlainRace>(alloc, &player.events, &wanted)?;
+    let on_cells = is_alike::<ListTable, CellsRace>(alloc, &player.events, &wanted)?;
+    let on_both = is_alike::<TrieTable, CellsRace>(alloc, &player.events, &wanted)?;
+    Ok(on_trie && on_cells && on_both)
 }
 
 /// Plants each fault.
