@@ -11,5 +11,4 @@ mod Rounds
 mod Issuing
 mod Wins
 mod OneSeats
-mod Examples
 mod Gathering

@@ -3,4 +3,3 @@ pub mod Steps
 pub mod Seats
 pub mod Calls
 pub mod OneSeat
-pub mod Examples

@@ -19,6 +19,3 @@ pub use one_seat::CellsRace;
 pub use parts::{HubPart, ShardPart};
 pub use seats::{HubSeat, ShardSeat};
 pub use subj::{Busy, Finished, Turn};
-
-#[cfg(test)]
-mod tests;

@@ -10,8 +10,6 @@ mod item;
 mod laws;
 mod reader;
 mod standing;
-#[cfg(test)]
-mod tests;
 
 pub use ask::{Ask, Refusal};
 pub use conn::Conn;

@@ -33,14 +33,3 @@ pub use laws::{
     receives_follow_the_law, sessions_follow_the_law, sound_hubs_stay_sound, the_rest_is_unseen,
 };
 pub use publishing::PublishPlan;
-
-#[cfg(test)]
-mod choice_tests;
-#[cfg(test)]
-mod hub_tests;
-#[cfg(test)]
-mod limit_tests;
-#[cfg(test)]
-mod publish_tests;
-#[cfg(test)]
-mod tests;

@@ -28,8 +28,3 @@ pub use names::{FoundNames, TooManyNames};
 pub use recounts::{Numbers, Recount};
 pub use tally::DeltaPlan;
 pub use views::View;
-
-#[cfg(test)]
-mod tests;
-#[cfg(test)]
-mod view_tests;

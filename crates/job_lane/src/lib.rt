@@ -9,6 +9,3 @@ mod steps;
 
 pub use ends::{LANE_CAPACITY, LaneIn, LaneOut, lane, meet};
 pub use runs::Run;
-
-#[cfg(test)]
-mod tests;

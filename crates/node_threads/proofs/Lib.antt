@@ -3,7 +3,6 @@ pub mod Clients
 pub mod Working
 pub mod Claims
 pub mod Drops
-pub mod Examples
 pub mod Lines
 pub mod Outlets
 pub mod HubCalls

@@ -5,4 +5,3 @@ pub mod Turns
 pub mod Outlets
 pub mod AtHub
 pub mod Parts
-pub mod Examples

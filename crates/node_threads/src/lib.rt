@@ -20,6 +20,3 @@ pub use line::Line;
 pub use names::NodeName;
 pub use shard_state::ShardState;
 pub use turned::Turned;
-
-#[cfg(test)]
-mod tests;

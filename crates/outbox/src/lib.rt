@@ -9,6 +9,3 @@ mod kept;
 
 pub use boxes::{LAST_LINE_TEXT, Outbox};
 pub use entries::{Entry, Mode, Tag};
-
-#[cfg(test)]
-mod tests;

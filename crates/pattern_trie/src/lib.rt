@@ -84,6 +84,3 @@ impl<V: Copy + PartialEq> PatternTrie<V> {
         self.nodes.len() + 1
     }
 }
-
-#[cfg(test)]
-mod tests;

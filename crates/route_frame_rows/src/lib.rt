@@ -8,3 +8,5 @@ mod built_tests;
 mod line_tests;
 #[cfg(test)]
 mod stream_tests;
+#[cfg(test)]
+mod value_tests;

@@ -16,6 +16,3 @@ pub use laws::{
     both_ends_keep_the_same, the_best_offer_is_kept, the_best_stays_kept, the_better_session_stays,
 };
 pub use sessions::{Kept, Sessions};
-
-#[cfg(test)]
-mod tests;

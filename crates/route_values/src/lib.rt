@@ -13,6 +13,3 @@ pub use connect::RouteConnect;
 pub use frames::{Numbered, RouteFrame};
 pub use info::RouteInfo;
 pub use snapshots::{SnapshotKeys, WeightedKey};
-
-#[cfg(test)]
-mod tests;

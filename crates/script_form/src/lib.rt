@@ -10,8 +10,6 @@ mod member;
 mod members;
 mod reading;
 mod steps;
-#[cfg(test)]
-mod tests;
 mod verbs;
 
 pub use faults::{Place, ScriptError, ScriptFault};

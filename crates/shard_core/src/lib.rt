@@ -27,6 +27,3 @@ pub use laws::{
 };
 pub use openings::Openings;
 pub use shard::Shard;
-
-#[cfg(test)]
-mod tests;

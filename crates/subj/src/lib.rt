@@ -37,6 +37,3 @@ pub use servers::Server;
 pub use sids::Sid;
 pub use subjects::{Reply, Subject};
 pub use turns::{Busy, Finished, Turn};
-
-#[cfg(test)]
-mod tests;

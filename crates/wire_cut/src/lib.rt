@@ -11,8 +11,6 @@ mod piece;
 mod raw;
 mod sink;
 mod source;
-#[cfg(test)]
-mod tests;
 mod window;
 
 pub use count::Count;

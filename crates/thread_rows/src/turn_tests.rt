@@ -1,0 +1,358 @@
+//! Examples: a shard with its lane and its seat, alone.
+
+ghost use Rattle.std.specs.Prelude.{◌≡◌, ◌∷◌, [], IfOk};
+ghost use Rattle.claim_cells.specs.Rule.{fresh_hub};
+ghost use Rattle.thread_rows.specs.Turns.{IsAlone};
+
+use bytes::Bytes;
+use claim_cells::{Cells, HubSeat, ShardSeat};
+use hub_core::HubFault;
+use job_lane::{LANE_CAPACITY, LaneIn, LaneOut, Run, lane};
+use node_threads::{HubState, Line, NodeName, Open, ShardState, Turned};
+use std::alloc::Global;
+use std::marker::Brand;
+use std::process::Abort;
+use std::sync::Wait;
+use std::test::Fail;
+use sub_table::ListTable;
+use subj::{
+    ConnId, Failure, Incarnation, Job, Key, MAX_COUNTER, Message, NodeId, Pattern, Pub, PubId,
+    QueueName, QueueNames, Server, Sid, Subject, Turn, WINDOW,
+};
+
+/// The queue name `work` or none.
+fn queue_of(alloc: Global, is_member: bool) -> Result<Option<QueueName>, Fail> {
+    if !is_member {
+        return Ok(None);
+    }
+    Ok(Some(QueueName::read(alloc, b"work")?))
+}
+
+/// The key of `foo`, in the queue group `work` or in none.
+fn foo(alloc: Global, is_member: bool) -> Result<Key, Fail> {
+    let queue = queue_of(alloc, is_member)?;
+    let pattern = Pattern::read(alloc, b"foo")?;
+    Ok(Key { pattern, queue })
+}
+
+/// The queue name `work` alone.
+fn names(alloc: Global) -> Result<QueueNames, Fail> {
+    let mut names = Vec::new(alloc);
+    names.push(QueueName::read(alloc, b"work")?)?;
+    Ok(QueueNames::from_names(alloc, names)?.ok_or("names")?)
+}
+
+fn hello(alloc: Global) -> Result<Message, Fail> {
+    let subject = Subject::read(alloc, b"foo")?;
+    Ok(Message::new(subject, None, Bytes::from_static(b"hello")).ok_or("a message")?)
+}
+
+fn publication(number: u64) -> Result<PubId, Fail> {
+    Ok(PubId {
+        origin: NodeId::read(b"n1").ok().ok_or("a name")?,
+        inc: Incarnation::new(1).ok_or("an incarnation")?,
+        number,
+    })
+}
+
+/// The first job: `hello` on `foo`, for the queue group `work`.
+fn first_job(alloc: Global) -> Result<Job, Fail>
+    ensures { IfOk result (λ job. job.turn ≡ 1) }
+{
+    let turn = Turn::zero().next().ok_or("a turn")?;
+    let id = publication(1)?;
+    let message = hello(alloc)?;
+    let queues = names(alloc)?;
+    Ok(Job {
+        turn,
+        id,
+        message,
+        publisher: None,
+        echo: true,
+        queues,
+    })
+}
+
+/// The parts of a server of one shard.
+#[derive(Drop)]
+struct Alone {
+    cells: Cells,
+    hub: HubSeat,
+    seat: ShardSeat,
+    near: LaneIn,
+    far: LaneOut,
+    ghost parts: { IsAlone cells hub seat near far },
+}
+
+fn alone_parts(alloc: Global) -> Result<Alone, Fail> {
+    let (cells, hub, mut seats) = Cells::new(alloc, 1)?;
+    let seat = seats.pop().unwrap();
+    let (near, far) = lane(alloc, LANE_CAPACITY)?;
+    Ok(Alone {
+        cells,
+        hub,
+        seat,
+        near,
+        far,
+    })
+}
+
+/// Opens a subscription of a new connection to `foo`, in the queue group `work`.
+fn member<N: NodeName>(
+    shard: &mut ShardState<ListTable, N>,
+    alloc: Global,
+) -> Result<ConnId, Fail> {
+    let conn = shard.attach()?;
+    let key = foo(alloc, true)?;
+    let sid = Sid::read(alloc, b"1")?;
+    shard.subscribe(conn, key, sid)?;
+    Ok(conn)
+}
+
+/// Hands the first job over.
+#[tactic(auto, using(crate::proofs::Turns::first_numbered))]
+fn hand_over<R: Wait>(rt: &R, alloc: Global, near: &mut LaneIn) -> Result<bool, Fail>
+    requires { near.old.pushed ≡ [] }
+{
+    let mut jobs = Vec::new(alloc);
+    jobs.push(first_job(alloc)?)?;
+    let run = Run::new(alloc, jobs).ok().ok_or("memory")?;
+    Ok(near.push(rt, run).is_ok())
+}
+
+/// Issues the next turn.
+fn issue(cells: &Cells, hub: &mut HubSeat) -> Result<bool, Fail>
+    requires { hub.old.race ≡ cells.now }
+{
+    if hub.issued().get() >= MAX_COUNTER {
+        return Ok(false);
+    }
+    Ok(cells.issue(hub).is_ok())
+}
+
+/// What a turn comes to.
+fn turned<N: NodeName, R: Wait>(
+    rt: &R,
+    shard: &mut ShardState<ListTable, N>,
+    cells: &Cells,
+) -> Turned
+    requires { cells.now ≡ N.race }
+{
+    shard.turn(rt, cells, &Open)
+}
+
+/// A turn is idle until a job waits and its turn is issued.
+fn waits_for_its_turn<N: NodeName, R: Abort + Wait>(
+    rt: &R,
+    alloc: Global,
+    shard: &mut ShardState<ListTable, N>,
+    cells: &Cells,
+    near: &mut LaneIn,
+) -> Result<(), Fail>
+    requires race { cells.now ≡ N.race }
+    requires pushed { near.old.pushed ≡ [] }
+{
+    assert_eq!(rt; turned(rt, shard, cells), Turned::Idle);
+    assert!(rt; hand_over(rt, alloc, near)?);
+    assert_eq!(rt; turned(rt, shard, cells), Turned::Idle);
+    Ok(())
+}
+
+/// Then it is worked, and its member has the message.
+fn works_it<N: NodeName, R: Abort + Wait>(
+    rt: &R,
+    shard: &mut ShardState<ListTable, N>,
+    cells: &Cells,
+    conn: ConnId,
+) -> Result<(), Fail>
+    requires { cells.now ≡ N.race }
+{
+    let first = Turn::new(1).ok_or("a turn")?;
+    assert_eq!(rt; turned(rt, shard, cells), Turned::Worked(first));
+    assert_eq!(rt; shard.take(conn, 9)?.len(), 1);
+    assert_eq!(rt; turned(rt, shard, cells), Turned::Idle);
+    Ok(())
+}
+
+/// Both, one after the other, for a shard that has done nothing.
+fn works_in_turn<N: NodeName, R: Abort + Wait>(
+    rt: &R,
+    alloc: Global,
+    shard: &mut ShardState<ListTable, N>,
+    cells: &Cells,
+    hub: &mut HubSeat,
+    near: &mut LaneIn,
+) -> Result<(), Fail>
+    requires race { cells.now ≡ N.race }
+    requires hub { hub.old.race ≡ cells.now }
+    requires pushed { near.old.pushed ≡ [] }
+{
+    let conn = member(shard, alloc)?;
+    waits_for_its_turn(rt, alloc, shard, cells, near)?;
+    assert!(rt; issue(cells, hub)?);
+    works_it(rt, shard, cells, conn)
+}
+
+fn works_alone<N: NodeName, R: Abort + Wait>(
+    rt: &R,
+    alloc: Global,
+    alone: Alone,
+) -> Result<(), Fail>
+    requires race { alone.cells ≡ N.race }
+    requires lanes { alone.far.lane ∷ [] ≡ N.lanes }
+{
+    let Alone {
+        cells,
+        mut hub,
+        seat,
+        mut near,
+        far,
+    } = alone;
+    let mut shard: ShardState<ListTable, N> = ShardState::new(alloc, seat, 1, far)?;
+    works_in_turn(rt, alloc, &mut shard, &cells, &mut hub, &mut near)
+}
+
+/// The server n1, alone, of one shard.
+fn server(alloc: Global) -> Result<Server, Fail>
+    ensures { IfOk result (λ server. server.shards ≡ 1) }
+{
+    let mut names = Vec::new(alloc);
+    names.push(NodeId::read(b"n1").ok().ok_or("a name")?)?;
+    let inc = Incarnation::new(1).ok_or("an incarnation")?;
+    let server = Server::new(names, 0, inc, 1).ok_or("a server")?;
+    if server.shards() != 1 {
+        return Err(Fail::from("shards"));
+    }
+    Ok(server)
+}
+
+/// `hello` on `foo`, as a client says it.
+fn said(alloc: Global) -> Result<Pub, Fail> {
+    let message = hello(alloc)?;
+    Ok(Pub {
+        message,
+        echo: true,
+    })
+}
+
+/// The hub of the server, with its lane.
+fn hub_of<N: NodeName>(
+    alloc: Global,
+    cells: &Cells,
+    seat: HubSeat,
+    near: LaneIn,
+) -> Result<HubState<N>, Fail>
+    requires race { (cells.now ≡ N.race) × (seat.race ≡ N.race) }
+    requires shards { N.race.shards ≡ 1 }
+    requires fresh { (seat.part ≡ fresh_hub) × (near.pushed ≡ []) }
+    requires lanes { near.lane ∷ [] ≡ N.lanes }
+{
+    let mut lines = Vec::new(alloc);
+    lines.push(Line::new(1, near))?;
+    Ok(HubState::new(alloc, server(alloc)?, cells, seat, lines)?)
+}
+
+/// A job is worked once it is issued and pushed, and reaches the member.
+fn reaches_the_member<N: NodeName, R: Abort + Wait>(
+    rt: &R,
+    alloc: Global,
+    hub: &mut HubState<N>,
+    shard: &mut ShardState<ListTable, N>,
+    cells: &Cells,
+) -> Result<(), Fail>
+    requires { cells.now ≡ N.race }
+{
+    let conn = member(shard, alloc)?;
+    assert_eq!(rt; hub.collect(shard)?.changes.len(), 1);
+    assert_eq!(rt; hub.publish(cells, conn, &said(alloc)?, 0)?.turn.get(), 1);
+    assert_eq!(rt; turned(rt, shard, cells), Turned::Idle);
+    hub.push_jobs(rt);
+    works_it(rt, shard, cells, conn)
+}
+
+/// So many publications are issued in a row.
+fn issues<N: NodeName>(
+    alloc: Global,
+    hub: &mut HubState<N>,
+    cells: &Cells,
+    count: u64,
+) -> Result<(), Fail>
+    requires { cells.now ≡ N.race }
+{
+    let said = said(alloc)?;
+    for _issued in 0..count {
+        hub.publish(cells, ConnId::new(1), &said, 0)?;
+    }
+    Ok(())
+}
+
+/// Whether one more publication is refused since a shard is a window behind.
+fn is_busy<N: NodeName>(alloc: Global, hub: &mut HubState<N>, cells: &Cells) -> Result<bool, Fail>
+    requires { cells.now ≡ N.race }
+{
+    let said = said(alloc)?;
+    match hub.publish(cells, ConnId::new(1), &said, 0) {
+        Err(Failure::Refused(HubFault::Busy(_))) => Ok(true),
+        _ => Ok(false),
+    }
+}
+
+/// A window of publications is pushed as one run, and one more is refused until a turn is finished.
+fn fills_the_window<N: NodeName, R: Abort + Wait>(
+    rt: &R,
+    alloc: Global,
+    hub: &mut HubState<N>,
+    shard: &mut ShardState<ListTable, N>,
+    cells: &Cells,
+) -> Result<(), Fail>
+    requires { cells.now ≡ N.race }
+{
+    issues(alloc, hub, cells, WINDOW)?;
+    hub.push_jobs(rt);
+    assert!(rt; is_busy(alloc, hub, cells)?);
+    let first = Turn::new(1).ok_or("a turn")?;
+    assert_eq!(rt; turned(rt, shard, cells), Turned::Worked(first));
+    issues(alloc, hub, cells, 1)
+}
+
+fn works_with_its_hub<N: NodeName, R: Abort + Wait>(
+    rt: &R,
+    alloc: Global,
+    alone: Alone,
+    full: bool,
+) -> Result<(), Fail>
+    requires race { alone.cells ≡ N.race }
+    requires lanes { alone.far.lane ∷ [] ≡ N.lanes }
+{
+    let Alone {
+        cells,
+        hub,
+        seat,
+        near,
+        far,
+    } = alone;
+    let mut shard: ShardState<ListTable, N> = ShardState::new(alloc, seat, 1, far)?;
+    let mut hub: HubState<N> = hub_of(alloc, &cells, hub, near)?;
+    if full {
+        return fills_the_window(rt, alloc, &mut hub, &mut shard, &cells);
+    }
+    reaches_the_member(rt, alloc, &mut hub, &mut shard, &cells)
+}
+
+#[test]
+fn a_publication_reaches_the_member(rt: HostRuntime) -> Result<(), Fail> {
+    let alone = alone_parts(rt.alloc())?;
+    works_with_its_hub::<Brand, _>(&rt, rt.alloc(), alone, false)
+}
+
+#[test]
+fn a_window_is_one_run(rt: HostRuntime) -> Result<(), Fail> {
+    let alone = alone_parts(rt.alloc())?;
+    works_with_its_hub::<Brand, _>(&rt, rt.alloc(), alone, true)
+}
+
+#[test]
+fn a_job_is_worked_in_its_turn(rt: HostRuntime) -> Result<(), Fail> {
+    let alone = alone_parts(rt.alloc())?;
+    works_alone::<Brand, _>(&rt, rt.alloc(), alone)
+}
