@@ -110,9 +110,8 @@ fn counts<T: SubTable>(table: &T, serial: u64) -> Option<(u64, Option<u64>)> {
     Some((sub.delivered, sub.max))
 }
 
-fn finds<T: SubTable>(rt: &impl Abort, alloc: Global) -> Result<(), Fail> {
-    let table: T = filled(rt, alloc)?;
-    assert_eq!(rt; table.len(), 5);
+/// Those that match each subject.
+fn finds_by_subjects<T: SubTable>(rt: &impl Abort, alloc: Global, table: &T) -> Result<(), Fail> {
     let subjects: [(&[u8], &[u64]); 5] = [
         (b"foo.bar", &[2, 3, 5, 9]),
         (b"foo.x", &[2, 5]),
@@ -122,11 +121,16 @@ fn finds<T: SubTable>(rt: &impl Abort, alloc: Global) -> Result<(), Fail> {
     ];
     for (subject, serials) in subjects {
         assert_eq!(rt;
-            matched(alloc, &table, subject)?.as_slice(),
+            matched(alloc, table, subject)?.as_slice(),
             serials,
             "{subject:?}"
         );
     }
+    Ok(())
+}
+
+/// The one of each connection and id.
+fn finds_by_ids<T: SubTable>(rt: &impl Abort, alloc: Global, table: &T) -> Result<(), Fail> {
     let ids: [(u64, &[u8], Option<u64>); 9] = [
         (1, b"1", Some(2)),
         (2, b"1", Some(3)),
@@ -139,8 +143,17 @@ fn finds<T: SubTable>(rt: &impl Abort, alloc: Global) -> Result<(), Fail> {
         (1, b"4", None),
     ];
     for (conn, sid, serial) in ids {
-        assert_eq!(rt; called(alloc, &table, conn, sid)?, serial, "{conn} {sid:?}");
+        assert_eq!(rt; called(alloc, table, conn, sid)?, serial, "{conn} {sid:?}");
     }
+    Ok(())
+}
+
+/// Those of each connection.
+fn finds_by_connections<T: SubTable>(
+    rt: &impl Abort,
+    alloc: Global,
+    table: &T,
+) -> Result<(), Fail> {
     let conns: [(u64, &[u64]); 4] = [
         (0, &[77]),
         (1, &[77, 2, 5, 9]),
@@ -148,8 +161,13 @@ fn finds<T: SubTable>(rt: &impl Abort, alloc: Global) -> Result<(), Fail> {
         (3, &[77]),
     ];
     for (conn, serials) in conns {
-        assert_eq!(rt; owned(alloc, &table, conn)?.as_slice(), serials, "{conn}");
+        assert_eq!(rt; owned(alloc, table, conn)?.as_slice(), serials, "{conn}");
     }
+    Ok(())
+}
+
+/// Each row by its serial.
+fn gets_rows<T: SubTable>(rt: &impl Abort, table: &T) {
     for (serial, conn, (pattern, queue, sid)) in ROWS {
         let sub = table.get(serial).expect(rt, "an open subscription");
         assert_eq!(rt; sub.serial, serial);
@@ -159,9 +177,23 @@ fn finds<T: SubTable>(rt: &impl Abort, alloc: Global) -> Result<(), Fail> {
         assert_eq!(rt; name, queue.len());
         assert_eq!(rt; sub.sid.bytes(), sid);
     }
+}
+
+/// None by another serial.
+fn gets_no_others<T: SubTable>(rt: &impl Abort, table: &T) {
     for serial in [0, 1, 4, 6, 7, 10, u64::MAX] {
         assert!(rt; table.get(serial).is_none(), "{serial}");
     }
+}
+
+fn finds<T: SubTable>(rt: &impl Abort, alloc: Global) -> Result<(), Fail> {
+    let table: T = filled(rt, alloc)?;
+    assert_eq!(rt; table.len(), 5);
+    finds_by_subjects(rt, alloc, &table)?;
+    finds_by_ids(rt, alloc, &table)?;
+    finds_by_connections(rt, alloc, &table)?;
+    gets_rows(rt, &table);
+    gets_no_others(rt, &table);
     Ok(())
 }
 
@@ -211,8 +243,8 @@ fn notes<T: SubTable>(rt: &impl Abort, alloc: Global) -> Result<(), Fail> {
     Ok(())
 }
 
-fn closes<T: SubTable>(rt: &impl Abort, alloc: Global) -> Result<(), Fail> {
-    let mut table: T = filled(rt, alloc)?;
+/// One is closed by its serial, once.
+fn closes_one<T: SubTable>(rt: &impl Abort, table: &mut T) {
     assert!(rt; table.remove(4).is_none());
     assert_eq!(rt; table.len(), 5);
     let sub = table.remove(5).expect(rt, "an open subscription");
@@ -220,25 +252,42 @@ fn closes<T: SubTable>(rt: &impl Abort, alloc: Global) -> Result<(), Fail> {
     assert_eq!(rt; sub.key.pattern.bytes(), b">".as_slice());
     assert!(rt; table.remove(5).is_none());
     assert!(rt; table.get(5).is_none());
+}
+
+/// What is left behind it.
+fn finds_the_others<T: SubTable>(rt: &impl Abort, alloc: Global, table: &T) -> Result<(), Fail> {
     assert_eq!(rt; table.len(), 4);
-    assert_eq!(rt;
-        matched(alloc, &table, b"foo.bar")?.as_slice(),
-        [2, 3, 9].as_slice()
-    );
-    assert_eq!(rt; called(alloc, &table, 1, b"2")?, None);
+    let serials = matched(alloc, table, b"foo.bar")?;
+    assert_eq!(rt; serials.as_slice(), [2, 3, 9].as_slice());
+    assert_eq!(rt; called(alloc, table, 1, b"2")?, None);
+    Ok(())
+}
+
+/// All of a connection are closed.
+fn closes_all<T: SubTable>(rt: &impl Abort, table: &mut T) {
     table.close(ConnId::new(3));
     assert_eq!(rt; table.len(), 4);
     table.close(ConnId::new(1));
     assert_eq!(rt; table.len(), 2);
-    assert_eq!(rt; owned(alloc, &table, 1)?.as_slice(), [77].as_slice());
-    assert_eq!(rt; owned(alloc, &table, 2)?.as_slice(), [77, 3, 8].as_slice());
-    assert_eq!(rt;
-        matched(alloc, &table, b"foo.bar")?.as_slice(),
-        [3].as_slice()
-    );
-    assert_eq!(rt; called(alloc, &table, 1, b"1")?, None);
-    assert_eq!(rt; called(alloc, &table, 2, b"1")?, Some(3));
+}
+
+/// What is left behind them.
+fn finds_the_last<T: SubTable>(rt: &impl Abort, alloc: Global, table: &T) -> Result<(), Fail> {
+    assert_eq!(rt; owned(alloc, table, 1)?.as_slice(), [77].as_slice());
+    assert_eq!(rt; owned(alloc, table, 2)?.as_slice(), [77, 3, 8].as_slice());
+    let serials = matched(alloc, table, b"foo.bar")?;
+    assert_eq!(rt; serials.as_slice(), [3].as_slice());
+    assert_eq!(rt; called(alloc, table, 1, b"1")?, None);
+    assert_eq!(rt; called(alloc, table, 2, b"1")?, Some(3));
     Ok(())
+}
+
+fn closes<T: SubTable>(rt: &impl Abort, alloc: Global) -> Result<(), Fail> {
+    let mut table: T = filled(rt, alloc)?;
+    closes_one(rt, &mut table);
+    finds_the_others(rt, alloc, &table)?;
+    closes_all(rt, &mut table);
+    finds_the_last(rt, alloc, &table)
 }
 
 #[test]
