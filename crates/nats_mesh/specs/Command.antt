@@ -1,20 +1,31 @@
 -- What the command line asks for, and how the program ends (profile).
-use Rattle.std.specs.Prelude.{ℕ, List, [], ◌∷◌, codes, Option, Some, None, Result, Ok, Err, if◌then◌else◌}
-use Rattle.std.specs.Str.{bytes_eq}
+use Rattle.std.specs.Prelude.{ℕ, List, codes, Bool, Result, Ok, Err, if◌then◌else◌}
+use Rattle.clap.specs.declared.error.kind.ErrorKind.{ErrorKind}
+use Rattle.clap.specs.declared.error.kind.ErrorKind.TheVariants.{DisplayVersion, OutOfMemory}
 use Rattle.nats_mesh.specs.declared.command.Command.{Command}
-use Rattle.nats_mesh.specs.declared.command.Command.TheVariants.{Pipe}
-use Rattle.nats_mesh.specs.declared.pipe.PipeEnd.{PipeEnd}
-use Rattle.nats_mesh.specs.declared.pipe.PipeEnd.TheVariants.{Ended, Closed}
-use Rattle.nats_mesh.specs.declared.pipe.PipeFault.{PipeFault}
+use Rattle.nats_mesh.specs.declared.command.Command.TheVariants.{Pipe, Match, Script}
+use Rattle.mesh_pipe.specs.declared.pipe.PipeEnd.{PipeEnd}
+use Rattle.mesh_pipe.specs.declared.pipe.PipeEnd.TheVariants.{Ended, Closed}
+use Rattle.mesh_pipe.specs.declared.pipe.PipeFault.{PipeFault}
 
--- by the words behind the program's name
-abbrev pub command_asked : List (List ℕ) → Option Command
-command_asked [] = None
-command_asked (word ∷ []) = if bytes_eq word (codes "pipe") then Some Pipe else None
-command_asked (word ∷ another ∷ more) = None
+-- by its word behind the program's name
+abbrev pub name_of : Command → List ℕ
+name_of Pipe = codes "pipe"
+name_of (Match pattern subject) = codes "match"
+name_of Script = codes "script"
+
+-- by what is told of a line that asks for nothing
+abbrev pub status_of_line : ErrorKind → ℕ
+status_of_line DisplayVersion = 0
+status_of_line OutOfMemory = 1
+status_of_line kind = 2
 
 -- by how a pipe ended
 abbrev pub exit_status : Result PipeEnd PipeFault → ℕ
 exit_status (Ok Ended) = 0
 exit_status (Ok Closed) = 1
 exit_status (Err fault) = 1
+
+-- and whether all else was done
+abbrev pub status_of_end : Bool → ℕ
+status_of_end done = if done then 0 else 1

@@ -1,6 +1,1 @@
 pub mod Command
-pub mod PipeText
-pub mod PipeServing
-pub mod PipeStates
-pub mod PipeRuns
-pub mod PipeTheorem

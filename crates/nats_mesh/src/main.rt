@@ -1,59 +1,102 @@
-//! The program: `pipe` serves one client on standard input and output.
+//! The program: `pipe` serves one client on standard input and output, `match` answers one question of matching, and
+//! `script` plays what is done in a cluster.
 #![tactic(auto)]
 
 mod command;
 #[cfg(test)]
-mod fault_tests;
-mod pipe;
-mod pipe_server;
-#[cfg(test)]
-mod served_tests;
-mod serving;
-#[cfg(test)]
 mod tests;
 
-use command::{BAD_COMMAND_LINE, Command, command_of, complaint_of, status_of};
-use pipe::pipe_run;
+use claim_cells::CellsRace;
+use command::{Command, command_of, line_status, pipe_complaint, pipe_status, status_of};
+use mesh_pipe::pipe_run;
+use mesh_script::{match_run, script_run};
 use std::alloc::Global;
+use std::fmt::Display;
 use std::process::ExitCode;
 use std::{env, io};
+use sub_trie::TrieTable;
 use wire_cut::Raw;
 
-const HELP: &str = "usage: nats_mesh pipe
-  pipe   serves one client on standard input and output";
+/// The exit status of a command line that is no text.
+const NO_TEXT: u8 = 2;
 
-/// The words behind the program's name.
+/// The words of the command line, the program's name among them.
 fn words<R: env::Env + Alloc<A = Global>>(rt: &R) -> io::Result<Vec<String>> {
-    let mut all = env::args(rt)?;
-    let _program = all.next();
     let mut words = Vec::new(rt.alloc());
-    for word in all {
+    for word in env::args(rt)? {
         words.push(word)?;
     }
     Ok(words)
 }
 
+/// Tells on standard error why something was not done. Gives the exit status.
+fn told<R: Eprint, E: Display + Drop>(rt: &R, ended: Result<(), E>) -> u8 {
+    let status = status_of(&ended);
+    if let Err(fault) = &ended {
+        let _ = eprintln!(rt; "nats_mesh: {fault}");
+    }
+    status
+}
+
+/// Serves one client.
+fn run_pipe<R: Input + Print + Eprint + Alloc<A = Global>>(rt: &R) -> u8 {
+    let mut source = Raw::new(rt.reader());
+    let mut sink = Raw::new(io::writer(rt));
+    let ended = pipe_run(rt.alloc(), &mut source, &mut sink);
+    if let Some(complaint) = pipe_complaint(ended) {
+        let _ = eprintln!(rt; "nats_mesh: {complaint}");
+    }
+    pipe_status(ended)
+}
+
+/// Tells whether the pattern matches the subject.
+fn run_match<R: Print + Eprint + Alloc<A = Global>>(rt: &R, pattern: &str, subject: &str) -> u8 {
+    let mut sink = Raw::new(io::writer(rt));
+    let ended = match_run(
+        rt.alloc(),
+        pattern.as_bytes(),
+        subject.as_bytes(),
+        &mut sink,
+    );
+    told(rt, ended)
+}
+
+/// Plays a script.
+fn run_script<R: Input + Print + Eprint + Alloc<A = Global>>(rt: &R) -> u8 {
+    let mut source = Raw::new(rt.reader());
+    let mut sink = Raw::new(io::writer(rt));
+    let ended = script_run::<TrieTable, CellsRace, _, _>(rt.alloc(), &mut source, &mut sink);
+    told(rt, ended)
+}
+
+/// Does what the command line asks for. Gives the exit status.
+fn run<R: Input + Print + Eprint + Alloc<A = Global>>(rt: &R, words: &[String]) -> u8 {
+    match command_of(rt.alloc(), words) {
+        Ok(Command::Pipe) => run_pipe(rt),
+        Ok(Command::Match { pattern, subject }) => run_match(rt, pattern, subject),
+        Ok(Command::Script) => run_script(rt),
+        Err(error) => {
+            let status = line_status(error.kind());
+            let _ = if status == 0 {
+                rt.print(&error)
+            } else {
+                rt.eprint(&error)
+            };
+            status
+        }
+    }
+}
+
 fn main(rt: HostRuntime) -> ExitCode {
-    let words = match words(&rt) {
-        Ok(words) => words,
+    match words(&rt) {
+        Ok(words) => ExitCode::from(run(&rt, &words)),
         Err(error) => {
             let _ = eprintln!(rt; "nats_mesh: the command line cannot be read: {error}");
-            return ExitCode::FAILURE;
-        }
-    };
-    match command_of(&words) {
-        None => {
-            let _ = eprintln!(rt; "{HELP}");
-            ExitCode::from(BAD_COMMAND_LINE)
-        }
-        Some(Command::Pipe) => {
-            let mut source = Raw::new(rt.reader());
-            let mut sink = Raw::new(io::writer(&rt));
-            let ended = pipe_run(rt.alloc(), &mut source, &mut sink);
-            if let Some(complaint) = complaint_of(ended) {
-                let _ = eprintln!(rt; "nats_mesh: {complaint}");
+            if error.kind() == io::ErrorKind::InvalidData {
+                ExitCode::from(NO_TEXT)
+            } else {
+                ExitCode::FAILURE
             }
-            ExitCode::from(status_of(ended))
         }
     }
 }

@@ -1,0 +1,5 @@
+pub mod PipeText
+pub mod PipeServing
+pub mod PipeStates
+pub mod PipeRuns
+pub mod PipeTheorem

@@ -1,0 +1,12 @@
+//! One client of a server of its own, on a reader and a writer: [`pipe_run`] reads what the client sends and
+//! writes what the server answers, as a function of the bytes alone.
+//!
+//! In reading order: `pipe` is the loop and what its contract says of all bytes that were written;
+//! `pipe_server` answers each thing that the connection asks; `serving` makes the server's calls.
+#![tactic(auto)]
+
+mod pipe;
+mod pipe_server;
+mod serving;
+
+pub use pipe::{PipeEnd, PipeFault, pipe_run};

@@ -1,0 +1,206 @@
+//! One client on a reader and a writer.
+
+ghost use Rattle.std.specs.Prelude.{◌≡◌, ◌≤◌, ◌+◌, [], IfOk, OnOk, OnErr};
+ghost use Rattle.wire_cut.specs.Flow.{AppendsFront};
+ghost use Rattle.mesh_pipe.specs.PipeTheorem.{Pipes, CountsReads, CountsFailedWrites, all_reads};
+ghost use Rattle.client_conn.specs.Asks.{begun};
+ghost use Rattle.mesh_pipe.specs.PipeText.{pipe_info};
+ghost use Rattle.mesh_pipe.specs.PipeStates.{IsNew};
+ghost use Rattle.mesh_pipe.specs.PipeRuns.{IsInStep, IsFlushed, CountsWrites, HasLooked, Works, AnswersAll};
+
+use crate::pipe_server::{Outcome, PipeServer};
+use crate::serving::info;
+use client_conn::{Conn, ReadFault};
+use std::alloc::{AllocError, AllocFailed, Global};
+use std::error::Error;
+use std::fmt;
+use std::fmt::{Display, Formatter, Write};
+use subj::READ_BYTES;
+use wire_cut::{Sink, Source, WriteFailed};
+
+/// Whether the connection goes on.
+#[derive(Clone, Copy, Debug, PartialEq, Eq)]
+pub enum Flow {
+    /// More bytes are needed.
+    Open,
+    /// A closing text was put.
+    Closed,
+}
+
+/// How a pipe ended.
+#[derive(Clone, Copy, Debug, PartialEq, Eq)]
+pub enum PipeEnd {
+    /// The reader came to its end. An unfinished frame is dropped.
+    Ended,
+    /// A closing `-ERR` was written.
+    Closed,
+}
+
+/// Why a pipe broke off.
+#[derive(Clone, Copy, Debug, PartialEq, Eq)]
+pub enum PipeFault {
+    /// The reader failed, or 2^64 - 1 reads did not come to its end.
+    Read,
+    /// The writer failed.
+    Write,
+    /// The allocator gave no memory.
+    OutOfMemory,
+}
+
+impl PipeFault {
+    /// What is told of it.
+    pub fn text(self) -> &'static str {
+        match self {
+            PipeFault::Read => "reading failed",
+            PipeFault::Write => "writing failed",
+            PipeFault::OutOfMemory => "out of memory",
+        }
+    }
+}
+
+impl Display for PipeFault {
+    fn fmt<W: Write>(&self, f: &mut Formatter<W>) -> fmt::Result {
+        f.write_str(self.text())
+    }
+}
+
+impl Error for PipeFault {}
+
+impl From<AllocError> for PipeFault {
+    ghost use Rattle.std.specs.Prelude.{◌≡◌};
+    ghost use Rattle.mesh_pipe.specs.declared.pipe.PipeFault.TheVariants.{OutOfMemory};
+
+    ghost from_gives = { λ _ fault. fault ≡ OutOfMemory };
+
+    fn from(_: AllocError) -> PipeFault {
+        PipeFault::OutOfMemory
+    }
+}
+
+impl From<WriteFailed> for PipeFault {
+    ghost use Rattle.std.specs.Prelude.{◌≡◌};
+    ghost use Rattle.mesh_pipe.specs.declared.pipe.PipeFault.TheVariants.{Write};
+
+    ghost from_gives = { λ _ fault. fault ≡ Write };
+
+    fn from(_: WriteFailed) -> PipeFault {
+        PipeFault::Write
+    }
+}
+
+/// Serves one client: reads its commands, and writes what a server sends. Each read is of at most
+/// [`READ_BYTES`] bytes, and all that is known by then is written before the next one.
+pub fn pipe_run<S: Source, W: Sink>(
+    alloc: Global,
+    source: &mut S,
+    sink: &mut W,
+) -> Result<PipeEnd, PipeFault>
+    ensures text { Pipes result (S.remaining source.old) (S.remaining source.new) (W.written sink.old) (W.written sink.new) }
+    ensures most_reads { S.reads source.new ≤ S.reads source.old + all_reads }
+    ensures reads { CountsReads result (S.reads source.old) (S.reads source.new) (S.failures source.old) (S.failures source.new) }
+    ensures writes { CountsFailedWrites result (W.failures sink.old) (W.failures sink.new) }
+{
+    let mut conn = Conn::new(alloc, info());
+    let mut server = PipeServer::new(alloc)?;
+    serve(&mut conn, &mut server, source, sink)
+}
+
+/// Serves a client of whom nothing was read yet.
+fn serve<S: Source, W: Sink>(
+    conn: &mut Conn,
+    server: &mut PipeServer,
+    source: &mut S,
+    sink: &mut W,
+) -> Result<PipeEnd, PipeFault>
+    requires asks { conn.old.asking ≡ begun pipe_info }
+    requires new { IsNew server.old }
+    ensures text { Pipes result (S.remaining source.old) (S.remaining source.new) (W.written sink.old) (W.written sink.new) }
+    ensures most_reads { S.reads source.new ≤ S.reads source.old + all_reads }
+    ensures reads { CountsReads result (S.reads source.old) (S.reads source.new) (S.failures source.old) (S.failures source.new) }
+    ensures writes { CountsFailedWrites result (W.failures sink.old) (W.failures sink.new) }
+{
+    match answer_all(conn, server, sink)? {
+        Flow::Open => {}
+        Flow::Closed => return Ok(PipeEnd::Closed),
+    }
+    for _ in 0..u64::MAX {
+        let count = match conn.read_from(source, READ_BYTES) {
+            Ok(count) => count,
+            Err(ReadFault::OutOfMemory) => return Err(PipeFault::OutOfMemory),
+            Err(ReadFault::Failed) => return Err(PipeFault::Read),
+            Err(ReadFault::Closed) => unreachable!(),
+        };
+        if count == 0 {
+            return Ok(PipeEnd::Ended);
+        }
+        match answer_all(conn, server, sink)? {
+            Flow::Open => {}
+            Flow::Closed => return Ok(PipeEnd::Closed),
+        }
+    }
+    Err(PipeFault::Read)
+}
+
+/// Does all that is asked, and writes what was put.
+fn answer_all<W: Sink>(
+    conn: &mut Conn,
+    server: &mut PipeServer,
+    sink: &mut W,
+) -> Result<Flow, PipeFault>
+    requires step { IsInStep conn.old server.old }
+    requires empty { server.old.output.items ≡ [] }
+    ensures answers { AnswersAll result conn.old server.old (W.written sink.old) conn.new server.new (W.written sink.new) }
+    ensures failures { CountsWrites result (W.failures sink.old) (W.failures sink.new) }
+{
+    let flow = work(conn, server, sink)?;
+    flush(server, sink)?;
+    Ok(flow)
+}
+
+/// Writes what was put.
+fn flush<W: Sink>(server: &mut PipeServer, sink: &mut W) -> Result<(), PipeFault>
+    ensures ok { OnOk result (IsFlushed server.old (W.written sink.old) server.new (W.written sink.new)) }
+    ensures err { OnErr result (AppendsFront (W.written sink.old) (W.written sink.new) server.old.output.items) }
+    ensures failures { CountsWrites result (W.failures sink.old) (W.failures sink.new) }
+{
+    sink.write_all(server.output())?;
+    server.clear_output();
+    Ok(())
+}
+
+/// Does all that is asked. What was put is written as soon as it is [`READ_BYTES`] long.
+fn work<W: Sink>(conn: &mut Conn, server: &mut PipeServer, sink: &mut W) -> Result<Flow, PipeFault>
+    requires { IsInStep conn.old server.old }
+    ensures works { Works result conn.old server.old (W.written sink.old) conn.new server.new (W.written sink.new) }
+    ensures failures { CountsWrites result (W.failures sink.old) (W.failures sink.new) }
+{
+    loop {
+        match look(conn, server)? {
+            None => return Ok(Flow::Open),
+            Some(Flow::Closed) => return Ok(Flow::Closed),
+            Some(Flow::Open) => {}
+        }
+        if server.output().len() < READ_BYTES {
+            continue;
+        }
+        flush(server, sink)?;
+    }
+}
+
+/// Does what is asked next. None where more bytes are needed.
+fn look(conn: &mut Conn, server: &mut PipeServer) -> Result<Option<Flow>, AllocError>
+    requires { IsInStep conn.old server.old }
+    ensures { IfOk result (λ looked. HasLooked looked conn.old server.old conn.new server.new) }
+{
+    let outcome = match conn.next()? {
+        None => return Ok(None),
+        Some(ask) => server.serve(ask)?,
+    };
+    match outcome {
+        Outcome::Closed => Ok(Some(Flow::Closed)),
+        Outcome::Answered(answer) => {
+            conn.answer(answer);
+            Ok(Some(Flow::Open))
+        }
+    }
+}

@@ -1,0 +1,88 @@
+-- What comes of asking the exact cluster, part by part.
+use Rattle.std.proofs.Common.{◌≡◌, ℕ, suc, ◌+◌, List, [], ◌∷◌, ◌++◌, length, Option, Some, None, refl, ap, sym, ◌∙◌, subst, arith}
+use Rattle.std.specs.Prelude.{slice_get}
+use Rattle.cluster_world.specs.declared.faults.WorldFault.{WorldFault}
+use Rattle.cluster_world.specs.Events.{Event, Start, Stop, Receive, OnInfo, OnConnect, At, event_for}
+use Rattle.cluster_world.specs.Headline.{IsCluster}
+use Rattle.cluster_world.specs.Outcomes.{Outcome}
+use Rattle.cluster_world.specs.Play.{next, outcome}
+use Rattle.cluster_world.specs.Refusals.{world_refusal}
+use Rattle.cluster_world.specs.State.{Cluster, World, new_world}
+use Rattle.cluster_world.specs.Steps.{Happens, Decided, WorldStep, Run}
+use Rattle.mesh_script.specs.Asks.{Asks, NoMore, Ask, and_then}
+use Rattle.mesh_script.specs.Playing.{Completed}
+use Rattle.mesh_script.specs.Told.{Told}
+
+-- ---- one part behind the other
+
+pub told_on : (c : Cluster) (w mid w' : World) (asks rest left : Asks) (first more : List Outcome) → Told c w asks first rest mid → Told c mid rest more left w' → Told c w asks (first ++ more) left w'
+told_on c w mid w' asks rest left [] more told next = subst (λ a. Told c w a more left w') told.0 (subst (λ m. Told c m rest more left w') told.1 next)
+told_on c w mid w' NoMore rest left (outcome ∷ first) more told next = absurd told
+told_on c w mid w' (Ask e deed) rest left (outcome ∷ first) more told next = (told.0, told.1, told_on c told.0 mid w' (deed w outcome) rest left first more told.2 next)
+
+-- what is asked behind it all waits
+pub told_before : (c : Cluster) (w mid : World) (asks rest behind : Asks) (outcomes : List Outcome) → Told c w asks outcomes rest mid → Told c w (and_then asks behind) outcomes (and_then rest behind) mid
+told_before c w mid asks rest behind [] told = (ap (λ a. and_then a behind) told.0, told.1)
+told_before c w mid NoMore rest behind (outcome ∷ outcomes) told = absurd told
+told_before c w mid (Ask e deed) rest behind (outcome ∷ outcomes) told = (told.0, told.1, told_before c told.0 mid (deed w outcome) rest behind outcomes told.2)
+
+-- ---- steps are counted
+
+happens_counts : (c : Cluster) (w w' : World) (e : Event) (outcome : Outcome) → Happens c w e outcome w' → w'.step ≡ suc w.step
+happens_counts c w w' (Start n inc) outcome h = ap (λ (v : World). v.step) h.after
+happens_counts c w w' (Stop n) outcome h = ap (λ (v : World). v.step) h.after
+happens_counts c w w' (Receive n k) outcome h = ap (λ (v : World). v.step) h.after
+happens_counts c w w' (OnInfo n session k) outcome h = ap (λ (v : World). v.step) h.after
+happens_counts c w w' (OnConnect n session k) outcome h = ap (λ (v : World). v.step) h.after
+happens_counts c w w' (At n event) outcome h = ap (λ (v : World). v.step) h.after
+
+decided_counts : (c : Cluster) (w w' : World) (e : Event) (refusal : Option WorldFault) (outcome : Outcome) → Decided c w e refusal outcome w' → w'.step ≡ suc w.step
+decided_counts c w w' e None outcome h = happens_counts c w w' e outcome h
+decided_counts c w w' e (Some why) outcome h = ap (λ (v : World). v.step) h.1
+
+pub step_counts : (c : Cluster) (w w' : World) (e : Event) (outcome : Outcome) → WorldStep c w e outcome w' → w'.step ≡ suc w.step
+step_counts c w w' e outcome h = decided_counts c w w' e (world_refusal c w e) outcome h
+
+pub told_counts : (c : Cluster) (w w' : World) (asks rest : Asks) (outcomes : List Outcome) → Told c w asks outcomes rest w' → w'.step ≡ w.step + length outcomes
+told_counts c w w' asks rest [] told = let e = ap (λ (v : World). v.step) told.1 in omega arith
+told_counts c w w' NoMore rest (outcome ∷ outcomes) told = absurd told
+told_counts c w w' (Ask e deed) rest (outcome ∷ outcomes) told =
+    let one = step_counts c w told.0 e outcome told.1 in
+    let more = told_counts c told.0 w' (deed w outcome) rest outcomes told.2 in
+    omega arith
+
+-- ---- what is told is told in a run
+
+pub run_of : (c : Cluster) (w w' : World) (asks rest : Asks) (outcomes : List Outcome) → Told c w asks outcomes rest w' → (events : List Event) × Run c w events w'
+run_of c w w' asks rest [] told = ([], told.1)
+run_of c w w' NoMore rest (outcome ∷ outcomes) told = absurd told
+run_of c w w' (Ask e deed) rest (outcome ∷ outcomes) told =
+    let more = run_of c told.0 w' (deed w outcome) rest outcomes told.2 in
+    (e ∷ more.0, (told.0, outcome, told.1, more.1))
+
+run_on : (c : Cluster) (a w w' : World) (events : List Event) (e : Event) (outcome : Outcome) → Run c a events w → WorldStep c w e outcome w' → Run c a (events ++ e ∷ []) w'
+run_on c a w w' [] e outcome run step = (w', outcome, subst (λ m. WorldStep c m e outcome w') run step, refl)
+run_on c a w w' (first ∷ events) e outcome run step = (run.0, run.1, run.2, run_on c run.0 w w' events e outcome run.3 step)
+
+-- ---- and where each event has a step, the rest can be told
+
+abbrev pub EachHasStep : Cluster → Type 0
+EachHasStep c = (events : List Event) (w : World) → Run c (new_world c) events w → (e : Event) → WorldStep c w e (outcome c w e) (next c w e)
+
+pub record ToldToEnd (c : Cluster) (w : World) (asks : Asks) : Type 0 where
+  pub outcomes : List Outcome
+  pub world : World
+  pub told : Told c w asks outcomes NoMore world
+
+to_end : (c : Cluster) → EachHasStep c → (w : World) (events : List Event) → Run c (new_world c) events w → (asks : Asks) → ToldToEnd c w asks
+to_end c steps w events run NoMore = record { outcomes = []; world = w; told = (refl, refl) }
+to_end c steps w events run (Ask e deed) =
+    let step = steps events w run e in
+    let more = to_end c steps (next c w e) (events ++ e ∷ []) (run_on c (new_world c) w (next c w e) events e (outcome c w e) run step) (deed w (outcome c w e)) in
+    record { outcomes = outcome c w e ∷ more.outcomes; world = more.world; told = (next c w e, step, more.told) }
+
+pub completed : (c : Cluster) → EachHasStep c → (asks rest : Asks) (outcomes : List Outcome) (w : World) → Told c (new_world c) asks outcomes rest w → Completed c asks outcomes
+completed c steps asks rest outcomes w told =
+    let run = run_of c (new_world c) w asks rest outcomes told in
+    let more = to_end c steps w run.0 run.1 rest in
+    record { more = more.outcomes; world = more.world; told = told_on c (new_world c) w more.world asks rest NoMore outcomes more.outcomes told more.told }

@@ -1,0 +1,15 @@
+use Rattle.cluster_world.specs.State.{new_world}
+use Rattle.mesh_script.specs.Played.{cluster_of}
+use Rattle.mesh_script.proofs.Asking.{run_of}
+use Rattle.mesh_script.proofs.plays.plays_are_safe.Goals as goal
+
+pub returns : goal.returns
+returns start = λ script set_up text played.
+    let l = cluster_of script in
+    let run = run_of l (new_world l) played.world _ _ played.outcomes played.told in
+    record {
+      played = played;
+      headline = ∣ start.headline.ensures.once l set_up run.0 played.world run.1 ∣₁;
+      names = ∣ start.unique_names.ensures l set_up run.0 played.world run.1 ∣₁;
+      echo = ∣ start.echo_is_kept.ensures l set_up run.0 played.world run.1 ∣₁;
+    }

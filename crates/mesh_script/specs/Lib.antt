@@ -1,0 +1,9 @@
+pub mod Asks
+pub mod Lines
+pub mod Told
+pub mod Played
+pub mod Putting
+pub mod Placing
+pub mod Playing
+pub mod Matching
+pub mod Runs

@@ -1,0 +1,22 @@
+//! Scripts are played: what is done in a cluster, step by step, and what is written of it.
+//!
+//! [`play`] makes the events of a script in the exact cluster and writes a line for each of them, then one for each message
+//! that was placed, and a last line; [`script_run`] reads the script first. In reading order: `running`, `plays`, `player`,
+//! which makes the events of a step, `asks`, which says what they are, and `outcomes` and `placed`, which write lines. Beside
+//! it, [`match_run`] tells whether one pattern matches one subject.
+#![tactic(auto)]
+
+mod asks;
+mod faults;
+mod matching;
+mod outcomes;
+mod output;
+mod placed;
+mod player;
+mod plays;
+mod running;
+
+pub use faults::{PlayFault, RunFault};
+pub use matching::{MatchFault, match_run};
+pub use plays::play;
+pub use running::script_run;

@@ -1,8 +1,0 @@
-use Rattle.std.proofs.Common.{[], refl}
-use Rattle.std.proofs.KnownBytes.{Consumes-nil}
-use Rattle.nats_mesh.specs.declared.pipe.PipeFault.TheVariants.{OutOfMemory}
-use Rattle.nats_mesh.proofs.Serves.{nothing_written, broke_off}
-use Rattle.nats_mesh.proofs.pipe.pipe_run.Goals as goal
-
-pub returns-in_err-server-clause-text : goal.returns-in_err-server-clause-text
-returns-in_err-server-clause-text g c = broke_off _ OutOfMemory 0 0 [] _ _ _ _ c.from_residual.ensures.1 refl (Consumes-nil _) (nothing_written _)
