@@ -1,16 +1,18 @@
 -- The events that move neither the lane nor the race.
-use Rattle.std.proofs.Common.{◌≡◌, ℕ, ◌+◌, ◌≤◌, Bool, true, false, true≢false, cond, [], ◌∷◌, ◌++◌, length, Option, Some, None, Result, Ok, Err, refl, sym, ap, ◌∙◌, subst, append-nil}
+use Rattle.std.proofs.Common.{◌≡◌, ℕ, ◌+◌, ◌≤◌, Bool, true, false, true≢false, cond, List, [], ◌∷◌, ◌++◌, length, take, Option, Some, None, Result, Ok, Err, refl, sym, ap, ◌∙◌, subst, append-nil}
 use Rattle.std.specs.Prelude.{option_to_list}
 use Rattle.sub_table.specs.declared.Subscription.{Subscription}
+use Rattle.outbox.specs.Views.{Written}
 use Rattle.subj.specs.Answers.{IsAnswered, IsDecided}
 use Rattle.subj.specs.declared.failures.Failure.{Failure}
 use Rattle.subj.specs.declared.failures.Failure.TheVariants.{Refused, OutOfMemory}
+use Rattle.shard_core.specs.Answers as of_shard
 use Rattle.shard_core.specs.Held.{Held, DoesStep, IsLeft}
-use Rattle.shard_core.specs.ShardEvents.{Event, Attach, Subscribe, Unsubscribe, Reply, Shut, Detach, Take, Begin, Claim, End, DropJob, Collect, Answer}
+use Rattle.shard_core.specs.ShardEvents.{Event, Attach, Subscribe, Unsubscribe, Reply, Shut, Detach, Take, Begin, Claim, End, DropJob, Collect, Answer, Taken}
 use Rattle.shard_core.specs.ShardSteps.{IsAsked, called, new_sub, subscribed, ended_now, unsubscribed, answer_fits, shard_refusal, shard_answer, shard_after}
-use Rattle.shard_core.specs.Shards.{State}
+use Rattle.shard_core.specs.Shards.{State, waits_for}
 use Rattle.shard_core.specs.declared.faults.ShardFault.{ShardFault}
-use Rattle.node_threads.specs.AtWork.{AtWork, Makes, Does, IsAtWork, HasDone, at_start, tried_of, one_if}
+use Rattle.node_threads.specs.AtWork.{AtWork, Makes, Does, TakesBytes, IsAtWork, HasDone, at_start, tried_of, one_if}
 use Rattle.node_threads.specs.Steps.{job_in, claimed_in}
 use Rattle.node_threads.proofs.Joining.{makes_join}
 
@@ -158,3 +160,29 @@ client_decided {T} shards next_index w held held' e answer r c is i h = go r h
 pub collected_at_work : (shards next_index : ℕ) (w : AtWork) (held held' : Held) (answer : Answer) → w.state ≡ held.state → IsAtWork shards next_index w → DoesStep held Collect answer held' → IsAtWork shards next_index (with_state w held'.state)
 collected_at_work shards next_index w held held' answer is i d =
     (client_call {T = Unit {0}} shards next_index w held held' Collect (λ _. answer) (Ok tt) refl is i (refl, d)).works
+
+-- what a take comes to that moves the bytes of the entries
+pub record TookBytes (shards next_index : ℕ) (w new : AtWork) (conn count : ℕ) (before bytes : List ℕ) (r : Result ℕ (Failure ShardFault)) : Type 0 where
+  pub works : IsAtWork shards next_index new
+  pub answers : IsAnswered (shard_refusal w.state (Take conn count)) (λ taken. TakesBytes w conn count taken before bytes new) ((new ≡ w) × (bytes ≡ before)) r
+
+pub took_bytes : (shards next_index : ℕ) (w : AtWork) (held held' : Held) (conn count : ℕ) (before bytes : List ℕ) (r : Result ℕ (Failure ShardFault))
+    → w.state ≡ held.state → IsAtWork shards next_index w
+    → IsAnswered (shard_refusal held.state (Take conn count)) (λ taken. of_shard.TakesBytes held conn count taken before bytes held') (IsLeft held held' × (bytes ≡ before)) r
+    → TookBytes shards next_index w (with_state w held'.state) conn count before bytes r
+took_bytes shards next_index w held held' conn count before bytes r is i h = go r h
+  where
+    given : List Written
+    given = take count (waits_for conn held.state.clients)
+
+    go : (r : Result ℕ (Failure ShardFault)) → IsAnswered (shard_refusal held.state (Take conn count)) (λ taken. of_shard.TakesBytes held conn count taken before bytes held') (IsLeft held held' × (bytes ≡ before)) r
+        → TookBytes shards next_index w (with_state w held'.state) conn count before bytes r
+    go (Ok n) g =
+        let called = client_call {T = Unit {0}} shards next_index w held held' (Take conn count) (λ _. Taken given) (Ok tt) refl is i (g.0, record { answered = refl; after = g.1.after }) in
+        record { works = called.works; answers = (called.answers.0, record { entries = given; does = called.answers.1; told = g.1.told; bytes_are = g.1.bytes_are }) }
+    go (Err (Refused why)) g =
+        let called = client_call {T = Unit {0}} shards next_index w held held' (Take conn count) (λ _. Taken given) (Err (Refused why)) refl is i (g.0, g.1.0) in
+        record { works = called.works; answers = (called.answers.0, (called.answers.1, g.1.1)) }
+    go (Err OutOfMemory) g =
+        let called = client_call {T = Unit {0}} shards next_index w held held' (Take conn count) (λ _. Taken given) (Err OutOfMemory) refl is i (g.0, g.1.0) in
+        record { works = called.works; answers = (called.answers.0, (called.answers.1, g.1.1)) }

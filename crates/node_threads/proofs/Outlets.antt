@@ -5,7 +5,7 @@ use Rattle.std.proofs.lemmas.List.{length-map, get_or-map}
 use Rattle.subj.specs.declared.jobs.Job.{Job}
 use Rattle.job_lane.specs.Turns.{AreNumbered, AreNumberedBehind}
 use Rattle.job_lane.proofs.Numbering.{numbered_behind, numbered_front, numbered_append, numbered_none}
-use Rattle.node_threads.specs.Outlets.{Line, owed, handed_to, handed, IsOutlet}
+use Rattle.node_threads.specs.Outlets.{AreFirst, Line, owed, handed_to, handed, IsOutlet}
 
 -- what is owed has the next turns
 pub owed_behind : (pushed : List Job) (taken : Bool) (run : List Job) → taken ≡ false → AreNumbered (pushed ++ owed taken (Some run)) → AreNumberedBehind (length pushed) run
@@ -126,3 +126,7 @@ new_outlet (l ∷ ls) some all =
 pub none_of : (o : Option (List Job)) (b : Bool) → b ≡ is_some o → b ≡ false → o ≡ None
 none_of None b e f = refl
 none_of (Some run) b e f = absurd (true≢false (sym e ∙ f))
+
+-- what was pushed to each lane came first
+pub pushed_first : (run : Option (List Job)) (unsent : List Job) (lines : List Line) → IsOutlet run unsent lines → All (λ line. AreFirst line.pushed (handed run unsent lines)) lines
+pushed_first run unsent lines i k d lt = (owed (get_or lines k d).taken run ++ unsent, sym (i.alike k d lt))

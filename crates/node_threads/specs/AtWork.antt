@@ -4,7 +4,8 @@ use Rattle.subj.specs.declared.jobs.Job.{Job}
 use Rattle.claim_cells.specs.declared.parts.ShardPart.{ShardPart}
 use Rattle.claim_cells.specs.Rule.{newcomer}
 use Rattle.claim_cells.specs.Seats.{HasTurn}
-use Rattle.shard_core.specs.ShardEvents.{Event, Answer}
+use Rattle.outbox.specs.Views.{Written, bytes_of_all}
+use Rattle.shard_core.specs.ShardEvents.{Event, Answer, Take, Taken}
 use Rattle.shard_core.specs.ShardSteps.{shard_answer, shard_after}
 use Rattle.shard_core.specs.Shards.{State, new_shard}
 use Rattle.node_threads.specs.Steps.{Done, Leads, jobs_of, claims_of}
@@ -45,6 +46,13 @@ HasDone shards w = (steps : List Done) × Makes (at_start w.part.shard shards) s
 pub record Does (old : AtWork) (event : Event) (answer : Answer) (new : AtWork) : Type 0 where
   pub answered : answer ≡ shard_answer old.state event
   pub after : new ≡ record old { state = shard_after old.state event }
+
+-- the step of a take that gives these entries, whose bytes stand behind those that were there
+pub record TakesBytes (old : AtWork) (conn count taken : ℕ) (before bytes : List ℕ) (new : AtWork) : Type 0 where
+  pub entries : List Written
+  pub does : Does old (Take conn count) (Taken entries) new
+  pub told : taken ≡ length entries
+  pub bytes_are : bytes ≡ before ++ bytes_of_all entries
 
 -- ---- what its fields keep
 

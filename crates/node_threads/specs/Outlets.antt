@@ -33,3 +33,7 @@ pub record IsOutlet (run : Option (List Job)) (unsent : List Job) (lines : List 
   pub some : 0 < length lines
   pub alike : All (λ line. handed_to run unsent line ≡ handed run unsent lines) lines
   pub numbered : AreNumbered (handed run unsent lines)
+
+-- these jobs are the first of those
+abbrev pub AreFirst : List Job → List Job → Type 0
+AreFirst first jobs = (rest : List Job) × (jobs ≡ first ++ rest)

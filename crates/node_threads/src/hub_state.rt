@@ -40,9 +40,9 @@ use subj::{ConnId, Failure, Finished, Job, Pub, Server, Turn};
 #[derive(Drop)]
 pub struct HubState<N: NodeName> {
     side: Side,
-    seat: HubSeat,
+    pub(crate) seat: HubSeat,
     finished: Finished,
-    outlet: Outlet<N>,
+    pub(crate) outlet: Outlet<N>,
     of: PhantomData<N>,
 }
 

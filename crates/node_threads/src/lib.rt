@@ -3,6 +3,7 @@
 #![tactic(auto)]
 
 mod dropping;
+mod ending;
 mod gates;
 mod hub_state;
 mod laws;

@@ -47,6 +47,22 @@ impl<N: NodeName> Line<N> {
         }
     }
 
+    /// Of which shard it is, counted from 1.
+    pub fn shard(&self) -> u64
+        ensures { result ≡ self.now.shard }
+    {
+        self.shard
+    }
+
+    /// The end of the lane alone.
+    pub fn into_lane(self) -> LaneIn
+        ensures lane { slice_get N.lanes (self.shard - 1) ≡ Some result.lane }
+        ensures pushed { result.pushed ≡ self.pushed }
+    {
+        let Line { lane, .. } = self;
+        lane
+    }
+
     /// Whether the lane has the run that is handed out.
     pub(crate) fn has_taken(&self) -> bool
         ensures { result ≡ self.now.taken }

@@ -6,7 +6,7 @@ use std::marker::Brand;
 ///
 /// A server lives in a function that is generic in its name; the call of that function picks it.
 pub trait NodeName {
-    ghost use Rattle.std.specs.Prelude.{List};
+    ghost use Rattle.std.specs.Prelude.{Bool, List};
     ghost use Rattle.atomic_table.specs.Seated.{TableId};
     ghost use Rattle.claim_cells.specs.Seats.{RaceId};
 
@@ -15,13 +15,18 @@ pub trait NodeName {
 
     /// The lanes of its shards, that of shard 1 first.
     ghost lanes: { List TableId };
+
+    /// Whether its calls' answers are to be kept in writing; nothing is kept yet.
+    ghost keep: { Bool };
 }
 
 impl NodeName for Brand {
-    ghost use Rattle.std.specs.Prelude.{[]};
+    ghost use Rattle.std.specs.Prelude.{[], false};
     ghost use Rattle.node_threads.specs.Names.{no_race};
 
     ghost race = { no_race };
 
     ghost lanes = { [] };
+
+    ghost keep = { false };
 }

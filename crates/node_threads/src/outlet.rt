@@ -2,7 +2,7 @@
 
 ghost use Rattle.std.specs.Prelude.{◌≡◌, ◌+◌, ◌<◌, ◌∷◌, ◌++◌, [], true, false, All, length, map, IfOk, OnOk, Some, None};
 ghost use Rattle.job_lane.specs.Turns.{AreNumbered};
-ghost use Rattle.node_threads.specs.Outlets.{owed};
+ghost use Rattle.node_threads.specs.Outlets.{AreFirst, owed};
 
 use crate::line::Line;
 use crate::names::NodeName;
@@ -149,5 +149,13 @@ impl<N: NodeName> Outlet<N> {
         };
         begin_all(&mut self.lines);
         self.run = Some(run);
+    }
+
+    /// The ends of the lanes.
+    pub fn into_lines(self) -> Vec<Line<N>>
+        ensures { All (λ line. AreFirst line.pushed self.jobs) result.items }
+    {
+        let Outlet { lines, .. } = self;
+        lines
     }
 }

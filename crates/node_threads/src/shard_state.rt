@@ -7,7 +7,7 @@ ghost use Rattle.claim_cells.specs.Rule.{newcomer};
 ghost use Rattle.shard_core.specs.Answers.{answer_of};
 ghost use Rattle.shard_core.specs.ShardEvents.{Attach, Subscribe, Unsubscribe, Reply, Shut, Detach, Take, Collect, Attached, Unsubscribed, Replied, WasShut, Detached, Taken, Collected};
 ghost use Rattle.shard_core.specs.ShardSteps.{shard_refusal};
-ghost use Rattle.node_threads.specs.AtWork.{Does, at_start};
+ghost use Rattle.node_threads.specs.AtWork.{Does, TakesBytes, at_start};
 
 use crate::names::NodeName;
 use claim_cells::ShardSeat;
@@ -142,6 +142,18 @@ impl<T: SubTable, N: NodeName> ShardState<T, N> {
         ensures { IsAnswered (shard_refusal self.old.state (Take conn count)) (λ entries. Does self.old (Take conn count) (Taken entries.items) self.new) (self.new ≡ self.old) result }
     {
         self.shard.take(conn, count)
+    }
+
+    /// [`Shard::take_bytes`].
+    pub fn take_bytes(
+        &mut self,
+        conn: ConnId,
+        count: usize,
+        out: &mut Vec<u8>,
+    ) -> Result<usize, Failure<ShardFault>>
+        ensures { IsAnswered (shard_refusal self.old.state (Take conn count)) (λ taken. TakesBytes self.old conn count taken out.old.items out.new.items self.new) ((self.new ≡ self.old) × (out.new.items ≡ out.old.items)) result }
+    {
+        self.shard.take_bytes(conn, count, out)
     }
 
     /// [`Shard::deltas`].

@@ -1,0 +1,33 @@
+use Rattle.std.proofs.Common.{◌≡◌, ◌+◌, [], ◌∷◌, ◌++◌, All, length, sym, ap, ◌∙◌, subst, refl, arith}
+use Rattle.node_threads.specs.Outlets.{AreFirst}
+use Rattle.thread_node.specs.Reports.{AreClosed}
+use Rattle.thread_node.proofs.Legal.{closed_none, closed_more}
+use Rattle.thread_node.proofs.Starting.{all_first, all_rest}
+use Rattle.thread_node.proofs.finish.close_shards.Goals as goal
+
+pub loop-line-init : goal.loop-line-init
+loop-line-init g c = λ issued all. (all, subst (AreClosed g.N.NodeName.race issued) (sym c.new-seats.ensures.items) (closed_none g.N.NodeName.race issued))
+
+pub loop-line-preserved : goal.loop-line-preserved
+loop-line-preserved g c = λ issued all.
+    let i = c.loop-line.invariant issued all in
+    let race = g.N.NodeName.race in
+    let line = c.in-Some.line in
+    let rest = c.next.new.self.a.rest.items in
+    let lines = subst (All (λ l. AreFirst l.pushed issued)) c.in-Some.ensures.steps.0.0 i.0 in
+    let e = c.in-Some-close_shard.ensures in
+    let seat = c.in-Some-close_shard.seat in
+    let w = c.into_inner.result in
+    let old = c.loop-line.seats.items in
+    let seats = c.push_reserved.ensures.items ∙ ap (λ s. s ++ seat ∷ []) c.reserve.ensures.items in
+    let number : w.part.shard ≡ length old + 1 = omega (arith, e.shard, c.len.ensures) in (
+      all_rest (λ l. AreFirst l.pushed issued) line rest lines,
+      subst (AreClosed race issued) (sym seats) (closed_more race issued line.pushed old seat w w.part.shard i.1 number e.seat.0 e.seat.1 refl e.done e.popped (all_first (λ l. AreFirst l.pushed issued) line rest lines)),
+    )
+
+pub returns : goal.returns
+returns g c =
+    let from = ap (λ z. z.a.rest.items) c.into_iter-line-iterator.ensures.into_iter_gives ∙ ap (λ z. z.rest.items) c.zip-line-items.ensures.first ∙ c.into_iter.ensures.rest in (
+      omega (arith, c.if-len-count.false, c.len-2.ensures, c.len-count.ensures),
+      λ issued all. (c.loop-line.invariant issued (subst (All (λ l. AreFirst l.pushed issued)) (sym from) all)).1,
+    )

@@ -1,0 +1,100 @@
+//! What a server on threads is made of.
+
+ghost use Rattle.std.specs.Prelude.{◌≡◌, All, map, IfOk};
+ghost use Rattle.thread_node.specs.Parts.{IsFreshLane};
+
+use claim_cells::{Cells, HubSeat, ShardSeat};
+use crossbeam_utils::sync::{Parker, Unparker};
+use job_lane::{LANE_CAPACITY, LaneIn, LaneOut, lane};
+use std::alloc::{AllocError, Global};
+use std::marker::Model;
+use subj::Server;
+
+/// What a shard has: its seat at the race, and both ends of its lane.
+#[derive(Drop)]
+pub(crate) struct ShardParts {
+    pub seat: ShardSeat,
+    pub near: LaneIn,
+    pub far: LaneOut,
+}
+
+/// What a server on threads is made of: the race of its shards with all seats, a lane for each shard, and
+/// what wakes each shard's worker. (Profile.)
+///
+/// Seen as the server, its race, its lanes, that of shard 1 first, and whether its calls' answers are to be kept in writing.
+#[derive(Drop)]
+pub struct Parts {
+    pub(crate) server: Server,
+    pub(crate) keep: bool,
+    pub(crate) cells: Cells,
+    pub(crate) hub: HubSeat,
+    pub(crate) shards: Vec<ShardParts>,
+    pub(crate) unparkers: Vec<Unparker>,
+}
+
+impl Model for Parts {
+    ghost use Rattle.std.specs.Prelude.{map};
+    ghost use Rattle.thread_node.specs.Parts.{Given, AreFresh};
+
+    ghost Value = { Given };
+
+    ghost view = { λ p. record { server = p.server; race = p.cells; lanes = map (λ s. s.near.lane) p.shards.items; keep = p.keep } };
+
+    ghost invariant = { λ p. AreFresh p.server p.cells p.hub p.shards.items };
+}
+
+/// A seat and a new lane for each shard, in their order.
+fn shard_parts(alloc: Global, seats: Vec<ShardSeat>) -> Result<Vec<ShardParts>, AllocError>
+    ensures { IfOk result (λ shards. (map (λ p. p.seat) shards.items ≡ seats.items) × All (λ p. IsFreshLane p.near p.far) shards.items) }
+{
+    let mut shards = Vec::with_capacity(alloc, seats.len())?;
+    for seat in seats {
+        let (near, far) = lane(alloc, LANE_CAPACITY)?;
+        shards.push(ShardParts { seat, near, far })?;
+    }
+    Ok(shards)
+}
+
+/// A parker for each shard, and what wakes it, in their order.
+fn parkers(alloc: Global, shards: u64) -> Result<(Vec<Parker>, Vec<Unparker>), AllocError> {
+    let mut parkers = Vec::new(alloc);
+    let mut unparkers = Vec::new(alloc);
+    for _shard in 0..shards {
+        let parker = Parker::new(alloc)?;
+        unparkers.push(parker.unparker().clone()?)?;
+        parkers.push(parker)?;
+    }
+    Ok((parkers, unparkers))
+}
+
+impl Parts {
+    /// The parts of this server, which has done nothing, and a parker for the worker of each shard, that of
+    /// shard 1 first. `keep` says whether its calls' answers are to be kept in writing; nothing is kept yet.
+    pub fn new(
+        alloc: Global,
+        server: Server,
+        keep: bool,
+    ) -> Result<(Parts, Vec<Parker>), AllocError>
+        ensures { IfOk result (λ made. (made.0.server ≡ server) × (made.0.keep ≡ keep)) }
+    {
+        let (parkers, unparkers) = parkers(alloc, server.shards())?;
+        let (cells, hub, seats) = Cells::new(alloc, server.shards())?;
+        let shards = shard_parts(alloc, seats)?;
+        let parts = Parts {
+            server,
+            keep,
+            cells,
+            hub,
+            shards,
+            unparkers,
+        };
+        Ok((parts, parkers))
+    }
+
+    /// How many shards the server has, from 1.
+    pub fn shards(&self) -> u64
+        ensures { result ≡ self.now.server.shards }
+    {
+        self.server.shards()
+    }
+}
