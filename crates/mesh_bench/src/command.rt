@@ -13,6 +13,8 @@ pub enum Command {
     Matches(u64),
     /// A hub, with about so many publications in each case.
     Hubs(u64),
+    /// A server, with so many publications in each case.
+    Nodes(u64),
     /// A shard, with about so many entries in each case.
     Shards(u64),
 }
@@ -28,6 +30,7 @@ pub fn command_of(measure: Option<&str>, number: Option<&str>) -> Option<Command
         "frames" => Some(Command::Frames(number)),
         "matches" => Some(Command::Matches(number)),
         "hub" => Some(Command::Hubs(number)),
+        "node" => Some(Command::Nodes(number)),
         "shard" => Some(Command::Shards(number)),
         _ => None,
     }

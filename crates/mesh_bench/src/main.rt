@@ -17,6 +17,9 @@ mod locked_run;
 mod match_calls;
 mod match_subjects;
 mod matches;
+mod node_run;
+mod node_setup;
+mod nodes;
 mod shard_run;
 mod shard_setup;
 mod shards;
@@ -26,6 +29,7 @@ use frames::measure_frames;
 use hubs::measure_hubs;
 use lanes::measure_lanes;
 use matches::measure_matches;
+use nodes::measure_nodes;
 use shards::measure_shards;
 use std::alloc::Global;
 use std::rt::{Clock, Env};
@@ -44,12 +48,14 @@ where
             measure_frames(rt, None)?;
             measure_matches(rt, None)?;
             measure_shards(rt, None)?;
-            measure_hubs(rt, None)
+            measure_hubs(rt, None)?;
+            measure_nodes(rt, None)
         }
         Command::Lanes(jobs) => measure_lanes(rt, Some(jobs)),
         Command::Frames(megabytes) => measure_frames(rt, Some(megabytes)),
         Command::Matches(subjects) => measure_matches(rt, Some(subjects)),
         Command::Hubs(publications) => measure_hubs(rt, Some(publications)),
+        Command::Nodes(publications) => measure_nodes(rt, Some(publications)),
         Command::Shards(entries) => measure_shards(rt, Some(entries)),
     }
 }

@@ -39,7 +39,7 @@ pub fn check<R: Race, X: Abort>(
 }
 
 /// Makes a step without copies, which is to come to this.
-fn check_answer<R: Race, X: Abort>(
+pub fn check_answer<R: Race, X: Abort>(
     rt: &X,
     node: &mut Node<TrieTable, R>,
     event: &NodeEvent,

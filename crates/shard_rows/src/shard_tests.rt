@@ -256,6 +256,52 @@ fn shut_and_gone(rt: HostRuntime) -> Result<(), Fail> {
     connection_ends(&rt, &mut shard, rt.alloc())
 }
 
+/// Opens a plain subscription to this pattern.
+fn open_plain(
+    shard: &mut ListShard,
+    alloc: Global,
+    conn: ConnId,
+    pattern: &[u8],
+    sid: &[u8],
+) -> Result<Subscribed, Fail> {
+    let sid = Sid::read(alloc, sid)?;
+    let pattern = Pattern::read(alloc, pattern)?;
+    let key = Key {
+        pattern,
+        queue: None,
+    };
+    Ok(shard.subscribe(conn, key, sid)?)
+}
+
+/// Whether the hub is to hear just of closings of plain subscriptions to these patterns.
+fn are_closings(shard: &ListShard, patterns: &[&[u8]]) -> bool {
+    let deltas = shard.deltas();
+    let mut closed = deltas.iter().zip(patterns);
+    deltas.len() == patterns.len()
+        && closed.all(|(delta, pattern)| !delta.up && delta.key.pattern.bytes() == *pattern)
+}
+
+fn own_ones_close(rt: &impl Abort, shard: &mut ListShard, alloc: Global) -> Result<(), Fail> {
+    let first = shard.attach()?;
+    let other = shard.attach()?;
+    open_plain(shard, alloc, first, b"a", b"1")?;
+    open_plain(shard, alloc, other, b"b", b"1")?;
+    open_plain(shard, alloc, first, b"c", b"2")?;
+    shard.take_deltas();
+    assert_eq!(rt; shard.detach(first)?.len(), 2);
+    assert!(rt; are_closings(shard, &[b"a", b"c"]));
+    shard.take_deltas();
+    assert_eq!(rt; shard.detach(other)?.len(), 1);
+    assert!(rt; are_closings(shard, &[b"b"]));
+    Ok(())
+}
+
+#[test]
+fn closings_come_in_order_of_opening(rt: HostRuntime) -> Result<(), Fail> {
+    let mut shard: ListShard = Shard::new(rt.alloc(), 1, 1)?;
+    own_ones_close(&rt, &mut shard, rt.alloc())
+}
+
 /// The key of a pattern of so many bytes.
 fn long_key(alloc: Global, size: usize) -> Result<Key, Fail> {
     let text = vec![in alloc; b'a'; size]?;
