@@ -225,6 +225,3 @@ impl<T: SubTable> Openings<T> {
         self.deltas.clear();
     }
 }
-
-#[cfg(test)]
-mod tests;
