@@ -90,10 +90,10 @@ fn close_shards<T: SubTable, N: NodeName, R: Wait>(
 }
 
 impl<T: SubTable, N: NodeName> ThreadNode<T, N> {
-    /// Ends the server, and tells what it has done. It did only steps of its own: there are a list of the
-    /// hub's and the sessions' steps and one of each shard's steps, which lead from the start to what stood
-    /// under the locks. Each shard worked a beginning of the jobs that the hub gave, in order. No queue
-    /// name of a turn was won twice, and each that was lost was won by another shard.
+    /// Ends the server, and tells which turns it issued and finished. There is a legal run with these numbers:
+    /// a list of the hub's and the sessions' steps and one of each shard's steps, where each shard worked a
+    /// beginning of the jobs that the hub gave, in order, no queue name of a turn was won twice, and each that
+    /// was lost was won by another shard. Nothing ties that run yet to what callers were told.
     ///
     /// The server is given up for want of memory too. May wait.
     pub fn finish<R: Wait>(self, rt: &R, alloc: Global) -> Result<Report, Unfinished>
