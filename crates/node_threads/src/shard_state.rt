@@ -6,6 +6,7 @@ ghost use Rattle.subj.specs.declared.limits.TheConstants.{MAX_SHARDS};
 ghost use Rattle.claim_cells.specs.Rule.{newcomer};
 ghost use Rattle.shard_core.specs.Answers.{answer_of};
 ghost use Rattle.shard_core.specs.ShardEvents.{Attach, Subscribe, Unsubscribe, Reply, Shut, Detach, Take, Collect, Attached, Unsubscribed, Replied, WasShut, Detached, Taken, Collected};
+ghost use Rattle.shard_core.specs.Shards.{is_open as opened};
 ghost use Rattle.shard_core.specs.ShardSteps.{shard_refusal};
 ghost use Rattle.node_threads.specs.AtWork.{Does, TakesBytes, at_start};
 
@@ -15,7 +16,7 @@ use client_frames::{ErrText, ReplyFrame};
 use interest::Delta;
 use job_lane::LaneOut;
 use outbox::Entry;
-use shard_core::{Closed, Shard, ShardFault, Subscribed};
+use shard_core::{Closed, Recipients, Shard, ShardFault, Subscribed};
 use std::alloc::{AllocError, Global};
 use std::marker::{Model, PhantomData};
 use sub_table::SubTable;
@@ -154,6 +155,25 @@ impl<T: SubTable, N: NodeName> ShardState<T, N> {
         ensures { IsAnswered (shard_refusal self.old.state (Take conn count)) (λ taken. TakesBytes self.old conn count taken out.old.items out.new.items self.new) ((self.new ≡ self.old) × (out.new.items ≡ out.old.items)) result }
     {
         self.shard.take_bytes(conn, count, out)
+    }
+
+    /// [`Shard::is_open`].
+    pub fn is_open(&self, conn: ConnId) -> bool
+        ensures { result ≡ opened conn self.now.state.clients }
+    {
+        self.shard.is_open(conn)
+    }
+
+    /// [`Shard::is_urgent`].
+    pub fn is_urgent(&self) -> bool {
+        self.shard.is_urgent()
+    }
+
+    /// [`Shard::swap_recipients`].
+    pub fn swap_recipients(&mut self, recipients: &mut Recipients)
+        ensures { self.new ≡ self.old }
+    {
+        self.shard.swap_recipients(recipients);
     }
 
     /// [`Shard::deltas`].

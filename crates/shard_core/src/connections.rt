@@ -7,6 +7,7 @@ ghost use Rattle.shard_core.specs.Boxes.{AreRising, AreConns, IsSettled, IsSettl
 ghost use Rattle.shard_core.specs.Shards.{is_open as opened, is_known as known, client_at, changed, detached, fits, fits_len, waits_for};
 ghost use Rattle.shard_core.specs.ShardSteps.{new_client};
 
+use crate::recipients::Recipients;
 use bytes::Bytes;
 use outbox::{Entry, LAST_LINE_TEXT, Mode, Outbox};
 use std::alloc::{AllocError, Global};
@@ -98,6 +99,11 @@ fn found(conns: &Vec<Conn>, conn: ConnId) -> Option<&Conn>
     }
 }
 
+/// Whether half of the room for entries or for bytes is used.
+fn is_half_full(outbox: &Outbox) -> bool {
+    outbox.len() >= OUTBOX_ENTRIES / 2 || !outbox.room(OUTBOX_BYTES / 2)
+}
+
 /// Removes the connection of this number.
 fn remove(conns: &mut Vec<Conn>, number: u64)
     ensures { conns.new.items ≡ filter (λ conn. not (conn.number == number)) conns.old.items }
@@ -117,6 +123,8 @@ pub struct Conns {
     conns: Vec<Conn>,
     /// Where something is staged.
     places: Vec<usize>,
+    /// For which connections something was put.
+    recipients: Recipients,
 }
 
 impl Model for Conns {
@@ -141,6 +149,7 @@ impl Conns {
             alloc,
             conns: Vec::new(alloc),
             places: Vec::new(alloc),
+            recipients: Recipients::new(alloc),
         }
     }
 
@@ -217,6 +226,8 @@ impl Conns {
     {
         if let Some(place) = place_in(&self.conns, conn) {
             self.places.push(place)?;
+            let is_urgent = is_half_full(&self.conns[place].outbox);
+            self.recipients.note(conn, self.conns.len(), is_urgent);
             let conn = &mut self.conns[place];
             conn.outbox.stage(entry)?;
         }
@@ -242,6 +253,8 @@ impl Conns {
     {
         if let Some(place) = place_in(&self.conns, conn) {
             self.places.push(place)?;
+            let is_urgent = is_half_full(&self.conns[place].outbox);
+            self.recipients.note(conn, self.conns.len(), is_urgent);
             let conn = &mut self.conns[place];
             conn.outbox.stage_message(id, sub, mode, line, payload)?;
         }
@@ -259,6 +272,8 @@ impl Conns {
     {
         if let Some(place) = place_in(&self.conns, conn) {
             self.places.push(place)?;
+            let is_urgent = is_half_full(&self.conns[place].outbox);
+            self.recipients.note(conn, self.conns.len(), is_urgent);
             let conn = &mut self.conns[place];
             conn.outbox.stage_last(line)?;
         }
@@ -301,6 +316,8 @@ impl Conns {
         ensures { self.new ≡ on_both (changed (with_last line.now) conn) self.old }
     {
         if let Some(place) = place_in(&self.conns, conn) {
+            let is_urgent = is_half_full(&self.conns[place].outbox);
+            self.recipients.note(conn, self.conns.len(), is_urgent);
             let conn = &mut self.conns[place];
             conn.outbox.shut(line);
         }
@@ -348,6 +365,20 @@ impl Conns {
                 Ok(taken)
             }
         }
+    }
+
+    /// Whether the recipients that are told next are to be asked for soon ([`Recipients::is_urgent`]).
+    pub fn is_urgent(&self) -> bool {
+        self.recipients.is_urgent()
+    }
+
+    /// Gives for which connections something was put since the last time in place of what `recipients` tells,
+    /// which is forgotten.
+    pub fn swap_recipients(&mut self, recipients: &mut Recipients)
+        ensures { self.new ≡ self.old }
+    {
+        recipients.clear();
+        std::mem::swap(&mut self.recipients, recipients);
     }
 
     /// The connection goes, with all that waits for it. Takes no memory.

@@ -10,6 +10,7 @@ mod faults;
 mod laws;
 mod members;
 mod openings;
+mod recipients;
 mod shard;
 mod walk;
 
@@ -26,4 +27,5 @@ pub use laws::{
     room_decides, shard_follows, subs_close_by_cause, subs_go_on, subs_stay_held,
 };
 pub use openings::Openings;
+pub use recipients::Recipients;
 pub use shard::Shard;

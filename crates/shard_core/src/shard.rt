@@ -22,6 +22,7 @@ use crate::claim::{QueueClaim, choose};
 use crate::connections::Conns;
 use crate::faults::ShardFault;
 use crate::openings::Openings;
+use crate::recipients::Recipients;
 use crate::walk::{Tally, is_last, named, place_all};
 use client_frames::{ErrText, ReplyFrame, reply_line};
 use interest::Delta;
@@ -399,6 +400,26 @@ impl<T: SubTable> Shard<T> {
         }
         let taken = self.conns.take_bytes(conn, count, out)?;
         Ok(taken)
+    }
+
+    /// Whether the connection is there and not shut.
+    pub fn is_open(&self, conn: ConnId) -> bool
+        ensures { result ≡ opened conn self.now.state.clients }
+    {
+        self.conns.is_open(conn)
+    }
+
+    /// Whether the recipients that are told next are to be asked for soon ([`Recipients::is_urgent`]).
+    pub fn is_urgent(&self) -> bool {
+        self.conns.is_urgent()
+    }
+
+    /// Gives for which connections something was put since the last time, in place of what `recipients`
+    /// tells, which is forgotten. Takes no memory.
+    pub fn swap_recipients(&mut self, recipients: &mut Recipients)
+        ensures { self.new ≡ self.old }
+    {
+        self.conns.swap_recipients(recipients);
     }
 
     /// The job in hand.

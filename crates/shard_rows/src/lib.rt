@@ -3,8 +3,12 @@
 #![tactic(auto)]
 
 #[cfg(test)]
+mod outbox_driver;
+#[cfg(test)]
 mod outbox_tests;
 #[cfg(test)]
 mod pattern_tests;
+#[cfg(test)]
+mod shard_driver;
 #[cfg(test)]
 mod shard_tests;

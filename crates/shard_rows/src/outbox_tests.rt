@@ -1,107 +1,34 @@
 //! Examples: what entries are written as, the limits to the byte, the last line, taking and staging.
 
-ghost use Rattle.std.specs.Prelude.{◌≡◌, false, IfOk};
-ghost use Rattle.outbox.specs.Views.{reply_entry};
-
+use crate::outbox_driver::{
+    Settled, behind, bytes_of, copy_of, copy_of_tag, message, publication, reply, written,
+};
 use bytes::Bytes;
-use outbox::{Entry, LAST_LINE_TEXT, Mode, Outbox, Tag};
+use outbox::{Entry, LAST_LINE_TEXT, Mode, Tag};
 use std::alloc::{AllocError, Global};
 use std::process::Abort;
 use std::test::Fail;
-use subj::{
-    Incarnation, MAX_PAYLOAD, NodeId, OUTBOX_BYTES, OUTBOX_ENTRIES, PubId, QueueName, SubId,
-};
+use subj::{OUTBOX_BYTES, OUTBOX_ENTRIES, QueueName};
 
 /// 5 bytes with its CR LF.
 const OK: &[u8] = b"+OK";
 /// 22 bytes with its CR LF.
 const SLOW: &[u8] = b"-ERR 'Slow Consumer'";
 
-fn publication(rt: &impl Abort, number: u64) -> PubId {
-    PubId {
-        origin: NodeId::read(b"n1").ok().expect(rt, "a node name"),
-        inc: Incarnation::new(4).expect(rt, "an incarnation"),
-        number,
-    }
-}
-
-fn reply(rt: &impl Abort, alloc: Global, line: &[u8]) -> Result<Entry, AllocError>
-    ensures { IfOk result (λ entry. entry ≡ reply_entry line.now) }
-{
-    assert!(rt; line.len() <= OUTBOX_BYTES);
-    Ok(Entry::reply(Vec::from_slice(alloc, line)?))
-}
-
-fn message(
-    rt: &impl Abort,
-    alloc: Global,
-    mode: Mode,
-    line: &[u8],
-    payload: &'static [u8],
-) -> Result<Entry, AllocError> {
-    assert!(rt; line.len() <= OUTBOX_BYTES);
-    let line = Vec::from_slice(alloc, line)?;
-    let payload = Bytes::from_static(payload);
-    assert!(rt; payload.len() <= MAX_PAYLOAD);
-    let sub = SubId {
-        shard: 1,
-        serial: 2,
-    };
-    Ok(Entry::message(publication(rt, 9), sub, mode, line, payload))
-}
-
-/// The bytes of all the entries, in order.
-fn written(alloc: Global, entries: &[Entry]) -> Result<Vec<u8>, AllocError> {
-    let mut bytes = Vec::new(alloc);
-    for entry in entries {
-        entry.append_to(&mut bytes)?;
-    }
-    Ok(bytes)
-}
-
-/// Puts an answer of this line, for which there must be room.
-fn put(rt: &impl Abort, alloc: Global, outbox: &mut Outbox, line: &[u8]) -> Result<(), Fail>
-    requires { outbox.old.next ≡ outbox.old.shown }
-    ensures settled { outbox.new.next ≡ outbox.new.shown }
-    ensures not_shut { outbox.new.shown.shut ≡ outbox.old.shown.shut }
-{
-    let entry = reply(rt, alloc, line)?;
-    assert!(rt; outbox.room(entry.len()), "{line:?}");
-    outbox.stage(entry)?;
-    outbox.commit();
-    Ok(())
-}
-
-/// Stages an answer of this line, for which there must be room.
-fn stage(rt: &impl Abort, alloc: Global, outbox: &mut Outbox, line: &[u8]) -> Result<(), Fail>
-    ensures { outbox.new.shown ≡ outbox.old.shown }
-{
-    let entry = reply(rt, alloc, line)?;
-    assert!(rt; outbox.room(entry.len()), "{line:?}");
-    outbox.stage(entry)?;
-    Ok(())
-}
-
-/// An outbox with these limits in which this many answers `+OK` wait.
-fn filled(
-    rt: &impl Abort,
-    alloc: Global,
-    max_entries: usize,
-    max_bytes: usize,
-    count: usize,
-) -> Result<Outbox, Fail>
-    ensures settled { IfOk result (λ outbox. outbox.next ≡ outbox.shown) }
-    ensures not_shut { IfOk result (λ outbox. outbox.shown.shut ≡ false) }
-{
-    let mut outbox = Outbox::new(alloc, max_entries, max_bytes)?;
-    for _ in 0..count {
-        put(rt, alloc, &mut outbox, OK)?;
-    }
-    Ok(outbox)
+/// The bytes of the entry, those of its copy, and what stands behind others are these.
+fn assert_is_written(rt: &impl Abort, alloc: Global, entry: &Entry, bytes: &[u8]) {
+    assert_eq!(rt; entry.len(), bytes.len());
+    assert_eq!(rt; bytes_of(rt, alloc, entry).as_slice(), bytes);
+    let copy = copy_of(rt, alloc, entry);
+    assert_eq!(rt; bytes_of(rt, alloc, &copy).as_slice(), bytes);
+    let out = behind(rt, alloc, b"PONG\r\n", entry);
+    assert!(rt; out.starts_with(b"PONG\r\n"));
+    assert_eq!(rt; out.len(), 6 + bytes.len());
+    assert!(rt; out.ends_with(bytes));
 }
 
 #[test]
-fn entries_are_written_as_the_protocol_has_them(rt: HostRuntime) -> Result<(), Fail> {
+fn entries_are_written_as_the_protocol_has_them(rt: HostRuntime) {
     let alloc = rt.alloc();
     let table: [(&[u8], Option<&'static [u8]>, &[u8]); 6] = [
         (b"+OK", None, b"+OK\r\n"),
@@ -117,53 +44,74 @@ fn entries_are_written_as_the_protocol_has_them(rt: HostRuntime) -> Result<(), F
     ];
     for (line, payload, bytes) in table {
         let entry = match payload {
-            None => reply(&rt, alloc, line)?,
-            Some(payload) => message(&rt, alloc, Mode::Plain, line, payload)?,
+            None => reply(&rt, alloc, line),
+            Some(payload) => message(&rt, alloc, Mode::Plain, line, payload),
         };
-        assert_eq!(rt; entry.len(), bytes.len(), "{line:?}");
-        assert_eq!(rt; entry.bytes(alloc)?.as_slice(), bytes);
-        assert_eq!(rt; entry.try_clone(alloc)?.bytes(alloc)?.as_slice(), bytes);
-        let mut out = Vec::from_slice(alloc, b"PONG\r\n")?;
-        entry.append_to(&mut out)?;
-        assert!(rt; out.starts_with(b"PONG\r\n"));
-        assert_eq!(rt; out.len(), 6 + bytes.len());
-        assert!(rt; out.ends_with(bytes));
+        assert_is_written(&rt, alloc, &entry, bytes);
     }
-    Ok(())
 }
 
-#[test]
-fn copies_keep_the_tag(rt: HostRuntime) -> Result<(), Fail> {
-    let alloc = rt.alloc();
-    let answer = reply(&rt, alloc, OK)?.try_clone(alloc)?;
-    assert!(rt; matches!(answer.tag(), Tag::Reply));
-    let plain = message(&rt, alloc, Mode::Plain, b"MSG foo 1 5", b"hello")?;
-    for entry in [&plain, &plain.try_clone(alloc)?] {
-        let Tag::Msg { id, sub, mode } = entry.tag() else {
-            return Err(Fail::new("a message"));
-        };
-        assert_eq!(rt; *id, publication(&rt, 9));
-        assert_eq!(rt; (sub.shard, sub.serial), (1, 2));
-        assert!(rt; matches!(mode, Mode::Plain));
+/// The tag of a message to a plain subscription.
+fn assert_is_plain(rt: &impl Abort, tag: &Tag) {
+    match tag {
+        Tag::Msg { id, sub, mode } => {
+            assert_eq!(rt; *id, publication(rt));
+            assert_eq!(rt; (sub.shard, sub.serial), (1, 2));
+            assert!(rt; matches!(mode, Mode::Plain));
+        }
+        Tag::Reply => panic!(rt; "a message"),
     }
-    let work = QueueName::read(alloc, b"work")?;
-    let member = message(&rt, alloc, Mode::Queue(work), b"MSG foo 1 5", b"hello")?;
-    for tag in [member.tag(), &member.tag().try_clone(alloc)?] {
-        let Tag::Msg {
+}
+
+/// The tag of a message to a member of the queue group `work`.
+fn assert_is_for_work(rt: &impl Abort, tag: &Tag) {
+    match tag {
+        Tag::Msg {
             mode: Mode::Queue(name),
             ..
-        } = tag
-        else {
-            return Err(Fail::new("a message by a queue group"));
-        };
-        assert_eq!(rt; name.bytes(), b"work".as_slice());
-        assert!(rt; matches!(Mode::Plain.try_clone(alloc)?, Mode::Plain));
+        } => assert_eq!(rt; name.bytes(), b"work".as_slice()),
+        _ => panic!(rt; "a message by a queue group"),
     }
-    Ok(())
 }
 
 #[test]
-fn room_ends_at_both_limits(rt: HostRuntime) -> Result<(), Fail> {
+fn copies_of_answers_and_messages_keep_the_tag(rt: HostRuntime) {
+    let alloc = rt.alloc();
+    let answer = copy_of(&rt, alloc, &reply(&rt, alloc, OK));
+    assert!(rt; matches!(answer.tag(), Tag::Reply));
+    let plain = message(&rt, alloc, Mode::Plain, b"MSG foo 1 5", b"hello");
+    assert_is_plain(&rt, plain.tag());
+    assert_is_plain(&rt, copy_of(&rt, alloc, &plain).tag());
+}
+
+#[test]
+fn copies_of_tags_keep_the_queue_name(rt: HostRuntime) -> Result<(), Fail> {
+    let alloc = rt.alloc();
+    let work = QueueName::read(alloc, b"work")?;
+    assert!(rt; matches!(Mode::Plain.try_clone(alloc)?, Mode::Plain));
+    let member = message(&rt, alloc, Mode::Queue(work), b"MSG foo 1 5", b"hello");
+    assert_is_for_work(&rt, member.tag());
+    assert_is_for_work(&rt, &copy_of_tag(&rt, alloc, member.tag()));
+    Ok(())
+}
+
+/// An outbox with these limits in which this many answers `+OK` wait.
+fn filled(
+    rt: &impl Abort,
+    alloc: Global,
+    max_entries: usize,
+    max_bytes: usize,
+    count: usize,
+) -> Settled {
+    let mut outbox = Settled::new(rt, alloc, max_entries, max_bytes);
+    for _ in 0..count {
+        outbox.put(rt, reply(rt, alloc, OK));
+    }
+    outbox
+}
+
+#[test]
+fn room_ends_at_both_limits(rt: HostRuntime) {
     // entries and bytes at most, answers of 5 bytes that wait, bytes of one more, whether it has room
     let table = [
         (0, 100, 0, 0, false),
@@ -189,7 +137,7 @@ fn room_ends_at_both_limits(rt: HostRuntime) -> Result<(), Fail> {
         (OUTBOX_ENTRIES, OUTBOX_BYTES, 1_024, 0, false),
     ];
     for (max_entries, max_bytes, count, len, room) in table {
-        let outbox = filled(&rt, rt.alloc(), max_entries, max_bytes, count)?;
+        let outbox = filled(&rt, rt.alloc(), max_entries, max_bytes, count);
         assert_eq!(rt; outbox.len(), count);
         assert_eq!(rt; outbox.is_empty(), count == 0);
         assert_eq!(rt;
@@ -198,17 +146,51 @@ fn room_ends_at_both_limits(rt: HostRuntime) -> Result<(), Fail> {
             "{max_entries} {max_bytes} {count} {len}"
         );
     }
-    let outbox = filled(&rt, rt.alloc(), 3, 10, 1)?;
+}
+
+#[test]
+fn lines_have_room_with_their_ends(rt: HostRuntime) {
+    let outbox = filled(&rt, rt.alloc(), 3, 10, 1);
     let table: [(&[u8], bool); 3] = [(b"+O", true), (b"+OK", true), (b"PONG", false)];
     for (line, room) in table {
         assert_eq!(rt; outbox.room_for(line), room, "{line:?}");
     }
-    Ok(())
+}
+
+/// Takes so many entries, whose bytes are to be these.
+fn assert_takes(rt: &impl Abort, alloc: Global, outbox: &mut Settled, count: usize, bytes: &[u8]) {
+    let taken = outbox.take(rt, count);
+    assert_eq!(rt; written(rt, alloc, &taken).as_slice(), bytes, "{count}");
+}
+
+/// The last line makes them so many entries, has no room behind it, and shuts.
+fn assert_shuts(rt: &impl Abort, outbox: &mut Settled, line: &[u8], entries: usize) {
+    assert_eq!(rt; outbox.is_shut(), false);
+    outbox.shut(rt, line);
+    assert_eq!(rt; outbox.len(), entries);
+    assert!(rt; outbox.is_shut());
+    assert!(rt; outbox.is_closing());
+    assert_eq!(rt; outbox.room(0), false, "{line:?}");
+}
+
+/// Once all entries are taken, which have these bytes, it has no room and stays shut.
+fn assert_empties(
+    rt: &impl Abort,
+    alloc: Global,
+    outbox: &mut Settled,
+    entries: usize,
+    bytes: &[u8],
+) {
+    let taken = outbox.take(rt, entries);
+    assert_eq!(rt; taken.len(), entries);
+    assert_eq!(rt; written(rt, alloc, &taken).as_slice(), bytes);
+    assert!(rt; outbox.is_empty());
+    assert!(rt; outbox.is_shut());
+    assert_eq!(rt; outbox.room(0), false, "{bytes:?}");
 }
 
 #[test]
-fn the_last_line_goes_beyond_both_limits(rt: HostRuntime) -> Result<(), Fail> {
-    let alloc = rt.alloc();
+fn the_last_line_goes_beyond_both_limits(rt: HostRuntime) {
     let longest = [b'e'; LAST_LINE_TEXT];
     // entries and bytes at most, answers of 5 bytes that wait, the last line, what is taken then
     let table: [(usize, usize, usize, &[u8], &[u8]); 5] = [
@@ -225,34 +207,29 @@ fn the_last_line_goes_beyond_both_limits(rt: HostRuntime) -> Result<(), Fail> {
         ),
     ];
     for (max_entries, max_bytes, count, line, bytes) in table {
-        let mut outbox = filled(&rt, alloc, max_entries, max_bytes, count)?;
-        assert_eq!(rt; outbox.is_shut(), false);
-        assert!(rt; line.len() <= LAST_LINE_TEXT);
-        outbox.shut(line);
-        assert_eq!(rt; outbox.len(), count + 1);
-        assert!(rt; outbox.is_shut());
-        assert!(rt; outbox.is_closing());
-        assert_eq!(rt; outbox.room(0), false, "{max_entries} {max_bytes} {count}");
-        let taken = outbox.take(count + 1)?;
-        assert_eq!(rt; taken.len(), count + 1);
-        assert_eq!(rt; written(alloc, &taken)?.as_slice(), bytes);
-        assert!(rt; outbox.is_empty());
-        assert!(rt; outbox.is_shut());
-        assert_eq!(rt;
-            outbox.room(0),
-            false,
-            "{max_entries} {max_bytes} {count}, all taken"
-        );
+        let mut outbox = filled(&rt, rt.alloc(), max_entries, max_bytes, count);
+        let entries = count.saturating_add(1);
+        assert_shuts(&rt, &mut outbox, line, entries);
+        assert_empties(&rt, rt.alloc(), &mut outbox, entries, bytes);
     }
-    let mut outbox = filled(&rt, alloc, OUTBOX_ENTRIES, OUTBOX_BYTES, OUTBOX_ENTRIES)?;
-    outbox.shut(SLOW);
-    assert_eq!(rt; outbox.len(), 1_025);
-    assert_eq!(rt; outbox.take(usize::MAX)?.len(), 1_025);
-    Ok(())
 }
 
 #[test]
-fn take_gives_the_first(rt: HostRuntime) -> Result<(), Fail> {
+fn the_last_line_stands_behind_1024_entries(rt: HostRuntime) {
+    let mut outbox = filled(
+        &rt,
+        rt.alloc(),
+        OUTBOX_ENTRIES,
+        OUTBOX_BYTES,
+        OUTBOX_ENTRIES,
+    );
+    outbox.shut(&rt, SLOW);
+    assert_eq!(rt; outbox.len(), 1_025);
+    assert_eq!(rt; outbox.take(&rt, usize::MAX).len(), 1_025);
+}
+
+#[test]
+fn take_gives_the_first(rt: HostRuntime) {
     let alloc = rt.alloc();
     // how many are asked for, what is taken, what is left, whether 6 bytes have room again
     let table: [(usize, &[u8], &[u8], bool); 6] = [
@@ -264,20 +241,17 @@ fn take_gives_the_first(rt: HostRuntime) -> Result<(), Fail> {
         (usize::MAX, b"a\r\nbb\r\nccc\r\n", b"", true),
     ];
     for (count, first, rest, room) in table {
-        let mut outbox = Outbox::new(alloc, 3, 12)?;
-        put(&rt, alloc, &mut outbox, b"a")?;
-        put(&rt, alloc, &mut outbox, b"bb")?;
-        put(&rt, alloc, &mut outbox, b"ccc")?;
+        let mut outbox = Settled::new(&rt, alloc, 3, 12);
+        for line in [b"a".as_slice(), b"bb", b"ccc"] {
+            outbox.put(&rt, reply(&rt, alloc, line));
+        }
         assert_eq!(rt; outbox.room(0), false);
-        let taken = outbox.take(count)?;
-        assert_eq!(rt; written(alloc, &taken)?.as_slice(), first, "{count}");
+        assert_takes(&rt, alloc, &mut outbox, count, first);
         assert_eq!(rt; outbox.len(), 3usize.saturating_sub(count));
         assert_eq!(rt; outbox.room(6), room, "{count}");
-        let left = outbox.take(usize::MAX)?;
-        assert_eq!(rt; written(alloc, &left)?.as_slice(), rest, "{count}");
+        assert_takes(&rt, alloc, &mut outbox, usize::MAX, rest);
         assert!(rt; outbox.is_empty());
     }
-    Ok(())
 }
 
 #[test]
@@ -291,21 +265,15 @@ fn take_bytes_moves_the_first(rt: HostRuntime) -> Result<(), Fail> {
         (usize::MAX, 2, b"> a\r\nMSG foo 1 5\r\nhello\r\n", b""),
     ];
     for (count, taken, bytes, rest) in table {
-        let mut outbox = Outbox::new(alloc, 2, 23)?;
-        put(&rt, alloc, &mut outbox, b"a")?;
-        let entry = message(&rt, alloc, Mode::Plain, b"MSG foo 1 5", b"hello")?;
-        assert!(rt; outbox.room(entry.len()));
-        outbox.stage(entry)?;
-        outbox.commit();
         let mut out = Vec::from_slice(alloc, b"> ")?;
-        assert_eq!(rt; outbox.take_bytes(count, &mut out)?, taken);
+        let mut outbox = Settled::new(&rt, alloc, 2, 23);
+        outbox.put(&rt, reply(&rt, alloc, b"a"));
+        let entry = message(&rt, alloc, Mode::Plain, b"MSG foo 1 5", b"hello");
+        outbox.put(&rt, entry);
+        assert_eq!(rt; outbox.take_bytes(&rt, count, &mut out), taken);
         assert_eq!(rt; out.as_slice(), bytes, "{count}");
         assert_eq!(rt; outbox.room(20), taken == 2);
-        assert_eq!(rt;
-            written(alloc, &outbox.take(9)?)?.as_slice(),
-            rest,
-            "{count}"
-        );
+        assert_takes(&rt, alloc, &mut outbox, 9, rest);
     }
     Ok(())
 }
@@ -316,33 +284,7 @@ fn payload_of(alloc: Global, size: usize) -> Result<Bytes, AllocError> {
     Bytes::copy_from_slice(alloc, &payload)
 }
 
-/// Puts a message by its parts, for which there must be room: a line of 12 bytes, and this payload.
-fn put_parts(rt: &impl Abort, outbox: &mut Outbox, payload: &Bytes) -> Result<(), AllocError>
-    ensures { outbox.new.next ≡ outbox.new.shown }
-{
-    let sub = SubId {
-        shard: 1,
-        serial: 2,
-    };
-    let id = publication(rt, 9);
-    let line = b"MSG foo 1 ??";
-    assert!(rt; payload.len() <= MAX_PAYLOAD);
-    assert!(rt; outbox.room(12 + payload.len() + 4));
-    let staged = outbox.stage_message(id, sub, Mode::Plain, line, payload);
-    outbox.commit();
-    staged
-}
-
-/// Moves the bytes of all that waits. Gives them.
-fn moved(alloc: Global, outbox: &mut Outbox) -> Result<Vec<u8>, AllocError>
-    requires { outbox.old.next ≡ outbox.old.shown }
-{
-    let mut bytes = Vec::new(alloc);
-    outbox.take_bytes(9, &mut bytes)?;
-    Ok(bytes)
-}
-
-/// Whether these are the bytes of that message with a payload of so many.
+/// Whether these are the bytes of a message put by its parts with a payload of so many.
 fn is_message(bytes: &[u8], size: usize) -> bool {
     bytes.len().checked_sub(16) == Some(size)
         && bytes.starts_with(b"MSG foo 1 ??\r\n")
@@ -354,11 +296,12 @@ fn is_message(bytes: &[u8], size: usize) -> bool {
 fn messages_are_kept_by_their_parts(rt: HostRuntime) -> Result<(), Fail> {
     let alloc = rt.alloc();
     for size in [0, 5, 4_083, 4_084, 4_085, 70_000] {
-        let mut outbox = Outbox::new(alloc, 1, 80_000)?;
         let payload = payload_of(alloc, size)?;
-        put_parts(&rt, &mut outbox, &payload)?;
+        let mut outbox = Settled::new(&rt, alloc, 1, 80_000);
+        outbox.put_parts(&rt, &payload);
         assert_eq!(rt; outbox.len(), 1);
-        let bytes = moved(alloc, &mut outbox)?;
+        let mut bytes = Vec::new(alloc);
+        outbox.take_bytes(&rt, 9, &mut bytes);
         assert!(rt; is_message(&bytes, size), "{size}");
         assert!(rt; outbox.is_empty());
     }
@@ -366,97 +309,73 @@ fn messages_are_kept_by_their_parts(rt: HostRuntime) -> Result<(), Fail> {
 }
 
 #[test]
-fn the_ring_goes_round(rt: HostRuntime) -> Result<(), Fail> {
+fn the_ring_goes_round(rt: HostRuntime) {
     let alloc = rt.alloc();
-    let mut outbox = Outbox::new(alloc, 2, 100)?;
-    put(&rt, alloc, &mut outbox, b"0")?;
+    let mut outbox = Settled::new(&rt, alloc, 2, 100);
+    outbox.put(&rt, reply(&rt, alloc, b"0"));
     for number in b'1'..=b'9' {
-        put(&rt, alloc, &mut outbox, &[number])?;
-        let taken = outbox.take(1)?;
-        assert_eq!(rt;
-            written(alloc, &taken)?.as_slice(),
-            [number - 1, b'\r', b'\n'].as_slice()
-        );
+        outbox.put(&rt, reply(&rt, alloc, &[number]));
+        assert_takes(&rt, alloc, &mut outbox, 1, &[number - 1, b'\r', b'\n']);
         assert_eq!(rt; outbox.len(), 1);
     }
-    Ok(())
 }
 
 #[test]
-fn staged_entries_are_unseen_until_shown(rt: HostRuntime) -> Result<(), Fail> {
+fn staged_entries_are_unseen_until_shown(rt: HostRuntime) {
     let alloc = rt.alloc();
     // whether it is shown, and what waits then
     let table: [(bool, usize, bool, &[u8]); 2] = [
         (true, 3, false, b"+OK\r\na\r\nb\r\n"),
         (false, 1, true, b"+OK\r\n"),
     ];
-    for (shown, len, room, bytes) in table {
-        let mut outbox = filled(&rt, alloc, 3, 100, 1)?;
-        stage(&rt, alloc, &mut outbox, b"a")?;
-        assert_eq!(rt; outbox.len(), 1);
-        stage(&rt, alloc, &mut outbox, b"b")?;
-        assert_eq!(rt; outbox.len(), 1);
-        assert_eq!(rt; outbox.room(3), false);
-        if shown {
-            outbox.commit();
-        } else {
-            outbox.rollback();
-        }
+    for (is_shown, len, room, bytes) in table {
+        let outbox = filled(&rt, alloc, 3, 100, 1);
+        let mut staged = outbox.stage(&rt, reply(&rt, alloc, b"a"));
+        assert_eq!(rt; staged.len(), 1);
+        staged.stage(&rt, reply(&rt, alloc, b"b"));
+        assert_eq!(rt; staged.len(), 1);
+        assert_eq!(rt; staged.room(3), false);
+        let mut outbox = staged.end(is_shown);
         assert_eq!(rt; outbox.len(), len);
         assert_eq!(rt; outbox.room(3), room);
         assert_eq!(rt; outbox.is_closing(), false);
-        assert_eq!(rt; written(alloc, &outbox.take(9)?)?.as_slice(), bytes);
+        assert_takes(&rt, alloc, &mut outbox, 9, bytes);
     }
-    Ok(())
 }
 
 #[test]
-fn a_staged_last_line_is_unseen_until_shown(rt: HostRuntime) -> Result<(), Fail> {
+fn a_staged_last_line_is_unseen_until_shown(rt: HostRuntime) {
     let alloc = rt.alloc();
     let table: [(bool, &[u8]); 2] = [
         (true, b"+OK\r\na\r\n-ERR 'Slow Consumer'\r\n"),
         (false, b"+OK\r\n"),
     ];
-    for (shown, bytes) in table {
-        let mut outbox = filled(&rt, alloc, 3, 100, 1)?;
-        stage(&rt, alloc, &mut outbox, b"a")?;
-        assert!(rt; !outbox.is_closing());
-        outbox.stage_last(SLOW)?;
-        assert_eq!(rt; outbox.len(), 1);
-        assert_eq!(rt; outbox.is_shut(), false);
-        assert!(rt; outbox.is_closing());
-        assert_eq!(rt; outbox.room(0), false);
-        if shown {
-            outbox.commit();
-        } else {
-            outbox.rollback();
-        }
-        assert_eq!(rt; outbox.is_shut(), shown);
-        assert_eq!(rt; outbox.is_closing(), shown);
-        assert_eq!(rt; outbox.room(3), !shown);
-        assert_eq!(rt; written(alloc, &outbox.take(9)?)?.as_slice(), bytes);
-        assert_eq!(rt; outbox.is_shut(), shown);
+    for (is_shown, bytes) in table {
+        let outbox = filled(&rt, alloc, 3, 100, 1);
+        let mut staged = outbox.stage(&rt, reply(&rt, alloc, b"a"));
+        assert!(rt; !staged.is_closing());
+        staged.stage_last(&rt, SLOW);
+        assert_eq!(rt; staged.len(), 1);
+        assert_eq!(rt; staged.is_shut(), false);
+        assert!(rt; staged.is_closing());
+        assert_eq!(rt; staged.room(0), false);
+        let mut outbox = staged.end(is_shown);
+        assert_eq!(rt; outbox.is_shut(), is_shown);
+        assert_eq!(rt; outbox.is_closing(), is_shown);
+        assert_eq!(rt; outbox.room(3), !is_shown);
+        assert_takes(&rt, alloc, &mut outbox, 9, bytes);
+        assert_eq!(rt; outbox.is_shut(), is_shown);
     }
-    Ok(())
 }
 
 #[test]
-fn what_is_staged_after_a_rollback_stands(rt: HostRuntime) -> Result<(), Fail> {
+fn what_is_staged_after_a_rollback_stands(rt: HostRuntime) {
     let alloc = rt.alloc();
-    let mut outbox = Outbox::new(alloc, 1, 3)?;
-    stage(&rt, alloc, &mut outbox, b"a")?;
-    outbox.rollback();
-    stage(&rt, alloc, &mut outbox, b"b")?;
-    outbox.commit();
-    assert_eq!(rt;
-        written(alloc, &outbox.take(1)?)?.as_slice(),
-        b"b\r\n".as_slice()
-    );
+    let outbox = Settled::new(&rt, alloc, 1, 3);
+    let taken_back = outbox.stage(&rt, reply(&rt, alloc, b"a")).end(false);
+    let mut outbox = taken_back.stage(&rt, reply(&rt, alloc, b"b")).end(true);
+    assert_takes(&rt, alloc, &mut outbox, 1, b"b\r\n");
     assert_eq!(rt; outbox.is_shut(), false);
-    outbox.shut(SLOW);
-    assert_eq!(rt;
-        written(alloc, &outbox.take(1)?)?.as_slice(),
-        b"-ERR 'Slow Consumer'\r\n".as_slice()
-    );
-    Ok(())
+    outbox.shut(&rt, SLOW);
+    assert_takes(&rt, alloc, &mut outbox, 1, b"-ERR 'Slow Consumer'\r\n");
 }

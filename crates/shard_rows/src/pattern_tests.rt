@@ -2,6 +2,7 @@
 
 use pattern_trie::PatternTrie;
 use std::alloc::Global;
+use std::process::Abort;
 use std::test::Fail;
 use subj::{Pattern, Subject};
 
@@ -36,12 +37,22 @@ fn remove(
     Ok(())
 }
 
-#[test]
-fn values_are_found_by_their_patterns(rt: HostRuntime) -> Result<(), Fail> {
-    let alloc = rt.alloc();
-    let mut trie = PatternTrie::new(alloc);
-    assert_eq!(&rt; trie.nodes(), 1);
-    assert_eq!(&rt; found(alloc, &trie, b"a")?.as_slice(), [0].as_slice());
+/// The values that are found for the subject are these.
+fn assert_found(
+    rt: &impl Abort,
+    alloc: Global,
+    trie: &PatternTrie<u64>,
+    subject: &[u8],
+    values: &[u64],
+) -> Result<(), Fail> {
+    let found = found(alloc, trie, subject)?;
+    assert_eq!(rt; found.as_slice(), values, "{subject:?}");
+    Ok(())
+}
+
+fn fill(rt: &impl Abort, alloc: Global, trie: &mut PatternTrie<u64>) -> Result<(), Fail> {
+    assert_eq!(rt; trie.nodes(), 1);
+    assert_found(rt, alloc, trie, b"a", &[0])?;
     let held: [(&[u8], u64); 7] = [
         (b"a.*.c", 1),
         (b"a.b.c", 2),
@@ -52,8 +63,17 @@ fn values_are_found_by_their_patterns(rt: HostRuntime) -> Result<(), Fail> {
         (b"a.b.c.>", 7),
     ];
     for (pattern, value) in held {
-        insert(alloc, &mut trie, pattern, value)?;
+        insert(alloc, trie, pattern, value)?;
     }
+    // The empty one, a, a.*, a.*.c, a.b, a.b.c, a.b.c.>, a.>, *, *.* and a.b*.
+    assert_eq!(rt; trie.nodes(), 11);
+    Ok(())
+}
+
+#[test]
+fn values_are_found_by_their_patterns(rt: HostRuntime) -> Result<(), Fail> {
+    let mut trie = PatternTrie::new(rt.alloc());
+    fill(&rt, rt.alloc(), &mut trie)?;
     let subjects: [(&[u8], &[u64]); 7] = [
         (b"a.b.c", &[0, 1, 2, 3, 4]),
         (b"a.x.c", &[0, 1, 4]),
@@ -64,46 +84,32 @@ fn values_are_found_by_their_patterns(rt: HostRuntime) -> Result<(), Fail> {
         (b"b.b.c", &[0]),
     ];
     for (subject, values) in subjects {
-        assert_eq!(&rt;
-            found(alloc, &trie, subject)?.as_slice(),
-            values,
-            "{subject:?}"
-        );
+        assert_found(&rt, rt.alloc(), &trie, subject, values)?;
     }
-    // The empty one, a, a.*, a.*.c, a.b, a.b.c, a.b.c.>, a.>, *, *.* and a.b*.
-    assert_eq!(&rt; trie.nodes(), 11);
     Ok(())
+}
+
+fn take_out(rt: &impl Abort, alloc: Global, trie: &mut PatternTrie<u64>) -> Result<(), Fail> {
+    assert_found(rt, alloc, trie, b"a.b", &[0, 5, 5, 5, 6])?;
+    remove(alloc, trie, b"a.>", 5)?;
+    assert_found(rt, alloc, trie, b"a.b", &[0, 5, 5, 6])?;
+    remove(alloc, trie, b"a", 5)?;
+    remove(alloc, trie, b"a.>", 7)?;
+    assert_found(rt, alloc, trie, b"a.b", &[0, 5, 5, 6])?;
+    assert_eq!(rt; trie.nodes(), 4);
+    remove(alloc, trie, b"a.*", 5)?;
+    assert_eq!(rt; trie.nodes(), 3);
+    remove(alloc, trie, b"a.>", 6)?;
+    remove(alloc, trie, b"a.>", 5)?;
+    assert_eq!(rt; trie.nodes(), 1);
+    assert_found(rt, alloc, trie, b"a.b", &[0])
 }
 
 #[test]
 fn one_of_two_alike_is_taken_out(rt: HostRuntime) -> Result<(), Fail> {
-    let alloc = rt.alloc();
-    let mut trie = PatternTrie::new(alloc);
-    insert(alloc, &mut trie, b"a.>", 5)?;
-    insert(alloc, &mut trie, b"a.>", 6)?;
-    insert(alloc, &mut trie, b"a.>", 5)?;
-    insert(alloc, &mut trie, b"a.*", 5)?;
-    assert_eq!(&rt;
-        found(alloc, &trie, b"a.b")?.as_slice(),
-        [0, 5, 5, 5, 6].as_slice()
-    );
-    remove(alloc, &mut trie, b"a.>", 5)?;
-    assert_eq!(&rt;
-        found(alloc, &trie, b"a.b")?.as_slice(),
-        [0, 5, 5, 6].as_slice()
-    );
-    remove(alloc, &mut trie, b"a", 5)?;
-    remove(alloc, &mut trie, b"a.>", 7)?;
-    assert_eq!(&rt;
-        found(alloc, &trie, b"a.b")?.as_slice(),
-        [0, 5, 5, 6].as_slice()
-    );
-    assert_eq!(&rt; trie.nodes(), 4);
-    remove(alloc, &mut trie, b"a.*", 5)?;
-    assert_eq!(&rt; trie.nodes(), 3);
-    remove(alloc, &mut trie, b"a.>", 6)?;
-    remove(alloc, &mut trie, b"a.>", 5)?;
-    assert_eq!(&rt; trie.nodes(), 1);
-    assert_eq!(&rt; found(alloc, &trie, b"a.b")?.as_slice(), [0].as_slice());
-    Ok(())
+    let mut trie = PatternTrie::new(rt.alloc());
+    for (pattern, value) in [(b"a.>", 5), (b"a.>", 6), (b"a.>", 5), (b"a.*", 5)] {
+        insert(rt.alloc(), &mut trie, pattern, value)?;
+    }
+    take_out(&rt, rt.alloc(), &mut trie)
 }

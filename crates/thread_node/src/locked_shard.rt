@@ -5,6 +5,7 @@ ghost use Rattle.std.specs.Arc.{arc_value};
 ghost use Rattle.subj.specs.Answers.{IsAnswered, IsDecided};
 ghost use Rattle.shard_core.specs.Answers.{answer_of};
 ghost use Rattle.shard_core.specs.ShardEvents.{Attach, Subscribe, Unsubscribe, Reply, Shut, Detach, Take, Attached, Unsubscribed, Replied, WasShut, Detached, Taken};
+ghost use Rattle.shard_core.specs.Shards.{is_open as opened};
 ghost use Rattle.shard_core.specs.ShardSteps.{shard_refusal};
 ghost use Rattle.node_threads.specs.AtWork.{Does, TakesBytes};
 ghost use Rattle.node_threads.specs.Turns.{Drops, Turns};
@@ -14,7 +15,7 @@ use client_frames::{ErrText, ReplyFrame};
 use interest::Delta;
 use node_threads::{Gate, NodeName, ShardState, Turned};
 use outbox::Entry;
-use shard_core::{Closed, ShardFault, Subscribed};
+use shard_core::{Closed, Recipients, ShardFault, Subscribed};
 use std::alloc::Global;
 use std::marker::Model;
 use std::sync::{Arc, Wait};
@@ -127,6 +128,25 @@ impl<T: SubTable, N: NodeName> LockedShard<T, N> {
         ensures { IsAnswered (shard_refusal self.old.state (Take conn count)) (λ taken. TakesBytes self.old conn count taken out.old.items out.new.items self.new) ((self.new ≡ self.old) × (out.new.items ≡ out.old.items)) result }
     {
         self.state.take_bytes(conn, count, out)
+    }
+
+    /// [`ShardState::is_open`].
+    pub fn is_open(&self, conn: ConnId) -> bool
+        ensures { result ≡ opened conn self.now.state.clients }
+    {
+        self.state.is_open(conn)
+    }
+
+    /// [`ShardState::is_urgent`].
+    pub fn is_urgent(&self) -> bool {
+        self.state.is_urgent()
+    }
+
+    /// [`ShardState::swap_recipients`].
+    pub fn swap_recipients(&mut self, recipients: &mut Recipients)
+        ensures { self.new ≡ self.old }
+    {
+        self.state.swap_recipients(recipients);
     }
 
     /// [`ShardState::deltas`].
