@@ -16,9 +16,9 @@ use Rattle.hub_core.specs.Choice.{is_eligible}
 use Rattle.hub_core.specs.Publishing.{Publication, busy_fault, is_owed, own_job, frames_of}
 
 -- all names are found, or they are more than a publication may have
-abbrev pub AreFound : {E : Type 0} → List (List ℕ) → Result (List (List ℕ)) E → Type 0
-AreFound all (Ok names) = (names ≡ all) × (length all ≤ MAX_QUEUE_NAMES)
-AreFound all (Err fault) = MAX_QUEUE_NAMES < length all
+abbrev pub AreFound : {T E : Type 0} → List (List ℕ) → List (List ℕ) → Result T E → Type 0
+AreFound all names (Ok done) = (names ≡ all) × (length all ≤ MAX_QUEUE_NAMES)
+AreFound all names (Err fault) = MAX_QUEUE_NAMES < length all
 
 -- of names, each with the server that was chosen for it, those of one server
 abbrev pub chosen_for : List ℕ → List (List ℕ) → List (Option (List ℕ)) → List (List ℕ)

@@ -48,22 +48,24 @@ fn add_names<'a>(
 }
 
 /// The queue names that want the subject: those of the server's own counts and of eligible peers, in the
-/// order of bytes. Refused where they are more than a publication may have. Takes no memory. (Profile.)
-pub(crate) fn queue_names<'a>(
+/// order of bytes, gathered in `names`, where there are none yet. Refused where they are more than a
+/// publication may have. Takes no memory. (Profile.)
+pub(crate) fn gather_names<'a>(
     server: &Server,
     counts: &'a Local,
     peers: &'a [Peer],
     subject: &Subject,
-) -> Result<FoundNames<'a>, TooManyNames>
-    ensures { AreFound (names_from server.now subject.now 0 peers.now (names_in subject.now counts.now [])) result }
+    names: &mut FoundNames<'a>,
+) -> Result<(), TooManyNames>
+    requires { names.old ≡ [] }
+    ensures { AreFound (names_from server.now subject.now 0 peers.now (names_in subject.now counts.now [])) names.new result }
 {
-    let mut names = FoundNames::new();
-    counts.names_in(subject, &mut names)?;
+    counts.names_in(subject, names)?;
     for (place, peer) in peers.iter().enumerate() {
-        add_names(server, place, peer, subject, &mut names)?;
+        add_names(server, place, peer, subject, names)?;
     }
     let _count = names.len();
-    Ok(names)
+    Ok(())
 }
 
 /// What the server at the place weighs for the queue name. (Profile.)

@@ -11,7 +11,7 @@ ghost use Rattle.hub_core.specs.Hubs.{IsStep};
 ghost use Rattle.hub_core.specs.Chosen.{IsSplit, chosen_for, frame_at, sent_from, IsPlanOf, publication, turn_refusal};
 ghost use Rattle.hub_core.specs.Serving.{IsServed};
 
-use crate::choice::{is_eligible, names_for, queue_names, servers_for};
+use crate::choice::{gather_names, is_eligible, names_for, servers_for};
 use crate::faults::HubFault;
 use crate::hub::Hub;
 use crate::peers::Peer;
@@ -247,8 +247,9 @@ impl Hub {
             Err(fault) => return Err(Failure::Refused(fault)),
         };
         let subject = said.message.subject();
-        match queue_names(&self.server, &self.counts, &self.peers, subject) {
-            Ok(names) => Ok(self.plan_of(turn, conn, said, word, &names)?),
+        let mut names = FoundNames::new();
+        match gather_names(&self.server, &self.counts, &self.peers, subject, &mut names) {
+            Ok(()) => Ok(self.plan_of(turn, conn, said, word, &names)?),
             Err(_) => Err(Failure::Refused(HubFault::TooManyQueues)),
         }
     }

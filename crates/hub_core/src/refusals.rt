@@ -6,10 +6,10 @@ ghost use Rattle.hub_core.specs.Chosen.{publication};
 ghost use Rattle.hub_core.specs.Publishing.{publish_refusal};
 ghost use Rattle.hub_core.specs.Telling.{collect_refusal, collect_frames};
 
-use crate::choice::queue_names;
+use crate::choice::gather_names;
 use crate::faults::HubFault;
 use crate::hub::Hub;
-use interest::Delta;
+use interest::{Delta, FoundNames};
 use route_values::Numbered;
 use subj::{Failure, Finished, Pub};
 
@@ -22,8 +22,9 @@ impl Hub {
             return Some(fault);
         }
         let subject = said.message.subject();
-        match queue_names(&self.server, &self.counts, &self.peers, subject) {
-            Ok(_) => None,
+        let mut names = FoundNames::new();
+        match gather_names(&self.server, &self.counts, &self.peers, subject, &mut names) {
+            Ok(()) => None,
             Err(_) => Some(HubFault::TooManyQueues),
         }
     }

@@ -1,42 +1,29 @@
 //! Examples: a queue group with members on two of three servers, one of which has two keys for it.
 
-use crate::made::{frame, hub_of, incarnation, key, meet, plus, said};
-use hub_core::{Hub, PublishPlan};
-use interest::Delta;
+use crate::driver::{Came, Driver};
+use crate::made::{frame, key, plus, said};
+use hub_core::PublishPlan;
 use route_values::Body;
 use std::alloc::Global;
+use std::process::Abort;
 use std::test::Fail;
-use subj::{ConnId, Finished, Pub};
+use subj::{Finished, Key, Pub};
 
-/// A peer tells one key more.
-fn hear(
-    alloc: Global,
-    hub: &mut Hub,
-    peer: &[u8],
-    number: u64,
-    pattern: &[u8],
-    queue: &[u8],
-) -> Result<(), Fail> {
-    let told = frame(peer, 3, 3, number, plus(key(alloc, pattern, queue)?)?)?;
-    let _heard = hub
-        .receive(&told, &Finished::new())
-        .ok()
-        .ok_or("news in order")?;
+/// A peer tells one key more, its change of this number.
+fn hear(rt: &impl Abort, hub: &mut Driver, peer: &[u8], number: u64, key: Key) -> Result<(), Fail> {
+    let told = frame(peer, 3, 3, number, plus(key)?)?;
+    assert_eq!(rt; hub.hear(&told, &Finished::new()), Came::Heard(number));
     Ok(())
 }
 
 /// n1 has `foo` of `q` with one member, n2 `foo` and `*` of `q` with one each, n3 the plain `>`.
-fn fill(alloc: Global, hub: &mut Hub) -> Result<(), Fail> {
-    let opened = [Delta {
-        key: key(alloc, b"foo", b"q")?,
-        up: true,
-    }];
-    let _told = hub.collect(&opened).ok().ok_or("one opening")?;
-    meet(hub, 1, incarnation(3)?)?;
-    meet(hub, 2, incarnation(3)?)?;
-    hear(alloc, hub, b"n2", 1, b"foo", b"q")?;
-    hear(alloc, hub, b"n2", 2, b"*", b"q")?;
-    hear(alloc, hub, b"n3", 1, b">", b"")
+fn fill(rt: &impl Abort, alloc: Global, hub: &mut Driver) -> Result<(), Fail> {
+    assert_eq!(rt; hub.collect(key(alloc, b"foo", b"q")?, true), Ok(1));
+    hub.meet(1, 3)?;
+    hub.meet(2, 3)?;
+    hear(rt, hub, b"n2", 1, key(alloc, b"foo", b"q")?)?;
+    hear(rt, hub, b"n2", 2, key(alloc, b"*", b"q")?)?;
+    hear(rt, hub, b"n3", 1, key(alloc, b">", b"")?)
 }
 
 /// The last byte of the peer's name of the frame at the place, and how many queue names it has.
@@ -54,33 +41,29 @@ fn sent(plan: &PublishPlan, place: usize) -> Option<(u8, usize)> {
 type Split = (usize, Option<(u8, usize)>, Option<(u8, usize)>);
 
 /// How the word splits the publication.
-fn split(hub: &Hub, said: &Pub, word: u64) -> Option<Split> {
-    let plan = hub.plan_publish(ConnId::new(1), said, word, &Finished::new());
-    let plan = plan.ok()?;
+fn split(hub: &Driver, said: &Pub, word: u64) -> Option<Split> {
+    let plan = hub.plan(said, word)?;
     let names = plan.job.queues.as_slice().len();
     Some((names, sent(&plan, 0), sent(&plan, 1)))
 }
 
-/// The session with n2 ends.
-fn cut(hub: &mut Hub) {
-    if hub.server().is_peer(1) {
-        hub.peer_cut(1);
+/// Of three words two are those of n2, which has two of three members; without n2 all are those of n1.
+fn pick(rt: &impl Abort, hub: &mut Driver, said: &Pub) {
+    let own = (1, Some((b'3', 0)), None);
+    let other = (0, Some((b'2', 1)), Some((b'3', 0)));
+    for (word, answer) in [(0, own), (1, other), (2, other), (3, own), (5, other)] {
+        assert_eq!(rt; split(hub, said, word), Some(answer));
+    }
+    hub.cut();
+    for word in 0..4 {
+        assert_eq!(rt; split(hub, said, word), Some(own));
     }
 }
 
 #[test]
 fn the_word_picks_a_server(rt: HostRuntime) -> Result<(), Fail> {
-    let mut hub = hub_of(rt.alloc(), 3, 3, 1)?;
-    fill(rt.alloc(), &mut hub)?;
-    let said = said(rt.alloc())?;
-    let own = (1, Some((b'3', 0)), None);
-    let other = (0, Some((b'2', 1)), Some((b'3', 0)));
-    for (word, answer) in [(0, own), (1, other), (2, other), (3, own), (5, other)] {
-        assert_eq!(rt; split(&hub, &said, word), Some(answer));
-    }
-    cut(&mut hub);
-    for word in 0..4 {
-        assert_eq!(rt; split(&hub, &said, word), Some(own));
-    }
+    let mut hub = Driver::start(rt.alloc(), 3, 3, 1)?;
+    fill(&rt, rt.alloc(), &mut hub)?;
+    pick(&rt, &mut hub, &said(rt.alloc())?);
     Ok(())
 }

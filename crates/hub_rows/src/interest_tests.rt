@@ -3,6 +3,7 @@
 use crate::made::key;
 use interest::{Change, Delta, InterestFault, Local};
 use std::alloc::Global;
+use std::process::Abort;
 use std::test::Fail;
 use subj::{
     Failure, Key, MAX_KEYS, MAX_QUEUE_NAME, MAX_SUBJECT, MAX_WEIGHT, Pattern, QueueName,
@@ -41,10 +42,24 @@ fn told(
     Ok(number_of(local.apply(&delta)))
 }
 
+/// Openings and closings of `foo` in this queue group, or in none, one behind another: what is told of each, and the weight then.
+fn assert_told(
+    rt: &impl Abort,
+    alloc: Global,
+    queue: &[u8],
+    table: &[(bool, u64, u64)],
+) -> Result<(), Fail> {
+    let key = key(alloc, b"foo", queue)?;
+    let mut local = Local::new(alloc)?;
+    for (up, answer, weight) in table {
+        assert_eq!(rt; told(alloc, &mut local, b"foo", queue, *up)?, *answer);
+        assert_eq!(rt; local.weight(&key), *weight);
+    }
+    Ok(())
+}
+
 #[test]
 fn a_plain_key_is_told_first_and_last(rt: HostRuntime) -> Result<(), Fail> {
-    let mut local = Local::new(rt.alloc())?;
-    let key = key(rt.alloc(), b"foo", b"")?;
     let table = [
         (false, REFUSED + 42, 0),
         (true, 1, 1),
@@ -54,17 +69,11 @@ fn a_plain_key_is_told_first_and_last(rt: HostRuntime) -> Result<(), Fail> {
         (false, REFUSED + 42, 0),
         (true, 1, 1),
     ];
-    for (up, answer, count) in table {
-        assert_eq!(rt; told(rt.alloc(), &mut local, b"foo", b"", up)?, answer);
-        assert_eq!(rt; local.weight(&key), count);
-    }
-    Ok(())
+    assert_told(&rt, rt.alloc(), b"", &table)
 }
 
 #[test]
 fn a_queue_key_is_told_each_time(rt: HostRuntime) -> Result<(), Fail> {
-    let mut local = Local::new(rt.alloc())?;
-    let key = key(rt.alloc(), b"foo", b"q")?;
     let table = [
         (true, 1, 1),
         (true, 2, 2),
@@ -74,11 +83,20 @@ fn a_queue_key_is_told_each_time(rt: HostRuntime) -> Result<(), Fail> {
         (false, GONE, 0),
         (false, REFUSED + 42, 0),
     ];
-    for (up, answer, count) in table {
-        assert_eq!(rt; told(rt.alloc(), &mut local, b"foo", b"q", up)?, answer);
-        assert_eq!(rt; local.weight(&key), count);
+    assert_told(&rt, rt.alloc(), b"q", &table)
+}
+
+/// What stands in order: each pattern, how long its queue name is, and a weight of 1.
+fn assert_keys(rt: &impl Abort, local: &Local, order: &[(&[u8], usize)]) {
+    for ((key, weight), (pattern, queue_len)) in local.keys().zip(order) {
+        assert_eq!(rt; key.pattern.bytes(), *pattern);
+        assert_eq!(rt;
+            key.queue.as_ref().map_or(0, |name| name.bytes().len()),
+            *queue_len
+        );
+        assert_eq!(rt; *weight, 1);
     }
-    Ok(())
+    assert_eq!(rt; local.keys().count(), order.len());
 }
 
 #[test]
@@ -103,16 +121,13 @@ fn keys_stand_in_order(rt: HostRuntime) -> Result<(), Fail> {
         (b"a.b", 0),
         (b"b", 0),
     ];
-    for ((key, count), (pattern, queue_len)) in local.keys().zip(order) {
-        assert_eq!(rt; key.pattern.bytes(), pattern);
-        assert_eq!(rt;
-            key.queue.as_ref().map_or(0, |name| name.bytes().len()),
-            queue_len
-        );
-        assert_eq!(rt; *count, 1);
-    }
-    assert_eq!(rt; local.keys().count(), 6);
+    assert_keys(&rt, &local, &order);
     Ok(())
+}
+
+fn has_plain(alloc: Global, local: &Local, subject: &[u8]) -> Result<bool, Fail> {
+    let subject = Subject::read(alloc, subject)?;
+    Ok(local.has_plain(&subject))
 }
 
 #[test]
@@ -127,8 +142,7 @@ fn only_plain_keys_match_plainly(rt: HostRuntime) -> Result<(), Fail> {
         (b"baz", false),
     ];
     for (subject, matches) in table {
-        let subject = Subject::read(rt.alloc(), subject)?;
-        assert_eq!(rt; local.has_plain(&subject), matches);
+        assert_eq!(rt; has_plain(rt.alloc(), &local, subject)?, matches);
     }
     Ok(())
 }

@@ -5,6 +5,8 @@
 #[cfg(test)]
 mod choice_tests;
 #[cfg(test)]
+mod driver;
+#[cfg(test)]
 mod hub_tests;
 #[cfg(test)]
 mod interest_tests;

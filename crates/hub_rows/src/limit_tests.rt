@@ -1,114 +1,111 @@
 //! Examples: as many queue names as a publication may have, and one more; as many frames as may wait; and
 //! the last number.
 
-use crate::made::{frame, hub_of, incarnation, key, meet, message, plus, said};
-use hub_core::{Hub, Received};
-use interest::Delta;
-use route_values::Numbered;
+use crate::driver::{Came, Driver, Issued};
+use crate::made::{frame, key, message, plus, said};
 use std::alloc::Global;
+use std::process::Abort;
 use std::test::Fail;
-use subj::{ConnId, Failure, Finished, MAX_COUNTER, Pub, ROUTE_FRAMES};
-
-/// Above the numbers of these examples: the numbers of refusals.
-const REFUSED: u64 = 10_000;
+use subj::{Finished, MAX_COUNTER, Pub, ROUTE_FRAMES, Turn};
 
 /// Counts `foo` of the queue group of this number, opened or closed.
-fn count(alloc: Global, hub: &mut Hub, number: u8, up: bool) -> Result<(), Fail> {
+fn count(
+    rt: &impl Abort,
+    alloc: Global,
+    hub: &mut Driver,
+    number: u8,
+    up: bool,
+) -> Result<(), Fail> {
     let name = [b'q', b'0' + number / 10 % 10, b'0' + number % 10];
     let key = key(alloc, b"foo", name.as_slice())?;
-    let deltas = [Delta { key, up }];
-    let _told = hub.collect(&deltas).ok().ok_or("a delta in its turn")?;
+    assert!(rt; hub.collect(key, up).is_ok());
     Ok(())
 }
 
-/// The number of the publication and how many queue names its job has, or the number of the refusal.
-fn issued(hub: &mut Hub, said: &Pub, finished: &Finished) -> (u64, usize) {
-    match hub.publish(ConnId::new(1), said, 0, finished) {
-        Ok(job) => (job.id.number, job.queues.as_slice().len()),
-        Err(Failure::Refused(fault)) => (REFUSED + u64::from(fault.number()), 0),
-        Err(Failure::OutOfMemory) => (0, 0),
+/// A publication for 65 queue names is refused; for 64 it is issued.
+fn exceed_names(rt: &impl Abort, alloc: Global, hub: &mut Driver, said: &Pub) -> Result<(), Fail> {
+    let finished = Finished::new();
+    for number in 0..65 {
+        count(rt, alloc, hub, number, true)?;
     }
+    assert_eq!(rt; hub.issue(said, &finished), Err(61));
+    count(rt, alloc, hub, 7, false)?;
+    let issued = Issued {
+        number: 1,
+        turn: 1,
+        names: 64,
+    };
+    assert_eq!(rt; hub.issue(said, &finished), Ok(issued));
+    Ok(())
 }
 
 #[test]
 fn a_publication_has_up_to_64_queue_names(rt: HostRuntime) -> Result<(), Fail> {
-    let mut hub = hub_of(rt.alloc(), 2, 2, 1)?;
     let said = said(rt.alloc())?;
-    let finished = Finished::new();
-    for number in 0..65 {
-        count(rt.alloc(), &mut hub, number, true)?;
-    }
-    assert_eq!(rt; issued(&mut hub, &said, &finished), (REFUSED + 61, 0));
-    count(rt.alloc(), &mut hub, 7, false)?;
-    assert_eq!(rt; issued(&mut hub, &said, &finished), (1, 64));
-    Ok(())
+    let mut hub = Driver::start(rt.alloc(), 2, 2, 1)?;
+    exceed_names(&rt, rt.alloc(), &mut hub, &said)
 }
 
 /// n2 comes up, where it may, and wants `foo`.
-fn want(alloc: Global, hub: &mut Hub) -> Result<(), Fail> {
-    meet(hub, 1, incarnation(2)?)?;
+fn want(rt: &impl Abort, alloc: Global, hub: &mut Driver) -> Result<(), Fail> {
+    hub.meet(1, 2)?;
     let told = frame(b"n2", 2, 2, 1, plus(key(alloc, b"foo", b"")?)?)?;
-    let _heard = hub
-        .receive(&told, &Finished::new())
-        .ok()
-        .ok_or("news in order")?;
+    assert_eq!(rt; hub.hear(&told, &Finished::new()), Came::Heard(1));
     Ok(())
 }
 
 /// Issues so many publications, each finished at once.
-fn issue_all(hub: &mut Hub, said: &Pub, finished: &mut Finished, count: usize) -> Result<(), Fail> {
+fn issue_all(
+    hub: &mut Driver,
+    said: &Pub,
+    finished: &mut Finished,
+    count: usize,
+) -> Result<(), Fail> {
     for _ in 0..count {
-        let job = hub.publish(ConnId::new(1), said, 0, finished);
-        let job = job.ok().ok_or("a publication in its turn")?;
-        finished.set(1, job.turn);
+        let issued = hub.issue(said, finished).ok();
+        let issued = issued.ok_or("a publication in its turn")?;
+        finished.set(1, Turn::new(issued.turn).ok_or("a turn")?);
     }
     Ok(())
 }
 
-/// How many frames wait for n2; they are taken.
-fn taken(hub: &mut Hub) -> Result<usize, Fail> {
-    let frames = hub.take_route(1, usize::MAX).ok().ok_or("a peer")?;
-    Ok(frames.len())
+/// With the snapshot 1,023 frames wait and are taken; of 1,026 more 1,024 do.
+fn exceed_frames(rt: &impl Abort, hub: &mut Driver, said: &Pub) -> Result<(), Fail> {
+    let mut finished = Finished::new();
+    // the snapshot waits before them
+    issue_all(hub, said, &mut finished, ROUTE_FRAMES - 2)?;
+    assert_eq!(rt; hub.take(usize::MAX)?, 1_023);
+    issue_all(hub, said, &mut finished, ROUTE_FRAMES)?;
+    issue_all(hub, said, &mut finished, 2)?;
+    assert_eq!(rt; hub.take(usize::MAX)?, 1_024);
+    Ok(())
 }
 
 #[test]
 fn up_to_1024_frames_wait(rt: HostRuntime) -> Result<(), Fail> {
-    let mut hub = hub_of(rt.alloc(), 2, 2, 1)?;
-    want(rt.alloc(), &mut hub)?;
     let said = said(rt.alloc())?;
-    let mut finished = Finished::new();
-    // the snapshot waits before them
-    issue_all(&mut hub, &said, &mut finished, ROUTE_FRAMES - 2)?;
-    assert_eq!(rt; taken(&mut hub)?, 1_023);
-    issue_all(&mut hub, &said, &mut finished, ROUTE_FRAMES)?;
-    issue_all(&mut hub, &said, &mut finished, 2)?;
-    assert_eq!(rt; taken(&mut hub)?, 1_024);
-    Ok(())
+    let mut hub = Driver::start(rt.alloc(), 2, 2, 1)?;
+    want(&rt, rt.alloc(), &mut hub)?;
+    exceed_frames(&rt, &mut hub, &said)
 }
 
-/// What comes of a frame: the turn of a message, or the number of the refusal.
-fn heard(hub: &mut Hub, frame: &Numbered, finished: &Finished) -> u64 {
-    match hub.receive(frame, finished) {
-        Ok(Received::Routed(job)) => job.turn.get(),
-        Ok(Received::Heard(_)) => 0,
-        Err(Failure::Refused(fault)) => REFUSED + u64::from(fault.number()),
-        Err(Failure::OutOfMemory) => 0,
-    }
+/// What comes of a message of n2.
+fn heard(alloc: Global, hub: &mut Driver, number: u64) -> Result<Came, Fail> {
+    let frame = frame(b"n2", 2, 2, number, message(alloc)?)?;
+    Ok(hub.hear(&frame, &Finished::new()))
 }
 
 #[test]
 fn the_last_number_is_taken_once(rt: HostRuntime) -> Result<(), Fail> {
-    let mut hub = hub_of(rt.alloc(), 2, 2, 1)?;
-    let finished = Finished::new();
+    let mut hub = Driver::start(rt.alloc(), 2, 2, 1)?;
     let table = [
-        (MAX_COUNTER - 1, 1),
-        (MAX_COUNTER, 2),
-        (MAX_COUNTER, REFUSED + 67),
-        (1, REFUSED + 67),
+        (MAX_COUNTER - 1, Came::Routed(1)),
+        (MAX_COUNTER, Came::Routed(2)),
+        (MAX_COUNTER, Came::Refused(67)),
+        (1, Came::Refused(67)),
     ];
-    for (number, answer) in table {
-        let frame = frame(b"n2", 2, 2, number, message(rt.alloc())?)?;
-        assert_eq!(rt; heard(&mut hub, &frame, &finished), answer);
+    for (number, came) in table {
+        assert_eq!(rt; heard(rt.alloc(), &mut hub, number)?, came);
     }
     Ok(())
 }

@@ -1,7 +1,6 @@
-//! What the rows are made of: servers, hubs, keys, publications and frames.
+//! What the rows are made of: servers, keys, publications and frames.
 
 use bytes::Bytes;
-use hub_core::Hub;
 use route_values::{Body, Numbered, WeightedKey};
 use std::alloc::Global;
 use std::test::Fail;
@@ -33,11 +32,6 @@ pub(crate) fn server(
         names.push(node(text)?)?;
     }
     Ok(Server::new(names, place, incarnation(inc)?, shards).ok_or("a server")?)
-}
-
-/// The hub of n1 in a cluster of so many servers.
-pub(crate) fn hub_of(alloc: Global, count: usize, inc: u64, shards: u64) -> Result<Hub, Fail> {
-    Ok(Hub::new(alloc, server(alloc, count, 0, inc, shards)?)?)
 }
 
 /// The key; a plain one where there is no queue name.
@@ -89,12 +83,4 @@ pub(crate) fn frame(
     let (from, inc) = (node(from)?, incarnation(inc)?);
     let (to, to_inc) = (node(b"n1")?, incarnation(to_inc)?);
     Ok(Numbered::new(from, inc, to, to_inc, number, body).ok_or("a number")?)
-}
-
-/// The peer at the place comes up at the incarnation, where it may.
-pub(crate) fn meet(hub: &mut Hub, place: usize, inc: Incarnation) -> Result<(), Fail> {
-    if hub.server().is_peer(place) && hub.seen_of(place) <= inc.get() {
-        hub.peer_up(place, inc)?;
-    }
-    Ok(())
 }

@@ -5,6 +5,7 @@ use crate::made::key;
 use interest::{Change, FoundNames, InterestFault, View};
 use route_values::{SnapshotKeys, WeightedKey};
 use std::alloc::Global;
+use std::process::Abort;
 use std::test::Fail;
 use subj::{Failure, MAX_KEYS, QueueName, Subject};
 
@@ -23,6 +24,22 @@ fn number_of(answer: Result<(), Failure<InterestFault>>) -> u16 {
     }
 }
 
+/// The view hears of the key with this weight, 0 where it is gone: the number of the refusal, or 0.
+fn heard(
+    alloc: Global,
+    view: &mut View,
+    number: u64,
+    pattern: &[u8],
+    queue: &[u8],
+    weight: u64,
+) -> Result<u16, Fail> {
+    let change = match weight {
+        0 => Change::Gone(key(alloc, pattern, queue)?),
+        _ => Change::Up(weighted(alloc, pattern, queue, weight)?),
+    };
+    Ok(number_of(view.hear(number, change)))
+}
+
 #[test]
 fn news_come_in_order(rt: HostRuntime) -> Result<(), Fail> {
     let alloc = rt.alloc();
@@ -38,11 +55,10 @@ fn news_come_in_order(rt: HostRuntime) -> Result<(), Fail> {
         (7, 0, 42, 6),
     ];
     for (number, weight, answer, mark) in table {
-        let change = match weight {
-            0 => Change::Gone(key(alloc, b"a", b"q")?),
-            _ => Change::Up(weighted(alloc, b"a", b"q", weight)?),
-        };
-        assert_eq!(rt; number_of(view.hear(number, change)), answer);
+        assert_eq!(rt;
+            heard(alloc, &mut view, number, b"a", b"q", weight)?,
+            answer
+        );
         assert_eq!(rt; view.mark(), mark);
     }
     for (number, is_late) in [(5, true), (6, false), (9, false), (8, true)] {
@@ -50,6 +66,28 @@ fn news_come_in_order(rt: HostRuntime) -> Result<(), Fail> {
         assert_eq!(rt; heard == Err(InterestFault::Late), is_late);
     }
     assert_eq!(rt; view.mark(), 9);
+    Ok(())
+}
+
+/// Who wants this subject: whether a plain key does, what `q` weighs in it, and how many queue names there are, of which `q` is the
+/// last. Asked twice for names, it has each once.
+fn assert_wanted(
+    rt: &impl Abort,
+    alloc: Global,
+    view: &View,
+    subject: &[u8],
+    (plain, weight, count): (bool, u64, usize),
+) -> Result<(), Fail> {
+    let q = QueueName::read(alloc, b"q")?;
+    let subject = Subject::read(alloc, subject)?;
+    assert_eq!(rt; view.has_plain(&subject), plain);
+    assert_eq!(rt; view.weight_in(&subject, &q), weight);
+    let mut names = FoundNames::new();
+    assert!(rt; view.names_in(&subject, &mut names).is_ok());
+    assert!(rt; view.names_in(&subject, &mut names).is_ok());
+    assert_eq!(rt; names.len(), count);
+    let last = count.checked_sub(1).and_then(|last| names.get(last));
+    assert_eq!(rt; last.ok_or("a name")?.bytes(), b"q".as_slice());
     Ok(())
 }
 
@@ -65,28 +103,12 @@ fn heard_keys_want_subjects(rt: HostRuntime) -> Result<(), Fail> {
         (5, b"bar", b"q", 4),
     ];
     for (number, pattern, queue, weight) in told {
-        let change = Change::Up(weighted(alloc, pattern, queue, weight)?);
-        assert_eq!(rt; number_of(view.hear(number, change)), 0);
+        assert_eq!(rt; heard(alloc, &mut view, number, pattern, queue, weight)?, 0);
     }
     assert_eq!(rt; view.keys().len(), 4);
-    let q = QueueName::read(alloc, b"q")?;
-    let table: [(&[u8], bool, u64, usize); 3] = [
-        (b"bar", false, 7, 2),
-        (b"foo.a", true, 3, 1),
-        (b"foo", false, 3, 1),
-    ];
-    for (subject, plain, weight, count) in table {
-        let subject = Subject::read(alloc, subject)?;
-        assert_eq!(rt; view.has_plain(&subject), plain);
-        assert_eq!(rt; view.weight_in(&subject, &q), weight);
-        let mut names = FoundNames::new();
-        assert!(rt; view.names_in(&subject, &mut names).is_ok());
-        assert!(rt; view.names_in(&subject, &mut names).is_ok());
-        assert_eq!(rt; names.len(), count);
-        let last = names.get(count - 1).ok_or("a name")?;
-        assert_eq!(rt; last.bytes(), b"q".as_slice());
-    }
-    Ok(())
+    assert_wanted(&rt, alloc, &view, b"bar", (false, 7, 2))?;
+    assert_wanted(&rt, alloc, &view, b"foo.a", (true, 3, 1))?;
+    assert_wanted(&rt, alloc, &view, b"foo", (false, 3, 1))
 }
 
 /// So many keys of five digits each, in their order.
@@ -112,11 +134,10 @@ fn a_snapshot_has_up_to_65536_keys(rt: HostRuntime) -> Result<(), Fail> {
         (12, b"x", 1, 0),
     ];
     for (number, pattern, weight, answer) in table {
-        let change = match weight {
-            0 => Change::Gone(key(alloc, pattern, b"")?),
-            _ => Change::Up(weighted(alloc, pattern, b"", weight)?),
-        };
-        assert_eq!(rt; number_of(view.hear(number, change)), answer);
+        assert_eq!(rt;
+            heard(alloc, &mut view, number, pattern, b"", weight)?,
+            answer
+        );
     }
     assert!(rt; view.hear_all(12, SnapshotKeys::new(alloc)).is_ok());
     assert_eq!(rt; view.keys().len(), 0);
