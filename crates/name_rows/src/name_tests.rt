@@ -2,6 +2,7 @@
 
 use bytes::Bytes;
 use std::alloc::Global;
+use std::process::Abort;
 use std::test::Fail;
 use subj::{
     Busy, CLIENT_LINE, ConnId, Finished, Incarnation, JOIN_EVENTS, Job, Key, LAST_LINE, MAX_COST,
@@ -104,6 +105,12 @@ fn subjects_share_what_was_read(rt: HostRuntime) -> Result<(), Fail> {
     Ok(())
 }
 
+fn is_match(alloc: Global, pattern: &[u8], subject: &[u8]) -> Result<bool, Fail> {
+    let pattern = Pattern::read(alloc, pattern)?;
+    let subject = Subject::read(alloc, subject)?;
+    Ok(pattern.matches(&subject))
+}
+
 #[test]
 fn matching_table(rt: HostRuntime) -> Result<(), Fail> {
     let table: [(&[u8], &[u8], bool); 20] = [
@@ -129,13 +136,8 @@ fn matching_table(rt: HostRuntime) -> Result<(), Fail> {
         (b"*.*.>", b"a.b.c.d", true),
     ];
     for (pattern, subject, matches) in table {
-        let pattern = Pattern::read(rt.alloc(), pattern)?;
-        let subject = Subject::read(rt.alloc(), subject)?;
-        assert_eq!(rt;
-            pattern.matches(&subject),
-            matches,
-            "{pattern:?} {subject:?}"
-        );
+        let found = is_match(rt.alloc(), pattern, subject)?;
+        assert_eq!(rt; found, matches, "{pattern:?} {subject:?}");
     }
     Ok(())
 }
@@ -292,25 +294,36 @@ fn costs_are_the_bytes_and_a_fixed_part(rt: HostRuntime) -> Result<(), Fail> {
     Ok(())
 }
 
+/// The number of the incarnation, 0 where there is none.
+fn incarnation(number: u64) -> u64 {
+    Incarnation::new(number).map_or(0, |inc| inc.get())
+}
+
+/// The numbers of the turn and of the next one, 0 for one that is not there.
+fn turn_and_next(number: u64) -> Option<(u64, u64)> {
+    let turn = Turn::new(number)?;
+    Some((turn.get(), turn.next().map_or(0, |turn| turn.get())))
+}
+
 #[test]
 fn incarnations_and_turns_have_limits(rt: HostRuntime) {
-    assert_eq!(rt; Incarnation::new(0), None);
-    assert_eq!(rt; Incarnation::new(MAX_INCARNATION + 1), None);
     for number in [1, 4, MAX_INCARNATION] {
-        assert_eq!(rt; Incarnation::new(number).map_or(0, |inc| inc.get()), number);
+        assert_eq!(rt; incarnation(number), number);
+    }
+    for number in [0, MAX_INCARNATION + 1] {
+        assert_eq!(rt; Incarnation::new(number), None);
+    }
+    let table = [
+        (0, Some((0, 1))),
+        (1, Some((1, 2))),
+        (MAX_COUNTER - 1, Some((MAX_COUNTER - 1, MAX_COUNTER))),
+        (MAX_COUNTER, Some((MAX_COUNTER, 0))),
+        (MAX_COUNTER + 1, None),
+    ];
+    for (number, turns) in table {
+        assert_eq!(rt; turn_and_next(number), turns);
     }
     assert_eq!(rt; Turn::zero().get(), 0);
-    assert_eq!(rt; Turn::new(MAX_COUNTER + 1), None);
-    for (number, next) in [
-        (0, 1),
-        (1, 2),
-        (MAX_COUNTER - 1, MAX_COUNTER),
-        (MAX_COUNTER, 0),
-    ] {
-        let turn = Turn::new(number).expect(&rt, "a turn");
-        assert_eq!(rt; turn.get(), number);
-        assert_eq!(rt; turn.next().map_or(0, |turn| turn.get()), next);
-    }
     assert_eq!(rt; ConnId::new(7).get(), 7);
     assert_eq!(rt; ConnId::new(0) == ConnId::new(1), false);
 }
@@ -527,23 +540,37 @@ fn job(alloc: Global) -> Result<Job, Fail> {
     })
 }
 
+fn assert_is_message(rt: &impl Abort, message: &Message) {
+    assert_eq!(rt; message.subject().bytes(), b"foo".as_slice());
+    assert_eq!(rt; message.reply().map_or(0, |reply| reply.bytes().len()), 3);
+    assert_eq!(rt; message.payload().as_slice(), b"hello".as_slice());
+}
+
+fn copy_of_message(alloc: Global) -> Result<Message, Fail> {
+    Ok(message(alloc)?.try_clone()?)
+}
+
 #[test]
 fn messages_are_copied_whole(rt: HostRuntime) -> Result<(), Fail> {
-    let copy = message(rt.alloc())?.try_clone()?;
-    assert_eq!(rt; copy.subject().bytes(), b"foo".as_slice());
-    assert_eq!(rt; copy.reply().map_or(0, |reply| reply.bytes().len()), 3);
-    assert_eq!(rt; copy.payload().as_slice(), b"hello".as_slice());
+    assert_is_message(&rt, &copy_of_message(rt.alloc())?);
     Ok(())
+}
+
+fn assert_is_job(rt: &impl Abort, job: &Job, id: PubId) {
+    assert_eq!(rt; job.turn.get(), 3);
+    assert_eq!(rt; job.id, id);
+    assert_eq!(rt; job.publisher, Some(ConnId::new(5)));
+    assert_eq!(rt; job.echo, false);
+    assert_eq!(rt; job.queues.as_slice().len(), 0);
+}
+
+fn copy_of_job(alloc: Global) -> Result<Job, Fail> {
+    Ok(job(alloc)?.try_clone()?)
 }
 
 #[test]
 fn jobs_are_copied_whole(rt: HostRuntime) -> Result<(), Fail> {
-    let copy = job(rt.alloc())?.try_clone()?;
-    assert_eq!(rt; copy.turn.get(), 3);
-    assert_eq!(rt; copy.id, ninth_of_n1()?);
-    assert_eq!(rt; copy.publisher, Some(ConnId::new(5)));
-    assert_eq!(rt; copy.echo, false);
-    assert_eq!(rt; copy.queues.as_slice().len(), 0);
+    assert_is_job(&rt, &copy_of_job(rt.alloc())?, ninth_of_n1()?);
     Ok(())
 }
 
