@@ -25,7 +25,8 @@ use Rattle.mesh_pipe.specs.declared.pipe_server.Outcome.{Outcome}
 use Rattle.mesh_pipe.specs.declared.pipe_server.Outcome.TheVariants.{Answered, Closed}
 use Rattle.mesh_pipe.specs.declared.pipe_server.PipeServer.{PipeServer}
 use Rattle.mesh_pipe.specs.PipeText.{Served, Spoken, at_rest, served_by, heard, told, after_event, opening, opened_or_not, opening_refused, job_of, names_wanted, worked_off, placing}
-use Rattle.mesh_pipe.specs.PipeServing.{IsServing, Steps, HasIssued, HasWorkedOff, shard_in, waiting_in, all_entries, waiting_bytes, refusal_of_shard, placing_refused, has_any}
+use Rattle.mesh_pipe.specs.PipeServing.{IsServing, Steps, HasIssued, HasWorkedOff, shard_in, waiting_in, all_entries, waiting_bytes, placing_refused, has_any}
+use Rattle.client_refusals.specs.Refusals.{refusal_of_shard}
 use Rattle.mesh_pipe.specs.PipeStates.{served, outcome_by, IsReady, HasServed, IsTold}
 use Rattle.mesh_pipe.proofs.Heard.{known_there, IsAlone, IsSettled, IsQuiet, IsStill, all_taken, behind_take, heard_text, heard_closed, rests, alone_at_rest, settled_at_rest, replied_alone, behind_shut, subscribe_quiet, unsubscribe_quiet, quiet_alone, quiet_settled, worked_still, worked_done}
 

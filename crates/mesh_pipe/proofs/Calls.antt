@@ -28,7 +28,8 @@ use Rattle.node_core.specs.Served.{Served, ConnStep, WorkStep, answer_at, refusa
 use Rattle.node_law.specs.Steps.{conn_line, conn_event, begin_of, event_refusal}
 use Rattle.node_core.specs.TakesBytes.{TakesBytes}
 use Rattle.mesh_pipe.specs.PipeText.{at_rest, at_first}
-use Rattle.mesh_pipe.specs.PipeServing.{pipe_server, line_in, shard_in, waiting_in, placing_refused, IsServing, Steps, all_entries, waiting_bytes, refusal_of, refusal_of_shard}
+use Rattle.mesh_pipe.specs.PipeServing.{pipe_server, line_in, shard_in, waiting_in, placing_refused, IsServing, Steps, all_entries, waiting_bytes, refusal_of}
+use Rattle.client_refusals.specs.Refusals.{refusal_of_shard}
 use Rattle.mesh_pipe.proofs.Alone.{sound_line, conn_there, conn_refuses, conn_steps, work_refuses, no_map}
 use Rattle.mesh_pipe.proofs.Working.{some_map, works}
 

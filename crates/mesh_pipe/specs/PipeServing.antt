@@ -6,6 +6,7 @@ use Rattle.subj.specs.declared.limits.TheConstants.{MAX_COUNTER, MAX_QUEUE_NAMES
 use Rattle.subj.specs.declared.messages.Pub.{Pub}
 use Rattle.client_conn.specs.declared.ask.Refusal.{Refusal}
 use Rattle.client_conn.specs.declared.ask.Refusal.TheVariants as refusal
+use Rattle.client_refusals.specs.Refusals.{refusal_of_shard, refusal_of_hub}
 use Rattle.claim_race.specs.Race.{RaceState, winner}
 use Rattle.hub_core.specs.State.{unknown_peer}
 use Rattle.outbox.specs.Views.{bytes_of_all}
@@ -15,9 +16,6 @@ use Rattle.shard_core.specs.ShardEvents.{Event, Begin, Claim, End}
 use Rattle.shard_core.specs.ShardSteps.{shard_after}
 use Rattle.shard_core.specs.Lines.{waiting_after}
 use Rattle.shard_core.specs.declared.faults.ShardFault.{ShardFault}
-use Rattle.shard_core.specs.declared.faults.ShardFault.TheVariants as shard_fault
-use Rattle.hub_core.specs.declared.faults.HubFault.{HubFault}
-use Rattle.hub_core.specs.declared.faults.HubFault.TheVariants as hub_fault
 use Rattle.node_law.specs.declared.faults.NodeFault.{NodeFault}
 use Rattle.node_law.specs.declared.faults.NodeFault.TheVariants as node_fault
 use Rattle.node_law.specs.State.{Line, Node}
@@ -72,17 +70,6 @@ abbrev pub AreFree : ℕ → RaceState → Type 0
 AreFree index race = (i : ℕ) → index ≤ i → winner race race.issued i ≡ None
 
 -- what a client is told of a refusal
-abbrev pub refusal_of_shard : ShardFault → Refusal
-refusal_of_shard shard_fault.TooManySubs = refusal.TooManySubscriptions
-refusal_of_shard shard_fault.Spent = refusal.NumbersSpent
-refusal_of_shard fault = refusal.Other
-
-abbrev pub refusal_of_hub : HubFault → Refusal
-refusal_of_hub (hub_fault.Busy busy) = refusal.Busy
-refusal_of_hub hub_fault.TooManyQueues = refusal.TooManyQueueGroups
-refusal_of_hub hub_fault.Spent = refusal.NumbersSpent
-refusal_of_hub fault = refusal.Other
-
 abbrev pub refusal_of : NodeFault → Refusal
 refusal_of node_fault.NoShard = refusal.Other
 refusal_of (node_fault.Shard fault) = refusal_of_shard fault

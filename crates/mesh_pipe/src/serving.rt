@@ -7,14 +7,14 @@ ghost use Rattle.shard_core.specs.ShardEvents.{Subscribe, Unsubscribe, Reply, Sh
 ghost use Rattle.shard_core.specs.ShardSteps.{answer_fits, shard_refusal};
 ghost use Rattle.shard_core.specs.Shards.{is_known, is_open};
 ghost use Rattle.mesh_pipe.specs.PipeText.{pipe_info, at_first, at_rest};
-ghost use Rattle.mesh_pipe.specs.PipeServing.{refusal_of as refused, refusal_of_shard as refused_by_shard, refusal_of_hub as refused_by_hub, shard_in, waiting_in, all_entries, waiting_bytes, placing_refused, pipe_server, IsServing, Steps, IsPublished, IsOpened, AreFree, HasBegun, HasClaimed, HasEnded, HasClaimedAll, HasWorkedOff, queues_in, first_queues};
+ghost use Rattle.mesh_pipe.specs.PipeServing.{refusal_of as refused, shard_in, waiting_in, all_entries, waiting_bytes, placing_refused, pipe_server, IsServing, Steps, IsPublished, IsOpened, AreFree, HasBegun, HasClaimed, HasEnded, HasClaimedAll, HasWorkedOff, queues_in, first_queues};
 
 use claim_cells::CellsRace;
 use client_conn::Refusal;
 use client_frames::{ErrText, InfoData, ReplyFrame};
-use hub_core::{HubFault, queue_names_are_wanted};
+use client_refusals::{refusal_of_hub, refusal_of_shard};
+use hub_core::queue_names_are_wanted;
 use node_core::{Node, NodeFault, counts_are_open};
-use shard_core::ShardFault;
 use std::alloc::{AllocError, Global};
 use sub_trie::TrieTable;
 use subj::{ConnId, Failure, Incarnation, Key, NodeId, Pub, Server, Sid};
@@ -65,29 +65,6 @@ pub fn new_node(alloc: Global) -> Result<PipeNode, AllocError>
         Ok(_) => Ok(node),
         Err(Failure::Refused(_)) => unreachable!(),
         Err(Failure::OutOfMemory) => Err(AllocError),
-    }
-}
-
-/// What the client is told of a refusal of a shard.
-fn refusal_of_shard(fault: ShardFault) -> Refusal
-    ensures { result ≡ refused_by_shard fault }
-{
-    match fault {
-        ShardFault::TooManySubs => Refusal::TooManySubscriptions,
-        ShardFault::Spent => Refusal::NumbersSpent,
-        _ => Refusal::Other,
-    }
-}
-
-/// What the client is told of a refusal of the hub.
-fn refusal_of_hub(fault: HubFault) -> Refusal
-    ensures { result ≡ refused_by_hub fault }
-{
-    match fault {
-        HubFault::Busy(_) => Refusal::Busy,
-        HubFault::TooManyQueues => Refusal::TooManyQueueGroups,
-        HubFault::Spent => Refusal::NumbersSpent,
-        _ => Refusal::Other,
     }
 }
 
