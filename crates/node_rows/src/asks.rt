@@ -8,7 +8,8 @@ use route_values::{Body, Numbered, RouteConnect, RouteInfo, SnapshotKeys, Weight
 use std::alloc::Global;
 use std::test::Fail;
 use subj::{
-    ConnId, Incarnation, Key, Message, NodeId, Pattern, Pub, QueueName, QueueNames, Sid, Subject,
+    ConnId, Incarnation, Key, MAX_SUBJECT, Message, NodeId, Pattern, Pub, QueueName, QueueNames,
+    Sid, Subject,
 };
 
 /// What a frame of a peer tells. An empty queue name is none.
@@ -30,6 +31,10 @@ pub enum Ask {
     Attach(u64),
     /// A connection, a pattern, a queue name or none, and an id.
     Open(u64, &'static [u8], &'static [u8], &'static [u8]),
+    /// A connection, and the number of a group on `foo`, whose name is the id too: `q1` and so on.
+    OpenGroup(u64, u64),
+    /// A connection, and a number, which is the id: the longest pattern.
+    OpenLongest(u64, u64),
     Close(u64, &'static [u8], Option<u64>),
     Reply(u64),
     Shut(u64),
@@ -70,16 +75,28 @@ fn queue_of(alloc: Global, text: &[u8]) -> Result<Option<QueueName>, Fail> {
     Ok(Some(QueueName::read(alloc, text)?))
 }
 
-pub fn key(alloc: Global, pattern: &[u8], queue: &[u8]) -> Result<Key, Fail> {
+fn key(alloc: Global, pattern: &[u8], queue: &[u8]) -> Result<Key, Fail> {
     let queue = queue_of(alloc, queue)?;
     let pattern = Pattern::read(alloc, pattern)?;
     Ok(Key { pattern, queue })
 }
 
 /// A subscribe.
-pub fn open(alloc: Global, conn: u64, key: Key, sid: &[u8]) -> Result<NodeEvent, Fail> {
+fn open(alloc: Global, conn: u64, key: Key, sid: &[u8]) -> Result<NodeEvent, Fail> {
     let sid = Sid::read(alloc, sid)?;
     Ok(NodeEvent::of_conn(ConnId::new(conn), ConnEvent::Subscribe { key, sid }))
+}
+
+fn open_group(alloc: Global, conn: u64, number: u64) -> Result<NodeEvent, Fail> {
+    let name = format!(in alloc; "q{number}")?;
+    let key = key(alloc, b"foo", name.as_bytes())?;
+    open(alloc, conn, key, name.as_bytes())
+}
+
+fn open_longest(alloc: Global, conn: u64, number: u64) -> Result<NodeEvent, Fail> {
+    let key = key(alloc, &[b'p'; MAX_SUBJECT], b"")?;
+    let sid = format!(in alloc; "{number}")?;
+    open(alloc, conn, key, sid.as_bytes())
 }
 
 fn close(alloc: Global, conn: u64, sid: &[u8], max: Option<u64>) -> Result<NodeEvent, Fail> {
@@ -126,12 +143,7 @@ fn body_of(alloc: Global, news: News) -> Result<Body, Fail> {
 }
 
 /// A frame of one server to another, each by name and incarnation.
-pub fn frame(
-    from: (&[u8], u64),
-    to: (&[u8], u64),
-    number: u64,
-    body: Body,
-) -> Result<NodeEvent, Fail> {
+fn frame(from: (&[u8], u64), to: (&[u8], u64), number: u64, body: Body) -> Result<NodeEvent, Fail> {
     let (from, from_inc) = (name(from.0)?, inc(from.1)?);
     let (to, to_inc) = (name(to.0)?, inc(to.1)?);
     let frame = Numbered::new(from, from_inc, to, to_inc, number, body).ok_or("a number")?;
@@ -205,6 +217,8 @@ fn conn_event(ask: Ask) -> Option<NodeEvent> {
 pub fn event_of(alloc: Global, ask: Ask) -> Result<NodeEvent, Fail> {
     match ask {
         Ask::Open(conn, pattern, queue, sid) => open(alloc, conn, key(alloc, pattern, queue)?, sid),
+        Ask::OpenGroup(conn, number) => open_group(alloc, conn, number),
+        Ask::OpenLongest(conn, number) => open_longest(alloc, conn, number),
         Ask::Close(conn, sid, max) => close(alloc, conn, sid, max),
         Ask::Say(conn, subject, echo, word) => say(alloc, conn, subject, echo, word),
         Ask::Frame(from, from_inc, to_inc, number, news) => {

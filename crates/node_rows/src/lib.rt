@@ -7,6 +7,8 @@ mod answer_rows;
 #[cfg(test)]
 mod asks;
 #[cfg(test)]
+mod driver;
+#[cfg(test)]
 mod limit_rows;
 #[cfg(test)]
 mod plays;

@@ -1,20 +1,17 @@
 //! Rows at the limits of a server: a full window, too many groups, a slow consumer; dials that cross, and a job that is dropped.
 
-use crate::asks::{Ask, event_of, key, open};
-use crate::plays::{Row, check_answer, check_copies, node_at, play, play_answers};
+use crate::asks::Ask;
+use crate::driver::Copies;
+use crate::plays::{Part, Row, play, play_around};
 use crate::wants::Want;
-use claim_cells::CellsRace;
-use claim_race::{PlainRace, Race};
-use node_core::Node;
 use std::alloc::Global;
-use std::process::Abort;
 use std::test::Fail;
-use sub_trie::TrieTable;
 
-/// Of two servers that dial each other the dial of the first in the list stays: here it is this server's own.
-fn own_dial_stays<R: Race, X: Abort>(rt: &X, alloc: Global) -> Result<(), Fail> {
-    let mut node: Node<TrieTable, R> = node_at(alloc, 0, 1)?;
-    let rows: [Row; 7] = [
+/// Of two servers that dial each other the dial of the first in the list stays. At the first that is its own; at the second the
+/// peer's dial takes the place of its own.
+#[test]
+fn crossed_dials(rt: HostRuntime) -> Result<(), Fail> {
+    let at_first: [Row; 7] = [
         (Ask::Dial(1), Want::Session(1)),
         (Ask::Accept, Want::Session(2)),
         (Ask::Info(1, b"n2", 7), Want::Kept),
@@ -26,13 +23,8 @@ fn own_dial_stays<R: Race, X: Abort>(rt: &X, alloc: Global) -> Result<(), Fail> 
         (Ask::Info(3, b"n2", 7), Want::KeptInstead(1)),
         (Ask::Cut(1), Want::Refused(73)),
     ];
-    play(rt, alloc, &mut node, &rows)
-}
-
-/// The same at the other server, where the peer's dial takes the place of its own.
-fn peers_dial_stays<R: Race, X: Abort>(rt: &X, alloc: Global) -> Result<(), Fail> {
-    let mut node: Node<TrieTable, R> = node_at(alloc, 1, 1)?;
-    let rows: [Row; 5] = [
+    play(&rt, rt.alloc(), 0, 1, &[Part::Steps(&at_first)])?;
+    let at_second: [Row; 5] = [
         (Ask::Dial(0), Want::Session(1)),
         (Ask::Accept, Want::Session(2)),
         (Ask::Info(1, b"n1", 7), Want::Kept),
@@ -42,20 +34,12 @@ fn peers_dial_stays<R: Race, X: Abort>(rt: &X, alloc: Global) -> Result<(), Fail
         ),
         (Ask::Cut(1), Want::Refused(73)),
     ];
-    play(rt, alloc, &mut node, &rows)
-}
-
-#[test]
-fn crossed_dials(rt: HostRuntime) -> Result<(), Fail> {
-    own_dial_stays::<PlainRace, _>(&rt, rt.alloc())?;
-    own_dial_stays::<CellsRace, _>(&rt, rt.alloc())?;
-    peers_dial_stays::<PlainRace, _>(&rt, rt.alloc())?;
-    peers_dial_stays::<CellsRace, _>(&rt, rt.alloc())
+    play(&rt, rt.alloc(), 1, 1, &[Part::Steps(&at_second)])
 }
 
 /// A job that is dropped is not there any more; a connection that goes takes its subscription with it.
-fn job_and_connection_go<R: Race, X: Abort>(rt: &X, alloc: Global) -> Result<(), Fail> {
-    let mut node: Node<TrieTable, R> = node_at(alloc, 0, 1)?;
+#[test]
+fn a_dropped_job_and_a_connection_that_goes(rt: HostRuntime) -> Result<(), Fail> {
     let rows: [Row; 5] = [
         (Ask::Attach(1), Want::Conn(1)),
         (Ask::Open(1, b"foo", b"", b"1"), Want::Opened(1, 1)),
@@ -63,41 +47,32 @@ fn job_and_connection_go<R: Race, X: Abort>(rt: &X, alloc: Global) -> Result<(),
         (Ask::DropJob(1), Want::Done),
         (Ask::Begin(1), Want::Refused(52)),
     ];
-    play(rt, alloc, &mut node, &rows)?;
-    let gone: Row = (Ask::Detach(1), Want::Done);
-    check_copies(rt, alloc, &mut node, gone, (0, 0, 0, 1))?;
+    let gone: [(Row, Copies); 1] = [((Ask::Detach(1), Want::Done), (0, 0, 0, 1))];
     let behind: [Row; 1] = [(Ask::Open(1, b"foo", b"", b"1"), Want::Refused(50))];
-    play(rt, alloc, &mut node, &behind)
-}
-
-#[test]
-fn a_dropped_job_and_a_connection_that_goes(rt: HostRuntime) -> Result<(), Fail> {
-    job_and_connection_go::<PlainRace, _>(&rt, rt.alloc())?;
-    job_and_connection_go::<CellsRace, _>(&rt, rt.alloc())
-}
-
-/// Publications that shard 1 works, each as turn `number`.
-fn worked_by_one<R: Race, X: Abort>(
-    rt: &X,
-    alloc: Global,
-    node: &mut Node<TrieTable, R>,
-    number: u64,
-) -> Result<(), Fail> {
-    let rows: [Row; 3] = [
-        (Ask::Say(1, b"foo", true, 0), Want::Issued(number, 0)),
-        (Ask::Begin(1), Want::Began(0, 0)),
-        (Ask::End(1), Want::Done),
+    let parts = [
+        Part::Steps(&rows),
+        Part::Copies(&gone),
+        Part::Steps(&behind),
     ];
-    play_answers(rt, alloc, node, &rows)
+    play(&rt, rt.alloc(), 0, 1, &parts)
+}
+
+/// Publications of turns 1 to `last`. Shard 1 works each, and places so many messages for it.
+fn worked_turns(alloc: Global, last: u64, placed: usize) -> Result<Vec<Row>, Fail> {
+    let mut rows = Vec::new(alloc);
+    for number in 1..=last {
+        rows.push((Ask::Say(1, b"foo", true, 0), Want::Issued(number, 0)))?;
+        rows.push((Ask::Begin(1), Want::Began(placed, 0)))?;
+        rows.push((Ask::End(1), Want::Done))?;
+    }
+    Ok(rows)
 }
 
 /// While shard 2 works nothing, 32 publications are issued; once it has ended a turn, one more.
-fn full_window<R: Race, X: Abort>(rt: &X, alloc: Global) -> Result<(), Fail> {
-    let mut node: Node<TrieTable, R> = node_at(alloc, 0, 2)?;
-    play(rt, alloc, &mut node, &[(Ask::Attach(1), Want::Conn(1))])?;
-    for number in 1..33 {
-        worked_by_one(rt, alloc, &mut node, number)?;
-    }
+#[test]
+fn a_full_window(rt: HostRuntime) -> Result<(), Fail> {
+    let attached: [Row; 1] = [(Ask::Attach(1), Want::Conn(1))];
+    let worked = worked_turns(rt.alloc(), 32, 0)?;
     let rows: [Row; 5] = [
         (Ask::Say(1, b"foo", true, 0), Want::Refused(60)),
         (Ask::Begin(2), Want::Began(0, 0)),
@@ -105,39 +80,23 @@ fn full_window<R: Race, X: Abort>(rt: &X, alloc: Global) -> Result<(), Fail> {
         (Ask::Say(1, b"foo", true, 0), Want::Issued(33, 0)),
         (Ask::Say(1, b"foo", true, 0), Want::Refused(60)),
     ];
-    play(rt, alloc, &mut node, &rows)
+    play_around(&rt, rt.alloc(), 2, &attached, &worked, &rows)
 }
 
-#[test]
-fn a_full_window(rt: HostRuntime) -> Result<(), Fail> {
-    full_window::<PlainRace, _>(&rt, rt.alloc())?;
-    full_window::<CellsRace, _>(&rt, rt.alloc())
-}
-
-/// Opens a member of each of 65 groups on `foo`.
-fn open_groups<R: Race, X: Abort>(
-    rt: &X,
-    alloc: Global,
-    node: &mut Node<TrieTable, R>,
-) -> Result<(), Fail> {
+/// A member of each of 65 groups on `foo`.
+fn opened_groups(alloc: Global) -> Result<Vec<Row>, Fail> {
+    let mut rows = Vec::new(alloc);
     for number in 1..66 {
-        let name = format!(in alloc; "q{number}")?;
-        let event = open(
-            alloc,
-            1,
-            key(alloc, b"foo", name.as_bytes())?,
-            name.as_bytes(),
-        )?;
-        check_answer(rt, node, &event, Want::Opened(1, number));
+        rows.push((Ask::OpenGroup(1, number), Want::Opened(1, number)))?;
     }
-    Ok(())
+    Ok(rows)
 }
 
 /// A publication for 65 groups is refused, and takes no number.
-fn groups<R: Race, X: Abort>(rt: &X, alloc: Global) -> Result<(), Fail> {
-    let mut node: Node<TrieTable, R> = node_at(alloc, 0, 1)?;
-    play(rt, alloc, &mut node, &[(Ask::Attach(1), Want::Conn(1))])?;
-    open_groups(rt, alloc, &mut node)?;
+#[test]
+fn too_many_groups(rt: HostRuntime) -> Result<(), Fail> {
+    let attached: [Row; 1] = [(Ask::Attach(1), Want::Conn(1))];
+    let opened = opened_groups(rt.alloc())?;
     let rows: [Row; 5] = [
         (Ask::Collect(1), Want::Collected(65, 0, 0)),
         (Ask::Say(1, b"foo", true, 0), Want::Refused(61)),
@@ -145,74 +104,41 @@ fn groups<R: Race, X: Abort>(rt: &X, alloc: Global) -> Result<(), Fail> {
         (Ask::Collect(1), Want::Collected(1, 0, 0)),
         (Ask::Say(1, b"foo", true, 0), Want::Issued(1, 0)),
     ];
-    play(rt, alloc, &mut node, &rows)
-}
-
-#[test]
-fn too_many_groups(rt: HostRuntime) -> Result<(), Fail> {
-    groups::<PlainRace, _>(&rt, rt.alloc())?;
-    groups::<CellsRace, _>(&rt, rt.alloc())
-}
-
-/// One publication to the connection, of which nothing is taken.
-fn placed_once<R: Race, X: Abort>(
-    rt: &X,
-    alloc: Global,
-    node: &mut Node<TrieTable, R>,
-    number: u64,
-) -> Result<(), Fail> {
-    let rows: [Row; 3] = [
-        (Ask::Say(1, b"foo", true, 0), Want::Issued(number, 0)),
-        (Ask::Begin(1), Want::Began(1, 0)),
-        (Ask::End(1), Want::Done),
-    ];
-    play_answers(rt, alloc, node, &rows)
+    play_around(&rt, rt.alloc(), 1, &attached, &opened, &rows)
 }
 
 /// Behind 1,024 messages that nobody takes the next one shuts the connection.
-fn untaken_messages<R: Race, X: Abort>(rt: &X, alloc: Global) -> Result<(), Fail> {
-    let mut node: Node<TrieTable, R> = node_at(alloc, 0, 1)?;
+#[test]
+fn a_slow_consumer(rt: HostRuntime) -> Result<(), Fail> {
     let opened: [Row; 2] = [
         (Ask::Attach(1), Want::Conn(1)),
         (Ask::Open(1, b"foo", b"", b"1"), Want::Opened(1, 1)),
     ];
-    play(rt, alloc, &mut node, &opened)?;
-    for number in 1..1_025 {
-        placed_once(rt, alloc, &mut node, number)?;
-    }
+    let placed = worked_turns(rt.alloc(), 1_024, 1)?;
     let rows: [Row; 3] = [
         (Ask::Say(1, b"foo", true, 0), Want::Issued(1_025, 0)),
         (Ask::Begin(1), Want::Began(0, 1)),
         (Ask::Take(1, 2_000), Want::Entries(1_025)),
     ];
-    play(rt, alloc, &mut node, &rows)
-}
-
-#[test]
-fn a_slow_consumer(rt: HostRuntime) -> Result<(), Fail> {
-    untaken_messages::<PlainRace, _>(&rt, rt.alloc())?;
-    untaken_messages::<CellsRace, _>(&rt, rt.alloc())
+    play_around(&rt, rt.alloc(), 1, &opened, &placed, &rows)
 }
 
 /// Behind 1,024 answers that nobody takes the next one shuts the connection.
-fn untaken_answers<R: Race, X: Abort>(rt: &X, alloc: Global) -> Result<(), Fail> {
-    let mut node: Node<TrieTable, R> = node_at(alloc, 0, 1)?;
-    play(rt, alloc, &mut node, &[(Ask::Attach(1), Want::Conn(1))])?;
-    let answer = event_of(alloc, Ask::Reply(1))?;
-    for _ping in 0..1_024 {
-        check_answer(rt, &mut node, &answer, Want::Done);
-    }
-    let last: Row = (Ask::Reply(1), Want::Done);
-    check_copies(rt, alloc, &mut node, last, (1, 0, 1, 0))?;
+#[test]
+fn untaken_answers_shut(rt: HostRuntime) -> Result<(), Fail> {
+    let attached: [Row; 1] = [(Ask::Attach(1), Want::Conn(1))];
+    let answer: Row = (Ask::Reply(1), Want::Done);
+    let answers = [answer; 1_024];
+    let last: [(Row, Copies); 1] = [(answer, (1, 0, 1, 0))];
     let rows: [Row; 2] = [
         (Ask::Reply(1), Want::Refused(50)),
         (Ask::Take(1, 2_000), Want::Entries(1_025)),
     ];
-    play(rt, alloc, &mut node, &rows)
-}
-
-#[test]
-fn untaken_answers_shut(rt: HostRuntime) -> Result<(), Fail> {
-    untaken_answers::<PlainRace, _>(&rt, rt.alloc())?;
-    untaken_answers::<CellsRace, _>(&rt, rt.alloc())
+    let parts = [
+        Part::Steps(&attached),
+        Part::Answers(&answers),
+        Part::Copies(&last),
+        Part::Steps(&rows),
+    ];
+    play(&rt, rt.alloc(), 0, 1, &parts)
 }
