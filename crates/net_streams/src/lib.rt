@@ -1,0 +1,14 @@
+//! The streams of connections: sockets, and streams in memory that can be made to fail; and what a stream did not
+//! take yet.
+#![tactic(auto)]
+
+mod mem_stream;
+mod outgoing;
+mod sockets;
+mod stream;
+mod wire;
+
+pub use mem_stream::MemStream;
+pub use outgoing::Outgoing;
+pub use stream::{Stream, StreamFault};
+pub use wire::Wire;

@@ -1,0 +1,86 @@
+//! Over which connections the other servers of the cluster are reached.
+
+use std::alloc::{AllocError, Global};
+
+/// What leads to one other server.
+#[derive(Clone, Copy, Debug, PartialEq, Eq)]
+pub(crate) struct Way {
+    /// The connection whose session is kept.
+    pub kept: Option<usize>,
+    /// The connection that this server has dialed, while its session is not complete.
+    pub dialed: Option<usize>,
+}
+
+/// What leads to each server of the cluster, by its place.
+#[derive(Debug, Drop)]
+pub(crate) struct Peers {
+    ways: Vec<Way>,
+}
+
+/// Whether it is this connection.
+fn is_at(place: Option<usize>, key: usize) -> bool {
+    place == Some(key)
+}
+
+impl Peers {
+    /// Nothing leads to any of so many.
+    pub fn new(alloc: Global, count: usize) -> Result<Peers, AllocError> {
+        let mut ways = Vec::with_capacity(alloc, count)?;
+        for _place in 0..count {
+            ways.push(Way {
+                kept: None,
+                dialed: None,
+            })?;
+        }
+        Ok(Peers { ways })
+    }
+
+    /// How many servers the cluster has.
+    pub fn count(&self) -> usize {
+        self.ways.len()
+    }
+
+    /// The connection whose session with the server at this place is kept.
+    pub fn kept(&self, place: usize) -> Option<usize> {
+        self.ways.get(place)?.kept
+    }
+
+    /// Whether the server at this place is reached, or is being dialed.
+    pub fn is_reached(&self, place: usize) -> bool {
+        match self.ways.get(place) {
+            None => false,
+            Some(way) => way.kept.is_some() || way.dialed.is_some(),
+        }
+    }
+
+    /// The connection dials the server at this place.
+    pub fn dial(&mut self, place: usize, key: usize) {
+        if let Some(way) = self.ways.get_mut(place) {
+            way.dialed = Some(key);
+        }
+    }
+
+    /// The session of the connection with the server at this place is kept. Gives the connection that was
+    /// kept before.
+    pub fn keep(&mut self, place: usize, key: usize) -> Option<usize> {
+        let way = self.ways.get_mut(place)?;
+        if is_at(way.dialed, key) {
+            way.dialed = None;
+        }
+        let old = way.kept;
+        way.kept = Some(key);
+        old.filter(|old| *old != key)
+    }
+
+    /// The connection is gone.
+    pub fn lose(&mut self, key: usize) {
+        for way in &mut self.ways {
+            if is_at(way.kept, key) {
+                way.kept = None;
+            }
+            if is_at(way.dialed, key) {
+                way.dialed = None;
+            }
+        }
+    }
+}

@@ -1,0 +1,362 @@
+//! A route: a connection to another server, cut into frames.
+
+use crate::runs::{Ran, Run, cost_of};
+use bytes::Bytes;
+use hub_core::HubFault;
+use node_threads::NodeName;
+use route_frames::{
+    Body, Numbered, RouteConnect, RouteFault, RouteFrame, RouteInfo, RouteLine, Unjoined,
+};
+use route_session::SessionId;
+use std::alloc::Global;
+use std::sync::Wait;
+use sub_table::SubTable;
+use subj::{Failure, Incarnation, MAX_SNAPSHOT, ROUTE_LINE, Server as Life, WINDOW};
+use thread_node::{LockedHub, ThreadNode};
+use wire_cut::{Cutter, FillFault, Piece, Source};
+
+/// How far the session of a route is.
+#[derive(Clone, Copy, Debug, PartialEq, Eq)]
+pub(crate) enum Stage {
+    /// This server dialed the one at this place, and waits for its `INFO`.
+    Dialed(usize),
+    /// Another server dialed, and is to send its `CONNECT`.
+    Accepted,
+    /// The session is kept with the server at this place, in that life.
+    Kept { peer: usize, inc: Incarnation },
+}
+
+/// What a route was told to send, and with whom its session is kept now.
+#[derive(Debug, Drop)]
+pub(crate) struct Greeted {
+    pub peer: usize,
+    pub answer: Option<RouteConnect>,
+}
+
+/// What one step of a route came to.
+pub(crate) enum Stepped {
+    Ran(Run),
+    Greeted(Greeted),
+}
+
+/// Why there is no frame to be taken.
+enum Missing {
+    Waits,
+    Short,
+    Refused,
+}
+
+/// What has become of a frame that was to be received.
+enum Heard {
+    /// It was taken, and counts as so many bytes, or it had come before.
+    Done(usize),
+    Ended(Ran),
+}
+
+/// A route and its session.
+#[derive(Drop)]
+pub(crate) struct RouteLink {
+    alloc: Global,
+    cutter: Cutter,
+    /// A line whose payload is to come.
+    line: Option<RouteLine>,
+    /// A line and its payload that were not joined for want of memory.
+    unjoined: Option<(RouteLine, Bytes)>,
+    /// A frame that is to be taken next.
+    ahead: Option<RouteFrame>,
+    pub session: SessionId,
+    pub stage: Stage,
+}
+
+/// What a refusal of a route's frame means, of its hub or its sessions, or want of memory.
+fn end_of<F: Drop>(fault: Failure<F>) -> Ran {
+    match fault {
+        Failure::OutOfMemory => Ran::Short,
+        Failure::Refused(_) => Ran::Refused,
+    }
+}
+
+/// As how many bytes a message counts; anything else counts as none.
+fn weight_of(frame: &Numbered) -> usize {
+    match frame.body() {
+        Body::Msg { message, .. } => cost_of(message.payload().len()),
+        _ => 0,
+    }
+}
+
+impl RouteLink {
+    /// A route of which nothing was read.
+    pub fn new(alloc: Global, session: SessionId, stage: Stage) -> RouteLink {
+        RouteLink {
+            alloc,
+            cutter: Cutter::new(alloc, ROUTE_LINE, MAX_SNAPSHOT as u64),
+            line: None,
+            unjoined: None,
+            ahead: None,
+            session,
+            stage,
+        }
+    }
+
+    /// Whether its session is kept.
+    pub fn is_kept(&self) -> bool {
+        matches!(self.stage, Stage::Kept { .. })
+    }
+
+    /// Reads once, at most so many bytes.
+    pub fn read_from<S: Source>(
+        &mut self,
+        source: &mut S,
+        most: usize,
+    ) -> Result<usize, FillFault> {
+        self.cutter.read_from(source, most)
+    }
+
+    /// The next line, which is used up once it was read.
+    fn next_line(&mut self) -> Result<RouteLine, Missing> {
+        let line = match self.cutter.peek() {
+            Ok(None) => return Err(Missing::Waits),
+            Ok(Some(Piece::Line(line))) => match RouteLine::read(self.alloc, line) {
+                Ok(line) => line,
+                Err(Failure::OutOfMemory) => return Err(Missing::Short),
+                Err(Failure::Refused(_)) => return Err(Missing::Refused),
+            },
+            Ok(Some(Piece::Payload(_))) | Err(_) => return Err(Missing::Refused),
+        };
+        let _ = self.cutter.next();
+        Ok(line)
+    }
+
+    /// The payload of the line that was read.
+    fn next_payload(&mut self) -> Result<Bytes, Missing> {
+        let payload = match self.cutter.peek() {
+            Ok(None) => return Err(Missing::Waits),
+            Ok(Some(Piece::Payload(payload))) => {
+                match Bytes::copy_from_slice(self.alloc, payload) {
+                    Ok(payload) => payload,
+                    Err(_) => return Err(Missing::Short),
+                }
+            }
+            Ok(Some(Piece::Line(_))) | Err(_) => return Err(Missing::Refused),
+        };
+        let _ = self.cutter.next();
+        Ok(payload)
+    }
+
+    /// A payload of so many bytes has to come.
+    fn expect(&mut self, size: u64) -> Result<(), Missing> {
+        if !self.cutter.after_line() {
+            return Err(Missing::Refused);
+        }
+        self.cutter.expect(size).map_err(|_| Missing::Refused)
+    }
+
+    /// Reads the next line, and announces its payload.
+    fn begin_frame(&mut self) -> Result<(), Missing> {
+        let line = self.next_line()?;
+        match line.payload_size() {
+            None => self.unjoined = Some((line, Bytes::new())),
+            Some(size) => {
+                self.expect(size)?;
+                self.line = Some(line);
+            }
+        }
+        Ok(())
+    }
+
+    /// Joins a line and its payload.
+    fn join(&mut self, line: RouteLine, payload: Bytes) -> Result<(), Missing> {
+        match line.into_frame(self.alloc, payload) {
+            Ok(frame) => {
+                self.ahead = Some(frame);
+                Ok(())
+            }
+            Err(Unjoined::Refused(_)) => Err(Missing::Refused),
+            Err(Unjoined::OutOfMemory { line, payload }) => {
+                self.unjoined = Some((line, payload));
+                Err(Missing::Short)
+            }
+        }
+    }
+
+    /// Goes on with the frame that is to be taken next.
+    fn read_part(&mut self) -> Result<(), Missing> {
+        if let Some((line, payload)) = self.unjoined.take() {
+            return self.join(line, payload);
+        }
+        if self.line.is_none() {
+            return self.begin_frame();
+        }
+        let payload = self.next_payload()?;
+        match self.line.take() {
+            Some(line) => self.join(line, payload),
+            None => Err(Missing::Refused),
+        }
+    }
+
+    /// Reads the frame that is to be taken next, unless it was read. Tells why it is not there.
+    fn look_ahead(&mut self) -> Option<Ran> {
+        for _part in 0..3 {
+            if self.ahead.is_some() {
+                return None;
+            }
+            match self.read_part() {
+                Ok(()) => {}
+                Err(Missing::Waits) => return Some(Ran::Waits),
+                Err(Missing::Short) => return Some(Ran::Short),
+                Err(Missing::Refused) => return Some(Ran::Refused),
+            }
+        }
+        self.ahead.is_none().then_some(Ran::Goes)
+    }
+
+    /// Takes the next frame, or the numbered frames up to another one under one hold of the hub's lock.
+    /// Frames before the session is kept, and those of another server than it is kept with, are refused.
+    pub fn advance<T: SubTable, N: NodeName, R: Wait>(
+        &mut self,
+        rt: &R,
+        node: &ThreadNode<T, N>,
+        life: &Life,
+    ) -> Stepped {
+        if let Some(end) = self.look_ahead() {
+            return Stepped::Ran(Run::of(end));
+        }
+        if let Some(info) = self.info_ahead() {
+            return self.greet_back(rt, node, info);
+        }
+        if let Some(connect) = self.connect_ahead() {
+            return self.complete(rt, node, life, connect);
+        }
+        Stepped::Ran(self.receive(rt, node, life))
+    }
+
+    /// The `INFO` that is to be taken next.
+    fn info_ahead(&self) -> Option<RouteInfo> {
+        match &self.ahead {
+            Some(RouteFrame::Info(info)) => Some(*info),
+            _ => None,
+        }
+    }
+
+    /// The `CONNECT` that is to be taken next.
+    fn connect_ahead(&self) -> Option<RouteConnect> {
+        match &self.ahead {
+            Some(RouteFrame::Connect(connect)) => Some(*connect),
+            _ => None,
+        }
+    }
+
+    /// The server that was dialed has told who it is.
+    fn greet_back<T: SubTable, N: NodeName, R: Wait>(
+        &mut self,
+        rt: &R,
+        node: &ThreadNode<T, N>,
+        info: RouteInfo,
+    ) -> Stepped {
+        let Stage::Dialed(peer) = self.stage else {
+            return Stepped::Ran(Run::of(Ran::Refused));
+        };
+        let done = node.hub(rt).info(self.session, &info);
+        match done {
+            Ok((_kept, answer)) => {
+                self.ahead = None;
+                self.stage = Stage::Kept {
+                    peer,
+                    inc: info.inc(),
+                };
+                Stepped::Greeted(Greeted {
+                    peer,
+                    answer: Some(answer),
+                })
+            }
+            Err(fault) => Stepped::Ran(Run::of(end_of(fault))),
+        }
+    }
+
+    /// The server that dialed has told who it is.
+    fn complete<T: SubTable, N: NodeName, R: Wait>(
+        &mut self,
+        rt: &R,
+        node: &ThreadNode<T, N>,
+        life: &Life,
+        connect: RouteConnect,
+    ) -> Stepped {
+        let Some(peer) = life.place(connect.server_name()) else {
+            return Stepped::Ran(Run::of(Ran::Refused));
+        };
+        let done = node.hub(rt).connect(self.session, &connect);
+        match done {
+            Ok(_kept) => {
+                self.ahead = None;
+                self.stage = Stage::Kept {
+                    peer,
+                    inc: connect.inc(),
+                };
+                Stepped::Greeted(Greeted { peer, answer: None })
+            }
+            Err(fault) => Stepped::Ran(Run::of(end_of(fault))),
+        }
+    }
+
+    /// Takes numbered frames, at most a window.
+    fn receive<T: SubTable, N: NodeName, R: Wait>(
+        &mut self,
+        rt: &R,
+        node: &ThreadNode<T, N>,
+        life: &Life,
+    ) -> Run {
+        let mut guard = node.hub(rt);
+        let hub = &mut *guard;
+        let mut run = Run::of(Ran::Goes);
+        for _frame in 0..WINDOW {
+            match self.receive_next(hub, life) {
+                Heard::Done(bytes) => run.issued = run.issued.saturating_add(bytes),
+                Heard::Ended(end) => {
+                    run.end = end;
+                    break;
+                }
+            }
+        }
+        hub.push_jobs(rt);
+        run
+    }
+
+    /// Whether the frame is of the server that the session is kept with.
+    fn is_of_peer(&self, frame: &Numbered, life: &Life) -> bool {
+        match self.stage {
+            Stage::Kept { peer, .. } => life.place(frame.from()) == Some(peer),
+            _ => false,
+        }
+    }
+
+    /// Whether the frame is of the life of the server that the session is kept with.
+    fn is_of_life(&self, frame: &Numbered) -> bool {
+        match self.stage {
+            Stage::Kept { inc, .. } => frame.inc() == inc,
+            _ => false,
+        }
+    }
+
+    /// Takes the next frame, where it is a numbered one. It is kept while it cannot be taken.
+    fn receive_next<N: NodeName>(&mut self, hub: &mut LockedHub<N>, life: &Life) -> Heard {
+        if let Some(end) = self.look_ahead() {
+            return Heard::Ended(end);
+        }
+        let Some(RouteFrame::Numbered(frame)) = &self.ahead else {
+            return Heard::Ended(Ran::Goes);
+        };
+        if !self.is_of_peer(frame, life) {
+            return Heard::Ended(Ran::Refused);
+        }
+        let bytes = weight_of(frame);
+        let done = match hub.receive(frame) {
+            Ok(_) if !self.is_of_life(frame) => Heard::Ended(Ran::Refused),
+            Ok(_) => Heard::Done(bytes),
+            Err(Failure::Refused(HubFault::Late)) => Heard::Done(0),
+            Err(Failure::Refused(HubFault::Busy(_))) => return Heard::Ended(Ran::Busy),
+            Err(fault) => return Heard::Ended(end_of(fault)),
+        };
+        self.ahead = None;
+        done
+    }
+}

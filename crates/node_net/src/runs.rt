@@ -1,0 +1,57 @@
+//! What a link has come to, after a run of what it asks.
+
+use subj::{OUTBOX_BYTES, OUTBOX_ENTRIES};
+
+/// After how many bytes of payloads what waits for clients is taken before more is read: a client with few
+/// subscriptions has room for several times as much.
+pub(crate) const TAKEN_EARLY: usize = OUTBOX_BYTES / 8;
+
+/// As how many bytes a message counts beside its payload: so a quarter of the messages that an outbox has
+/// room for come to [`TAKEN_EARLY`].
+const MESSAGE_COST: usize = TAKEN_EARLY / (OUTBOX_ENTRIES / 4);
+
+/// As how many bytes a message with a payload of so many counts; an answer counts as one without.
+pub(crate) fn cost_of(payload: usize) -> usize {
+    payload.saturating_add(MESSAGE_COST)
+}
+
+/// What a run came to. A run is what is done under one hold of a lock.
+#[derive(Clone, Copy, Debug, PartialEq, Eq)]
+pub(crate) enum Ran {
+    /// More bytes are needed.
+    Waits,
+    /// More is to be done, which may be of another kind.
+    Goes,
+    /// A shard is a window behind: the same is asked again once the shards have worked.
+    Busy,
+    /// There was no memory. The same is asked again later.
+    Short,
+    /// Nothing is asked any more: the connection is closed once its last line is written.
+    Shut,
+    /// What came is refused: the connection is closed.
+    Refused,
+}
+
+/// What a run has done beside what it came to.
+#[derive(Clone, Copy, Debug, PartialEq, Eq)]
+pub(crate) struct Run {
+    pub end: Ran,
+    /// As how many bytes the messages count that were handed to the shards.
+    pub issued: usize,
+    /// As how many bytes the lines count that were put for the client itself.
+    pub replied: usize,
+    /// Whether the hub has not heard of all that the shard opened and closed.
+    pub has_deltas: bool,
+}
+
+impl Run {
+    /// A run that has done nothing else.
+    pub fn of(end: Ran) -> Run {
+        Run {
+            end,
+            issued: 0,
+            replied: 0,
+            has_deltas: false,
+        }
+    }
+}

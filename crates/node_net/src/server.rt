@@ -1,0 +1,339 @@
+//! The connections of one server, over any kind of stream.
+
+ghost use Rattle.std.specs.Prelude.{◌≡◌, ◌≤◌, ◌+◌, ◌-◌, ◌%◌, None, OnOk, OnErr};
+ghost use Rattle.slab.specs.Slab.{Updates};
+
+use crate::calls::{accept, attach, cut, detach, dial};
+use crate::client_link::ClientLink;
+use crate::clients::Clients;
+use crate::closings::Closing;
+use crate::connection::{Connection, Link};
+use crate::peers::Peers;
+use crate::route_link::{RouteLink, Stage};
+use client_frames::InfoData;
+use net_streams::Stream;
+use node_threads::NodeName;
+use rand_core::SeedableRng;
+use rand_pcg::Pcg64;
+use route_frames::{RouteFrame, encode};
+use route_session::{SessionFault, SessionId};
+use shard_core::{Recipients, ShardFault};
+use slab::Slab;
+use std::alloc::{AllocError, AllocFailed, Global};
+use std::sync::Wait;
+use sub_table::SubTable;
+use subj::{ConnId, Failure, Server as Life};
+use thiserror::Error;
+use thread_node::ThreadNode;
+
+/// Who is at the other end of a stream.
+#[derive(Clone, Copy, Debug, PartialEq, Eq)]
+pub enum Side {
+    /// A client.
+    Client,
+    /// Another server, which has dialed.
+    Accepted,
+    /// The server at this place of the cluster, which this one has dialed.
+    Dialed(usize),
+}
+
+/// Why a stream is not taken. It is closed.
+#[derive(Clone, Copy, Debug, PartialEq, Eq, Error)]
+pub enum AddFault {
+    /// No client is taken any more: the numbers of connections have come to their limit.
+    #[error("no client is taken any more: {0}")]
+    Client(ShardFault),
+    /// The route is refused.
+    #[error("the route is refused: {0}")]
+    Route(SessionFault),
+    /// There was no memory.
+    #[error("out of memory")]
+    OutOfMemory,
+}
+
+impl From<AllocError> for AddFault {
+    fn from(_: AllocError) -> AddFault {
+        AddFault::OutOfMemory
+    }
+}
+
+/// The shard of a client: those of a server go to its shards in turn. The client is counted from 1, and so
+/// is the shard. (Profile.)
+pub fn shard_of_client(client: u64, shards: u64) -> u64
+    requires { 1 ≤ shards }
+    ensures { result ≡ (client - 1) % shards + 1 }
+{
+    client.saturating_sub(1) % shards + 1
+}
+
+/// What was taken for one connection: up to this place of all that was taken.
+#[derive(Clone, Copy, Debug, PartialEq, Eq)]
+pub(crate) struct Part {
+    pub key: usize,
+    pub end: usize,
+}
+
+/// The connections of one server, over any kind of stream: what comes in on them becomes calls of the server,
+/// and what these have put for clients and other servers goes out. Only the thread that has it works the
+/// server's shards. (Profile.)
+#[derive(Drop)]
+pub struct Server<'n, S: Stream, T: SubTable, N: NodeName> {
+    pub(crate) alloc: Global,
+    pub(crate) node: &'n ThreadNode<T, N>,
+    pub(crate) life: Life,
+    pub(crate) port: u16,
+    pub(crate) words: Pcg64,
+    pub(crate) connections: Slab<Connection<S>>,
+    pub(crate) peers: Peers,
+    pub(crate) clients: Clients,
+    /// How many clients were taken.
+    came: u64,
+    /// How many clients are gone.
+    pub(crate) gone: u64,
+    /// Which shard is worked first in the next round.
+    pub(crate) first: u64,
+    /// How much was put since the last time that what waits for clients was taken, as bytes.
+    pub(crate) put: usize,
+    /// Whether something may wait for any client.
+    pub(crate) awaits_any: bool,
+    /// The clients of a shard that something was put for.
+    pub(crate) recipients: Recipients,
+    /// Whether something may wait for other servers.
+    pub(crate) has_told: bool,
+    /// Connections for which something may wait.
+    pub(crate) awaited: Vec<usize>,
+    /// Connections that are to be served in the next turn, although nothing tells of them, and those of this turn.
+    /// Each stands there once, and there is room for all.
+    pub(crate) again: Vec<usize>,
+    pub(crate) serving: Vec<usize>,
+    /// Connections that go at the end of the turn, and those that are going. Each stands there once, and there
+    /// is room for all.
+    pub(crate) leaving: Vec<usize>,
+    pub(crate) going: Vec<usize>,
+    /// Connections that have a limit until which their last bytes are to be written.
+    pub(crate) closings: Vec<Closing>,
+    /// How many turns were made.
+    pub(crate) turns: u64,
+    /// What was taken for clients and is about to be written, and for whom.
+    pub(crate) taken: Vec<u8>,
+    pub(crate) parts: Vec<Part>,
+    /// Frames that are spelt and about to be written.
+    pub(crate) spelt: Vec<u8>,
+    /// Whether there was no memory for something, which is tried again.
+    pub(crate) is_short: bool,
+}
+
+impl<'n, S: Stream, T: SubTable, N: NodeName> Server<'n, S, T, N> {
+    /// The connections of this node, which is this life of a server and tells its clients this port. There
+    /// are none. The seed begins the words that decide which server serves a queue group.
+    pub fn new(
+        alloc: Global,
+        node: &'n ThreadNode<T, N>,
+        life: Life,
+        port: u16,
+        seed: u64,
+    ) -> Result<Server<'n, S, T, N>, AllocError> {
+        let peers = Peers::new(alloc, life.names().len())?;
+        Ok(Server {
+            alloc,
+            node,
+            life,
+            port,
+            words: Pcg64::seed_from_u64(seed),
+            connections: Slab::new(alloc),
+            peers,
+            clients: Clients::new(alloc),
+            came: 0,
+            gone: 0,
+            first: 0,
+            put: 0,
+            awaits_any: false,
+            recipients: Recipients::new(alloc),
+            has_told: false,
+            awaited: Vec::new(alloc),
+            again: Vec::new(alloc),
+            serving: Vec::new(alloc),
+            leaving: Vec::new(alloc),
+            going: Vec::new(alloc),
+            closings: Vec::new(alloc),
+            turns: 0,
+            taken: Vec::new(alloc),
+            parts: Vec::new(alloc),
+            spelt: Vec::new(alloc),
+            is_short: false,
+        })
+    }
+
+    /// The stream of a connection.
+    pub fn stream(&self, key: usize) -> Option<&S> {
+        Some(self.connections.get(key)?.stream())
+    }
+
+    /// The stream of a connection, to be changed.
+    pub fn stream_mut(&mut self, key: usize) -> Option<&mut S> {
+        Some(self.connections.get_mut(key)?.stream_mut())
+    }
+
+    /// The shard that a client's connection is of, counted from 1.
+    pub fn shard(&self, key: usize) -> Option<u64> {
+        match &self.connections.get(key)?.link {
+            Link::Client(client) => Some(client.shard),
+            Link::Route(_) => None,
+        }
+    }
+
+    /// The session of a route that has not told who it is.
+    pub(crate) fn incomplete(&self, key: usize) -> Option<SessionId> {
+        match &self.connections.get(key)?.link {
+            Link::Route(route) if !route.is_kept() => Some(route.session),
+            _ => None,
+        }
+    }
+
+    /// Whether there is another server at this place that is not reached and is not being dialed.
+    pub(crate) fn is_missing(&self, place: usize) -> bool {
+        self.life.is_peer(place) && !self.peers.is_reached(place)
+    }
+
+    /// Takes a stream, with this end at its other side, and answers its key. What a client or a server that
+    /// dialed is told first goes out with the next turn. A stream that is refused is closed. May wait.
+    pub fn add<R: Wait>(&mut self, rt: &R, stream: S, side: Side) -> Result<usize, AddFault> {
+        self.make_room()?;
+        let mut connection = match side {
+            Side::Client => self.client(rt, stream)?,
+            Side::Accepted => self.accepted(rt, stream)?,
+            Side::Dialed(peer) => self.dialed(rt, stream, peer)?,
+        };
+        let client = connection.client();
+        connection.stands_again = true;
+        let key = self.insert(connection)?;
+        if let Side::Dialed(peer) = side {
+            self.peers.dial(peer, key);
+        }
+        if let Some(id) = client {
+            self.clients.add(id, key);
+        }
+        self.again
+            .push(key)
+            .map_err(|e: AllocFailed<usize>| AllocError::from(e))?;
+        Ok(key)
+    }
+
+    /// Makes room for one connection more, wherever it may stand.
+    fn make_room(&mut self) -> Result<(), AllocError> {
+        self.connections.reserve(1)?;
+        self.clients.reserve()?;
+        let all = self.connections.len().saturating_add(1);
+        self.again.reserve(all)?;
+        self.serving.reserve(all)?;
+        self.leaving.reserve(all)?;
+        self.going.reserve(all)?;
+        Ok(())
+    }
+
+    /// Puts a connection among the others.
+    fn insert(&mut self, connection: Connection<S>) -> Result<usize, AllocError> {
+        match self.connections.insert(connection) {
+            Ok(key) => Ok(key),
+            Err(_) => Err(AllocError),
+        }
+    }
+
+    /// The connection of the next client.
+    fn client<R: Wait>(&mut self, rt: &R, stream: S) -> Result<Connection<S>, AddFault> {
+        let number = self.came.saturating_add(1);
+        let shard = shard_of_client(number, self.life.shards());
+        let client_id = match attach(rt, self.node, shard) {
+            Ok(id) => id,
+            Err(Failure::Refused(fault)) => return Err(AddFault::Client(fault)),
+            Err(Failure::OutOfMemory) => return Err(AddFault::OutOfMemory),
+        };
+        self.came = number;
+        let info = self.info(client_id);
+        let link = Link::Client(ClientLink::new(self.alloc, info, shard));
+        Ok(Connection::new(self.alloc, stream, link))
+    }
+
+    /// What a client is told first.
+    fn info(&self, client_id: ConnId) -> InfoData {
+        InfoData {
+            name: self.life.name(),
+            inc: self.life.inc(),
+            client_id,
+            port: self.port,
+        }
+    }
+
+    /// The connection of a server that has dialed.
+    fn accepted<R: Wait>(&mut self, rt: &R, stream: S) -> Result<Connection<S>, AddFault> {
+        let (session, info) = match accept(rt, self.node) {
+            Ok(accepted) => accepted,
+            Err(Failure::Refused(fault)) => return Err(AddFault::Route(fault)),
+            Err(Failure::OutOfMemory) => return Err(AddFault::OutOfMemory),
+        };
+        self.spelt.clear();
+        if encode(&RouteFrame::Info(info), &mut self.spelt).is_err() {
+            cut(rt, self.node, session);
+            return Err(AddFault::OutOfMemory);
+        }
+        let link = Link::Route(RouteLink::new(self.alloc, session, Stage::Accepted));
+        let mut connection = Connection::new(self.alloc, stream, link);
+        connection.send(&self.spelt);
+        Ok(connection)
+    }
+
+    /// The connection to a server that this one has dialed.
+    fn dialed<R: Wait>(
+        &mut self,
+        rt: &R,
+        stream: S,
+        peer: usize,
+    ) -> Result<Connection<S>, AddFault> {
+        let session = match dial(rt, self.node, peer) {
+            Ok(session) => session,
+            Err(Failure::Refused(fault)) => return Err(AddFault::Route(fault)),
+            Err(Failure::OutOfMemory) => return Err(AddFault::OutOfMemory),
+        };
+        let link = Link::Route(RouteLink::new(self.alloc, session, Stage::Dialed(peer)));
+        Ok(Connection::new(self.alloc, stream, link))
+    }
+
+    /// Takes a connection out: a client's is detached, the session of a route is cut. No other connection
+    /// changes. Gives its stream, which is closed when it is dropped, or None where there is no connection
+    /// of that key. Want of memory changes nothing. May wait.
+    pub fn remove<R: Wait>(&mut self, rt: &R, key: usize) -> Result<Option<S>, AllocError>
+        ensures taken { OnOk result (Updates self.old.connections self.new.connections key None) }
+        ensures err { OnErr result (self.new ≡ self.old) }
+    {
+        let Some(connection) = self.connections.get(key) else {
+            return Ok(None);
+        };
+        match &connection.link {
+            Link::Client(client) => detach(rt, self.node, client)?,
+            Link::Route(route) => cut(rt, self.node, route.session),
+        }
+        Ok(self.take_out(key))
+    }
+
+    /// Takes a connection out that is detached or cut.
+    fn take_out(&mut self, key: usize) -> Option<S>
+        ensures { Updates self.old.connections self.new.connections key None }
+    {
+        let (link, stream) = self.connections.try_remove(key)?.into_parts();
+        self.forget(key, &link);
+        Some(stream)
+    }
+
+    /// Nothing leads any more to a connection that was taken out.
+    fn forget(&mut self, key: usize, link: &Link)
+        ensures { self.new.connections ≡ self.old.connections }
+    {
+        match link {
+            Link::Client(client) => {
+                self.gone = self.gone.saturating_add(1);
+                self.clients.lose(client.id);
+            }
+            Link::Route(_) => self.peers.lose(key),
+        }
+    }
+}
