@@ -13,52 +13,37 @@ use std::test::Fail;
 use std::thread::{Threads, join};
 use subj::{MAX_COUNTER, Turn, WINDOW};
 
-/// Issues a turn where no shard is too far behind.
-fn issued(cells: &Cells, hub: &mut HubSeat) -> Result<u64, Fail>
+/// Issues a turn, for which no shard is too far behind.
+fn issued(rt: &impl Abort, cells: &Cells, hub: &mut HubSeat) -> u64
     requires { hub.old.race ≡ cells.now }
     ensures { hub.new.race ≡ hub.old.race }
 {
-    if hub.issued().get() >= MAX_COUNTER {
-        return Ok(None.ok_or("a turn below the limit")?);
-    }
-    match cells.issue(hub) {
-        Ok(turn) => Ok(turn.get()),
-        Err(_) => Ok(None.ok_or("a turn")?),
-    }
+    assert!(rt; hub.issued().get() < MAX_COUNTER);
+    cells.issue(hub).ok().expect(rt, "a turn").get()
 }
 
-/// Issues a turn by the loads of a look at a race of two: None where they show no room, and a fault where
-/// they show room and the race is busy all the same.
-fn issued_by_a_look(cells: &Cells, hub: &mut HubSeat) -> Result<Option<u64>, Fail>
+/// Issues a turn by the loads of a look at a race of two: None where they show no room. Where they show room the race is not busy.
+fn issued_by_a_look(rt: &impl Abort, cells: &Cells, hub: &mut HubSeat) -> Option<u64>
     requires { hub.old.race ≡ cells.now }
     ensures { hub.new.race ≡ hub.old.race }
 {
-    if hub.issued().get() >= MAX_COUNTER {
-        return Ok(None.ok_or("a turn below the limit")?);
-    }
+    assert!(rt; hub.issued().get() < MAX_COUNTER);
     let next = hub.issued().get() + 1;
     let finished = cells.look(hub);
     if next > finished.of(1).get() + WINDOW || next > finished.of(2).get() + WINDOW {
-        return Ok(None);
+        return None;
     }
-    match cells.issue(hub) {
-        Ok(turn) => Ok(Some(turn.get())),
-        Err(_) => Ok(None.ok_or("a turn")?),
-    }
+    Some(issued(rt, cells, hub))
 }
 
 /// Which shard is too far behind, and the last turn that it finished.
-fn behind(cells: &Cells, hub: &mut HubSeat) -> Result<(u64, u64), Fail>
+fn behind(rt: &impl Abort, cells: &Cells, hub: &mut HubSeat) -> (u64, u64)
     requires { hub.old.race ≡ cells.now }
     ensures { hub.new.race ≡ hub.old.race }
 {
-    if hub.issued().get() >= MAX_COUNTER {
-        return Ok(None.ok_or("a turn below the limit")?);
-    }
-    match cells.issue(hub) {
-        Ok(_) => Ok(None.ok_or("a busy race")?),
-        Err(busy) => Ok((busy.shard, busy.finished.get())),
-    }
+    assert!(rt; hub.issued().get() < MAX_COUNTER);
+    let busy = cells.issue(hub).err().expect(rt, "a busy race");
+    (busy.shard, busy.finished.get())
 }
 
 /// The shard sees its turn, claims index 0 in it where it may, and ends it: whether it won.
@@ -93,12 +78,7 @@ fn ends_turn(cells: &Cells, seat: &mut ShardSeat)
 
 /// Turns 1 to that behind a window are issued; the shard claims index 0 in the first and in the last, which
 /// share a claim word, and ends each.
-fn a_window_and_one_turn(
-    rt: &impl Abort,
-    cells: &Cells,
-    hub: &mut HubSeat,
-    seat: &mut ShardSeat,
-) -> Result<(), Fail>
+fn a_window_and_one_turn(rt: &impl Abort, cells: &Cells, hub: &mut HubSeat, seat: &mut ShardSeat)
     requires hub { hub.old.race ≡ cells.now }
     requires seat { seat.old.race ≡ cells.now }
     ensures hub { hub.new.race ≡ hub.old.race }
@@ -106,7 +86,7 @@ fn a_window_and_one_turn(
     ensures shard { seat.new.part.shard ≡ seat.old.part.shard }
 {
     for before in 0..WINDOW + 1 {
-        assert_eq!(rt; issued(cells, hub)?, before + 1);
+        assert_eq!(rt; issued(rt, cells, hub), before + 1);
         if before % WINDOW == 0 {
             assert!(rt; claims_first(cells, seat));
         } else {
@@ -114,21 +94,25 @@ fn a_window_and_one_turn(
         }
         assert_eq!(rt; seat.turn().map(Turn::get), Some(before + 2));
     }
-    Ok(())
+}
+
+/// A race of one shard that ended with turn 33, in which index 0 was won in turns 1 and 33.
+fn assert_won_twice(rt: &impl Abort, closed: &Closed) {
+    let first = Turn::new(1).expect(rt, "a turn");
+    assert_eq!(rt; closed.cell(first, 0).get(), WINDOW + 1);
+    assert_eq!(rt; closed.cell(first, 1).get(), 0);
+    assert_eq!(rt; closed.issued.get(), WINDOW + 1);
+    assert_eq!(rt; closed.finished.of(1).get(), WINDOW + 1);
 }
 
 #[test]
 fn claim_words_are_used_again(rt: HostRuntime) -> Result<(), Fail> {
     let (cells, mut hub, mut seats) = Cells::new(rt.alloc(), 1)?;
     let mut seat = seats.pop().unwrap();
-    a_window_and_one_turn(&rt, &cells, &mut hub, &mut seat)?;
+    a_window_and_one_turn(&rt, &cells, &mut hub, &mut seat);
     seats.push(seat)?;
     let closed = cells.close(hub, seats)?;
-    let first = Turn::new(1).ok_or("a turn")?;
-    assert_eq!(rt; closed.cell(first, 0).get(), WINDOW + 1);
-    assert_eq!(rt; closed.cell(first, 1).get(), 0);
-    assert_eq!(rt; closed.issued.get(), WINDOW + 1);
-    assert_eq!(rt; closed.finished.of(1).get(), WINDOW + 1);
+    assert_won_twice(&rt, &closed);
     Ok(())
 }
 
@@ -160,9 +144,9 @@ fn end_of_two(
 
 /// A race that two threads ran, each with a seat of its own, in the one turn that was issued: whether the
 /// first shard won, whether the second did, and what was left.
-fn two_threads(rt: &impl Threads, alloc: Global) -> Result<(bool, bool, Closed), Fail> {
+fn two_threads<R: Abort + Threads>(rt: &R, alloc: Global) -> Result<(bool, bool, Closed), Fail> {
     let (cells, mut hub, first, second) = two_shards(alloc)?;
-    issued(&cells, &mut hub)?;
+    issued(rt, &cells, &mut hub);
     let race = &cells;
     let ((first_won, first), (second_won, second)) = join(
         rt,
@@ -185,64 +169,70 @@ fn two_threads(rt: &impl Threads, alloc: Global) -> Result<(bool, bool, Closed),
     Ok((first_won, second_won, closed))
 }
 
+/// One turn was issued and ended by both, and its index 0 won.
+fn assert_won_once(rt: &impl Abort, closed: &Closed) {
+    let first = Turn::new(1).expect(rt, "a turn");
+    assert_eq!(rt; closed.issued.get(), 1);
+    assert_eq!(rt;
+        (closed.finished.of(1).get(), closed.finished.of(2).get()),
+        (1, 1)
+    );
+    assert_eq!(rt; closed.cell(first, 0).get(), 1);
+}
+
 #[test]
 fn two_threads_claim_one_index(rt: HostRuntime) -> Result<(), Fail> {
-    let first = Turn::new(1).ok_or("a turn")?;
     for _ in 0..10_000 {
         let (first_won, second_won, closed) = two_threads(&rt, rt.alloc())?;
         assert!(rt; first_won != second_won);
-        assert_eq!(rt; closed.issued.get(), 1);
-        assert_eq!(rt;
-            (closed.finished.of(1).get(), closed.finished.of(2).get()),
-            (1, 1)
-        );
-        assert_eq!(rt; closed.cell(first, 0).get(), 1);
+        assert_won_once(&rt, &closed);
     }
     Ok(())
 }
 
 /// Shard 1 ends each turn of a window.
-fn a_window(
-    rt: &impl Abort,
-    cells: &Cells,
-    hub: &mut HubSeat,
-    first: &mut ShardSeat,
-) -> Result<(), Fail>
+fn a_window(rt: &impl Abort, cells: &Cells, hub: &mut HubSeat, first: &mut ShardSeat)
     requires hub { hub.old.race ≡ cells.now }
     requires first { first.old.race ≡ cells.now }
     ensures { hub.new.race ≡ hub.old.race }
 {
     for before in 0..WINDOW {
-        assert_eq!(rt; issued(cells, hub)?, before + 1);
+        assert_eq!(rt; issued(rt, cells, hub), before + 1);
         ends_turn(cells, first);
     }
-    Ok(())
 }
 
-/// Shard 1 ends every turn, shard 2 none; then shard 2 ends the first.
+/// Shard 1 has ended every turn, shard 2 none; then shard 2 ends the first.
+fn second_is_behind(rt: &impl Abort, cells: &Cells, hub: &mut HubSeat, second: &mut ShardSeat)
+    requires hub { hub.old.race ≡ cells.now }
+    requires second { second.old.race ≡ cells.now }
+{
+    let found = cells.look(hub);
+    assert_eq!(rt; (found.of(1).get(), found.of(2).get()), (WINDOW, 0));
+    assert_eq!(rt; behind(rt, cells, hub), (2, 0));
+    assert_eq!(rt; issued_by_a_look(rt, cells, hub), None);
+    ends_turn(cells, second);
+    assert_eq!(rt; issued_by_a_look(rt, cells, hub), Some(WINDOW + 1));
+    assert_eq!(rt; behind(rt, cells, hub), (2, 1));
+}
+
 #[test]
 fn full_window_on_split_seats(rt: HostRuntime) -> Result<(), Fail> {
     let (cells, mut hub, mut first, mut second) = two_shards(rt.alloc())?;
-    a_window(&rt, &cells, &mut hub, &mut first)?;
-    let found = cells.look(&mut hub);
-    assert_eq!(rt; (found.of(1).get(), found.of(2).get()), (WINDOW, 0));
-    assert_eq!(rt; behind(&cells, &mut hub)?, (2, 0));
-    assert_eq!(rt; issued_by_a_look(&cells, &mut hub)?, None);
     assert_eq!(rt; (first.shard(), second.shard()), (1, 2));
-    ends_turn(&cells, &mut second);
-    assert_eq!(rt; issued_by_a_look(&cells, &mut hub)?, Some(WINDOW + 1));
-    assert_eq!(rt; behind(&cells, &mut hub)?, (2, 1));
+    a_window(&rt, &cells, &mut hub, &mut first);
+    second_is_behind(&rt, &cells, &mut hub, &mut second);
     Ok(())
 }
 
-/// Issues a turn where the race isn't busy.
-fn next_of_race(race: &mut CellsRace) -> Result<Turn, Fail>
+/// Issues a turn; the race isn't busy.
+fn next_of_race(rt: &impl Abort, race: &mut CellsRace) -> Turn
     requires { race.old.issued < MAX_COUNTER }
-    ensures { IfOk result (λ turn. IsIssued race.old turn race.new) }
+    ensures { IsIssued race.old result race.new }
 {
     match race.issue() {
-        Ok(turn) => Ok(turn),
-        Err(_) => Ok(None.ok_or("a turn")?),
+        Ok(turn) => turn,
+        Err(_) => panic!(rt; "a turn"),
     }
 }
 
@@ -251,20 +241,20 @@ fn next_of_race(race: &mut CellsRace) -> Result<Turn, Fail>
 fn full_window_on_one_seat(rt: HostRuntime) -> Result<(), Fail> {
     let mut race = CellsRace::new(rt.alloc(), 2)?;
     for before in 0..WINDOW {
-        let turn = next_of_race(&mut race)?;
+        let turn = next_of_race(&rt, &mut race);
         assert_eq!(rt; turn.get(), before + 1);
         race.finish(1, turn);
     }
-    let busy = race.issue().err().ok_or("a busy race")?;
+    let busy = race.issue().err().expect(&rt, "a busy race");
     assert_eq!(rt; (busy.shard, busy.finished.get()), (2, 0));
-    let first = Turn::new(1).ok_or("a turn")?;
+    let first = Turn::new(1).expect(&rt, "a turn");
     race.finish(2, first);
     assert_eq!(rt;
         (race.finished(1).get(), race.finished(2).get()),
         (WINDOW, 1)
     );
-    assert_eq!(rt; next_of_race(&mut race)?.get(), WINDOW + 1);
-    let busy = race.issue().err().ok_or("a busy race")?;
+    assert_eq!(rt; next_of_race(&rt, &mut race).get(), WINDOW + 1);
+    let busy = race.issue().err().expect(&rt, "a busy race");
     assert_eq!(rt; (busy.shard, busy.finished.get()), (2, 1));
     Ok(())
 }
@@ -273,7 +263,7 @@ fn full_window_on_one_seat(rt: HostRuntime) -> Result<(), Fail> {
 #[test]
 fn one_winner_on_one_seat(rt: HostRuntime) -> Result<(), Fail> {
     let mut race = CellsRace::new(rt.alloc(), 2)?;
-    let turn = next_of_race(&mut race)?;
+    let turn = next_of_race(&rt, &mut race);
     assert!(rt; race.claim(2, turn, 0));
     assert!(rt; !race.claim(1, turn, 0));
     assert!(rt; race.claim(1, turn, 3));

@@ -5,6 +5,8 @@
 #[cfg(test)]
 mod claim_tests;
 #[cfg(test)]
+mod driver;
+#[cfg(test)]
 mod lane_tests;
 #[cfg(test)]
 mod turn_tests;

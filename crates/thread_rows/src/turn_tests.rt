@@ -4,11 +4,11 @@ ghost use Rattle.std.specs.Prelude.{◌≡◌, ◌∷◌, [], IfOk};
 ghost use Rattle.claim_cells.specs.Rule.{fresh_hub};
 ghost use Rattle.thread_rows.specs.Turns.{IsAlone};
 
+use crate::driver::{attach, collected, issue, published, subscribe, taken, turned};
 use bytes::Bytes;
 use claim_cells::{Cells, HubSeat, ShardSeat};
-use hub_core::HubFault;
 use job_lane::{LANE_CAPACITY, LaneIn, LaneOut, Run, lane};
-use node_threads::{HubState, Line, NodeName, Open, ShardState, Turned};
+use node_threads::{HubState, Line, NodeName, ShardState, Turned};
 use std::alloc::Global;
 use std::marker::Brand;
 use std::process::Abort;
@@ -16,8 +16,8 @@ use std::sync::Wait;
 use std::test::Fail;
 use sub_table::ListTable;
 use subj::{
-    ConnId, Failure, Incarnation, Job, Key, MAX_COUNTER, Message, NodeId, Pattern, Pub, PubId,
-    QueueName, QueueNames, Server, Sid, Subject, Turn, WINDOW,
+    ConnId, Incarnation, Job, Key, Message, NodeId, Pattern, Pub, PubId, QueueName, QueueNames,
+    Server, Sid, Subject, Turn, WINDOW,
 };
 
 /// The queue name `work` or none.
@@ -102,10 +102,10 @@ fn member<N: NodeName>(
     shard: &mut ShardState<ListTable, N>,
     alloc: Global,
 ) -> Result<ConnId, Fail> {
-    let conn = shard.attach()?;
     let key = foo(alloc, true)?;
     let sid = Sid::read(alloc, b"1")?;
-    shard.subscribe(conn, key, sid)?;
+    let conn = attach(shard)?;
+    subscribe(shard, conn, key, sid)?;
     Ok(conn)
 }
 
@@ -118,27 +118,6 @@ fn hand_over<R: Wait>(rt: &R, alloc: Global, near: &mut LaneIn) -> Result<bool, 
     jobs.push(first_job(alloc)?)?;
     let run = Run::new(alloc, jobs).ok().ok_or("memory")?;
     Ok(near.push(rt, run).is_ok())
-}
-
-/// Issues the next turn.
-fn issue(cells: &Cells, hub: &mut HubSeat) -> Result<bool, Fail>
-    requires { hub.old.race ≡ cells.now }
-{
-    if hub.issued().get() >= MAX_COUNTER {
-        return Ok(false);
-    }
-    Ok(cells.issue(hub).is_ok())
-}
-
-/// What a turn comes to.
-fn turned<N: NodeName, R: Wait>(
-    rt: &R,
-    shard: &mut ShardState<ListTable, N>,
-    cells: &Cells,
-) -> Turned
-    requires { cells.now ≡ N.race }
-{
-    shard.turn(rt, cells, &Open)
 }
 
 /// A turn is idle until a job waits and its turn is issued.
@@ -169,7 +148,7 @@ fn works_it<N: NodeName, R: Abort + Wait>(
 {
     let first = Turn::new(1).ok_or("a turn")?;
     assert_eq!(rt; turned(rt, shard, cells), Turned::Worked(first));
-    assert_eq!(rt; shard.take(conn, 9)?.len(), 1);
+    assert_eq!(rt; taken(shard, conn)?, 1);
     assert_eq!(rt; turned(rt, shard, cells), Turned::Idle);
     Ok(())
 }
@@ -189,7 +168,7 @@ fn works_in_turn<N: NodeName, R: Abort + Wait>(
 {
     let conn = member(shard, alloc)?;
     waits_for_its_turn(rt, alloc, shard, cells, near)?;
-    assert!(rt; issue(cells, hub)?);
+    assert!(rt; issue(cells, hub));
     works_it(rt, shard, cells, conn)
 }
 
@@ -213,17 +192,15 @@ fn works_alone<N: NodeName, R: Abort + Wait>(
 }
 
 /// The server n1, alone, of one shard.
-fn server(alloc: Global) -> Result<Server, Fail>
-    ensures { IfOk result (λ server. server.shards ≡ 1) }
+fn server(rt: &impl Abort, alloc: Global) -> Server
+    ensures { result.shards ≡ 1 }
 {
-    let mut names = Vec::new(alloc);
-    names.push(NodeId::read(b"n1").ok().ok_or("a name")?)?;
-    let inc = Incarnation::new(1).ok_or("an incarnation")?;
-    let server = Server::new(names, 0, inc, 1).ok_or("a server")?;
-    if server.shards() != 1 {
-        return Err(Fail::from("shards"));
-    }
-    Ok(server)
+    let name = NodeId::read(b"n1").ok().expect(rt, "a name");
+    let names = Vec::from_array(alloc, [name]).ok().expect(rt, "memory");
+    let inc = Incarnation::new(1).expect(rt, "an incarnation");
+    let server = Server::new(names, 0, inc, 1).expect(rt, "a server");
+    assert!(rt; server.shards() == 1);
+    server
 }
 
 /// `hello` on `foo`, as a client says it.
@@ -237,19 +214,22 @@ fn said(alloc: Global) -> Result<Pub, Fail> {
 
 /// The hub of the server, with its lane.
 fn hub_of<N: NodeName>(
+    rt: &impl Abort,
     alloc: Global,
     cells: &Cells,
     seat: HubSeat,
     near: LaneIn,
-) -> Result<HubState<N>, Fail>
+) -> HubState<N>
     requires race { (cells.now ≡ N.race) × (seat.race ≡ N.race) }
     requires shards { N.race.shards ≡ 1 }
     requires fresh { (seat.part ≡ fresh_hub) × (near.pushed ≡ []) }
     requires lanes { near.lane ∷ [] ≡ N.lanes }
 {
+    let server = server(rt, alloc);
     let mut lines = Vec::new(alloc);
-    lines.push(Line::new(1, near))?;
-    Ok(HubState::new(alloc, server(alloc)?, cells, seat, lines)?)
+    lines.push(Line::new(1, near)).ok().expect(rt, "memory");
+    let hub = HubState::new(alloc, server, cells, seat, lines);
+    hub.ok().expect(rt, "memory")
 }
 
 /// A job is worked once it is issued and pushed, and reaches the member.
@@ -263,38 +243,29 @@ fn reaches_the_member<N: NodeName, R: Abort + Wait>(
     requires { cells.now ≡ N.race }
 {
     let conn = member(shard, alloc)?;
-    assert_eq!(rt; hub.collect(shard)?.changes.len(), 1);
-    assert_eq!(rt; hub.publish(cells, conn, &said(alloc)?, 0)?.turn.get(), 1);
+    assert_eq!(rt; collected(hub, shard)?, 1);
+    assert_eq!(rt; published(hub, cells, conn, &said(alloc)?)?, Some(1));
     assert_eq!(rt; turned(rt, shard, cells), Turned::Idle);
     hub.push_jobs(rt);
     works_it(rt, shard, cells, conn)
 }
 
-/// So many publications are issued in a row.
-fn issues<N: NodeName>(
-    alloc: Global,
+/// A window of publications is issued in a row, and no more.
+fn issues_a_window<N: NodeName, R: Abort + Wait>(
+    rt: &R,
     hub: &mut HubState<N>,
     cells: &Cells,
-    count: u64,
+    said: &Pub,
 ) -> Result<(), Fail>
     requires { cells.now ≡ N.race }
 {
-    let said = said(alloc)?;
-    for _issued in 0..count {
-        hub.publish(cells, ConnId::new(1), &said, 0)?;
+    for before in 0..WINDOW {
+        let turn = published(hub, cells, ConnId::new(1), said)?;
+        assert_eq!(rt; turn, Some(before + 1));
     }
+    hub.push_jobs(rt);
+    assert_eq!(rt; published(hub, cells, ConnId::new(1), said)?, None);
     Ok(())
-}
-
-/// Whether one more publication is refused since a shard is a window behind.
-fn is_busy<N: NodeName>(alloc: Global, hub: &mut HubState<N>, cells: &Cells) -> Result<bool, Fail>
-    requires { cells.now ≡ N.race }
-{
-    let said = said(alloc)?;
-    match hub.publish(cells, ConnId::new(1), &said, 0) {
-        Err(Failure::Refused(HubFault::Busy(_))) => Ok(true),
-        _ => Ok(false),
-    }
 }
 
 /// A window of publications is pushed as one run, and one more is refused until a turn is finished.
@@ -307,12 +278,13 @@ fn fills_the_window<N: NodeName, R: Abort + Wait>(
 ) -> Result<(), Fail>
     requires { cells.now ≡ N.race }
 {
-    issues(alloc, hub, cells, WINDOW)?;
-    hub.push_jobs(rt);
-    assert!(rt; is_busy(alloc, hub, cells)?);
+    let said = said(alloc)?;
     let first = Turn::new(1).ok_or("a turn")?;
+    issues_a_window(rt, hub, cells, &said)?;
     assert_eq!(rt; turned(rt, shard, cells), Turned::Worked(first));
-    issues(alloc, hub, cells, 1)
+    let next = published(hub, cells, ConnId::new(1), &said)?;
+    assert_eq!(rt; next, Some(WINDOW + 1));
+    Ok(())
 }
 
 fn works_with_its_hub<N: NodeName, R: Abort + Wait>(
@@ -332,7 +304,7 @@ fn works_with_its_hub<N: NodeName, R: Abort + Wait>(
         far,
     } = alone;
     let mut shard: ShardState<ListTable, N> = ShardState::new(alloc, seat, 1, far)?;
-    let mut hub: HubState<N> = hub_of(alloc, &cells, hub, near)?;
+    let mut hub: HubState<N> = hub_of(rt, alloc, &cells, hub, near);
     if full {
         return fills_the_window(rt, alloc, &mut hub, &mut shard, &cells);
     }
