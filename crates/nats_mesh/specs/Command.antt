@@ -3,7 +3,7 @@ use Rattle.std.specs.Prelude.{ℕ, List, codes, Bool, Result, Ok, Err, if◌then
 use Rattle.clap.specs.declared.error.kind.ErrorKind.{ErrorKind}
 use Rattle.clap.specs.declared.error.kind.ErrorKind.TheVariants.{DisplayVersion, OutOfMemory}
 use Rattle.nats_mesh.specs.declared.command.Command.{Command}
-use Rattle.nats_mesh.specs.declared.command.Command.TheVariants.{Pipe, Match, Script}
+use Rattle.nats_mesh.specs.declared.command.Command.TheVariants.{Pipe, Match, Script, Serve}
 use Rattle.mesh_pipe.specs.declared.pipe.PipeEnd.{PipeEnd}
 use Rattle.mesh_pipe.specs.declared.pipe.PipeEnd.TheVariants.{Ended, Closed}
 use Rattle.mesh_pipe.specs.declared.pipe.PipeFault.{PipeFault}
@@ -13,6 +13,7 @@ abbrev pub name_of : Command → List ℕ
 name_of Pipe = codes "pipe"
 name_of (Match pattern subject) = codes "match"
 name_of Script = codes "script"
+name_of (Serve given) = codes "serve"
 
 -- by what is told of a line that asks for nothing
 abbrev pub status_of_line : ErrorKind → ℕ

@@ -4,9 +4,11 @@ ghost use Rattle.std.specs.Prelude.{◌≡◌, ◌≢◌, ◌↔◌, IsSome, IfS
 ghost use Rattle.clap.specs.Matches.{subcommand_name_of};
 ghost use Rattle.nats_mesh.specs.Command.{name_of, status_of_line, exit_status, status_of_end};
 
+use clap::builder::ValueParser;
 use clap::error::ErrorKind;
 use clap::{Arg, ArgMatches, Error};
 use mesh_pipe::{PipeEnd, PipeFault};
+use mesh_serve::Given;
 use std::alloc::{AllocError, Global};
 
 /// What the command line asks for.
@@ -18,9 +20,71 @@ pub enum Command<'a> {
     Match { pattern: &'a str, subject: &'a str },
     /// To play the script on standard input.
     Script,
+    /// To serve a mesh on sockets.
+    Serve(Given),
 }
 
-/// The command that plays scripts, that of one question, and the pipe.
+/// The option of this name, which is a number.
+fn number<'a>(alloc: Global, name: &'a str, help: &'a str) -> Arg<'a> {
+    Arg::new(alloc, name)
+        .long(name)
+        .value_name("N")
+        .value_parser(ValueParser::Unsigned(0, u64::MAX))
+        .help(help)
+}
+
+/// The command that serves a mesh.
+fn serve_line<'a>(alloc: Global) -> Result<clap::Command<'a>, AllocError> {
+    let nodes = number(alloc, "nodes", "How many servers: n1 to n8 at most").required(true);
+    let port = number(
+        alloc,
+        "port",
+        "Clients of server i come to this port + i - 1, other servers to this port + nodes + i - 1",
+    )
+    .required(true);
+    let shards = number(alloc, "shards", "How many shards each server has, 1 to 8").default_value(
+        "2",
+    );
+    let inc = number(
+        alloc,
+        "inc",
+        "In which incarnation all servers start, from 1",
+    )
+    .default_value("1");
+    let word = number(
+        alloc,
+        "word",
+        "The seed of the words that choose who serves a queue group",
+    )
+    .default_value("0");
+    let stop_after = number(
+        alloc,
+        "stop-after",
+        "Ends once so many clients have come and all of them have gone",
+    );
+    clap::Command::new(alloc, "serve")
+        .about("Serves a mesh of servers at 127.0.0.1")
+        .arg(nodes)?
+        .arg(port)?
+        .arg(shards)?
+        .arg(inc)?
+        .arg(word)?
+        .arg(stop_after)
+}
+
+/// What the line says of a mesh; none where a number is missing.
+fn given_in(values: &ArgMatches<'_>) -> Option<Given> {
+    Some(Given {
+        nodes: values.get_one("nodes")?,
+        port: values.get_one("port")?,
+        shards: values.get_one("shards")?,
+        inc: values.get_one("inc")?,
+        word: values.get_one("word")?,
+        stop_after: values.get_one("stop-after"),
+    })
+}
+
+/// The command that plays scripts, that of one question, the pipe, and the mesh.
 fn line<'a>(alloc: Global) -> Result<clap::Command<'a>, AllocError> {
     let pipe = clap::Command::new(alloc, "pipe").about(
         "Serves one client on standard input and output",
@@ -40,7 +104,8 @@ fn line<'a>(alloc: Global) -> Result<clap::Command<'a>, AllocError> {
         .subcommand_required(true)
         .subcommand(pipe)?
         .subcommand(question)?
-        .subcommand(script)
+        .subcommand(script)?
+        .subcommand(serve_line(alloc)?)
 }
 
 /// What was found in the command line; none where it is no command.
@@ -56,6 +121,7 @@ fn command_in<'a>(found: &ArgMatches<'a>) -> Option<Command<'a>>
             Some(Command::Match { pattern, subject })
         }
         "script" => Some(Command::Script),
+        "serve" => Some(Command::Serve(given_in(values)?)),
         _ => None,
     }
 }

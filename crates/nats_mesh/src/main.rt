@@ -1,5 +1,5 @@
-//! The program: `pipe` serves one client on standard input and output, `match` answers one question of matching, and
-//! `script` plays what is done in a cluster.
+//! The program: `serve` serves a mesh on sockets, `pipe` one client on standard input and output, `match` answers one
+//! question of matching, and `script` plays what is done in a cluster.
 #![tactic(auto)]
 
 mod command;
@@ -10,15 +10,20 @@ use claim_cells::CellsRace;
 use command::{Command, command_of, line_status, pipe_complaint, pipe_status, status_of};
 use mesh_pipe::pipe_run;
 use mesh_script::{match_run, script_run};
+use mesh_serve::{Given, Options, serve};
 use std::alloc::Global;
 use std::fmt::Display;
+use std::net::{Net, TcpListener, TcpStream};
 use std::process::ExitCode;
+use std::rt::Clock;
+use std::sync::Wait;
+use std::thread::Threads;
 use std::{env, io};
 use sub_trie::TrieTable;
 use wire_cut::Raw;
 
-/// The exit status of a command line that is no text.
-const NO_TEXT: u8 = 2;
+/// The exit status of a command line that is no text, or has a number that is out of its range.
+const BAD_LINE: u8 = 2;
 
 /// The words of the command line, the program's name among them.
 fn words<R: env::Env + Alloc<A = Global>>(rt: &R) -> io::Result<Vec<String>> {
@@ -69,12 +74,45 @@ fn run_script<R: Input + Print + Eprint + Alloc<A = Global>>(rt: &R) -> u8 {
     told(rt, ended)
 }
 
+/// Serves a mesh.
+fn run_serve<R>(rt: &R, given: Given) -> u8
+where
+    R: Threads
+        + Wait
+        + Net<Listener = TcpListener, Stream = TcpStream>
+        + Clock
+        + Print
+        + Eprint
+        + Alloc<A = Global>
+        + Sync,
+{
+    match Options::new(given) {
+        Ok(options) => told(rt, serve(rt, rt.alloc(), &options)),
+        Err(fault) => {
+            let _ = eprintln!(rt; "nats_mesh: {fault}");
+            BAD_LINE
+        }
+    }
+}
+
 /// Does what the command line asks for. Gives the exit status.
-fn run<R: Input + Print + Eprint + Alloc<A = Global>>(rt: &R, words: &[String]) -> u8 {
+fn run<R>(rt: &R, words: &[String]) -> u8
+where
+    R: Threads
+        + Wait
+        + Net<Listener = TcpListener, Stream = TcpStream>
+        + Clock
+        + Input
+        + Print
+        + Eprint
+        + Alloc<A = Global>
+        + Sync,
+{
     match command_of(rt.alloc(), words) {
         Ok(Command::Pipe) => run_pipe(rt),
         Ok(Command::Match { pattern, subject }) => run_match(rt, pattern, subject),
         Ok(Command::Script) => run_script(rt),
+        Ok(Command::Serve(given)) => run_serve(rt, given),
         Err(error) => {
             let status = line_status(error.kind());
             let _ = if status == 0 {
@@ -93,7 +131,7 @@ fn main(rt: HostRuntime) -> ExitCode {
         Err(error) => {
             let _ = eprintln!(rt; "nats_mesh: the command line cannot be read: {error}");
             if error.kind() == io::ErrorKind::InvalidData {
-                ExitCode::from(NO_TEXT)
+                ExitCode::from(BAD_LINE)
             } else {
                 ExitCode::FAILURE
             }

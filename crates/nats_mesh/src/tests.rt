@@ -3,6 +3,7 @@
 use crate::command::{Command, command_of, line_status, pipe_complaint, pipe_status, status_of};
 use clap::error::ErrorKind;
 use mesh_pipe::{PipeEnd, PipeFault};
+use mesh_serve::Given;
 use std::alloc::{AllocError, Global};
 use std::test::Fail;
 
@@ -18,7 +19,7 @@ fn words_of(alloc: Global, words: &[&str]) -> Result<Vec<String>, Fail> {
 
 #[test]
 fn command_lines(rt: HostRuntime) -> Result<(), Fail> {
-    let rows: [(&[&str], Command<'_>); 5] = [
+    let rows: [(&[&str], Command<'_>); 7] = [
         (&["pipe"], Command::Pipe),
         (&["script"], Command::Script),
         (
@@ -42,6 +43,36 @@ fn command_lines(rt: HostRuntime) -> Result<(), Fail> {
                 subject: "b",
             },
         ),
+        (
+            &["serve", "--port", "4222", "--nodes", "3"],
+            Command::Serve(Given {
+                nodes: 3,
+                port: 4_222,
+                shards: 2,
+                inc: 1,
+                word: 0,
+                stop_after: None,
+            }),
+        ),
+        (
+            &[
+                "serve",
+                "--nodes=0",
+                "--port=65536",
+                "--shards=9",
+                "--inc=7",
+                "--word=18446744073709551615",
+                "--stop-after=0",
+            ],
+            Command::Serve(Given {
+                nodes: 0,
+                port: 65_536,
+                shards: 9,
+                inc: 7,
+                word: u64::MAX,
+                stop_after: Some(0),
+            }),
+        ),
     ];
     for (words, command) in rows {
         let words = words_of(rt.alloc(), words)?;
@@ -54,12 +85,24 @@ fn command_lines(rt: HostRuntime) -> Result<(), Fail> {
 /// Lines that ask for nothing: all of them but that of the version have status 2.
 #[test]
 fn other_lines(rt: HostRuntime) -> Result<(), Fail> {
-    let rows: [(&[&str], u8, &str); 12] = [
+    let rows: [(&[&str], u8, &str); 16] = [
         (&[], 2, "requires a subcommand"),
         (&["Pipe"], 2, "unrecognized subcommand 'Pipe'"),
         (&["pip"], 2, "unrecognized subcommand 'pip'"),
         (&["pipe", "pipe"], 2, "unexpected argument 'pipe'"),
-        (&["serve"], 2, "unrecognized subcommand 'serve'"),
+        (&["serve"], 2, "--nodes <N>"),
+        (&["serve", "--nodes", "1"], 2, "--port <N>"),
+        (&["serve", "--nodes", "two", "--port", "1"], 2, "'two'"),
+        (
+            &["serve", "--port", "1", "--port", "1", "--nodes", "1"],
+            2,
+            "cannot be used multiple times",
+        ),
+        (
+            &["serve", "--knots", "1"],
+            2,
+            "unexpected argument '--knots'",
+        ),
         (&["match", "a"], 2, "<SUBJECT>"),
         (&["match", "a", "b", "c"], 2, "unexpected argument 'c'"),
         (&["script", "a"], 2, "unexpected argument 'a'"),

@@ -1,0 +1,13 @@
+-- The ranges of the options of a mesh. (Profile.)
+use Rattle.std.specs.Prelude.{ℕ, ◌+◌, ◌*◌, ◌≤◌}
+use Rattle.subj.specs.declared.limits.TheConstants.{MAX_NODES, MAX_SHARDS}
+use Rattle.mesh_serve.specs.declared.options.Options.{Options}
+
+-- 1 to 8 servers of 1 to 8 shards each, and a port for the clients and one for the routes of each server, all of them ports
+pub record AreWithin (options : Options) : Type 0 where
+  pub some : 1 ≤ options.nodes
+  pub few : options.nodes ≤ MAX_NODES
+  pub first_shard : 1 ≤ options.shards
+  pub last_shard : options.shards ≤ MAX_SHARDS
+  pub first_port : 1 ≤ options.port
+  pub last_port : options.port + 2 * options.nodes ≤ 65536

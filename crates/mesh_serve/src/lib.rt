@@ -1,0 +1,10 @@
+//! A mesh of servers in one process: [`Options`] are what the command line says of it, and [`serve`] runs it.
+#![tactic(auto)]
+
+mod faults;
+mod options;
+mod serving;
+
+pub use faults::{OptionFault, OptionName, ServeFault};
+pub use options::{Given, Options};
+pub use serving::serve;

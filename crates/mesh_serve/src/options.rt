@@ -1,0 +1,87 @@
+//! What the command line says of a mesh.
+
+ghost use Rattle.std.specs.Prelude.{◌≡◌, ◌≤◌, ◌<◌, ◌+◌, IfOk};
+ghost use Rattle.mesh_serve.specs.Ranges.{AreWithin};
+
+use crate::faults::{OptionFault, OptionName};
+use subj::{Incarnation, MAX_NODES, MAX_SHARDS};
+
+/// What the command line says of a mesh: each number as it was given.
+#[derive(Clone, Copy, Debug, PartialEq, Eq)]
+pub struct Given {
+    pub nodes: u64,
+    pub port: u64,
+    pub shards: u64,
+    pub inc: u64,
+    pub word: u64,
+    pub stop_after: Option<u64>,
+}
+
+/// What a mesh is told: N servers, the first port P, K shards each, their incarnation I, the seed R, and after
+/// how many clients it ends. (Profile.)
+#[derive(Clone, Copy, Debug, PartialEq, Eq)]
+pub struct Options {
+    pub nodes: u16,
+    pub port: u16,
+    pub shards: u64,
+    pub inc: Incarnation,
+    pub word: u64,
+    pub stop_after: Option<u64>,
+}
+
+/// The value of an option, where it is from this number to that.
+fn within(value: u64, least: u64, most: u64, name: OptionName) -> Result<u64, OptionFault>
+    ensures { IfOk result (λ value. (least ≤ value) × (value ≤ most)) }
+{
+    if value < least || value > most {
+        return Err(OptionFault::BadValue(name));
+    }
+    Ok(value)
+}
+
+impl Options {
+    /// The options of these numbers. Refused by the first that is out of its range, in the order of
+    /// [`OptionName`], and then where the last port would be above 65,535. (Profile.)
+    pub fn new(given: Given) -> Result<Options, OptionFault>
+        ensures { IfOk result AreWithin }
+    {
+        let nodes = within(given.nodes, 1, MAX_NODES, OptionName::Nodes)? as u16;
+        let port = within(given.port, 1, u16::MAX as u64, OptionName::Port)? as u16;
+        let shards = within(given.shards, 1, MAX_SHARDS, OptionName::Shards)?;
+        let Some(inc) = Incarnation::new(given.inc) else {
+            return Err(OptionFault::BadValue(OptionName::Inc));
+        };
+        if given.stop_after == Some(0) {
+            return Err(OptionFault::BadValue(OptionName::StopAfter));
+        }
+        if port as u64 + 2 * nodes as u64 - 1 > u16::MAX as u64 {
+            return Err(OptionFault::TooManyPorts);
+        }
+        Ok(Options {
+            nodes,
+            port,
+            shards,
+            inc,
+            word: given.word,
+            stop_after: given.stop_after,
+        })
+    }
+
+    /// The port where clients of the server at this place, counted from 0, connect.
+    pub fn client_port(&self, place: u16) -> u16
+        requires within { AreWithin self.now }
+        requires place { place < self.now.nodes }
+        ensures { result ≡ self.now.port + place }
+    {
+        self.port + place
+    }
+
+    /// The port where other servers connect to the server at this place, counted from 0.
+    pub fn route_port(&self, place: u16) -> u16
+        requires within { AreWithin self.now }
+        requires place { place < self.now.nodes }
+        ensures { result ≡ self.now.port + self.now.nodes + place }
+    {
+        self.port + self.nodes + place
+    }
+}

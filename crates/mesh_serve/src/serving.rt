@@ -1,0 +1,221 @@
+//! A mesh of servers, each in a thread of its own.
+
+ghost use Rattle.std.specs.Prelude.{◌≡◌, ◌<◌};
+ghost use Rattle.mesh_serve.specs.Ranges.{AreWithin};
+
+use crate::faults::ServeFault;
+use crate::options::Options;
+use mio::net::TcpListener;
+use mio::{Poll, Waker};
+use node_net::{Company, Server as Connections, Sockets, WAKER};
+use std::alloc::Global;
+use std::marker::Brand;
+use std::net::{Ipv4Addr, Net, SocketAddr, TcpListener as Listener, TcpStream as Stream};
+use std::rt::Clock;
+use std::sync::Wait;
+use std::thread::Threads;
+use std::{io, thread};
+use sub_trie::TrieTable;
+use subj::{NodeId, Server};
+use thread_node::{NodeName, Parts, ThreadNode};
+
+/// A server before it runs.
+#[derive(Drop)]
+struct Station {
+    life: Server,
+    port: u16,
+    word: u64,
+    sockets: Sockets,
+}
+
+/// The address of a port.
+fn address_of(port: u16) -> SocketAddr {
+    SocketAddr::from((Ipv4Addr::LOCALHOST, port))
+}
+
+/// Binds a port.
+fn bind<R: Net>(rt: &R, port: u16) -> Result<TcpListener, ServeFault> {
+    match TcpListener::bind(rt, address_of(port)) {
+        Ok(listener) => Ok(listener),
+        Err(error) => Err(ServeFault::Port { port, error }),
+    }
+}
+
+/// The sockets of the server at this place.
+fn sockets<R: Net>(rt: &R, options: &Options, place: u16) -> Result<Sockets, ServeFault>
+    requires within { AreWithin options.now }
+    requires place { place < options.now.nodes }
+{
+    let clients = bind(rt, options.client_port(place))?;
+    let routes = bind(rt, options.route_port(place))?;
+    let poll = Poll::new(rt)?;
+    Ok(Sockets {
+        poll,
+        clients,
+        routes,
+    })
+}
+
+/// The name of the server at this place: `n1` at the first.
+fn name_of(place: u16) -> Result<NodeId, ServeFault> {
+    let names: [&[u8]; 8] = [b"n1", b"n2", b"n3", b"n4", b"n5", b"n6", b"n7", b"n8"];
+    let Some(name) = names.get(place as usize) else {
+        return Err(ServeFault::Stopped);
+    };
+    NodeId::read(*name).map_err(|_| ServeFault::Stopped)
+}
+
+/// The life of the server at this place.
+fn life_of(alloc: Global, options: &Options, place: u16) -> Result<Server, ServeFault> {
+    let mut names = Vec::new(alloc);
+    for other in 0..options.nodes {
+        names.push(name_of(other)?)?;
+    }
+    match Server::new(names, place as usize, options.inc, options.shards) {
+        Some(life) => Ok(life),
+        None => Err(ServeFault::Stopped),
+    }
+}
+
+/// The server at this place, with its sockets bound.
+fn bound_station<R: Net>(
+    rt: &R,
+    alloc: Global,
+    options: &Options,
+    place: u16,
+) -> Result<Station, ServeFault>
+    requires within { AreWithin options.now }
+    requires place { place < options.now.nodes }
+{
+    Ok(Station {
+        life: life_of(alloc, options, place)?,
+        port: options.client_port(place),
+        word: options.word,
+        sockets: sockets(rt, options, place)?,
+    })
+}
+
+/// Where other servers connect to each server.
+fn addresses(alloc: Global, options: &Options) -> Result<Vec<SocketAddr>, ServeFault>
+    requires { AreWithin options.now }
+{
+    let mut all = Vec::new(alloc);
+    for place in 0..options.nodes {
+        all.push(address_of(options.route_port(place)))?;
+    }
+    Ok(all)
+}
+
+/// Runs a server of these parts.
+fn run_named<N: NodeName, R: Wait + Net<Listener = Listener, Stream = Stream> + Clock>(
+    rt: &R,
+    alloc: Global,
+    parts: Parts,
+    station: Station,
+    addresses: &[SocketAddr],
+    company: &Company,
+) -> Result<(), ServeFault>
+    requires { (parts.race ≡ N.race) × (parts.lanes ≡ N.lanes) × (parts.keep ≡ N.keep) }
+{
+    let Station {
+        life,
+        port,
+        word,
+        sockets,
+    } = station;
+    let node: ThreadNode<TrieTable, N> = ThreadNode::start(alloc, parts)?;
+    let mut connections = Connections::new(alloc, &node, life, port, word)?;
+    connections.run(rt, sockets, addresses, company)?;
+    Ok(())
+}
+
+/// Runs a server.
+fn run_station<R: Wait + Net<Listener = Listener, Stream = Stream> + Clock>(
+    rt: &R,
+    alloc: Global,
+    station: Station,
+    addresses: &[SocketAddr],
+    company: &Company,
+) -> Result<(), ServeFault> {
+    let life = station.life.try_clone(alloc)?;
+    let (parts, _parkers) = Parts::new(alloc, life, false)?;
+    run_named::<Brand, _>(rt, alloc, parts, station, addresses, company)
+}
+
+/// Runs a server; where it cannot go on, all of them stop.
+fn work<R: Wait + Net<Listener = Listener, Stream = Stream> + Clock>(
+    rt: &R,
+    alloc: Global,
+    station: Station,
+    addresses: &[SocketAddr],
+    company: &Company,
+) {
+    if run_station(rt, alloc, station, addresses, company).is_err() {
+        company.fail();
+    }
+}
+
+/// Runs all servers, each in a thread of its own.
+fn run_all<R: Threads + Wait + Net<Listener = Listener, Stream = Stream> + Clock + Sync>(
+    rt: &R,
+    alloc: Global,
+    stations: Vec<Station>,
+    addresses: &[SocketAddr],
+    company: &Company,
+) -> Result<(), ServeFault> {
+    thread::scope(thread::scope_env(), rt, |scope| {
+        for station in stations {
+            if scope
+                .spawn(move || work(rt, alloc, station, addresses, company))
+                .is_err()
+            {
+                company.fail();
+            }
+        }
+    });
+    if company.has_failed() {
+        return Err(ServeFault::Stopped);
+    }
+    Ok(())
+}
+
+/// Tells on standard output that all servers can be reached, a line each.
+fn tell<R: Print>(rt: &R, options: &Options) -> io::Result<()>
+    requires { AreWithin options.now }
+{
+    for place in 0..options.nodes {
+        let clients = options.client_port(place);
+        let routes = options.route_port(place);
+        println!(rt;
+            "n{} clients 127.0.0.1:{clients} routes 127.0.0.1:{routes}",
+            place + 1
+        )?;
+    }
+    Ok(())
+}
+
+/// Serves the mesh that the options tell of, each server in a thread of its own. When all sockets are bound, a
+/// line for each server is on standard output. It ends where the options say so: never, or once so many
+/// clients have come and all of them have gone.
+///
+/// A port that is not to be had is told by its number. Required: options as [`Options::read`] gives them. May
+/// wait, and for ever.
+pub fn serve<R: Threads + Wait + Net<Listener = Listener, Stream = Stream> + Clock + Print + Sync>(
+    rt: &R,
+    alloc: Global,
+    options: &Options,
+) -> Result<(), ServeFault>
+    requires { AreWithin options.now }
+{
+    let mut stations = Vec::new(alloc);
+    let mut wakers = Vec::new(alloc);
+    for place in 0..options.nodes {
+        let station = bound_station(rt, alloc, options, place)?;
+        wakers.push(Waker::new(station.sockets.poll.registry(), WAKER)?)?;
+        stations.push(station)?;
+    }
+    let addresses = addresses(alloc, options)?;
+    let company = Company::new(options.stop_after, wakers);
+    tell(rt, options)?;
+    run_all(rt, alloc, stations, &addresses, &company)
+}
