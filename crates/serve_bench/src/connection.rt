@@ -1,0 +1,169 @@
+//! A client's connection to a server of this machine.
+
+use crate::frames::{Frame, Frames, Message, Stop};
+use crate::window::Window;
+use std::alloc::Global;
+use std::io;
+use std::io::Write;
+use std::net::{Ipv4Addr, Net, SocketAddr, TcpStream};
+use std::time::Duration;
+
+/// How long a read waits before it is seen whether all has ended, in milliseconds.
+const READ_PATIENCE: u64 = 100;
+
+/// How long a write waits for a server that reads nothing, in milliseconds.
+const WRITE_PATIENCE: u64 = 10_000;
+
+/// How often in a row a read may wait in vain before the server counts as gone.
+const READS_IN_VAIN: u32 = 200;
+
+/// What a client sends first: it wants no `+OK`.
+const HELLO: &[u8] =
+    b"CONNECT {\"verbose\":false,\"pedantic\":false,\"lang\":\"bench\",\"version\":\"1.0.0\"}\r\n";
+
+/// What a read has brought.
+#[derive(Clone, Copy, PartialEq, Eq)]
+pub enum Brought {
+    /// Bytes.
+    Bytes,
+    /// Nothing in the time that a read waits.
+    Nothing,
+    /// The end of the connection.
+    End,
+}
+
+/// What a server has told a client besides what it asked for.
+#[derive(Drop)]
+pub struct Complaints {
+    /// How many lines `-ERR` came.
+    pub count: u64,
+    /// What the first of them said.
+    pub first: Vec<u8>,
+}
+
+impl Complaints {
+    /// No complaints.
+    pub fn new(alloc: Global) -> Complaints {
+        Complaints {
+            count: 0,
+            first: Vec::new(alloc),
+        }
+    }
+
+    /// Notes a line `-ERR`.
+    pub fn note(&mut self, text: &[u8]) -> io::Result<()> {
+        if self.count == 0 {
+            self.first.extend_from_slice(text)?;
+        }
+        self.count = self.count.saturating_add(1);
+        Ok(())
+    }
+}
+
+/// A connection.
+#[derive(Drop)]
+pub struct Connection {
+    stream: TcpStream,
+    window: Window,
+    pub complaints: Complaints,
+}
+
+/// What hears messages.
+pub trait Listener {
+    /// A message has come.
+    fn hear(&mut self, message: &Message<'_>) -> io::Result<()>;
+}
+
+/// Counts messages.
+#[derive(Clone, Copy)]
+struct Count {
+    messages: u64,
+}
+
+impl Listener for Count {
+    fn hear(&mut self, _message: &Message<'_>) -> io::Result<()> {
+        self.messages = self.messages.saturating_add(1);
+        Ok(())
+    }
+}
+
+impl Connection {
+    /// Connects to the server whose clients come to this port, and sends what a client sends first.
+    pub fn new<R: Net<Stream = TcpStream>>(
+        rt: &R,
+        alloc: Global,
+        port: u16,
+    ) -> io::Result<Connection> {
+        let stream = TcpStream::connect(rt, SocketAddr::from((Ipv4Addr::LOCALHOST, port)))?;
+        stream.set_nodelay(true)?;
+        stream.set_read_timeout(Some(Duration::from_millis(READ_PATIENCE)))?;
+        stream.set_write_timeout(Some(Duration::from_millis(WRITE_PATIENCE)))?;
+        let mut connection = Connection {
+            stream,
+            window: Window::new(alloc)?,
+            complaints: Complaints::new(alloc),
+        };
+        connection.send(HELLO)?;
+        let _none = connection.settle()?;
+        Ok(connection)
+    }
+
+    /// Sends these bytes.
+    pub fn send(&self, bytes: &[u8]) -> io::Result<()> {
+        (&self.stream).write_all(bytes)
+    }
+
+    /// Reads what there is.
+    pub fn fill(&mut self) -> Brought {
+        match self.window.fill(&mut &self.stream) {
+            Ok(0) => Brought::End,
+            Ok(_) => Brought::Bytes,
+            Err(error) => match error.kind() {
+                io::ErrorKind::WouldBlock | io::ErrorKind::TimedOut => Brought::Nothing,
+                _ => Brought::End,
+            },
+        }
+    }
+
+    /// Goes over the frames that were read: the listener hears the messages, and a PING is answered. Whether a PONG
+    /// was among them.
+    pub fn listen<L: Listener>(&mut self, listener: &mut L) -> io::Result<bool> {
+        let bytes = self.window.unread();
+        let most = bytes.len();
+        let mut frames = Frames::new(bytes);
+        let mut ponged = false;
+        for _frame in 0..most {
+            match frames.next_frame() {
+                Ok(Frame::Message(message)) => listener.hear(&message)?,
+                Ok(Frame::Pong) => ponged = true,
+                Ok(Frame::Refusal(text)) => self.complaints.note(text)?,
+                Ok(Frame::Ping) => (&self.stream).write_all(b"PONG\r\n")?,
+                Ok(Frame::Other) => {}
+                Err(Stop::Unfinished) => break,
+                Err(Stop::Malformed) => return Err(io::ErrorKind::InvalidData.into()),
+            }
+        }
+        let left = frames.left();
+        self.window.keep_last(left);
+        Ok(ponged)
+    }
+
+    /// Waits until the server has done all that was sent: how many messages came meanwhile.
+    pub fn settle(&mut self) -> io::Result<u64> {
+        self.send(b"PING\r\n")?;
+        let mut heard = Count { messages: 0 };
+        let mut in_vain = 0u32;
+        for _read in 0..u64::MAX {
+            if self.listen(&mut heard)? {
+                return Ok(heard.messages);
+            }
+            match self.fill() {
+                Brought::Bytes => in_vain = 0,
+                Brought::Nothing if in_vain < READS_IN_VAIN => in_vain += 1,
+                Brought::Nothing => return Err(io::ErrorKind::TimedOut.into()),
+                Brought::End => return Err(io::ErrorKind::UnexpectedEof.into()),
+            }
+        }
+        Err(io::ErrorKind::TimedOut.into())
+    }
+}
