@@ -1,4 +1,4 @@
-//! Examples: a queue group with members on two of three servers, one of which has two keys for it.
+//! Examples: a queue group with members on two of three servers, one of which has two keys for it: a peer, and the server itself.
 
 use crate::driver::{Came, Driver};
 use crate::made::{frame, key, plus, said};
@@ -65,5 +65,37 @@ fn the_word_picks_a_server(rt: HostRuntime) -> Result<(), Fail> {
     let mut hub = Driver::start(rt.alloc(), 3, 3, 1)?;
     fill(&rt, rt.alloc(), &mut hub)?;
     pick(&rt, &mut hub, &said(rt.alloc())?);
+    Ok(())
+}
+
+/// n1 has `foo` and `*` of `q` with one member each, n2 `foo` of `q` with one.
+fn fill_own(rt: &impl Abort, alloc: Global, hub: &mut Driver) -> Result<(), Fail> {
+    assert_eq!(rt; hub.collect(key(alloc, b"foo", b"q")?, true), Ok(1));
+    assert_eq!(rt; hub.collect(key(alloc, b"*", b"q")?, true), Ok(1));
+    hub.meet(1, 3)?;
+    hear(rt, hub, b"n2", 1, key(alloc, b"foo", b"q")?)
+}
+
+/// Of three words two are those of n1, which has two of three members.
+fn pick_own(rt: &impl Abort, hub: &Driver, said: &Pub) {
+    let own = (1, None, None);
+    let other = (0, Some((b'2', 1)), None);
+    for (word, answer) in [
+        (0, own),
+        (1, own),
+        (2, other),
+        (3, own),
+        (4, own),
+        (5, other),
+    ] {
+        assert_eq!(rt; split(hub, said, word), Some(answer));
+    }
+}
+
+#[test]
+fn each_key_of_the_server_itself_counts(rt: HostRuntime) -> Result<(), Fail> {
+    let mut hub = Driver::start(rt.alloc(), 2, 3, 1)?;
+    fill_own(&rt, rt.alloc(), &mut hub)?;
+    pick_own(&rt, &hub, &said(rt.alloc())?);
     Ok(())
 }
