@@ -1,1 +1,2 @@
+-- what a client is told of a refusal
 pub mod Refusals

@@ -1,2 +1,4 @@
+-- a line as a list of fields
 pub mod Fields
+-- how a line is put together from its fields
 pub mod Spelling

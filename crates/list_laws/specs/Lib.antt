@@ -1,1 +1,2 @@
+-- words for lists: an entry, each entry, each two entries, two lists in step
 pub mod Lists

@@ -1,1 +1,2 @@
+-- what the command line asks for, and how the program ends
 pub mod Command

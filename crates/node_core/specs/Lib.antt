@@ -1,9 +1,16 @@
+-- a server as one value with who it is, and how its calls go
 pub mod Served
+-- events, answers and refusals as the code has them, and as the definitions do
 pub mod InCode
+-- what a step of a server comes to: its answer, what it puts into outboxes, and what closes
 pub mod Outcome
+-- a list of events at a server, with what is answered, and what a server promises of it
 pub mod OneRun
+-- a take that moves the bytes of the entries, and gives no entries
 pub mod TakesBytes
+-- an event whose parts are lent, as the definitions have it
 pub mod Lent
+-- the definitions of a server, which are those of node_law, named here too
 pub use Rattle.node_law.specs.Faults
 pub use Rattle.node_law.specs.Race
 pub use Rattle.node_law.specs.State

@@ -1,1 +1,2 @@
+-- the weighted pick
 pub mod Pick
