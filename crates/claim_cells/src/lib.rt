@@ -3,6 +3,9 @@
 //!
 //! What is proved holds between any two steps, whatever threads make them and in whatever order they come.
 //! Which shard wins a pair, that a thread gets on, and one common order of all steps are not said.
+//!
+//! In reading order: `seats` are what the hub and each shard step with, `cells` has the calls, `steps` the steps on single words and
+//! `plays` their rule; `closing` is the end of a race, and `one_seat` the same race for one thread.
 #![tactic(auto)]
 
 mod cells;

@@ -1,6 +1,9 @@
 //! What one client's connection asks of its server: bytes go in, asks come out, and their answers go in.
 //!
 //! The asks are a function of the bytes and of the answers, however the bytes were cut (`asks_follow_bytes_and_answers`).
+//!
+//! In reading order: `item` is what a stream tells, which `reader` reads; `ask` is what is asked, and `standing` what one item asks
+//! for; `conn` is the connection.
 #![tactic(auto)]
 
 mod ask;

@@ -1,4 +1,8 @@
 //! What clients and a server say to each other: lines are read, and replies and messages written.
+//!
+//! In reading order: `operation`, `arguments` and `choices` read parts of a line, and `decoding` a whole one, as a `client_line` or one
+//! of the `faults`; `err_texts` says what is told of these. `server_frames` are what is sent, which `info`, `message_lines` and
+//! `encoding` write. `awaited` is what has to come next in a stream.
 #![tactic(auto)]
 
 mod arguments;

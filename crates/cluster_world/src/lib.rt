@@ -3,6 +3,9 @@
 //!
 //! The definitions of a cluster's step and their laws stand here, and in code [`World`], each of whose steps is such a step.
 //! Each law is a function with an empty body.
+//!
+//! In reading order: `events` and `outcomes`, `records` (what is kept of what was done), `nodes`, `frames`, `lists` with `noted`, and
+//! `world`.
 #![tactic(auto)]
 
 mod events;

@@ -1,5 +1,9 @@
 //! The hub of a server: it numbers what its clients publish, splits each queue name over the cluster, keeps
 //! a view of each peer's interest, and tells which frames of peers it takes.
+//!
+//! In reading order: `hub` has the state; `publishing` with `choice` is what a publish owes, `receiving` what a frame of a peer does,
+//! `collects` with `collecting` what peers are told of interest, and `telling` the snapshot for one that comes up. `peers` keeps what is
+//! known of each, and `putting` puts frames for them. `window` and `refusals` say why a call is refused.
 #![tactic(auto)]
 
 mod answers;

@@ -1,4 +1,6 @@
 //! A lane: the bounded queue by which one thread hands jobs to another, in order.
+//!
+//! In reading order: `runs` is what a lane carries, `ends` its two ends; `rule`, `steps` and `counts` are what its queue keeps.
 #![tactic(auto)]
 
 mod counts;

@@ -1,4 +1,6 @@
 //! A mesh of servers in one process: [`Options`] are what the command line says of it, and [`serve`] runs it.
+//!
+//! In reading order: `options`, and `serving`, which binds the sockets and gives each server a thread.
 #![tactic(auto)]
 
 mod faults;

@@ -1,5 +1,8 @@
 //! The streams of connections: sockets, and streams in memory that can be made to fail; and what a stream did not
 //! take yet.
+//!
+//! In reading order: `stream` is what a connection needs, `sockets` and `mem_stream` have it; `wire` reads and writes one and notes
+//! its end; `outgoing` keeps what it did not take.
 #![tactic(auto)]
 
 mod mem_stream;

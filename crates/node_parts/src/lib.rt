@@ -1,6 +1,8 @@
 //! The parts of one server in code: a shard with the jobs that wait for it ([`Line`]), and the hub with its sessions ([`Side`]).
 //!
 //! Whoever has them under one roof is a server; so has whoever keeps each under a lock of its own.
+//!
+//! In reading order: `lines`, `side`, `jobs` (a job for each line), `peers` and `places`.
 #![tactic(auto)]
 
 mod jobs;

@@ -1,4 +1,7 @@
 //! What waits to be written to a client: a list of entries within limits.
+//!
+//! In reading order: `entries` is what waits, `kept` how one entry is kept, `byte_queue` and `entry_queue` how all are, and `boxes` is
+//! the outbox.
 #![tactic(auto)]
 
 mod boxes;

@@ -1,5 +1,9 @@
 //! What servers of a cluster tell each other: the frames of routes, written and read. What they hold
 //! is of `route_values`, and is named here too, so that a crate above needs no other.
+//!
+//! In reading order: `operation`, `common`, `arguments` and `names` split a line, `texts` is a line as it stands there, and
+//! `line_reading` judges it; `lines` keeps what it says until its payload comes. `greetings` and `snapshot_reading` read the rest,
+//! `reading` reads whole frames, and `encoding` writes them.
 #![tactic(auto)]
 
 mod arguments;

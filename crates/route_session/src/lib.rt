@@ -1,4 +1,7 @@
 //! The sessions of a server with its peers: who dialed whom, and which completed session with a peer is kept.
+//!
+//! In reading order: `offers` says which of two sessions is the better one, `standing` keeps those that stand, and `sessions` has the
+//! calls.
 #![tactic(auto)]
 
 mod examples;

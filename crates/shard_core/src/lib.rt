@@ -1,5 +1,8 @@
 //! One shard of a server: its connections with what waits for them, its open subscriptions, and the job
 //! that it works off.
+//!
+//! In reading order: `shard` has the calls, `calls` their answers, and `shard/refusals` why they are refused; `connections` keeps the
+//! outboxes, `openings` the open subscriptions; `walk` is what Begin places, `claim` with `members` the choice of one member.
 #![tactic(auto)]
 
 mod calls;

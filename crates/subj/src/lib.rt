@@ -1,4 +1,8 @@
 //! Names, subjects and matching, and the values that the crates of the router share.
+//!
+//! In reading order: `limits` has every limit by its name; `names` and `scans` judge bytes, which `subjects`, `patterns`,
+//! `queue_names`, `sids` and `node_ids` keep; `keys`, `messages`, `identities`, `turns` and `jobs` are what the crates hand to one
+//! another; `servers` is who is in the cluster; `failures` is how a call fails.
 #![tactic(auto)]
 
 mod failures;

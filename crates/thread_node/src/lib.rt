@@ -1,4 +1,7 @@
 //! One server on threads: the hub and each shard under a lock of its own. Any thread may make its calls.
+//!
+//! In reading order: `parts` is what a server is made of, `locked_hub` and `locked_shard` what stands under its locks, `node` the
+//! server with its locks, `calls` those that take a lock for one call, `workers` the threads that work lanes, `finish` the end.
 #![tactic(auto)]
 
 mod calls;
