@@ -1,5 +1,5 @@
-//! One server on threads: the hub and each shard under a lock of its own; the hub hands jobs to the shards by
-//! lanes, and the shards race for claims.
+//! What stands under the locks of a server on threads: the states of its hub and of each of its shards. The hub hands jobs to
+//! the shards by lanes, and the shards race for claims. The locks themselves are those of `thread_node`.
 //!
 //! In reading order: `names` ties the parts of one server; `line` is the hub's end of a lane, and `outlet` has all of them;
 //! `hub_state` and `shard_state` stand under the locks; `turning` is a turn of a shard, with `gates` that may hold it; `dropping` and

@@ -1,4 +1,4 @@
-//! What stands under the lock of the hub.
+//! What stands under the lock of the hub: `node_threads`' state of a hub, with the race.
 
 ghost use Rattle.std.specs.Prelude.{◌≡◌, ⊤};
 ghost use Rattle.std.specs.Arc.{arc_value};

@@ -1,4 +1,4 @@
-//! What stands under the lock of a shard.
+//! What stands under the lock of a shard: `node_threads`' state of a shard, with the race.
 
 ghost use Rattle.std.specs.Prelude.{◌≡◌, option_to_list};
 ghost use Rattle.std.specs.Arc.{arc_value};
