@@ -119,6 +119,9 @@ impl Opened {
     pub(crate) fn matching(&self, subject: &Subject) -> Result<Vec<&Subscription>, AllocError>
         ensures { IfOk result (λ subs. map (λ sub. sub.now) subs.items ≡ filter (gets subject.now) (listed self.now.subs)) }
     {
+        if self.len() == 0 {
+            return Ok(Vec::new(self.alloc));
+        }
         if let Some(serials) = self.recent.recall(subject.bytes()) {
             return self.look_up(serials);
         }
@@ -130,7 +133,10 @@ impl Opened {
     pub(crate) fn remember(&mut self, subject: &Subject)
         ensures { listed self.new.subs ≡ listed self.old.subs }
     {
-        if self.recent.recall(subject.bytes()).is_some() || !self.recent.is_due() {
+        if self.len() == 0
+            || !self.recent.is_due()
+            || self.recent.recall(subject.bytes()).is_some()
+        {
             return;
         }
         if let Ok(serials) = self.serials_for(subject) {

@@ -18,8 +18,8 @@ const WAYS: usize = 4;
 /// How many slots there are: so many from the last place on, too.
 const SLOTS: usize = 4_099;
 
-/// Of the subjects that are told and not kept, one in so many is kept: one that comes once costs little,
-/// and one that comes often is soon there.
+/// Of the subjects that are told, one in so many is looked for, and kept where it is not: one that comes once
+/// costs little, and one that comes often is soon there.
 const TOLD_FOR_EACH_KEPT: u64 = 8;
 
 /// A subject that matches more is not kept: looking it up again costs little beside what it matches.
@@ -36,7 +36,7 @@ pub(crate) struct Recent {
     hashes: Vec<u64>,
     /// Counted from 1.
     generation: u64,
-    /// How many subjects were told that were not kept then.
+    /// How many subjects were told.
     told: u64,
     /// How many subjects were kept, which says the way of the next one.
     kept: usize,
@@ -132,7 +132,7 @@ impl Recent {
         }
     }
 
-    /// Whether the subject, which is not kept, is to be: it is one of many that were told.
+    /// Whether a subject is to be kept that is told now: it is one of many.
     pub(crate) fn is_due(&mut self) -> bool
         ensures { (subs : List Subscription) → AreRight subs self.old.generation self.old.slots.items → AreRight subs self.new.generation self.new.slots.items }
     {
