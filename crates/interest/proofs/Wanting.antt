@@ -87,6 +87,19 @@ module _ {X : Type 0} (entry_of : X → Weighted) (subject : List ℕ) (entries 
         and_true true = refl
         and_true false = refl
 
+  -- ---- the same where each entry is looked at
+
+  module _ (place : ℕ) (x : X) (below : place < length entries) (x_is : x ≡ get_or entries place x) where
+    pub names_at : (names : List (List ℕ)) → names_in subject (map entry_of (drop place entries)) names
+        ≡ names_in subject (map entry_of (drop (place + 1) entries)) (add_queue (matches_entry subject (entry_of x)) (entry_of x).0.queue names)
+    names_at names = λ i. names_in subject (at_place entries place x below x_is i) names
+
+    pub too_many_at : (names all : List (List ℕ)) (most : ℕ) → names_in subject (map entry_of (drop place entries)) names ≡ all → most < length (add_queue (matches_entry subject (entry_of x)) (entry_of x).0.queue names) → most < length all
+    too_many_at names all most is more =
+        let rest = not_fewer_in subject (map entry_of (drop (place + 1) entries)) (add_queue (matches_entry subject (entry_of x)) (entry_of x).0.queue names) in
+        let same = ap length (sym (names_at names) ∙ is) in
+        omega arith
+
   pub plain_at_end : (place : ℕ) → length entries ≤ place → has_plain_match subject (map entry_of (drop place entries)) ≡ false
   plain_at_end place le = ap (has_plain_match subject) (none_left entries place le)
 

@@ -1,21 +1,48 @@
 //! Who wants a subject, among entries whose keys rise.
 
-ghost use Rattle.std.specs.Prelude.{◌≡◌, ◌≤◌, map, if◌then◌else◌};
+ghost use Rattle.std.specs.Prelude.{◌≡◌, ◌≤◌, ◌&&◌, map, if◌then◌else◌};
 ghost use Rattle.std.specs.List.Sorted.{IsStrictlySortedBy};
 ghost use Rattle.std.specs.Map.{keys_of};
 ghost use Rattle.subj.specs.Keys.{key_cmp};
 ghost use Rattle.subj.specs.QueueNames.{is_named};
-ghost use Rattle.interest.specs.Matches.{has_plain_match, names_in as names_of, AreGathered};
+ghost use Rattle.subj.specs.Matching.{subject_matches};
+ghost use Rattle.interest.specs.Counts.{is_plain};
+ghost use Rattle.interest.specs.Matches.{add_queue as with_queue, has_plain_match, names_in as names_of, AreGathered};
 
 use crate::names::{FoundNames, TooManyNames};
 use crate::seeks::{Keyed, next_match};
 use subj::{Key, QueueName, Subject};
+
+/// So many keys are looked at one by one sooner than those that match are found among them.
+const FEW: usize = 16;
+
+/// Whether it is a plain key that matches the subject.
+fn is_plain_match(key: &Key, subject: &Subject) -> bool
+    ensures { result ≡ (is_plain key.now && subject_matches key.now.pattern subject.now) }
+{
+    key.queue.is_none() && key.pattern.matches(subject)
+}
+
+/// The same as [`has_plain`], by a look at each key.
+fn has_plain_among<T: Keyed>(entries: &[T], subject: &Subject) -> bool
+    ensures { result ≡ has_plain_match subject.now (map T.entry entries.now) }
+{
+    for place in 0..entries.len() {
+        if is_plain_match(entries[place].key_of(), subject) {
+            return true;
+        }
+    }
+    false
+}
 
 /// Whether a plain key matches the subject.
 pub(crate) fn has_plain<T: Keyed>(entries: &[T], subject: &Subject) -> bool
     requires { IsStrictlySortedBy key_cmp (keys_of (map T.entry entries.now)) }
     ensures { result ≡ has_plain_match subject.now (map T.entry entries.now) }
 {
+    if entries.len() <= FEW {
+        return has_plain_among(entries, subject);
+    }
     let mut place = next_match(entries, 0, subject);
     while place < entries.len() {
         if entries[place].key_of().queue.is_none() {
@@ -24,6 +51,35 @@ pub(crate) fn has_plain<T: Keyed>(entries: &[T], subject: &Subject) -> bool
         place = next_match(entries, place + 1, subject);
     }
     false
+}
+
+/// Adds the queue name of the key, where it has one and the subject matches its pattern. Refused where it would be
+/// one too many, with all as it was.
+fn add_wanted<'a>(
+    key: &'a Key,
+    subject: &Subject,
+    names: &mut FoundNames<'a>,
+) -> Result<(), TooManyNames>
+    ensures { AreGathered (with_queue (subject_matches key.now.pattern subject.now) key.now.queue names.old) names.new result }
+{
+    if key.queue.is_none() || !key.pattern.matches(subject) {
+        return Ok(());
+    }
+    names.add_queue(key)
+}
+
+/// The same as [`names_in`], by a look at each key.
+fn names_among<'a, T: Keyed>(
+    entries: &'a [T],
+    subject: &Subject,
+    names: &mut FoundNames<'a>,
+) -> Result<(), TooManyNames>
+    ensures { AreGathered (names_of subject.now (map T.entry entries.now) names.old) names.new result }
+{
+    for place in 0..entries.len() {
+        add_wanted(entries[place].key_of(), subject, names)?;
+    }
+    Ok(())
 }
 
 /// Adds the queue names that the subject matches. Refused where there would be more names than have their
@@ -36,6 +92,9 @@ pub(crate) fn names_in<'a, T: Keyed>(
     requires { IsStrictlySortedBy key_cmp (keys_of (map T.entry entries.now)) }
     ensures { AreGathered (names_of subject.now (map T.entry entries.now) names.old) names.new result }
 {
+    if entries.len() <= FEW {
+        return names_among(entries, subject, names);
+    }
     let mut place = next_match(entries, 0, subject);
     while place < entries.len() {
         names.add_queue(entries[place].key_of())?;
