@@ -15,8 +15,7 @@ ghost use Rattle.client_conn.specs.Streams.{end_of, longer, reading_at, IsInStep
 
 use crate::faults::ReadFault;
 use crate::item::Item;
-use bytes::Bytes;
-use client_frames::{Awaited, ClientLine, ErrText, LineFault, decode_line};
+use client_frames::{Awaited, ClientLine, ErrText, LineFault, SharedTexts, decode_line};
 use std::alloc::{AllocError, Global};
 use std::mem;
 use subj::{CLIENT_LINE, Failure, MAX_PAYLOAD, Message};
@@ -25,8 +24,8 @@ use wire_cut::{CutFault, Cutter, FeedFault, FillFault, Piece, Source};
 /// Reads the items of a client's stream. An item is read only once there is memory for it, so none is lost.
 #[derive(Drop)]
 pub struct ItemReader {
-    alloc: Global,
     cutter: Cutter,
+    texts: SharedTexts,
     awaited: Awaited,
     /// Whether nothing is read any more.
     ended: bool,
@@ -43,10 +42,13 @@ pub enum Looked {
 }
 
 /// What a line means.
-fn meaning_of(alloc: Global, line: &[u8]) -> Result<Result<ClientLine, LineFault>, AllocError>
+fn meaning_of(
+    texts: &mut SharedTexts,
+    line: &[u8],
+) -> Result<Result<ClientLine, LineFault>, AllocError>
     ensures { IfOk result (λ meaning. meaning ≡ line_meaning line.now) }
 {
-    match decode_line(alloc, line) {
+    match decode_line(texts, line) {
         Ok(command) => Ok(Ok(command)),
         Err(Failure::Refused(fault)) => Ok(Err(fault)),
         Err(Failure::OutOfMemory) => Err(AllocError),
@@ -60,8 +62,8 @@ impl ItemReader {
         ensures step { IsInStep result }
     {
         ItemReader {
-            alloc,
             cutter: Cutter::new(alloc, CLIENT_LINE, MAX_PAYLOAD as u64),
+            texts: SharedTexts::new(alloc),
             awaited: Awaited::Line,
             ended: false,
         }
@@ -164,7 +166,7 @@ impl ItemReader {
     {
         let meaning = match self.cutter.peek() {
             Ok(None) => return Ok(Looked::Waits),
-            Ok(Some(Piece::Line(line))) => meaning_of(self.alloc, line)?,
+            Ok(Some(Piece::Line(line))) => meaning_of(&mut self.texts, line)?,
             Ok(Some(Piece::Payload(_))) => unreachable!(),
             Err(fault) => return Ok(self.end_with(Item::Unreadable(fault))),
         };
@@ -244,7 +246,7 @@ impl ItemReader {
     {
         let payload = match self.cutter.peek() {
             Ok(None) => return Ok(Looked::Waits),
-            Ok(Some(Piece::Payload(payload))) => Bytes::copy_from_slice(self.alloc, payload)?,
+            Ok(Some(Piece::Payload(payload))) => self.texts.copied(payload)?,
             Ok(Some(Piece::Line(_))) => unreachable!(),
             Err(fault) => return Ok(self.end_with(Item::Unreadable(fault))),
         };

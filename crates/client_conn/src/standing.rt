@@ -152,6 +152,10 @@ impl Standing {
     pub fn advance(&mut self)
         ensures { self.new ≡ drop 1 self.old }
     {
+        if self.second.is_none() {
+            self.first = None;
+            return;
+        }
         self.first = self.second.take();
     }
 

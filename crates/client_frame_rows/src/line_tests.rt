@@ -3,7 +3,7 @@
 use bytes::Bytes;
 use client_frames::{
     ClientLine, Delivery, ErrText, InfoData, LineFault, MessageLines, ReplyFrame, ServerFrame,
-    decode_line, encode, info_text, message_line, reply_line,
+    SharedTexts, decode_line, encode, info_text, message_line, reply_line,
 };
 use std::alloc::{AllocError, Global};
 use std::test::Fail;
@@ -27,7 +27,7 @@ fn on_or_off(option: bool) -> &'static [u8] {
 
 /// What a line means, in words: a bar stands where there is no reply or queue name.
 fn told(alloc: Global, line: &[u8]) -> Result<Vec<u8>, AllocError> {
-    match decode_line(alloc, line) {
+    match decode_line(&mut SharedTexts::new(alloc), line) {
         Ok(ClientLine::Pub(head)) => {
             let reply = match &head.reply {
                 None => b"|",

@@ -2,7 +2,7 @@
 
 ghost use Rattle.std.specs.Prelude.{◌≡◌, None, IfOk};
 ghost use Rattle.std.specs.Option.{option_copied};
-ghost use Rattle.subj.specs.Names.{sid_fault};
+ghost use Rattle.subj.specs.Names.{sid_fault, subject_fault};
 ghost use Rattle.line_fields.specs.Fields.{fields};
 ghost use Rattle.client_frames.specs.Arguments.{two_or_three};
 ghost use Rattle.client_frames.specs.Lines.{Means, line_meaning, operation_meaning, connection_of, publication_of, subscription_of, closing_of, maximum_of, reply_fault, queue_fault};
@@ -12,6 +12,7 @@ use crate::choices::read_options;
 use crate::client_line::{ClientLine, PubHead};
 use crate::faults::LineFault;
 use crate::operation::Operation;
+use crate::shared_texts::SharedTexts;
 use line_fields::{read_digits, split_field, split_line};
 use std::alloc::{AllocError, Global};
 use subj::{Failure, NameFault, Pattern, QueueName, Reply, Sid, Subject};
@@ -28,19 +29,19 @@ const COUNT_DIGITS: usize = 10;
 /// truth value. `BadSubject`: nothing but the pattern of a `SUB` is bad. (Profile.)
 ///
 /// Want of memory comes only for a command that keeps names, and for the JSON of a `CONNECT`, good or
-/// bad. All other tests come before the first allocation.
-pub fn decode_line(alloc: Global, line: &[u8]) -> Result<ClientLine, Failure<LineFault>>
+/// bad. All other tests come before the first allocation. The subjects of publications share the memory of the texts.
+pub fn decode_line(texts: &mut SharedTexts, line: &[u8]) -> Result<ClientLine, Failure<LineFault>>
     ensures { Means (line_meaning line.now) result }
 {
     let Some((field, text)) = split_line(line) else {
         return Err(Failure::Refused(LineFault::UnknownOp));
     };
-    decode_behind(alloc, Operation::read(field), text)
+    decode_behind(texts, Operation::read(field), text)
 }
 
 /// What an operation asks for, with the text behind it.
 fn decode_behind(
-    alloc: Global,
+    texts: &mut SharedTexts,
     operation: Option<Operation>,
     text: &[u8],
 ) -> Result<ClientLine, Failure<LineFault>>
@@ -48,12 +49,12 @@ fn decode_behind(
 {
     match operation {
         None => Err(Failure::Refused(LineFault::UnknownOp)),
-        Some(Operation::Pub) => decode_pub(alloc, text),
-        Some(Operation::Sub) => decode_sub(alloc, text),
+        Some(Operation::Pub) => decode_pub(texts, text),
+        Some(Operation::Sub) => decode_sub(texts.alloc, text),
         Some(Operation::Ping) => Ok(ClientLine::Ping),
         Some(Operation::Pong) => Ok(ClientLine::Pong),
-        Some(Operation::Unsub) => decode_unsub(alloc, text),
-        Some(Operation::Connect) => decode_connect(alloc, text),
+        Some(Operation::Unsub) => decode_unsub(texts.alloc, text),
+        Some(Operation::Connect) => decode_connect(texts.alloc, text),
     }
 }
 
@@ -76,22 +77,30 @@ fn fault_of_reply(reply: Option<&[u8]>) -> Option<NameFault>
     Subject::fault(reply?)
 }
 
-/// The subject of an answer, where one is awaited.
-fn read_reply(alloc: Global, reply: Option<&[u8]>) -> Result<Option<Reply>, AllocError>
-    requires { reply_fault (option_copied reply) ≡ None }
-    ensures { IfOk result (λ read. read ≡ option_copied reply.entry) }
+/// The subject of bytes that are one.
+fn read_subject(texts: &mut SharedTexts, text: &[u8]) -> Result<Subject, AllocError>
+    requires { subject_fault text.now ≡ None }
+    ensures { IfOk result (λ subject. subject ≡ text.now) }
 {
-    let Some(reply) = reply else {
-        return Ok(None);
-    };
-    match Subject::read(alloc, reply) {
-        Ok(reply) => Ok(Some(reply)),
-        Err(Failure::OutOfMemory) => Err(AllocError),
-        Err(Failure::Refused(_)) => unreachable!(),
+    match Subject::from_shared(texts.copied(text)?) {
+        Ok(subject) => Ok(subject),
+        // (the bytes are those that were judged)
+        Err(_) => unreachable!(),
     }
 }
 
-fn decode_pub(alloc: Global, text: &[u8]) -> Result<ClientLine, Failure<LineFault>>
+/// The subject of an answer, where one is awaited.
+fn read_reply(texts: &mut SharedTexts, reply: Option<&[u8]>) -> Result<Option<Reply>, AllocError>
+    requires { reply_fault (option_copied reply) ≡ None }
+    ensures { IfOk result (λ read. read ≡ option_copied reply.entry) }
+{
+    match reply {
+        None => Ok(None),
+        Some(reply) => Ok(Some(read_subject(texts, reply)?)),
+    }
+}
+
+fn decode_pub(texts: &mut SharedTexts, text: &[u8]) -> Result<ClientLine, Failure<LineFault>>
     ensures { Means (publication_of (two_or_three (fields text.now))) result }
 {
     let Some(arguments) = Arguments::read(text) else {
@@ -103,12 +112,11 @@ fn decode_pub(alloc: Global, text: &[u8]) -> Result<ClientLine, Failure<LineFaul
     if fault_of_reply(arguments.between).is_some() {
         return Ok(ClientLine::PubBad { size });
     }
-    let subject = match Subject::read(alloc, arguments.first) {
-        Ok(subject) => subject,
-        Err(Failure::Refused(_)) => return Ok(ClientLine::PubBad { size }),
-        Err(Failure::OutOfMemory) => return Err(Failure::OutOfMemory),
-    };
-    let reply = read_reply(alloc, arguments.between)?;
+    if Subject::fault(arguments.first).is_some() {
+        return Ok(ClientLine::PubBad { size });
+    }
+    let subject = read_subject(texts, arguments.first)?;
+    let reply = read_reply(texts, arguments.between)?;
     Ok(ClientLine::Pub(PubHead {
         subject,
         reply,

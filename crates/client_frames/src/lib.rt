@@ -2,7 +2,7 @@
 //!
 //! In reading order: `operation`, `arguments` and `choices` read parts of a line, and `decoding` a whole one, as a `client_line` or one
 //! of the `faults`; `err_texts` says what is told of these. `server_frames` are what is sent, which `info`, `message_lines` and
-//! `encoding` write. `awaited` is what has to come next in a stream.
+//! `encoding` write. `awaited` is what has to come next in a stream, and `shared_texts` keeps what is copied of it.
 #![tactic(auto)]
 
 mod arguments;
@@ -18,6 +18,7 @@ mod laws;
 mod message_lines;
 mod operation;
 mod server_frames;
+mod shared_texts;
 
 pub use awaited::Awaited;
 pub use client_line::{ClientLine, Options, PubHead};
@@ -29,3 +30,4 @@ pub use info::{InfoData, info_text};
 pub use laws::{line_has_one_meaning, stream_is_read_in_parts};
 pub use message_lines::{MAX_MESSAGE_LINE, MessageLines, message_line};
 pub use server_frames::{Delivery, ReplyFrame, ServerFrame};
+pub use shared_texts::SharedTexts;

@@ -1,6 +1,6 @@
 //! Reading a stream of frames.
 
-use client_frames::{ClientLine, decode_line};
+use client_frames::{ClientLine, SharedTexts, decode_line};
 use memchr::memchr_iter;
 use std::alloc::Global;
 use std::io;
@@ -20,8 +20,8 @@ fn invalid() -> io::Error {
 }
 
 /// How many bytes of a payload follow the line.
-fn size_behind(alloc: Global, line: &[u8]) -> io::Result<Option<u64>> {
-    match decode_line(alloc, line) {
+fn size_behind(texts: &mut SharedTexts, line: &[u8]) -> io::Result<Option<u64>> {
+    match decode_line(texts, line) {
         Ok(ClientLine::Pub(head)) => Ok(Some(head.size)),
         Ok(_) => Ok(None),
         Err(_) => Err(invalid()),
@@ -29,13 +29,13 @@ fn size_behind(alloc: Global, line: &[u8]) -> io::Result<Option<u64>> {
 }
 
 /// Cuts what is there, and decodes each line.
-fn read_pieces(alloc: Global, cutter: &mut Cutter, read: &mut Read) -> io::Result<()> {
+fn read_pieces(texts: &mut SharedTexts, cutter: &mut Cutter, read: &mut Read) -> io::Result<()> {
     for _ in 0..u64::MAX {
         let size = match cutter.next().map_err(|_| invalid())? {
             None => return Ok(()),
             Some(Piece::Line(line)) => {
                 read.lines = u64::wrapping_add(read.lines, 1);
-                size_behind(alloc, line)?
+                size_behind(texts, line)?
             }
             Some(Piece::Payload(_)) => {
                 read.payloads = u64::wrapping_add(read.payloads, 1);
@@ -53,6 +53,7 @@ fn read_pieces(alloc: Global, cutter: &mut Cutter, read: &mut Read) -> io::Resul
 pub fn read_all(alloc: Global, bytes: Vec<u8>) -> io::Result<Read> {
     let mut source = MemSource::new(bytes);
     let mut cutter = Cutter::new(alloc, CLIENT_LINE, MAX_PAYLOAD as u64);
+    let mut texts = SharedTexts::new(alloc);
     let mut read = Read {
         lines: 0,
         payloads: 0,
@@ -64,7 +65,7 @@ pub fn read_all(alloc: Global, bytes: Vec<u8>) -> io::Result<Read> {
         if count == 0 {
             return Ok(read);
         }
-        read_pieces(alloc, &mut cutter, &mut read)?;
+        read_pieces(&mut texts, &mut cutter, &mut read)?;
     }
     Ok(read)
 }
