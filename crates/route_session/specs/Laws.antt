@@ -52,9 +52,9 @@ dial_kept None = None
 dial_kept (Some offer) = Some (offer.dialer, offer.serial)
 
 -- the dial that an end keeps of those offered to it one after the other, all of one incarnation of its peer
-abbrev pub kept_of : ℕ → ℕ → List Dial → Option Dial
-kept_of peer inc dials = dial_kept (best_after None (map (offer_of peer inc) dials))
+abbrev pub kept_after_dials : ℕ → ℕ → List Dial → Option Dial
+kept_after_dials peer inc dials = dial_kept (best_after None (map (offer_of peer inc) dials))
 
 -- two ends to which the same dials were offered, in any orders and any number of times, keep the same one
 abbrev pub EndsAgree : Type 0
-EndsAgree = (here there here_inc there_inc : ℕ) (dials others : List Dial) → ((dial : Dial) → In dial dials ↔ In dial others) → kept_of there there_inc dials ≡ kept_of here here_inc others
+EndsAgree = (here there here_inc there_inc : ℕ) (dials others : List Dial) → ((dial : Dial) → In dial dials ↔ In dial others) → kept_after_dials there there_inc dials ≡ kept_after_dials here here_inc others
