@@ -69,7 +69,7 @@ pub record Claims (index : ℕ) (won : Bool) (w : AtWork) (s : State) (part : Sh
   pub won_is : part.won ≡ w.part.won ++ claimed_in w.state (Claim index won) true
   pub lost_is : part.lost ≡ w.part.lost ++ claimed_in w.state (Claim index won) false
 
-claim_makes : (w : AtWork) (index : ℕ) (won : Bool) (s : State) (part : ShardPart) → Claims index won w s part → Makes w (step_of w.state (Claim index won) ∷ []) (with_both w s part)
+pub claim_makes : (w : AtWork) (index : ℕ) (won : Bool) (s : State) (part : ShardPart) → Claims index won w s part → Makes w (step_of w.state (Claim index won) ∷ []) (with_both w s part)
 claim_makes w index won s part c = record {
   got = [];
   led = led w.state s (Claim index won) c.free tt c.after;
@@ -193,7 +193,7 @@ claims_won law w old mid new index found told part is finished m c some won plac
 pub may_end : (s : State) → HasTried s → shard_refusal s End ≡ None
 may_end s t = subst (λ h. end_refusal s h ≡ None) (sym t.hand) (ap (λ b. cond b None (Some NotAllTried)) (true_eq s.next_index (length t.job.queues) t.tried))
 
-end_makes : (w : AtWork) → shard_refusal w.state End ≡ None → Makes w (step_of w.state End ∷ []) (with_both w (shard_after w.state End) (finished_one w.part))
+pub end_makes : (w : AtWork) → shard_refusal w.state End ≡ None → Makes w (step_of w.state End ∷ []) (with_both w (shard_after w.state End) (finished_one w.part))
 end_makes w free = record {
   got = [];
   led = led w.state (shard_after w.state End) End free tt refl;

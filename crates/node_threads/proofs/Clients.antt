@@ -89,7 +89,7 @@ rests s Collect c = still s _ refl refl refl
 abbrev pub with_state : AtWork → State → AtWork
 with_state w s = record w { state = s }
 
-client_makes : (w : AtWork) (e : Event) → is_client e ≡ true → shard_refusal w.state e ≡ None
+pub client_makes : (w : AtWork) (e : Event) → is_client e ≡ true → shard_refusal w.state e ≡ None
     → Makes w (record { before = w.state; event = e; answer = shard_answer w.state e } ∷ []) (with_state w (shard_after w.state e))
 client_makes w e c free = let q = quiet w.state e c in record {
   got = [];

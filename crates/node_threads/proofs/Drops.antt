@@ -52,7 +52,7 @@ dropped_one shards next_index w i may = go w.state.hand refl w.waiting refl
 abbrev pub with_dropped : AtWork → AtWork
 with_dropped w = record w { state = shard_after w.state (DropJob w.waiting); part = finished_one w.part; waiting = None }
 
-dropped_makes : (w : AtWork) (job : Job) → IsDropped w job → Makes w (step_of w.state (DropJob w.waiting) ∷ []) (with_dropped w)
+pub dropped_makes : (w : AtWork) (job : Job) → IsDropped w job → Makes w (step_of w.state (DropJob w.waiting) ∷ []) (with_dropped w)
 dropped_makes w job d = record {
   got = [];
   led = led w.state (shard_after w.state (DropJob w.waiting)) (DropJob w.waiting) refl d.handed refl;
@@ -83,11 +83,14 @@ dropped_at_work shards next_index w job i d =
     sum f a b e = omega arith
 
 -- it is the job that the shard tells
-pub same_drop : (s : State) (waits waiting : Option Job) (job told : Job) → option_or s.hand waits ≡ Some job → waiting ≡ waits → Dropped (Some told) ≡ shard_answer s (DropJob waiting) → job.turn ≡ told.turn
-same_drop s waits waiting job told is same answered =
+pub same_job : (s : State) (waits waiting : Option Job) (job told : Job) → option_or s.hand waits ≡ Some job → waiting ≡ waits → Dropped (Some told) ≡ shard_answer s (DropJob waiting) → job ≡ told
+same_job s waits waiting job told is same answered =
     let e : Dropped (Some told) ≡ Dropped (Some job) = answered ∙ (λ k. Dropped (option_or s.hand (same k))) ∙ ap (λ o. Dropped o) is in
     let j : told ≡ job = cc (e) in
-    ap (λ (x : Job). x.turn) (sym j)
+    sym j
+
+pub same_drop : (s : State) (waits waiting : Option Job) (job told : Job) → option_or s.hand waits ≡ Some job → waiting ≡ waits → Dropped (Some told) ≡ shard_answer s (DropJob waiting) → job.turn ≡ told.turn
+same_drop s waits waiting job told is same answered = ap (λ (x : Job). x.turn) (same_job s waits waiting job told is same answered)
 
 pub dropped_join : (a b c : AtWork) (turn : ℕ) → Makes a [] b → HasDropped b turn c → HasDropped a turn c
 dropped_join a b c turn m d = record { last = d.last; job = d.job; makes = makes_join a b c [] (d.last ∷ []) m d.makes; drops = d.drops; turn_is = d.turn_is }

@@ -3,6 +3,7 @@ pub mod Clients
 pub mod Working
 pub mod Claims
 pub mod Drops
+pub mod Telling
 pub mod Lines
 pub mod Outlets
 pub mod HubCalls

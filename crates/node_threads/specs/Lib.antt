@@ -12,3 +12,4 @@ pub mod Outlets
 pub mod AtHub
 -- what a hub does with its sessions is its part of a server's step
 pub mod Parts
+pub mod Tapes

@@ -101,6 +101,13 @@ impl<N: NodeName> HubState<N> {
         self.outlet.push_all(rt);
     }
 
+    /// The last turn that each shard finished, as it has loaded them last.
+    pub fn finished(&self) -> Finished
+        ensures { result ≡ self.now.finished }
+    {
+        self.finished
+    }
+
     /// Loads the last turn that each shard finished.
     fn look(&mut self, cells: &Cells)
         requires race { cells.now ≡ N.race }

@@ -16,7 +16,7 @@ pub trait NodeName {
     /// The lanes of its shards, that of shard 1 first.
     ghost lanes: { List TableId };
 
-    /// Whether its calls' answers are to be kept in writing; nothing is kept yet.
+    /// Whether what is done under its locks is kept in writing.
     ghost keep: { Bool };
 }
 

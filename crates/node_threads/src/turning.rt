@@ -3,11 +3,15 @@
 ghost use Rattle.std.specs.Prelude.{◌≡◌, [], true, false, None, is_some, nat_lt, OnOk, OnErr};
 ghost use Rattle.claim_cells.specs.Seats.{last_load};
 ghost use Rattle.node_threads.specs.AtWork.{Makes};
+ghost use Rattle.node_threads.specs.Tapes.{Tells};
 ghost use Rattle.node_threads.specs.Turns.{ClaimsOne, HasEnded, HasNone, HasTried, HasWorked, MayBegin, MayClaim, Turns};
 
 use crate::gates::Gate;
 use crate::names::NodeName;
+use crate::noting::{note_begin, note_claim, note_end};
+use crate::shard_entries::ShardEntry;
 use crate::shard_state::ShardState;
+use crate::tape::Tape;
 use crate::turned::Turned;
 use claim_cells::Cells;
 use shard_core::claims_are_whole;
@@ -20,21 +24,29 @@ impl<T: SubTable, N: NodeName> ShardState<T, N> {
     /// Makes a whole turn: begins the next job, unless one is in hand still; tries each of its queue names
     /// that was not tried, where the candidate gets its entry if the claim is won; and ends the job.
     ///
-    /// The gate is told of each candidate, before its claim. Required: the race of this server. May wait.
-    pub fn turn<G: Gate, R: Wait>(&mut self, rt: &R, cells: &Cells, gate: &G) -> Turned
+    /// The gate is told of each candidate, before its claim. All steps that were made stand on the tape, where that
+    /// is kept. Required: the race of this server. May wait.
+    pub fn turn<G: Gate, R: Wait>(
+        &mut self,
+        rt: &R,
+        cells: &Cells,
+        gate: &G,
+        tape: &mut Tape<ShardEntry>,
+    ) -> Turned
         requires { cells.now ≡ N.race }
-        ensures { Turns self.old result self.new }
+        ensures turns { Turns self.old result self.new }
+        ensures tells { Tells self.old tape.old self.new tape.new }
     {
         if !self.has_job(rt, cells) {
             return Turned::Idle;
         }
-        if self.begin_next().is_err() {
+        if self.begin_next(tape).is_err() {
             return Turned::Short;
         }
-        if self.claim_rest(cells, gate).is_err() {
+        if self.claim_rest(cells, gate, tape).is_err() {
             return Turned::Short;
         }
-        Turned::Worked(self.end(cells))
+        Turned::Worked(self.end(cells, tape))
     }
 
     /// Whether a job is in hand, or one that was popped may be begun. Pops one where none was.
@@ -85,21 +97,23 @@ impl<T: SubTable, N: NodeName> ShardState<T, N> {
     }
 
     /// Begins the job that was popped, unless one is in hand.
-    fn begin_next(&mut self) -> Result<(), AllocError>
+    fn begin_next(&mut self, tape: &mut Tape<ShardEntry>) -> Result<(), AllocError>
         requires { MayBegin self.old }
         ensures works { HasWorked self.old self.new }
+        ensures tells { Tells self.old tape.old self.new tape.new }
         ensures hand { OnOk result (is_some self.new.state.hand ≡ true) }
     {
         if self.shard.hand().is_some() {
             return Ok(());
         }
-        let Some(job) = self.lane.in_hand() else {
+        let Some(next) = self.lane.in_hand() else {
             unreachable!()
         };
-        let job = job.try_clone()?;
+        let job = next.try_clone()?;
         match self.shard.begin(job, false) {
             Err(_) => Err(AllocError),
             Ok(_) => {
+                note_begin(tape, next);
                 self.waits = false;
                 self.next_index = 0;
                 Ok(())
@@ -108,10 +122,16 @@ impl<T: SubTable, N: NodeName> ShardState<T, N> {
     }
 
     /// Tries the queue names of the job in hand that were not tried.
-    fn claim_rest<G: Gate>(&mut self, cells: &Cells, gate: &G) -> Result<(), AllocError>
+    fn claim_rest<G: Gate>(
+        &mut self,
+        cells: &Cells,
+        gate: &G,
+        tape: &mut Tape<ShardEntry>,
+    ) -> Result<(), AllocError>
         requires race { cells.now ≡ N.race }
         requires hand { is_some self.old.state.hand ≡ true }
         ensures works { HasWorked self.old self.new }
+        ensures tells { Tells self.old tape.old self.new tape.new }
         ensures all { OnOk result (HasTried self.new.state) }
     {
         let Some(job) = self.shard.hand() else {
@@ -119,16 +139,23 @@ impl<T: SubTable, N: NodeName> ShardState<T, N> {
         };
         let count = job.queues.as_slice().len() as u64;
         for index in self.next_index..count {
-            self.claim(cells, gate, index)?;
+            self.claim(cells, gate, index, tape)?;
         }
         Ok(())
     }
 
     /// Tries the queue name of this index of the job in hand, which is the next one.
-    fn claim<G: Gate>(&mut self, cells: &Cells, gate: &G, index: u64) -> Result<(), AllocError>
+    fn claim<G: Gate>(
+        &mut self,
+        cells: &Cells,
+        gate: &G,
+        index: u64,
+        tape: &mut Tape<ShardEntry>,
+    ) -> Result<(), AllocError>
         requires race { cells.now ≡ N.race }
         requires next { MayClaim index self.old.state }
         ensures ok { OnOk result (ClaimsOne index self.old self.new) }
+        ensures tells { Tells self.old tape.old self.new tape.new }
         ensures err { OnErr result (self.new ≡ self.old) }
     {
         claims_are_whole();
@@ -141,25 +168,29 @@ impl<T: SubTable, N: NodeName> ShardState<T, N> {
             Err(_) => Err(AllocError),
             Ok(None) => {
                 self.next_index = index + 1;
+                note_claim(tape, index, false);
                 Ok(())
             }
             Ok(Some(_)) => {
                 gate.reached(self.seat.shard(), turn, index);
                 self.next_index = index + 1;
                 if !cells.claim(&mut self.seat, index) {
+                    note_claim(tape, index, false);
                     return Ok(());
                 }
                 let _ended = self.shard.place(index);
+                note_claim(tape, index, true);
                 Ok(())
             }
         }
     }
 
     /// Ends the job in hand, whose queue names were all tried: its turn.
-    fn end(&mut self, cells: &Cells) -> Turn
+    fn end(&mut self, cells: &Cells, tape: &mut Tape<ShardEntry>) -> Turn
         requires race { cells.now ≡ N.race }
         requires tried { HasTried self.old.state }
         ensures ends { HasEnded self.old result self.new }
+        ensures tells { Tells self.old tape.old self.new tape.new }
     {
         let Some(job) = self.shard.hand() else {
             unreachable!()
@@ -170,6 +201,7 @@ impl<T: SubTable, N: NodeName> ShardState<T, N> {
         };
         cells.finish(&mut self.seat);
         self.next_index = 0;
+        note_end(tape);
         turn
     }
 }

@@ -1,5 +1,11 @@
 use Rattle.node_threads.proofs.Drops.{dropped_join}
+use Rattle.node_threads.proofs.Telling.{tells_join, tells_quiet}
 use Rattle.node_threads.proofs.shard_state.ShardState.drop_job.Goals as goal
 
-pub returns : goal.returns
-returns g c = dropped_join c.args.self.now c.has_job.new.self c.drop_now.new.self c.drop_now.result c.has_job.ensures.makes c.drop_now.ensures.dropped
+pub returns-clause-drops : goal.returns-clause-drops
+returns-clause-drops g c = dropped_join c.args.self.now c.has_job.new.self c.drop_now.new.self c.drop_now.result c.has_job.ensures.makes c.drop_now.ensures.dropped
+
+pub returns-clause-tells : goal.returns-clause-tells
+returns-clause-tells g c =
+    let tape = c.args.tape.now in
+    tells_join c.args.self.now c.has_job.new.self c.drop_now.new.self tape tape c.drop_now.new.tape (tells_quiet c.args.self.now c.has_job.new.self tape c.has_job.ensures.makes) c.drop_now.ensures.tells

@@ -1,0 +1,88 @@
+-- What is kept in writing of what was done under a lock.
+use Rattle.std.specs.Prelude.{◌≡◌, ℕ, Bool, List, [], ◌∷◌, ◌++◌, length, Option, Some, None}
+use Rattle.subj.specs.declared.jobs.Job.{Job}
+use Rattle.shard_core.specs.ShardEvents as of_shard
+use Rattle.node_threads.specs.AtWork.{AtWork, Makes, at_start}
+use Rattle.node_threads.specs.Steps.{Done}
+use Rattle.node_threads.specs.declared.shard_entries.ShardEvent.{ShardEvent}
+use Rattle.node_threads.specs.declared.shard_entries.ShardEvent.TheVariants as event
+use Rattle.node_threads.specs.declared.shard_entries.ShardTold.{ShardTold}
+use Rattle.node_threads.specs.declared.shard_entries.ShardTold.TheVariants as told
+use Rattle.node_threads.specs.declared.shard_entries.ShardEntry.{ShardEntry}
+
+-- these entries are added; or all are given up, or none were kept
+abbrev pub Grows : {E : Type 0} → Option (List E) → List E → Option (List E) → Type 0
+Grows old more None = Unit {0}
+Grows None more (Some new) = ⊥
+Grows (Some old) more (Some new) = new ≡ old ++ more
+
+-- ---- what an entry says of a shard's step
+
+abbrev pub turn_of : Option Job → Option ℕ
+turn_of None = None
+turn_of (Some job) = Some job.turn
+
+-- of an answer in numbers
+abbrev pub told_of : of_shard.Answer → ShardTold
+told_of (of_shard.Attached conn) = told.Attached conn
+told_of (of_shard.Opened sub) = told.Opened sub
+told_of of_shard.AlreadyOpen = told.AlreadyOpen
+told_of (of_shard.Unsubscribed ended) = told.Unsubscribed (length ended)
+told_of (of_shard.Replied shut ended) = told.Replied shut (length ended)
+told_of (of_shard.WasShut ended) = told.WasShut (length ended)
+told_of (of_shard.Detached ended) = told.Detached (length ended)
+told_of (of_shard.Taken entries) = told.Taken (length entries)
+told_of (of_shard.Began placed closed ended) = told.Work
+told_of of_shard.Nobody = told.Work
+told_of of_shard.Lost = told.Work
+told_of (of_shard.Won sub placed ended) = told.Work
+told_of of_shard.Finished = told.Work
+told_of (of_shard.Dropped job) = told.Dropped (turn_of job)
+told_of (of_shard.Collected deltas) = told.Collected deltas
+
+abbrev pub entry : ShardEvent → ShardTold → ShardEntry
+entry event told = record { event = event; told = told }
+
+abbrev pub begin_entry : Job → ShardEntry
+begin_entry job = entry (event.Begin job) told.Work
+
+abbrev pub claim_entry : ℕ → Bool → ShardEntry
+claim_entry index won = entry (event.Claim index won) told.Work
+
+abbrev pub end_entry : ShardEntry
+end_entry = entry event.End told.Work
+
+abbrev pub drop_entry : Option Job → Option Job → ShardEntry
+drop_entry waiting job = entry (event.DropJob waiting) (told.Dropped (turn_of job))
+
+-- the parts of a turn are written without an answer, since the event says all that was not known before
+abbrev pub entry_of : of_shard.Event → of_shard.Answer → ShardEntry
+entry_of of_shard.Attach answer = entry event.Attach (told_of answer)
+entry_of (of_shard.Subscribe conn key sid) answer = entry (event.Subscribe conn key sid) (told_of answer)
+entry_of (of_shard.Unsubscribe conn sid max) answer = entry (event.Unsubscribe conn sid max) (told_of answer)
+entry_of (of_shard.Reply conn frame) answer = entry (event.Reply conn frame) (told_of answer)
+entry_of (of_shard.Shut conn text) answer = entry (event.Shut conn text) (told_of answer)
+entry_of (of_shard.Detach conn) answer = entry (event.Detach conn) (told_of answer)
+entry_of (of_shard.Take conn count) answer = entry (event.Take conn count) (told_of answer)
+entry_of (of_shard.Begin job) answer = begin_entry job
+entry_of (of_shard.Claim index won) answer = claim_entry index won
+entry_of of_shard.End answer = end_entry
+entry_of (of_shard.DropJob waiting) answer = entry (event.DropJob waiting) (told_of answer)
+entry_of of_shard.Collect answer = entry event.Collect (told_of answer)
+
+-- of all steps, the newest of which stands first in their list, and last on the tape
+abbrev pub entries_of : List Done → List ShardEntry
+entries_of [] = []
+entries_of (d ∷ earlier) = entries_of earlier ++ entry_of d.event d.answer ∷ []
+
+-- ---- a shard at work, and its tape
+
+-- the shard makes some steps, and just these are added to its tape
+pub record Tells (old : AtWork) (tape : Option (List ShardEntry)) (new : AtWork) (more : Option (List ShardEntry)) : Type 0 where
+  pub steps : List Done
+  pub makes : Makes old steps new
+  pub grows : Grows tape (entries_of steps) more
+
+-- all that it did since its start is on its tape, where that is kept
+abbrev pub IsTape : ℕ → AtWork → Option (List ShardEntry) → Type 0
+IsTape shards w tape = Tells (at_start w.part.shard shards) (Some []) w tape

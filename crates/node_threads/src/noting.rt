@@ -1,0 +1,65 @@
+//! The steps of a shard's work, written down.
+
+ghost use Rattle.std.specs.Prelude.{◌≡◌, ◌∷◌, [], cond, Some, None};
+ghost use Rattle.node_threads.specs.Tapes.{Grows, begin_entry, claim_entry, drop_entry, end_entry};
+
+use crate::shard_entries::{ShardEntry, ShardEvent, ShardTold};
+use crate::tape::Tape;
+use subj::Job;
+
+/// That this job was begun.
+pub(crate) fn note_begin(tape: &mut Tape<ShardEntry>, job: &Job)
+    ensures { Grows tape.old (begin_entry job.now ∷ []) tape.new }
+{
+    if !tape.is_kept() {
+        return;
+    }
+    let Ok(job) = job.try_clone() else {
+        tape.give_up();
+        return;
+    };
+    tape.note(ShardEntry {
+        event: ShardEvent::Begin(job),
+        told: ShardTold::Work,
+    });
+}
+
+/// That the queue name of this index was tried, and whether it was won.
+pub(crate) fn note_claim(tape: &mut Tape<ShardEntry>, index: u64, won: bool)
+    ensures { Grows tape.old (claim_entry index won ∷ []) tape.new }
+{
+    if !tape.is_kept() {
+        return;
+    }
+    tape.note(ShardEntry {
+        event: ShardEvent::Claim { index, won },
+        told: ShardTold::Work,
+    });
+}
+
+/// That the job in hand was ended.
+pub(crate) fn note_end(tape: &mut Tape<ShardEntry>)
+    ensures { Grows tape.old (end_entry ∷ []) tape.new }
+{
+    if !tape.is_kept() {
+        return;
+    }
+    tape.note(ShardEntry {
+        event: ShardEvent::End,
+        told: ShardTold::Work,
+    });
+}
+
+/// That this job was dropped, which had been begun, or waited.
+pub(crate) fn note_drop(tape: &mut Tape<ShardEntry>, job: Job, waited: bool)
+    ensures { Grows tape.old (drop_entry (cond waited (Some job) None) (Some job) ∷ []) tape.new }
+{
+    if !tape.is_kept() {
+        return;
+    }
+    let turn = job.turn;
+    tape.note(ShardEntry {
+        event: ShardEvent::DropJob(waited.then_some(job)),
+        told: ShardTold::Dropped(Some(turn)),
+    });
+}

@@ -1,0 +1,136 @@
+//! What is kept in writing of what a shard did.
+
+ghost use Rattle.std.specs.Prelude.{◌≡◌, IfOk};
+
+use client_frames::{ErrText, ReplyFrame};
+use interest::Delta;
+use std::alloc::{AllocError, Global};
+use std::marker::Model;
+use subj::{ConnId, Job, Key, Sid, SubId, Turn};
+
+/// Deltas, in order.
+///
+/// Seen as their list.
+#[derive(Debug, Drop)]
+pub struct Deltas {
+    items: Vec<Delta>,
+}
+
+impl Model for Deltas {
+    ghost use Rattle.std.specs.Prelude.{List};
+    ghost use Rattle.interest.specs.declared.changes.Delta.{Delta};
+
+    ghost Value = { List Delta };
+
+    ghost view = { λ s. s.items.items };
+}
+
+impl Deltas {
+    /// Copies of these.
+    pub fn copy_of(alloc: Global, deltas: &[Delta]) -> Result<Deltas, AllocError>
+        ensures { IfOk result (λ copy. copy ≡ deltas.now) }
+    {
+        let mut items = Vec::with_capacity(alloc, deltas.len())?;
+        for delta in deltas {
+            items.push(Delta {
+                key: delta.key.try_clone(alloc)?,
+                up: delta.up,
+            })?;
+        }
+        Ok(Deltas { items })
+    }
+
+    /// All of them.
+    pub fn as_slice(&self) -> &[Delta]
+        ensures { result.now ≡ self.now }
+    {
+        self.items.as_slice()
+    }
+}
+
+/// What a shard was asked. (Profile.)
+#[derive(Debug, Drop)]
+pub enum ShardEvent {
+    /// Makes a connection.
+    Attach,
+    /// Opens a subscription of the connection.
+    Subscribe {
+        conn: ConnId,
+        key: Key,
+        sid: Sid,
+    },
+    /// Closes what the connection calls so, at once or once so many messages were delivered.
+    Unsubscribe {
+        conn: ConnId,
+        sid: Sid,
+        max: Option<u64>,
+    },
+    /// Puts an answer to the connection.
+    Reply {
+        conn: ConnId,
+        frame: ReplyFrame,
+    },
+    /// Shuts the connection with this last line.
+    Shut {
+        conn: ConnId,
+        text: ErrText,
+    },
+    /// The connection is gone.
+    Detach {
+        conn: ConnId,
+    },
+    /// Takes the first entries that wait for the connection, at most so many.
+    Take {
+        conn: ConnId,
+        count: usize,
+    },
+    /// Begins the job.
+    Begin(Job),
+    /// Claims the queue name of this index of the job in hand, from 0; and whether the claim was made and won.
+    Claim {
+        index: u64,
+        won: bool,
+    },
+    /// Ends the job in hand.
+    End,
+    /// Drops the job in hand, or else this one.
+    DropJob(Option<Job>),
+    /// Hands the deltas to the hub.
+    Collect,
+}
+
+/// What a shard answered: numbers, and the deltas that it handed over. (Profile.)
+///
+/// The rest of an answer is not kept: it follows from the events.
+#[derive(Debug, Drop)]
+pub enum ShardTold {
+    /// The connection that was made.
+    Attached(ConnId),
+    /// The subscription that was opened.
+    Opened(SubId),
+    /// The connection has a subscription of this id open.
+    AlreadyOpen,
+    /// How many subscriptions an `UNSUB` closed, 0 or 1.
+    Unsubscribed(usize),
+    /// A reply: whether the connection was shut for want of room, and how many subscriptions closed.
+    Replied { shut: bool, ended: usize },
+    /// How many subscriptions closed with a connection that was shut.
+    WasShut(usize),
+    /// How many subscriptions closed with a connection that is gone.
+    Detached(usize),
+    /// How many entries were taken.
+    Taken(usize),
+    /// A part of a turn.
+    Work,
+    /// The turn of the job that was dropped.
+    Dropped(Option<Turn>),
+    /// The deltas that were handed over.
+    Collected(Deltas),
+}
+
+/// A step of a shard: what it was asked, and what it answered. (Profile.)
+#[derive(Debug, Drop)]
+pub struct ShardEntry {
+    pub event: ShardEvent,
+    pub told: ShardTold,
+}
