@@ -1,5 +1,5 @@
 -- What the seats of a race that is over say of the runs of its shards.
-use Rattle.std.proofs.Common.{◌≡◌, ◌≢◌, ℕ, zero, suc, ◌+◌, ◌-◌, ◌<◌, true, false, List, [], ◌∷◌, ◌++◌, length, map, All, refl, sym, ap, ◌∙◌, subst, arith, append_assoc, ◌⊎◌, ⊎_elim, inl, inr}
+use Rattle.std.proofs.Common.{◌≡◌, ◌≢◌, ℕ, zero, suc, ◌+◌, ◌-◌, ◌<◌, Bool, true, false, cond, Option, Some, List, [], ◌∷◌, ◌++◌, length, map, All, refl, sym, ap, ◌∙◌, subst, arith, append_assoc, ◌⊎◌, ⊎_elim, inl, inr}
 use Rattle.std.proofs.lemmas.List.{length-map}
 use mathlib.Core.Option.{some, some-ne-none, some-injective}
 use lib.ListN.{get_elem?}
@@ -11,10 +11,14 @@ use Rattle.claim_cells.specs.Calls.{AllOf, HasEach, IsClosed, IsPartsOf, IsOver,
 use Rattle.claim_cells.specs.Rule.{At, Has, Law, row}
 use Rattle.claim_cells.specs.Seats.{RaceId, ShardShown}
 use Rattle.node_threads.specs.AtHub.{AtHub, IsAtHub}
-use Rattle.node_threads.specs.AtWork.{AtWork, HasDone, Makes, at_start}
+use Rattle.node_threads.specs.AtWork.{AtWork, Makes, at_start}
 use Rattle.node_threads.specs.Outlets.{AreFirst}
 use Rattle.node_threads.specs.Steps.{claims_of}
-use Rattle.thread_node.specs.Reports.{AreClosed, HubRun, IsLegal, IsShardRun, ShardRun, Tells, lost, seat_of, won}
+use Rattle.node_threads.specs.Tapes.{Grows, IsTape, entries_of}
+use Rattle.node_threads.specs.declared.shard_entries.ShardEntry.{ShardEntry}
+use Rattle.thread_node.specs.HubTapes.{IsHubTape, hub_entries}
+use Rattle.thread_node.specs.declared.hub_entries.HubEntry.{HubEntry}
+use Rattle.thread_node.specs.Reports.{AreClosed, HubRun, IsKept, IsLegal, IsShardRun, IsWritten, ShardRun, Tells, lost, seat_of, won, written}
 
 at_there : {A : Type 0} (l : List A) (i : ℕ) → i < length l → (a : A) × At l i a
 at_there [] i h = absurd (omega arith)
@@ -48,8 +52,12 @@ same_list (x ∷ xs) (y ∷ ys) n h =
 
 -- ---- one shard more
 
-pub closed_none : (race : RaceId) (issued : List Job) → AreClosed race issued []
-closed_none race issued = ([], refl, λ k run e. absurd (some-ne-none run (sym e)))
+pub closed_none : (race : RaceId) (issued : List Job) (kept : Bool) → AreClosed race issued kept [] []
+closed_none race issued kept = ([], refl, (λ k run e. absurd (some-ne-none run (sym e))), refl)
+
+kept_entries : {E : Type 0} (kept : Bool) (tape : Option (List E)) (all entries : List E) → Grows (Some []) all tape → IsKept kept tape entries → entries ≡ cond kept all []
+kept_entries {E} true tape all entries g k = subst (Grows (Some []) all) k g
+kept_entries false tape all entries g k = k
 
 map_snoc : {A B : Type 0} (f : A → B) (xs : List A) (x : A) → map f (xs ++ x ∷ []) ≡ map f xs ++ f x ∷ []
 map_snoc f [] x = refl
@@ -58,24 +66,26 @@ map_snoc f (y ∷ ys) x = ap (λ l. f y ∷ l) (map_snoc f ys x)
 first_of_first : (xs ys zs : List Job) → AreFirst xs ys → AreFirst ys zs → AreFirst xs zs
 first_of_first xs ys zs a b = (a.0 ++ b.0, b.1 ∙ ap (λ l. l ++ b.0) a.1 ∙ append_assoc xs a.0 b.0)
 
-pub closed_more : (race : RaceId) (issued pushed : List Job) (seats : List ShardShown) (seat : ShardShown) (w : AtWork) (number : ℕ)
-    → AreClosed race issued seats → number ≡ length seats + 1 → seat.race ≡ race → seat.part ≡ w.part → w.part.shard ≡ number → HasDone race.shards w → AreFirst w.popped pushed → AreFirst pushed issued
-    → AreClosed race issued (seats ++ seat ∷ [])
-closed_more race issued pushed seats seat w number c n of part shard done popped first =
-    let run : ShardRun = record { steps = done.0; end = w } in
+pub closed_more : (race : RaceId) (issued pushed : List Job) (kept : Bool) (seats : List ShardShown) (tapes : List (List ShardEntry)) (seat : ShardShown) (tape : Option (List ShardEntry)) (entries : List ShardEntry) (w : AtWork) (number : ℕ)
+    → AreClosed race issued kept seats tapes → number ≡ length seats + 1 → seat.race ≡ race → seat.part ≡ w.part → w.part.shard ≡ number → IsTape race.shards w tape → IsKept kept tape entries → AreFirst w.popped pushed → AreFirst pushed issued
+    → AreClosed race issued kept (seats ++ seat ∷ []) (tapes ++ entries ∷ [])
+closed_more race issued pushed kept seats tapes seat tape entries w number c n of part shard t told popped first =
+    let run : ShardRun = record { steps = t.steps; end = w } in
     let is : seat ≡ seat_of race run = (λ k. record { race = of k; part = part k }) in
     let counted : number ≡ length c.0 + 1 = n ∙ ap (λ l. length l + 1) c.1 ∙ ap (λ m. m + 1) (length-map c.0 (seat_of race)) in
-    let here : IsShardRun race.shards issued number run = record { made = subst (λ s. Makes (at_start s race.shards) done.0 w) shard done.1; given = first_of_first w.popped pushed issued popped first } in (
+    let here : IsShardRun race.shards issued number run = record { made = subst (λ s. Makes (at_start s race.shards) t.steps w) shard t.makes; given = first_of_first w.popped pushed issued popped first } in
+    let said : entries ≡ written kept run = kept_entries kept tape (entries_of t.steps) entries t.grows told in (
       c.0 ++ run ∷ [],
       ap (λ l. l ++ seat ∷ []) c.1 ∙ ap (λ s. map (seat_of race) c.0 ++ s ∷ []) is ∙ sym (map_snoc (seat_of race) c.0 run),
-      λ k r e. ⊎_elim (λ old. c.2 k r old)
+      (λ k r e. ⊎_elim (λ old. c.2 k r old)
           (λ (new : (k ≡ length c.0) × (run ≡ r)). subst (λ q. IsShardRun race.shards issued (k + 1) q) new.1 (subst (λ m. IsShardRun race.shards issued m run) (counted ∙ ap (λ m. m + 1) (sym new.0)) here))
-          (snoc_at c.0 run r k e),
+          (snoc_at c.0 run r k e)),
+      ap (λ l. l ++ entries ∷ []) c.3 ∙ ap (λ es. map (written kept) c.0 ++ es ∷ []) said ∙ sym (map_snoc (written kept) c.0 run),
     )
 
 -- ---- all of them
 
-module _ (race : RaceId) (issued : List Job) (seats : List ShardShown) (c : AreClosed race issued seats) where
+module _ (race : RaceId) (issued : List Job) (kept : Bool) (seats : List ShardShown) (tapes : List (List ShardEntry)) (c : AreClosed race issued kept seats tapes) where
   pub all_of : AllOf race seats
   all_of i seat e = let u = at_unmap (seat_of race) c.0 i seat (subst (λ l. At l i seat) c.1 e) in ap (λ (s : ShardShown). s.race) (sym u.2)
 
@@ -87,7 +97,7 @@ module _ (race : RaceId) (issued : List Job) (seats : List ShardShown) (c : AreC
       let there = at_there c.0 s (let len = length-map c.0 (seat_of race) in let l : length seats ≡ length (map (seat_of race) c.0) = ap length c.1 in omega arith) in
       (s, seat_of race there.0, subst (λ l. At l s (seat_of race there.0)) (sym c.1) (at_map (seat_of race) c.0 s there.0 there.1), shard_at s there.0 there.1)
 
-  module _ (hub : AtHub) (issued_is : hub.issued ≡ issued) (at_hub : IsAtHub race.shards hub) (count : length seats ≡ race.shards) (last : ℕ) (turns claims : List ℕ) (over : IsClosed race hub.part seats last turns claims) where
+  module _ (hub : AtHub) (issued_is : hub.issued ≡ issued) (at_hub : IsAtHub race.shards hub) (tape : Option (List HubEntry)) (t : IsHubTape hub tape) (count : length seats ≡ race.shards) (last : ℕ) (turns claims : List ℕ) (over : IsClosed race hub.part seats last turns claims) where
     abbrev all : List ShardPart
     all = over.0
 
@@ -120,11 +130,11 @@ module _ (race : RaceId) (issued : List Job) (seats : List ShardShown) (c : AreC
         (u.0, subst (λ n. At c.0 n u.0) place u.1, part)
 
     abbrev pub hub_run : HubRun
-    hub_run = record { steps = at_hub.done.steps; end = hub }
+    hub_run = record { steps = t.done.steps; end = hub }
 
     pub legal : IsLegal race.shards hub_run c.0
     legal = record {
-      hub_run = record { led = at_hub.done.led; gave = at_hub.done.gave; count = at_hub.count ∙ sym at_hub.turns };
+      hub_run = record { led = t.done.led; gave = t.done.gave; count = at_hub.count ∙ sym at_hub.turns };
       count = runs_count;
       each = λ k run e. subst (λ (js : List Job). IsShardRun race.shards js (k + 1) run) (sym issued_is) (c.2 k run e);
       once = λ k l i j r q pair er eq wr wq. law.once k l i j r.end.part q.end.part pair (part_at k r er) (part_at l q eq)
@@ -148,3 +158,6 @@ module _ (race : RaceId) (issued : List Job) (seats : List ShardShown) (c : AreC
         map_twice : (runs : List ShardRun) → map (λ (p : ShardPart). p.finished) (map (λ (run : ShardRun). run.end.part) runs) ≡ map (λ (run : ShardRun). run.end.part.finished) runs
         map_twice [] = refl
         map_twice (r ∷ rs) = ap (λ l. r.end.part.finished ∷ l) (map_twice rs)
+
+    pub is_written : (entries : List HubEntry) → IsKept kept tape entries → IsWritten kept hub_run c.0 entries tapes
+    is_written entries told = record { hub_is = kept_entries kept tape (hub_entries t.done.steps) entries t.grows told; shards_are = c.3 }

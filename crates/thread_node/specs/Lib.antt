@@ -1,4 +1,5 @@
 -- what a server on threads is made of
 pub mod Parts
+pub mod HubTapes
 -- what the end of a server on threads tells
 pub mod Reports

@@ -1,17 +1,17 @@
 //! The end of a server on threads.
 
-ghost use Rattle.std.specs.Prelude.{◌≡◌, List, All, length, vec_len, IfOk, IfSome};
+ghost use Rattle.std.specs.Prelude.{◌≡◌, List, All, length, map, vec_len, IfOk, IfSome};
 ghost use Rattle.subj.specs.declared.jobs.Job.{Job};
-ghost use Rattle.node_threads.specs.AtWork.{HasDone};
 ghost use Rattle.node_threads.specs.Outlets.{AreFirst};
-ghost use Rattle.thread_node.specs.Reports.{AreClosed, HubRun, IsLegal, ShardRun, Tells};
+ghost use Rattle.node_threads.specs.Tapes.{IsTape};
+ghost use Rattle.thread_node.specs.Reports.{AreClosed, HubRun, IsKept, IsLegal, IsWritten, ShardRun, Tells};
 
-use crate::locked_hub::LockedHub;
+use crate::hub_entries::HubEntry;
 use crate::locked_shard::LockedShard;
 use crate::node::ThreadNode;
 use claim_cells::ShardSeat;
 use job_lane::meet;
-use node_threads::{Line, NodeName};
+use node_threads::{Line, NodeName, ShardEntry, Tape};
 use std::alloc::{AllocError, Global};
 use std::sync::{Arc, Mutex, Wait};
 use sub_table::SubTable;
@@ -24,12 +24,18 @@ pub struct Report {
     pub issued: Turn,
     /// The last turn that each shard finished.
     pub finished: Finished,
+    /// Whether what was done was written down.
+    pub kept: bool,
+    /// All that the hub and the sessions did, in order; nothing where nothing was written down.
+    pub hub: Vec<HubEntry>,
+    /// All that each shard did, in order, that of shard 1 first; nothing of each where nothing was written down.
+    pub worked: Vec<Vec<ShardEntry>>,
 }
 
 /// Why a server gave no report.
 #[derive(Clone, Copy, Debug, PartialEq, Eq)]
 pub enum Unfinished {
-    /// The allocator gave no memory.
+    /// The allocator gave no memory, now or when a step was to be written down.
     OutOfMemory,
     /// The value under the lock of this shard, from 1, or the hub's end of its lane, is another shard's; 0
     /// where the race is held by somebody else still. No server comes to it: the locks' types cannot say so.
@@ -42,72 +48,91 @@ impl From<AllocError> for Unfinished {
     }
 }
 
-/// Puts the two ends of a shard's lane together, and gives its seat. None where one of them is not of the
-/// shard of this number.
+/// What a tape says, or nothing where nothing was to be written down.
+fn entries_on<E: Drop>(alloc: Global, keep: bool, tape: Tape<E>) -> Result<Vec<E>, Unfinished>
+    ensures { IfOk result (λ entries. IsKept keep tape entries.items) }
+{
+    if !keep {
+        return Ok(Vec::new(alloc));
+    }
+    tape.into_entries().ok_or(Unfinished::OutOfMemory)
+}
+
+/// Puts the two ends of a shard's lane together, and gives its seat and its tape. None where one of them is not
+/// of the shard of this number.
 fn close_shard<T: SubTable, N: NodeName, R: Wait>(
     rt: &R,
     number: u64,
     line: Line<N>,
     shard: LockedShard<T, N>,
-) -> Option<ShardSeat>
-    ensures seat { IfSome result (λ seat. (seat.race ≡ N.race) × (seat.part ≡ shard.part)) }
+) -> Option<(ShardSeat, Tape<ShardEntry>)>
+    ensures seat { IfSome result (λ made. (made.0.race ≡ N.race) × (made.0.part ≡ shard.part)) }
     ensures shard { IfSome result (λ _. shard.part.shard ≡ number) }
-    ensures done { IfSome result (λ _. HasDone N.race.shards shard) }
+    ensures tape { IfSome result (λ made. IsTape N.race.shards shard made.1) }
     ensures popped { IfSome result (λ _. AreFirst shard.popped line.pushed) }
 {
     if line.shard() != number || shard.shard() != number {
         return None;
     }
-    let LockedShard { state, cells: _ } = shard;
+    let (state, tape) = shard.into_parts();
     let (seat, far) = state.into_parts();
     meet(rt, line.into_lane(), far);
-    Some(seat)
+    Some((seat, tape))
 }
 
-/// The seats of all shards, in their order.
+/// The seats of all shards, and what stands on their tapes, in their order.
 fn close_shards<T: SubTable, N: NodeName, R: Wait>(
     rt: &R,
     alloc: Global,
+    keep: bool,
     lines: Vec<Line<N>>,
     shards: Vec<Mutex<LockedShard<T, N>>>,
-) -> Result<Vec<ShardSeat>, Unfinished>
-    ensures { IfOk result (λ seats. (length seats.items ≡ vec_len shards) × ((issued : List Job) → All (λ line. AreFirst line.pushed issued) lines.items → AreClosed N.race issued seats.items)) }
+) -> Result<(Vec<ShardSeat>, Vec<Vec<ShardEntry>>), Unfinished>
+    ensures { IfOk result (λ made. (length made.0.items ≡ vec_len shards) × ((issued : List Job) → All (λ line. AreFirst line.pushed issued) lines.items → AreClosed N.race issued keep made.0.items (map (λ entries. entries.items) made.1.items))) }
 {
     let count = shards.len();
     let mut seats = Vec::new(alloc);
+    let mut tapes = Vec::new(alloc);
     for (line, shard) in lines.into_iter().zip(shards) {
         let number = seats.len() as u64 + 1;
-        let Some(seat) = close_shard(rt, number, line, shard.into_inner()) else {
+        let Some((seat, tape)) = close_shard(rt, number, line, shard.into_inner()) else {
             return Err(Unfinished::Torn(number));
         };
+        let entries = entries_on(alloc, keep, tape)?;
+        tapes.reserve(1)?;
         seats.reserve(1)?;
+        tapes.push_reserved(entries);
         seats.push_reserved(seat);
     }
     if seats.len() != count {
         return Err(Unfinished::Torn(seats.len() as u64 + 1));
     }
-    Ok(seats)
+    Ok((seats, tapes))
 }
 
 impl<T: SubTable, N: NodeName> ThreadNode<T, N> {
-    /// Ends the server, and tells which turns it issued and finished. There is a legal run with these numbers:
-    /// a list of the hub's and the sessions' steps and one of each shard's steps, where each shard worked a
-    /// beginning of the jobs that the hub gave, in order, no queue name of a turn was won twice, and each that
-    /// was lost was won by another shard. Nothing ties that run yet to what callers were told.
+    /// Ends the server, and tells which turns it issued and finished, and, where it was to be written down, all
+    /// that it did. There is a legal run with these numbers and just these steps: a list of the hub's and the
+    /// sessions' steps and one of each shard's steps, where each shard worked a beginning of the jobs that the
+    /// hub gave, in order, no queue name of a turn was won twice, and each that was lost was won by another
+    /// shard. Nothing ties the run yet to what callers were told.
     ///
     /// The server is given up for want of memory too. May wait.
     pub fn finish<R: Wait>(self, rt: &R, alloc: Global) -> Result<Report, Unfinished>
-        ensures { IfOk result (λ report. (hub : HubRun) × (runs : List ShardRun) × IsLegal N.race.shards hub runs × Tells hub runs report.issued report.finished) }
+        ensures kept { IfOk result (λ report. report.kept ≡ N.keep) }
+        ensures legal { IfOk result (λ report. (hub : HubRun) × (runs : List ShardRun) × IsLegal N.race.shards hub runs × Tells hub runs report.issued report.finished × IsWritten report.kept hub runs report.hub.items (map (λ entries. entries.items) report.worked.items)) }
     {
         let ThreadNode {
             hub,
             shards,
             unparkers: _,
             stopped: _,
+            keep,
         } = self;
-        let LockedHub { state, cells } = hub.into_inner();
+        let (state, cells, tape) = hub.into_inner().into_parts();
+        let hub = entries_on(alloc, keep, tape)?;
         let (seat, lines) = state.into_parts();
-        let seats = close_shards(rt, alloc, lines, shards)?;
+        let (seats, worked) = close_shards(rt, alloc, keep, lines, shards)?;
         let Some(cells) = Arc::into_inner(cells) else {
             return Err(Unfinished::Torn(0));
         };
@@ -115,6 +140,9 @@ impl<T: SubTable, N: NodeName> ThreadNode<T, N> {
         Ok(Report {
             issued: closed.issued,
             finished: closed.finished,
+            kept: keep,
+            hub,
+            worked,
         })
     }
 }

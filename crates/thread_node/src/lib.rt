@@ -6,6 +6,8 @@
 
 mod calls;
 mod finish;
+mod hub_entries;
+mod keeping;
 mod locked_hub;
 mod locked_shard;
 mod node;
@@ -13,8 +15,9 @@ mod parts;
 mod workers;
 
 pub use finish::{Report, Unfinished};
+pub use hub_entries::{HubEntry, HubEvent, HubTold};
 pub use locked_hub::LockedHub;
 pub use locked_shard::LockedShard;
 pub use node::{HubSection, ShardSection, ThreadNode};
-pub use node_threads::{Gate, NodeName, Open, Turned};
+pub use node_threads::{Deltas, Gate, NodeName, Open, ShardEntry, ShardEvent, ShardTold, Turned};
 pub use parts::Parts;

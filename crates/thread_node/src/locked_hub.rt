@@ -1,6 +1,6 @@
 //! What stands under the lock of the hub: `node_threads`' state of a hub, with the race.
 
-ghost use Rattle.std.specs.Prelude.{◌≡◌, ⊤};
+ghost use Rattle.std.specs.Prelude.{◌≡◌, [], ⊤};
 ghost use Rattle.std.specs.Arc.{arc_value};
 ghost use Rattle.subj.specs.Answers.{IsAnswered, IsDecided};
 ghost use Rattle.hub_core.specs.Chosen.{publication};
@@ -8,14 +8,21 @@ ghost use Rattle.hub_core.specs.Events.{TakeFrom, Taken};
 ghost use Rattle.hub_core.specs.Steps.{hub_refusal};
 ghost use Rattle.route_session.specs.Events.{Dial, Accept, OnInfo, OnConnect, Cut, Dialed, Accepted, KeptAfterInfo, Kept as WasKept, WasCut};
 ghost use Rattle.route_session.specs.Steps.{session_refusal};
-ghost use Rattle.node_parts.specs.Sides.{ByHub, BySessions, OfHub, OfSessions, seen_name};
+ghost use Rattle.subj.specs.Servers.{Server};
+ghost use Rattle.node_parts.specs.Sides.{ByHub, BySessions, OfHub, OfSessions, new_side, seen_name};
 ghost use Rattle.node_threads.specs.AtHub.{Collects, Does, Publishes, Receives};
+ghost use Rattle.thread_node.specs.HubTapes.{IsHubTape};
 
+use crate::hub_entries::{HubEntry, HubEvent, HubTold};
+use crate::keeping::{
+    copy_for, length_of, note_collect, note_heard, note_hub, publish_event, receive_event,
+    told_received,
+};
 use crate::locked_shard::LockedShard;
 use claim_cells::Cells;
 use hub_core::{HubFault, Told};
 use node_parts::{Issued, Received};
-use node_threads::{HubState, NodeName};
+use node_threads::{HubState, NodeName, Tape};
 use route_session::{Kept, SessionFault, SessionId};
 use route_values::{Numbered, RouteConnect, RouteInfo};
 use std::alloc::Global;
@@ -24,34 +31,49 @@ use std::sync::{Arc, Wait};
 use sub_table::SubTable;
 use subj::{ConnId, Failure, Pub};
 
-/// What stands under the lock of the hub: its state, with the race. (Profile.)
+/// What stands under the lock of the hub: its state, with the race, and its tape. (Profile.)
 ///
-/// Seen as the state. Whoever holds the lock may make many calls, one after the other.
+/// Seen as the state. Whoever holds the lock may make many calls, one after the other. Each step that they make
+/// stands on the tape, where one is kept: the tape is all that the hub and the sessions ever did.
 #[derive(Drop)]
 pub struct LockedHub<N: NodeName> {
     pub(crate) state: HubState<N>,
     pub(crate) cells: Arc<Cells, Global>,
+    pub(crate) tape: Tape<HubEntry>,
+    alloc: Global,
 }
 
 impl<N: NodeName> Model for LockedHub<N> {
     ghost use Rattle.std.specs.Prelude.{◌≡◌};
     ghost use Rattle.std.specs.Arc.{arc_value};
     ghost use Rattle.node_threads.specs.AtHub.{AtHub};
+    ghost use Rattle.thread_node.specs.HubTapes.{IsHubTape};
 
     ghost Value = { AtHub };
 
     ghost view = { λ s. s.state };
 
-    ghost invariant = { λ s. arc_value s.cells ≡ N.race };
+    ghost invariant = { λ s. (arc_value s.cells ≡ N.race) × IsHubTape s.state s.tape };
 }
 
 impl<N: NodeName> LockedHub<N> {
-    /// The state of a hub, with its race.
-    pub(crate) fn new(state: HubState<N>, cells: Arc<Cells, Global>) -> LockedHub<N>
-        requires { arc_value cells ≡ N.race }
+    /// The state of a hub that has done nothing, with its race; `keep` says whether its steps are written down.
+    pub(crate) fn new(
+        alloc: Global,
+        state: HubState<N>,
+        cells: Arc<Cells, Global>,
+        keep: bool,
+    ) -> LockedHub<N>
+        requires race { arc_value cells ≡ N.race }
+        requires fresh { (server : Server) × (state.side ≡ new_side server) × (state.issued ≡ []) }
         ensures { result ≡ state }
     {
-        LockedHub { state, cells }
+        LockedHub {
+            state,
+            cells,
+            tape: Tape::new(alloc, keep),
+            alloc,
+        }
     }
 
     /// [`HubState::publish`]. [`LockedHub::push_jobs`] hands the job to the shards.
@@ -63,14 +85,27 @@ impl<N: NodeName> LockedHub<N> {
     ) -> Result<Issued, Failure<HubFault>>
         ensures { Publishes N.race.shards self.old (publication conn said.now word) result self.new }
     {
-        self.state.publish(&self.cells, conn, said, word)
+        let issued = self.state.publish(&self.cells, conn, said, word)?;
+        let finished = self.state.finished();
+        let event = publish_event(&self.tape, conn, said, word, finished);
+        let told = HubTold::Issued {
+            turn: issued.turn,
+            frames: issued.frames,
+        };
+        note_hub(&mut self.tape, event, told);
+        Ok(issued)
     }
 
     /// [`HubState::receive`]. [`LockedHub::push_jobs`] hands the job of a message to the shards.
     pub fn receive(&mut self, frame: &Numbered) -> Result<Received, Failure<HubFault>>
         ensures { Receives N.race.shards self.old frame.now result self.new }
     {
-        self.state.receive(&self.cells, frame)
+        let received = self.state.receive(&self.cells, frame)?;
+        let finished = self.state.finished();
+        let event = receive_event(self.alloc, &self.tape, frame, finished);
+        let told = told_received(&received);
+        note_hub(&mut self.tape, event, told);
+        Ok(received)
     }
 
     /// [`HubState::push_jobs`]. May wait.
@@ -84,21 +119,39 @@ impl<N: NodeName> LockedHub<N> {
     pub fn dial(&mut self, peer: usize) -> Result<SessionId, Failure<SessionFault>>
         ensures { IsAnswered (session_refusal self.old.side.server self.old.side.sessions (Dial peer)) (λ session. Does self.old (BySessions (Dial peer)) (OfSessions (Dialed session)) self.new) (self.new ≡ self.old) result }
     {
-        self.state.dial(peer)
+        let session = self.state.dial(peer)?;
+        note_hub(
+            &mut self.tape,
+            Some(HubEvent::Dial { peer }),
+            HubTold::Dialed(session),
+        );
+        Ok(session)
     }
 
     /// [`HubState::accept`].
     pub fn accept(&mut self) -> Result<(SessionId, RouteInfo), Failure<SessionFault>>
         ensures { IsAnswered (session_refusal self.old.side.server self.old.side.sessions Accept) (λ given. Does self.old (BySessions Accept) (OfSessions (Accepted given.0 given.1)) self.new) (self.new ≡ self.old) result }
     {
-        self.state.accept()
+        let given = self.state.accept()?;
+        note_hub(
+            &mut self.tape,
+            Some(HubEvent::Accept),
+            HubTold::Accepted(given.0),
+        );
+        Ok(given)
     }
 
     /// [`HubState::cut`].
     pub fn cut(&mut self, session: SessionId) -> Result<Option<usize>, SessionFault>
         ensures { IsDecided (session_refusal self.old.side.server self.old.side.sessions (Cut session)) (λ peer. Does self.old (BySessions (Cut session)) (OfSessions (WasCut peer)) self.new) (self.new ≡ self.old) result }
     {
-        self.state.cut(session)
+        let peer = self.state.cut(session)?;
+        note_hub(
+            &mut self.tape,
+            Some(HubEvent::Cut { session }),
+            HubTold::WasCut(peer),
+        );
+        Ok(peer)
     }
 
     /// [`HubState::info`].
@@ -109,7 +162,17 @@ impl<N: NodeName> LockedHub<N> {
     ) -> Result<(Kept, RouteConnect), Failure<SessionFault>>
         ensures { let e = OnInfo session info.now (seen_name self.old.side info.now.server_name) in IsAnswered (session_refusal self.old.side.server self.old.side.sessions e) (λ done. Does self.old (BySessions e) (OfSessions (KeptAfterInfo done.0.instead_of done.1)) self.new) (self.new ≡ self.old) result }
     {
-        self.state.info(session, info)
+        let (kept, connect) = self.state.info(session, info)?;
+        let event = HubEvent::Info {
+            session,
+            info: *info,
+        };
+        note_hub(
+            &mut self.tape,
+            Some(event),
+            HubTold::KeptAfterInfo(kept.instead_of),
+        );
+        Ok((kept, connect))
     }
 
     /// [`HubState::connect`].
@@ -120,7 +183,13 @@ impl<N: NodeName> LockedHub<N> {
     ) -> Result<Kept, Failure<SessionFault>>
         ensures { let e = OnConnect session connect.now (seen_name self.old.side connect.now.server_name) in IsAnswered (session_refusal self.old.side.server self.old.side.sessions e) (λ kept. Does self.old (BySessions e) (OfSessions (WasKept kept.instead_of)) self.new) (self.new ≡ self.old) result }
     {
-        self.state.connect(session, connect)
+        let kept = self.state.connect(session, connect)?;
+        let event = HubEvent::Connect {
+            session,
+            connect: *connect,
+        };
+        note_hub(&mut self.tape, Some(event), HubTold::Kept(kept.instead_of));
+        Ok(kept)
     }
 
     /// [`HubState::collect`], of the shard whose lock is held too.
@@ -130,7 +199,20 @@ impl<N: NodeName> LockedHub<N> {
     ) -> Result<Told, Failure<HubFault>>
         ensures { Collects self.old shard.old result self.new shard.new }
     {
-        self.state.collect(&mut shard.state)
+        let number = shard.shard();
+        let heard = copy_for(&self.tape, self.alloc, shard.deltas());
+        let given = copy_for(&shard.tape, self.alloc, shard.deltas());
+        let told = match self.state.collect(&mut shard.state) {
+            Ok(told) => told,
+            Err(fault) => return Err(fault),
+        };
+        note_collect(&mut shard.tape, given);
+        let answer = HubTold::Collected {
+            changes: length_of(&told.changes),
+            cut: length_of(&told.cut),
+        };
+        note_heard(&mut self.tape, number, heard, answer);
+        Ok(told)
     }
 
     /// [`HubState::take_frames`].
@@ -141,6 +223,28 @@ impl<N: NodeName> LockedHub<N> {
     ) -> Result<Vec<Numbered>, Failure<HubFault>>
         ensures { IsAnswered (hub_refusal self.old.side.server self.old.side.hub (TakeFrom peer count)) (λ frames. Does self.old (ByHub (TakeFrom peer count)) (OfHub (Taken frames.items)) self.new) (self.new ≡ self.old) result }
     {
-        self.state.take_frames(peer, count)
+        let frames = self.state.take_frames(peer, count)?;
+        let event = HubEvent::TakeFrames { peer, count };
+        note_hub(
+            &mut self.tape,
+            Some(event),
+            HubTold::Taken(length_of(&frames)),
+        );
+        Ok(frames)
+    }
+
+    /// What is left of it: the state, the race, and its tape.
+    pub(crate) fn into_parts(self) -> (HubState<N>, Arc<Cells, Global>, Tape<HubEntry>)
+        ensures state { result.0 ≡ self }
+        ensures race { arc_value result.1 ≡ N.race }
+        ensures tape { IsHubTape self result.2 }
+    {
+        let LockedHub {
+            state,
+            cells,
+            tape,
+            ..
+        } = self;
+        (state, cells, tape)
     }
 }

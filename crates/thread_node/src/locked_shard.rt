@@ -7,13 +7,17 @@ ghost use Rattle.shard_core.specs.Answers.{answer_of};
 ghost use Rattle.shard_core.specs.ShardEvents.{Attach, Subscribe, Unsubscribe, Reply, Shut, Detach, Take, Attached, Unsubscribed, Replied, WasShut, Detached, Taken};
 ghost use Rattle.shard_core.specs.Shards.{is_open as opened};
 ghost use Rattle.shard_core.specs.ShardSteps.{shard_refusal};
-ghost use Rattle.node_threads.specs.AtWork.{Does, TakesBytes};
+ghost use Rattle.node_threads.specs.AtWork.{Does, TakesBytes, at_start};
+ghost use Rattle.node_threads.specs.Tapes.{IsTape};
 ghost use Rattle.node_threads.specs.Turns.{Drops, Turns};
 
+use crate::keeping::{
+    count_of, length_of, note_shard, subscribe_event, told_subscribed, unsubscribe_event,
+};
 use claim_cells::Cells;
 use client_frames::{ErrText, ReplyFrame};
 use interest::Delta;
-use node_threads::{Gate, NodeName, ShardState, Turned};
+use node_threads::{Gate, NodeName, ShardEntry, ShardEvent, ShardState, ShardTold, Tape, Turned};
 use outbox::Entry;
 use shard_core::{Closed, Recipients, ShardFault, Subscribed};
 use std::alloc::Global;
@@ -22,34 +26,49 @@ use std::sync::{Arc, Wait};
 use sub_table::SubTable;
 use subj::{ConnId, Failure, Key, Sid, SubId, Turn};
 
-/// What stands under the lock of a shard: its state, with the race. (Profile.)
+/// What stands under the lock of a shard: its state, with the race, and its tape. (Profile.)
 ///
-/// Seen as the state. Whoever holds the lock may make many calls, one after the other.
+/// Seen as the state. Whoever holds the lock may make many calls, one after the other. Each step that they make
+/// stands on the tape, where one is kept: the tape is all that the shard ever did.
 #[derive(Drop)]
 pub struct LockedShard<T: SubTable, N: NodeName> {
     pub(crate) state: ShardState<T, N>,
     pub(crate) cells: Arc<Cells, Global>,
+    pub(crate) tape: Tape<ShardEntry>,
+    alloc: Global,
 }
 
 impl<T: SubTable, N: NodeName> Model for LockedShard<T, N> {
     ghost use Rattle.std.specs.Prelude.{◌≡◌};
     ghost use Rattle.std.specs.Arc.{arc_value};
     ghost use Rattle.node_threads.specs.AtWork.{AtWork};
+    ghost use Rattle.node_threads.specs.Tapes.{IsTape};
 
     ghost Value = { AtWork };
 
     ghost view = { λ s. s.state };
 
-    ghost invariant = { λ s. arc_value s.cells ≡ N.race };
+    ghost invariant = { λ s. (arc_value s.cells ≡ N.race) × IsTape N.race.shards s.state s.tape };
 }
 
 impl<T: SubTable, N: NodeName> LockedShard<T, N> {
-    /// The state of a shard, with its race.
-    pub(crate) fn new(state: ShardState<T, N>, cells: Arc<Cells, Global>) -> LockedShard<T, N>
-        requires { arc_value cells ≡ N.race }
+    /// The state of a shard that has done nothing, with its race; `keep` says whether its steps are written down.
+    pub(crate) fn new(
+        alloc: Global,
+        state: ShardState<T, N>,
+        cells: Arc<Cells, Global>,
+        keep: bool,
+    ) -> LockedShard<T, N>
+        requires race { arc_value cells ≡ N.race }
+        requires fresh { state ≡ at_start state.part.shard N.race.shards }
         ensures { result ≡ state }
     {
-        LockedShard { state, cells }
+        LockedShard {
+            state,
+            cells,
+            tape: Tape::new(alloc, keep),
+            alloc,
+        }
     }
 
     /// Which shard it is, counted from 1.
@@ -63,7 +82,13 @@ impl<T: SubTable, N: NodeName> LockedShard<T, N> {
     pub fn attach(&mut self) -> Result<ConnId, Failure<ShardFault>>
         ensures { IsAnswered (shard_refusal self.old.state Attach) (λ conn. Does self.old Attach (Attached conn) self.new) (self.new ≡ self.old) result }
     {
-        self.state.attach()
+        let conn = self.state.attach()?;
+        note_shard(
+            &mut self.tape,
+            Some(ShardEvent::Attach),
+            ShardTold::Attached(conn),
+        );
+        Ok(conn)
     }
 
     /// [`ShardState::subscribe`].
@@ -75,7 +100,10 @@ impl<T: SubTable, N: NodeName> LockedShard<T, N> {
     ) -> Result<Subscribed, Failure<ShardFault>>
         ensures { IsAnswered (shard_refusal self.old.state (Subscribe conn key sid)) (λ done. Does self.old (Subscribe conn key sid) (answer_of done) self.new) (self.new ≡ self.old) result }
     {
-        self.state.subscribe(conn, key, sid)
+        let event = subscribe_event(self.alloc, &self.tape, conn, &key, &sid);
+        let done = self.state.subscribe(conn, key, sid)?;
+        note_shard(&mut self.tape, event, told_subscribed(done));
+        Ok(done)
     }
 
     /// [`ShardState::unsubscribe`].
@@ -87,35 +115,73 @@ impl<T: SubTable, N: NodeName> LockedShard<T, N> {
     ) -> Result<Option<SubId>, ShardFault>
         ensures { IsDecided (shard_refusal self.old.state (Unsubscribe conn sid.now max)) (λ ended. Does self.old (Unsubscribe conn sid.now max) (Unsubscribed (option_to_list ended)) self.new) (self.new ≡ self.old) result }
     {
-        self.state.unsubscribe(conn, sid, max)
+        let ended = self.state.unsubscribe(conn, sid, max)?;
+        let event = unsubscribe_event(self.alloc, &self.tape, conn, sid, max);
+        note_shard(
+            &mut self.tape,
+            event,
+            ShardTold::Unsubscribed(count_of(ended)),
+        );
+        Ok(ended)
     }
 
     /// [`ShardState::reply`].
     pub fn reply(&mut self, conn: ConnId, frame: &ReplyFrame) -> Result<Closed, Failure<ShardFault>>
         ensures { IsAnswered (shard_refusal self.old.state (Reply conn frame.now)) (λ closed. Does self.old (Reply conn frame.now) (Replied closed.shut closed.ended.items) self.new) (self.new ≡ self.old) result }
     {
-        self.state.reply(conn, frame)
+        let closed = self.state.reply(conn, frame)?;
+        let event = ShardEvent::Reply {
+            conn,
+            frame: *frame,
+        };
+        let told = ShardTold::Replied {
+            shut: closed.shut,
+            ended: length_of(&closed.ended),
+        };
+        note_shard(&mut self.tape, Some(event), told);
+        Ok(closed)
     }
 
     /// [`ShardState::shut`].
     pub fn shut(&mut self, conn: ConnId, text: ErrText) -> Result<Vec<SubId>, Failure<ShardFault>>
         ensures { IsAnswered (shard_refusal self.old.state (Shut conn text)) (λ ended. Does self.old (Shut conn text) (WasShut ended.items) self.new) (self.new ≡ self.old) result }
     {
-        self.state.shut(conn, text)
+        let ended = self.state.shut(conn, text)?;
+        let event = ShardEvent::Shut { conn, text };
+        note_shard(
+            &mut self.tape,
+            Some(event),
+            ShardTold::WasShut(length_of(&ended)),
+        );
+        Ok(ended)
     }
 
     /// [`ShardState::detach`].
     pub fn detach(&mut self, conn: ConnId) -> Result<Vec<SubId>, Failure<ShardFault>>
         ensures { IsAnswered (shard_refusal self.old.state (Detach conn)) (λ ended. Does self.old (Detach conn) (Detached ended.items) self.new) (self.new ≡ self.old) result }
     {
-        self.state.detach(conn)
+        let ended = self.state.detach(conn)?;
+        let event = ShardEvent::Detach { conn };
+        note_shard(
+            &mut self.tape,
+            Some(event),
+            ShardTold::Detached(length_of(&ended)),
+        );
+        Ok(ended)
     }
 
     /// [`ShardState::take`].
     pub fn take(&mut self, conn: ConnId, count: usize) -> Result<Vec<Entry>, Failure<ShardFault>>
         ensures { IsAnswered (shard_refusal self.old.state (Take conn count)) (λ entries. Does self.old (Take conn count) (Taken entries.items) self.new) (self.new ≡ self.old) result }
     {
-        self.state.take(conn, count)
+        let entries = self.state.take(conn, count)?;
+        let event = ShardEvent::Take { conn, count };
+        note_shard(
+            &mut self.tape,
+            Some(event),
+            ShardTold::Taken(length_of(&entries)),
+        );
+        Ok(entries)
     }
 
     /// [`ShardState::take_bytes`].
@@ -127,7 +193,10 @@ impl<T: SubTable, N: NodeName> LockedShard<T, N> {
     ) -> Result<usize, Failure<ShardFault>>
         ensures { IsAnswered (shard_refusal self.old.state (Take conn count)) (λ taken. TakesBytes self.old conn count taken out.old.items out.new.items self.new) ((self.new ≡ self.old) × (out.new.items ≡ out.old.items)) result }
     {
-        self.state.take_bytes(conn, count, out)
+        let taken = self.state.take_bytes(conn, count, out)?;
+        let event = ShardEvent::Take { conn, count };
+        note_shard(&mut self.tape, Some(event), ShardTold::Taken(taken));
+        Ok(taken)
     }
 
     /// [`ShardState::is_open`].
@@ -160,13 +229,22 @@ impl<T: SubTable, N: NodeName> LockedShard<T, N> {
     pub fn turn<G: Gate, R: Wait>(&mut self, rt: &R, gate: &G) -> Turned
         ensures { Turns self.old result self.new }
     {
-        self.state.turn(rt, &self.cells, gate)
+        self.state.turn(rt, &self.cells, gate, &mut self.tape)
     }
 
     /// [`ShardState::drop_job`]. May wait.
     pub fn drop_job<R: Wait>(&mut self, rt: &R) -> Result<Turn, Failure<ShardFault>>
         ensures { Drops self.old result self.new }
     {
-        self.state.drop_job(rt, &self.cells)
+        self.state.drop_job(rt, &self.cells, &mut self.tape)
+    }
+
+    /// What is left of it: the state, and its tape.
+    pub(crate) fn into_parts(self) -> (ShardState<T, N>, Tape<ShardEntry>)
+        ensures state { result.0 ≡ self }
+        ensures tape { IsTape N.race.shards self result.1 }
+    {
+        let LockedShard { state, tape, .. } = self;
+        (state, tape)
     }
 }

@@ -34,6 +34,8 @@ pub struct ThreadNode<T: SubTable, N: NodeName> {
     pub(crate) shards: Vec<Mutex<LockedShard<T, N>>>,
     pub(crate) unparkers: Vec<Unparker>,
     pub(crate) stopped: AtomicBool,
+    pub(crate) keep: bool,
+    ghost keeps: { keep ≡ N.keep },
     ghost all: { vec_len shards ≡ N.race.shards },
 }
 
@@ -45,6 +47,7 @@ fn locked_shards<T: SubTable, N: NodeName>(
     alloc: Global,
     cells: &Arc<Cells, Global>,
     count: u64,
+    keep: bool,
     parts: Vec<ShardParts>,
 ) -> Result<Shards<T, N>, AllocError>
     requires race { (arc_value cells.now ≡ N.race) × (count ≡ N.race.shards) }
@@ -58,7 +61,7 @@ fn locked_shards<T: SubTable, N: NodeName>(
     for ShardParts { seat, near, far } in parts {
         lines.push(Line::new(seat.shard(), near))?;
         let state = ShardState::new(alloc, seat, count, far)?;
-        let shard = LockedShard::new(state, Arc::try_clone(cells)?);
+        let shard = LockedShard::new(alloc, state, Arc::try_clone(cells)?, keep);
         shards.push(Mutex::new(shard))?;
     }
     Ok((lines, shards))
@@ -73,7 +76,7 @@ impl<T: SubTable, N: NodeName> ThreadNode<T, N> {
     {
         let Parts {
             server,
-            keep: _,
+            keep,
             cells,
             hub,
             shards,
@@ -81,14 +84,15 @@ impl<T: SubTable, N: NodeName> ThreadNode<T, N> {
         } = parts;
         let count = server.shards();
         let cells = Arc::new(alloc, cells)?;
-        let (lines, shards) = locked_shards(alloc, &cells, count, shards)?;
+        let (lines, shards) = locked_shards(alloc, &cells, count, keep, shards)?;
         let state = HubState::new(alloc, server, &cells, hub, lines)?;
-        let hub = Mutex::new(LockedHub::new(state, cells));
+        let hub = Mutex::new(LockedHub::new(alloc, state, cells, keep));
         Ok(ThreadNode {
             hub,
             shards,
             unparkers,
             stopped: AtomicBool::new(false),
+            keep,
         })
     }
 

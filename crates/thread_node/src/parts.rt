@@ -21,7 +21,8 @@ pub(crate) struct ShardParts {
 /// What a server on threads is made of: the race of its shards with all seats, a lane for each shard, and
 /// what wakes each shard's worker. (Profile.)
 ///
-/// Seen as the server, its race, its lanes, that of shard 1 first, and whether its calls' answers are to be kept in writing.
+/// Seen as the server, its race, its lanes, that of shard 1 first, and whether what it does is to be
+/// written down.
 #[derive(Drop)]
 pub struct Parts {
     pub(crate) server: Server,
@@ -69,7 +70,8 @@ fn parkers(alloc: Global, shards: u64) -> Result<(Vec<Parker>, Vec<Unparker>), A
 
 impl Parts {
     /// The parts of this server, which has done nothing, and a parker for the worker of each shard, that of
-    /// shard 1 first. `keep` says whether its calls' answers are to be kept in writing; nothing is kept yet.
+    /// shard 1 first. `keep` says whether what is done under its locks is to be written down: each step then takes
+    /// memory, for as long as the server lives, and [`ThreadNode::finish`](crate::ThreadNode::finish) tells all of them.
     pub fn new(
         alloc: Global,
         server: Server,

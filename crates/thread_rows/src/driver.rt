@@ -5,7 +5,8 @@ ghost use Rattle.std.specs.Prelude.{◌≡◌};
 
 use claim_cells::{Cells, HubSeat};
 use hub_core::HubFault;
-use node_threads::{HubState, NodeName, Open, ShardState, Turned};
+use node_threads::{HubState, NodeName, Open, ShardState, Tape, Turned};
+use std::alloc::Global;
 use std::sync::Wait;
 use std::test::Fail;
 use sub_table::ListTable;
@@ -36,12 +37,13 @@ pub fn taken<N: NodeName>(
 /// What a turn comes to.
 pub fn turned<N: NodeName, R: Wait>(
     rt: &R,
+    alloc: Global,
     shard: &mut ShardState<ListTable, N>,
     cells: &Cells,
 ) -> Turned
     requires { cells.now ≡ N.race }
 {
-    shard.turn(rt, cells, &Open)
+    shard.turn(rt, cells, &Open, &mut Tape::new(alloc, false))
 }
 
 /// Issues the next turn. Gives whether it was issued.

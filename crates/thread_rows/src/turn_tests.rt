@@ -131,15 +131,16 @@ fn waits_for_its_turn<N: NodeName, R: Abort + Wait>(
     requires race { cells.now ≡ N.race }
     requires pushed { near.old.pushed ≡ [] }
 {
-    assert_eq!(rt; turned(rt, shard, cells), Turned::Idle);
+    assert_eq!(rt; turned(rt, alloc, shard, cells), Turned::Idle);
     assert!(rt; hand_over(rt, alloc, near)?);
-    assert_eq!(rt; turned(rt, shard, cells), Turned::Idle);
+    assert_eq!(rt; turned(rt, alloc, shard, cells), Turned::Idle);
     Ok(())
 }
 
 /// Then it is worked, and its member has the message.
 fn works_it<N: NodeName, R: Abort + Wait>(
     rt: &R,
+    alloc: Global,
     shard: &mut ShardState<ListTable, N>,
     cells: &Cells,
     conn: ConnId,
@@ -147,9 +148,9 @@ fn works_it<N: NodeName, R: Abort + Wait>(
     requires { cells.now ≡ N.race }
 {
     let first = Turn::new(1).ok_or("a turn")?;
-    assert_eq!(rt; turned(rt, shard, cells), Turned::Worked(first));
+    assert_eq!(rt; turned(rt, alloc, shard, cells), Turned::Worked(first));
     assert_eq!(rt; taken(shard, conn)?, 1);
-    assert_eq!(rt; turned(rt, shard, cells), Turned::Idle);
+    assert_eq!(rt; turned(rt, alloc, shard, cells), Turned::Idle);
     Ok(())
 }
 
@@ -169,7 +170,7 @@ fn works_in_turn<N: NodeName, R: Abort + Wait>(
     let conn = member(shard, alloc)?;
     waits_for_its_turn(rt, alloc, shard, cells, near)?;
     assert!(rt; issue(cells, hub));
-    works_it(rt, shard, cells, conn)
+    works_it(rt, alloc, shard, cells, conn)
 }
 
 fn works_alone<N: NodeName, R: Abort + Wait>(
@@ -245,9 +246,9 @@ fn reaches_the_member<N: NodeName, R: Abort + Wait>(
     let conn = member(shard, alloc)?;
     assert_eq!(rt; collected(hub, shard)?, 1);
     assert_eq!(rt; published(hub, cells, conn, &said(alloc)?)?, Some(1));
-    assert_eq!(rt; turned(rt, shard, cells), Turned::Idle);
+    assert_eq!(rt; turned(rt, alloc, shard, cells), Turned::Idle);
     hub.push_jobs(rt);
-    works_it(rt, shard, cells, conn)
+    works_it(rt, alloc, shard, cells, conn)
 }
 
 /// A window of publications is issued in a row, and no more.
@@ -281,7 +282,7 @@ fn fills_the_window<N: NodeName, R: Abort + Wait>(
     let said = said(alloc)?;
     let first = Turn::new(1).ok_or("a turn")?;
     issues_a_window(rt, hub, cells, &said)?;
-    assert_eq!(rt; turned(rt, shard, cells), Turned::Worked(first));
+    assert_eq!(rt; turned(rt, alloc, shard, cells), Turned::Worked(first));
     let next = published(hub, cells, ConnId::new(1), &said)?;
     assert_eq!(rt; next, Some(WINDOW + 1));
     Ok(())

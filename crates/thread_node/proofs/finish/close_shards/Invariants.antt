@@ -1,4 +1,4 @@
-use Rattle.std.proofs.Common.{List, All}
+use Rattle.std.proofs.Common.{List, All, map}
 use Rattle.subj.specs.declared.jobs.Job.{Job}
 use Rattle.node_threads.specs.Outlets.{AreFirst}
 use Rattle.thread_node.specs.Reports.{AreClosed}
@@ -7,4 +7,4 @@ use Rattle.thread_node.proofs.finish.close_shards.Given as goal
 abbrev pub invariant-loop-line : goal.invariant-loop-line
 invariant-loop-line g l =
     (issued : List Job) → All (λ line. AreFirst line.pushed issued) l.initial.line-iterator.a.rest.items
-    → All (λ line. AreFirst line.pushed issued) l.line-iterator.a.rest.items × AreClosed g.N.NodeName.race issued l.seats.items
+    → All (λ line. AreFirst line.pushed issued) l.line-iterator.a.rest.items × AreClosed g.N.NodeName.race issued l.keep l.seats.items (map (λ entries. entries.items) l.tapes.items)

@@ -1,4 +1,4 @@
-use Rattle.std.proofs.Common.{◌≡◌, ◌+◌, [], ◌∷◌, ◌++◌, All, length, vec_len, sym, ap, ◌∙◌, subst, arith}
+use Rattle.std.proofs.Common.{◌≡◌, ◌+◌, [], All, length, sym, ap, ◌∙◌, subst, arith}
 use Rattle.thread_node.specs.Parts.{IsNamed}
 use Rattle.thread_node.proofs.Starting.{all_first, all_rest, all_snoc, none_pushed}
 use Rattle.thread_node.proofs.node.locked_shards.Goals as goal

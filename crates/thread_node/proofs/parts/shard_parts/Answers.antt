@@ -1,4 +1,4 @@
-use Rattle.std.proofs.Common.{◌≡◌, [], ◌∷◌, ◌++◌, All, map, sym, ap, ◌∙◌, subst, append_assoc}
+use Rattle.std.proofs.Common.{[], ◌∷◌, ◌++◌, All, map, sym, ap, ◌∙◌, subst, append_assoc}
 use Rattle.thread_node.specs.declared.parts.ShardParts.{ShardParts}
 use Rattle.thread_node.specs.Parts.{IsFreshLane}
 use Rattle.thread_node.proofs.Starting.{all_snoc, map_snoc}

@@ -1,37 +1,53 @@
-use Rattle.std.proofs.Common.{◌≡◌, All, length, refl, sym, ap, ◌∙◌, subst}
+use Rattle.std.proofs.Common.{◌≡◌, map, refl, sym, ◌∙◌, subst}
 use Rattle.claim_cells.specs.declared.parts.HubPart.{HubPart}
 use Rattle.claim_cells.specs.Calls.{AllOf, HasEach, IsClosed}
 use Rattle.claim_cells.specs.Seats.{RaceId}
-use Rattle.thread_node.proofs.Legal.{all_of, has_each, hub_run, legal, tells}
+use Rattle.node_threads.specs.AtHub.{AtHub}
+use Rattle.thread_node.specs.HubTapes.{IsHubTape}
+use Rattle.thread_node.proofs.Legal.{all_of, has_each, hub_run, is_written, legal, tells}
 use Rattle.thread_node.proofs.node.ThreadNode.finish.Goals as goal
 
 pub close-requires-clause-shards : goal.close-requires-clause-shards
 close-requires-clause-shards g c =
-    let s = c.state.inside in
-    let closed = c.in_ok-seats.ensures.1 s.state.issued c.into_parts-seat.ensures.lines in
-    let cells : g.N.NodeName.race ≡ c.in-Some.cells = sym c.state.invariant ∙ sym c.in-Some.ensures in
-    subst (λ (r : RaceId). AllOf r c.in_ok-seats.seats.items) cells (all_of g.N.NodeName.race s.state.issued c.in_ok-seats.seats.items closed)
+    let w = c.into_parts-state.result.0 in
+    let race = g.N.NodeName.race in
+    let seats = c.in_ok-seats.seats.items in
+    let tapes = map (λ entries. entries.items) c.in_ok-seats.worked.items in
+    let kept = c.args.self.keep in
+    let closed = c.in_ok-seats.ensures.1 w.issued c.into_parts-seat.ensures.lines in
+    let cells : race ≡ c.in-Some.cells = sym c.into_parts-state.ensures.race ∙ sym c.in-Some.ensures in
+    subst (λ (r : RaceId). AllOf r seats) cells (all_of race w.issued kept seats tapes closed)
 
 pub close-requires-clause-each : goal.close-requires-clause-each
 close-requires-clause-each g c =
-    let s = c.state.inside in
-    let closed = c.in_ok-seats.ensures.1 s.state.issued c.into_parts-seat.ensures.lines in
-    let cells : g.N.NodeName.race ≡ c.in-Some.cells = sym c.state.invariant ∙ sym c.in-Some.ensures in
-    let count = c.in_ok-seats.ensures.0 ∙ c.args.self.all in
-    subst (λ (r : RaceId). HasEach r.shards c.in_ok-seats.seats.items) cells (has_each g.N.NodeName.race s.state.issued c.in_ok-seats.seats.items closed g.N.NodeName.race.shards count)
-
-pub returns : goal.returns
-returns g c =
-    let s = c.state.inside in
+    let w = c.into_parts-state.result.0 in
     let race = g.N.NodeName.race in
     let seats = c.in_ok-seats.seats.items in
-    let closed = c.in_ok-seats.ensures.1 s.state.issued c.into_parts-seat.ensures.lines in
-    let cells : race ≡ c.in-Some.cells = sym c.state.invariant ∙ sym c.in-Some.ensures in
+    let tapes = map (λ entries. entries.items) c.in_ok-seats.worked.items in
+    let kept = c.args.self.keep in
+    let closed = c.in_ok-seats.ensures.1 w.issued c.into_parts-seat.ensures.lines in
+    let cells : race ≡ c.in-Some.cells = sym c.into_parts-state.ensures.race ∙ sym c.in-Some.ensures in
+    let count = c.in_ok-seats.ensures.0 ∙ c.args.self.all in
+    subst (λ (r : RaceId). HasEach r.shards seats) cells (has_each race w.issued kept seats tapes closed race.shards count)
+
+pub returns-clause-legal : goal.returns-clause-legal
+returns-clause-legal g c =
+    let w = c.into_parts-state.result.0 in
+    let race = g.N.NodeName.race in
+    let seats = c.in_ok-seats.seats.items in
+    let tapes = map (λ entries. entries.items) c.in_ok-seats.worked.items in
+    let kept = c.args.self.keep in
+    let closed = c.in_ok-seats.ensures.1 w.issued c.into_parts-seat.ensures.lines in
+    let cells : race ≡ c.in-Some.cells = sym c.into_parts-state.ensures.race ∙ sym c.in-Some.ensures in
     let count = c.in_ok-seats.ensures.0 ∙ c.args.self.all in
     let told = c.in_ok-closed.closed in
-    let over = subst (λ (r : RaceId). IsClosed r s.state.part seats told.issued told.finished told.cells.items) (sym cells) (subst (λ (h : HubPart). IsClosed c.in-Some.cells h seats told.issued told.finished told.cells.items) c.into_parts-seat.ensures.seat.1 c.in_ok-closed.ensures) in (
-      hub_run race s.state.issued seats closed s.state refl c.into_parts-seat.ensures.done count told.issued told.finished told.cells.items over,
+    let tape = c.into_parts-state.result.2 in
+    let wrote = subst (λ (v : AtHub). IsHubTape v tape) (sym c.into_parts-state.ensures.state) c.into_parts-state.ensures.tape in
+    let at_hub = c.into_parts-seat.ensures.done in
+    let over = subst (λ (r : RaceId). IsClosed r w.part seats told.issued told.finished told.cells.items) (sym cells) (subst (λ (h : HubPart). IsClosed c.in-Some.cells h seats told.issued told.finished told.cells.items) c.into_parts-seat.ensures.seat.1 c.in_ok-closed.ensures) in (
+      hub_run race w.issued kept seats tapes closed w refl at_hub tape wrote count told.issued told.finished told.cells.items over,
       closed.0,
-      legal race s.state.issued seats closed s.state refl c.into_parts-seat.ensures.done count told.issued told.finished told.cells.items over,
-      tells race s.state.issued seats closed s.state refl c.into_parts-seat.ensures.done count told.issued told.finished told.cells.items over,
+      legal race w.issued kept seats tapes closed w refl at_hub tape wrote count told.issued told.finished told.cells.items over,
+      tells race w.issued kept seats tapes closed w refl at_hub tape wrote count told.issued told.finished told.cells.items over,
+      is_written race w.issued kept seats tapes closed w refl at_hub tape wrote count told.issued told.finished told.cells.items over c.in_ok-hub.hub.items c.in_ok-hub.ensures,
     )

@@ -1,0 +1,87 @@
+-- What is kept in writing of what a hub and its sessions did.
+use Rattle.std.specs.Prelude.{◌≡◌, ℕ, List, [], ◌∷◌, ◌++◌, length, map, Option, Some, None}
+use Rattle.hub_core.specs.Events as of_hub
+use Rattle.route_session.specs.Events as of_sessions
+use Rattle.node_parts.specs.Sides.{Event, ByHub, BySessions, Answer, OfHub, OfSessions, Done}
+use Rattle.node_parts.specs.declared.told.Received.{Received}
+use Rattle.node_parts.specs.declared.told.Received.TheVariants.{Routed, Heard}
+use Rattle.node_threads.specs.AtHub.{AtHub, HasDone}
+use Rattle.node_threads.specs.Tapes.{Grows}
+use Rattle.thread_node.specs.declared.hub_entries.HubEvent.{HubEvent}
+use Rattle.thread_node.specs.declared.hub_entries.HubEvent.TheVariants as event
+use Rattle.thread_node.specs.declared.hub_entries.HubTold.{HubTold}
+use Rattle.thread_node.specs.declared.hub_entries.HubTold.TheVariants as told
+use Rattle.thread_node.specs.declared.hub_entries.HubEntry.{HubEntry}
+
+-- ---- an answer in numbers; a peer comes up and is cut by its session alone, whose answer tells of it
+
+abbrev pub told_by_hub : of_hub.Answer → List HubTold
+told_by_hub (of_hub.Issued job frames) = told.Issued job.turn (length frames) ∷ []
+told_by_hub (of_hub.Routed job) = told.Routed job.turn ∷ []
+told_by_hub (of_hub.Heard mark) = told.Heard mark ∷ []
+told_by_hub (of_hub.Collected changes frames cut) = told.Collected (length changes) (length cut) ∷ []
+told_by_hub (of_hub.IsUp snapshot) = []
+told_by_hub of_hub.WasCut = []
+told_by_hub (of_hub.Taken frames) = told.Taken (length frames) ∷ []
+
+abbrev pub told_by_sessions : of_sessions.Answer → List HubTold
+told_by_sessions (of_sessions.Dialed session) = told.Dialed session ∷ []
+told_by_sessions (of_sessions.Accepted session info) = told.Accepted session ∷ []
+told_by_sessions (of_sessions.KeptAfterInfo instead_of connect) = told.KeptAfterInfo instead_of ∷ []
+told_by_sessions (of_sessions.Kept instead_of) = told.Kept instead_of ∷ []
+told_by_sessions (of_sessions.WasCut peer) = told.WasCut peer ∷ []
+
+abbrev pub told_by : Answer → List HubTold
+told_by (OfHub answer) = told_by_hub answer
+told_by (OfSessions answer) = told_by_sessions answer
+
+-- of a frame of a peer
+abbrev pub of_received : Received → HubTold
+of_received (Routed turn) = told.Routed turn
+of_received (Heard mark) = told.Heard mark
+
+-- ---- an event; the greatest incarnation that the hub has seen of a sender follows from what was done before
+
+abbrev pub asked_of_hub : of_hub.Event → List HubEvent
+asked_of_hub (of_hub.Publish p finished) = event.Publish p.conn p.said p.word finished ∷ []
+asked_of_hub (of_hub.Receive frame finished) = event.Receive frame finished ∷ []
+asked_of_hub (of_hub.Collect shard deltas) = event.Collect shard deltas ∷ []
+asked_of_hub (of_hub.Up peer inc) = []
+asked_of_hub (of_hub.Cut peer) = []
+asked_of_hub (of_hub.TakeFrom peer count) = event.TakeFrames peer count ∷ []
+
+abbrev pub asked_of_sessions : of_sessions.Event → List HubEvent
+asked_of_sessions (of_sessions.Dial peer) = event.Dial peer ∷ []
+asked_of_sessions of_sessions.Accept = event.Accept ∷ []
+asked_of_sessions (of_sessions.OnInfo session info least) = event.Info session info ∷ []
+asked_of_sessions (of_sessions.OnConnect session connect least) = event.Connect session connect ∷ []
+asked_of_sessions (of_sessions.Cut session) = event.Cut session ∷ []
+
+abbrev pub asked_of : Event → List HubEvent
+asked_of (ByHub event) = asked_of_hub event
+asked_of (BySessions event) = asked_of_sessions event
+
+-- ---- what an entry says of a step
+
+abbrev pub hub_entry : HubEvent → HubTold → HubEntry
+hub_entry event told = record { event = event; told = told }
+
+abbrev pub entries_with : List HubEvent → List HubTold → List HubEntry
+entries_with [] told = []
+entries_with (event ∷ events) told = map (hub_entry event) told
+
+-- one, of whatever may be asked
+abbrev pub entries_in : Event → Answer → List HubEntry
+entries_in event answer = entries_with (asked_of event) (told_by answer)
+
+-- of all steps, the newest of which stands first in their list, and last on the tape
+abbrev pub hub_entries : List Done → List HubEntry
+hub_entries [] = []
+hub_entries (d ∷ earlier) = hub_entries earlier ++ entries_in d.event d.answer
+
+-- ---- a hub at work, and its tape
+
+-- all that it did since its start is on its tape, where that is kept
+pub record IsHubTape (w : AtHub) (tape : Option (List HubEntry)) : Type 0 where
+  pub done : HasDone w
+  pub grows : Grows (Some []) (hub_entries done.steps) tape

@@ -1,0 +1,90 @@
+//! What is kept in writing of what a hub and its sessions did.
+
+use node_threads::Deltas;
+use route_session::SessionId;
+use route_values::{Numbered, RouteConnect, RouteInfo};
+use subj::{ConnId, Finished, Pub, Turn};
+
+/// What a hub or its sessions were asked. (Profile.)
+///
+/// Peers are named by their places in the cluster, from 0. What crosses a lock comes along: the last turns that the
+/// shards finished, as the hub had loaded them last, or a shard's deltas.
+#[derive(Debug, Drop)]
+pub enum HubEvent {
+    /// A client published, on the connection of this number; the word decided who serves each queue name.
+    Publish {
+        conn: ConnId,
+        said: Pub,
+        word: u64,
+        finished: Finished,
+    },
+    /// A frame of a peer.
+    Receive {
+        frame: Numbered,
+        finished: Finished,
+    },
+    /// The deltas of the shard of this number.
+    Collect {
+        shard: u64,
+        deltas: Deltas,
+    },
+    /// The first frames that waited for the peer were taken, at most so many.
+    TakeFrames {
+        peer: usize,
+        count: usize,
+    },
+    /// The peer was dialed.
+    Dial {
+        peer: usize,
+    },
+    /// A session was accepted.
+    Accept,
+    /// The `INFO` of the server that was dialed.
+    Info {
+        session: SessionId,
+        info: RouteInfo,
+    },
+    /// The `CONNECT` of the server that dialed.
+    Connect {
+        session: SessionId,
+        connect: RouteConnect,
+    },
+    /// The session was ended.
+    Cut {
+        session: SessionId,
+    },
+}
+
+/// What a hub or its sessions answered, in numbers. (Profile.)
+///
+/// The rest of an answer is not kept: it follows from the events.
+#[derive(Clone, Copy, Debug, PartialEq, Eq)]
+pub enum HubTold {
+    /// A publication: the turn of its job, and how many frames were put for peers.
+    Issued { turn: Turn, frames: usize },
+    /// A message of a peer: the turn of its job.
+    Routed(Turn),
+    /// News of a peer: the number of the last change of interest that is known now.
+    Heard(u64),
+    /// The deltas of a shard: how many changes of interest the peers are told, and how many peers were cut.
+    Collected { changes: usize, cut: usize },
+    /// How many frames were taken for a peer.
+    Taken(usize),
+    /// The session that was dialed.
+    Dialed(SessionId),
+    /// The session that was accepted.
+    Accepted(SessionId),
+    /// An `INFO`: the session that was kept for the peer before.
+    KeptAfterInfo(Option<SessionId>),
+    /// A `CONNECT`: the session that was kept for the peer before.
+    Kept(Option<SessionId>),
+    /// The end of a session: the peer that is cut with it.
+    WasCut(Option<usize>),
+}
+
+/// A step of a hub and its sessions: what they were asked, and what they answered. (Profile.)
+#[derive(Debug, Drop)]
+pub struct HubEntry {
+    pub event: HubEvent,
+    pub told: HubTold,
+}
