@@ -5,6 +5,8 @@
 #[cfg(test)]
 mod node_tests;
 #[cfg(test)]
+mod report_tests;
+#[cfg(test)]
 mod servers;
 #[cfg(test)]
 mod worker_tests;

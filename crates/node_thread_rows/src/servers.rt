@@ -29,7 +29,7 @@ pub fn hello(alloc: Global) -> Result<Pub, Fail> {
 }
 
 /// The key of `foo`, in the queue group `work`.
-fn work_of_foo(alloc: Global) -> Result<Key, Fail> {
+pub fn work_of_foo(alloc: Global) -> Result<Key, Fail> {
     let queue = Some(QueueName::read(alloc, b"work")?);
     let pattern = Pattern::read(alloc, b"foo")?;
     Ok(Key { pattern, queue })
@@ -78,7 +78,7 @@ pub fn told<N: NodeName, R: Wait>(
     alloc: Global,
     node: ThreadNode<ListTable, N>,
 ) -> Option<[u64; 3]> {
-    let report = node.finish(rt, alloc).ok()?;
+    let report = node.finish(rt, alloc, Vec::new(alloc)).ok()?;
     let first = report.finished.of(1).get();
     let second = report.finished.of(2).get();
     Some([report.issued.get(), first, second])

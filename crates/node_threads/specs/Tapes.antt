@@ -1,5 +1,6 @@
 -- What is kept in writing of what was done under a lock.
 use Rattle.std.specs.Prelude.{◌≡◌, ℕ, Bool, List, [], ◌∷◌, ◌++◌, length, Option, Some, None}
+use Rattle.interest.specs.declared.changes.Delta.{Delta}
 use Rattle.subj.specs.declared.jobs.Job.{Job}
 use Rattle.shard_core.specs.ShardEvents as of_shard
 use Rattle.node_threads.specs.AtWork.{AtWork, Makes, at_start}
@@ -38,7 +39,25 @@ told_of of_shard.Lost = told.Work
 told_of (of_shard.Won sub placed ended) = told.Work
 told_of of_shard.Finished = told.Work
 told_of (of_shard.Dropped job) = told.Dropped (turn_of job)
-told_of (of_shard.Collected deltas) = told.Collected deltas
+told_of (of_shard.Collected deltas) = told.Work
+
+-- the deltas that are handed to the hub
+abbrev pub deltas_in : of_shard.Answer → List Delta
+deltas_in (of_shard.Attached conn) = []
+deltas_in (of_shard.Opened sub) = []
+deltas_in of_shard.AlreadyOpen = []
+deltas_in (of_shard.Unsubscribed ended) = []
+deltas_in (of_shard.Replied shut ended) = []
+deltas_in (of_shard.WasShut ended) = []
+deltas_in (of_shard.Detached ended) = []
+deltas_in (of_shard.Taken entries) = []
+deltas_in (of_shard.Began placed closed ended) = []
+deltas_in of_shard.Nobody = []
+deltas_in of_shard.Lost = []
+deltas_in (of_shard.Won sub placed ended) = []
+deltas_in of_shard.Finished = []
+deltas_in (of_shard.Dropped job) = []
+deltas_in (of_shard.Collected deltas) = deltas
 
 abbrev pub entry : ShardEvent → ShardTold → ShardEntry
 entry event told = record { event = event; told = told }
@@ -68,7 +87,7 @@ entry_of (of_shard.Begin job) answer = begin_entry job
 entry_of (of_shard.Claim index won) answer = claim_entry index won
 entry_of of_shard.End answer = end_entry
 entry_of (of_shard.DropJob waiting) answer = entry (event.DropJob waiting) (told_of answer)
-entry_of of_shard.Collect answer = entry event.Collect (told_of answer)
+entry_of of_shard.Collect answer = entry (event.Collect (deltas_in answer)) told.Work
 
 -- of all steps, the newest of which stands first in their list, and last on the tape
 abbrev pub entries_of : List Done → List ShardEntry

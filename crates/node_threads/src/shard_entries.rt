@@ -95,14 +95,14 @@ pub enum ShardEvent {
     End,
     /// Drops the job in hand, or else this one.
     DropJob(Option<Job>),
-    /// Hands the deltas to the hub.
-    Collect,
+    /// Handed these deltas to the hub.
+    Collect(Deltas),
 }
 
-/// What a shard answered: numbers, and the deltas that it handed over. (Profile.)
+/// What a shard answered, in numbers. (Profile.)
 ///
 /// The rest of an answer is not kept: it follows from the events.
-#[derive(Debug, Drop)]
+#[derive(Clone, Copy, Debug, PartialEq, Eq)]
 pub enum ShardTold {
     /// The connection that was made.
     Attached(ConnId),
@@ -120,12 +120,10 @@ pub enum ShardTold {
     Detached(usize),
     /// How many entries were taken.
     Taken(usize),
-    /// A part of a turn.
+    /// A part of a turn, or a collect: its caller is not told.
     Work,
     /// The turn of the job that was dropped.
     Dropped(Option<Turn>),
-    /// The deltas that were handed over.
-    Collected(Deltas),
 }
 
 /// A step of a shard: what it was asked, and what it answered. (Profile.)

@@ -50,6 +50,11 @@ impl<E: Drop> Tape<E> {
         self.kept
     }
 
+    /// How many entries stand on it.
+    pub fn len(&self) -> usize {
+        self.entries.len()
+    }
+
     /// Adds an entry. Where there is no memory for it, all are given up.
     pub fn note(&mut self, entry: E)
         ensures { Grows self.old (entry ∷ []) self.new }

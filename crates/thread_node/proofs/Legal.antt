@@ -1,19 +1,16 @@
 -- What the seats of a race that is over say of the runs of its shards.
-use Rattle.std.proofs.Common.{◌≡◌, ◌≢◌, ℕ, zero, suc, ◌+◌, ◌-◌, ◌<◌, Bool, true, false, cond, Option, Some, List, [], ◌∷◌, ◌++◌, length, map, All, refl, sym, ap, ◌∙◌, subst, arith, append_assoc, ◌⊎◌, ⊎_elim, inl, inr}
+use Rattle.std.proofs.Common.{◌≡◌, ℕ, zero, suc, ◌+◌, ◌<◌, Bool, true, false, cond, Option, Some, List, [], ◌∷◌, ◌++◌, length, map, refl, sym, ap, ◌∙◌, subst, arith, append_assoc, ◌⊎◌, ⊎_elim, inl, inr}
 use Rattle.std.proofs.lemmas.List.{length-map}
 use mathlib.Core.Option.{some, some-ne-none, some-injective}
-use lib.ListN.{get_elem?}
 use Rattle.subj.specs.declared.jobs.Job.{Job}
 use Rattle.subj.specs.declared.limits.TheConstants.{MAX_COUNTER, MAX_QUEUE_NAMES, WINDOW}
-use Rattle.claim_cells.specs.declared.parts.HubPart.{HubPart}
 use Rattle.claim_cells.specs.declared.parts.ShardPart.{ShardPart}
-use Rattle.claim_cells.specs.Calls.{AllOf, HasEach, IsClosed, IsPartsOf, IsOver, finished_list}
+use Rattle.claim_cells.specs.Calls.{AllOf, HasEach, IsClosed, finished_list}
 use Rattle.claim_cells.specs.Rule.{At, Has, Law, row}
 use Rattle.claim_cells.specs.Seats.{RaceId, ShardShown}
 use Rattle.node_threads.specs.AtHub.{AtHub, IsAtHub}
 use Rattle.node_threads.specs.AtWork.{AtWork, Makes, at_start}
 use Rattle.node_threads.specs.Outlets.{AreFirst}
-use Rattle.node_threads.specs.Steps.{claims_of}
 use Rattle.node_threads.specs.Tapes.{Grows, IsTape, entries_of}
 use Rattle.node_threads.specs.declared.shard_entries.ShardEntry.{ShardEntry}
 use Rattle.thread_node.specs.HubTapes.{IsHubTape, hub_entries}

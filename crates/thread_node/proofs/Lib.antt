@@ -1,3 +1,4 @@
 pub mod Starting
 pub mod Telling
+pub mod Owing
 pub mod Legal

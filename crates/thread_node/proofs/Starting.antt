@@ -1,17 +1,13 @@
 -- The parts of a server name it.
 use Rattle.std.specs.Prelude.{slice_get}
-use Rattle.std.proofs.Common.{◌≡◌, ℕ, zero, suc, ◌+◌, ◌-◌, ◌<◌, List, [], ◌∷◌, ◌++◌, length, map, get_or, All, Some, refl, sym, ap, ◌∙◌, subst, arith}
-use Rattle.std.proofs.lemmas.List.{length-map}
+use Rattle.std.proofs.Common.{◌≡◌, ℕ, zero, suc, ◌+◌, ◌-◌, ◌<◌, List, [], ◌∷◌, ◌++◌, length, map, get_or, All, Some, refl, sym, ap, ◌∙◌, arith}
 use Rattle.std.proofs.lemmas.List.Elements.{All-append}
-use mathlib.Core.Option.{some}
-use lib.ListN.{get_elem?}
 use Rattle.atomic_table.specs.Seated.{TableId}
-use Rattle.claim_cells.specs.Calls.{AllNew}
 use Rattle.claim_cells.specs.Rule.{At, newcomer}
-use Rattle.claim_cells.specs.Seats.{RaceId, HubShown, ShardShown}
+use Rattle.claim_cells.specs.Seats.{RaceId, HubShown}
 use Rattle.subj.specs.Servers.{Server}
 use Rattle.thread_node.specs.declared.parts.ShardParts.{ShardParts}
-use Rattle.thread_node.specs.Parts.{AreFresh, IsFreshLane, IsNamed}
+use Rattle.thread_node.specs.Parts.{AreFresh, IsNamed}
 
 -- the element at a place, whatever f reads of it
 at_map : {A B : Type 0} (f : A → B) (xs : List A) (k : ℕ) (d : A) → k < length xs → At (map f xs) k (f (get_or xs k d))

@@ -1,28 +1,26 @@
 -- What is kept in writing stays what was done.
-use Rattle.std.proofs.Common.{◌≡◌, ◌⊎◌, ℕ, Bool, true, false, cond, List, [], ◌∷◌, ◌++◌, length, Option, Some, None, Result, Ok, Err, refl, sym, ap, ◌∙◌, subst, append-nil, ⊎_elim}
+use Rattle.std.proofs.Common.{◌≡◌, ℕ, Bool, true, false, cond, List, [], ◌∷◌, ◌++◌, Option, Some, None, Ok, Err, refl, sym, ap, ◌∙◌, subst, append-nil, ⊎_elim}
 use Rattle.subj.specs.Servers.{Server}
 use Rattle.subj.specs.declared.failures.Failure.{Failure}
-use Rattle.subj.specs.declared.jobs.Job.{Job}
 use Rattle.subj.specs.declared.messages.Pub.{Pub}
 use Rattle.route_values.specs.Frames.{Frame}
-use Rattle.hub_core.specs.Events as of_hub
 use Rattle.hub_core.specs.Chosen.{publication}
 use Rattle.hub_core.specs.declared.faults.HubFault.{HubFault}
 use Rattle.hub_core.specs.Publishing.{Publication, publish_refusal}
 use Rattle.hub_core.specs.Receiving.{receive_refusal}
-use Rattle.node_parts.specs.Sides.{Side, new_side, Event, ByHub, Answer, OfHub, IsDone, Leads, job_in}
+use Rattle.node_parts.specs.Sides.{Side, new_side, Event, Answer, IsDone, Leads, job_in}
 use Rattle.node_parts.specs.declared.told.Issued.{Issued}
 use Rattle.node_parts.specs.declared.told.Received.{Received}
 use Rattle.node_parts.specs.declared.told.Received.TheVariants.{Routed, Heard}
 use Rattle.shard_core.specs.ShardEvents as of_shard
 use Rattle.shard_core.specs.ShardSteps.{shard_refusal}
-use Rattle.node_threads.specs.AtHub.{AtHub, HasDone, Does as HubDoes, Looks, Publishes, IsPublished, Receives, IsReceived}
+use Rattle.node_threads.specs.AtHub.{AtHub, Does as HubDoes, Looks, Publishes, Receives, IsReceived}
 use Rattle.node_threads.specs.AtWork.{AtWork, Does, Makes, at_start}
 use Rattle.node_threads.specs.Tapes.{Grows, IsTape, entry_of}
 use Rattle.node_threads.specs.declared.shard_entries.ShardEntry.{ShardEntry}
 use Rattle.node_threads.proofs.Clients.{is_client}
 use Rattle.node_threads.proofs.HubCalls.{same_server}
-use Rattle.node_threads.proofs.Telling.{client_tells, grows_join, grows_not, refused_same, tape_more}
+use Rattle.node_threads.proofs.Telling.{client_tells, grows_join, refused_same, tape_more}
 use Rattle.node_threads.proofs.Joining.{makes_nothing}
 use Rattle.thread_node.specs.HubTapes.{IsHubTape, entries_in, hub_entry, of_received}
 use Rattle.thread_node.specs.declared.hub_entries.HubEntry.{HubEntry}

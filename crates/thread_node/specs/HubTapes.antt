@@ -1,5 +1,5 @@
 -- What is kept in writing of what a hub and its sessions did.
-use Rattle.std.specs.Prelude.{◌≡◌, ℕ, List, [], ◌∷◌, ◌++◌, length, map, Option, Some, None}
+use Rattle.std.specs.Prelude.{List, [], ◌∷◌, ◌++◌, length, map, Option, Some}
 use Rattle.hub_core.specs.Events as of_hub
 use Rattle.route_session.specs.Events as of_sessions
 use Rattle.node_parts.specs.Sides.{Event, ByHub, BySessions, Answer, OfHub, OfSessions, Done}

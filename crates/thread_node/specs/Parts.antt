@@ -1,5 +1,5 @@
 -- What a server on threads is made of.
-use Rattle.std.specs.Prelude.{◌≡◌, ℕ, ◌-◌, Bool, List, [], All, map, slice_get, Some, None}
+use Rattle.std.specs.Prelude.{◌≡◌, ◌-◌, Bool, List, [], All, map, slice_get, Some, None}
 use Rattle.atomic_table.specs.Seated.{TableId}
 use Rattle.claim_cells.specs.Calls.{AllNew}
 use Rattle.claim_cells.specs.Rule.{newcomer, fresh_hub}

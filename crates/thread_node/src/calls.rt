@@ -15,10 +15,10 @@ use sub_table::SubTable;
 use subj::{ConnId, Failure, Key, Pub, Sid, SubId, Turn};
 
 /// The server has no such shard.
-const NO_SHARD: Failure<NodeFault> = Failure::Refused(NodeFault::NoShard);
+pub(crate) const NO_SHARD: Failure<NodeFault> = Failure::Refused(NodeFault::NoShard);
 
 /// A refusal of a shard, as its server tells it.
-fn of_shard(fault: Failure<ShardFault>) -> Failure<NodeFault> {
+pub(crate) fn of_shard(fault: Failure<ShardFault>) -> Failure<NodeFault> {
     match fault {
         Failure::Refused(fault) => Failure::Refused(NodeFault::Shard(fault)),
         Failure::OutOfMemory => Failure::OutOfMemory,
@@ -26,7 +26,7 @@ fn of_shard(fault: Failure<ShardFault>) -> Failure<NodeFault> {
 }
 
 /// A refusal of the hub, as its server tells it.
-fn of_hub(fault: Failure<HubFault>) -> Failure<NodeFault> {
+pub(crate) fn of_hub(fault: Failure<HubFault>) -> Failure<NodeFault> {
     match fault {
         Failure::Refused(fault) => Failure::Refused(NodeFault::Hub(fault)),
         Failure::OutOfMemory => Failure::OutOfMemory,

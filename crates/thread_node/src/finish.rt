@@ -1,14 +1,17 @@
 //! The end of a server on threads.
 
-ghost use Rattle.std.specs.Prelude.{◌≡◌, List, All, length, map, vec_len, IfOk, IfSome};
+ghost use Rattle.std.specs.Prelude.{◌≡◌, true, List, All, length, map, vec_len, IfOk, IfSome};
 ghost use Rattle.subj.specs.declared.jobs.Job.{Job};
 ghost use Rattle.node_threads.specs.Outlets.{AreFirst};
 ghost use Rattle.node_threads.specs.Tapes.{IsTape};
+ghost use Rattle.thread_node.specs.Owed.{AreTold};
 ghost use Rattle.thread_node.specs.Reports.{AreClosed, HubRun, IsKept, IsLegal, IsWritten, ShardRun, Tells};
 
+use crate::comparing::are_told;
 use crate::hub_entries::HubEntry;
 use crate::locked_shard::LockedShard;
 use crate::node::ThreadNode;
+use crate::passes::Pass;
 use claim_cells::ShardSeat;
 use job_lane::meet;
 use node_threads::{Line, NodeName, ShardEntry, Tape};
@@ -40,6 +43,8 @@ pub enum Unfinished {
     /// The value under the lock of this shard, from 1, or the hub's end of its lane, is another shard's; 0
     /// where the race is held by somebody else still. No server comes to it: the locks' types cannot say so.
     Torn(u64),
+    /// The passes do not tell each step once that a caller made under a lock, and nothing else.
+    Untold,
 }
 
 impl From<AllocError> for Unfinished {
@@ -115,11 +120,19 @@ impl<T: SubTable, N: NodeName> ThreadNode<T, N> {
     /// that it did. There is a legal run with these numbers and just these steps: a list of the hub's and the
     /// sessions' steps and one of each shard's steps, where each shard worked a beginning of the jobs that the
     /// hub gave, in order, no queue name of a turn was won twice, and each that was lost was won by another
-    /// shard. Nothing ties the run yet to what callers were told.
+    /// shard. Where it was written down, the passes tell each step of the hub's and each one of a shard's but for
+    /// collects and the parts of turns, once, with what was answered, and nothing else; and those of one caller
+    /// under one lock stand in order.
     ///
     /// The server is given up for want of memory too. May wait.
-    pub fn finish<R: Wait>(self, rt: &R, alloc: Global) -> Result<Report, Unfinished>
+    pub fn finish<R: Wait>(
+        self,
+        rt: &R,
+        alloc: Global,
+        passes: Vec<Pass<N>>,
+    ) -> Result<Report, Unfinished>
         ensures kept { IfOk result (λ report. report.kept ≡ N.keep) }
+        ensures told { IfOk result (λ report. report.kept ≡ true → AreTold passes.items report.hub.items (map (λ entries. entries.items) report.worked.items)) }
         ensures legal { IfOk result (λ report. (hub : HubRun) × (runs : List ShardRun) × IsLegal N.race.shards hub runs × Tells hub runs report.issued report.finished × IsWritten report.kept hub runs report.hub.items (map (λ entries. entries.items) report.worked.items)) }
     {
         let ThreadNode {
@@ -137,6 +150,9 @@ impl<T: SubTable, N: NodeName> ThreadNode<T, N> {
             return Err(Unfinished::Torn(0));
         };
         let closed = cells.close(seat, seats)?;
+        if !are_told(alloc, keep, passes, hub.as_slice(), worked.as_slice())? {
+            return Err(Unfinished::Untold);
+        }
         Ok(Report {
             issued: closed.issued,
             finished: closed.finished,

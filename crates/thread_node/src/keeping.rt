@@ -6,7 +6,7 @@ ghost use Rattle.shard_core.specs.Answers.{answer_of};
 ghost use Rattle.node_threads.specs.Tapes.{Grows, entry, told_of};
 ghost use Rattle.node_threads.specs.declared.shard_entries.ShardEvent.{ShardEvent};
 ghost use Rattle.node_threads.specs.declared.shard_entries.ShardEvent.TheVariants.{Collect, Subscribe, Unsubscribe};
-ghost use Rattle.node_threads.specs.declared.shard_entries.ShardTold.TheVariants.{Collected};
+ghost use Rattle.node_threads.specs.declared.shard_entries.ShardTold.TheVariants.{Work};
 ghost use Rattle.thread_node.specs.HubTapes.{hub_entry, of_received};
 ghost use Rattle.thread_node.specs.declared.hub_entries.HubEvent.{HubEvent};
 ghost use Rattle.thread_node.specs.declared.hub_entries.HubEvent.TheVariants.{Collect as HubCollect, Publish, Receive};
@@ -176,13 +176,13 @@ pub(crate) fn copy_for<E: Drop>(tape: &Tape<E>, alloc: Global, deltas: &[Delta])
 
 /// Writes down that a shard handed these deltas to the hub. Where there is no copy of them, the tape is given up.
 pub(crate) fn note_collect(tape: &mut Tape<ShardEntry>, given: Option<Deltas>)
-    ensures { (deltas : List Delta) → IfSome given (λ x. x ≡ deltas) → Grows tape.old (entry Collect (Collected deltas) ∷ []) tape.new }
+    ensures { (deltas : List Delta) → IfSome given (λ x. x ≡ deltas) → Grows tape.old (entry (Collect deltas) Work ∷ []) tape.new }
 {
     match given {
         None => tape.give_up(),
         Some(deltas) => tape.note(ShardEntry {
-            event: ShardEvent::Collect,
-            told: ShardTold::Collected(deltas),
+            event: ShardEvent::Collect(deltas),
+            told: ShardTold::Work,
         }),
     }
 }

@@ -5,6 +5,7 @@
 #![tactic(auto)]
 
 mod calls;
+mod comparing;
 mod finish;
 mod hub_entries;
 mod keeping;
@@ -12,6 +13,8 @@ mod locked_hub;
 mod locked_shard;
 mod node;
 mod parts;
+mod pass_calls;
+mod passes;
 mod workers;
 
 pub use finish::{Report, Unfinished};
@@ -21,3 +24,4 @@ pub use locked_shard::LockedShard;
 pub use node::{HubSection, ShardSection, ThreadNode};
 pub use node_threads::{Deltas, Gate, NodeName, Open, ShardEntry, ShardEvent, ShardTold, Turned};
 pub use parts::Parts;
+pub use passes::{Call, Pass, Told};

@@ -49,7 +49,7 @@ invariant_of-shard-2 g c =
     let tape = c.shard.inside.tape in
     let more = c.note_collect.new.tape in
     let noted = c.note_collect.ensures c.deltas-2.result.now c.copy_for-given.ensures in
-    let known = subst (λ ds. Grows tape (entry shard_event.Collect (shard_told.Collected ds) ∷ []) more) (c.deltas-2.ensures ∙ ap (λ (o : AtWork). o.state.deltas) (sym c.shard.view_is)) noted in
+    let known = subst (λ ds. Grows tape (entry (shard_event.Collect ds) shard_told.Work ∷ []) more) (c.deltas-2.ensures ∙ ap (λ (o : AtWork). o.state.deltas) (sym c.shard.view_is)) noted in
     (c.shard.invariant.0, tape_does g.N.NodeName.race.shards w c.collect.new.shard of_shard.Collect (of_shard.Collected w.state.deltas) tape more c.shard.invariant.1 refl refl c.in-Ok.ensures.1.gives known)
 
 pub returns-in-Err : goal.returns-in-Err

@@ -19,7 +19,7 @@ invariant_of-self-2 g c =
     let s = c.self.inside in
     let i = c.self.invariant in
     let shards = g.N.NodeName.race.shards in
-    let noted = c.note_hub.ensures (event.Publish c.args.conn c.args.said.now c.args.word c.finished.result) c.publish_event-event.ensures in
+    let noted = c.note_hub.ensures (event.Publish c.args.conn c.args.said.now c.args.word c.finished-finished.result) c.publish_event-event.ensures in
     let issued = c.in_ok-issued.issued in
-    let known = subst (λ f. Grows s.tape (hub_entry (event.Publish c.args.conn c.args.said.now c.args.word f) (told.Issued issued.turn issued.frames) ∷ []) c.note_hub.new.tape) c.finished.ensures noted in
+    let known = subst (λ f. Grows s.tape (hub_entry (event.Publish c.args.conn c.args.said.now c.args.word f) (told.Issued issued.turn issued.frames) ∷ []) c.note_hub.new.tape) c.finished-finished.ensures noted in
     (i.0, publish_kept shards s.state c.publish.new.self c.args.conn c.args.word c.args.said.now issued s.tape c.note_hub.new.tape i.1 c.in_ok-issued.ensures known)

@@ -17,8 +17,8 @@ invariant_of-self-2 g c =
     let s = c.self.inside in
     let i = c.self.invariant in
     let shards = g.N.NodeName.race.shards in
-    let noted = c.note_hub.ensures (event.Receive c.args.frame.now c.finished.result) c.receive_event-event.ensures in
+    let noted = c.note_hub.ensures (event.Receive c.args.frame.now c.finished-finished.result) c.receive_event-event.ensures in
     let received = c.in_ok-received.received in
-    let told = subst (λ t. Grows s.tape (hub_entry (event.Receive c.args.frame.now c.finished.result) t ∷ []) c.note_hub.new.tape) c.told_received-told.ensures noted in
-    let known = subst (λ f. Grows s.tape (hub_entry (event.Receive c.args.frame.now f) (of_received received) ∷ []) c.note_hub.new.tape) c.finished.ensures told in
+    let told = subst (λ t. Grows s.tape (hub_entry (event.Receive c.args.frame.now c.finished-finished.result) t ∷ []) c.note_hub.new.tape) c.told_received-told.ensures noted in
+    let known = subst (λ f. Grows s.tape (hub_entry (event.Receive c.args.frame.now f) (of_received received) ∷ []) c.note_hub.new.tape) c.finished-finished.ensures told in
     (i.0, receive_kept shards s.state c.receive.new.self c.args.frame.now received s.tape c.note_hub.new.tape i.1 c.in_ok-received.ensures known)

@@ -1,0 +1,458 @@
+//! The calls of a caller whose answers its pass tells.
+
+ghost use Rattle.std.specs.Prelude.{◌≡◌, length, option_to_list, Some, IfOk, OnErr};
+ghost use Rattle.shard_core.specs.Answers.{answer_of};
+ghost use Rattle.node_threads.specs.Tapes.{told_of};
+ghost use Rattle.node_threads.specs.declared.shard_entries.ShardTold.TheVariants as shard_told;
+ghost use Rattle.thread_node.specs.HubTapes.{of_received};
+ghost use Rattle.thread_node.specs.Owed.{Gains};
+ghost use Rattle.thread_node.specs.declared.hub_entries.HubTold.TheVariants as hub_told;
+ghost use Rattle.thread_node.specs.declared.passes.Told.TheVariants.{Hub, Shard};
+
+use crate::calls::{NO_SHARD, of_hub, of_shard};
+use crate::hub_entries::HubTold;
+use crate::keeping::{count_of, length_of, told_received, told_subscribed};
+use crate::node::ThreadNode;
+use crate::passes::{Pass, Told as PassTold};
+use client_frames::{ErrText, ReplyFrame};
+use hub_core::{HubFault, Told};
+use node_law::NodeFault;
+use node_parts::{Issued, Received};
+use node_threads::{NodeName, ShardTold};
+use outbox::Entry;
+use route_session::{Kept, SessionFault, SessionId};
+use route_values::{Numbered, RouteConnect, RouteInfo};
+use shard_core::{Closed, Subscribed};
+use std::sync::Wait;
+use sub_table::SubTable;
+use subj::{ConnId, Failure, Key, Pub, Sid, SubId, Turn};
+
+/// Each call is that of [`ThreadNode`] of the same name. Where what is done is written down, the pass gains it, with
+/// what was answered; a refused call and want of memory leave it as it was.
+impl<N: NodeName> Pass<N> {
+    /// [`ThreadNode::publish`]. May wait.
+    pub fn publish<T: SubTable, R: Wait>(
+        &mut self,
+        rt: &R,
+        node: &ThreadNode<T, N>,
+        conn: ConnId,
+        said: &Pub,
+        word: u64,
+    ) -> Result<Issued, Failure<HubFault>>
+        ensures told { IfOk result (λ issued. Gains N.keep 0 (Hub (hub_told.Issued issued.turn issued.frames)) self.old self.new) }
+        ensures same { OnErr result (self.new ≡ self.old) }
+    {
+        let mut hub = node.hub(rt);
+        let place = hub.place();
+        let issued = hub.publish(conn, said, word)?;
+        hub.push_jobs(rt);
+        drop(hub);
+        node.unpark_workers();
+        let told = HubTold::Issued {
+            turn: issued.turn,
+            frames: issued.frames,
+        };
+        self.tell(node.keep, 0, place, PassTold::Hub(told));
+        Ok(issued)
+    }
+
+    /// [`ThreadNode::receive`]. May wait.
+    pub fn receive<T: SubTable, R: Wait>(
+        &mut self,
+        rt: &R,
+        node: &ThreadNode<T, N>,
+        frame: &Numbered,
+    ) -> Result<Received, Failure<HubFault>>
+        ensures told { IfOk result (λ received. Gains N.keep 0 (Hub (of_received received)) self.old self.new) }
+        ensures same { OnErr result (self.new ≡ self.old) }
+    {
+        let mut hub = node.hub(rt);
+        let place = hub.place();
+        let received = hub.receive(frame)?;
+        hub.push_jobs(rt);
+        drop(hub);
+        node.unpark_workers();
+        let told = told_received(&received);
+        self.tell(node.keep, 0, place, PassTold::Hub(told));
+        Ok(received)
+    }
+
+    /// [`ThreadNode::dial`]. May wait.
+    pub fn dial<T: SubTable, R: Wait>(
+        &mut self,
+        rt: &R,
+        node: &ThreadNode<T, N>,
+        peer: usize,
+    ) -> Result<SessionId, Failure<SessionFault>>
+        ensures told { IfOk result (λ session. Gains N.keep 0 (Hub (hub_told.Dialed session)) self.old self.new) }
+        ensures same { OnErr result (self.new ≡ self.old) }
+    {
+        let mut hub = node.hub(rt);
+        let place = hub.place();
+        let session = hub.dial(peer)?;
+        self.tell(node.keep, 0, place, PassTold::Hub(HubTold::Dialed(session)));
+        Ok(session)
+    }
+
+    /// [`ThreadNode::accept`]. May wait.
+    pub fn accept<T: SubTable, R: Wait>(
+        &mut self,
+        rt: &R,
+        node: &ThreadNode<T, N>,
+    ) -> Result<(SessionId, RouteInfo), Failure<SessionFault>>
+        ensures told { IfOk result (λ given. Gains N.keep 0 (Hub (hub_told.Accepted given.0)) self.old self.new) }
+        ensures same { OnErr result (self.new ≡ self.old) }
+    {
+        let mut hub = node.hub(rt);
+        let place = hub.place();
+        let (session, info) = hub.accept()?;
+        self.tell(
+            node.keep,
+            0,
+            place,
+            PassTold::Hub(HubTold::Accepted(session)),
+        );
+        Ok((session, info))
+    }
+
+    /// [`ThreadNode::info`]. May wait.
+    pub fn info<T: SubTable, R: Wait>(
+        &mut self,
+        rt: &R,
+        node: &ThreadNode<T, N>,
+        session: SessionId,
+        info: &RouteInfo,
+    ) -> Result<(Kept, RouteConnect), Failure<SessionFault>>
+        ensures told { IfOk result (λ done. Gains N.keep 0 (Hub (hub_told.KeptAfterInfo done.0.instead_of)) self.old self.new) }
+        ensures same { OnErr result (self.new ≡ self.old) }
+    {
+        let mut hub = node.hub(rt);
+        let place = hub.place();
+        let (kept, connect) = hub.info(session, info)?;
+        self.tell(
+            node.keep,
+            0,
+            place,
+            PassTold::Hub(HubTold::KeptAfterInfo(kept.instead_of)),
+        );
+        Ok((kept, connect))
+    }
+
+    /// [`ThreadNode::connect`]. May wait.
+    pub fn connect<T: SubTable, R: Wait>(
+        &mut self,
+        rt: &R,
+        node: &ThreadNode<T, N>,
+        session: SessionId,
+        connect: &RouteConnect,
+    ) -> Result<Kept, Failure<SessionFault>>
+        ensures told { IfOk result (λ kept. Gains N.keep 0 (Hub (hub_told.Kept kept.instead_of)) self.old self.new) }
+        ensures same { OnErr result (self.new ≡ self.old) }
+    {
+        let mut hub = node.hub(rt);
+        let place = hub.place();
+        let kept = hub.connect(session, connect)?;
+        self.tell(
+            node.keep,
+            0,
+            place,
+            PassTold::Hub(HubTold::Kept(kept.instead_of)),
+        );
+        Ok(kept)
+    }
+
+    /// [`ThreadNode::cut`]. May wait.
+    pub fn cut<T: SubTable, R: Wait>(
+        &mut self,
+        rt: &R,
+        node: &ThreadNode<T, N>,
+        session: SessionId,
+    ) -> Result<Option<usize>, SessionFault>
+        ensures told { IfOk result (λ peer. Gains N.keep 0 (Hub (hub_told.WasCut peer)) self.old self.new) }
+        ensures same { OnErr result (self.new ≡ self.old) }
+    {
+        let mut hub = node.hub(rt);
+        let place = hub.place();
+        let peer = hub.cut(session)?;
+        self.tell(node.keep, 0, place, PassTold::Hub(HubTold::WasCut(peer)));
+        Ok(peer)
+    }
+
+    /// [`ThreadNode::take_frames`]. May wait.
+    pub fn take_frames<T: SubTable, R: Wait>(
+        &mut self,
+        rt: &R,
+        node: &ThreadNode<T, N>,
+        peer: usize,
+        count: usize,
+    ) -> Result<Vec<Numbered>, Failure<HubFault>>
+        ensures told { IfOk result (λ frames. Gains N.keep 0 (Hub (hub_told.Taken (length frames.items))) self.old self.new) }
+        ensures same { OnErr result (self.new ≡ self.old) }
+    {
+        let mut hub = node.hub(rt);
+        let place = hub.place();
+        let frames = hub.take_frames(peer, count)?;
+        self.tell(
+            node.keep,
+            0,
+            place,
+            PassTold::Hub(HubTold::Taken(length_of(&frames))),
+        );
+        Ok(frames)
+    }
+
+    /// [`ThreadNode::collect`]; what the hub did is told. May wait.
+    pub fn collect<T: SubTable, R: Wait>(
+        &mut self,
+        rt: &R,
+        node: &ThreadNode<T, N>,
+        shard: u64,
+    ) -> Result<Told, Failure<NodeFault>>
+        ensures told { IfOk result (λ told. Gains N.keep 0 (Hub (hub_told.Collected (length told.changes.items) (length told.cut.items))) self.old self.new) }
+        ensures same { OnErr result (self.new ≡ self.old) }
+    {
+        let mut hub = node.hub(rt);
+        let Some(mut shard) = node.shard(rt, shard) else {
+            return Err(NO_SHARD);
+        };
+        let place = hub.place();
+        let told = match hub.collect(&mut shard) {
+            Ok(told) => told,
+            Err(fault) => return Err(of_hub(fault)),
+        };
+        let answer = HubTold::Collected {
+            changes: length_of(&told.changes),
+            cut: length_of(&told.cut),
+        };
+        self.tell(node.keep, 0, place, PassTold::Hub(answer));
+        Ok(told)
+    }
+
+    /// [`ThreadNode::attach`]. May wait.
+    pub fn attach<T: SubTable, R: Wait>(
+        &mut self,
+        rt: &R,
+        node: &ThreadNode<T, N>,
+        shard: u64,
+    ) -> Result<ConnId, Failure<NodeFault>>
+        ensures told { IfOk result (λ conn. Gains N.keep shard (Shard (shard_told.Attached conn)) self.old self.new) }
+        ensures same { OnErr result (self.new ≡ self.old) }
+    {
+        let Some(mut state) = node.shard(rt, shard) else {
+            return Err(NO_SHARD);
+        };
+        let place = state.place();
+        let conn = match state.attach() {
+            Ok(conn) => conn,
+            Err(fault) => return Err(of_shard(fault)),
+        };
+        self.tell(
+            node.keep,
+            shard,
+            place,
+            PassTold::Shard(ShardTold::Attached(conn)),
+        );
+        Ok(conn)
+    }
+
+    /// [`ThreadNode::subscribe`]. May wait.
+    pub fn subscribe<T: SubTable, R: Wait>(
+        &mut self,
+        rt: &R,
+        node: &ThreadNode<T, N>,
+        shard: u64,
+        conn: ConnId,
+        key: Key,
+        sid: Sid,
+    ) -> Result<Subscribed, Failure<NodeFault>>
+        ensures told { IfOk result (λ done. Gains N.keep shard (Shard (told_of (answer_of done))) self.old self.new) }
+        ensures same { OnErr result (self.new ≡ self.old) }
+    {
+        let Some(mut state) = node.shard(rt, shard) else {
+            return Err(NO_SHARD);
+        };
+        let place = state.place();
+        let done = match state.subscribe(conn, key, sid) {
+            Ok(done) => done,
+            Err(fault) => return Err(of_shard(fault)),
+        };
+        self.tell(
+            node.keep,
+            shard,
+            place,
+            PassTold::Shard(told_subscribed(done)),
+        );
+        Ok(done)
+    }
+
+    /// [`ThreadNode::unsubscribe`]. May wait.
+    pub fn unsubscribe<T: SubTable, R: Wait>(
+        &mut self,
+        rt: &R,
+        node: &ThreadNode<T, N>,
+        shard: u64,
+        conn: ConnId,
+        sid: &Sid,
+        max: Option<u64>,
+    ) -> Result<Option<SubId>, NodeFault>
+        ensures told { IfOk result (λ ended. Gains N.keep shard (Shard (shard_told.Unsubscribed (length (option_to_list ended)))) self.old self.new) }
+        ensures same { OnErr result (self.new ≡ self.old) }
+    {
+        let Some(mut state) = node.shard(rt, shard) else {
+            return Err(NodeFault::NoShard);
+        };
+        let place = state.place();
+        let ended = match state.unsubscribe(conn, sid, max) {
+            Ok(ended) => ended,
+            Err(fault) => return Err(NodeFault::Shard(fault)),
+        };
+        self.tell(
+            node.keep,
+            shard,
+            place,
+            PassTold::Shard(ShardTold::Unsubscribed(count_of(ended))),
+        );
+        Ok(ended)
+    }
+
+    /// [`ThreadNode::reply`]. May wait.
+    pub fn reply<T: SubTable, R: Wait>(
+        &mut self,
+        rt: &R,
+        node: &ThreadNode<T, N>,
+        shard: u64,
+        conn: ConnId,
+        frame: &ReplyFrame,
+    ) -> Result<Closed, Failure<NodeFault>>
+        ensures told { IfOk result (λ closed. Gains N.keep shard (Shard (shard_told.Replied closed.shut (length closed.ended.items))) self.old self.new) }
+        ensures same { OnErr result (self.new ≡ self.old) }
+    {
+        let Some(mut state) = node.shard(rt, shard) else {
+            return Err(NO_SHARD);
+        };
+        let place = state.place();
+        let closed = match state.reply(conn, frame) {
+            Ok(closed) => closed,
+            Err(fault) => return Err(of_shard(fault)),
+        };
+        let told = ShardTold::Replied {
+            shut: closed.shut,
+            ended: length_of(&closed.ended),
+        };
+        self.tell(node.keep, shard, place, PassTold::Shard(told));
+        Ok(closed)
+    }
+
+    /// [`ThreadNode::shut`]. May wait.
+    pub fn shut<T: SubTable, R: Wait>(
+        &mut self,
+        rt: &R,
+        node: &ThreadNode<T, N>,
+        shard: u64,
+        conn: ConnId,
+        text: ErrText,
+    ) -> Result<Vec<SubId>, Failure<NodeFault>>
+        ensures told { IfOk result (λ ended. Gains N.keep shard (Shard (shard_told.WasShut (length ended.items))) self.old self.new) }
+        ensures same { OnErr result (self.new ≡ self.old) }
+    {
+        let Some(mut state) = node.shard(rt, shard) else {
+            return Err(NO_SHARD);
+        };
+        let place = state.place();
+        let ended = match state.shut(conn, text) {
+            Ok(ended) => ended,
+            Err(fault) => return Err(of_shard(fault)),
+        };
+        self.tell(
+            node.keep,
+            shard,
+            place,
+            PassTold::Shard(ShardTold::WasShut(length_of(&ended))),
+        );
+        Ok(ended)
+    }
+
+    /// [`ThreadNode::detach`]. May wait.
+    pub fn detach<T: SubTable, R: Wait>(
+        &mut self,
+        rt: &R,
+        node: &ThreadNode<T, N>,
+        shard: u64,
+        conn: ConnId,
+    ) -> Result<Vec<SubId>, Failure<NodeFault>>
+        ensures told { IfOk result (λ ended. Gains N.keep shard (Shard (shard_told.Detached (length ended.items))) self.old self.new) }
+        ensures same { OnErr result (self.new ≡ self.old) }
+    {
+        let Some(mut state) = node.shard(rt, shard) else {
+            return Err(NO_SHARD);
+        };
+        let place = state.place();
+        let ended = match state.detach(conn) {
+            Ok(ended) => ended,
+            Err(fault) => return Err(of_shard(fault)),
+        };
+        self.tell(
+            node.keep,
+            shard,
+            place,
+            PassTold::Shard(ShardTold::Detached(length_of(&ended))),
+        );
+        Ok(ended)
+    }
+
+    /// [`ThreadNode::take`]. May wait.
+    pub fn take<T: SubTable, R: Wait>(
+        &mut self,
+        rt: &R,
+        node: &ThreadNode<T, N>,
+        shard: u64,
+        conn: ConnId,
+        count: usize,
+    ) -> Result<Vec<Entry>, Failure<NodeFault>>
+        ensures told { IfOk result (λ entries. Gains N.keep shard (Shard (shard_told.Taken (length entries.items))) self.old self.new) }
+        ensures same { OnErr result (self.new ≡ self.old) }
+    {
+        let Some(mut state) = node.shard(rt, shard) else {
+            return Err(NO_SHARD);
+        };
+        let place = state.place();
+        let entries = match state.take(conn, count) {
+            Ok(entries) => entries,
+            Err(fault) => return Err(of_shard(fault)),
+        };
+        self.tell(
+            node.keep,
+            shard,
+            place,
+            PassTold::Shard(ShardTold::Taken(length_of(&entries))),
+        );
+        Ok(entries)
+    }
+
+    /// [`ThreadNode::drop_job`]. May wait.
+    pub fn drop_job<T: SubTable, R: Wait>(
+        &mut self,
+        rt: &R,
+        node: &ThreadNode<T, N>,
+        shard: u64,
+    ) -> Result<Turn, Failure<NodeFault>>
+        ensures told { IfOk result (λ turn. Gains N.keep shard (Shard (shard_told.Dropped (Some turn))) self.old self.new) }
+        ensures same { OnErr result (self.new ≡ self.old) }
+    {
+        let Some(mut state) = node.shard(rt, shard) else {
+            return Err(NO_SHARD);
+        };
+        let place = state.place();
+        let turn = match state.drop_job(rt) {
+            Ok(turn) => turn,
+            Err(fault) => return Err(of_shard(fault)),
+        };
+        self.tell(
+            node.keep,
+            shard,
+            place,
+            PassTold::Shard(ShardTold::Dropped(Some(turn))),
+        );
+        Ok(turn)
+    }
+}
