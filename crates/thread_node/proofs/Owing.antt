@@ -35,3 +35,9 @@ gains false lost lost' lock place told calls calls' on h = absurd (true≢false 
 gains true lost true lock place told calls calls' on h = (place, tt)
 gains true true false lock place told calls calls' on h = absurd (true≢false (h refl).0)
 gains true false false lock place told calls calls' on h = (place, (h refl).1)
+
+-- the first of a list, one more
+pub take_map_more : {A B : Type 0} (f : A → B) (xs : List A) (n : ℕ) (d : A) → n < length xs → take (suc n) (map f xs) ≡ take n (map f xs) ++ f (get_or xs n d) ∷ []
+take_map_more f [] n d lt = absurd (omega arith)
+take_map_more f (x ∷ xs) zero d lt = refl
+take_map_more f (x ∷ xs) (suc n) d lt = ap (λ l. f x ∷ l) (take_map_more f xs n d (omega arith))

@@ -2,5 +2,6 @@
 pub mod Parts
 pub mod HubTapes
 pub mod Owed
+pub mod Handing
 -- what the end of a server on threads tells
 pub mod Reports

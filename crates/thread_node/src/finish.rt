@@ -1,13 +1,15 @@
 //! The end of a server on threads.
 
-ghost use Rattle.std.specs.Prelude.{◌≡◌, true, List, All, length, map, vec_len, IfOk, IfSome};
+ghost use Rattle.std.specs.Prelude.{◌≡◌, true, List, All, length, map, vec_len, IfOk, IfSome, OnOk};
 ghost use Rattle.subj.specs.declared.jobs.Job.{Job};
 ghost use Rattle.node_threads.specs.Outlets.{AreFirst};
 ghost use Rattle.node_threads.specs.Tapes.{IsTape};
+ghost use Rattle.thread_node.specs.Handing.{AreHanded};
 ghost use Rattle.thread_node.specs.Owed.{AreTold};
 ghost use Rattle.thread_node.specs.Reports.{AreClosed, HubRun, IsKept, IsLegal, IsWritten, ShardRun, Tells};
 
 use crate::comparing::are_told;
+use crate::handing::torn_shard;
 use crate::hub_entries::HubEntry;
 use crate::locked_shard::LockedShard;
 use crate::node::ThreadNode;
@@ -40,8 +42,9 @@ pub struct Report {
 pub enum Unfinished {
     /// The allocator gave no memory, now or when a step was to be written down.
     OutOfMemory,
-    /// The value under the lock of this shard, from 1, or the hub's end of its lane, is another shard's; 0
-    /// where the race is held by somebody else still. No server comes to it: the locks' types cannot say so.
+    /// The value under the lock of this shard, from 1, or the hub's end of its lane, is another shard's, or the
+    /// deltas that the hub took of it are not those that it gave; 0 where the race is held by somebody else
+    /// still. No server comes to it: the locks' types cannot say so.
     Torn(u64),
     /// The passes do not tell each step once that a caller made under a lock, and nothing else.
     Untold,
@@ -115,12 +118,33 @@ fn close_shards<T: SubTable, N: NodeName, R: Wait>(
     Ok((seats, tapes))
 }
 
+/// Compares what was written down of the hub with what was of the shards, and then with the passes.
+fn compare<N: NodeName>(
+    alloc: Global,
+    keep: bool,
+    passes: Vec<Pass<N>>,
+    hub: &[HubEntry],
+    worked: &[Vec<ShardEntry>],
+) -> Result<(), Unfinished>
+    ensures handed { OnOk result (keep ≡ true → AreHanded hub.now (map (λ entries. entries.items) worked.now)) }
+    ensures told { OnOk result (keep ≡ true → AreTold passes.items hub.now (map (λ entries. entries.items) worked.now)) }
+{
+    if let Some(number) = torn_shard(alloc, keep, hub, worked)? {
+        return Err(Unfinished::Torn(number));
+    }
+    if !are_told(alloc, keep, passes, hub, worked)? {
+        return Err(Unfinished::Untold);
+    }
+    Ok(())
+}
+
 impl<T: SubTable, N: NodeName> ThreadNode<T, N> {
     /// Ends the server, and tells which turns it issued and finished, and, where it was to be written down, all
     /// that it did. There is a legal run with these numbers and just these steps: a list of the hub's and the
     /// sessions' steps and one of each shard's steps, where each shard worked a beginning of the jobs that the
     /// hub gave, in order, no queue name of a turn was won twice, and each that was lost was won by another
-    /// shard. Where it was written down, the passes tell each step of the hub's and each one of a shard's but for
+    /// shard. Where it was written down, the hub was handed just the deltas that each shard gave, collect for
+    /// collect ([`Unfinished::Torn`] else, which no server comes to); and then the passes tell each step of the hub's and each one of a shard's but for
     /// collects and the parts of turns, once, with what was answered, and nothing else; and those of one caller
     /// under one lock stand in order.
     ///
@@ -132,6 +156,7 @@ impl<T: SubTable, N: NodeName> ThreadNode<T, N> {
         passes: Vec<Pass<N>>,
     ) -> Result<Report, Unfinished>
         ensures kept { IfOk result (λ report. report.kept ≡ N.keep) }
+        ensures handed { IfOk result (λ report. report.kept ≡ true → AreHanded report.hub.items (map (λ entries. entries.items) report.worked.items)) }
         ensures told { IfOk result (λ report. report.kept ≡ true → AreTold passes.items report.hub.items (map (λ entries. entries.items) report.worked.items)) }
         ensures legal { IfOk result (λ report. (hub : HubRun) × (runs : List ShardRun) × IsLegal N.race.shards hub runs × Tells hub runs report.issued report.finished × IsWritten report.kept hub runs report.hub.items (map (λ entries. entries.items) report.worked.items)) }
     {
@@ -150,9 +175,7 @@ impl<T: SubTable, N: NodeName> ThreadNode<T, N> {
             return Err(Unfinished::Torn(0));
         };
         let closed = cells.close(seat, seats)?;
-        if !are_told(alloc, keep, passes, hub.as_slice(), worked.as_slice())? {
-            return Err(Unfinished::Untold);
-        }
+        compare(alloc, keep, passes, hub.as_slice(), worked.as_slice())?;
         Ok(Report {
             issued: closed.issued,
             finished: closed.finished,

@@ -7,6 +7,7 @@
 mod calls;
 mod comparing;
 mod finish;
+mod handing;
 mod hub_entries;
 mod keeping;
 mod locked_hub;

@@ -4,6 +4,7 @@ use Rattle.claim_cells.specs.Calls.{AllOf, HasEach, IsClosed}
 use Rattle.claim_cells.specs.Seats.{RaceId}
 use Rattle.node_threads.specs.AtHub.{AtHub}
 use Rattle.thread_node.specs.HubTapes.{IsHubTape}
+use Rattle.thread_node.specs.Handing.{AreHanded}
 use Rattle.thread_node.specs.Owed.{AreTold}
 use Rattle.thread_node.proofs.Legal.{all_of, has_each, hub_run, is_written, legal, tells}
 use Rattle.thread_node.proofs.node.ThreadNode.finish.Goals as goal
@@ -53,9 +54,15 @@ returns-clause-legal g c =
       is_written race w.issued kept seats tapes closed w refl at_hub tape wrote count told.issued told.finished told.cells.items over c.in_ok-hub.hub.items c.in_ok-hub.ensures,
     )
 
+pub returns-clause-handed : goal.returns-clause-handed
+returns-clause-handed g c = λ on.
+    let handed = c.in_ok-compare.ensures.handed on in
+    subst (λ hub. AreHanded hub (map (λ entries. entries.items) c.in_ok-seats.worked.items)) c.as_slice.ensures.value
+    (subst (λ worked. AreHanded c.as_slice.result.now (map (λ entries. entries.items) worked)) c.as_slice-2.ensures.value handed)
+
 pub returns-clause-told : goal.returns-clause-told
 returns-clause-told g c = λ on.
     let passes = c.args.passes.items in
-    let told = c.in_ok-are_told.ensures c.if-not-branch.false on in
+    let told = c.in_ok-compare.ensures.told on in
     subst (λ hub. AreTold passes hub (map (λ entries. entries.items) c.in_ok-seats.worked.items)) c.as_slice.ensures.value
     (subst (λ worked. AreTold passes c.as_slice.result.now (map (λ entries. entries.items) worked)) c.as_slice-2.ensures.value told)
