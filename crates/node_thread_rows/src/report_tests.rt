@@ -66,9 +66,9 @@ fn serve<N: NodeName + Send + Sync, R: Abort + Threads + Wait + Sync>(
     publish_all(rt, alloc, node, publisher, first, count)?;
     let until = Turn::new(count).ok_or("a turn")?;
     node.workers(rt, &Open, until, TRIES);
-    let of_first = clients.take(rt, node, 1, first, usize::MAX)?.len();
-    let of_second = clients.take(rt, node, 2, second, usize::MAX)?.len();
-    assert_eq!(rt; of_first as u64 + of_second as u64, count);
+    let of_first = clients.take(rt, node, 1, first, usize::MAX)?.len() as u64;
+    let of_second = clients.take(rt, node, 2, second, usize::MAX)?.len() as u64;
+    assert_eq!(rt; of_first.checked_add(of_second), Some(count));
     Ok(())
 }
 
