@@ -12,4 +12,5 @@ pub mod Outlets
 pub mod AtHub
 -- what a hub does with its sessions is its part of a server's step
 pub mod Parts
+-- what is kept in writing of what was done under a lock
 pub mod Tapes

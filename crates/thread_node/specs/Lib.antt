@@ -1,7 +1,10 @@
 -- what a server on threads is made of
 pub mod Parts
+-- what is kept in writing of what the hub did
 pub mod HubTapes
+-- what the passes of callers have to tell of it
 pub mod Owed
+-- the deltas that shards hand to the hub
 pub mod Handing
 -- what the end of a server on threads tells
 pub mod Reports
