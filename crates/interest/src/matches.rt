@@ -54,7 +54,7 @@ pub(crate) fn has_plain<T: Keyed>(entries: &[T], subject: &Subject) -> bool
 }
 
 /// Adds the queue name of the key, where it has one and the subject matches its pattern. Refused where it would be
-/// one too many, with all as it was.
+/// one too many.
 fn add_wanted<'a>(
     key: &'a Key,
     subject: &Subject,
