@@ -2,8 +2,8 @@
 use Rattle.std.proofs.Common.{append_assoc, ◌≡◌, ℕ, zero, suc, Bool, true, false, ◌&&◌, List, [], ◌∷◌, ◌++◌, length, Option, Some, None, Ok, Err, refl, ap, sym, ◌∙◌, subst}
 use Rattle.std.specs.Prelude.{if◌then◌else◌}
 use Rattle.wire_cut.specs.Cut.{Answer, bytes_of}
-use Rattle.wire_cut.specs.declared.fault.CutFault.{CutFault}
-use Rattle.wire_cut.specs.declared.fault.CutFault.TheVariants.{LineTooLong, PayloadTooLong, NoCrLfAfterPayload}
+use Rattle.wire_cut.specs.declared.faults.CutFault.{CutFault}
+use Rattle.wire_cut.specs.declared.faults.CutFault.TheVariants.{LineTooLong, PayloadTooLong, NoCrLfAfterPayload}
 use Rattle.wire_cut.specs.Reading.{End, waits, closed, Reading, reading_of, reading_within, reading_after, Told, going_on, ending, Found, nothing, something, the_end, found, found_by, found_before, found_next, size_fault, cut_awaited}
 use Rattle.client_frames.specs.declared.awaited.Awaited.{Awaited}
 use Rattle.client_frames.specs.declared.awaited.Awaited.TheVariants as awaits

@@ -4,7 +4,7 @@ use Rattle.std.specs.Prelude.{if◌then◌else◌}
 use Rattle.subj.specs.Messages.{Content, content_of}
 use Rattle.subj.specs.declared.limits.TheConstants.{MAX_PAYLOAD}
 use Rattle.wire_cut.specs.Cut.{Answer, CutterState, StreamPiece, line, payload, bytes_of, cut_of, after_answer, after_next, after_expect, after_refusal, expect_fault, IsWithinUnread}
-use Rattle.wire_cut.specs.declared.fault.CutFault.{CutFault}
+use Rattle.wire_cut.specs.declared.faults.CutFault.{CutFault}
 use Rattle.wire_cut.specs.Reading.{End, waits, closed, Reading, reading_of, waiting, with_items, ended_by, Told, going_on, ending, Found, nothing, something, the_end, found, found_by, found_before, found_next, size_fault, looked_at, StandsAt}
 use Rattle.wire_cut.proofs.CutLemmas.{cut_of-piece_length}
 use Rattle.wire_cut.proofs.ReadingLemmas.{cuts_alike, reads_by_looks, waits_for_more}
@@ -167,16 +167,9 @@ published_found head awaited bytes rest message new due is there =
     subst (λ a. TellsFound (told_item (Publication message)) (found_before client_grammar rest (piece_told a bytes)) new) (sym due)
     (published head bytes, (head, bytes, refl, is), (refl, there))
 
-pub made : (subject : List ℕ) (reply : Option (List ℕ)) (sent bytes : List ℕ) (message : Content) → Some message ≡ content_of subject reply sent → sent ≡ bytes
-    → message ≡ record { subject = subject; reply = reply; payload = bytes }
-made subject reply sent bytes message is same = by_test (nat_le (length sent) MAX_PAYLOAD) is where
-  by_test : (b : Bool) → Some message ≡ (if b then Some (record { subject = subject; reply = reply; payload = sent }) else None) → message ≡ record { subject = subject; reply = reply; payload = bytes }
-  by_test true is = let it : message ≡ record { subject = subject; reply = reply; payload = sent } = cc in it ∙ ap (λ l. let c : Content = record { subject = subject; reply = reply; payload = l } in c) same
-  by_test false is = absurd (cc)
-
-pub line_due : (r mid : ItemReader) (awaited : Awaited) → r.ended ≡ false → mid ≡ record r { cutter = after_next r.cutter } → awaited ≡ awaits.Line
-    → end_of (record mid { awaited = awaited }) ≡ waits awaits.Line (after_next r.cutter).unread
-line_due r mid awaited reads is due =
-    ap (λ m. end_of (record m { awaited = awaited })) is
-    ∙ ap (λ b. let e : End Awaited = if b then closed else waits awaited (after_next r.cutter).unread in e) reads
-    ∙ ap (λ a. let e : End Awaited = waits a (after_next r.cutter).unread in e) due
+-- a line is due behind a piece that was used up
+pub line_due : (old new : CutterState) (ended : Bool) → ended ≡ false → new ≡ after_next old
+    → (let e : End Awaited = if ended then closed else waits awaits.Line new.unread in e) ≡ waits awaits.Line (after_next old).unread
+line_due old new ended reads is =
+    ap (λ b. let e : End Awaited = if b then closed else waits awaits.Line new.unread in e) reads
+    ∙ ap (λ k. let e : End Awaited = waits awaits.Line k.unread in e) is

@@ -1,7 +1,6 @@
 //! Reading what a client's stream tells.
 
-ghost use Rattle.std.specs.Prelude.{◌≡◌, false, true, [], None, Some, IfOk, OnOk, OnErr};
-ghost use Rattle.wire_cut.specs.Cut.{after_next};
+ghost use Rattle.std.specs.Prelude.{◌≡◌, ◌≤◌, length, false, true, [], None, Some, IfOk, OnOk, OnErr};
 ghost use Rattle.wire_cut.specs.Cut.{expect_fault};
 ghost use Rattle.wire_cut.specs.Reading.{waits, found_before, found_next};
 ghost use Rattle.client_frames.specs.Lines.{line_meaning};
@@ -9,21 +8,23 @@ ghost use Rattle.client_frames.specs.Streams.{client_grammar, line_told, refusal
 ghost use Rattle.client_frames.specs.declared.awaited.Awaited.TheVariants as awaits;
 ghost use Rattle.std.specs.Io.KnownBytes.{Keeps};
 ghost use Rattle.subj.specs.declared.limits.TheConstants.{MAX_PAYLOAD};
+ghost use Rattle.client_conn.specs.Items.{message_of};
 ghost use Rattle.client_conn.specs.declared.reader.Looked.TheVariants as looks;
 ghost use Rattle.client_conn.specs.Feeding.{CountsRead, ClosedWhere};
 ghost use Rattle.client_conn.specs.Streams.{end_of, longer, reading_at, IsInStep, IsBehindLine, AwaitsPayload, AwaitsLostPayload, TellsFound, HasLooked, HasLookedAt, HasNext, HasFilled};
 
 use crate::faults::ReadFault;
 use crate::item::Item;
-use client_frames::{Awaited, ClientLine, ErrText, LineFault, SharedTexts, decode_line};
+use bytes::Bytes;
+use client_frames::{Awaited, ClientLine, ErrText, LineFault, PubHead, SharedTexts, decode_line};
 use std::alloc::{AllocError, Global};
-use std::mem;
 use subj::{CLIENT_LINE, Failure, MAX_PAYLOAD, Message};
 use wire_cut::{CutFault, Cutter, FeedFault, FillFault, Piece, Source};
 
 /// Reads the items of a client's stream. An item is read only once there is memory for it, so none is lost.
 #[derive(Drop)]
 pub struct ItemReader {
+    alloc: Global,
     cutter: Cutter,
     texts: SharedTexts,
     awaited: Awaited,
@@ -55,6 +56,23 @@ fn meaning_of(
     }
 }
 
+/// The message of this head, with this payload. Copies of its subject and its reply share their bytes.
+fn message_with(alloc: Global, head: &PubHead, payload: Bytes) -> Result<Message, AllocError>
+    requires { length payload ≤ MAX_PAYLOAD }
+    ensures { IfOk result (λ message. message ≡ message_of head.now payload) }
+{
+    let subject = head.subject.try_clone()?;
+    let reply = match &head.reply {
+        None => None,
+        Some(reply) => Some(reply.try_clone()?),
+    };
+    match Message::new(alloc, subject, reply, payload)? {
+        Some(message) => Ok(message),
+        // required: the payload is within the limit
+        None => unreachable!(),
+    }
+}
+
 impl ItemReader {
     /// A reader to which nothing was fed.
     pub fn new(alloc: Global) -> ItemReader
@@ -62,6 +80,7 @@ impl ItemReader {
         ensures step { IsInStep result }
     {
         ItemReader {
+            alloc,
             cutter: Cutter::new(alloc, CLIENT_LINE, MAX_PAYLOAD as u64),
             texts: SharedTexts::new(alloc),
             awaited: Awaited::Line,
@@ -96,6 +115,7 @@ impl ItemReader {
         match self.cutter.feed(bytes) {
             Ok(()) => Ok(()),
             Err(FeedFault::OutOfMemory) => Err(AllocError),
+            // the reader ends with the first fault of its cutter
             Err(FeedFault::Cut(_)) => unreachable!(),
         }
     }
@@ -117,6 +137,7 @@ impl ItemReader {
             Ok(count) => Ok(count),
             Err(FillFault::Read) => Err(ReadFault::Failed),
             Err(FillFault::OutOfMemory) => Err(ReadFault::OutOfMemory),
+            // the reader ends with the first fault of its cutter
             Err(FillFault::Cut(_)) => unreachable!(),
         }
     }
@@ -164,21 +185,15 @@ impl ItemReader {
         ensures err { OnErr result (self.new ≡ self.old) }
         ensures step { IsInStep self.new }
     {
-        let meaning = match self.cutter.peek() {
+        let (size, meaning) = match self.cutter.peek() {
             Ok(None) => return Ok(Looked::Waits),
-            Ok(Some(Piece::Line(line))) => meaning_of(&mut self.texts, line)?,
+            Ok(Some(Piece::Line(line))) => (line.len(), meaning_of(&mut self.texts, line)?),
+            // a payload comes only where one was announced
             Ok(Some(Piece::Payload(_))) => unreachable!(),
             Err(fault) => return Ok(self.end_with(Item::Unreadable(fault))),
         };
-        self.use_up();
+        self.cutter.use_up(size);
         Ok(self.tell(meaning))
-    }
-
-    /// The piece that was looked at is used up.
-    fn use_up(&mut self)
-        ensures { self.new ≡ record self.old { cutter = after_next self.old.cutter } }
-    {
-        let _ = self.cutter.next();
     }
 
     /// Nothing is read behind this item.
@@ -244,19 +259,20 @@ impl ItemReader {
         ensures err { OnErr result (self.new ≡ self.old) }
         ensures step { IsInStep self.new }
     {
-        let payload = match self.cutter.peek() {
+        let (size, payload) = match self.cutter.peek() {
             Ok(None) => return Ok(Looked::Waits),
-            Ok(Some(Piece::Payload(payload))) => self.texts.copied(payload)?,
+            Ok(Some(Piece::Payload(payload))) => (payload.len(), self.texts.copied(payload)?),
+            // a line comes only where no payload was announced
             Ok(Some(Piece::Line(_))) => unreachable!(),
             Err(fault) => return Ok(self.end_with(Item::Unreadable(fault))),
         };
-        self.use_up();
-        let Awaited::Payload(head) = mem::replace(&mut self.awaited, Awaited::Line) else {
+        let Awaited::Payload(head) = &self.awaited else {
+            // required: a payload is awaited
             unreachable!()
         };
-        let Some(message) = Message::new(head.subject, head.reply, payload) else {
-            unreachable!()
-        };
+        let message = message_with(self.alloc, head, payload)?;
+        self.cutter.use_up(size);
+        self.awaited = Awaited::Line;
         Ok(Looked::Told(Item::Publication(message)))
     }
 
@@ -268,12 +284,14 @@ impl ItemReader {
         ensures looked { HasLookedAt result self.old self.new }
         ensures step { IsInStep self.new }
     {
-        match self.cutter.peek() {
+        let size = match self.cutter.peek() {
             Ok(None) => return Looked::Waits,
-            Ok(Some(_)) => {}
+            Ok(Some(Piece::Payload(payload))) => payload.len(),
+            // a line comes only where no payload was announced
+            Ok(Some(Piece::Line(_))) => unreachable!(),
             Err(fault) => return self.end_with(Item::Unreadable(fault)),
-        }
-        self.use_up();
+        };
+        self.cutter.use_up(size);
         self.awaited = Awaited::Line;
         Looked::Told(Item::Refused(LineFault::BadSubject))
     }

@@ -478,7 +478,7 @@ fn message(
         Some(reply) => Some(Subject::read(alloc, reply)?),
     };
     let payload = Bytes::copy_from_slice(alloc, payload)?;
-    let message = Message::new(subject, reply, payload).ok_or("a payload above the limit")?;
+    let message = Message::new(alloc, subject, reply, payload)?.ok_or("a payload above the limit")?;
     Ok(message)
 }
 

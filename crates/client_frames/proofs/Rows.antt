@@ -2,7 +2,7 @@
 use Rattle.std.proofs.Common.{◌≡◌, ℕ, List, [], ◌∷◌, refl, Option, None, Some}
 use Rattle.std.specs.Prelude.{codes}
 use Rattle.wire_cut.specs.Cut.{first_cr_lf}
-use Rattle.wire_cut.specs.declared.fault.CutFault.TheVariants.{PayloadTooLong, NoCrLfAfterPayload}
+use Rattle.wire_cut.specs.declared.faults.CutFault.TheVariants.{PayloadTooLong, NoCrLfAfterPayload}
 use Rattle.client_frames.specs.declared.client_line.ClientLine.TheVariants.{Sub, Unsub, Ping}
 use Rattle.client_frames.specs.declared.client_line.PubHead.{PubHead}
 use Rattle.client_frames.specs.declared.faults.LineFault.TheVariants.{UnknownOp, BadArgs, BadSubject}

@@ -1,7 +1,7 @@
 -- Stream commands: what a stream of a client's bytes asks for and what of it is refused, in order.
 use Rattle.std.specs.Prelude.{ℕ, List, [], ◌∷◌, Option, Some, None, Ok, Err, if◌then◌else◌}
 use Rattle.subj.specs.declared.limits.TheConstants.{CLIENT_LINE, MAX_PAYLOAD}
-use Rattle.wire_cut.specs.declared.fault.CutFault.{CutFault}
+use Rattle.wire_cut.specs.declared.faults.CutFault.{CutFault}
 use Rattle.wire_cut.specs.Reading.{Told, going_on, ending, Grammar, Reading, reading_of}
 use Rattle.client_frames.specs.declared.awaited.Awaited.{Awaited}
 use Rattle.client_frames.specs.declared.awaited.Awaited.TheVariants.{Line, Payload, LostPayload}

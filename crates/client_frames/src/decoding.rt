@@ -142,6 +142,7 @@ fn read_queue(alloc: Global, queue: Option<&[u8]>) -> Result<Option<QueueName>, 
     match QueueName::read(alloc, queue) {
         Ok(queue) => Ok(Some(queue)),
         Err(Failure::OutOfMemory) => Err(AllocError),
+        // required: the bytes are a queue name
         Err(Failure::Refused(_)) => unreachable!(),
     }
 }
@@ -154,6 +155,7 @@ fn read_sid(alloc: Global, text: &[u8]) -> Result<Sid, AllocError>
     match Sid::read(alloc, text) {
         Ok(sid) => Ok(sid),
         Err(Failure::OutOfMemory) => Err(AllocError),
+        // required: the bytes are a subscription id
         Err(Failure::Refused(_)) => unreachable!(),
     }
 }

@@ -1,6 +1,7 @@
 //! Writing what a server sends.
 
 ghost use Rattle.std.specs.Prelude.{◌≡◌, ◌+◌, ◌≤◌, ◌++◌, length, is_ok, vec_len, vec_capacity, if◌then◌else◌, IfOk};
+ghost use Rattle.std.specs.Cow.{cow_slice_items};
 ghost use Rattle.client_frames.specs.Frames.{frame_bytes, reply_line as line_of_reply};
 ghost use Rattle.client_frames.specs.declared.server_frames.ServerFrame.TheVariants.{Reply, Msg};
 
@@ -8,23 +9,24 @@ use crate::info::info_text;
 use crate::message_lines::message_line;
 use crate::server_frames::{Delivery, ReplyFrame, ServerFrame};
 use std::alloc::{AllocError, Global};
+use std::borrow::CowSlice;
 
 const CR_LF: &[u8] = b"\r\n";
 
-/// The line of an answer, without its CR LF.
-pub fn reply_line(alloc: Global, reply: &ReplyFrame) -> Result<Vec<u8>, AllocError>
-    ensures { IfOk result (λ line. line.items ≡ line_of_reply reply.now) }
+/// The line of an answer, without its CR LF. Only that of `INFO` takes memory.
+pub fn reply_line(alloc: Global, reply: &ReplyFrame) -> Result<CowSlice<'static, u8>, AllocError>
+    ensures { IfOk result (λ line. cow_slice_items line ≡ line_of_reply reply.now) }
 {
     match reply {
         ReplyFrame::Info(info) => {
             let text = info_text(alloc, info)?;
             let mut line = Vec::from_slice(alloc, b"INFO ")?;
             line.extend_from_slice(text.as_bytes())?;
-            Ok(line)
+            Ok(CowSlice::Owned(line))
         }
-        ReplyFrame::Pong => Vec::from_slice(alloc, b"PONG"),
-        ReplyFrame::Ok => Vec::from_slice(alloc, b"+OK"),
-        ReplyFrame::Err(text) => Vec::from_slice(alloc, text.line()),
+        ReplyFrame::Pong => Ok(CowSlice::Borrowed(b"PONG")),
+        ReplyFrame::Ok => Ok(CowSlice::Borrowed(b"+OK")),
+        ReplyFrame::Err(text) => Ok(CowSlice::Borrowed(text.line())),
     }
 }
 

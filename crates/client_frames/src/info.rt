@@ -29,6 +29,7 @@ fn name_text(name: &NodeId) -> &str
 {
     match str::from_utf8(name.bytes()) {
         Ok(text) => text,
+        // the bytes of a name are ASCII
         Err(_) => unreachable!(),
     }
 }

@@ -506,7 +506,7 @@ fn payloads_have_a_limit(rt: HostRuntime) -> Result<(), Fail> {
     for (size, fits) in [(0, true), (MAX_PAYLOAD, true), (MAX_PAYLOAD + 1, false)] {
         let subject = Subject::read(rt.alloc(), b"foo")?;
         let payload = Bytes::from_vec(vec![in rt.alloc(); b'x'; size]?)?;
-        let publication = Pub::new(subject, None, payload, true);
+        let publication = Pub::new(rt.alloc(), subject, None, payload, true)?;
         assert_eq!(rt; publication.is_some(), fits, "{size}");
     }
     Ok(())
@@ -516,7 +516,7 @@ fn message(alloc: Global) -> Result<Message, Fail> {
     let subject = Subject::read(alloc, b"foo")?;
     let reply = Subject::read(alloc, b"r.1")?;
     let payload = Bytes::from_static(b"hello");
-    Ok(Message::new(subject, Some(reply), payload).ok_or("a message")?)
+    Ok(Message::new(alloc, subject, Some(reply), payload)?.ok_or("a message")?)
 }
 
 fn ninth_of_n1() -> Result<PubId, Fail> {

@@ -71,7 +71,7 @@ fn message(alloc: Global) -> Result<Message, Fail> {
     let subject = Subject::read(alloc, b"a.b")?;
     let reply = Subject::read(alloc, b"r.1")?;
     let payload = Bytes::copy_from_slice(alloc, b"hi")?;
-    Ok(Message::new(subject, Some(reply), payload).ok_or("a message")?)
+    Ok(Message::new(alloc, subject, Some(reply), payload)?.ok_or("a message")?)
 }
 
 fn two_names(alloc: Global) -> Result<QueueNames, Fail> {

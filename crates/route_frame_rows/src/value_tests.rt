@@ -140,7 +140,7 @@ fn numbers_have_limits(rt: HostRuntime) -> Result<(), Fail> {
 fn message_of(alloc: Global, subject: &[u8], payload: &[u8]) -> Result<Message, Fail> {
     let subject = Subject::read(alloc, subject)?;
     let payload = Bytes::copy_from_slice(alloc, payload)?;
-    Ok(Message::new(subject, None, payload).ok_or("a short payload")?)
+    Ok(Message::new(alloc, subject, None, payload)?.ok_or("a short payload")?)
 }
 
 #[test]

@@ -16,7 +16,7 @@ use Rattle.route_values.specs.declared.frames.RouteFrame.{RouteFrame}
 use Rattle.route_frames.specs.declared.faults.RouteFault.{RouteFault}
 use Rattle.route_frames.specs.declared.faults.RouteFault.TheVariants.{BadArgs}
 use Rattle.route_frames.specs.Meaning.{Meaning, Means, MeansBy, ◌>>=◌}
-use Rattle.route_frames.specs.Decoding.{size_meaning, frame_meaning, sized, joined, takes_memory, is_snapshot_body, is_snapshot_line, is_snapshot_behind, Joins, failure_of}
+use Rattle.route_frames.specs.Decoding.{size_meaning, frame_meaning, sized, joined, takes_memory, is_snapshot_body, is_snapshot_line, is_snapshot_behind, body_has_payload, line_has_payload, Joins, failure_of}
 use Rattle.route_frames.specs.Operations.{is_json_line}
 use Rattle.route_frames.specs.declared.lines.Unjoined.{Unjoined}
 use Rattle.route_frames.specs.declared.lines.Unjoined.TheVariants as back
@@ -83,14 +83,6 @@ or_true : (b : Bool) → (b || true) ≡ true
 or_true true = refl
 or_true false = refl
 
--- a line that was read, and the payload that it is joined with
-pub joined_answered : (line payload : List ℕ) (read : RouteLine) (answer : Result RouteFrame Unjoined) → line_meaning line ≡ Ok read → Joins read payload answer → IsFrameOf line payload (failure_of answer)
-unfolding frame_meaning
-joined_answered line payload read (Ok frame) is joins = frame_answered line payload (Ok frame) (ap (λ read. read >>= λ read. joined read payload) is ∙ joins)
-joined_answered line payload read (Err (back.Refused fault)) is joins = frame_answered line payload (Err (Refused fault)) (ap (λ read. read >>= λ read. joined read payload) is ∙ joins)
-joined_answered line payload read (Err (back.OutOfMemory other bytes)) is joins =
-    inl (ap (λ read. is_json_line line || is_snapshot_behind read payload) is ∙ ap (λ b. is_json_line line || b) joins.2 ∙ or_true (is_json_line line))
-
 -- ---- a numbered line, whose size is judged before its parts are copied
 
 sized_answers : (line payload : List ℕ) (numbered : NumberedLine) (is_snapshot : Bool) → is_snapshot_body numbered.body ≡ is_snapshot → line_meaning line ≡ Ok (route_line.Numbered numbered) → sized (body_size numbered.body) payload ≡ Ok tt
@@ -132,10 +124,21 @@ and_right : (a b : Bool) → (a && b) ≡ true → b ≡ true
 and_right true b e = e
 and_right false b e = absurd (true≢false (sym e))
 
+-- a line that was read, and the payload that it is joined with
+pub joined_answered : (line payload : List ℕ) (read : RouteLine) (answer : Result RouteFrame Unjoined) → line_meaning line ≡ Ok read → Joins read payload answer → IsFrameOf line payload (failure_of answer)
+unfolding frame_meaning
+joined_answered line payload read (Ok frame) is joins = frame_answered line payload (Ok frame) (ap (λ read. read >>= λ read. joined read payload) is ∙ joins)
+joined_answered line payload read (Err (back.Refused fault)) is joins = frame_answered line payload (Err (Refused fault)) (ap (λ read. read >>= λ read. joined read payload) is ∙ joins)
+joined_answered line payload (route_line.Info info) (Err (back.OutOfMemory other bytes)) is joins = absurd (true≢false (sym joins.2))
+joined_answered line payload (route_line.Connect connect) (Err (back.OutOfMemory other bytes)) is joins = absurd (true≢false (sym joins.2))
+joined_answered line payload (route_line.Numbered numbered) (Err (back.OutOfMemory other bytes)) is joins =
+    let fits = is_done (sized (body_size numbered.body) payload) (and_right (body_has_payload numbered.body) (is_ok (sized (body_size numbered.body) payload)) joins.2) in
+    frame_answered line payload (Err OutOfMemory) (sized_answers line payload numbered (is_snapshot_body numbered.body) refl is fits)
+
 told_means : (read : RouteLine) (payload : List ℕ) (answer : Result RouteFrame Unjoined) → Joins read payload answer → MeansBy (λ frame. frame) (is_ok (sized (announced_size read) payload)) (joined read payload) (failure_of answer)
 told_means read payload (Ok frame) joins = joins
 told_means read payload (Err (back.Refused fault)) joins = joins
-told_means read payload (Err (back.OutOfMemory line bytes)) joins = and_right (is_snapshot_line read) (is_ok (sized (announced_size read) payload)) joins.2
+told_means read payload (Err (back.OutOfMemory line bytes)) joins = and_right (line_has_payload read) (is_ok (sized (announced_size read) payload)) joins.2
 
 pub numbered_told : (numbered copy : NumberedLine) (payload : List ℕ) (answer : Result RouteFrame Unjoined) (told : Result RouteFrame (Failure RouteFault)) → copy ≡ numbered → told ≡ failure_of answer → Joins (route_line.Numbered copy) payload answer
     → MeansBy (λ frame. frame) (is_ok (sized (body_size numbered.body) payload)) (joined (route_line.Numbered numbered) payload) told

@@ -5,7 +5,7 @@ use Rattle.std.specs.List.{flat_map}
 use Rattle.std.proofs.Math.Seq.{drop-append-add}
 use Rattle.std.proofs.lemmas.Bool.{le-ltb}
 use Rattle.subj.specs.declared.limits.TheConstants.{ROUTE_LINE, MAX_SNAPSHOT}
-use Rattle.wire_cut.specs.declared.fault.CutFault.TheVariants.{PayloadTooLong}
+use Rattle.wire_cut.specs.declared.faults.CutFault.TheVariants.{PayloadTooLong}
 use Rattle.wire_cut.specs.Cut.{line, payload, cut_line, cut_payload}
 use Rattle.wire_cut.specs.Reading.{Found, something, found_next, found_before, found_by, found, with_items, reading_after, reading_of}
 use Rattle.wire_cut.proofs.ReadingLemmas.{reading_of-look, reads_in_parts, with_items-twice}

@@ -3,13 +3,11 @@ use Rattle.std.proofs.Common.{◌≡◌, ℕ, suc, ◌+◌, ◌≤◌, ◌<◌, 
 use Rattle.std.specs.Prelude.{position, nat_lt, nat_eq}
 use Rattle.std.specs.List.{slice_split, onto_first, position_or_len}
 use Rattle.std.proofs.lemmas.Bool.Decides.{nat_tests}
-use Rattle.subj.specs.declared.failures.Failure.{Failure}
-use Rattle.subj.specs.declared.failures.Failure.TheVariants.{Refused, OutOfMemory}
 use Rattle.route_values.specs.Snapshots.{Weighted}
 use Rattle.route_frames.specs.declared.faults.RouteFault.{RouteFault}
 use Rattle.route_frames.specs.declared.faults.RouteFault.TheVariants.{BadArgs}
 use Rattle.std.proofs.Math.Numerals.{one-add}
-use Rattle.route_frames.specs.Meaning.{Meaning, Means, ◌>>=◌, with_front}
+use Rattle.route_frames.specs.Meaning.{Meaning, ◌>>=◌, with_front}
 use Rattle.route_frames.specs.SnapshotTexts.{pieces, weighted_of, key_line_of, keys_in}
 
 -- ---- where the first passes

@@ -1,5 +1,5 @@
 -- Queue names that are judged before they are copied.
-use Rattle.std.proofs.Common.{◌≡◌, ℕ, Bool, true, false, not, cond, ◌&&◌, List, [], ◌∷◌, length, refl, ap, ◌∙◌, Result, Some, None, Ok, Err}
+use Rattle.std.proofs.Common.{◌≡◌, ℕ, Bool, true, false, not, cond, ◌&&◌, List, [], ◌∷◌, length, refl, ap, ◌∙◌, Some, None, Ok, Err}
 use Rattle.std.specs.Prelude.{is_some, nat_le}
 use Rattle.std.specs.List.{list_all}
 use Rattle.std.specs.Option.{ok_or}

@@ -89,6 +89,18 @@ is_snapshot_behind (Err fault) payload = false
 abbrev pub takes_memory : List ℕ → List ℕ → Bool
 takes_memory text payload = is_json_line text || is_snapshot_behind (line_meaning text) payload
 
+-- a payload follows, for which memory is taken: for the keys of a snapshot, or for the message that its copies share
+abbrev pub body_has_payload : LineBody → Bool
+body_has_payload (body.Plus key) = false
+body_has_payload (body.Minus key) = false
+body_has_payload (body.Snapshot size) = true
+body_has_payload (body.Msg subject reply queues size) = true
+
+abbrev pub line_has_payload : RouteLine → Bool
+line_has_payload (line.Info info) = false
+line_has_payload (line.Connect connect) = false
+line_has_payload (line.Numbered numbered) = body_has_payload numbered.body
+
 -- What a line that was read is joined to with the payload behind it. Want of memory comes only where that takes
 -- memory, and gives both back.
 abbrev pub JoinsBy : Bool → Meaning RouteFrame → RouteLine → List ℕ → Result RouteFrame Unjoined → Type 0
@@ -97,7 +109,7 @@ JoinsBy memory meaning read payload (Err (Refused fault)) = meaning ≡ Err faul
 JoinsBy memory meaning read payload (Err (OutOfMemory line bytes)) = (line ≡ read) × (bytes ≡ payload) × (memory ≡ true)
 
 abbrev pub Joins : RouteLine → List ℕ → Result RouteFrame Unjoined → Type 0
-Joins read payload result = JoinsBy (is_snapshot_text read payload) (joined read payload) read payload result
+Joins read payload result = JoinsBy (line_has_payload read && is_ok (sized (announced_size read) payload)) (joined read payload) read payload result
 
 -- the same answer, without what was given back
 abbrev pub failure_of : Result RouteFrame Unjoined → Result RouteFrame (Failure RouteFault)

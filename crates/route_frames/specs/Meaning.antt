@@ -1,5 +1,5 @@
 -- What bytes mean: a value, or the first cause for which they are refused.
-use Rattle.std.specs.Prelude.{◌≡◌, Bool, true, false, ◌||◌, is_ok, List, ◌++◌, Result, Ok, Err}
+use Rattle.std.specs.Prelude.{◌≡◌, Bool, true, ◌||◌, is_ok, List, ◌++◌, Result, Ok, Err}
 use Rattle.subj.specs.declared.failures.Failure.{Failure}
 use Rattle.subj.specs.declared.failures.Failure.TheVariants.{Refused, OutOfMemory}
 use Rattle.route_frames.specs.declared.faults.RouteFault.{RouteFault}

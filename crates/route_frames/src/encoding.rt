@@ -6,21 +6,20 @@ ghost use Rattle.serde_json.specs.Written.{compact_text};
 ghost use Rattle.route_values.specs.declared.frames.RouteFrame.TheVariants.{Info, Connect};
 ghost use Rattle.route_values.specs.declared.frames.RouteFrame.TheVariants as route;
 ghost use Rattle.route_values.specs.declared.bodies.Body.TheVariants.{Plus, Minus, Snapshot, Msg};
-ghost use Rattle.route_values.specs.Snapshots.{snapshot_text as text_of_snapshot, key_line as line_of_key, line_end};
+ghost use Rattle.route_values.specs.Snapshots.{snapshot_text as text_of_snapshot, line_end};
 ghost use Rattle.route_frames.specs.Canonical.{info_json, connect_json, spaced, operation_word, common_of, member_fields, form_fields, body_fields, numbered_line, canonical_line, frame_bytes, body_payload, payload_bytes};
 ghost use Rattle.std.specs.Option.{option_copied};
 
 use crate::arguments::{NAMES_MARK, REPLY_MARK};
 use crate::common::ACCOUNT;
 use itoa::Buffer;
+use line_fields::{CR_LF, append_reserved};
 use route_values::{
     Body, Numbered, RouteConnect, RouteFrame, RouteInfo, SnapshotKeys, WeightedKey,
 };
 use serde_json::{Value, json};
 use std::alloc::{AllocError, Global};
 use subj::{Key, MAX_SNAPSHOT, Message, NodeId, QueueName, QueueNames, Subject};
-
-const CR_LF: &[u8] = b"\r\n";
 
 const BLANK: &[u8] = b" ";
 
@@ -34,6 +33,7 @@ fn name_text(name: &NodeId) -> &str
 {
     match str::from_utf8(name.bytes()) {
         Ok(text) => text,
+        // the bytes of a name are ASCII
         Err(_) => unreachable!(),
     }
 }
@@ -177,41 +177,14 @@ fn put_message(line: &mut Vec<u8>, message: &Message, queues: &QueueNames) -> Re
     put_number(line, message.payload().len() as u64)
 }
 
-/// Appends the line of a key of a snapshot, with its CR LF.
-#[tactic(auto, unfolding(route_values::specs::Snapshots::key_line))]
-fn put_key(text: &mut Vec<u8>, entry: &WeightedKey) -> Result<(), AllocError>
-    ensures { OnOk result (text.new.items ≡ text.old.items ++ line_of_key entry.now) }
-{
-    text.extend_from_slice(entry.key().pattern.bytes())?;
-    if let Some(queue) = &entry.key().queue {
-        put_field(text, queue.bytes())?;
-        put_number(text, entry.weight())?;
-    }
-    text.extend_from_slice(CR_LF)?;
-    Ok(())
-}
-
 /// The text of a snapshot.
 fn snapshot_text(alloc: Global, keys: &SnapshotKeys) -> Result<Vec<u8>, AllocError>
     ensures same { IfOk result (λ text. text.items ≡ text_of_snapshot keys.now) }
     ensures short { IfOk result (λ text. length text.items ≤ MAX_SNAPSHOT) }
 {
-    let mut text = Vec::new(alloc);
-    for entry in keys.as_slice() {
-        put_key(&mut text, entry)?;
-    }
+    let mut text = Vec::with_capacity(alloc, keys.text_len())?;
+    keys.append_text(&mut text)?;
     Ok(text)
-}
-
-/// Appends bytes for which there is room.
-fn append_reserved(out: &mut Vec<u8>, bytes: &[u8])
-    requires { vec_len out.old + length bytes.now ≤ vec_capacity out.old }
-    ensures items { out.new.items ≡ out.old.items ++ bytes.now }
-    ensures len { vec_len out.new ≡ vec_len out.old + length bytes.now }
-    ensures capacity { vec_capacity out.old ≤ vec_capacity out.new }
-{
-    let appended = out.extend_from_slice(bytes);
-    prove!(appended.is_ok());
 }
 
 /// Appends a line and its CR LF.

@@ -8,6 +8,7 @@ use crate::faults::RouteFault;
 use bytes::Bytes;
 use route_values::{RouteConnect, RouteInfo, WeightedKey};
 use subj::{Key, NodeId, QueueNames, Reply, Subject};
+use thiserror::Error;
 
 /// What the line of a numbered frame says behind the common fields.
 #[derive(Debug, Drop)]
@@ -47,12 +48,14 @@ pub enum RouteLine {
 }
 
 /// Why a line and its payload were joined to no frame.
-#[derive(Debug, Drop)]
+#[derive(Debug, Drop, Error)]
 pub enum Unjoined {
     /// The payload is not what the line announces.
+    #[error("the payload is refused: {0}")]
     Refused(RouteFault),
     /// The allocator gave no memory for the keys of a snapshot. Both are here as they were, so that
     /// they can be joined later.
+    #[error("out of memory")]
     OutOfMemory { line: RouteLine, payload: Bytes },
 }
 

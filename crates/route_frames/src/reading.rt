@@ -1,6 +1,9 @@
 //! Reading the frames of a route.
 
-ghost use Rattle.std.specs.Prelude.{◌≡◌, ℕ, true, List, Ok, is_ok};
+ghost use Rattle.std.specs.Prelude.{◌≡◌, ℕ, false, true, List, Ok, is_ok};
+ghost use Rattle.std.specs.Option.{ok_or};
+ghost use Rattle.subj.specs.Messages.{content_of};
+ghost use Rattle.route_frames.specs.declared.faults.RouteFault.TheVariants.{BadArgs};
 ghost use Rattle.line_fields.specs.Fields.{fields};
 ghost use Rattle.route_frames.specs.declared.operation.Operation.TheVariants as operation;
 ghost use Rattle.route_frames.specs.declared.lines.RouteLine.TheVariants as route_line;
@@ -8,7 +11,7 @@ ghost use Rattle.route_frames.specs.Meaning.{Means, MeansBy, Says};
 ghost use Rattle.route_frames.specs.TextViews.{body_view, numbered_view, joined_text, Judges};
 ghost use Rattle.route_frames.specs.Announced.{body_size};
 ghost use Rattle.route_frames.specs.Operations.{is_json_line};
-ghost use Rattle.route_frames.specs.Decoding.{size_meaning, sized, framed as framed_by, frame_behind, joined, is_snapshot_body, frame_meaning, takes_memory, JoinsBy, Joins, failure_of};
+ghost use Rattle.route_frames.specs.Decoding.{size_meaning, sized, framed as framed_by, frame_behind, joined, body_has_payload, frame_meaning, takes_memory, JoinsBy, Joins, failure_of};
 ghost use Rattle.route_frames.specs.NumberedLines.{plus_line, minus_line, snapshot_line, message_line};
 ghost use Rattle.route_frames.specs.Lines.{numbered, line_meaning};
 ghost use Rattle.route_frames.specs.Refusals.{IsSizeOf, IsReadOf, IsFrameOf};
@@ -24,7 +27,7 @@ use bytes::Bytes;
 use line_fields::split_line;
 use route_values::{Body, Numbered, RouteFrame};
 use std::alloc::Global;
-use subj::{Failure, Message, NodeId};
+use subj::{Failure, MAX_PAYLOAD, Message, NodeId, Reply, Subject};
 
 fn plus(text: &[u8]) -> Result<NumberedText<'_>, RouteFault>
     ensures { Says (λ line. route_line.Numbered (numbered_view line)) (numbered plus_line (fields text.now)) result }
@@ -88,6 +91,30 @@ fn check_size(size: Option<u64>, payload: &[u8]) -> Result<(), RouteFault>
     }
 }
 
+/// The message of a line and the payload behind it; copies share their bytes.
+fn message_of(
+    alloc: Global,
+    subject: &Subject,
+    reply: &Option<Reply>,
+    payload: &Bytes,
+) -> Result<Message, Failure<RouteFault>>
+    ensures { Means false (ok_or (content_of subject.now reply.now payload.now) BadArgs) result }
+{
+    if payload.len() > MAX_PAYLOAD {
+        return Err(Failure::Refused(RouteFault::BadArgs));
+    }
+    let subject = subject.try_clone()?;
+    let reply = match reply {
+        None => None,
+        Some(reply) => Some(reply.try_clone()?),
+    };
+    match Message::new(alloc, subject, reply, payload.clone()?)? {
+        Some(message) => Ok(message),
+        // the payload is within the limit
+        None => unreachable!(),
+    }
+}
+
 /// The frame of a line and what it says, with what the payload says.
 fn framed(from: NodeId, to: NodeId, numbers: Numbers, body: Body) -> Result<RouteFrame, RouteFault>
     ensures { result ≡ framed_by from to numbers body }
@@ -98,7 +125,7 @@ fn framed(from: NodeId, to: NodeId, numbers: Numbers, body: Body) -> Result<Rout
 
 #[tactic(auto, unfolding(crate::specs::Decoding::numbered_meaning))]
 fn join_numbered(alloc: Global, line: NumberedLine, payload: Bytes) -> Result<RouteFrame, Unjoined>
-    ensures { JoinsBy (is_snapshot_body line.body) (frame_behind (route_line.Numbered line) payload) (route_line.Numbered line) payload result }
+    ensures { JoinsBy (body_has_payload line.body) (frame_behind (route_line.Numbered line) payload) (route_line.Numbered line) payload result }
 {
     let NumberedLine {
         from,
@@ -127,11 +154,26 @@ fn join_numbered(alloc: Global, line: NumberedLine, payload: Bytes) -> Result<Ro
             subject,
             reply,
             queues,
-            ..
-        } => {
-            let message = Message::new(subject, reply, payload).ok_or(RouteFault::BadArgs)?;
-            Body::Msg { message, queues }
-        }
+            size,
+        } => match message_of(alloc, &subject, &reply, &payload) {
+            Ok(message) => Body::Msg { message, queues },
+            Err(Failure::Refused(fault)) => return Err(Unjoined::Refused(fault)),
+            Err(Failure::OutOfMemory) => {
+                let body = LineBody::Msg {
+                    subject,
+                    reply,
+                    queues,
+                    size,
+                };
+                let line = RouteLine::Numbered(NumberedLine {
+                    from,
+                    to,
+                    numbers,
+                    body,
+                });
+                return Err(Unjoined::OutOfMemory { line, payload });
+            }
+        },
     };
     Ok(framed(from, to, numbers, body)?)
 }
@@ -239,7 +281,7 @@ impl RouteLine {
     ///
     /// Refused by `BadArgs`: for a payload of another size than announced, and for one that is not the
     /// text of a snapshot behind `RSS`. Want of memory comes only where a payload of the announced size
-    /// is read as a snapshot, and gives the line and the payload back. (Profile.)
+    /// is read as a snapshot or shared as a message, and gives the line and the payload back. (Profile.)
     pub fn into_frame(self, alloc: Global, payload: Bytes) -> Result<RouteFrame, Unjoined>
         ensures spelt { (line : List ℕ) → line_meaning line ≡ Ok self → IsFrameOf line payload (failure_of result) }
         ensures means { Joins self payload result }

@@ -7,6 +7,7 @@ ghost use Rattle.route_values.specs.ValidKeys.{IsKey, IsWeighted, AreWeighted, A
 ghost use Rattle.route_values.specs.Snapshots.{is_weight as weighs, weighted_key, queue_fields, key_line, is_before_first as before_first, are_rising as rising, is_short as short, are_snapshot_keys, snapshot_of, total_cost, IsKept, snapshot_text};
 
 use itoa::Buffer;
+use line_fields::{CR_LF, append_reserved};
 use std::alloc::{AllocError, Global};
 use std::marker::Model;
 use subj::{Key, MAX_SNAPSHOT, MAX_WEIGHT, QueueName};
@@ -122,18 +123,7 @@ fn line_len(entry: &WeightedKey) -> usize
     ensures same { result ≡ length (key_line entry.now) }
     ensures small { result ≤ cost_of entry.now.0 }
 {
-    entry.key.pattern.bytes().len() + queue_len(&entry.key.queue, entry.weight) + 2
-}
-
-/// Appends bytes for which there is room.
-fn append_reserved(out: &mut Vec<u8>, bytes: &[u8])
-    requires { vec_len out.old + length bytes.now ≤ vec_capacity out.old }
-    ensures items { out.new.items ≡ out.old.items ++ bytes.now }
-    ensures len { vec_len out.new ≡ vec_len out.old + length bytes.now }
-    ensures capacity { vec_capacity out.old ≤ vec_capacity out.new }
-{
-    let appended = out.extend_from_slice(bytes);
-    prove!(appended.is_ok());
+    entry.key.pattern.bytes().len() + queue_len(&entry.key.queue, entry.weight) + CR_LF.len()
 }
 
 /// Appends the queue name and the weight in the line of a key, for which there is room.
@@ -161,7 +151,7 @@ fn put_line(out: &mut Vec<u8>, entry: &WeightedKey)
 {
     append_reserved(out, entry.key.pattern.bytes());
     put_queue(out, &entry.key.queue, entry.weight);
-    append_reserved(out, b"\r\n");
+    append_reserved(out, CR_LF);
 }
 
 /// Appends the lines of the keys, for which there is room.

@@ -1,6 +1,6 @@
 //! Publications as clients hand them in.
 
-ghost use Rattle.std.specs.Prelude.{◌≡◌, ◌≤◌, length, IfOk};
+ghost use Rattle.std.specs.Prelude.{◌≡◌, ◌≤◌, length, IfOk, OnErr};
 ghost use Rattle.std.specs.Option.{option_copied};
 ghost use Rattle.subj.specs.Messages.{content_of};
 ghost use Rattle.subj.specs.Publications.{published};
@@ -8,59 +8,83 @@ ghost use Rattle.subj.specs.Publications.{published};
 use crate::limits::MAX_PAYLOAD;
 use crate::subjects::{Reply, Subject};
 use bytes::Bytes;
-use std::alloc::AllocError;
+use std::alloc::{AllocError, Global};
 use std::marker::Model;
+use std::sync::Arc;
 
-/// The content of a publication: its subject, the subject that an answer is awaited on, and its
-/// payload, which is shared and not copied. (NATS documentation, "Client Protocol": `PUB`.)
-///
-/// The payload has at most [`MAX_PAYLOAD`] bytes. (Profile.)
+/// What the copies of a message share.
 #[derive(Debug, Drop)]
-pub struct Message {
+struct Shared {
     subject: Subject,
     reply: Option<Reply>,
     payload: Bytes,
 }
 
+impl Model for Shared {
+    ghost use Rattle.subj.specs.Messages.{Content};
+
+    ghost Value = { Content };
+
+    ghost view = { λ shared. record { subject = shared.subject; reply = shared.reply; payload = shared.payload } };
+}
+
+/// The content of a publication: its subject, the subject that an answer is awaited on, and its
+/// payload. (NATS documentation, "Client Protocol": `PUB`.) A copy shares all of it, behind one count, and takes no memory.
+///
+/// The payload has at most [`MAX_PAYLOAD`] bytes. (Profile.)
+#[derive(Debug, Drop)]
+pub struct Message {
+    shared: Arc<Shared, Global>,
+}
+
 impl Model for Message {
     ghost use Rattle.subj.specs.Messages.{Content};
+    ghost use Rattle.std.specs.Arc.{arc_value};
     ghost use Rattle.std.specs.Prelude.{◌≤◌, length};
     ghost use Rattle.subj.specs.declared.limits.TheConstants.{MAX_PAYLOAD};
 
     ghost Value = { Content };
 
-    ghost view = { λ message. record { subject = message.subject; reply = message.reply; payload = message.payload } };
+    ghost view = { λ message. arc_value message.shared };
 
-    ghost invariant = { λ message. length message.payload ≤ MAX_PAYLOAD };
+    ghost invariant = { λ message. length (arc_value message.shared).payload ≤ MAX_PAYLOAD };
 }
 
 impl Message {
-    /// None just where the payload has more than [`MAX_PAYLOAD`] bytes.
-    pub fn new(subject: Subject, reply: Option<Reply>, payload: Bytes) -> Option<Message>
-        ensures { result ≡ content_of subject reply payload }
+    /// None just where the payload has more than [`MAX_PAYLOAD`] bytes. Want of memory comes only where it has not.
+    pub fn new(
+        alloc: Global,
+        subject: Subject,
+        reply: Option<Reply>,
+        payload: Bytes,
+    ) -> Result<Option<Message>, AllocError>
+        ensures message { IfOk result (λ message. message ≡ content_of subject reply payload) }
+        ensures err { OnErr result (length payload ≤ MAX_PAYLOAD) }
     {
         if payload.len() > MAX_PAYLOAD {
-            return None;
+            return Ok(None);
         }
-        Some(Message {
+        let shared = Shared {
             subject,
             reply,
             payload,
-        })
+        };
+        let shared = Arc::new(alloc, shared)?;
+        Ok(Some(Message { shared }))
     }
 
     /// What it was published on.
     pub fn subject(&self) -> &Subject
         ensures { result.now ≡ self.now.subject }
     {
-        &self.subject
+        &self.shared.subject
     }
 
     /// Where an answer is awaited.
     pub fn reply(&self) -> Option<&Reply>
         ensures { option_copied result ≡ self.now.reply }
     {
-        self.reply.as_ref()
+        self.shared.reply.as_ref()
     }
 
     /// The bytes that were published.
@@ -68,24 +92,15 @@ impl Message {
         ensures same { result.now ≡ self.now.payload }
         ensures fits { length result.now ≤ MAX_PAYLOAD }
     {
-        &self.payload
+        &self.shared.payload
     }
 
     /// A copy that shares all bytes.
     pub fn try_clone(&self) -> Result<Message, AllocError>
         ensures { IfOk result (λ message. message ≡ self.now) }
     {
-        let subject = self.subject.try_clone()?;
-        let reply = match &self.reply {
-            None => None,
-            Some(reply) => Some(reply.try_clone()?),
-        };
-        let payload = self.payload.clone()?;
-        Ok(Message {
-            subject,
-            reply,
-            payload,
-        })
+        let shared = Arc::try_clone(&self.shared)?;
+        Ok(Message { shared })
     }
 }
 
@@ -98,11 +113,18 @@ pub struct Pub {
 }
 
 impl Pub {
-    /// None just where the payload has more than [`MAX_PAYLOAD`] bytes.
-    pub fn new(subject: Subject, reply: Option<Reply>, payload: Bytes, echo: bool) -> Option<Pub>
-        ensures { result ≡ published subject reply payload echo }
+    /// None just where the payload has more than [`MAX_PAYLOAD`] bytes. Want of memory comes only where it has not.
+    pub fn new(
+        alloc: Global,
+        subject: Subject,
+        reply: Option<Reply>,
+        payload: Bytes,
+        echo: bool,
+    ) -> Result<Option<Pub>, AllocError>
+        ensures publication { IfOk result (λ publication. publication ≡ published subject reply payload echo) }
+        ensures err { OnErr result (length payload ≤ MAX_PAYLOAD) }
     {
-        let message = Message::new(subject, reply, payload)?;
-        Some(Pub { message, echo })
+        let message = Message::new(alloc, subject, reply, payload)?;
+        Ok(message.map(|message| Pub { message, echo }))
     }
 }

@@ -1,11 +1,11 @@
 -- What a look at the unread bytes answers, and that more bytes do not change a piece or a fault.
-use Rattle.std.proofs.Common.{◌≡◌, ℕ, ◌+◌, ◌<◌, ◌≤◌, Bool, true, false, List, ◌++◌, length, take, drop, min, nat_le, if◌then◌else◌, ◌⊎◌, Option, Some, None, Result, Ok, Err, refl, sym, ap, ◌∙◌, arith, inl, inr}
+use Rattle.std.proofs.Common.{◌≡◌, ℕ, ◌+◌, ◌<◌, ◌≤◌, Bool, true, false, List, ◌++◌, length, take, drop, min, nat_le, if◌then◌else◌, ◌⊎◌, Option, Some, None, is_none, Result, Ok, Err, refl, sym, ap, ◌∙◌, subst, arith, inl, inr}
 use Rattle.std.specs.Prelude.{IfOk, IfSome}
 use Rattle.std.proofs.lemmas.Bool.{le-leb, lt-leb, le-ltb, lt-ltb, cases_lt}
 use Rattle.std.proofs.lemmas.List.{length-take, length-take-le, length-drop, length-append, take-append-le, drop-append-le}
-use Rattle.wire_cut.specs.declared.fault.CutFault.{CutFault}
-use Rattle.wire_cut.specs.declared.fault.CutFault.TheVariants.{LineTooLong, NoCrLfAfterPayload}
-use Rattle.wire_cut.specs.Cut.{Answer, CutterState, StreamPiece, first_cr_lf, begins_with_cr_lf, cr_lf_at, line, payload, cut_of, fed, after_next, cut_line, cut_line_at, cut_long_line, cut_payload_at, IsWithinUnread}
+use Rattle.wire_cut.specs.declared.faults.CutFault.{CutFault}
+use Rattle.wire_cut.specs.declared.faults.CutFault.TheVariants.{LineTooLong, NoCrLfAfterPayload}
+use Rattle.wire_cut.specs.Cut.{Answer, CutterState, StreamPiece, first_cr_lf, begins_with_cr_lf, cr_lf_at, line, payload, cut_of, fed, after_next, cut_line, cut_line_at, cut_long_line, cut_payload_at, bytes_of, is_line, piece_length, IsWithinUnread}
 use Rattle.wire_cut.specs.declared.piece.Piece.{Piece}
 use Rattle.wire_cut.specs.Shown.{shown, shown_piece}
 use Rattle.wire_cut.specs.Search.{HasCrLfAt, HasNoCrLf}
@@ -186,6 +186,31 @@ cut_of-piece_length s piece is = by_state s.fault s.expected refl refl
         let cut = cuts_payload size s.unread piece (cr_lf_at s.unread size) (rw (told, awaits) at is) in
         let full = (told_behind s.unread size true cut.0).0 in
         rw cut.1 (omega (arith, full, length-take size s.unread))
+
+-- a piece is a line just where no payload is expected
+cut_of-kind : (s : CutterState) (piece : StreamPiece) → cut_of s ≡ Ok (Some piece) → is_line piece ≡ is_none s.expected
+cut_of-kind s piece is = by_state s.fault s.expected refl refl
+  where
+    by_state : (f : Option CutFault) (e : Option ℕ) → s.fault ≡ f → s.expected ≡ e → is_line piece ≡ is_none s.expected
+    by_state (Some fault) e told awaits = absurd (let cut = rw told at is in cc)
+    by_state None None told awaits =
+        let cut = cuts_line s.line_max s.unread piece (first_cr_lf s.unread) refl (rw (told, awaits) at is) in
+        rw (awaits, cut.is) refl
+    by_state None (Some size) told awaits =
+        let cut = cuts_payload size s.unread piece (cr_lf_at s.unread size) (rw (told, awaits) at is) in
+        rw (awaits, cut.1) refl
+
+-- what is left behind a piece of this length
+pub after_piece : (s : CutterState) (size : ℕ) → piece_length (cut_of s) ≡ Some size
+    → (size + 2 ≤ length s.unread) × (after_next s ≡ record s { unread = drop (size + 2) s.unread; expected = None; after_line = is_none s.expected })
+after_piece s size is = by_answer (cut_of s) refl
+  where
+    by_answer : (answer : Answer) → cut_of s ≡ answer → (size + 2 ≤ length s.unread) × (after_next s ≡ record s { unread = drop (size + 2) s.unread; expected = None; after_line = is_none s.expected })
+    by_answer (Ok None) cut = absurd (let none = rw cut at is in cc)
+    by_answer (Ok (Some piece)) cut =
+        let same : length (bytes_of piece) ≡ size = (let both = rw cut at is in cc) in
+        (subst (λ n. n + 2 ≤ length s.unread) same (cut_of-piece_length s piece cut), rw (cut, cut_of-kind s piece cut, same) refl)
+    by_answer (Err fault) cut = absurd (let none = rw cut at is in cc)
 
 -- the same of what `next` answers
 pub given_within : (answer : Result (Option Piece) CutFault) (s : CutterState) → shown answer ≡ cut_of s → IfOk answer (λ given. IfSome given (λ piece. IsWithinUnread (shown_piece piece) s))

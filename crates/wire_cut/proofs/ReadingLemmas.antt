@@ -2,7 +2,7 @@
 use Rattle.std.proofs.Common.{◌≡◌, ℕ, zero, suc, ◌+◌, ◌<◌, ◌≤◌, false, List, [], ◌∷◌, ◌++◌, length, drop, Option, Some, None, Ok, Err, refl, ap, sym, ◌∙◌, subst, arith, append_assoc, append-nil, length-append, length-drop}
 use Rattle.std.proofs.lemmas.List.{drop-append-le}
 use Rattle.std.specs.List.{concat}
-use Rattle.wire_cut.specs.declared.fault.CutFault.{CutFault}
+use Rattle.wire_cut.specs.declared.faults.CutFault.{CutFault}
 use Rattle.wire_cut.specs.Cut.{Answer, CutterState, StreamPiece, bytes_of, cut_next, cut_unless, cut_of, after_answer, after_next, after_refusal, after_expect, expect_fault, fed}
 use Rattle.wire_cut.specs.Reading.{Told, going_on, ending, Grammar, Found, nothing, something, the_end, size_fault, found_next, found_before, found_by, cut_awaited, found, Reading, with_items, ended_by, reading_after, reading_within, reading_of, resumed, read_on, read_parts, ReadsInParts, looked_at, ReadsByLooks, WaitsForMore, StandsAt, told_of, FollowsGrammar, ExpectsAgain, ExpectsWhenFed}
 use Rattle.wire_cut.proofs.CutLemmas.{cut_of-piece_length, cut_of-fed_piece, cut_of-fed_fault}

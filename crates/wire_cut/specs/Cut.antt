@@ -4,8 +4,8 @@
 use Rattle.std.specs.Prelude.{◌≡◌, ℕ, suc, ◌+◌, ◌<◌, ◌≤◌, List, [], ◌∷◌, ◌++◌, length, take, drop, nat_lt, nat_le, nat_eq, if◌then◌else◌, Bool, true, false, Option, None, Some, IsSome, Result, Ok, Err}
 use Rattle.std.specs.Option.{option_map}
 use Rattle.std.specs.List.{starts_with}
-use Rattle.wire_cut.specs.declared.fault.CutFault.{CutFault}
-use Rattle.wire_cut.specs.declared.fault.CutFault.TheVariants.{LineTooLong, PayloadTooLong, NoCrLfAfterPayload}
+use Rattle.wire_cut.specs.declared.faults.CutFault.{CutFault}
+use Rattle.wire_cut.specs.declared.faults.CutFault.TheVariants.{LineTooLong, PayloadTooLong, NoCrLfAfterPayload}
 
 -- CR LF, which ends a line and stands behind a payload
 abbrev pub cr_lf : List ℕ
@@ -100,6 +100,12 @@ after_answer s (Err fault) = record s { fault = Some fault }
 
 abbrev pub after_next : CutterState → CutterState
 after_next s = after_answer s (cut_of s)
+
+-- how many bytes the piece has that comes next, where there is one
+abbrev pub piece_length : Answer → Option ℕ
+piece_length (Ok None) = None
+piece_length (Ok (Some piece)) = Some (length (bytes_of piece))
+piece_length (Err fault) = None
 
 -- the state after more bytes came
 abbrev pub fed : CutterState → List ℕ → CutterState

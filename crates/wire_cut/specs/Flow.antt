@@ -1,7 +1,7 @@
 -- What reads and writes do to known bytes and to the count of failures.
 use Rattle.std.specs.Prelude.{◌≡◌, ℕ, ◌+◌, ◌<◌, ◌≤◌, List, ◌++◌, length, take, Option, Result, Ok, Err, MatchResult}
-use Rattle.wire_cut.specs.declared.fault.FillFault.{FillFault}
-use Rattle.wire_cut.specs.declared.fault.FillFault.TheVariants.{Cut, Read, OutOfMemory}
+use Rattle.wire_cut.specs.declared.faults.FillFault.{FillFault}
+use Rattle.wire_cut.specs.declared.faults.FillFault.TheVariants.{Cut, Read, OutOfMemory}
 use Rattle.std.specs.Io.KnownBytes.{Appends, Consumes, IsAtEnd}
 
 -- a call answers an error just where the count of failures rose, by one

@@ -1,5 +1,5 @@
 -- the numbers 10 to 12 of the refusals
-pub mod Fault
+pub mod Faults
 -- a stream of bytes as lines and payloads
 pub mod Cut
 -- reading a stream: a grammar says what each piece tells, and what has to come behind it

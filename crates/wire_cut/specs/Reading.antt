@@ -2,7 +2,7 @@
 -- What is read is a function of the bytes, so it does not matter in what parts these come.
 use Rattle.std.specs.Prelude.{◌≡◌, ℕ, zero, suc, ◌+◌, List, [], ◌∷◌, ◌++◌, length, drop, Option, None, Some, Ok, Err}
 use Rattle.std.specs.List.{concat}
-use Rattle.wire_cut.specs.declared.fault.CutFault.{CutFault}
+use Rattle.wire_cut.specs.declared.faults.CutFault.{CutFault}
 use Rattle.wire_cut.specs.Cut.{Answer, CutterState, bytes_of, cut_next, cut_of, after_next, after_expect, expect_fault, fed}
 
 -- ---- grammars

@@ -3,7 +3,7 @@ use Rattle.std.specs.Prelude.{◌≡◌, Option, None, Some, Result, Ok, Err}
 use Rattle.std.specs.Borrow.{MutBor, Fml}
 use Rattle.std.specs.Io.BufRead.{Rests}
 use Rattle.wire_cut.specs.Cut.{Answer, CutterState, StreamPiece, line, payload, after_next}
-use Rattle.wire_cut.specs.declared.fault.CutFault.{CutFault}
+use Rattle.wire_cut.specs.declared.faults.CutFault.{CutFault}
 use Rattle.wire_cut.specs.declared.piece.Piece.{Piece}
 use Rattle.wire_cut.specs.declared.piece.Piece.TheVariants.{Line, Payload}
 use Rattle.wire_cut.specs.contracts.cutter.Cutter.{the_row}

@@ -7,9 +7,9 @@ ghost use Rattle.std.specs.Io.KnownBytes.{Keeps};
 ghost use Rattle.wire_cut.specs.Flow.{Gains, ReadsOnce};
 ghost use Rattle.wire_cut.specs.Search.{HasNoCrLf};
 ghost use Rattle.wire_cut.specs.Cut.{cut_of, cr_lf_at, first_cr_lf, fed};
-ghost use Rattle.wire_cut.specs.Cut.{new_cutter, after_expect, expect_fault, IsUnfinished, IsWithinUnread, IsDue};
+ghost use Rattle.wire_cut.specs.Cut.{new_cutter, after_next, after_expect, expect_fault, piece_length, IsUnfinished, IsWithinUnread, IsDue};
 
-use crate::fault::{CutFault, FeedFault, FillFault};
+use crate::faults::{CutFault, FeedFault, FillFault};
 use crate::piece::Piece;
 use crate::source::Source;
 use crate::window::Window;
@@ -237,6 +237,18 @@ impl Cutter {
             Some(false) => Err(CutFault::NoCrLfAfterPayload),
             None => Ok(None),
         }
+    }
+
+    /// Uses up the piece of `size` bytes that [`Cutter::peek`] gives, with its CR LF: what [`Cutter::next`] does, without
+    /// another look for its end.
+    pub fn use_up(&mut self, size: usize)
+        requires { piece_length (cut_of self.old) ≡ Some size }
+        ensures { self.new ≡ after_next self.old }
+    {
+        self.window.advance(size + CR_LF.len());
+        self.searched = 0;
+        self.after_line = self.expected.is_none();
+        self.expected = None;
     }
 
     /// Announces that a payload of `size` bytes follows the line given last, as `after_line` tells; a

@@ -6,7 +6,7 @@
 
 mod count;
 mod cutter;
-mod fault;
+mod faults;
 mod laws;
 mod mem_sink;
 mod mem_source;
@@ -18,7 +18,7 @@ mod window;
 
 pub use count::Count;
 pub use cutter::Cutter;
-pub use fault::{CutFault, FeedFault, FillFault};
+pub use faults::{CutFault, FeedFault, FillFault};
 pub use laws::{cutter_follows_grammar, stream_is_read_in_parts};
 pub use mem_sink::MemSink;
 pub use mem_source::MemSource;

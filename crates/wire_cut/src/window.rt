@@ -4,7 +4,7 @@ ghost use Rattle.std.specs.Prelude.{length, max, take, drop, slice_range, vec_le
 ghost use Rattle.std.specs.Io.KnownBytes.{Keeps};
 ghost use Rattle.wire_cut.specs.Flow.{Gains, ReadsOnce};
 
-use crate::fault::FillFault;
+use crate::faults::FillFault;
 use crate::source::Source;
 use std::alloc::{AllocError, Global};
 use std::marker::Model;

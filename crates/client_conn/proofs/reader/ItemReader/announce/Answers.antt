@@ -1,4 +1,4 @@
-use Rattle.std.proofs.Common.{◌∙◌, sym, ap}
+use Rattle.std.proofs.Common.{sym}
 use Rattle.client_conn.proofs.Looking.{announced}
 use Rattle.client_conn.proofs.reader.ItemReader.announce.Goals as goal
 

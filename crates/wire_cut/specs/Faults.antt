@@ -1,7 +1,7 @@
 -- The numbers of the refusals.
 use Rattle.std.specs.Prelude.{ℕ}
-use Rattle.wire_cut.specs.declared.fault.CutFault.{CutFault}
-use Rattle.wire_cut.specs.declared.fault.CutFault.TheVariants.{LineTooLong, PayloadTooLong, NoCrLfAfterPayload}
+use Rattle.wire_cut.specs.declared.faults.CutFault.{CutFault}
+use Rattle.wire_cut.specs.declared.faults.CutFault.TheVariants.{LineTooLong, PayloadTooLong, NoCrLfAfterPayload}
 
 abbrev pub fault_number : CutFault → ℕ
 fault_number LineTooLong = 10

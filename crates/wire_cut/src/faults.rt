@@ -1,7 +1,7 @@
 //! Why a stream cannot be cut.
 ghost use Rattle.std.specs.Prelude.{◌≡◌};
-ghost use Rattle.wire_cut.specs.declared.fault.FeedFault.TheVariants as feed;
-ghost use Rattle.wire_cut.specs.declared.fault.FillFault.TheVariants as fill;
+ghost use Rattle.wire_cut.specs.declared.faults.FeedFault.TheVariants as feed;
+ghost use Rattle.wire_cut.specs.declared.faults.FillFault.TheVariants as fill;
 
 use crate::source::ReadFailed;
 use std::alloc::AllocError;
@@ -23,13 +23,13 @@ pub enum CutFault {
 }
 
 impl CutFault {
-    ghost use Rattle.wire_cut.specs.Fault.{fault_number};
+    ghost use Rattle.wire_cut.specs.Faults.{fault_number};
 
     /// The number of the refusal, 10 to 12.
-    pub fn number(self) -> u8
+    pub fn number(self) -> u16
         ensures { result ≡ fault_number self }
     {
-        self as u8
+        self as u16
     }
 }
 
