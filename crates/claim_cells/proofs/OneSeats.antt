@@ -14,7 +14,7 @@ use Rattle.claim_race.specs.Race.{RaceState, Win, winner, is_of_pair, busy_of, I
 use Rattle.claim_cells.specs.declared.parts.HubPart.{HubPart}
 use Rattle.claim_cells.specs.declared.parts.ShardPart.{ShardPart}
 use Rattle.claim_cells.specs.declared.parts.View.{View}
-use Rattle.claim_cells.specs.Rule.{At, Has, newcomer, newcomers, everyone}
+use Rattle.claim_cells.specs.Rule.{At, Has, newcomer, newcomers, whole_view}
 use Rattle.claim_cells.specs.Steps.{hub_of, part_of, HasPart, Won, with_hub, with_part, with_loads, seen, won_by, lost_by, finished_one, looked, IsLookedAt, IsSeenAt, IsClaimedAt, IsFinishedAt}
 use Rattle.claim_cells.specs.Seats.{Sighted}
 use Rattle.claim_cells.specs.Calls.{finished_list, IsRoundAt, IsIssueAt}
@@ -289,7 +289,7 @@ no_wins : (s n : ℕ) → wins_in (newcomers s n) ≡ []
 no_wins s zero = refl
 no_wins s (suc n) = no_wins (suc s) n
 
-pub begins : {S : Type 0} (m : Me S View) (shards : ℕ) → m ≡ (everyone shards, []) → IsWhole m × (m.0.count ≡ shards) × IsNew shards (shown m)
+pub begins : {S : Type 0} (m : Me S View) (shards : ℕ) → m ≡ (whole_view shards, []) → IsWhole m × (m.0.count ≡ shards) × IsNew shards (shown m)
 begins m shards e = (
   subst IsWhole (sym e) ((newcomers_length 1 shards, (λ s p at. ap (λ (p : ShardPart). p.shard) (is_new 0 0 0 shards s p at))), refl, refl),
   ap (λ m. m.0.count) e,

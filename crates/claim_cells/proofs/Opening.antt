@@ -8,7 +8,7 @@ use native.Mathlib.Decide.{dec_le}
 use Rattle.atomic_table.specs.Table.{opening}
 use Rattle.claim_cells.specs.declared.parts.ShardPart.{ShardPart}
 use Rattle.claim_cells.specs.declared.parts.View.{View}
-use Rattle.claim_cells.specs.Rule.{At, Has, Law, Words, Seated, Kept, row, newcomer, newcomers, fresh_hub, everyone}
+use Rattle.claim_cells.specs.Rule.{At, Has, Law, Words, Seated, Kept, row, newcomer, newcomers, fresh_hub, whole_view}
 use Rattle.claim_cells.proofs.Lists.{un_some}
 
 zeros : (n i : ℕ) → slice_index (replicate n 0) i ≡ 0
@@ -61,16 +61,16 @@ module _ (limit window names count : ℕ) where
       zero_at : (i : ℕ) → slice_index words i ≡ 0
       zero_at i = ap (λ (l : List ℕ). slice_index l i) is ∙ zeros (count + 1 + window * names) i
 
-  seated : Seated (everyone count ∷ []) fresh_hub (newcomers 1 count)
+  seated : Seated (whole_view count ∷ []) fresh_hub (newcomers 1 count)
   seated = record {
     place = λ s. (0, s);
     desk = 0;
-    shards = λ j i w p e k. let one = one_view (everyone count) w j e in let k' : At (newcomers 1 count) i p = subst (λ (u : View). At u.shards i p) (sym one.1) k in let is : row p ≡ i = (let a = ap (λ (p : ShardPart). p.shard) (is_new i p k') in omega arith) in
+    shards = λ j i w p e k. let one = one_view (whole_view count) w j e in let k' : At (newcomers 1 count) i p = subst (λ (u : View). At u.shards i p) (sym one.1) k in let is : row p ≡ i = (let a = ap (λ (p : ShardPart). p.shard) (is_new i p k') in omega arith) in
         (subst (λ (s : ℕ). At (newcomers 1 count) s p) (sym is) k', λ m. (sym one.0 m, is m));
-    hubs = λ j w h e is. let one = one_view (everyone count) w j e in (sym (un_some fresh_hub h (ap (λ (u : View). u.hub) one.1 ∙ is)), one.0);
-    each = λ s p e. (everyone count, refl, e);
-    one = (everyone count, refl, refl);
+    hubs = λ j w h e is. let one = one_view (whole_view count) w j e in (sym (un_some fresh_hub h (ap (λ (u : View). u.hub) one.1 ∙ is)), one.0);
+    each = λ s p e. (whole_view count, refl, e);
+    one = (whole_view count, refl, refl);
   }
 
-  pub opens : (S : Type 0) (words : List ℕ) → words ≡ replicate (count + 1 + window * names) 0 → Kept {S = S} limit window names count (opening words [] (everyone count))
+  pub opens : (S : Type 0) (words : List ℕ) → words ≡ replicate (count + 1 + window * names) 0 → Kept {S = S} limit window names count (opening words [] (whole_view count))
   opens S words is = (fresh_hub, newcomers 1 count, law, said words is, seated)

@@ -27,8 +27,8 @@ abbrev pub fresh_hub : HubPart
 fresh_hub = record { issued = 0; loads = [] }
 
 -- the view of the first seat, which has all parts
-abbrev pub everyone : ℕ → View
-everyone count = record { hub = Some fresh_hub; shards = newcomers 1 count; at = 0; count = count }
+abbrev pub whole_view : ℕ → View
+whole_view count = record { hub = Some fresh_hub; shards = newcomers 1 count; at = 0; count = count }
 
 abbrev pub rest_parts : List ShardPart → List ShardPart
 rest_parts [] = []

@@ -2,7 +2,7 @@
 
 ghost use Rattle.std.specs.Prelude.{◌≡◌, ℕ, ◌+◌, ◌<◌, ◌≤◌, [], true, false, IfOk, IsOk};
 ghost use Rattle.subj.specs.declared.limits.TheConstants.{MAX_COUNTER, MAX_QUEUE_NAMES, MAX_SHARDS, WINDOW};
-ghost use Rattle.claim_cells.specs.Rule.{Has, everyone, fresh_hub};
+ghost use Rattle.claim_cells.specs.Rule.{Has, whole_view, fresh_hub};
 ghost use Rattle.claim_cells.specs.Steps.{seen, won_by, lost_by, finished_one};
 ghost use Rattle.claim_cells.specs.Seats.{HasTurn, last_load};
 ghost use Rattle.claim_cells.specs.Calls.{AllNew, AreLoads, IsIssuedOrBusy, IsLooked, ShowsRoom};
@@ -52,7 +52,7 @@ impl Cells {
     pub(crate) fn deal(alloc: Global, shards: u64) -> Result<(Cells, Place), AllocError>
         requires first { 1 ≤ shards }
         requires last { shards ≤ MAX_SHARDS }
-        ensures { IfOk result (λ t. (t.0.shards ≡ shards) × (t.1.table_id ≡ t.0.table) × (t.1.me ≡ (everyone shards, []))) }
+        ensures { IfOk result (λ t. (t.0.shards ≡ shards) × (t.1.table_id ≡ t.0.table) × (t.1.me ≡ (whole_view shards, []))) }
     {
         let words = vec![in alloc; 0; shards as usize + 1 + CLAIM_WORDS]?;
         let (table, place) = Table::of_words(alloc, words.as_slice(), &shards)?;

@@ -36,12 +36,12 @@ impl Closed {
     }
 }
 
-/// The words of a race that is over. Seen as these.
-struct LastWords {
+/// The table of a race that is over. Seen as its words.
+struct FinalTable {
     table: atomic_table::Closed<(), Global>,
 }
 
-impl Model for LastWords {
+impl Model for FinalTable {
     ghost use Rattle.std.specs.Prelude.{ℕ, List};
     ghost use Rattle.std.specs.Mem.Slots.{slots_items, slots_len, IsFull};
     ghost use Rattle.subj.specs.declared.limits.TheConstants.{MAX_COUNTER};
@@ -54,7 +54,7 @@ impl Model for LastWords {
     ghost invariant = { λ words. IsLast MAX_COUNTER (IsFull words.table.words) (slots_items words.table.words) (slots_len words.table.words) (slots_len words.table.slots) };
 }
 
-impl LastWords {
+impl FinalTable {
     /// The word at the place.
     fn turn(&self, place: usize) -> Turn
         requires { place < length self.now }
@@ -89,7 +89,7 @@ impl LastWords {
     }
 }
 
-impl Drop for LastWords {
+impl Drop for FinalTable {
     fn drop(self) {
         let Self { table } = self;
         table.free();
@@ -98,7 +98,7 @@ impl Drop for LastWords {
 
 impl Cells {
     /// Joins the seats, and ends the race.
-    fn gather(self, hub: HubSeat, mut seats: Vec<ShardSeat>) -> LastWords
+    fn gather(self, hub: HubSeat, mut seats: Vec<ShardSeat>) -> FinalTable
         requires hub { hub.race ≡ self }
         requires shards { AllOf self seats.items }
         requires each { HasEach self.shards seats.items }
@@ -124,7 +124,7 @@ impl Cells {
             table.shared.join_seat::<Both>(&mut place, part);
         }
         drop(seats);
-        LastWords {
+        FinalTable {
             table: table.close_with(place),
         }
     }

@@ -1,6 +1,6 @@
 //! The rule of the words, and what each kind of step on them tells.
 
-ghost use Rattle.claim_cells.specs.Rule.{Kept, everyone, rest_of, first_of_view, joined, spent};
+ghost use Rattle.claim_cells.specs.Rule.{Kept, whole_view, rest_of, first_of_view, joined, spent};
 ghost use Rattle.claim_cells.specs.Steps.{Looks, Issues, Sees, Claims, Finishes};
 ghost use Rattle.subj.specs.declared.limits.TheConstants.{MAX_COUNTER, MAX_QUEUE_NAMES, WINDOW};
 
@@ -13,7 +13,7 @@ pub struct Ruled;
 impl TableRule<(), View, u64> for Ruled {
     ghost holds = { Kept MAX_COUNTER WINDOW MAX_QUEUE_NAMES };
 
-    ghost first = { everyone };
+    ghost first = { whole_view };
 }
 
 /// The hub loads the last turn that a shard finished.

@@ -1,18 +1,19 @@
 -- The choice, name by name and peer by peer.
-use Rattle.std.proofs.Common.{◌≡◌, ℕ, suc, ◌+◌, ◌*◌, ◌<◌, ◌≤◌, Bool, true, false, cond, List, [], ◌∷◌, ◌++◌, length, take, drop, get_or, Option, Some, refl, sym, ap, ◌∙◌, arith, append_assoc, add-one}
+use Rattle.std.proofs.Common.{◌≡◌, ℕ, suc, ◌+◌, ◌*◌, ◌<◌, ◌≤◌, Bool, true, false, ◌&&◌, ◌||◌, cond, List, [], ◌∷◌, ◌++◌, length, take, drop, get_or, Option, Some, refl, sym, ap, ◌∙◌, arith, append_assoc, add-one}
 use Rattle.std.specs.Prelude.{map, slice_get, slice_set, unwrap_or, option_and_then, option_to_list, if◌then◌else◌}
 use Rattle.std.proofs.lemmas.List.{take_more_set, at_drop_more, at_drop_all, append-nil}
 use Rattle.std.proofs.lemmas.List.Sums.{sum_by-append}
 use Rattle.std.proofs.lemmas.Option.{slice_get-get_or}
+use Rattle.list_laws.proofs.Tests.{or_false}
 use Rattle.subj.specs.QueueNames.{is_named}
 use Rattle.subj.specs.Servers.{Server, name_of}
 use Rattle.pick.specs.Pick.{Weighted, total_weight}
 use Rattle.interest.specs.Counts.{Counts}
-use Rattle.interest.specs.Matches.{names_in}
-use Rattle.interest.proofs.Gathering.{not_fewer_in}
-use Rattle.hub_core.specs.State.{Peer}
-use Rattle.hub_core.specs.Choice.{is_eligible, weight_at, weights_from, names_from}
-use Rattle.hub_core.specs.Chosen.{chosen_for}
+use Rattle.interest.specs.Matches.{names_in, has_queue_match}
+use Rattle.interest.proofs.Gathering.{not_fewer_in, none_queued}
+use Rattle.hub_core.specs.State.{State, Peer}
+use Rattle.hub_core.specs.Choice.{is_eligible, weight_at, weights_from, names_from, queue_names}
+use Rattle.hub_core.specs.Chosen.{chosen_for, wants_name_from}
 
 -- ---- an array is written from its front on
 
@@ -46,6 +47,26 @@ too_many_at server subject peers i peer names first all most below read is begun
     let rest = not_fewer_from server subject (suc i) (drop (i + 1) peers) (names_with server subject i (get_or peers i peer) names) in
     let same = ap length (sym (names_step server subject peers i peer names below) ∙ is ∙ ap (names_from server subject 0 peers) begun) in
     omega arith
+
+-- ---- where nobody wants a name, there is none
+
+none_with : (server : Server) (subject : List ℕ) (q : ℕ) (peer : Peer) (names : List (List ℕ)) → (is_eligible server q peer && has_queue_match subject peer.heard.keys) ≡ false → names_with server subject q peer names ≡ names
+none_with server subject q peer names = go (is_eligible server q peer)
+  where
+    go : (b : Bool) → (b && has_queue_match subject peer.heard.keys) ≡ false → cond b (names_in subject peer.heard.keys names) names ≡ names
+    go true none = none_queued subject peer.heard.keys names none
+    go false none = refl
+
+none_from : (server : Server) (subject : List ℕ) (q : ℕ) (peers : List Peer) (names : List (List ℕ)) → wants_name_from server subject q peers ≡ false → names_from server subject q peers names ≡ names
+none_from server subject q [] names none = refl
+none_from server subject q (peer ∷ peers) names none =
+    let parts = or_false (is_eligible server q peer && has_queue_match subject peer.heard.keys) (wants_name_from server subject (suc q) peers) none in
+    ap (names_from server subject (suc q) peers) (none_with server subject q peer names parts.0) ∙ none_from server subject (suc q) peers names parts.1
+
+pub none_wanted : (server : Server) (hub : State) (subject : List ℕ) → (has_queue_match subject hub.counts || wants_name_from server subject 0 hub.peers) ≡ false → queue_names server hub subject ≡ []
+none_wanted server hub subject none =
+    let parts = or_false (has_queue_match subject hub.counts) (wants_name_from server subject 0 hub.peers) none in
+    ap (names_from server subject 0 hub.peers) (none_queued subject hub.counts [] parts.0) ∙ none_from server subject 0 hub.peers [] parts.1
 
 -- ---- the weights, peer by peer
 

@@ -115,6 +115,6 @@ pub nothing_put : (server : Server) (k : ℕ) (peers : List Peer) → with_frame
 nothing_put server k [] = refl
 nothing_put server k (peer ∷ peers) = (λ i. record peer { outbox = append_nil peer.outbox i } ∷ nothing_put server (suc k) peers i)
 
-pub no_frames : (frames : List Frame) → length frames ≡ 0 → frames ≡ []
-no_frames [] e = refl
-no_frames (frame ∷ frames) e = absurd (omega arith)
+pub no_items : {A : Type 0} (xs : List A) → length xs ≡ 0 → xs ≡ []
+no_items [] e = refl
+no_items (x ∷ xs) e = absurd (omega arith)

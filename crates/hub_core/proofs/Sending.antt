@@ -1,12 +1,13 @@
 -- The frames of a publication, peer by peer, and the names of each server.
 use Rattle.std.proofs.Common.{◌≡◌, ℕ, suc, ◌+◌, ◌<◌, ◌≤◌, Bool, true, false, ◌&&◌, cond, List, [], ◌∷◌, ◌++◌, length, take, drop, get_or, Option, Some, None, refl, sym, ap, ◌∙◌, arith, append_assoc, add-one}
-use Rattle.std.specs.Prelude.{map, filter, not, nat_eq, nat_lt, nat_le, if◌then◌else◌}
+use Rattle.std.specs.Prelude.{map, filter, unwrap_or, not, nat_eq, nat_lt, nat_le, if◌then◌else◌}
 use Rattle.std.specs.Cmp.Lexicographic.{slice_cmp, nat_list_cmp_total}
 use Rattle.std.specs.declared.cmp.Ordering.{Ordering}
 use Rattle.std.specs.declared.cmp.Ordering.TheVariants.{Less, Equal, Greater}
 use Rattle.std.specs.Ordering.{is_lt, nat_cmp}
 use Rattle.std.proofs.lemmas.Bool.Decides.{nat_tests}
 use Rattle.std.proofs.lemmas.List.{at_drop_more}
+use Rattle.std.proofs.lemmas.Option.{slice_get-get_or}
 use Rattle.list_laws.proofs.Tests.{and_true, lt_true}
 use Rattle.subj.specs.declared.limits.TheConstants.{MAX_QUEUE_NAMES, ROUTE_FRAMES}
 use Rattle.subj.specs.Messages.{Content}
@@ -18,8 +19,8 @@ use Rattle.hub_core.specs.declared.faults.HubFault.{HubFault}
 use Rattle.hub_core.specs.declared.faults.HubFault.TheVariants.{Spent, TooManyQueues}
 use Rattle.hub_core.specs.State.{Peer}
 use Rattle.hub_core.specs.Choice.{is_eligible, names_for}
-use Rattle.hub_core.specs.Publishing.{frames_from}
-use Rattle.hub_core.specs.Chosen.{chosen_for, frame_at, sent_from, IsSplit}
+use Rattle.hub_core.specs.Publishing.{is_owed, frames_from}
+use Rattle.hub_core.specs.Chosen.{chosen_for, message_frame, frame_at, sent_from, IsSplit}
 use Rattle.hub_core.proofs.Names.{fewer}
 
 -- ---- who is eligible is up, and has room
@@ -41,6 +42,21 @@ frames_step server number content queues_of peers i peer frames before all below
     ∙ sym (at_drop_more (sent_from server number content queues_of i) peers i peer below)
     )
     ∙ is
+
+pub listed_name : (server : Server) (names : List (List ℕ)) (q : ℕ) (name : List ℕ) → names ≡ server.names → q < length server.names → name ≡ get_or names q name → name ≡ name_of server q
+listed_name server names q name are below read =
+    read ∙ ap (λ (names : List (List ℕ)). get_or names q name) are ∙ sym (ap (λ o. unwrap_or o []) (slice_get-get_or server.names q name below))
+
+-- what an eligible peer gets, of names that its name has
+module _ (server : Server) (number : ℕ) (content : Content) (names : List (List ℕ)) (servers : List (Option (List ℕ))) (q : ℕ) (peer : Peer) (name : List ℕ) (queues : List (List ℕ)) (called : name ≡ name_of server q) (queues_are : queues ≡ chosen_for name names servers) (is : is_eligible server q peer ≡ true) where
+  same : queues ≡ chosen_for (name_of server q) names servers
+  same = queues_are ∙ ap (λ name. chosen_for name names servers) called
+
+  pub none_owed : is_owed content.subject queues peer ≡ false → frame_at server number content (chosen_for (name_of server q) names servers) q peer ≡ []
+  none_owed free = ap (λ queues. frame_at server number content queues q peer) (sym same) ∙ (λ k. if is k && free k then message_frame server number content queues q peer ∷ [] else [])
+
+  pub one_owed : is_owed content.subject queues peer ≡ true → frame_at server number content (chosen_for (name_of server q) names servers) q peer ≡ message_frame server number content queues q peer ∷ []
+  one_owed due = ap (λ queues. frame_at server number content queues q peer) (sym same) ∙ (λ k. if is k && due k then message_frame server number content queues q peer ∷ [] else [])
 
 -- the frames of a publication are these
 pub sent_is : (server : Server) (number : ℕ) (content : Content) (choice : List ℕ → Option (List ℕ)) (names : List (List ℕ)) (q : ℕ) (peers : List Peer) → sent_from server number content (λ name. names_for choice name names) q peers ≡ frames_from server number content choice names q peers

@@ -1,5 +1,5 @@
 -- What a choice finds in code, and what a publish owes by it.
-use Rattle.std.specs.Prelude.{◌≡◌, ℕ, suc, ◌<◌, ◌≤◌, true, nat_le, ◌&&◌, ◌||◌, List, [], ◌∷◌, ◌++◌, length, Option, Some, None, Result, Ok, Err, if◌then◌else◌}
+use Rattle.std.specs.Prelude.{◌≡◌, ℕ, suc, ◌<◌, ◌≤◌, Bool, true, false, nat_le, ◌&&◌, ◌||◌, List, [], ◌∷◌, ◌++◌, length, Option, Some, None, Result, Ok, Err, if◌then◌else◌}
 use Rattle.subj.specs.declared.limits.TheConstants.{MAX_COUNTER, MAX_QUEUE_NAMES}
 use Rattle.std.specs.Option.{option_or}
 use Rattle.subj.specs.declared.messages.Pub.{Pub}
@@ -12,8 +12,14 @@ use Rattle.route_values.specs.Frames.{Frame}
 use Rattle.hub_core.specs.declared.faults.HubFault.{HubFault}
 use Rattle.hub_core.specs.declared.faults.HubFault.TheVariants.{Spent}
 use Rattle.hub_core.specs.State.{State, Peer}
+use Rattle.interest.specs.Matches.{has_queue_match}
 use Rattle.hub_core.specs.Choice.{is_eligible}
 use Rattle.hub_core.specs.Publishing.{Publication, busy_fault, is_owed, own_job, frames_of}
+
+-- an eligible peer, from the one at place q on, has a key with a queue name that matches
+abbrev pub wants_name_from : Server → List ℕ → ℕ → List Peer → Bool
+wants_name_from server subject q [] = false
+wants_name_from server subject q (peer ∷ peers) = (is_eligible server q peer && has_queue_match subject peer.heard.keys) || wants_name_from server subject (suc q) peers
 
 -- all names are found, or they are more than a publication may have
 abbrev pub AreFound : {T E : Type 0} → List (List ℕ) → List (List ℕ) → Result T E → Type 0

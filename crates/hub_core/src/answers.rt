@@ -1,6 +1,9 @@
 //! What the calls on a hub answer.
 
+ghost use Rattle.std.specs.Prelude.{◌≡◌, []};
+
 use interest::Change;
+use std::alloc::Global;
 use subj::Job;
 
 /// What becomes of a frame that is taken.
@@ -19,4 +22,17 @@ pub struct Told {
     pub changes: Vec<Change>,
     /// The peers that were cut since they had no room for all of them, by their places.
     pub cut: Vec<usize>,
+}
+
+impl Told {
+    /// Nothing was told. Takes no memory.
+    pub(crate) fn nothing(alloc: Global) -> Told
+        ensures changes { result.changes.items ≡ [] }
+        ensures cut { result.cut.items ≡ [] }
+    {
+        Told {
+            changes: Vec::new(alloc),
+            cut: Vec::new(alloc),
+        }
+    }
 }

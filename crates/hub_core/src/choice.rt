@@ -1,13 +1,13 @@
 //! The choice: which queue names a publication has, and which server serves each of them.
 
-ghost use Rattle.std.specs.Prelude.{◌≡◌, ◌*◌, ◌≤◌, ◌++◌, [], length, map, option_and_then, option_to_list, take, true, IfOk, OnOk, if◌then◌else◌};
+ghost use Rattle.std.specs.Prelude.{◌≡◌, ◌*◌, ◌≤◌, ◌++◌, ◌&&◌, ◌||◌, [], length, map, option_and_then, option_to_list, take, true, unwrap_or, IfOk, OnOk, if◌then◌else◌};
 ghost use Rattle.std.specs.Option.{option_copied};
 ghost use Rattle.subj.specs.QueueNames.{is_named, are_queue_names};
 ghost use Rattle.subj.specs.Servers.{Server};
 ghost use Rattle.pick.specs.Pick.{picked};
-ghost use Rattle.interest.specs.Matches.{names_in, AreGathered};
+ghost use Rattle.interest.specs.Matches.{has_queue_match, names_in, AreGathered};
 ghost use Rattle.hub_core.specs.Choice.{is_eligible as eligible, weight_at as weighs, weights_from, names_from};
-ghost use Rattle.hub_core.specs.Chosen.{AreFound, chosen_for};
+ghost use Rattle.hub_core.specs.Chosen.{AreFound, chosen_for, wants_name_from};
 
 use crate::peers::Peer;
 use interest::{FoundNames, Local, TooManyNames};
@@ -29,6 +29,33 @@ pub(crate) fn is_eligible(server: &Server, place: usize, peer: &Peer) -> bool
     ensures { result ≡ eligible server.now place peer.now }
 {
     place != server.me() && (peer.up && peer.outbox.len() < ROUTE_FRAMES)
+}
+
+/// Whether the peer is eligible, and has a key with a queue name that matches the subject.
+fn wants_name(server: &Server, place: usize, peer: &Peer, subject: &Subject) -> bool
+    ensures { result ≡ (eligible server.now place peer.now && has_queue_match subject.now peer.now.heard.keys) }
+{
+    is_eligible(server, place, peer) && peer.heard.has_queue(subject)
+}
+
+/// Whether some queue name wants the subject: whether [`gather_names`] would find any. Takes no memory.
+pub(crate) fn is_name_wanted(
+    server: &Server,
+    counts: &Local,
+    peers: &[Peer],
+    subject: &Subject,
+) -> bool
+    ensures { result ≡ (has_queue_match subject.now counts.now || wants_name_from server.now subject.now 0 peers.now) }
+{
+    if counts.has_queue(subject) {
+        return true;
+    }
+    for (place, peer) in peers.iter().enumerate() {
+        if wants_name(server, place, peer, subject) {
+            return true;
+        }
+    }
+    false
 }
 
 /// Adds the queue names that the peer wants, where it is eligible.
@@ -194,17 +221,21 @@ fn names_of(
     Ok(chosen)
 }
 
-/// The queue names for which the server of this name was chosen. Takes memory only where there are some.
+/// The queue names for which the server of this name was chosen, of those that were found, if any. Takes memory only
+/// where there are some.
 pub(crate) fn names_for(
     alloc: Global,
-    names: &FoundNames<'_>,
+    names: Option<&FoundNames<'_>>,
     servers: &[Option<NodeId>],
     server_name: NodeId,
 ) -> Result<QueueNames, AllocError>
-    requires all { length names.now ≤ length servers.now }
-    requires ordered { are_queue_names (chosen_for server_name names.now servers.now) ≡ true }
-    ensures { IfOk result (λ queues. queues ≡ chosen_for server_name names.now servers.now) }
+    requires all { length (unwrap_or (option_copied names) []) ≤ length servers.now }
+    requires ordered { are_queue_names (chosen_for server_name (unwrap_or (option_copied names) []) servers.now) ≡ true }
+    ensures { IfOk result (λ queues. queues ≡ chosen_for server_name (unwrap_or (option_copied names.entry) []) servers.now) }
 {
+    let Some(names) = names else {
+        return Ok(QueueNames::new());
+    };
     let chosen = names_of(alloc, names, servers, server_name)?;
     let queues = QueueNames::from_names(alloc, chosen)?;
     Ok(queues.unwrap())

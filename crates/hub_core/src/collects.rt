@@ -118,8 +118,9 @@ impl Hub {
 
     /// Counts the deltas of a shard, in their order, and tells each peer that is up of all that they
     /// change; a peer that has no room for all of it is told nothing, and is cut. It is
-    /// [`Hub::plan_collect`] and [`Hub::commit_collect`] together; any `Err` leaves all as it was. (NATS
-    /// documentation, "Cluster Protocol": `RS+` and `RS-`; numbers, order and cuts: profile.)
+    /// [`Hub::plan_collect`] and [`Hub::commit_collect`] together; no deltas change nothing, and cost hardly
+    /// anything. Any `Err` leaves all as it was. (NATS documentation, "Cluster Protocol": `RS+` and `RS-`;
+    /// numbers, order and cuts: profile.)
     ///
     /// Refused, all of them together, with [`HubFault::BadInterest`] where one could not be counted in its
     /// turn, as [`Local::apply`](interest::Local::apply) tells, and then with [`HubFault::Spent`] where
@@ -127,6 +128,9 @@ impl Hub {
     pub fn collect(&mut self, deltas: &[Delta]) -> Result<Told, Failure<HubFault>>
         ensures { (shard : ℕ) → IsAnswered (refusal self.old (Collect shard deltas.now)) (λ told. IsStep self.old (Collect shard deltas.now) (Collected told.changes.items (collect_frames self.old.server self.old.state deltas.now) told.cut.items) self.new) (self.new ≡ self.old) result }
     {
+        if deltas.is_empty() {
+            return Ok(Told::nothing(self.alloc));
+        }
         let plan = self.plan_collect(deltas)?;
         Ok(self.commit_collect(deltas, plan))
     }

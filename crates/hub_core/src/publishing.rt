@@ -1,17 +1,20 @@
 //! What a publish owes: a job for the server's own shards, and a frame for each peer that is owed one.
 
-ghost use Rattle.std.specs.Prelude.{◌≡◌, ℕ, ◌+◌, ◌<◌, ◌≤◌, ◌++◌, ⊤, true, length, slice_get, option_to_list, Some, IfOk, OnOk};
+ghost use Rattle.std.specs.Prelude.{◌≡◌, ℕ, ◌+◌, ◌<◌, ◌≤◌, ◌++◌, ⊤, [], true, false, nat_lt, length, slice_get, unwrap_or, Some, None, IfOk, OnOk, if◌then◌else◌};
+ghost use Rattle.std.specs.Option.{option_copied};
 ghost use Rattle.subj.specs.Answers.{IsAnswered, IsDecided};
+ghost use Rattle.subj.specs.declared.limits.TheConstants.{MAX_QUEUE_NAMES};
 ghost use Rattle.subj.specs.Servers.{name_of};
 ghost use Rattle.hub_core.specs.State.{Peer as KnownPeer};
-ghost use Rattle.hub_core.specs.Choice.{queue_names as wanted_names};
+ghost use Rattle.hub_core.specs.Choice.{is_eligible as eligible, queue_names as wanted_names};
 ghost use Rattle.hub_core.specs.Publishing.{is_owed as owed, publish_refusal, frames_of};
 ghost use Rattle.hub_core.specs.Events.{Publish, Issued};
+ghost use Rattle.hub_core.specs.declared.faults.HubFault.TheVariants.{TooManyQueues};
 ghost use Rattle.hub_core.specs.Hubs.{IsStep};
 ghost use Rattle.hub_core.specs.Chosen.{IsSplit, chosen_for, frame_at, sent_from, IsPlanOf, publication, turn_refusal};
 ghost use Rattle.hub_core.specs.Serving.{IsServed};
 
-use crate::choice::{gather_names, is_eligible, names_for, servers_for};
+use crate::choice::{gather_names, is_eligible, is_name_wanted, names_for, servers_for};
 use crate::faults::HubFault;
 use crate::hub::Hub;
 use crate::peers::Peer;
@@ -21,8 +24,8 @@ use interest::FoundNames;
 use route_values::{Body, Numbered};
 use std::alloc::{AllocError, Global};
 use subj::{
-    ConnId, Failure, Finished, Incarnation, Job, MAX_COUNTER, Message, NodeId, Pub, PubId,
-    QueueNames, Server, Turn,
+    ConnId, Failure, Finished, Job, MAX_COUNTER, Message, NodeId, Pub, PubId, QueueNames, Server,
+    Subject, Turn,
 };
 
 /// What a publish owes, found before anything is changed.
@@ -41,34 +44,9 @@ pub(crate) struct Outgoing<'a> {
     pub server: &'a Server,
     pub number: u64,
     pub message: &'a Message,
-    pub names: &'a FoundNames<'a>,
+    /// None where no queue name wants it.
+    pub names: Option<&'a FoundNames<'a>>,
     pub servers: &'a [Option<NodeId>],
-}
-
-/// The frame for the peer at the place, where it is owed one: where it is eligible, and has a plain key
-/// that matches or was chosen for a queue name. Takes memory only for names, and for the copy of the
-/// message. (NATS documentation, "Cluster Protocol": `RMSG`.)
-#[tactic(auto, using(crate::proofs::Sending::eligible_up))]
-fn frame_for(out: &Outgoing<'_>, place: usize, peer: &Peer) -> Result<Option<Numbered>, AllocError>
-    requires split { IsSplit out.now.names.now out.now.servers.now }
-    requires place { place < length out.now.server.now.names }
-    requires first { 1 ≤ out.now.number }
-    requires last { out.now.number ≤ MAX_COUNTER }
-    requires seen { peer.now.up ≡ true → 1 ≤ peer.now.seen }
-    ensures { IfOk result (λ frame. option_to_list frame ≡ frame_at out.now.server.now out.now.number out.now.message.now (chosen_for (name_of out.now.server.now place) out.now.names.now out.now.servers.now) place peer.now) }
-{
-    if !is_eligible(out.server, place, peer) {
-        return Ok(None);
-    }
-    let to = out.server.names()[place];
-    let queues = names_for(out.alloc, out.names, out.servers, to)?;
-    if !is_owed(peer, out.message, &queues) {
-        return Ok(None);
-    }
-    let inc = Incarnation::new(peer.seen).unwrap();
-    let message = out.message.try_clone()?;
-    let body = Body::Msg { message, queues };
-    Ok(Some(frame_to(out.server, place, inc, out.number, body)))
 }
 
 /// Whether the peer has a plain key that matches, or was chosen for one of the names.
@@ -78,52 +56,70 @@ fn is_owed(peer: &Peer, message: &Message, queues: &QueueNames) -> bool
     peer.heard.has_plain(message.subject()) || !queues.as_slice().is_empty()
 }
 
-/// Puts the frame behind the others, where there is one.
-fn push_some(frames: &mut Vec<Numbered>, frame: Option<Numbered>) -> Result<(), AllocError>
-    ensures { OnOk result (frames.new.items ≡ frames.old.items ++ option_to_list frame) }
+/// Puts the frame for an eligible peer behind the others, where it is owed one: where it has a plain key that matches,
+/// or was chosen for a queue name. Takes memory only for names, and for the copy of the message. (NATS documentation,
+/// "Cluster Protocol": `RMSG`.)
+fn put_frame(
+    out: &Outgoing<'_>,
+    place: usize,
+    peer: &Peer,
+    frames: &mut Vec<Numbered>,
+) -> Result<(), AllocError>
+    requires split { IsSplit (unwrap_or (option_copied out.now.names) []) out.now.servers.now }
+    requires place { place < length out.now.server.now.names }
+    requires first { 1 ≤ out.now.number }
+    requires last { out.now.number ≤ MAX_COUNTER }
+    requires seen { 1 ≤ peer.now.seen }
+    requires eligible { eligible out.now.server.now place peer.now ≡ true }
+    ensures { OnOk result (frames.new.items ≡ frames.old.items ++ frame_at out.now.server.now out.now.number out.now.message.now (chosen_for (name_of out.now.server.now place) (unwrap_or (option_copied out.now.names) []) out.now.servers.now) place peer.now) }
 {
-    if let Some(frame) = frame {
-        frames.push(frame)?;
+    let to = out.server.names()[place];
+    let queues = names_for(out.alloc, out.names, out.servers, to)?;
+    if !is_owed(peer, out.message, &queues) {
+        return Ok(());
     }
+    let inc = peer.incarnation();
+    let message = out.message.try_clone()?;
+    let body = Body::Msg { message, queues };
+    frames.push(frame_to(out.server, place, inc, out.number, body))?;
     Ok(())
+}
+
+/// The same for any peer: one that is not eligible is owed none.
+#[tactic(auto, using(crate::proofs::Sending::eligible_up))]
+fn add_frame(
+    out: &Outgoing<'_>,
+    place: usize,
+    peer: &Peer,
+    frames: &mut Vec<Numbered>,
+) -> Result<(), AllocError>
+    requires split { IsSplit (unwrap_or (option_copied out.now.names) []) out.now.servers.now }
+    requires place { place < length out.now.server.now.names }
+    requires first { 1 ≤ out.now.number }
+    requires last { out.now.number ≤ MAX_COUNTER }
+    requires seen { peer.now.up ≡ true → 1 ≤ peer.now.seen }
+    ensures { OnOk result (frames.new.items ≡ frames.old.items ++ frame_at out.now.server.now out.now.number out.now.message.now (chosen_for (name_of out.now.server.now place) (unwrap_or (option_copied out.now.names) []) out.now.servers.now) place peer.now) }
+{
+    if !is_eligible(out.server, place, peer) {
+        return Ok(());
+    }
+    put_frame(out, place, peer, frames)
 }
 
 /// The frames for all peers that are owed one, in the order of the servers.
 pub(crate) fn frames_for(out: &Outgoing<'_>, peers: &[Peer]) -> Result<Vec<Numbered>, AllocError>
-    requires split { IsSplit out.now.names.now out.now.servers.now }
+    requires split { IsSplit (unwrap_or (option_copied out.now.names) []) out.now.servers.now }
     requires placed { length peers.now ≡ length out.now.server.now.names }
     requires first { 1 ≤ out.now.number }
     requires last { out.now.number ≤ MAX_COUNTER }
     requires seen { (q : ℕ) (peer : KnownPeer) → slice_get peers.now q ≡ Some peer → peer.up ≡ true → 1 ≤ peer.seen }
-    ensures { IfOk result (λ frames. frames.items ≡ sent_from out.now.server.now out.now.number out.now.message.now (λ server_name. chosen_for server_name out.now.names.now out.now.servers.now) 0 peers.now) }
+    ensures { IfOk result (λ frames. frames.items ≡ sent_from out.now.server.now out.now.number out.now.message.now (λ server_name. chosen_for server_name (unwrap_or (option_copied out.now.names) []) out.now.servers.now) 0 peers.now) }
 {
     let mut frames = Vec::new(out.alloc);
     for (place, peer) in peers.iter().enumerate() {
-        let frame = frame_for(out, place, peer)?;
-        push_some(&mut frames, frame)?;
+        add_frame(out, place, peer, &mut frames)?;
     }
     Ok(frames)
-}
-
-/// The job of the server's own shards, with the queue names for which the server itself was chosen.
-pub(crate) fn own_job(
-    turn: Turn,
-    id: PubId,
-    conn: ConnId,
-    said: &Pub,
-    queues: QueueNames,
-) -> Result<Job, AllocError>
-    ensures { IfOk result (λ job. job ≡ record { turn = turn; id = id; message = said.now.message; publisher = Some conn; echo = said.now.echo; queues = queues }) }
-{
-    let message = said.message.try_clone()?;
-    Ok(Job {
-        turn,
-        id,
-        message,
-        publisher: Some(conn),
-        echo: said.echo,
-        queues,
-    })
 }
 
 impl Hub {
@@ -144,30 +140,25 @@ impl Hub {
         }
     }
 
-    /// What a publication owes that has this turn and these queue names, each of which the server at its place serves.
+    /// What a publication owes that has this turn and these queue names, if any, each of which the server at its place
+    /// serves.
     fn plan_by(
         &self,
         turn: Turn,
         conn: ConnId,
         said: &Pub,
         word: u64,
-        names: &FoundNames<'_>,
+        names: Option<&FoundNames<'_>>,
         servers: &[Option<NodeId>],
-    ) -> Result<PublishPlan, AllocError>
+    ) -> Result<PublishPlan, Failure<HubFault>>
         requires turn { turn ≡ self.now.state.issued + 1 }
         requires number { self.now.state.published < MAX_COUNTER }
-        requires names { names.now ≡ wanted_names self.now.server self.now.state said.now.message.subject }
-        requires servers { IsServed self.now.server self.now.state (publication conn said.now word) names.now servers.now }
-        ensures { IfOk result (λ plan. IsPlanOf self.now.server self.now.state (publication conn said.now word) plan.job plan.frames.items) }
+        requires names { unwrap_or (option_copied names) [] ≡ wanted_names self.now.server self.now.state said.now.message.subject }
+        requires servers { IsServed self.now.server self.now.state (publication conn said.now word) (unwrap_or (option_copied names) []) servers.now }
+        ensures { IsAnswered None (λ plan. IsPlanOf self.now.server self.now.state (publication conn said.now word) plan.job plan.frames.items) ⊤ result }
     {
         let _word = word;
         let queues = names_for(self.alloc, names, servers, self.server.name())?;
-        let id = PubId {
-            origin: self.server.name(),
-            inc: self.server.inc(),
-            number: self.published + 1,
-        };
-        let job = own_job(turn, id, conn, said, queues)?;
         let out = Outgoing {
             alloc: self.alloc,
             server: &self.server,
@@ -177,31 +168,26 @@ impl Hub {
             servers,
         };
         let frames = frames_for(&out, &self.peers)?;
-        Ok(PublishPlan { job, frames })
+        let message = said.message.try_clone()?;
+        let id = PubId {
+            origin: self.server.name(),
+            inc: self.server.inc(),
+            number: self.published + 1,
+        };
+        Ok(PublishPlan {
+            job: Job {
+                turn,
+                id,
+                message,
+                publisher: Some(conn),
+                echo: said.echo,
+                queues,
+            },
+            frames,
+        })
     }
 
-    /// What a publication owes that has this turn and these queue names. Where there are none, no room is made for their
-    /// servers.
-    fn plan_of(
-        &self,
-        turn: Turn,
-        conn: ConnId,
-        said: &Pub,
-        word: u64,
-        names: &FoundNames<'_>,
-    ) -> Result<PublishPlan, AllocError>
-        requires turn { turn ≡ self.now.state.issued + 1 }
-        requires number { self.now.state.published < MAX_COUNTER }
-        requires names { names.now ≡ wanted_names self.now.server self.now.state said.now.message.subject }
-        ensures { IfOk result (λ plan. IsPlanOf self.now.server self.now.state (publication conn said.now word) plan.job plan.frames.items) }
-    {
-        if names.len() == 0 {
-            return self.plan_by(turn, conn, said, word, names, &[]);
-        }
-        self.plan_split(turn, conn, said, word, names)
-    }
-
-    /// The same, with a look at who serves each of the names.
+    /// What a publication owes that has this turn and these queue names, with a look at who serves each of them.
     fn plan_split(
         &self,
         turn: Turn,
@@ -209,11 +195,11 @@ impl Hub {
         said: &Pub,
         word: u64,
         names: &FoundNames<'_>,
-    ) -> Result<PublishPlan, AllocError>
+    ) -> Result<PublishPlan, Failure<HubFault>>
         requires turn { turn ≡ self.now.state.issued + 1 }
         requires number { self.now.state.published < MAX_COUNTER }
         requires names { names.now ≡ wanted_names self.now.server self.now.state said.now.message.subject }
-        ensures { IfOk result (λ plan. IsPlanOf self.now.server self.now.state (publication conn said.now word) plan.job plan.frames.items) }
+        ensures { IsAnswered None (λ plan. IsPlanOf self.now.server self.now.state (publication conn said.now word) plan.job plan.frames.items) ⊤ result }
     {
         let subject = said.message.subject();
         let servers = servers_for(
@@ -224,7 +210,51 @@ impl Hub {
             word,
             names,
         );
-        self.plan_by(turn, conn, said, word, names, &servers)
+        self.plan_by(turn, conn, said, word, Some(names), &servers)
+    }
+
+    /// What a publication owes that has this turn. Refused: 61 where more queue names want it than a publication may
+    /// have.
+    fn plan_named(
+        &self,
+        turn: Turn,
+        conn: ConnId,
+        said: &Pub,
+        word: u64,
+    ) -> Result<PublishPlan, Failure<HubFault>>
+        requires turn { turn ≡ self.now.state.issued + 1 }
+        requires number { self.now.state.published < MAX_COUNTER }
+        ensures { IsAnswered (if nat_lt MAX_QUEUE_NAMES (length (wanted_names self.now.server self.now.state said.now.message.subject)) then Some TooManyQueues else None) (λ plan. IsPlanOf self.now.server self.now.state (publication conn said.now word) plan.job plan.frames.items) ⊤ result }
+    {
+        let subject = said.message.subject();
+        let mut names = FoundNames::new();
+        match gather_names(&self.server, &self.counts, &self.peers, subject, &mut names) {
+            Ok(()) => self.plan_split(turn, conn, said, word, &names),
+            Err(_) => Err(Failure::Refused(HubFault::TooManyQueues)),
+        }
+    }
+
+    /// The same of one that no queue name wants: no room is made for names and for their servers.
+    fn plan_unnamed(
+        &self,
+        turn: Turn,
+        conn: ConnId,
+        said: &Pub,
+        word: u64,
+    ) -> Result<PublishPlan, Failure<HubFault>>
+        requires turn { turn ≡ self.now.state.issued + 1 }
+        requires number { self.now.state.published < MAX_COUNTER }
+        requires names { wanted_names self.now.server self.now.state said.now.message.subject ≡ [] }
+        ensures { IsAnswered None (λ plan. IsPlanOf self.now.server self.now.state (publication conn said.now word) plan.job plan.frames.items) ⊤ result }
+    {
+        self.plan_by(turn, conn, said, word, None, &[])
+    }
+
+    /// Whether some queue name wants the subject.
+    fn is_named(&self, subject: &Subject) -> bool
+        ensures { result ≡ false → wanted_names self.now.server self.now.state subject.now ≡ [] }
+    {
+        is_name_wanted(&self.server, &self.counts, &self.peers, subject)
     }
 
     /// What a publish of the connection owes, where the word decides who serves each queue name. It changes
@@ -246,12 +276,10 @@ impl Hub {
             Ok(turn) => turn,
             Err(fault) => return Err(Failure::Refused(fault)),
         };
-        let subject = said.message.subject();
-        let mut names = FoundNames::new();
-        match gather_names(&self.server, &self.counts, &self.peers, subject, &mut names) {
-            Ok(()) => Ok(self.plan_of(turn, conn, said, word, &names)?),
-            Err(_) => Err(Failure::Refused(HubFault::TooManyQueues)),
+        if self.is_named(said.message.subject()) {
+            return self.plan_named(turn, conn, said, word);
         }
+        self.plan_unnamed(turn, conn, said, word)
     }
 
     /// [`Hub::plan_publish`] and [`Hub::commit_publish`] together: the publication takes the next number

@@ -39,6 +39,9 @@ pub(crate) fn put_all(server: &Server, peers: &mut [Peer], frames: Vec<Numbered>
     requires room { HasRoomFor server.now frames.items peers.old }
     ensures { peers.new ≡ with_frames server.now frames.items 0 peers.old }
 {
+    if frames.is_empty() {
+        return;
+    }
     let mut frames = VecDeque::from_vec(frames);
     while let Some(frame) = frames.pop_front() {
         put(server, peers, frame);

@@ -54,13 +54,13 @@ pub(crate) fn key(alloc: Global, pattern: &[u8], queue: &[u8]) -> Result<Key, Fa
 pub(crate) fn said(alloc: Global) -> Result<Pub, Fail> {
     let subject = Subject::read(alloc, b"foo")?;
     let payload = Bytes::copy_from_slice(alloc, b"hello")?;
-    Ok(Pub::new(subject, None, payload, true).ok_or("a publication")?)
+    Ok(Pub::new(alloc, subject, None, payload, true)?.ok_or("a publication")?)
 }
 
 /// A message on `foo`, for no queue name.
 pub(crate) fn message(alloc: Global) -> Result<Body, Fail> {
     let subject = Subject::read(alloc, b"foo")?;
-    let message = Message::new(subject, None, Bytes::new()).ok_or("a message")?;
+    let message = Message::new(alloc, subject, None, Bytes::new())?.ok_or("a message")?;
     Ok(Body::Msg {
         message,
         queues: QueueNames::new(),

@@ -3,7 +3,7 @@ use Rattle.std.proofs.Common.{◌≡◌, ℕ, Bool, true, false, ◌&&◌, ◌||
 use Rattle.std.specs.Cmp.Lexicographic.{bytes_decides}
 use Rattle.std.specs.List.{list_any, onto_first, join_with_byte}
 use Rattle.std.specs.Str.{bytes_eq}
-use Rattle.std.proofs.lemmas.Bool.{cases_Bool}
+use Rattle.std.proofs.lemmas.Bool.{cases_Bool, and_parts}
 use Rattle.std.proofs.lemmas.List.Splits.{join_with_byte-slice_split}
 use Rattle.subj.specs.Names.{tokens, is_dot, is_empty, is_one_wildcard, is_rest_wildcard}
 use Rattle.subj.specs.Matching.{tokens_match, takes_token}
@@ -87,10 +87,6 @@ pub record GoesOn (text token : List ℕ) (w rest : List ℕ) : Type 0 where
   pub plain : list_any is_dot w ≡ false
   pub takes : takes_token w token ≡ true
 
-pub both_true : (a b : Bool) → (a && b) ≡ true → (a ≡ true) × (b ≡ true)
-both_true true b e = (refl, e)
-both_true false b e = cc
-
 none_left : (others : List (List ℕ)) → tokens_match [] others ≡ true → is_empty others ≡ true
 none_left [] matches = refl
 none_left (o ∷ os) clash = cc
@@ -114,10 +110,10 @@ forms text token others matches = by (tokens text) refl
       | inl rest ↦ inl (one_token text w is ∙ rest_text w rest)
       | inr other ↦
           let so : (takes_token w token && tokens_match [] others) ≡ true = sym (ap (λ b. (b && true) || (takes_token w token && tokens_match [] others)) other) ∙ sym (ap (λ ts. tokens_match ts (token ∷ others)) is) ∙ matches in
-          let parts = both_true (takes_token w token) (tokens_match [] others) so in
+          let parts = and_parts (takes_token w token) (tokens_match [] others) so in
           inr (inl (none_left others parts.1, ⊎_elim (λ (star : w ≡ codes "*"). inl (one_token text w is ∙ star)) (λ (same : w ≡ token). inr (one_token text w is ∙ same)) (taken w token parts.0)))
     ]
     by (w ∷ u ∷ us) is =
         let so : (takes_token w token && tokens_match (u ∷ us) others) ≡ true = sym (first_none (is_rest_wildcard w) (takes_token w token && tokens_match (u ∷ us) others)) ∙ sym (ap (λ ts. tokens_match ts (token ∷ others)) is) ∙ matches in
-        let parts = both_true (takes_token w token) (tokens_match (u ∷ us) others) so in
+        let parts = and_parts (takes_token w token) (tokens_match (u ∷ us) others) so in
         inr (inr (some_left u us others parts.1, (w, join_with_byte 46 (u ∷ us), record { text_is = more_tokens text w u us is; plain = plain_first text w (u ∷ us) is; takes = parts.0 })))

@@ -1,7 +1,7 @@
 -- Names that are gathered: each has its place, and they never become fewer.
 use Rattle.std.proofs.Common.{◌≡◌, ℕ, suc, ◌+◌, ◌<◌, ◌≤◌, Bool, true, false, ◌||◌, cond, List, [], ◌∷◌, length, take, drop, Option, Some, None, All, refl, ap, sym, ◌∙◌, arith}
 use Rattle.std.proofs.lemmas.List.{length-map}
-use Rattle.std.specs.Prelude.{nat_lt, not, map, insert, unwrap_or, if◌then◌else◌}
+use Rattle.std.specs.Prelude.{nat_lt, not, ◌&&◌, is_none, map, insert, unwrap_or, if◌then◌else◌}
 use Rattle.std.specs.List.{list_any, position, position_or_len}
 use Rattle.std.specs.Str.{bytes_eq}
 use Rattle.std.proofs.lemmas.Bool.Decides.{nat_tests}
@@ -9,7 +9,8 @@ use Rattle.std.proofs.lemmas.List.Elements.{All-append, All-cons, All-take, All-
 use Rattle.subj.specs.QueueNames.{is_before}
 use Rattle.subj.specs.Matching.{subject_matches}
 use Rattle.route_values.specs.Snapshots.{Weighted}
-use Rattle.interest.specs.Matches.{has_name, place_name, add_name, add_queue, names_in}
+use Rattle.interest.specs.Counts.{is_plain}
+use Rattle.interest.specs.Matches.{has_name, place_name, add_name, add_queue, names_in, has_queue_match}
 
 -- ---- lists in which each item stands for a name
 
@@ -81,6 +82,23 @@ not_fewer_in subject (e ∷ es) names =
     let one = not_fewer_with (subject_matches e.0.pattern subject) e.0.queue names in
     let rest = not_fewer_in subject es (add_queue (subject_matches e.0.pattern subject) e.0.queue names) in
     omega arith
+
+-- ---- where no key with a queue name matches, there is none
+
+neither : (a b : Bool) → (a || b) ≡ false → (a ≡ false) × (b ≡ false)
+neither true b none = cc
+neither false b none = (refl, none)
+
+not_queued : (matches : Bool) (queue : Option (List ℕ)) (names : List (List ℕ)) → (not (is_none queue) && matches) ≡ false → add_queue matches queue names ≡ names
+not_queued matches None names none = refl
+not_queued true (Some name) names none = cc
+not_queued false (Some name) names none = refl
+
+pub none_queued : (subject : List ℕ) (keys : List Weighted) (names : List (List ℕ)) → has_queue_match subject keys ≡ false → names_in subject keys names ≡ names
+none_queued subject [] names none = refl
+none_queued subject (e ∷ es) names none =
+    let parts = neither (not (is_plain e.0) && subject_matches e.0.pattern subject) (has_queue_match subject es) none in
+    ap (names_in subject es) (not_queued (subject_matches e.0.pattern subject) e.0.queue names parts.0) ∙ none_queued subject es names parts.1
 
 -- ---- a name is there, or is put in its place
 

@@ -154,8 +154,8 @@ totals_are counts delta is taken = ⊎_elim (λ (at : (i : ℕ) × IsPlaceOf key
 
 -- ---- where the count stands before the delta of this place
 
-abbrev pub Standing : Counts → List Delta → ℕ → ℕ → ℕ → ℕ → Type 0
-Standing counts deltas i keys bytes changes = record {
+abbrev pub CountedSoFar : Counts → List Delta → ℕ → ℕ → ℕ → ℕ → Type 0
+CountedSoFar counts deltas i keys bytes changes = record {
   valid : IsInterest (counts_told counts (take i deltas));
   keys : keys ≡ length (counts_told counts (take i deltas));
   bytes : bytes ≡ total_cost (counts_told counts (take i deltas));
@@ -172,19 +172,19 @@ fault_here counts delta keys bytes n keys_are bytes_are number =
     refused_is counts delta ∙ ap (λ k. is_refused_of k (total_cost counts) delta (count_of counts delta.key)) (sym keys_are)
     ∙ ap (λ b. is_refused_of keys b delta (count_of counts delta.key)) (sym bytes_are) ∙ ap (is_refused_of keys bytes delta) (sym number)
 
-pub refused_here : (counts : Counts) (deltas : List Delta) (i keys bytes changes n : ℕ) (delta : Delta) → Standing counts deltas i keys bytes changes → i < length deltas → delta ≡ get_or deltas i delta
+pub refused_here : (counts : Counts) (deltas : List Delta) (i keys bytes changes n : ℕ) (delta : Delta) → CountedSoFar counts deltas i keys bytes changes → i < length deltas → delta ≡ get_or deltas i delta
     → n ≡ count_of (counts_told counts (take i deltas)) delta.key → is_refused_of keys bytes delta n ≡ true → are_refused counts deltas ≡ true
 refused_here counts deltas i keys bytes changes n delta here lt at number is =
     let so_far : Counts = counts_told counts (take i deltas) in
     sym here.refused ∙ ap (are_refused so_far) (left_from deltas i delta lt at)
     ∙ ap (λ b. b || are_refused (counts_after so_far delta) (drop (suc i) deltas)) (fault_here so_far delta keys bytes n here.keys here.bytes number ∙ is)
 
-pub standing_next : (counts : Counts) (deltas : List Delta) (i keys bytes changes n cost more keys_next bytes_next : ℕ) (delta : Delta) → Standing counts deltas i keys bytes changes → i < length deltas → delta ≡ get_or deltas i delta
+pub counted_next : (counts : Counts) (deltas : List Delta) (i keys bytes changes n cost more keys_next bytes_next : ℕ) (delta : Delta) → CountedSoFar counts deltas i keys bytes changes → i < length deltas → delta ≡ get_or deltas i delta
     → n ≡ count_of (counts_told counts (take i deltas)) delta.key → is_refused_of keys bytes delta n ≡ false
     → keys_next ≡ total_after delta.up n keys 1 → cost ≡ cost_of delta.key → bytes_next ≡ total_after delta.up n bytes cost
     → more ≡ cond (is_told_of delta.key n (count_after delta.up n)) 1 0
-    → Standing counts deltas (suc i) keys_next bytes_next (changes + more)
-standing_next counts deltas i keys bytes changes n cost more keys_next bytes_next delta here lt at number is keys_are cost_is bytes_are more_is = record {
+    → CountedSoFar counts deltas (suc i) keys_next bytes_next (changes + more)
+counted_next counts deltas i keys bytes changes n cost more keys_next bytes_next delta here lt at number is keys_are cost_is bytes_are more_is = record {
   valid = subst IsInterest (sym same) (stays_within so_far delta here.valid taken);
   keys = keys_are ∙ ap (λ n. total_after delta.up n keys 1) number ∙ ap (λ k. total_after delta.up (count_of so_far delta.key) k 1) here.keys ∙ sym totals.keys ∙ ap length (sym same);
   bytes = bytes_are ∙ ap (λ n. total_after delta.up n bytes cost) number ∙ ap (λ b. total_after delta.up (count_of so_far delta.key) b cost) here.bytes

@@ -3,8 +3,7 @@ use Rattle.std.proofs.Common.{◌≡◌, ℕ, zero, suc, ◌+◌, ◌<◌, ◌�
 use Rattle.std.proofs.lemmas.List.Sums.{sum_by-cons}
 use Rattle.subj.specs.QueueNames.{is_named}
 use Rattle.route_values.specs.Snapshots.{Weighted}
-use Rattle.interest.specs.Counts.{is_plain}
-use Rattle.interest.specs.Matches.{has_plain_match, add_queue, names_in, matching_weight, weight_in}
+use Rattle.interest.specs.Matches.{is_of_kind, has_kind_match, add_queue, names_in, matching_weight, weight_in}
 use Rattle.interest.specs.Seeks.{matches_entry, IsNextMatch}
 use Rattle.interest.proofs.Gathering.{not_fewer_in}
 use Rattle.interest.proofs.Passing.{skipped}
@@ -19,8 +18,8 @@ not_added (Some name) names = refl
 
 -- ---- what does not match is not counted
 
-plain_passes : (subject : List ℕ) (e : Weighted) (es : List Weighted) → matches_entry subject e ≡ false → has_plain_match subject (e ∷ es) ≡ has_plain_match subject es
-plain_passes subject e es other = (λ i. (is_plain e.0 && other i) || has_plain_match subject es) ∙ ap (λ b. b || has_plain_match subject es) (and_false (is_plain e.0))
+kind_passes : (plain : Bool) (subject : List ℕ) (e : Weighted) (es : List Weighted) → matches_entry subject e ≡ false → has_kind_match plain subject (e ∷ es) ≡ has_kind_match plain subject es
+kind_passes plain subject e es other = (λ i. (is_of_kind plain e.0 && other i) || has_kind_match plain subject es) ∙ ap (λ b. b || has_kind_match plain subject es) (and_false (is_of_kind plain e.0))
 
 names_pass : (subject : List ℕ) (e : Weighted) (es : List Weighted) → matches_entry subject e ≡ false → names_in subject (e ∷ es) ≡ names_in subject es
 names_pass subject e es other = λ i names. names_in subject es ((ap (λ b. add_queue b e.0.queue names) other ∙ not_added e.0.queue names) i)
@@ -33,8 +32,8 @@ weight_passes subject name e es other =
 
 module _ {X : Type 0} (entry_of : X → Weighted) (subject : List ℕ) (entries : List X) where
   -- from a place to the next one that matches
-  pub plain_on : (from next : ℕ) → IsNextMatch entry_of entries subject from next → has_plain_match subject (map entry_of (drop from entries)) ≡ has_plain_match subject (map entry_of (drop next entries))
-  plain_on from next on = skipped entry_of (has_plain_match subject) (matches_entry subject) (plain_passes subject) entries from next on.after on.within on.passed
+  pub kind_on : (plain : Bool) (from next : ℕ) → IsNextMatch entry_of entries subject from next → has_kind_match plain subject (map entry_of (drop from entries)) ≡ has_kind_match plain subject (map entry_of (drop next entries))
+  kind_on plain from next on = skipped entry_of (has_kind_match plain subject) (matches_entry subject) (kind_passes plain subject) entries from next on.after on.within on.passed
 
   pub names_on : (from next : ℕ) → IsNextMatch entry_of entries subject from next → names_in subject (map entry_of (drop from entries)) ≡ names_in subject (map entry_of (drop next entries))
   names_on from next on = skipped entry_of (names_in subject) (matches_entry subject) (names_pass subject) entries from next on.after on.within on.passed
@@ -61,11 +60,11 @@ module _ {X : Type 0} (entry_of : X → Weighted) (subject : List ℕ) (entries 
     left : map entry_of (drop place entries) ≡ entry_of x ∷ map entry_of (drop (place + 1) entries)
     left = at_place entries place x below x_is
 
-    pub plain_here : is_plain (entry_of x).0 ≡ true → has_plain_match subject (map entry_of (drop place entries)) ≡ true
-    plain_here plain = ap (has_plain_match subject) left ∙ (λ i. (plain i && found i) || has_plain_match subject (map entry_of (drop (place + 1) entries)))
+    pub kind_here : (plain : Bool) → is_of_kind plain (entry_of x).0 ≡ true → has_kind_match plain subject (map entry_of (drop place entries)) ≡ true
+    kind_here plain is = ap (has_kind_match plain subject) left ∙ (λ i. (is i && found i) || has_kind_match plain subject (map entry_of (drop (place + 1) entries)))
 
-    pub plain_behind : is_plain (entry_of x).0 ≡ false → has_plain_match subject (map entry_of (drop place entries)) ≡ has_plain_match subject (map entry_of (drop (place + 1) entries))
-    plain_behind other = ap (has_plain_match subject) left ∙ (λ i. (other i && matches_entry subject (entry_of x)) || has_plain_match subject (map entry_of (drop (place + 1) entries)))
+    pub kind_behind : (plain : Bool) → is_of_kind plain (entry_of x).0 ≡ false → has_kind_match plain subject (map entry_of (drop place entries)) ≡ has_kind_match plain subject (map entry_of (drop (place + 1) entries))
+    kind_behind plain other = ap (has_kind_match plain subject) left ∙ (λ i. (other i && matches_entry subject (entry_of x)) || has_kind_match plain subject (map entry_of (drop (place + 1) entries)))
 
     pub names_here : (names : List (List ℕ)) → names_in subject (map entry_of (drop place entries)) names ≡ names_in subject (map entry_of (drop (place + 1) entries)) (add_queue true (entry_of x).0.queue names)
     names_here names = (λ i. names_in subject (left i) names) ∙ ap (λ b. names_in subject (map entry_of (drop (place + 1) entries)) (add_queue b (entry_of x).0.queue names)) found
@@ -100,8 +99,8 @@ module _ {X : Type 0} (entry_of : X → Weighted) (subject : List ℕ) (entries 
         let same = ap length (sym (names_at names) ∙ is) in
         omega arith
 
-  pub plain_at_end : (place : ℕ) → length entries ≤ place → has_plain_match subject (map entry_of (drop place entries)) ≡ false
-  plain_at_end place le = ap (has_plain_match subject) (none_left entries place le)
+  pub kind_at_end : (plain : Bool) (place : ℕ) → length entries ≤ place → has_kind_match plain subject (map entry_of (drop place entries)) ≡ false
+  kind_at_end plain place le = ap (has_kind_match plain subject) (none_left entries place le)
 
   pub names_at_end : (place : ℕ) (names : List (List ℕ)) → length entries ≤ place → names_in subject (map entry_of (drop place entries)) names ≡ names
   names_at_end place names le = ap (λ (es : List Weighted). names_in subject es names) (none_left entries place le)

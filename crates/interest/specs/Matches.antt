@@ -1,16 +1,32 @@
 -- Who wants a subject: what matches it among keys with their weights.
-use Rattle.std.specs.Prelude.{◌≡◌, ℕ, ◌<◌, Bool, ◌&&◌, List, [], ◌∷◌, length, sum_by, Option, Some, None, Result, Ok, Err, if◌then◌else◌}
+use Rattle.std.specs.Prelude.{◌≡◌, ℕ, ◌<◌, Bool, false, not, ◌&&◌, List, [], ◌∷◌, length, sum_by, Option, Some, None, Result, Ok, Err, if◌then◌else◌}
 use Rattle.std.specs.List.{list_any}
 use Rattle.std.specs.Str.{bytes_eq}
 use Rattle.subj.specs.declared.limits.TheConstants.{MAX_QUEUE_NAMES}
 use Rattle.subj.specs.Matching.{subject_matches}
 use Rattle.subj.specs.QueueNames.{is_before, is_named}
 use Rattle.route_values.specs.Snapshots.{Weighted}
-use Rattle.interest.specs.Counts.{is_plain_match}
+use Rattle.subj.specs.declared.keys.Key.{Key}
+use Rattle.interest.specs.Counts.{is_plain, is_plain_match}
 
 -- NATS documentation, "Queue Groups": a subscription without a queue name gets each message that matches
 abbrev pub has_plain_match : List ℕ → List Weighted → Bool
 has_plain_match subject keys = list_any (is_plain_match subject) keys
+
+-- ---- keys of one kind: plain ones, or those with a queue name
+
+abbrev pub is_of_kind : Bool → Key → Bool
+is_of_kind plain key = if plain then is_plain key else not (is_plain key)
+
+abbrev pub is_kind_match : Bool → List ℕ → Weighted → Bool
+is_kind_match plain subject entry = is_of_kind plain entry.0 && subject_matches entry.0.pattern subject
+
+abbrev pub has_kind_match : Bool → List ℕ → List Weighted → Bool
+has_kind_match plain subject keys = list_any (is_kind_match plain subject) keys
+
+-- a key with a queue name matches
+abbrev pub has_queue_match : List ℕ → List Weighted → Bool
+has_queue_match subject keys = has_kind_match false subject keys
 
 -- ---- how much a queue group weighs
 

@@ -9,14 +9,14 @@ ghost use Rattle.interest.specs.Places.{IsPlaceOf, IsGapFor};
 ghost use Rattle.subj.specs.Answers.{IsAnswered};
 ghost use Rattle.subj.specs.Keys.{key_cmp};
 ghost use Rattle.interest.specs.KeysLeft.{keys_left};
-ghost use Rattle.interest.specs.Matches.{weight_in, names_in as names_of, AreGathered};
+ghost use Rattle.interest.specs.Matches.{has_queue_match, weight_in, names_in as names_of, AreGathered};
 ghost use Rattle.interest.specs.Tally.{opens_key, key_if};
 ghost use Rattle.interest.specs.Counts.{count_after, with_count, count_of, change_between, is_plain_match, IsInterest, is_full, too_many_if, counts_after, delta_fault, change_of};
 
 use crate::changes::{Change, Delta};
 use crate::faults::InterestFault;
 use crate::key_lists::Keys;
-use crate::matches::{has_plain, names_in, weight_of};
+use crate::matches::{has_match, names_in, weight_of};
 use crate::names::{FoundNames, TooManyNames};
 use crate::seeks::next_match;
 use route_values::WeightedKey;
@@ -166,6 +166,7 @@ impl Local {
     {
         self.bytes += key.cost();
         let Ok(()) = self.entries.insert(place, (key, 1)) else {
+            // the places of all keys were taken when it was made
             unreachable!()
         };
     }
@@ -257,7 +258,14 @@ impl Local {
     pub fn has_plain(&self, subject: &Subject) -> bool
         ensures { result ≡ list_any (is_plain_match subject.now) self.now }
     {
-        has_plain(&self.entries, subject)
+        has_match(&self.entries, subject, true)
+    }
+
+    /// Whether a key with a queue name matches the subject: whether [`Local::names_in`] finds any name.
+    pub fn has_queue(&self, subject: &Subject) -> bool
+        ensures { result ≡ has_queue_match subject.now self.now }
+    {
+        has_match(&self.entries, subject, false)
     }
 
     /// How many open subscriptions of this queue name the subject matches. (Profile.)

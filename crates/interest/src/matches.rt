@@ -6,8 +6,7 @@ ghost use Rattle.std.specs.Map.{keys_of};
 ghost use Rattle.subj.specs.Keys.{key_cmp};
 ghost use Rattle.subj.specs.QueueNames.{is_named};
 ghost use Rattle.subj.specs.Matching.{subject_matches};
-ghost use Rattle.interest.specs.Counts.{is_plain};
-ghost use Rattle.interest.specs.Matches.{add_queue as with_queue, has_plain_match, names_in as names_of, AreGathered};
+ghost use Rattle.interest.specs.Matches.{add_queue as with_queue, has_kind_match, is_of_kind as of_kind, names_in as names_of, AreGathered};
 
 use crate::names::{FoundNames, TooManyNames};
 use crate::seeks::{Keyed, next_match};
@@ -16,36 +15,47 @@ use subj::{Key, QueueName, Subject};
 /// So many keys are looked at one by one sooner than those that match are found among them.
 const FEW: usize = 16;
 
-/// Whether it is a plain key that matches the subject.
-fn is_plain_match(key: &Key, subject: &Subject) -> bool
-    ensures { result ≡ (is_plain key.now && subject_matches key.now.pattern subject.now) }
+/// Whether the key is of this kind: plain, or with a queue name.
+fn is_of_kind(key: &Key, plain: bool) -> bool
+    ensures { result ≡ of_kind plain key.now }
 {
-    key.queue.is_none() && key.pattern.matches(subject)
+    if plain {
+        key.queue.is_none()
+    } else {
+        key.queue.is_some()
+    }
 }
 
-/// The same as [`has_plain`], by a look at each key.
-fn has_plain_among<T: Keyed>(entries: &[T], subject: &Subject) -> bool
-    ensures { result ≡ has_plain_match subject.now (map T.entry entries.now) }
+/// Whether it is a key of this kind that matches the subject.
+fn is_match(key: &Key, subject: &Subject, plain: bool) -> bool
+    ensures { result ≡ (of_kind plain key.now && subject_matches key.now.pattern subject.now) }
+{
+    is_of_kind(key, plain) && key.pattern.matches(subject)
+}
+
+/// The same as [`has_match`], by a look at each key.
+fn has_match_among<T: Keyed>(entries: &[T], subject: &Subject, plain: bool) -> bool
+    ensures { result ≡ has_kind_match plain subject.now (map T.entry entries.now) }
 {
     for place in 0..entries.len() {
-        if is_plain_match(entries[place].key_of(), subject) {
+        if is_match(entries[place].key_of(), subject, plain) {
             return true;
         }
     }
     false
 }
 
-/// Whether a plain key matches the subject.
-pub(crate) fn has_plain<T: Keyed>(entries: &[T], subject: &Subject) -> bool
+/// Whether a key matches the subject that is plain, or that has a queue name, as it is asked.
+pub(crate) fn has_match<T: Keyed>(entries: &[T], subject: &Subject, plain: bool) -> bool
     requires { IsStrictlySortedBy key_cmp (keys_of (map T.entry entries.now)) }
-    ensures { result ≡ has_plain_match subject.now (map T.entry entries.now) }
+    ensures { result ≡ has_kind_match plain subject.now (map T.entry entries.now) }
 {
     if entries.len() <= FEW {
-        return has_plain_among(entries, subject);
+        return has_match_among(entries, subject, plain);
     }
     let mut place = next_match(entries, 0, subject);
     while place < entries.len() {
-        if entries[place].key_of().queue.is_none() {
+        if is_of_kind(entries[place].key_of(), plain) {
             return true;
         }
         place = next_match(entries, place + 1, subject);

@@ -8,14 +8,14 @@ ghost use Rattle.subj.specs.Answers.{IsAnswered, IsDecided};
 ghost use Rattle.subj.specs.Keys.{key_cmp};
 ghost use Rattle.interest.specs.Places.{IsPlaceOf, IsGapFor};
 ghost use Rattle.interest.specs.Heard.{Changed, Whole, IsHeard, nothing_heard, news_fault, heard_after};
-ghost use Rattle.interest.specs.Matches.{has_plain_match, weight_in, names_in as names_of, AreGathered};
+ghost use Rattle.interest.specs.Matches.{has_plain_match, has_queue_match, weight_in, names_in as names_of, AreGathered};
 ghost use Rattle.interest.specs.Views.{follow_fault as fault_of_following, followed, has_key};
 ghost use Rattle.interest.specs.declared.changes.Change.TheVariants.{Up, Gone};
 ghost use Rattle.interest.specs.declared.faults.InterestFault.TheVariants.{Late, Gap};
 
 use crate::changes::Change;
 use crate::faults::InterestFault;
-use crate::matches::{has_plain, names_in, weight_of};
+use crate::matches::{has_match, names_in, weight_of};
 use crate::names::{FoundNames, TooManyNames};
 use crate::seeks::next_match;
 use route_values::{SnapshotKeys, WeightedKey};
@@ -137,7 +137,14 @@ impl View {
     pub fn has_plain(&self, subject: &Subject) -> bool
         ensures { result ≡ has_plain_match subject.now self.now.keys }
     {
-        has_plain(&self.keys, subject)
+        has_match(&self.keys, subject, true)
+    }
+
+    /// Whether a key with a queue name matches the subject: whether [`View::names_in`] finds any name.
+    pub fn has_queue(&self, subject: &Subject) -> bool
+        ensures { result ≡ has_queue_match subject.now self.now.keys }
+    {
+        has_match(&self.keys, subject, false)
     }
 
     /// What the keys of this queue name that match the subject weigh together. (Profile.)

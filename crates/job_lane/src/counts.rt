@@ -64,6 +64,7 @@ impl Count {
     {
         match self.lengths.pop_front() {
             Some(jobs) => self.jobs -= jobs,
+            // required: there is a run
             None => unreachable!(),
         }
     }

@@ -127,6 +127,7 @@ pub fn drain<R: Wait>(rt: &R, queue: &RunQueue, mut pass: RunPass, mut runs: Vec
     for _taken in 0..waiting {
         match queue.pop_as::<Draining, R>(rt, &mut pass) {
             Some(run) => runs.push_reserved(run),
+            // so many waited, and nobody else pops
             None => unreachable!(),
         }
     }

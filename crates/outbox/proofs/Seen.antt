@@ -79,6 +79,16 @@ copied_whole ks entry = copied_behind ks (Whole entry ∷ []) ∙ omega arith
 pub copied_copied : (ks : List Kept) (tag : Tag) (len : ℕ) → copied_of (ks ++ Copied tag len ∷ []) ≡ copied_of ks + len
 copied_copied ks tag len = let both = copied_behind ks (Copied tag len ∷ []) in omega arith
 
+-- one more that was copied is kept and seen, and the bytes are all copied ones
+pub put_copied : (ks ls : List Kept) (bytes more : List ℕ) (entry : Written) (len : ℕ) → copied_of ks ≡ length bytes → ls ≡ ks ++ Copied entry.tag len ∷ [] → more ≡ bytes ++ entry.bytes → len ≡ length entry.bytes
+    → (copied_of ls ≡ length more) × (seen ls more ≡ seen ks bytes ++ entry ∷ [])
+put_copied ks ls bytes more entry len all kept grown same =
+    let copied = ap copied_of kept ∙ copied_copied ks entry.tag len in
+    let size : length more ≡ length bytes + length entry.bytes = ap length grown ∙ length-append bytes entry.bytes in (
+      ◌∙◌ {A = ℕ} copied (omega arith),
+      ap (λ (l : List Kept). seen l more) kept ∙ ap (seen (ks ++ Copied entry.tag len ∷ [])) grown ∙ seen_copied ks bytes entry len all same,
+    )
+
 -- without the last one
 pub seen_but_last : (ks : List Kept) (k : Kept) (bytes : List ℕ) (n : ℕ) → copied_of ks ≡ n → n ≤ length bytes → seen ks (take n bytes) ≡ take (length (seen (ks ++ k ∷ []) bytes) - 1) (seen (ks ++ k ∷ []) bytes)
 seen_but_last ks k bytes n all fits =

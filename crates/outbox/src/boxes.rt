@@ -2,7 +2,7 @@
 
 ghost use Rattle.std.specs.Prelude.{◌≡◌, ℕ, ◌+◌, ◌-◌, ◌≤◌, ◌<◌, ◌++◌, ◌==◌, vec_len, vec_capacity, length, take, drop, [], true, false, IfOk, OnOk, OnErr, IsTrue, Some, None, ◌^◌};
 ghost use Rattle.outbox.specs.Bytes.{bytes_of};
-ghost use Rattle.outbox.specs.Views.{Waiting, Shelf, empty_outbox, size_of, bytes_of_all, has_room, message_entry, with_entry, with_last, without_first, on_both};
+ghost use Rattle.outbox.specs.Views.{Waiting, Shelf, empty_outbox, size_of, bytes_of_all, has_room, reply_entry, message_entry, with_entry, with_last, without_first, on_both};
 
 use crate::entries::{Entry, LINE_END, Mode, Tag};
 use crate::entry_queue::EntryQueue;
@@ -159,6 +159,20 @@ impl Outbox {
         Ok(())
     }
 
+    /// Puts an answer behind all that was put or staged, unseen: what [`Outbox::stage`] does with
+    /// [`Entry::reply`]. The line, given without its CR LF, is copied. Want of memory leaves all as it was.
+    pub fn stage_reply(&mut self, line: &[u8]) -> Result<(), AllocError>
+        requires fits { length line.now + 2 < 2 ^ 64 }
+        requires room { IsTrue (has_room self.old.max_entries self.old.max_bytes (length (bytes_of line.now None)) self.old.next) }
+        ensures ok { OnOk result (self.new ≡ record self.old { next = with_entry (reply_entry line.now) self.old.next }) }
+        ensures err { OnErr result (self.new ≡ self.old) }
+    {
+        let len = line.len() + LINE_END.len();
+        self.entries.push_reply(line)?;
+        self.bytes += len;
+        Ok(())
+    }
+
     /// Puts a message behind all that was put or staged, unseen: what [`Outbox::stage`] does with
     /// [`Entry::message`]. The line is copied, and of small messages the payload; a larger payload is shared.
     /// Both come without their CR LF. Want of memory leaves all as it was.
@@ -238,23 +252,20 @@ impl Outbox {
         Ok(taken)
     }
 
-    /// Hands the bytes of all entries over in their buffer, where that can be done, and drops the entries.
-    /// Tells whether it was. Takes no memory.
-    fn hand_over(&mut self, out: &mut Vec<u8>) -> bool
-        requires settled { self.old.next ≡ self.old.shown }
-        requires empty { out.old.items ≡ [] }
-        ensures given { result ≡ true → out.new.items ≡ bytes_of_all self.old.shown.entries }
-        ensures left { result ≡ true → self.new ≡ on_both (λ shelf. record { entries = []; shut = shelf.shut }) self.old }
-        ensures same { result ≡ false → self.new ≡ self.old }
-        ensures none { result ≡ false → out.new.items ≡ [] }
+    /// Moves the bytes of all entries that wait behind those that are in `out`, in order, and removes the
+    /// entries. Want of memory leaves all as it was.
+    fn take_all_bytes(&mut self, out: &mut Vec<u8>) -> Result<(), AllocError>
+        requires { self.old.next ≡ self.old.shown }
+        ensures bytes { OnOk result (out.new.items ≡ out.old.items ++ bytes_of_all self.old.shown.entries) }
+        ensures ok { OnOk result (self.new ≡ on_both (λ shelf. record { entries = []; shut = shelf.shut }) self.old) }
+        ensures err { OnErr result (self.new ≡ self.old) }
+        ensures out { OnErr result (out.new.items ≡ out.old.items) }
     {
-        if !self.entries.hand_over(out) {
-            return false;
-        }
+        self.entries.move_all(out)?;
         self.shown = 0;
         self.shown_bytes = 0;
         self.bytes = 0;
-        true
+        Ok(())
     }
 
     /// Moves the bytes of the first entries that wait, or of all where there are fewer, behind those that
@@ -271,12 +282,16 @@ impl Outbox {
         ensures err { OnErr result (self.new ≡ self.old) }
         ensures out { OnErr result (out.new.items ≡ out.old.items) }
     {
-        let moved = count.min(self.entries.len());
-        if moved == self.entries.len() && out.is_empty() && self.hand_over(out) {
-            return Ok(moved);
+        let waiting = self.entries.len();
+        if waiting == 0 {
+            return Ok(0);
         }
-        self.entries.append_front(moved, out)?;
-        self.remove_first(moved);
-        Ok(moved)
+        if count >= waiting {
+            self.take_all_bytes(out)?;
+            return Ok(waiting);
+        }
+        self.entries.append_front(count, out)?;
+        self.remove_first(count);
+        Ok(count)
     }
 }

@@ -1,6 +1,6 @@
 //! Bytes in order, put behind and dropped in front.
 
-ghost use Rattle.std.specs.Prelude.{◌≡◌, ◌+◌, ◌<◌, ◌≤◌, ◌^◌, ◌++◌, [], vec_len, length, take, drop, Some, IfOk, OnOk, OnErr};
+ghost use Rattle.std.specs.Prelude.{◌≡◌, ◌+◌, ◌<◌, ◌≤◌, ◌^◌, ◌++◌, [], vec_len, vec_capacity, length, take, drop, Some, None, IfOk, OnOk, OnErr};
 ghost use Rattle.outbox.specs.Bytes.{bytes_of};
 
 use crate::entries::{Entry, LINE_END};
@@ -8,19 +8,21 @@ use std::alloc::{AllocError, Global};
 use std::marker::Model;
 use std::mem;
 
-/// Puts a line and a payload, each with its CR LF, behind the bytes that are there. Want of memory leaves
-/// those as they were.
-fn append_message(line: &[u8], payload: &[u8], out: &mut Vec<u8>) -> Result<(), AllocError>
-    requires { length line.now + length payload.now + 4 < 2 ^ 64 }
-    ensures ok { OnOk result (out.new.items ≡ out.old.items ++ bytes_of line.now (Some payload.now)) }
-    ensures err { OnErr result (out.new.items ≡ out.old.items) }
+/// From how many bytes on they are handed over in their buffer, where all are moved: fewer are copied, so
+/// that large buffers don't go around for little.
+const HANDED_OVER: usize = 4_096;
+
+/// Puts a line or a payload with its CR LF behind the bytes that are there, where there is room for it.
+fn append_ended(bytes: &[u8], out: &mut Vec<u8>)
+    requires { vec_len out.old + length bytes.now + 2 ≤ vec_capacity out.old }
+    ensures items { out.new.items ≡ out.old.items ++ bytes_of bytes.now None }
+    ensures len { vec_len out.new ≡ vec_len out.old + length bytes.now + 2 }
+    ensures capacity { vec_capacity out.old ≤ vec_capacity out.new }
 {
-    out.reserve(line.len() + payload.len() + 2 * LINE_END.len())?;
-    out.extend_from_slice(line)?;
-    out.extend_from_slice(LINE_END)?;
-    out.extend_from_slice(payload)?;
-    out.extend_from_slice(LINE_END)?;
-    Ok(())
+    let appended = out.extend_from_slice(bytes);
+    prove!(appended.is_ok());
+    out.push_reserved(b'\r');
+    out.push_reserved(b'\n');
 }
 
 /// Moves the bytes from this place on to the front, and drops those that are left behind.
@@ -79,6 +81,20 @@ impl ByteQueue {
         entry.append_to(&mut self.bytes)
     }
 
+    /// Puts a line behind, given without its CR LF. Gives how many bytes it has. Want of memory leaves all as it
+    /// was.
+    pub(crate) fn push_line(&mut self, line: &[u8]) -> Result<usize, AllocError>
+        requires { length line.now + 2 < 2 ^ 64 }
+        ensures len { IfOk result (λ len. len ≡ length (bytes_of line.now None)) }
+        ensures ok { OnOk result (self.new ≡ self.old ++ bytes_of line.now None) }
+        ensures err { OnErr result (self.new ≡ self.old) }
+    {
+        let len = line.len() + LINE_END.len();
+        self.bytes.reserve(len)?;
+        append_ended(line, &mut self.bytes);
+        Ok(len)
+    }
+
     /// Puts a message behind: its line and its payload, given without their CR LF. Gives how many bytes it
     /// has. Want of memory leaves all as it was.
     pub(crate) fn push_message(&mut self, line: &[u8], payload: &[u8]) -> Result<usize, AllocError>
@@ -87,8 +103,11 @@ impl ByteQueue {
         ensures ok { OnOk result (self.new ≡ self.old ++ bytes_of line.now (Some payload.now)) }
         ensures err { OnErr result (self.new ≡ self.old) }
     {
-        append_message(line, payload, &mut self.bytes)?;
-        Ok(line.len() + payload.len() + 2 * LINE_END.len())
+        let len = line.len() + payload.len() + 2 * LINE_END.len();
+        self.bytes.reserve(len)?;
+        append_ended(line, &mut self.bytes);
+        append_ended(payload, &mut self.bytes);
+        Ok(len)
     }
 
     /// Keeps the first bytes.
@@ -110,9 +129,18 @@ impl ByteQueue {
             self.start = 0;
         }
     }
+
+    /// Drops all bytes.
+    pub(crate) fn clear(&mut self)
+        ensures { self.new ≡ [] }
+    {
+        self.bytes.clear();
+        self.start = 0;
+    }
+
     /// Hands all bytes over in their buffer, in place of one without bytes, whose memory is used from here
     /// on. Takes no memory.
-    pub(crate) fn hand_over(&mut self, out: &mut Vec<u8>)
+    fn hand_over(&mut self, out: &mut Vec<u8>)
         requires { out.old.items ≡ [] }
         ensures given { out.new.items ≡ self.old }
         ensures left { self.new ≡ [] }
@@ -122,5 +150,22 @@ impl ByteQueue {
             self.start = 0;
         }
         mem::swap(&mut self.bytes, out);
+    }
+
+    /// Moves all bytes behind those that are in `out`. Want of memory leaves both as they were. Where they are
+    /// many, and nothing is in `out`, the two buffers are swapped: no byte is copied, and no memory is taken.
+    pub(crate) fn move_all(&mut self, out: &mut Vec<u8>) -> Result<(), AllocError>
+        ensures moved { OnOk result (out.new.items ≡ out.old.items ++ self.old) }
+        ensures left { OnOk result (self.new ≡ []) }
+        ensures same { OnErr result (self.new ≡ self.old) }
+        ensures out { OnErr result (out.new.items ≡ out.old.items) }
+    {
+        if out.is_empty() && self.as_slice().len() >= HANDED_OVER {
+            self.hand_over(out);
+            return Ok(());
+        }
+        out.extend_from_slice(self.as_slice())?;
+        self.clear();
+        Ok(())
     }
 }

@@ -2,7 +2,7 @@
 
 ghost use Rattle.std.specs.Prelude.{◌≡◌, ℕ, ◌+◌, ◌-◌, ◌≤◌, ◌<◌, ◌^◌, List, Some, ◌++◌, ◌∷◌, [], true, false, filter, length, take, drop, IfOk, OnOk, OnErr};
 ghost use Rattle.outbox.specs.Bytes.{bytes_of};
-ghost use Rattle.outbox.specs.Views.{size_of, bytes_of_all};
+ghost use Rattle.outbox.specs.Views.{size_of, bytes_of_all, reply_entry};
 ghost use Rattle.std.specs.VecDeque.{deque_capacity};
 ghost use Rattle.outbox.specs.declared.kept.Kept.{Kept as KeptEntry};
 ghost use Rattle.outbox.specs.Kept.{copied_len, copied_of, is_whole as is_kept_whole, seen_at, seen};
@@ -17,10 +17,6 @@ use std::marker::Model;
 
 /// The most bytes of an entry that is copied. Larger ones stay as they came, and share their payload.
 const COPIED: usize = 4_096;
-
-/// From how many bytes on they are handed over in their buffer, where all are taken: fewer are copied, so
-/// that large buffers don't go around for little.
-const HANDED_OVER: usize = 4_096;
 
 /// Puts the bytes of an entry behind those that are there, and tells how many of `text`, which begins
 /// with the entry's own, it has. Want of memory leaves all as it was.
@@ -88,6 +84,7 @@ fn pop_last(kept: &mut VecDeque<Kept>) -> usize
     ensures capacity { deque_capacity kept.new ≡ deque_capacity kept.old }
 {
     match kept.pop_back() {
+        // required: there is an entry
         None => unreachable!(),
         Some(last) => sizes_of(&last).1,
     }
@@ -216,6 +213,23 @@ impl EntryQueue {
         Ok(())
     }
 
+    /// Puts an answer behind, and takes the memory for the place of one more. Its line comes without its CR LF, and
+    /// is copied, however long it is. Want of memory leaves all as it was.
+    #[tactic(auto, using(crate::proofs::Seen::seen_copied, crate::proofs::Seen::copied_copied, crate::proofs::Seen::length_seen))]
+    pub(crate) fn push_reply(&mut self, line: &[u8]) -> Result<(), AllocError>
+        requires { length line.now + 2 < 2 ^ 64 }
+        ensures ok { OnOk result (self.new.entries ≡ self.old.entries ++ reply_entry line.now ∷ []) }
+        ensures place { OnOk result (length self.new.entries + 1 ≤ self.new.places) }
+        ensures err { OnErr result (self.new.entries ≡ self.old.entries) }
+        ensures kept { self.old.places ≤ self.new.places }
+    {
+        self.kept.reserve(2)?;
+        let len = self.text.push_line(line)?;
+        let tag = Tag::Reply;
+        self.kept.push_back_reserved(Kept::Copied { tag, len });
+        Ok(())
+    }
+
     /// Puts a message behind, and takes the memory for the place of one more. Its line and payload come without
     /// their CR LF. Want of memory leaves all as it was.
     #[tactic(auto, using(crate::proofs::Seen::seen_whole, crate::proofs::Seen::seen_copied, crate::proofs::Seen::copied_whole, crate::proofs::Seen::copied_copied, crate::proofs::Seen::length_seen))]
@@ -320,23 +334,24 @@ impl EntryQueue {
         appended
     }
 
-    /// Hands the bytes of all entries over in their buffer, in place of one without bytes, and drops the
-    /// entries, where they have many bytes and none is kept as it came. Tells whether it was done. Takes no
-    /// memory.
+    /// Moves the bytes of all entries behind those that are there, and drops the entries. Want of memory leaves
+    /// all as it was.
     #[tactic(auto, using(crate::proofs::Seen::copied_alone))]
-    pub(crate) fn hand_over(&mut self, out: &mut Vec<u8>) -> bool
-        requires { out.old.items ≡ [] }
-        ensures given { result ≡ true → out.new.items ≡ bytes_of_all self.old.entries }
-        ensures left { result ≡ true → self.new ≡ record { entries = []; places = self.old.places } }
-        ensures same { result ≡ false → self.new ≡ self.old }
-        ensures none { result ≡ false → out.new.items ≡ [] }
+    pub(crate) fn move_all(&mut self, out: &mut Vec<u8>) -> Result<(), AllocError>
+        ensures moved { OnOk result (out.new.items ≡ out.old.items ++ bytes_of_all self.old.entries) }
+        ensures left { OnOk result (self.new ≡ record { entries = []; places = self.old.places }) }
+        ensures same { OnErr result (self.new ≡ self.old) }
+        ensures out { OnErr result (out.new.items ≡ out.old.items) }
     {
-        if self.text.as_slice().len() < HANDED_OVER || any_whole(&self.kept) {
-            return false;
+        if any_whole(&self.kept) {
+            self.append_front(self.len(), out)?;
+            self.text.clear();
+            self.kept.clear();
+            return Ok(());
         }
-        self.text.hand_over(out);
+        self.text.move_all(out)?;
         self.kept.clear();
-        true
+        Ok(())
     }
 
     /// Copies of the first entries.

@@ -3,7 +3,7 @@ use Rattle.std.proofs.Common.{◌≡◌, ℕ, ◌+◌, ◌≤◌, Bool, length, 
 use Rattle.std.specs.List.{list_any}
 use Rattle.std.specs.Str.{bytes_eq}
 use Rattle.std.specs.Cmp.Lexicographic.{bytes_decides, nat_list_eq_equiv}
-use Rattle.std.proofs.lemmas.Bool.{cases_Bool, cond-true, cond-false}
+use Rattle.std.proofs.lemmas.Bool.{cases_Bool, cond-true, cond-false, and_parts}
 use Rattle.pattern_trie.specs.Nodes.{one_if, without_value}
 use Rattle.pattern_trie.specs.Beginnings.{is_beginning, is_before_dot}
 use Rattle.pattern_trie.specs.Held.{Held, count_below, values_for, without_held}
@@ -108,11 +108,7 @@ values_without_other eq q text v (h ∷ held) other =
 -- ---- a beginning and one token more
 
 begins_too : (q more p : List ℕ) → is_beginning (q ++ 46 ∷ more) p ≡ true → is_beginning q p ≡ true
-begins_too q more p so = or_second (bytes_eq q p) (is_before_dot q p) (and_first (is_before_dot q p) (is_beginning more (drop (length q + 1) p)) (sym (behind_dot q more p) ∙ so)) where
-  and_first : (a b : Bool) → (a && b) ≡ true → a ≡ true
-  and_first true b e = refl
-  and_first false b e = cc
-
+begins_too q more p so = or_second (bytes_eq q p) (is_before_dot q p) ((and_parts (is_before_dot q p) (is_beginning more (drop (length q + 1) p)) (sym (behind_dot q more p) ∙ so)).0) where
   or_second : (a b : Bool) → b ≡ true → (a || b) ≡ true
   or_second true b e = refl
   or_second false b e = e

@@ -5,7 +5,7 @@ use Rattle.std.specs.Bool.{nat_eq}
 use Rattle.std.specs.Int.{bit_at}
 use Rattle.std.specs.List.{onto_first}
 use Rattle.std.specs.Str.{bytes_eq}
-use Rattle.std.proofs.lemmas.Bool.{cond-true}
+use Rattle.std.proofs.lemmas.Bool.{cond-true, and_parts}
 use Rattle.std.proofs.lemmas.Bool.Decides.{nat_tests}
 use Rattle.std.proofs.lemmas.Nat.Bits.{bit_at_or, bit_at-lt, bit_at-pow_same, bit_at_ones}
 use Rattle.subj.specs.Names.{tokens, is_dot, is_one_wildcard, is_rest_wildcard}
@@ -37,14 +37,6 @@ pub class_of_first : (text token : List ℕ) (ts : List (List ℕ)) (n : ℕ) �
 unfolding head
 class_of_first text token ts n cut is = is ∙ ap class_of_token (sym (first_is text ∙ ap head cut))
 
-and_first : (a b : Bool) → (a && b) ≡ true → a ≡ true
-and_first true b e = refl
-and_first false b e = cc
-
-and_second : (a b : Bool) → (a && b) ≡ true → b ≡ true
-and_second true b e = e
-and_second false b e = cc
-
 spread : (x y z : Bool) → ((x && y) || (x && z)) ≡ (x && (y || z))
 spread true y z = refl
 spread false y z = refl
@@ -55,8 +47,8 @@ same_first [] (b ∷ t) begins = sym (cond-true (is_dot b) [] (b ∷ first_token
 same_first (a ∷ q) [] begins = cc
 same_first (a ∷ q) (b ∷ t) begins =
     let both : (nat_eq a b && is_beginning q t) ≡ true = sym (spread (nat_eq a b) (bytes_eq q t) (is_before_dot q t)) ∙ begins in
-    ap (λ x. cond (is_dot x) [] (x ∷ first_token q)) (same a b (and_first (nat_eq a b) (is_beginning q t) both))
-    ∙ ap (λ l. cond (is_dot b) [] (b ∷ l)) (same_first q t (and_second (nat_eq a b) (is_beginning q t) both))
+    ap (λ x. cond (is_dot x) [] (x ∷ first_token q)) (same a b ((and_parts (nat_eq a b) (is_beginning q t) both).0))
+    ∙ ap (λ l. cond (is_dot b) [] (b ∷ l)) (same_first q t ((and_parts (nat_eq a b) (is_beginning q t) both).1))
   where
     same : (a b : ℕ) → nat_eq a b ≡ true → a ≡ b
     same a b so = grind (arith, nat_tests)

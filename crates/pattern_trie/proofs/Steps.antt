@@ -2,7 +2,7 @@
 use Rattle.std.proofs.Common.{◌≡◌, ℕ, ◌+◌, ◌-◌, ◌<◌, ◌≤◌, Bool, true, false, ◌&&◌, List, length, take, drop, get_or, refl, ap, sym, ◌∙◌, arith, inl, inr}
 use Rattle.std.specs.Str.{bytes_eq}
 use Rattle.std.specs.Cmp.Lexicographic.{bytes_decides}
-use Rattle.std.proofs.lemmas.Bool.{cases_Bool}
+use Rattle.std.proofs.lemmas.Bool.{cases_Bool, and_parts, and_from}
 use Rattle.std.proofs.lemmas.List.{length-take-le}
 use Rattle.subj.specs.Names.{is_dot}
 use Rattle.pattern_trie.specs.Nodes.{Nodes, below_at, values_at, one_if, has_mark, Enters, Leaves, EntersEach, LeavesEach, CanLeaveEach}
@@ -17,18 +17,6 @@ plus_twice a b c = omega arith
 
 still : (a b c : ℕ) → a ≡ b - c → 0 < a → 0 < b
 still a b c is some = omega arith
-
-and_first : (a b : Bool) → (a && b) ≡ true → a ≡ true
-and_first true b e = refl
-and_first false b e = cc
-
-and_second : (a b : Bool) → (a && b) ≡ true → b ≡ true
-and_second true b e = e
-and_second false b e = cc
-
-and_both : (a b : Bool) → a ≡ true → b ≡ true → (a && b) ≡ true
-and_both true b x y = y
-and_both false b x y = cc
 
 is_one : (a b : Bool) → b ≡ false → one_if a + one_if b ≡ 1 → a ≡ true
 is_one true b other e = refl
@@ -61,15 +49,15 @@ module _ (text : List ℕ) where
   } where
     at_mark : (k : List ℕ) (q : List ℕ) → goes_on k (at + 1) q text ≡ true → has_mark k new q ≡ true
     at_mark k q mark =
-        let behind_q : is_beginning k (drop (length q + 1) text) ≡ true = and_second (is_before_dot_of (at + 1) q text) (is_beginning k (drop (length q + 1) text)) mark in
+        let behind_q : is_beginning k (drop (length q + 1) text) ≡ true = (and_parts (is_before_dot_of (at + 1) q text) (is_beginning k (drop (length q + 1) text)) mark).1 in
         elim (cases_Bool (bytes_eq (take at text) q)) [
           | inl y ↦
               let is : take at text ≡ q = (bytes_decides (take at text) q).0 y in
               let len : length q ≡ at = ap length (sym is) ∙ length-take-le at text (omega arith) in
               ap (has_mark k new) (sym is) ∙ one.marked k (known k (ap (λ n. is_beginning k (drop (n + 1) text)) (sym len) ∙ behind_q))
           | inr n ↦
-              let earlier : is_before_dot_of at q text ≡ true = is_one (is_before_dot_of at q text) (bytes_eq (take at text) q) n (sym (one_more text at q within dot) ∙ ap one_if (and_first (is_before_dot_of (at + 1) q text) (is_beginning k (drop (length q + 1) text)) mark)) in
-              one.marks k q (so.marked k q (and_both (is_before_dot_of at q text) (is_beginning k (drop (length q + 1) text)) earlier behind_q))
+              let earlier : is_before_dot_of at q text ≡ true = is_one (is_before_dot_of at q text) (bytes_eq (take at text) q) n (sym (one_more text at q within dot) ∙ ap one_if ((and_parts (is_before_dot_of (at + 1) q text) (is_beginning k (drop (length q + 1) text)) mark).0)) in
+              one.marks k q (so.marked k q (and_from (is_before_dot_of at q text) (is_beginning k (drop (length q + 1) text)) earlier behind_q))
         ]
 
   pub enters_none : {V : Type 0} (at : ℕ) (old mid : Nodes V) → is_dot (get_or text at 0) ≡ false → EntersEach (λ q. is_before_dot_of at q text) (λ k q. goes_on k at q text) old mid → EntersEach (λ q. is_before_dot_of (at + 1) q text) (λ k q. goes_on k (at + 1) q text) old mid

@@ -4,7 +4,7 @@ use Rattle.std.specs.Prelude.{nat_eq, ◌||◌, slice_set}
 use Rattle.std.specs.List.{list_any}
 use Rattle.std.proofs.lemmas.Bool.Decides.{nat_tests}
 use Rattle.std.proofs.Common.{cond}
-use Rattle.std.proofs.lemmas.List.{map-append, ext_get_or, get_or-map, length-map, length-set, get_or-set_other}
+use Rattle.std.proofs.lemmas.List.{nil_from_length, map-append, ext_get_or, get_or-map, length-map, length-set, get_or-set_other}
 use Rattle.std.proofs.lemmas.Grind.{common_steps}
 use Rattle.shard_core.specs.declared.connections.Conn.{Conn}
 use Rattle.shard_core.specs.Shards.{Client}
@@ -42,6 +42,10 @@ all_settled (c ∷ cs) within =
     ext_get_or ((seen next_shelf) c) (map (seen next_shelf) conns) (map (seen shown_shelf) conns) (length-map conns (seen next_shelf) ∙ sym (length-map conns (seen shown_shelf)))
     (λ k lt. let inside : k < length conns = omega (arith, length-map conns (seen next_shelf)) in
     get_or-map (seen next_shelf) conns k c ((seen next_shelf) c) inside ∙ within k c inside refl ∙ sym (get_or-map (seen shown_shelf) conns k c ((seen next_shelf) c) inside))
+
+-- where nothing is staged anywhere, what will wait is what waits
+pub nothing_staged : (places : List ℕ) (conns : List Conn) → length places ≡ 0 → AreConns places conns → map (seen next_shelf) conns ≡ map (seen shown_shelf) conns
+nothing_staged places conns none was = all_settled conns (subst (λ (ps : List ℕ). IsStagedWithin ps conns) (nil_from_length places none) was.staged)
 
 -- ---- one more place
 

@@ -1,6 +1,6 @@
 //! Connections, and what waits for them.
 
-ghost use Rattle.std.specs.Prelude.{map, filter, not, ◌≡◌, ◌==◌, ◌≤◌, ◌+◌, ◌<◌, ◌^◌, ◌++◌, ◌∷◌, [], true, position, take, length, All, IsTrue, IfOk, OnOk, OnErr};
+ghost use Rattle.std.specs.Prelude.{map, filter, not, ◌≡◌, ◌==◌, ◌≤◌, ◌+◌, ◌<◌, ◌^◌, ◌++◌, ◌∷◌, [], true, false, position, take, length, All, IsTrue, IfOk, OnOk, OnErr};
 ghost use Rattle.std.specs.Option.{option_map, option_copied};
 ghost use Rattle.outbox.specs.Views.{with_entry, with_last, without_first, reply_entry, message_entry, bytes_of_all};
 ghost use Rattle.shard_core.specs.Boxes.{AreRising, AreConns, IsSettled, IsSettledAt, on_both, seen, shown_shelf, next_shelf, number_of};
@@ -102,6 +102,14 @@ fn found(conns: &Vec<Conn>, conn: ConnId) -> Option<&Conn>
 /// Whether half of the room for entries or for bytes is used.
 fn is_half_full(outbox: &Outbox) -> bool {
     outbox.len() >= OUTBOX_ENTRIES / 2 || !outbox.room(OUTBOX_BYTES / 2)
+}
+
+/// Notes that something is put for a connection, which stands at this place.
+fn note(recipients: &mut Recipients, conns: &[Conn], place: usize, conn: ConnId)
+    requires { place < length conns.now }
+{
+    let is_urgent = is_half_full(&conns[place].outbox);
+    recipients.note(conn, conns.len(), is_urgent);
 }
 
 /// Removes the connection of this number.
@@ -206,17 +214,6 @@ impl Conns {
         }
     }
 
-    /// Whether the connection is there and has room for an answer of this line, given without its CR LF.
-    pub fn has_room_for(&self, conn: ConnId, line: &[u8]) -> bool
-        ensures same { result ≡ fits (client_at conn self.now.next) (reply_entry line.now) }
-        ensures fits { IsTrue result → length line.now + 2 < 2 ^ 64 }
-    {
-        match found(&self.conns, conn) {
-            None => false,
-            Some(conn) => conn.outbox.room_for(line),
-        }
-    }
-
     /// Puts an entry, for which there is room, unseen. Want of memory leaves all as it was.
     pub fn stage(&mut self, conn: ConnId, entry: Entry) -> Result<(), AllocError>
         requires { IsTrue (fits (client_at conn self.old.next) entry) }
@@ -226,8 +223,7 @@ impl Conns {
     {
         if let Some(place) = place_in(&self.conns, conn) {
             self.places.push(place)?;
-            let is_urgent = is_half_full(&self.conns[place].outbox);
-            self.recipients.note(conn, self.conns.len(), is_urgent);
+            note(&mut self.recipients, &self.conns, place, conn);
             let conn = &mut self.conns[place];
             conn.outbox.stage(entry)?;
         }
@@ -253,8 +249,7 @@ impl Conns {
     {
         if let Some(place) = place_in(&self.conns, conn) {
             self.places.push(place)?;
-            let is_urgent = is_half_full(&self.conns[place].outbox);
-            self.recipients.note(conn, self.conns.len(), is_urgent);
+            note(&mut self.recipients, &self.conns, place, conn);
             let conn = &mut self.conns[place];
             conn.outbox.stage_message(id, sub, mode, line, payload)?;
         }
@@ -272,12 +267,18 @@ impl Conns {
     {
         if let Some(place) = place_in(&self.conns, conn) {
             self.places.push(place)?;
-            let is_urgent = is_half_full(&self.conns[place].outbox);
-            self.recipients.note(conn, self.conns.len(), is_urgent);
+            note(&mut self.recipients, &self.conns, place, conn);
             let conn = &mut self.conns[place];
             conn.outbox.stage_last(line)?;
         }
         Ok(())
+    }
+
+    /// Whether anything may be staged: where not, nothing is.
+    pub fn has_staged(&self) -> bool
+        ensures { result ≡ false → IsSettled self.now }
+    {
+        !self.places.is_empty()
     }
 
     /// Shows all that was staged. Takes no memory.
@@ -296,16 +297,26 @@ impl Conns {
         self.places.clear();
     }
 
-    /// Puts an entry, for which there is room. Want of memory leaves all as it was.
-    pub fn put(&mut self, conn: ConnId, entry: Entry) -> Result<(), AllocError>
-        requires settled { IsSettled self.old }
-        requires room { IsTrue (fits (client_at conn self.old.shown) entry) }
-        ensures ok { OnOk result (self.new ≡ on_both (changed (with_entry entry) conn) self.old) }
+    /// Puts an answer where the connection is there and has room for it: its line, given without its CR LF.
+    /// Tells whether it was put. Want of memory leaves all as it was.
+    pub fn put_reply(&mut self, conn: ConnId, line: &[u8]) -> Result<bool, AllocError>
+        requires { IsSettled self.old }
+        ensures room { IfOk result (λ put. put ≡ fits (client_at conn self.old.shown) (reply_entry line.now)) }
+        ensures put { IfOk result (λ put. put ≡ true → self.new ≡ on_both (changed (with_entry (reply_entry line.now)) conn) self.old) }
+        ensures full { IfOk result (λ put. put ≡ false → self.new ≡ self.old) }
         ensures err { OnErr result (self.new ≡ self.old) }
     {
-        self.stage(conn, entry)?;
-        self.commit();
-        Ok(())
+        let Some(place) = place_in(&self.conns, conn) else {
+            return Ok(false);
+        };
+        if !self.conns[place].outbox.room_for(line) {
+            return Ok(false);
+        }
+        note(&mut self.recipients, &self.conns, place, conn);
+        let conn = &mut self.conns[place];
+        conn.outbox.stage_reply(line)?;
+        conn.outbox.commit();
+        Ok(true)
     }
 
     /// Puts the last line of a connection that is open, given without its CR LF. Takes no memory.
@@ -316,8 +327,7 @@ impl Conns {
         ensures { self.new ≡ on_both (changed (with_last line.now) conn) self.old }
     {
         if let Some(place) = place_in(&self.conns, conn) {
-            let is_urgent = is_half_full(&self.conns[place].outbox);
-            self.recipients.note(conn, self.conns.len(), is_urgent);
+            note(&mut self.recipients, &self.conns, place, conn);
             let conn = &mut self.conns[place];
             conn.outbox.shut(line);
         }

@@ -6,12 +6,13 @@ ghost use Rattle.subj.specs.Answers.{IsAnswered, IsDecided};
 ghost use Rattle.subj.specs.Keys.{cost_of};
 ghost use Rattle.sub_table.specs.Subscriptions.{total_cost};
 ghost use Rattle.shard_core.specs.Answers.{answer_of, call_of, HasBegun, IsAnsweredOrBack, TakesBytes};
-ghost use Rattle.outbox.specs.Views.{with_last};
+ghost use Rattle.client_frames.specs.Frames.{reply_line as line_of_reply};
+ghost use Rattle.outbox.specs.Views.{reply_entry, with_entry, with_last};
 ghost use Rattle.shard_core.specs.Boxes.{IsSettled, on_both};
 ghost use Rattle.shard_core.specs.Closings.{left_of, ended_ids};
 ghost use Rattle.shard_core.specs.Held.{DoesStep, IsLeft, Chooses, Stands, settled, serial_told, placed_chosen, ended_by_chosen};
 ghost use Rattle.shard_core.specs.Opened.{AreApart, AreRising, with_closings};
-ghost use Rattle.shard_core.specs.Shards.{new_shard, changed, is_open as opened};
+ghost use Rattle.shard_core.specs.Shards.{new_shard, changed, client_at, fits, is_open as opened};
 ghost use Rattle.shard_core.specs.ShardEvents.{Attach, Subscribe, Unsubscribe, Reply, Shut, Detach, Take, Begin, Claim, End, DropJob, Collect, Attached, Unsubscribed, Replied, WasShut, Detached, Taken, Finished, Dropped, Collected};
 ghost use Rattle.shard_core.specs.ShardSteps.{shard_refusal, called as call, ended_now, IsHanded};
 
@@ -40,8 +41,10 @@ fn drop_candidate(conns: &mut Conns, chosen: &mut Option<u64>)
     ensures conns { conns.new ≡ record { shown = conns.old.shown; next = conns.old.shown } }
     ensures chosen { chosen.new ≡ None }
 {
-    conns.rollback();
     *chosen = None;
+    if conns.has_staged() {
+        conns.rollback();
+    }
 }
 
 /// The serials of a connection's subscriptions, in order.
@@ -56,6 +59,25 @@ fn serials_of<T: SubTable>(
     let mut serials = Vec::new(alloc);
     openings.table().serials_of(conn, &mut serials)?;
     Ok(serials)
+}
+
+/// Puts an answer where the connection has room for it. Tells whether it has. Want of memory leaves all as it
+/// was.
+fn put_answer(
+    alloc: Global,
+    conns: &mut Conns,
+    conn: ConnId,
+    frame: &ReplyFrame,
+) -> Result<bool, AllocError>
+    requires { IsSettled conns.old }
+    ensures room { IfOk result (λ put. put ≡ fits (client_at conn conns.old.shown) (reply_entry (line_of_reply frame.now))) }
+    ensures put { IfOk result (λ put. put ≡ true → conns.new ≡ on_both (changed (with_entry (reply_entry (line_of_reply frame.now))) conn) conns.old) }
+    ensures full { IfOk result (λ put. put ≡ false → conns.new ≡ conns.old) }
+    ensures err { OnErr result (conns.new ≡ conns.old) }
+{
+    let text = reply_line(alloc, frame)?;
+    let put = conns.put_reply(conn, &text)?;
+    Ok(put)
 }
 
 /// Puts the last line of a connection that is open, and closes all its subscriptions. Gives those. Want of
@@ -326,9 +348,7 @@ impl<T: SubTable> Shard<T> {
         if !self.conns.is_open(conn) {
             return Err(Failure::Refused(ShardFault::NoConn));
         }
-        let line = reply_line(self.alloc, frame)?;
-        if self.conns.has_room_for(conn, &line) {
-            self.conns.put(conn, Entry::reply(line))?;
+        if put_answer(self.alloc, &mut self.conns, conn, frame)? {
             return Ok(Closed {
                 shut: false,
                 ended: Vec::new(self.alloc),
@@ -507,9 +527,11 @@ impl<T: SubTable> Shard<T> {
     {
         prove!(index < self.next_index);
         let Some(serial) = self.chosen.take() else {
+            // required: the last call gave a candidate
             unreachable!()
         };
         let Some(sub) = self.openings.table().get(serial) else {
+            // a candidate stays open until the next call
             unreachable!()
         };
         let ends = is_last(sub);

@@ -209,6 +209,14 @@ impl Tally {
         Ok(())
     }
 
+    /// Whether no connection was shut, and no subscription is to close.
+    fn closes_nothing(&self) -> bool
+        ensures shut { result ≡ true → self.now.shut ≡ [] }
+        ensures ended { result ≡ true → self.now.ended ≡ [] }
+    {
+        self.shut.is_empty() && self.ended.is_empty()
+    }
+
     /// Notes the last lines of the connections that were shut.
     fn add_last_lines(&mut self) -> Result<(), AllocError>
         ensures { OnOk result (self.new ≡ with_lines self.old) }
@@ -385,6 +393,9 @@ fn stage<T: SubTable>(
     ensures ended_apart { IfOk result (λ ended. AreApart tally.new.ended) }
 {
     tally.walk(conns, openings, job)?;
+    if tally.closes_nothing() {
+        return Ok(Vec::new(tally.alloc));
+    }
     tally.add_last_lines()?;
     let ended = named(tally.alloc, tally.shard, &tally.ended)?;
     Ok(ended)

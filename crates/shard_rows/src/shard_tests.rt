@@ -53,7 +53,7 @@ fn names(alloc: Global, queue: &[u8]) -> Result<QueueNames, Fail> {
 
 fn hello(alloc: Global) -> Result<Message, Fail> {
     let subject = Subject::read(alloc, b"foo")?;
-    Ok(Message::new(subject, None, Bytes::from_static(b"hello")).ok_or("a message")?)
+    Ok(Message::new(alloc, subject, None, Bytes::from_static(b"hello"))?.ok_or("a message")?)
 }
 
 fn publication(number: u64) -> Result<PubId, Fail> {

@@ -1,14 +1,13 @@
 -- All of a connection, closed one after another.
 use Rattle.std.proofs.Common.{◌≡◌, ℕ, ◌+◌, ◌<◌, Bool, true, false, cond, not, List, [], ◌∷◌, length, map, drop, get_or, refl, ap, sym, ◌∙◌, arith, inl, inr}
 use Rattle.std.specs.Prelude.{nat_eq, nat_lt, filter}
-use Rattle.std.proofs.lemmas.Bool.{cases_Bool, cond-true, cond-false}
+use Rattle.std.proofs.lemmas.Bool.{cases_Bool, cond-true, cond-false, and_parts}
 use Rattle.std.proofs.lemmas.Bool.Decides.{nat_tests}
 use Rattle.std.proofs.lemmas.List.{drop_more}
 use Rattle.sub_table.specs.declared.Subscription.{Subscription}
 use Rattle.sub_table.specs.Subscriptions.{has_serial, without_serial, serial_of, serials_of, is_of, is_of_another}
 use Rattle.sub_trie.specs.Groups.{without_each}
 use Rattle.sub_trie.specs.Rising.{all_above, is_rising}
-use Rattle.sub_trie.proofs.Risen.{and_first, and_second}
 
 -- one more of those serials
 pub without_more : (serials : List ℕ) (k d : ℕ) (subs : List Subscription) → k < length serials → without_each (drop k serials) subs ≡ without_each (drop (k + 1) serials) (without_serial (get_or serials k d) subs)
@@ -18,8 +17,8 @@ without_more serials k d subs within = ap (λ l. without_each l subs) (drop_more
 first_stays : (s : Subscription) (p : Subscription → Bool) (rest subs : List Subscription) → all_above s.serial rest ≡ true → without_each (map serial_of (filter p rest)) (s ∷ subs) ≡ s ∷ without_each (map serial_of (filter p rest)) subs
 first_stays s p [] subs above = refl
 first_stays s p (t ∷ rest) subs above =
-    let later = and_second (nat_lt s.serial t.serial) (all_above s.serial rest) above in
-    let apart : has_serial t.serial s ≡ false = below s.serial t.serial (and_first (nat_lt s.serial t.serial) (all_above s.serial rest) above) in
+    let later = (and_parts (nat_lt s.serial t.serial) (all_above s.serial rest) above).1 in
+    let apart : has_serial t.serial s ≡ false = below s.serial t.serial ((and_parts (nat_lt s.serial t.serial) (all_above s.serial rest) above).0) in
     elim (p t) as (λ b. without_each (map serial_of (cond b (t ∷ filter p rest) (filter p rest))) (s ∷ subs) ≡ s ∷ without_each (map serial_of (cond b (t ∷ filter p rest) (filter p rest))) subs) [
       | true ↦ ap (without_each (map serial_of (filter p rest))) (cond-false (has_serial t.serial s) subs (s ∷ without_serial t.serial subs) apart) ∙ first_stays s p rest (without_serial t.serial subs) later
       | false ↦ first_stays s p rest subs later
@@ -31,8 +30,8 @@ first_stays s p (t ∷ rest) subs above =
 pub all_closed : (conn : ℕ) (subs : List Subscription) → is_rising subs ≡ true → without_each (serials_of conn subs) subs ≡ filter (is_of_another conn) subs
 all_closed conn [] rising = refl
 all_closed conn (s ∷ subs) rising =
-    let above = and_first (all_above s.serial subs) (is_rising subs) rising in
-    let rest = all_closed conn subs (and_second (all_above s.serial subs) (is_rising subs) rising) in
+    let above = (and_parts (all_above s.serial subs) (is_rising subs) rising).0 in
+    let rest = all_closed conn subs ((and_parts (all_above s.serial subs) (is_rising subs) rising).1) in
     elim (is_of conn s) as (λ b. without_each (map serial_of (cond b (s ∷ filter (is_of conn) subs) (filter (is_of conn) subs))) (s ∷ subs) ≡ cond (not b) (s ∷ filter (is_of_another conn) subs) (filter (is_of_another conn) subs)) [
       | true ↦ ap (without_each (serials_of conn subs)) (cond-true (has_serial s.serial s) subs (s ∷ without_serial s.serial subs) (itself s.serial)) ∙ rest
       | false ↦ first_stays s (is_of conn) subs subs above ∙ ap (λ l. s ∷ l) rest

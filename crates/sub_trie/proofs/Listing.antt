@@ -4,7 +4,7 @@ use Rattle.std.specs.Prelude.{nat_eq, nat_lt, Option, unwrap_or}
 use Rattle.std.specs.Map.{lookup, remove_entry, set_value, values_of, keys_of}
 use Rattle.std.specs.HashMap.{get, IsUnique}
 use Rattle.std.specs.List.{AllByRecursion, IsDistinct}
-use Rattle.std.proofs.lemmas.Bool.{cases_Bool, cond-true, cond-false}
+use Rattle.std.proofs.lemmas.Bool.{cases_Bool, cond-true, cond-false, and_parts, and_from}
 use Rattle.std.proofs.lemmas.Bool.Decides.{nat_tests}
 use Rattle.std.proofs.lemmas.Map.Keys.{IsDistinct-head, IsDistinct-tail}
 use Rattle.sub_table.specs.declared.Subscription.{Subscription}
@@ -12,18 +12,6 @@ use Rattle.sub_trie.specs.Rising.{BySerial, placed, in_order, rows, is_keyed}
 
 abbrev Entry : Type 0
 Entry = ℕ × Subscription
-
-and_first : (a b : Bool) → (a && b) ≡ true → a ≡ true
-and_first true b e = refl
-and_first false b e = cc
-
-and_second : (a b : Bool) → (a && b) ≡ true → b ≡ true
-and_second true b e = e
-and_second false b e = cc
-
-and_both : (a b : Bool) → a ≡ true → b ≡ true → (a && b) ≡ true
-and_both true b x y = y
-and_both false b x y = cc
 
 pub flipped : (a b : ℕ) → nat_eq a b ≡ nat_eq b a
 flipped a b =
@@ -68,7 +56,7 @@ is_sorted (e ∷ es) = keys_above e.0 es && is_sorted es
 above_less : (a b : ℕ) (es : List Entry) → nat_lt a b ≡ true → keys_above b es ≡ true → keys_above a es ≡ true
 above_less a b [] lt all = refl
 above_less a b (e ∷ es) lt all =
-    and_both (nat_lt a e.0) (keys_above a es) (further a b e.0 lt (and_first (nat_lt b e.0) (keys_above b es) all)) (above_less a b es lt (and_second (nat_lt b e.0) (keys_above b es) all))
+    and_from (nat_lt a e.0) (keys_above a es) (further a b e.0 lt ((and_parts (nat_lt b e.0) (keys_above b es) all).0)) (above_less a b es lt ((and_parts (nat_lt b e.0) (keys_above b es) all).1))
   where
     further : (a b d : ℕ) → nat_lt a b ≡ true → nat_lt b d ≡ true → nat_lt a d ≡ true
     further a b d x y = grind (arith, nat_tests)
@@ -76,7 +64,7 @@ above_less a b (e ∷ es) lt all =
 none_above : (n : ℕ) (es : List Entry) → keys_above n es ≡ true → lookup (nat_eq n) es ≡ None
 none_above n [] all = refl
 none_above n (e ∷ es) all =
-    cond-false (nat_eq n e.0) (Some e.1) (lookup (nat_eq n) es) (apart n e.0 (and_first (nat_lt n e.0) (keys_above n es) all)) ∙ none_above n es (and_second (nat_lt n e.0) (keys_above n es) all)
+    cond-false (nat_eq n e.0) (Some e.1) (lookup (nat_eq n) es) (apart n e.0 ((and_parts (nat_lt n e.0) (keys_above n es) all).0)) ∙ none_above n es ((and_parts (nat_lt n e.0) (keys_above n es) all).1)
   where
     apart : (a b : ℕ) → nat_lt a b ≡ true → nat_eq a b ≡ false
     apart a b lt = grind (arith, nat_tests)
@@ -116,30 +104,30 @@ lookup_order n [] = refl
 lookup_order n (e ∷ es) = lookup_placed n e (in_order es) ∙ ap (λ o. cond (nat_eq n e.0) (Some e.1) o) (lookup_order n es)
 
 above_placed : (n : ℕ) (e : Entry) (es : List Entry) → nat_lt n e.0 ≡ true → keys_above n es ≡ true → keys_above n (placed e es) ≡ true
-above_placed n e [] lt all = and_both (nat_lt n e.0) true lt refl
+above_placed n e [] lt all = and_from (nat_lt n e.0) true lt refl
 above_placed n e (f ∷ es) lt all =
-    let first = and_first (nat_lt n f.0) (keys_above n es) all in
-    let rest = and_second (nat_lt n f.0) (keys_above n es) all in
+    let first = (and_parts (nat_lt n f.0) (keys_above n es) all).0 in
+    let rest = (and_parts (nat_lt n f.0) (keys_above n es) all).1 in
     elim (cases_Bool (nat_lt e.0 f.0)) [
-      | inl before ↦ ap (keys_above n) (goes_before e f es before) ∙ and_both (nat_lt n e.0) (keys_above n (f ∷ es)) lt all
+      | inl before ↦ ap (keys_above n) (goes_before e f es before) ∙ and_from (nat_lt n e.0) (keys_above n (f ∷ es)) lt all
       | inr ge ↦
           elim (cases_Bool (nat_eq e.0 f.0)) [
-            | inl so ↦ ap (keys_above n) (goes_here e f es ge so) ∙ and_both (nat_lt n e.0) (keys_above n es) lt rest
-            | inr other ↦ ap (keys_above n) (goes_behind e f es ge other) ∙ and_both (nat_lt n f.0) (keys_above n (placed e es)) first (above_placed n e es lt rest)
+            | inl so ↦ ap (keys_above n) (goes_here e f es ge so) ∙ and_from (nat_lt n e.0) (keys_above n es) lt rest
+            | inr other ↦ ap (keys_above n) (goes_behind e f es ge other) ∙ and_from (nat_lt n f.0) (keys_above n (placed e es)) first (above_placed n e es lt rest)
           ]
     ]
 
 sorted_placed : (e : Entry) (es : List Entry) → is_sorted es ≡ true → is_sorted (placed e es) ≡ true
 sorted_placed e [] sorted = refl
 sorted_placed e (f ∷ es) sorted =
-    let above = and_first (keys_above f.0 es) (is_sorted es) sorted in
-    let rest = and_second (keys_above f.0 es) (is_sorted es) sorted in
+    let above = (and_parts (keys_above f.0 es) (is_sorted es) sorted).0 in
+    let rest = (and_parts (keys_above f.0 es) (is_sorted es) sorted).1 in
     elim (cases_Bool (nat_lt e.0 f.0)) [
-      | inl lt ↦ ap is_sorted (goes_before e f es lt) ∙ and_both (keys_above e.0 (f ∷ es)) (is_sorted (f ∷ es)) (and_both (nat_lt e.0 f.0) (keys_above e.0 es) lt (above_less e.0 f.0 es lt above)) sorted
+      | inl lt ↦ ap is_sorted (goes_before e f es lt) ∙ and_from (keys_above e.0 (f ∷ es)) (is_sorted (f ∷ es)) (and_from (nat_lt e.0 f.0) (keys_above e.0 es) lt (above_less e.0 f.0 es lt above)) sorted
       | inr ge ↦
           elim (cases_Bool (nat_eq e.0 f.0)) [
-            | inl so ↦ ap is_sorted (goes_here e f es ge so) ∙ and_both (keys_above e.0 es) (is_sorted es) (ap (λ k. keys_above k es) (same e.0 f.0 so) ∙ above) rest
-            | inr other ↦ ap is_sorted (goes_behind e f es ge other) ∙ and_both (keys_above f.0 (placed e es)) (is_sorted (placed e es)) (above_placed f.0 e es (behind e.0 f.0 ge other) above) (sorted_placed e es rest)
+            | inl so ↦ ap is_sorted (goes_here e f es ge so) ∙ and_from (keys_above e.0 es) (is_sorted es) (ap (λ k. keys_above k es) (same e.0 f.0 so) ∙ above) rest
+            | inr other ↦ ap is_sorted (goes_behind e f es ge other) ∙ and_from (keys_above f.0 (placed e es)) (is_sorted (placed e es)) (above_placed f.0 e es (behind e.0 f.0 ge other) above) (sorted_placed e es rest)
           ]
     ]
   where
@@ -167,18 +155,18 @@ same_entries (e ∷ es) [] a b alike = absurd (no e.1 (sym (alike e.0) ∙ found
   no : (s : Subscription) → None ≡ Some s → ⊥
   no s e = cc
 same_entries (e ∷ es) (f ∷ fs) a b alike =
-    let e_above = and_first (keys_above e.0 es) (is_sorted es) a in
-    let f_above = and_first (keys_above f.0 fs) (is_sorted fs) b in
+    let e_above = (and_parts (keys_above e.0 es) (is_sorted es) a).0 in
+    let f_above = (and_parts (keys_above f.0 fs) (is_sorted fs) b).0 in
     elim (cases_Bool (nat_lt e.0 f.0)) [
-      | inl lt ↦ absurd (no e.1 (sym (none_above e.0 (f ∷ fs) (and_both (nat_lt e.0 f.0) (keys_above e.0 fs) lt (above_less e.0 f.0 fs lt f_above))) ∙ sym (alike e.0) ∙ found_first e es))
+      | inl lt ↦ absurd (no e.1 (sym (none_above e.0 (f ∷ fs) (and_from (nat_lt e.0 f.0) (keys_above e.0 fs) lt (above_less e.0 f.0 fs lt f_above))) ∙ sym (alike e.0) ∙ found_first e es))
       | inr ge ↦
           elim (cases_Bool (nat_lt f.0 e.0)) [
-            | inl lt ↦ absurd (no f.1 (sym (none_above f.0 (e ∷ es) (and_both (nat_lt f.0 e.0) (keys_above f.0 es) lt (above_less f.0 e.0 es lt e_above))) ∙ alike f.0 ∙ found_first f fs))
+            | inl lt ↦ absurd (no f.1 (sym (none_above f.0 (e ∷ es) (and_from (nat_lt f.0 e.0) (keys_above f.0 es) lt (above_less f.0 e.0 es lt e_above))) ∙ alike f.0 ∙ found_first f fs))
             | inr le ↦
                 let key : e.0 ≡ f.0 = neither e.0 f.0 ge le in
                 let value : e.1 ≡ f.1 = value_is e.1 f.1 (sym (found_first e es) ∙ alike e.0 ∙ ap (λ k. lookup (nat_eq k) (f ∷ fs)) key ∙ found_first f fs) in
                 ap (λ k. (k, e.1) ∷ es) key ∙ ap (λ s. (f.0, s) ∷ es) value
-                ∙ ap (λ l. f ∷ l) (same_entries es fs (and_second (keys_above e.0 es) (is_sorted es) a) (and_second (keys_above f.0 fs) (is_sorted fs) b) (behind e_above f_above key))
+                ∙ ap (λ l. f ∷ l) (same_entries es fs ((and_parts (keys_above e.0 es) (is_sorted es) a).1) ((and_parts (keys_above f.0 fs) (is_sorted fs) b).1) (behind e_above f_above key))
           ]
     ]
   where
@@ -203,21 +191,21 @@ found_row n m = sym (lookup_order n m.entries)
 sorted_push : (n : ℕ) (sub : Subscription) (es : List Entry) → is_sorted es ≡ true → is_keyed es ≡ true → AllByRecursion (λ other. other.serial < n) (values_of es) → is_sorted (es ++ (n, sub) ∷ []) ≡ true
 sorted_push n sub [] sorted keyed below = refl
 sorted_push n sub (e ∷ es) sorted keyed below =
-    and_both (keys_above e.0 (es ++ (n, sub) ∷ [])) (is_sorted (es ++ (n, sub) ∷ [])) (above_push e.0 es (and_first (keys_above e.0 es) (is_sorted es) sorted) (under e.0 e.1.serial (and_first (nat_eq e.0 e.1.serial) (is_keyed es) keyed) below.0))
-    (sorted_push n sub es (and_second (keys_above e.0 es) (is_sorted es) sorted) (and_second (nat_eq e.0 e.1.serial) (is_keyed es) keyed) below.1)
+    and_from (keys_above e.0 (es ++ (n, sub) ∷ [])) (is_sorted (es ++ (n, sub) ∷ [])) (above_push e.0 es ((and_parts (keys_above e.0 es) (is_sorted es) sorted).0) (under e.0 e.1.serial ((and_parts (nat_eq e.0 e.1.serial) (is_keyed es) keyed).0) below.0))
+    (sorted_push n sub es ((and_parts (keys_above e.0 es) (is_sorted es) sorted).1) ((and_parts (nat_eq e.0 e.1.serial) (is_keyed es) keyed).1) below.1)
   where
     under : (k s : ℕ) → nat_eq k s ≡ true → s < n → nat_lt k n ≡ true
     under k s so lt = grind (arith, nat_tests)
 
     above_push : (k : ℕ) (es : List Entry) → keys_above k es ≡ true → nat_lt k n ≡ true → keys_above k (es ++ (n, sub) ∷ []) ≡ true
-    above_push k [] all lt = and_both (nat_lt k n) true lt refl
-    above_push k (d ∷ es) all lt = and_both (nat_lt k d.0) (keys_above k (es ++ (n, sub) ∷ [])) (and_first (nat_lt k d.0) (keys_above k es) all) (above_push k es (and_second (nat_lt k d.0) (keys_above k es) all) lt)
+    above_push k [] all lt = and_from (nat_lt k n) true lt refl
+    above_push k (d ∷ es) all lt = and_from (nat_lt k d.0) (keys_above k (es ++ (n, sub) ∷ [])) ((and_parts (nat_lt k d.0) (keys_above k es) all).0) (above_push k es ((and_parts (nat_lt k d.0) (keys_above k es) all).1) lt)
 
 lookup_push : (q n : ℕ) (sub : Subscription) (es : List Entry) → is_keyed es ≡ true → AllByRecursion (λ other. other.serial < n) (values_of es) → lookup (nat_eq q) (es ++ (n, sub) ∷ []) ≡ cond (nat_eq n q) (Some sub) (lookup (nat_eq q) es)
 lookup_push q n sub [] keyed below = ap (λ b. cond b (Some sub) None) (flipped q n)
 lookup_push q n sub (e ∷ es) keyed below =
-    ap (λ o. cond (nat_eq q e.0) (Some e.1) o) (lookup_push q n sub es (and_second (nat_eq e.0 e.1.serial) (is_keyed es) keyed) below.1)
-    ∙ swapped (nat_eq q e.0) (nat_eq n q) (Some e.1) (Some sub) (lookup (nat_eq q) es) (ap (λ b. nat_eq q e.0 && b) (flipped n q) ∙ not_both q e.0 n (under e.0 e.1.serial (and_first (nat_eq e.0 e.1.serial) (is_keyed es) keyed) below.0))
+    ap (λ o. cond (nat_eq q e.0) (Some e.1) o) (lookup_push q n sub es ((and_parts (nat_eq e.0 e.1.serial) (is_keyed es) keyed).1) below.1)
+    ∙ swapped (nat_eq q e.0) (nat_eq n q) (Some e.1) (Some sub) (lookup (nat_eq q) es) (ap (λ b. nat_eq q e.0 && b) (flipped n q) ∙ not_both q e.0 n (under e.0 e.1.serial ((and_parts (nat_eq e.0 e.1.serial) (is_keyed es) keyed).0) below.0))
   where
     under : (k s : ℕ) → nat_eq k s ≡ true → s < n → nat_eq k n ≡ false
     under k s so lt = grind (arith, nat_tests)
@@ -231,28 +219,28 @@ rows_push n sub m k keyed below put =
 above_removed : (n : ℕ) (test : ℕ → Bool) (es : List Entry) → keys_above n es ≡ true → keys_above n (remove_entry test es) ≡ true
 above_removed n test [] all = refl
 above_removed n test (e ∷ es) all =
-    let first = and_first (nat_lt n e.0) (keys_above n es) all in
-    let rest = and_second (nat_lt n e.0) (keys_above n es) all in
+    let first = (and_parts (nat_lt n e.0) (keys_above n es) all).0 in
+    let rest = (and_parts (nat_lt n e.0) (keys_above n es) all).1 in
     elim (test e.0) as (λ b. keys_above n (cond b es (e ∷ remove_entry test es)) ≡ true) [
       | true ↦ rest
-      | false ↦ and_both (nat_lt n e.0) (keys_above n (remove_entry test es)) first (above_removed n test es rest)
+      | false ↦ and_from (nat_lt n e.0) (keys_above n (remove_entry test es)) first (above_removed n test es rest)
     ]
 
 sorted_removed : (test : ℕ → Bool) (es : List Entry) → is_sorted es ≡ true → is_sorted (remove_entry test es) ≡ true
 sorted_removed test [] sorted = refl
 sorted_removed test (e ∷ es) sorted =
-    let above = and_first (keys_above e.0 es) (is_sorted es) sorted in
-    let rest = and_second (keys_above e.0 es) (is_sorted es) sorted in
+    let above = (and_parts (keys_above e.0 es) (is_sorted es) sorted).0 in
+    let rest = (and_parts (keys_above e.0 es) (is_sorted es) sorted).1 in
     elim (test e.0) as (λ b. is_sorted (cond b es (e ∷ remove_entry test es)) ≡ true) [
       | true ↦ rest
-      | false ↦ and_both (keys_above e.0 (remove_entry test es)) (is_sorted (remove_entry test es)) (above_removed e.0 test es above) (sorted_removed test es rest)
+      | false ↦ and_from (keys_above e.0 (remove_entry test es)) (is_sorted (remove_entry test es)) (above_removed e.0 test es above) (sorted_removed test es rest)
     ]
 
 lookup_removed : (q n : ℕ) (es : List Entry) → is_sorted es ≡ true → lookup (nat_eq q) (remove_entry (nat_eq n) es) ≡ cond (nat_eq n q) None (lookup (nat_eq q) es)
 lookup_removed q n [] sorted = elim (nat_eq n q) as (λ b. ◌≡◌ {A = Option Subscription} None (cond b None None)) [ true ↦ refl | false ↦ refl ]
 lookup_removed q n (e ∷ es) sorted =
-    let above = and_first (keys_above e.0 es) (is_sorted es) sorted in
-    let rest = and_second (keys_above e.0 es) (is_sorted es) sorted in
+    let above = (and_parts (keys_above e.0 es) (is_sorted es) sorted).0 in
+    let rest = (and_parts (keys_above e.0 es) (is_sorted es) sorted).1 in
     elim (cases_Bool (nat_eq n e.0)) [
       | inl here ↦
           ap (lookup (nat_eq q)) (cond-true (nat_eq n e.0) es (e ∷ remove_entry (nat_eq n) es) here)

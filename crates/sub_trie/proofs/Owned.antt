@@ -8,14 +8,13 @@ use Rattle.std.specs.Str.{bytes_eq}
 use Rattle.std.specs.Cmp.Lexicographic.{bytes_decides}
 use Rattle.arrayvec.specs.ArrayVec.{ArrayVec as Items}
 use Rattle.std.specs.List.{AllByRecursion}
-use Rattle.std.proofs.lemmas.Bool.{cases_Bool, cond-true, cond-false}
+use Rattle.std.proofs.lemmas.Bool.{cases_Bool, cond-true, cond-false, and_parts}
 use Rattle.std.proofs.lemmas.Bool.Decides.{nat_tests}
 use Rattle.std.proofs.lemmas.List.Elements.{recursion_from_All}
 use Rattle.sub_table.specs.declared.Subscription.{Subscription}
 use Rattle.sub_table.specs.Subscriptions.{has_serial, without_serial, with_changed, serial_of, serials_of, is_of, is_called}
 use Rattle.sub_trie.specs.Groups.{first_of, is_other, called_eq, serials_called}
 use Rattle.sub_trie.specs.Rising.{all_above, is_rising}
-use Rattle.sub_trie.proofs.Risen.{and_first, and_second}
 
 abbrev pub serials_if : (Subscription → Bool) → List Subscription → List ℕ
 serials_if p subs = map serial_of (filter p subs)
@@ -39,8 +38,8 @@ push_if p (s ∷ subs) sub =
 others_stay : (p : Subscription → Bool) (n : ℕ) (subs : List Subscription) → all_above n subs ≡ true → filter (is_other n) (serials_if p subs) ≡ serials_if p subs
 others_stay p n [] above = refl
 others_stay p n (s ∷ subs) above =
-    let first = and_first (nat_lt n s.serial) (all_above n subs) above in
-    let rest = others_stay p n subs (and_second (nat_lt n s.serial) (all_above n subs) above) in
+    let first = (and_parts (nat_lt n s.serial) (all_above n subs) above).0 in
+    let rest = others_stay p n subs ((and_parts (nat_lt n s.serial) (all_above n subs) above).1) in
     let apart : is_other n s.serial ≡ true = ap not (unlike n s.serial first) in
     elim (p s) as (λ b. filter (is_other n) (map serial_of (cond b (s ∷ filter p subs) (filter p subs))) ≡ map serial_of (cond b (s ∷ filter p subs) (filter p subs))) [
       | true ↦ cond-true (is_other n s.serial) (s.serial ∷ filter (is_other n) (serials_if p subs)) (filter (is_other n) (serials_if p subs)) apart ∙ ap (λ l. s.serial ∷ l) rest
@@ -57,7 +56,7 @@ pub without_if : (p : Subscription → Bool) (n : ℕ) (subs : List Subscription
     → serials_if p (without_serial n subs) ≡ cond (p sub) (filter (is_other n) (serials_if p subs)) (serials_if p subs)
 without_if p n [] sub rising found = cc
 without_if p n (s ∷ subs) sub rising found =
-    let above = and_first (all_above s.serial subs) (is_rising subs) rising in
+    let above = (and_parts (all_above s.serial subs) (is_rising subs) rising).0 in
     elim (cases_Bool (has_serial n s)) [
       | inl so ↦
           let is : s ≡ sub = first_is s sub (sym (cond-true (has_serial n s) (Some s) (find (has_serial n) subs) so) ∙ found) in
@@ -70,7 +69,7 @@ without_if p n (s ∷ subs) sub rising found =
           ]
           ∙ ap (λ t. cond (p t) (filter (is_other n) (serials_if p (s ∷ subs))) (serials_if p (s ∷ subs))) is
       | inr other ↦
-          let rest = without_if p n subs sub (and_second (all_above s.serial subs) (is_rising subs) rising) (sym (cond-false (has_serial n s) (Some s) (find (has_serial n) subs) other) ∙ found) in
+          let rest = without_if p n subs sub ((and_parts (all_above s.serial subs) (is_rising subs) rising).1) (sym (cond-false (has_serial n s) (Some s) (find (has_serial n) subs) other) ∙ found) in
           let stays : is_other n s.serial ≡ true = ap not other in
           ap (serials_if p) (cond-false (has_serial n s) subs (s ∷ without_serial n subs) other)
           ∙ elim (p s) as (λ b. map serial_of (cond b (s ∷ filter p (without_serial n subs)) (filter p (without_serial n subs))) ≡ cond (p sub) (filter (is_other n) (map serial_of (cond b (s ∷ filter p subs) (filter p subs)))) (map serial_of (cond b (s ∷ filter p subs) (filter p subs)))) [
@@ -184,8 +183,8 @@ module _ (k : ℕ × Items ℕ) (old new : ℕ × Items ℕ → List ℕ) (subs 
 
   alike_key : (q : ℕ × Items ℕ) → called_eq k q ≡ true → serials_if (is_called k.0 k.1.items) subs ≡ serials_if (is_called q.0 q.1.items) subs
   alike_key q so =
-      ap (λ c. serials_if (is_called c k.1.items) subs) (same_number k.0 q.0 (and_first (nat_eq k.0 q.0) (bytes_eq k.1.items q.1.items) so))
-      ∙ ap (λ t. serials_if (is_called q.0 t) subs) ((bytes_decides k.1.items q.1.items).0 (and_second (nat_eq k.0 q.0) (bytes_eq k.1.items q.1.items) so))
+      ap (λ c. serials_if (is_called c k.1.items) subs) (same_number k.0 q.0 ((and_parts (nat_eq k.0 q.0) (bytes_eq k.1.items q.1.items) so).0))
+      ∙ ap (λ t. serials_if (is_called q.0 t) subs) ((bytes_decides k.1.items q.1.items).0 ((and_parts (nat_eq k.0 q.0) (bytes_eq k.1.items q.1.items) so).1))
 
   pub key_push : ((q : ℕ × Items ℕ) → new q ≡ cond (called_eq k q) (old k ++ sub.serial ∷ []) (old q)) → (q : ℕ × Items ℕ) → new q ≡ serials_called q (subs ++ sub ∷ [])
   key_push is q = grouped_push (called_eq k) k (λ c. is_called c.0 c.1.items) old new subs sub own_key alike_key had is q

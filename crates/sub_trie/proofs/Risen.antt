@@ -4,7 +4,7 @@ use Rattle.std.specs.Prelude.{nat_lt, find, unwrap_or, filter}
 use Rattle.std.specs.Bool.{nat_eq}
 use Rattle.std.specs.Str.{bytes_eq}
 use Rattle.std.specs.Cmp.Lexicographic.{nat_list_eq_equiv}
-use Rattle.std.proofs.lemmas.Bool.{cases_Bool, cond-true, cond-false}
+use Rattle.std.proofs.lemmas.Bool.{cases_Bool, cond-true, cond-false, and_parts, and_from}
 use Rattle.std.proofs.lemmas.Bool.Decides.{nat_tests}
 use Rattle.std.proofs.lemmas.List.Sums.{sum_by-append}
 use Rattle.std.proofs.lemmas.List.Elements.{recursion_from_All}
@@ -14,18 +14,6 @@ use Rattle.sub_table.specs.declared.Subscription.{Subscription}
 use Rattle.sub_table.specs.Subscriptions.{has_serial, without_serial, with_changed, total_cost}
 use Rattle.pattern_trie.specs.Held.{without_held, is_held}
 use Rattle.sub_trie.specs.Rising.{all_above, is_rising, held_of}
-
-pub and_first : (a b : Bool) → (a && b) ≡ true → a ≡ true
-and_first true b e = refl
-and_first false b e = cc
-
-pub and_second : (a b : Bool) → (a && b) ≡ true → b ≡ true
-and_second true b e = e
-and_second false b e = cc
-
-pub and_both : (a b : Bool) → a ≡ true → b ≡ true → (a && b) ≡ true
-and_both true b x y = y
-and_both false b x y = cc
 
 and_none : (b : Bool) → (b && false) ≡ false
 and_none true = refl
@@ -40,13 +28,13 @@ cost_cons sub subs = sum_by-append (λ (s : Subscription). cost_of s.key) (sub �
 -- ---- one more
 
 above_push : (n : ℕ) (subs : List Subscription) (sub : Subscription) → all_above n subs ≡ true → n < sub.serial → all_above n (subs ++ sub ∷ []) ≡ true
-above_push n [] sub all lt = and_both (nat_lt n sub.serial) true (grind (arith, nat_tests)) refl
-above_push n (s ∷ subs) sub all lt = and_both (nat_lt n s.serial) (all_above n (subs ++ sub ∷ [])) (and_first (nat_lt n s.serial) (all_above n subs) all) (above_push n subs sub (and_second (nat_lt n s.serial) (all_above n subs) all) lt)
+above_push n [] sub all lt = and_from (nat_lt n sub.serial) true (grind (arith, nat_tests)) refl
+above_push n (s ∷ subs) sub all lt = and_from (nat_lt n s.serial) (all_above n (subs ++ sub ∷ [])) ((and_parts (nat_lt n s.serial) (all_above n subs) all).0) (above_push n subs sub ((and_parts (nat_lt n s.serial) (all_above n subs) all).1) lt)
 
 rising_more : (subs : List Subscription) (sub : Subscription) → is_rising subs ≡ true → AllByRecursion (λ other. other.serial < sub.serial) subs → is_rising (subs ++ sub ∷ []) ≡ true
 rising_more [] sub rising below = refl
 rising_more (s ∷ subs) sub rising below =
-    and_both (all_above s.serial (subs ++ sub ∷ [])) (is_rising (subs ++ sub ∷ [])) (above_push s.serial subs sub (and_first (all_above s.serial subs) (is_rising subs) rising) below.0) (rising_more subs sub (and_second (all_above s.serial subs) (is_rising subs) rising) below.1)
+    and_from (all_above s.serial (subs ++ sub ∷ [])) (is_rising (subs ++ sub ∷ [])) (above_push s.serial subs sub ((and_parts (all_above s.serial subs) (is_rising subs) rising).0) below.0) (rising_more subs sub ((and_parts (all_above s.serial subs) (is_rising subs) rising).1) below.1)
 
 pub rising_push : (subs : List Subscription) (sub : Subscription) → is_rising subs ≡ true → All (λ other. other.serial < sub.serial) subs → is_rising (subs ++ sub ∷ []) ≡ true
 rising_push subs sub rising below = rising_more subs sub rising (recursion_from_All (λ (other : Subscription). other.serial < sub.serial) subs below)
@@ -99,18 +87,18 @@ above_without : (m n : ℕ) (subs : List Subscription) → all_above m subs ≡ 
 above_without m n [] all = refl
 above_without m n (s ∷ subs) all =
     elim (has_serial n s) as (λ b. all_above m (cond b subs (s ∷ without_serial n subs)) ≡ true) [
-      | true ↦ and_second (nat_lt m s.serial) (all_above m subs) all
-      | false ↦ and_both (nat_lt m s.serial) (all_above m (without_serial n subs)) (and_first (nat_lt m s.serial) (all_above m subs) all) (above_without m n subs (and_second (nat_lt m s.serial) (all_above m subs) all))
+      | true ↦ (and_parts (nat_lt m s.serial) (all_above m subs) all).1
+      | false ↦ and_from (nat_lt m s.serial) (all_above m (without_serial n subs)) ((and_parts (nat_lt m s.serial) (all_above m subs) all).0) (above_without m n subs ((and_parts (nat_lt m s.serial) (all_above m subs) all).1))
     ]
 
 pub rising_without : (n : ℕ) (subs : List Subscription) → is_rising subs ≡ true → is_rising (without_serial n subs) ≡ true
 rising_without n [] rising = refl
 rising_without n (s ∷ subs) rising =
-    let above = and_first (all_above s.serial subs) (is_rising subs) rising in
-    let rest = and_second (all_above s.serial subs) (is_rising subs) rising in
+    let above = (and_parts (all_above s.serial subs) (is_rising subs) rising).0 in
+    let rest = (and_parts (all_above s.serial subs) (is_rising subs) rising).1 in
     elim (has_serial n s) as (λ b. is_rising (cond b subs (s ∷ without_serial n subs)) ≡ true) [
       | true ↦ rest
-      | false ↦ and_both (all_above s.serial (without_serial n subs)) (is_rising (without_serial n subs)) (above_without s.serial n subs above) (rising_without n subs rest)
+      | false ↦ and_from (all_above s.serial (without_serial n subs)) (is_rising (without_serial n subs)) (above_without s.serial n subs above) (rising_without n subs rest)
     ]
 
 first_is : (s sub : Subscription) → Some s ≡ Some sub → s ≡ sub
@@ -125,7 +113,7 @@ found_serial n (s ∷ subs) sub found =
     ]
 
 itself : (s : Subscription) → is_held nat_eq s.key.pattern s.serial (s.key.pattern, s.serial) ≡ true
-itself s = and_both (bytes_eq s.key.pattern s.key.pattern) (nat_eq s.serial s.serial) (nat_list_eq_equiv.refl s.key.pattern) (grind (arith, nat_tests))
+itself s = and_from (bytes_eq s.key.pattern s.key.pattern) (nat_eq s.serial s.serial) (nat_list_eq_equiv.refl s.key.pattern) (grind (arith, nat_tests))
 
 pub held_without : (n : ℕ) (subs : List Subscription) (sub : Subscription) → find (has_serial n) subs ≡ Some sub → held_of (without_serial n subs) ≡ without_held nat_eq sub.key.pattern sub.serial (held_of subs)
 held_without n [] sub found = cc
@@ -146,7 +134,7 @@ held_without n (s ∷ subs) sub found =
 
 -- what was held last, taken out again
 held_below : (text : List ℕ) (n : ℕ) (subs : List Subscription) → AllByRecursion (λ other. other.serial < n) subs → without_held nat_eq text n (held_of subs ++ (text, n) ∷ []) ≡ held_of subs
-held_below text n [] below = cond-true (bytes_eq text text && nat_eq n n) [] ((text, n) ∷ []) (and_both (bytes_eq text text) (nat_eq n n) (nat_list_eq_equiv.refl text) (grind (arith, nat_tests)))
+held_below text n [] below = cond-true (bytes_eq text text && nat_eq n n) [] ((text, n) ∷ []) (and_from (bytes_eq text text) (nat_eq n n) (nat_list_eq_equiv.refl text) (grind (arith, nat_tests)))
 held_below text n (s ∷ subs) below =
     let lower = below.0 in
     let apart : nat_eq n s.serial ≡ false = grind (arith, nat_tests) in
@@ -175,18 +163,18 @@ cost_without n (s ∷ subs) sub found =
 above_filter : (n : ℕ) (p : Subscription → Bool) (subs : List Subscription) → all_above n subs ≡ true → all_above n (filter p subs) ≡ true
 above_filter n p [] all = refl
 above_filter n p (s ∷ subs) all =
-    let first = and_first (nat_lt n s.serial) (all_above n subs) all in
-    let rest = above_filter n p subs (and_second (nat_lt n s.serial) (all_above n subs) all) in
+    let first = (and_parts (nat_lt n s.serial) (all_above n subs) all).0 in
+    let rest = above_filter n p subs ((and_parts (nat_lt n s.serial) (all_above n subs) all).1) in
     elim (p s) as (λ b. all_above n (cond b (s ∷ filter p subs) (filter p subs)) ≡ true) [
-      | true ↦ and_both (nat_lt n s.serial) (all_above n (filter p subs)) first rest
+      | true ↦ and_from (nat_lt n s.serial) (all_above n (filter p subs)) first rest
       | false ↦ rest
     ]
 
 pub rising_filter : (p : Subscription → Bool) (subs : List Subscription) → is_rising subs ≡ true → is_rising (filter p subs) ≡ true
 rising_filter p [] rising = refl
 rising_filter p (s ∷ subs) rising =
-    let rest = rising_filter p subs (and_second (all_above s.serial subs) (is_rising subs) rising) in
+    let rest = rising_filter p subs ((and_parts (all_above s.serial subs) (is_rising subs) rising).1) in
     elim (p s) as (λ b. is_rising (cond b (s ∷ filter p subs) (filter p subs)) ≡ true) [
-      | true ↦ and_both (all_above s.serial (filter p subs)) (is_rising (filter p subs)) (above_filter s.serial p subs (and_first (all_above s.serial subs) (is_rising subs) rising)) rest
+      | true ↦ and_from (all_above s.serial (filter p subs)) (is_rising (filter p subs)) (above_filter s.serial p subs ((and_parts (all_above s.serial subs) (is_rising subs) rising).0)) rest
       | false ↦ rest
     ]

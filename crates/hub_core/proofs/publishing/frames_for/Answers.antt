@@ -1,15 +1,17 @@
-use Rattle.std.proofs.Common.{ℕ, ◌+◌, ◌++◌, List, drop, ap, ◌∙◌}
-use Rattle.std.specs.Prelude.{option_to_list}
+use Rattle.std.proofs.Common.{ℕ, ◌+◌, ◌++◌, List, [], drop, refl, ap, ◌∙◌}
+use Rattle.std.specs.Prelude.{unwrap_or}
+use Rattle.std.specs.Option.{option_copied}
+use Rattle.subj.specs.Servers.{name_of}
 use Rattle.route_values.specs.Frames.{Frame}
-use Rattle.hub_core.specs.Chosen.{chosen_for, sent_from}
+use Rattle.hub_core.specs.Chosen.{chosen_for, frame_at, sent_from}
 use Rattle.hub_core.proofs.Sending.{frames_step}
 use Rattle.hub_core.proofs.publishing.frames_for.Goals as goal
 
 pub loop-place-preserved : goal.loop-place-preserved
 loop-place-preserved c =
-    let out = c.args.out.now in let peers = c.args.peers.now in let i = c.loop-place.place in
-    let queues_of : List ℕ → List (List ℕ) = λ server_name. chosen_for server_name out.names.now out.servers.now in
+    let out = c.args.out.now in let peers = c.args.peers.now in let i = c.loop-place.place in let peer = c.index-peers-place.result in
+    let queues_of : List ℕ → List (List ℕ) = λ server_name. chosen_for server_name (unwrap_or (option_copied out.names) []) out.servers.now in
     let rest = sent_from out.server.now out.number out.message.now queues_of (i + 1) (drop (i + 1) peers) in
-    ap (λ (l : List Frame). l ++ rest) c.in_ok-push_some.ensures
-    ∙ frames_step out.server.now out.number out.message.now queues_of peers i c.index-peers-place.result (option_to_list c.in_ok-frame.frame) c.loop-place.frames.items
-    (sent_from out.server.now out.number out.message.now queues_of 0 peers) c.loop-place-test.true c.index-peers-place.is c.in_ok-frame.ensures c.loop-place.invariant
+    ap (λ (l : List Frame). l ++ rest) c.in_ok-add_frame.ensures
+    ∙ frames_step out.server.now out.number out.message.now queues_of peers i peer (frame_at out.server.now out.number out.message.now (queues_of (name_of out.server.now i)) i peer) c.loop-place.frames.items
+    (sent_from out.server.now out.number out.message.now queues_of 0 peers) c.loop-place-test.true c.index-peers-place.is refl c.loop-place.invariant

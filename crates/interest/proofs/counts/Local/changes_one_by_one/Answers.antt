@@ -1,7 +1,7 @@
 use Rattle.std.proofs.Common.{◌≡◌, suc, take, ◌+◌, cond, length, Some, None, sym, ap, ◌∙◌, subst, arith}
 use Rattle.interest.specs.Counts.{IsInterest}
 use Rattle.interest.specs.Told.{changes_told}
-use Rattle.interest.proofs.InOrder.{Standing, number_here, refused_here, standing_next}
+use Rattle.interest.proofs.InOrder.{CountedSoFar, number_here, refused_here, counted_next}
 use Rattle.interest.proofs.counts.Local.changes_one_by_one.Goals as goal
 
 pub returns-then-is_refused : goal.returns-then-is_refused
@@ -18,7 +18,7 @@ loop-place-preserved c =
     let valid = subst IsInterest c.self.view_is c.self.invariant.valid in
     let number = number_here counts (take i deltas) delta.key c.number_behind-number.result c.weight.result valid c.weight.ensures.weight c.number_behind-number.ensures.same in
     let next : suc i ≡ i + 1 = omega arith in
-    subst (λ j. Standing counts deltas j c.total-keys.result c.total-bytes.result (c.loop-place.changes + c.changes_told-changes.result)) next
-    (standing_next counts deltas i c.loop-place.keys c.loop-place.bytes c.loop-place.changes c.number_behind-number.result c.cost.result c.changes_told-changes.result c.total-keys.result c.total-bytes.result delta
+    subst (λ j. CountedSoFar counts deltas j c.total-keys.result c.total-bytes.result (c.loop-place.changes + c.changes_told-changes.result)) next
+    (counted_next counts deltas i c.loop-place.keys c.loop-place.bytes c.loop-place.changes c.number_behind-number.result c.cost.result c.changes_told-changes.result c.total-keys.result c.total-bytes.result delta
     c.loop-place.invariant c.loop-place-test.true c.index-deltas-place.is number (sym c.is_refused.ensures ∙ c.if-is_refused.false)
     c.total-keys.ensures c.cost.ensures.same c.total-bytes.ensures c.changes_told-changes.ensures)

@@ -3,7 +3,7 @@ use Rattle.std.specs.Mem.Slots.{slots_items}
 use Rattle.subj.specs.declared.limits.TheConstants.{MAX_COUNTER}
 use Rattle.claim_cells.proofs.Lists.{read_at}
 use Rattle.claim_cells.proofs.Turns.{some_turn, same_turn}
-use Rattle.claim_cells.proofs.closing.LastWords.turn.Goals as goal
+use Rattle.claim_cells.proofs.closing.FinalTable.turn.Goals as goal
 
 pub unwrap-requires : goal.unwrap-requires
 unwrap-requires c = let words = slots_items c.self.inside.table.words in some_turn c.word.result c.new.result c.new.ensures

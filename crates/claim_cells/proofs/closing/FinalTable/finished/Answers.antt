@@ -1,6 +1,6 @@
 use Rattle.std.proofs.Common.{◌≡◌, ◌+◌, ◌-◌, ◌++◌, ◌∷◌, [], ℕ, set, length-append, refl, ap, ◌∙◌, arith}
 use Rattle.claim_cells.proofs.Rounds.{finished_more, found_more}
-use Rattle.claim_cells.proofs.closing.LastWords.finished.Goals as goal
+use Rattle.claim_cells.proofs.closing.FinalTable.finished.Goals as goal
 
 pub loop-before-init : goal.loop-before-init
 loop-before-init c = ([], refl, (λ s low. absurd (omega arith)), c.new-finished.ensures)
