@@ -101,8 +101,8 @@ told c w n a b out hub r k nk published marks pubs frames jobs lives closings pl
           (λ t y lt. ((λ i. i), (λ i. i))) (λ i l. absurd (no_job i l)) d.jobs_cross lives closings placements;
     })
 
-pub heard : (c : Config) (w : World) (n : ℕ) (a : Node) (t : News) (out : Output) (b : Node) → Rest c w → HubOk w n a → NodeOk c w n a → Hears every_rule c n a t out b → Both c w n b out
-heard c w n a t out b r k nk s =
+pub news_are_heard : (c : Config) (w : World) (n : ℕ) (a : Node) (t : News) (out : Output) (b : Node) → Rest c w → HubOk w n a → NodeOk c w n a → Hears every_rule c n a t out b → Both c w n b out
+news_are_heard c w n a t out b r k nk s =
     let q = s.hears in
     told c w n a b out s.hub r k nk (ap (λ (x : Hub). x.published) q.after)
     (subst (Marks w n a.inc) (sym q.after) (marks_set w.past.jobs n a.inc a.hub t.origin _ (λ o p apart e. k.marks o p e) (λ i l at my far same. passed_known q.peer q.base t.inc i.id q.known (k.marks t.origin q.peer q.peer_is i l at my far same))))

@@ -127,8 +127,8 @@ interests_kept c w n b out h d = record {
 }
 
 -- a step that tells nothing, of a hub that changed no interest of its own
-pub silent : (c : Config) (w : World) (n : ℕ) (b : Node) (out : Output) (old : Hub) → InterestIs c w.past n b.inc old → out.changes ≡ [] → Each (FrameOk c w.past.started (w.past.changes ++ out.changes)) out.frames → b.hub.changed ≡ old.changed → b.hub.interest ≡ old.interest → ((o : ℕ) (p : Peer) → slice_get b.hub.peers o ≡ Some p → IsView c w.past o p) → Tells c w n b out
-silent c w n b out old h none frames changed interest peers = record {
+pub nothing_is_told : (c : Config) (w : World) (n : ℕ) (b : Node) (out : Output) (old : Hub) → InterestIs c w.past n b.inc old → out.changes ≡ [] → Each (FrameOk c w.past.started (w.past.changes ++ out.changes)) out.frames → b.hub.changed ≡ old.changed → b.hub.interest ≡ old.interest → ((o : ℕ) (p : Peer) → slice_get b.hub.peers o ≡ Some p → IsView c w.past o p) → Tells c w n b out
+nothing_is_told c w n b out old h none frames changed interest peers = record {
   changes = λ x i. absurd (subst (In x) none i);
   frames = frames;
   hub = λ up. interest_more c w.past out n b.inc old b.hub (ap (λ l. changes_of l n b.inc) none) changed interest peers h;

@@ -16,8 +16,8 @@ use Rattle.list_laws.proofs.Lists.{in_read, pairs_weaker, each_cons, read_replic
 use Rattle.cluster_law.proofs.Invariants.{HubOk, NodeOk, InterestIs, FrameOk, Holds, RoutedApart, JobsApart, Local, Remote, LineIs}
 use Rattle.cluster_law.proofs.Hubs.{hubs_kept}
 use Rattle.cluster_law.proofs.Shards.{rest_kept}
-use Rattle.cluster_law.proofs.NodeSteps.{Both, published, received, heard, met, announced, on_shard, stopped}
-use Rattle.cluster_law.proofs.Views.{Tells, interests_kept, silent, after_message, after_news, after_greeting, own_frames, after_announcement, view_both}
+use Rattle.cluster_law.proofs.NodeSteps.{Both, published, received, news_are_heard, met, announced, on_shard, stopped}
+use Rattle.cluster_law.proofs.Views.{Tells, interests_kept, nothing_is_told, after_message, after_news, after_greeting, own_frames, after_announcement, view_both}
 use Rattle.cluster_law.proofs.Starts.{started, passed}
 
 nothing_up : {P : Type 0} (k n : ℕ) (a : Node) → slice_get (replicate k no_node) n ≡ Some a → a.up ≡ true → P
@@ -53,7 +53,7 @@ is_message (Greeting o v ∷ fs) m i = ⊎_elim (λ (e : Message m ≡ Greeting 
 
 -- a step at a node of which the hub's interest and its views stay
 quiet_tells : (c : Config) (w : World) (n : ℕ) (a b : Node) (out : Output) → InterestIs c w.past n a.inc a.hub → b.inc ≡ a.inc → b.hub.changed ≡ a.hub.changed → b.hub.interest ≡ a.hub.interest → b.hub.peers ≡ a.hub.peers → out.changes ≡ [] → Each (FrameOk c w.past.started (w.past.changes ++ out.changes)) out.frames → Tells c w n b out
-quiet_tells c w n a b out h inc changed interest peers none frames = silent c w n b out a.hub (subst (λ v. InterestIs c w.past n v a.hub) (sym inc) h) none frames changed interest (λ o p e. h.peers o p (ap (λ (x : List Peer). slice_get x o) (sym peers) ∙ e))
+quiet_tells c w n a b out h inc changed interest peers none frames = nothing_is_told c w n b out a.hub (subst (λ v. InterestIs c w.past n v a.hub) (sym inc) h) none frames changed interest (λ o p e. h.peers o p (ap (λ (x : List Peer). slice_get x o) (sym peers) ∙ e))
 
 no_frames : (P : Frame → Type 0) (out : Output) → out.frames ≡ [] → Each P out.frames
 no_frames P out none = λ t i. absurd (subst (In t) none i)
@@ -106,15 +106,15 @@ node_step c w n a (Receive (Message m)) out b own h k nk i s =
     let q = hub ∙ s.receives.after in
     record {
       both = received c w n a m out b h.hubs h.rest k nk sent s;
-      tells = silent c w n b out a.hub (subst (λ v. InterestIs c w.past n v a.hub) (sym (ap (λ (x : Node). x.inc) s.after)) i) (ap (λ (x : Output). x.changes) s.out_is) (no_frames _ out (ap (λ (x : Output). x.frames) s.out_is)) (ap (λ (x : Hub). x.changed) q) (ap (λ (x : Hub). x.interest) q)
+      tells = nothing_is_told c w n b out a.hub (subst (λ v. InterestIs c w.past n v a.hub) (sym (ap (λ (x : Node). x.inc) s.after)) i) (ap (λ (x : Output). x.changes) s.out_is) (no_frames _ out (ap (λ (x : Output). x.frames) s.out_is)) (ap (λ (x : Hub). x.changed) q) (ap (λ (x : Hub). x.interest) q)
           (λ o p e. after_message c w n a.inc a.hub m s.hub started i s.receives o p (ap (λ (x : Hub). slice_get x.peers o) (sym hub) ∙ e));
     }
 node_step c w n a (Receive (Interest t)) out b own h k nk i s =
     let hub : b.hub ≡ s.hub = ap (λ (x : Node). x.hub) s.after in
     let q = hub ∙ s.hears.after in
     record {
-      both = heard c w n a t out b h.rest k nk s;
-      tells = silent c w n b out a.hub (subst (λ v. InterestIs c w.past n v a.hub) (sym (ap (λ (x : Node). x.inc) s.after)) i) (ap (λ (x : Output). x.changes) s.out_is) (no_frames _ out (ap (λ (x : Output). x.frames) s.out_is)) (ap (λ (x : Hub). x.changed) q) (ap (λ (x : Hub). x.interest) q)
+      both = news_are_heard c w n a t out b h.rest k nk s;
+      tells = nothing_is_told c w n b out a.hub (subst (λ v. InterestIs c w.past n v a.hub) (sym (ap (λ (x : Node). x.inc) s.after)) i) (ap (λ (x : Output). x.changes) s.out_is) (no_frames _ out (ap (λ (x : Output). x.frames) s.out_is)) (ap (λ (x : Hub). x.changed) q) (ap (λ (x : Hub). x.interest) q)
           (λ o p e. after_news c w n a.inc a.hub t s.hub (h.interests.frames (Interest t) own) i s.hears o p (ap (λ (x : Hub). slice_get x.peers o) (sym hub) ∙ e));
     }
 node_step c w n a (Receive (Greeting origin inc)) out b own h k nk i s =
@@ -124,7 +124,7 @@ node_step c w n a (Receive (Greeting origin inc)) out b own h k nk i s =
     let l = changes_of w.past.changes n a.inc in
     record {
       both = met c w n a origin inc out b h.rest k nk s;
-      tells = silent c w n b out a.hub (subst (λ v. InterestIs c w.past n v a.hub) (sym (ap (λ (x : Node). x.inc) s.after)) i) none
+      tells = nothing_is_told c w n b out a.hub (subst (λ v. InterestIs c w.past n v a.hub) (sym (ap (λ (x : Node). x.inc) s.after)) i) none
           (λ t x. subst (λ y. FrameOk c w.past.started (w.past.changes ++ y) t) (sym none) (own_frames c w.past n a.inc a.hub [] a.hub i.started i.changed (omega arith)
           (i.interest ∙ ap (λ v. view_after c.follow l v []) i.changed ∙ sym (view_both c.follow l [] []))
           t (s.told t (subst (In t) (ap (λ (x : Output). x.frames) s.out_is) x))))

@@ -92,7 +92,9 @@ impl<T: SubTable, R: Race> Nodes<T, R> {
         ensures err { OnErr result (self.new ≡ self.old) }
     {
         let slot = &mut self.slots[n];
+        // required: a server is up there
         let Some(node) = slot else { unreachable!() };
+        // required: what is handed over is there
         let Some(asked) = asked else { unreachable!() };
         let inc = node.server().inc();
         let noted = match note(self.alloc, asked, node.next_id(), now) {
@@ -102,6 +104,7 @@ impl<T: SubTable, R: Race> Nodes<T, R> {
         match node.step_of(asked) {
             Ok(did) => Ok(Made { inc, noted, did }),
             Err(Refused::OutOfMemory) => Err(AllocError),
+            // required: the server does not refuse it
             Err(Refused::Fault(_)) => unreachable!(),
         }
     }

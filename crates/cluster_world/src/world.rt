@@ -68,6 +68,7 @@ impl<T: SubTable, R: Race> World<T, R> {
     {
         carried_at_first();
         let Some(inc) = Incarnation::new(1) else {
+            // 1 is an incarnation
             unreachable!()
         };
         let Some(server) = Server::new(names, 0, inc, shards) else {
@@ -202,6 +203,7 @@ impl<T: SubTable, R: Race> World<T, R> {
         carried_on();
         let _first = inc.get();
         let Some(server) = server_of(self.alloc, &self.server, n, inc)? else {
+            // required: there is such a place
             unreachable!()
         };
         let node = match Node::new(self.alloc, server) {
@@ -236,6 +238,7 @@ impl<T: SubTable, R: Race> World<T, R> {
         carried_on();
         carried_open();
         let Some(inc) = self.nodes.inc_at(n) else {
+            // required: a server is up there
             unreachable!()
         };
         let acted = Acted {

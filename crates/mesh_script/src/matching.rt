@@ -62,11 +62,13 @@ fn is_match(alloc: Global, pattern: &[u8], subject: &[u8]) -> Result<bool, Alloc
 {
     let pattern = match Pattern::read(alloc, pattern) {
         Ok(pattern) => pattern,
+        // required: the bytes are a pattern
         Err(Failure::Refused(_)) => unreachable!(),
         Err(Failure::OutOfMemory) => return Err(AllocError),
     };
     match Subject::read(alloc, subject) {
         Ok(subject) => Ok(pattern.matches(&subject)),
+        // required: the bytes are a subject
         Err(Failure::Refused(_)) => unreachable!(),
         Err(Failure::OutOfMemory) => Err(AllocError),
     }

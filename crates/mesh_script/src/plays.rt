@@ -41,6 +41,7 @@ fn new_player<T: SubTable, R: Race>(
     let shards = script.shards();
     let names = Vec::from_slice(alloc, script.names())?;
     let Some(world) = World::new(alloc, names, shards)? else {
+        // the servers of a script are a cluster
         unreachable!()
     };
     Ok(Player::new(alloc, world))

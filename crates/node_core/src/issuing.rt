@@ -42,12 +42,12 @@ impl<T: SubTable, R: Race> Node<T, R> {
             turn: job.turn,
             frames: frames.len(),
         };
-        let Ok(()) = fill(&mut self.copies, job, count) else {
+        let Ok(()) = fill(&mut self.copies, &job, count) else {
             return Err(Failure::OutOfMemory);
         };
         self.hub.commit_publish(frames);
         let lines = self.lines.as_mut_slice();
-        issue(&mut self.race, lines, &mut self.copies);
+        issue(&mut self.race, lines, job, &mut self.copies);
         Ok(issued)
     }
 

@@ -318,6 +318,7 @@ impl<T: SubTable, R: Race> Node<T, R> {
             return Err(Failure::Refused(NodeFault::Session(fault)));
         }
         let Some(place) = peer_named(self.hub.server(), info.server_name()) else {
+            // an `INFO` that is not refused names a peer of the list
             unreachable!()
         };
         let inc = info.inc();
@@ -326,6 +327,7 @@ impl<T: SubTable, R: Race> Node<T, R> {
             return Err(Failure::OutOfMemory);
         };
         let Ok(done) = self.sessions.on_info(session, info, least) else {
+            // the same was not refused above, and the sessions are as they were
             unreachable!()
         };
         self.hub.commit_up(place, inc, snapshot);
@@ -347,6 +349,7 @@ impl<T: SubTable, R: Race> Node<T, R> {
             return Err(Failure::Refused(NodeFault::Session(fault)));
         }
         let Some(place) = peer_named(self.hub.server(), connect.server_name()) else {
+            // a `CONNECT` that is not refused names a peer of the list
             unreachable!()
         };
         let inc = connect.inc();
@@ -355,6 +358,7 @@ impl<T: SubTable, R: Race> Node<T, R> {
             return Err(Failure::OutOfMemory);
         };
         let Ok(kept) = self.sessions.on_connect(session, connect, least) else {
+            // the same was not refused above, and the sessions are as they were
             unreachable!()
         };
         self.hub.commit_up(place, inc, greeting);

@@ -1,6 +1,6 @@
 //! Jobs on their way to the shards: each line gets one of what is published or received.
 
-ghost use Rattle.std.specs.Prelude.{◌≡◌, ℕ, ◌≤◌, ◌<◌, map, replicate, take, length, slice_get, Some, OnOk};
+ghost use Rattle.std.specs.Prelude.{◌≡◌, ℕ, ◌≤◌, ◌<◌, ◌∷◌, ◌++◌, [], map, replicate, take, length, slice_get, Some, OnOk};
 ghost use Rattle.subj.specs.Answers.{IsAnswered};
 ghost use Rattle.subj.specs.declared.jobs.Job.{Job as OneJob};
 ghost use Rattle.subj.specs.declared.limits.TheConstants.{MAX_SHARDS, WINDOW};
@@ -35,16 +35,15 @@ pub fn finished_by<R: Race>(race: &R, shards: u64) -> Finished
     finished
 }
 
-/// Fills the list with a job and copies of it, so many together.
-pub fn fill(copies: &mut Vec<Job>, job: Job, count: usize) -> Result<(), AllocError>
+/// Fills the list with copies of a job: with the job itself they are so many. Takes no memory where that is all.
+pub fn fill(copies: &mut Vec<Job>, job: &Job, count: usize) -> Result<(), AllocError>
     requires { 1 ≤ count }
-    ensures { OnOk result (copies.new.items ≡ replicate count job) }
+    ensures { OnOk result (copies.new.items ++ job.now ∷ [] ≡ replicate count job.now) }
 {
     copies.clear();
     for _made in 1..count {
         copies.push(job.try_clone()?)?;
     }
-    copies.push(job)?;
     Ok(())
 }
 
@@ -56,18 +55,50 @@ fn hand_out<T: SubTable>(lines: &mut [Line<T>], jobs: &mut Vec<Job>)
 {
     for line in lines {
         let Some(job) = jobs.pop() else {
+            // required: there is a job for each line
             unreachable!()
         };
         line.hand_over(job);
     }
 }
 
+/// The first line gets the job, and each other one a copy of it. Takes no memory.
+fn give<T: SubTable>(lines: &mut [Line<T>], job: Job, copies: &mut Vec<Job>)
+    requires enough { length (copies.old.items ++ job ∷ []) ≡ length lines.old }
+    requires room { (place : ℕ) (line : OneLine) → slice_get lines.old place ≡ Some line → length line.waiting < WINDOW }
+    ensures { (same : OneJob) → copies.old.items ++ job ∷ [] ≡ replicate (length lines.old) same → lines.new ≡ map (queued same) lines.old }
+{
+    let Some((first, others)) = lines.split_first_mut() else {
+        // required: there is a line for the job
+        unreachable!()
+    };
+    first.hand_over(job);
+    hand_out(others, copies);
+}
+
+/// The next turn is issued; the first line gets the job, and each other one a copy of it. Takes no memory.
+pub fn issue<T: SubTable, R: Race>(
+    race: &mut R,
+    lines: &mut [Line<T>],
+    job: Job,
+    copies: &mut Vec<Job>,
+)
+    requires ready { MayIssue (R.contents race.old) lines.old }
+    requires enough { length (copies.old.items ++ job ∷ []) ≡ length lines.old }
+    ensures { AreGiven (R.contents race.old) lines.old (copies.old.items ++ job ∷ []) (R.contents race.new) lines.new }
+{
+    // required: the next turn may be issued
+    let Ok(_) = race.issue() else { unreachable!() };
+    give(lines, job, copies);
+}
+
 /// The next turn is issued, and each line gets one of the jobs. Takes no memory.
-pub fn issue<T: SubTable, R: Race>(race: &mut R, lines: &mut [Line<T>], jobs: &mut Vec<Job>)
+fn issue_all<T: SubTable, R: Race>(race: &mut R, lines: &mut [Line<T>], jobs: &mut Vec<Job>)
     requires ready { MayIssue (R.contents race.old) lines.old }
     requires enough { length jobs.old.items ≡ length lines.old }
     ensures { AreGiven (R.contents race.old) lines.old jobs.old.items (R.contents race.new) lines.new }
 {
+    // required: the next turn may be issued
     let Ok(_) = race.issue() else { unreachable!() };
     hand_out(lines, jobs);
 }
@@ -88,10 +119,12 @@ pub fn take_in(
         return Ok(Received::Heard(frame.number()));
     }
     let Some(job) = hub.plan_receive(frame, finished)? else {
+        // a frame that is a message has a job
         unreachable!()
     };
     let turn = job.turn;
-    fill(copies, job, count)?;
+    fill(copies, &job, count)?;
+    copies.push(job)?;
     hub.commit_message(frame);
     Ok(Received::Routed(turn))
 }
@@ -109,5 +142,5 @@ pub fn route<T: SubTable, R: Race>(
     if !is_message(frame) {
         return;
     }
-    issue(race, lines, jobs);
+    issue_all(race, lines, jobs);
 }

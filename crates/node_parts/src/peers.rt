@@ -58,6 +58,7 @@ pub fn end_old_session(sessions: &mut Sessions, frame: &Numbered, seen: u64)
         return;
     }
     let Some(place) = peer_named(sessions.server(), frame.from()) else {
+        // required: the frame is of a peer
         unreachable!()
     };
     sessions.drop_kept(place);

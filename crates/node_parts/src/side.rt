@@ -135,6 +135,7 @@ impl Side {
             return Err(Failure::Refused(fault));
         }
         let Some(place) = peer_named(self.hub.server(), info.server_name()) else {
+            // an `INFO` that is not refused names a peer of the list
             unreachable!()
         };
         let inc = info.inc();
@@ -143,6 +144,7 @@ impl Side {
             return Err(Failure::OutOfMemory);
         };
         let Ok(done) = self.sessions.on_info(session, info, least) else {
+            // the same was not refused above, and the sessions are as they were
             unreachable!()
         };
         self.hub.commit_up(place, inc, snapshot);
@@ -162,6 +164,7 @@ impl Side {
             return Err(Failure::Refused(fault));
         }
         let Some(place) = peer_named(self.hub.server(), connect.server_name()) else {
+            // a `CONNECT` that is not refused names a peer of the list
             unreachable!()
         };
         let inc = connect.inc();
@@ -170,6 +173,7 @@ impl Side {
             return Err(Failure::OutOfMemory);
         };
         let Ok(kept) = self.sessions.on_connect(session, connect, least) else {
+            // the same was not refused above, and the sessions are as they were
             unreachable!()
         };
         self.hub.commit_up(place, inc, greeting);

@@ -108,14 +108,16 @@ fn close(alloc: Global, conn: u64, sid: &[u8], max: Option<u64>) -> Result<NodeE
 fn say(alloc: Global, conn: u64, subject: &[u8], echo: bool, word: u64) -> Result<NodeEvent, Fail> {
     let subject = Subject::read(alloc, subject)?;
     let payload = Bytes::from_static(b"hello");
-    let said = Pub::new(subject, None, payload, echo).ok_or("a publication")?;
+    let said = Pub::new(alloc, subject, None, payload, echo)?.ok_or("a publication")?;
     let conn = ConnId::new(conn);
     Ok(NodeEvent::Own(OwnEvent::Publish { conn, said, word }))
 }
 
 fn message(alloc: Global, subject: &[u8], queue: &[u8]) -> Result<Body, Fail> {
     let subject = Subject::read(alloc, subject)?;
-    let message = Message::new(subject, None, Bytes::from_static(b"hi")).ok_or("a message")?;
+    let message = Message::new(alloc, subject, None, Bytes::from_static(b"hi"))?.ok_or(
+        "a message",
+    )?;
     let queues = match queue_of(alloc, queue)? {
         None => QueueNames::new(),
         Some(queue) => names(alloc, queue)?,

@@ -110,7 +110,7 @@ fn read_publish(alloc: Global, object: &Value) -> Result<Act, Failure<Misfit>>
     let echo = optional_truth(object, Member::Echo)?.unwrap_or(true);
     let word = number(object, Member::Word)?;
     let payload = Bytes::copy_from_slice(alloc, payload.as_bytes())?;
-    let said = Pub::new(subject, reply, payload, echo).ok_or(Misfit {
+    let said = Pub::new(alloc, subject, reply, payload, echo)?.ok_or(Misfit {
         member: Member::Payload,
     })?;
     Ok(Act::Publish { conn, said, word })

@@ -63,7 +63,8 @@ impl Display for Place {
 }
 
 /// Why bytes are no script, and where.
-#[derive(Clone, Copy, Debug, PartialEq, Eq)]
+#[derive(Clone, Copy, Debug, PartialEq, Eq, Error)]
+#[error("{place}: {fault}")]
 pub struct ScriptError {
     /// The first cause that holds.
     pub fault: ScriptFault,
@@ -88,12 +89,6 @@ impl ScriptError {
             fault: ScriptFault::BadShape,
             place,
         }
-    }
-}
-
-impl Display for ScriptError {
-    fn fmt<W: Write>(&self, f: &mut Formatter<W>) -> fmt::Result {
-        write!(f, "{}: {}", self.place, self.fault)
     }
 }
 

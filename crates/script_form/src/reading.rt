@@ -133,6 +133,7 @@ impl Script {
         ensures { result ≡ cluster_script names.items shards steps.items }
     {
         let Some(inc) = Incarnation::new(1) else {
+            // 1 is an incarnation
             unreachable!()
         };
         let server = Server::new(names, 0, inc, shards)?;

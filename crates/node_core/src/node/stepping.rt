@@ -27,11 +27,11 @@ use sub_table::SubTable;
 use subj::{ConnId, Failure, Sid};
 
 /// A line for a connection, as the list of what is put.
-fn line_for(alloc: Global, conn: ConnId, line: Vec<u8>) -> Result<Vec<Placed>, AllocError>
-    ensures { IfOk result (λ put. put.items ≡ put_line line.items conn ∷ []) }
+fn line_for(alloc: Global, conn: ConnId, line: &[u8]) -> Result<Vec<Placed>, AllocError>
+    ensures { IfOk result (λ put. put.items ≡ put_line line.now conn ∷ []) }
 {
     let mut put = Vec::with_capacity(alloc, 1)?;
-    let entry = Entry::reply(line);
+    let entry = Entry::reply(Vec::from_slice(alloc, line)?);
     put.push_reserved(Placed { conn, entry });
     Ok(put)
 }
@@ -40,8 +40,7 @@ fn line_for(alloc: Global, conn: ConnId, line: Vec<u8>) -> Result<Vec<Placed>, A
 fn last_line(alloc: Global, conn: ConnId, text: ErrText) -> Result<Vec<Placed>, AllocError>
     ensures { IfOk result (λ put. put.items ≡ put_line (err_line text) conn ∷ []) }
 {
-    let line = Vec::from_slice(alloc, text.line())?;
-    line_for(alloc, conn, line)
+    line_for(alloc, conn, text.line())
 }
 
 /// A list of one.
@@ -113,7 +112,8 @@ impl<T: SubTable, R: Race> Node<T, R> {
         ensures { IsAnswered (refusal self.old (Own (OfConn conn (Reply frame.now)))) (λ did. Does self.old (Own (OfConn conn (Reply frame.now))) (did_of did) self.new) (self.new ≡ self.old) result }
     {
         let alloc = self.alloc;
-        let answer = line_for(alloc, conn, reply_line(alloc, frame)?)?;
+        let line = reply_line(alloc, frame)?;
+        let answer = line_for(alloc, conn, &line)?;
         let last = last_line(alloc, conn, ErrText::SlowConsumer)?;
         let shut = list_of_one(alloc, conn)?;
         let closed = self.reply(conn, frame)?;

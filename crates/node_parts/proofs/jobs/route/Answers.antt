@@ -7,11 +7,11 @@ returns-then-not-is_message g c =
     let race = g.R.Race.contents c.args.race.now in
     subst (λ b. AreRouted b race c.args.lines.now c.args.jobs.now.items race c.args.lines.now) c.if-not-is_message.ensures (refl, refl)
 
-pub issue-requires-clause-ready : goal.issue-requires-clause-ready
-issue-requires-clause-ready g c = (subst (λ b. MayRoute b (g.R.Race.contents c.args.race.now) c.args.lines.now c.args.jobs.now.items) (sym c.if-not-is_message.ensures) c.requires).0
+pub issue_all-requires-clause-ready : goal.issue_all-requires-clause-ready
+issue_all-requires-clause-ready g c = (subst (λ b. MayRoute b (g.R.Race.contents c.args.race.now) c.args.lines.now c.args.jobs.now.items) (sym c.if-not-is_message.ensures) c.requires).0
 
-pub issue-requires-clause-enough : goal.issue-requires-clause-enough
-issue-requires-clause-enough g c = (subst (λ b. MayRoute b (g.R.Race.contents c.args.race.now) c.args.lines.now c.args.jobs.now.items) (sym c.if-not-is_message.ensures) c.requires).1
+pub issue_all-requires-clause-enough : goal.issue_all-requires-clause-enough
+issue_all-requires-clause-enough g c = (subst (λ b. MayRoute b (g.R.Race.contents c.args.race.now) c.args.lines.now c.args.jobs.now.items) (sym c.if-not-is_message.ensures) c.requires).1
 
 pub returns : goal.returns
-returns g c = subst (λ b. AreRouted b (g.R.Race.contents c.args.race.now) c.args.lines.now c.args.jobs.now.items (g.R.Race.contents c.issue.new.race) c.issue.new.lines) c.if-not-is_message.ensures c.issue.ensures
+returns g c = subst (λ b. AreRouted b (g.R.Race.contents c.args.race.now) c.args.lines.now c.args.jobs.now.items (g.R.Race.contents c.issue_all.new.race) c.issue_all.new.lines) c.if-not-is_message.ensures c.issue_all.ensures

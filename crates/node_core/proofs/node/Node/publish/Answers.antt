@@ -1,4 +1,4 @@
-use Rattle.std.proofs.Common.{◌≡◌, List, ◌++◌, length, take, drop, replicate, None, refl, sym, ap, ◌∙◌, subst}
+use Rattle.std.proofs.Common.{◌≡◌, List, [], ◌∷◌, ◌++◌, length, take, drop, replicate, None, refl, sym, ap, ◌∙◌, subst}
 use Rattle.std.specs.Option.{option_map}
 use Rattle.std.specs.Prelude.{⊤}
 use Rattle.std.proofs.lemmas.List.{length-replicate}
@@ -72,17 +72,17 @@ invariant_of-self-2 g c =
     let done : IsPublished old.hub c.commit_publish.new.self race new_race old.lines.items c.issue.new.lines p plan.job.turn c.len.result = record {
       job = plan.job;
       sent = plan.frames.items;
-      jobs = c.fill.new.copies.items;
+      jobs = c.fill.new.copies.items ++ plan.job ∷ [];
       plan = c.in-Ok.ensures.1;
       turn_is = refl;
       frames_are = c.len.ensures ∙ plan.frames.ok.0;
       hub = c.commit_publish.ensures;
       alike = c.in-Ok-fill.ensures ∙ ap (λ n. replicate n plan.job) count;
-      given = subst (λ (ls : List Line). AreGiven race ls c.fill.new.copies.items new_race c.issue.new.lines) c.as_mut_slice-lines.ensures.value c.issue.ensures;
+      given = subst (λ (ls : List Line). AreGiven race ls (c.fill.new.copies.items ++ plan.job ∷ []) new_race c.issue.new.lines) c.as_mut_slice-lines.ensures.value c.issue.ensures;
     } in
     let does = publish_done old.sessions.state old.hub c.commit_publish.new.self race new_race old.lines.items c.issue.new.lines p plan.job.turn c.len.result free done in
     let k = publish_kept old.sessions.server old.sessions.state old.hub c.commit_publish.new.self race new_race old.lines.items c.issue.new.lines p plan.job.turn c.len.result c.self.invariant.0 c.self.invariant.1 does in
-    let whole = written old.lines.len c.issue.new.lines old.lines.items (given_length race new_race old.lines.items c.issue.new.lines c.fill.new.copies.items plan.job done.given done.alike) old.lines.ok.0 in
+    let whole = written old.lines.len c.issue.new.lines old.lines.items (given_length race new_race old.lines.items c.issue.new.lines (c.fill.new.copies.items ++ plan.job ∷ []) plan.job done.given done.alike) old.lines.ok.0 in
     (k.same, subst (λ (ls : List Line). IsKept (seen c.commit_publish.new.self.server c.commit_publish.new.self.state old.sessions.state new_race ls)) (sym whole) k.keeps)
 
 pub returns : goal.returns
@@ -98,16 +98,16 @@ returns g c =
     let done : IsPublished old.hub c.commit_publish.new.self race new_race old.lines.items c.issue.new.lines p plan.job.turn c.len.result = record {
       job = plan.job;
       sent = plan.frames.items;
-      jobs = c.fill.new.copies.items;
+      jobs = c.fill.new.copies.items ++ plan.job ∷ [];
       plan = c.in-Ok.ensures.1;
       turn_is = refl;
       frames_are = c.len.ensures ∙ plan.frames.ok.0;
       hub = c.commit_publish.ensures;
       alike = c.in-Ok-fill.ensures ∙ ap (λ n. replicate n plan.job) count;
-      given = subst (λ (ls : List Line). AreGiven race ls c.fill.new.copies.items new_race c.issue.new.lines) c.as_mut_slice-lines.ensures.value c.issue.ensures;
+      given = subst (λ (ls : List Line). AreGiven race ls (c.fill.new.copies.items ++ plan.job ∷ []) new_race c.issue.new.lines) c.as_mut_slice-lines.ensures.value c.issue.ensures;
     } in
     let does = publish_done old.sessions.state old.hub c.commit_publish.new.self race new_race old.lines.items c.issue.new.lines p plan.job.turn c.len.result free done in
-    let whole = written old.lines.len c.issue.new.lines old.lines.items (given_length race new_race old.lines.items c.issue.new.lines c.fill.new.copies.items plan.job done.given done.alike) old.lines.ok.0 in
+    let whole = written old.lines.len c.issue.new.lines old.lines.items (given_length race new_race old.lines.items c.issue.new.lines (c.fill.new.copies.items ++ plan.job ∷ []) plan.job done.given done.alike) old.lines.ok.0 in
     let after = seen c.commit_publish.new.self.server c.commit_publish.new.self.state old.sessions.state new_race (take old.lines.len (c.issue.new.lines ++ drop (length c.issue.new.lines) old.lines.items)) in
     subst (λ (s : Served). (refusal s (Own (Publish p)) ≡ None) × PublishStep s p plan.job.turn c.len.result after) c.self.view_is
     (does.step.step.cause, subst (λ (ls : List Line). PublishStep before p plan.job.turn c.len.result (seen c.commit_publish.new.self.server c.commit_publish.new.self.state old.sessions.state new_race ls)) (sym whole) does)
