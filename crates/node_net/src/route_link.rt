@@ -114,32 +114,32 @@ impl RouteLink {
 
     /// The next line, which is used up once it was read.
     fn next_line(&mut self) -> Result<RouteLine, Missing> {
-        let line = match self.cutter.peek() {
+        let (size, line) = match self.cutter.peek() {
             Ok(None) => return Err(Missing::Waits),
             Ok(Some(Piece::Line(line))) => match RouteLine::read(self.alloc, line) {
-                Ok(line) => line,
+                Ok(read) => (line.len(), read),
                 Err(Failure::OutOfMemory) => return Err(Missing::Short),
                 Err(Failure::Refused(_)) => return Err(Missing::Refused),
             },
             Ok(Some(Piece::Payload(_))) | Err(_) => return Err(Missing::Refused),
         };
-        let _ = self.cutter.next();
+        self.cutter.use_up(size);
         Ok(line)
     }
 
     /// The payload of the line that was read.
     fn next_payload(&mut self) -> Result<Bytes, Missing> {
-        let payload = match self.cutter.peek() {
+        let (size, payload) = match self.cutter.peek() {
             Ok(None) => return Err(Missing::Waits),
             Ok(Some(Piece::Payload(payload))) => {
                 match Bytes::copy_from_slice(self.alloc, payload) {
-                    Ok(payload) => payload,
+                    Ok(copy) => (payload.len(), copy),
                     Err(_) => return Err(Missing::Short),
                 }
             }
             Ok(Some(Piece::Line(_))) | Err(_) => return Err(Missing::Refused),
         };
-        let _ = self.cutter.next();
+        self.cutter.use_up(size);
         Ok(payload)
     }
 

@@ -2,7 +2,8 @@
 
 ghost use Rattle.std.specs.Prelude.{◌≡◌};
 
-use crate::servers::{hello, member, publish, server, taken, told};
+use crate::servers::{hello, member, publish, server, taken, told, work_of_foo};
+use client_frames::{ErrText, ReplyFrame};
 use hub_core::HubFault;
 use node_law::NodeFault;
 use std::alloc::Global;
@@ -76,6 +77,11 @@ fn refuses_shard<N: NodeName, R: Abort + Wait>(
     assert_eq!(rt; number(node.drop_job(rt, shard)), 58);
     assert_eq!(rt; number(node.detach(rt, shard, conn)), 58);
     assert_eq!(rt; number(node.take(rt, shard, conn, 9)), 58);
+    assert_eq!(rt; number(node.reply(rt, shard, conn, &ReplyFrame::Pong)), 58);
+    assert_eq!(rt;
+        number(node.shut(rt, shard, conn, ErrText::SlowConsumer)),
+        58
+    );
     assert_eq!(rt;
         node.unsubscribe(rt, shard, conn, sid, None),
         Err(NodeFault::NoShard)
@@ -93,6 +99,14 @@ fn knows_its_shards<N: NodeName, R: Abort + Wait>(
     let sid = Sid::read(alloc, b"1")?;
     for shard in [0, 3, u64::MAX] {
         refuses_shard(rt, &node, &sid, shard);
+        let opened = node.subscribe(
+            rt,
+            shard,
+            ConnId::new(1),
+            work_of_foo(alloc)?,
+            Sid::read(alloc, b"1")?,
+        );
+        assert_eq!(rt; number(opened), 58);
     }
     assert_eq!(rt; number(node.drop_job(rt, 1)), 52);
     assert_eq!(rt; number(node.take(rt, 2, ConnId::new(1), 9)), 50);

@@ -21,7 +21,9 @@ pub fn server(alloc: Global, shards: u64) -> Result<Server, Fail> {
 /// `hello` on `foo`, as a client says it.
 pub fn hello(alloc: Global) -> Result<Pub, Fail> {
     let subject = Subject::read(alloc, b"foo")?;
-    let message = Message::new(subject, None, Bytes::from_static(b"hello")).ok_or("a message")?;
+    let message = Message::new(alloc, subject, None, Bytes::from_static(b"hello"))?.ok_or(
+        "a message",
+    )?;
     Ok(Pub {
         message,
         echo: true,

@@ -1,6 +1,7 @@
 -- What a hub at work does, event by event.
 use Rattle.std.proofs.Common.{◌≡◌, ℕ, suc, ◌+◌, ◌<◌, ◌≤◌, Bool, true, false, true≢false, List, [], ◌∷◌, ◌++◌, length, Option, Some, None, Result, Ok, Err, refl, sym, ap, ◌∙◌, subst, append_assoc, append-nil, length-append, arith}
 use Rattle.subj.specs.Answers.{IsAnswered, IsDecided}
+use Rattle.subj.specs.Servers.{IsListed}
 use Rattle.subj.specs.declared.failures.Failure.{Failure}
 use Rattle.subj.specs.declared.failures.Failure.TheVariants.{Refused, OutOfMemory}
 use Rattle.subj.specs.declared.jobs.Job.{Job}
@@ -55,12 +56,14 @@ with_side w side = hub_at side w.part w.finished w.issued
 pub at_hub_does : (shards : ℕ) (w : AtHub) (new : Side) (e : Event) (answer : Answer) → Quiet w.side e → IsDone w.side e answer new → IsAtHub shards w → IsAtHub shards (with_side w new)
 at_hub_does shards w new e answer q d i =
     let issued : new.hub.issued ≡ w.side.hub.issued = ap (λ (s : Side). s.hub.issued) d.after ∙ q.issued in record {
+      listed = subst IsListed (sym (same_server w.side new e answer d)) i.listed;
       own = ap (λ s. s.shards) (same_server w.side new e answer d) ∙ i.own;
       few = i.few;
       places = i.places;
       loads = i.loads;
       turns = i.turns ∙ sym issued;
       count = i.count ∙ sym issued;
+      named = i.named;
       done = done_more w (with_side w new) e answer i.done d (sym (append-nil w.issued) ∙ ap (λ l. w.issued ++ l) (sym (ap job_in d.answered ∙ q.jobs)));
     }
 

@@ -5,8 +5,11 @@ use Rattle.std.proofs.lemmas.Bool.Decides.{nat_tests}
 use Rattle.std.proofs.lemmas.Option.{slice_get-get_or}
 use mathlib.Core.Option.{some}
 use lib.ListN.{get_elem?}
+use Rattle.list_laws.proofs.Lists.{each_append, each_one}
 use Rattle.list_laws.proofs.Tests.{no_cause, or_false, le_false}
 use Rattle.subj.specs.Numbers.{finished_turn}
+use Rattle.subj.specs.QueueNames.{are_queue_names}
+use Rattle.subj.specs.Servers.{IsListed}
 use Rattle.subj.specs.declared.jobs.Job.{Job}
 use Rattle.subj.specs.declared.limits.TheConstants.{MAX_COUNTER, MAX_QUEUE_NAMES, MAX_SHARDS, WINDOW}
 use Rattle.claim_cells.specs.declared.parts.HubPart.{HubPart}
@@ -86,20 +89,22 @@ has_issued shards old new turn t = record { more = loads_from 1 t.0; is = t.2.1.
 
 -- what is given to the shards with it
 pub issues : (shards : ℕ) (w : AtHub) (side : Side) (part : HubPart) (e : Event) (answer : Answer) (job : Job) → IsAtHub shards w → IsDone w.side e answer side → HasIssued w.part part
-    → side.hub.issued ≡ w.side.hub.issued + 1 → job_in answer ≡ job ∷ [] → job.turn ≡ w.side.hub.issued + 1
+    → side.hub.issued ≡ w.side.hub.issued + 1 → job_in answer ≡ job ∷ [] → job.turn ≡ w.side.hub.issued + 1 → are_queue_names job.queues ≡ true
     → IsAtHub shards (hub_at side part w.finished (w.issued ++ job ∷ [])) × Issues w e answer job (hub_at side part w.finished (w.issued ++ job ∷ []))
-issues shards w side part e answer job i d h issued gives turn =
+issues shards w side part e answer job i d h issued gives turn names =
     let new = hub_at side part w.finished (w.issued ++ job ∷ []) in
     let next : part.issued ≡ w.part.issued + 1 = ap (λ (p : HubPart). p.issued) h.is in
     let same = i.turns in
     let count = i.count in (
       record {
+        listed = subst IsListed (sym (same_server w.side side e answer d)) i.listed;
         own = ap (λ s. s.shards) (same_server w.side side e answer d) ∙ i.own;
         few = i.few;
         places = i.places;
         loads = subst (λ (p : HubPart). AreLoads shards p w.finished) (sym h.is) (loads_stay shards w.part h.more (w.part.issued + 1) w.finished i.loads);
         turns = omega arith;
         count = (let long = length-append w.issued (job ∷ []) in omega arith);
+        named = each_append (λ (j : Job). are_queue_names j.queues ≡ true) w.issued (job ∷ []) i.named (each_one (λ (j : Job). are_queue_names j.queues ≡ true) job names);
         done = done_more w new e answer i.done d (ap (λ l. w.issued ++ l) (sym gives));
       },
       record {

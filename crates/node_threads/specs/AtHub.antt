@@ -1,7 +1,9 @@
 -- A hub at work: what it keeps of its lanes and of the race.
 use Rattle.std.specs.Prelude.{◌≡◌, ◌⊎◌, ℕ, ◌+◌, ◌<◌, ◌≤◌, Bool, true, false, List, [], ◌∷◌, ◌++◌, length, Option, Some, None, Result, Ok, Err}
+use Rattle.list_laws.specs.Lists.{Each}
 use Rattle.subj.specs.Answers.{IsAnswered}
-use Rattle.subj.specs.Servers.{Server, IsServer}
+use Rattle.subj.specs.QueueNames.{are_queue_names}
+use Rattle.subj.specs.Servers.{Server, IsListed, IsServer}
 use Rattle.subj.specs.declared.failures.Failure.{Failure}
 use Rattle.subj.specs.declared.failures.Failure.TheVariants.{Refused, OutOfMemory}
 use Rattle.subj.specs.declared.jobs.Job.{Job}
@@ -110,11 +112,14 @@ Collects old shard result new left = IsAnswered (hub_refusal old.side.server old
 
 -- ---- what its fields keep
 
+-- its server is one of a cluster; it has loaded what each shard finished; it issued as many turns as the race did, and gave a job for each, whose queue names stand in order
 pub record IsAtHub (shards : ℕ) (w : AtHub) : Type 0 where
+  pub listed : IsListed w.side.server
   pub own : w.side.server.shards ≡ shards
   pub few : shards ≤ MAX_SHARDS
   pub places : length w.finished ≡ MAX_SHARDS
   pub loads : AreLoads shards w.part w.finished
   pub turns : w.part.issued ≡ w.side.hub.issued
   pub count : length w.issued ≡ w.side.hub.issued
+  pub named : Each (λ job. are_queue_names job.queues ≡ true) w.issued
   pub done : HasDone w

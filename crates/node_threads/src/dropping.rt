@@ -69,6 +69,7 @@ impl<T: SubTable, N: NodeName> ShardState<T, N> {
     {
         let waited = self.waits;
         let Some(job) = self.shard.drop_job(waiting) else {
+            // required: where no job is in hand, one waits
             unreachable!()
         };
         cells.finish(&mut self.seat);

@@ -81,6 +81,7 @@ impl<N: NodeName> HubState<N> {
         ensures { IfOk result (λ made. (made.side ≡ new_side server) × (made.issued ≡ [])) }
     {
         let side = Side::new(alloc, server)?;
+        side.is_listed();
         let mut seat = seat;
         let finished = cells.look(&mut seat);
         Ok(HubState {
@@ -163,8 +164,10 @@ impl<N: NodeName> HubState<N> {
             turn: job.turn,
             frames: frames.len(),
         };
+        let _in_order = job.queues.as_slice();
         self.side.commit_publish(frames);
         let Ok(_) = cells.issue(&mut self.seat) else {
+            // the plan was not refused as busy, by the loads that the seat keeps
             unreachable!()
         };
         self.outlet.add(job);
@@ -197,14 +200,17 @@ impl<N: NodeName> HubState<N> {
         ensures { Routes N.race.shards self.old frame.now result self.new }
     {
         let planned = self.plan_message(cells, frame)?;
+        // a frame that is a message has a job
         let Some(job) = planned else { unreachable!() };
         let Ok(()) = self.outlet.reserve() else {
             return Err(Failure::OutOfMemory);
         };
         self.side.is_listed();
+        let _in_order = job.queues.as_slice();
         let turn = job.turn;
         self.side.take_message(frame);
         let Ok(_) = cells.issue(&mut self.seat) else {
+            // the plan was not refused as busy, by the loads that the seat keeps
             unreachable!()
         };
         self.outlet.add(job);

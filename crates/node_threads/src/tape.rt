@@ -1,6 +1,6 @@
 //! What is kept in writing of what is done under a lock.
 
-ghost use Rattle.std.specs.Prelude.{◌≡◌, ◌∷◌, ◌++◌, List, [], cond, true, false, Some, None, IfSome};
+ghost use Rattle.std.specs.Prelude.{◌≡◌, ◌∷◌, ◌++◌, List, [], cond, length, true, false, Some, None, IfSome};
 ghost use Rattle.node_threads.specs.Tapes.{Grows};
 
 use std::alloc::Global;
@@ -50,8 +50,10 @@ impl<E: Drop> Tape<E> {
         self.kept
     }
 
-    /// How many entries stand on it.
-    pub fn len(&self) -> usize {
+    /// How many entries stand on it, where they are kept.
+    pub fn len(&self) -> usize
+        ensures { IfSome self.now (λ entries. result ≡ length entries) }
+    {
         self.entries.len()
     }
 

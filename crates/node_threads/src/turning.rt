@@ -107,6 +107,7 @@ impl<T: SubTable, N: NodeName> ShardState<T, N> {
             return Ok(());
         }
         let Some(next) = self.lane.in_hand() else {
+            // required: where no job is in hand, one was popped and waits
             unreachable!()
         };
         let job = next.try_clone()?;
@@ -135,6 +136,7 @@ impl<T: SubTable, N: NodeName> ShardState<T, N> {
         ensures all { OnOk result (HasTried self.new.state) }
     {
         let Some(job) = self.shard.hand() else {
+            // required: a job is in hand
             unreachable!()
         };
         let count = job.queues.as_slice().len() as u64;
@@ -160,6 +162,7 @@ impl<T: SubTable, N: NodeName> ShardState<T, N> {
     {
         claims_are_whole();
         let Some(job) = self.shard.hand() else {
+            // required: the index is of a job in hand
             unreachable!()
         };
         let turn = job.turn;
@@ -193,10 +196,12 @@ impl<T: SubTable, N: NodeName> ShardState<T, N> {
         ensures tells { Tells self.old tape.old self.new tape.new }
     {
         let Some(job) = self.shard.hand() else {
+            // required: a job is in hand
             unreachable!()
         };
         let turn = job.turn;
         let Ok(()) = self.shard.end() else {
+            // required: all its queue names were tried
             unreachable!()
         };
         cells.finish(&mut self.seat);

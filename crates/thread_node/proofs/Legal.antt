@@ -15,7 +15,8 @@ use Rattle.node_threads.specs.Tapes.{Grows, IsTape, entries_of}
 use Rattle.node_threads.specs.declared.shard_entries.ShardEntry.{ShardEntry}
 use Rattle.thread_node.specs.HubTapes.{IsHubTape, hub_entries}
 use Rattle.thread_node.specs.declared.hub_entries.HubEntry.{HubEntry}
-use Rattle.thread_node.specs.Reports.{AreClosed, HubRun, IsKept, IsLegal, IsShardRun, IsWritten, ShardRun, Tells, lost, seat_of, won, written}
+use Rattle.thread_law.specs.Runs.{HubRun, IsLegal, IsShardRun, ShardRun, lost, won}
+use Rattle.thread_node.specs.Reports.{AreClosed, IsKept, IsWritten, Tells, seat_of, written}
 
 at_there : {A : Type 0} (l : List A) (i : ℕ) → i < length l → (a : A) × At l i a
 at_there [] i h = absurd (omega arith)
@@ -131,7 +132,7 @@ module _ (race : RaceId) (issued : List Job) (kept : Bool) (seats : List ShardSh
 
     pub legal : IsLegal race.shards hub_run c.0
     legal = record {
-      hub_run = record { led = t.done.led; gave = t.done.gave; count = at_hub.count ∙ sym at_hub.turns };
+      hub_run = record { listed = at_hub.listed; led = t.done.led; gave = t.done.gave; count = at_hub.count ∙ sym at_hub.turns; named = at_hub.named };
       count = runs_count;
       each = λ k run e. subst (λ (js : List Job). IsShardRun race.shards js (k + 1) run) (sym issued_is) (c.2 k run e);
       once = λ k l i j r q pair er eq wr wq. law.once k l i j r.end.part q.end.part pair (part_at k r er) (part_at l q eq)

@@ -6,7 +6,9 @@ ghost use Rattle.node_threads.specs.Outlets.{AreFirst};
 ghost use Rattle.node_threads.specs.Tapes.{IsTape};
 ghost use Rattle.thread_node.specs.Handing.{AreHanded};
 ghost use Rattle.thread_node.specs.Owed.{AreTold};
-ghost use Rattle.thread_node.specs.Reports.{AreClosed, HubRun, IsKept, IsLegal, IsWritten, ShardRun, Tells};
+ghost use Rattle.thread_law.specs.Once.{AreOnce};
+ghost use Rattle.thread_law.specs.Runs.{HubRun, IsLegal, ShardRun};
+ghost use Rattle.thread_node.specs.Reports.{AreClosed, IsKept, IsWritten, Tells};
 
 use crate::comparing::are_told;
 use crate::handing::torn_shard;
@@ -21,6 +23,7 @@ use std::alloc::{AllocError, Global};
 use std::sync::{Arc, Mutex, Wait};
 use sub_table::SubTable;
 use subj::{Finished, Turn};
+use thread_law::legal_runs_are_once;
 
 /// What a server has done.
 #[derive(Debug, Drop)]
@@ -143,7 +146,9 @@ impl<T: SubTable, N: NodeName> ThreadNode<T, N> {
     /// that it did. There is a legal run with these numbers and just these steps: a list of the hub's and the
     /// sessions' steps and one of each shard's steps, where each shard worked a beginning of the jobs that the
     /// hub gave, in order, no queue name of a turn was won twice, and each that was lost was won by another
-    /// shard. Where it was written down, the hub was handed just the deltas that each shard gave, collect for
+    /// shard. Each publication stands in one job, which one publish or one frame of a peer gave; over all shards
+    /// it was put once at most for a queue name and once for a subscription, and each subscription got those of
+    /// one incarnation in rising number. Where it was written down, the hub was handed just the deltas that each shard gave, collect for
     /// collect ([`Unfinished::Torn`] else, which no server comes to); and then the passes tell each step of the hub's and each one of a shard's but for
     /// collects and the parts of turns, once, with what was answered, and nothing else; and those of one caller
     /// under one lock stand in order.
@@ -158,7 +163,7 @@ impl<T: SubTable, N: NodeName> ThreadNode<T, N> {
         ensures kept { IfOk result (λ report. report.kept ≡ N.keep) }
         ensures handed { IfOk result (λ report. report.kept ≡ true → AreHanded report.hub.items (map (λ entries. entries.items) report.worked.items)) }
         ensures told { IfOk result (λ report. report.kept ≡ true → AreTold passes.items report.hub.items (map (λ entries. entries.items) report.worked.items)) }
-        ensures legal { IfOk result (λ report. (hub : HubRun) × (runs : List ShardRun) × IsLegal N.race.shards hub runs × Tells hub runs report.issued report.finished × IsWritten report.kept hub runs report.hub.items (map (λ entries. entries.items) report.worked.items)) }
+        ensures legal { IfOk result (λ report. (hub : HubRun) × (runs : List ShardRun) × IsLegal N.race.shards hub runs × AreOnce hub runs × Tells hub runs report.issued report.finished × IsWritten report.kept hub runs report.hub.items (map (λ entries. entries.items) report.worked.items)) }
     {
         let ThreadNode {
             hub,
@@ -175,6 +180,7 @@ impl<T: SubTable, N: NodeName> ThreadNode<T, N> {
             return Err(Unfinished::Torn(0));
         };
         let closed = cells.close(seat, seats)?;
+        legal_runs_are_once();
         compare(alloc, keep, passes, hub.as_slice(), worked.as_slice())?;
         Ok(Report {
             issued: closed.issued,

@@ -233,11 +233,6 @@ impl<N: NodeName> LockedHub<N> {
         Ok(frames)
     }
 
-    /// How many steps are written down.
-    pub(crate) fn place(&self) -> usize {
-        self.tape.len()
-    }
-
     /// What is left of it: the state, the race, and its tape.
     pub(crate) fn into_parts(self) -> (HubState<N>, Arc<Cells, Global>, Tape<HubEntry>)
         ensures state { result.0 ≡ self }

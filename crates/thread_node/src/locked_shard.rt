@@ -239,11 +239,6 @@ impl<T: SubTable, N: NodeName> LockedShard<T, N> {
         self.state.drop_job(rt, &self.cells, &mut self.tape)
     }
 
-    /// How many steps are written down.
-    pub(crate) fn place(&self) -> usize {
-        self.tape.len()
-    }
-
     /// What is left of it: the state, and its tape.
     pub(crate) fn into_parts(self) -> (ShardState<T, N>, Tape<ShardEntry>)
         ensures state { result.0 ≡ self }

@@ -43,7 +43,7 @@ impl<N: NodeName> Pass<N> {
         ensures same { OnErr result (self.new ≡ self.old) }
     {
         let mut hub = node.hub(rt);
-        let place = hub.place();
+        let place = hub.tape.len();
         let issued = hub.publish(conn, said, word)?;
         hub.push_jobs(rt);
         drop(hub);
@@ -67,7 +67,7 @@ impl<N: NodeName> Pass<N> {
         ensures same { OnErr result (self.new ≡ self.old) }
     {
         let mut hub = node.hub(rt);
-        let place = hub.place();
+        let place = hub.tape.len();
         let received = hub.receive(frame)?;
         hub.push_jobs(rt);
         drop(hub);
@@ -88,7 +88,7 @@ impl<N: NodeName> Pass<N> {
         ensures same { OnErr result (self.new ≡ self.old) }
     {
         let mut hub = node.hub(rt);
-        let place = hub.place();
+        let place = hub.tape.len();
         let session = hub.dial(peer)?;
         self.tell(node.keep, 0, place, PassTold::Hub(HubTold::Dialed(session)));
         Ok(session)
@@ -104,7 +104,7 @@ impl<N: NodeName> Pass<N> {
         ensures same { OnErr result (self.new ≡ self.old) }
     {
         let mut hub = node.hub(rt);
-        let place = hub.place();
+        let place = hub.tape.len();
         let (session, info) = hub.accept()?;
         self.tell(
             node.keep,
@@ -127,7 +127,7 @@ impl<N: NodeName> Pass<N> {
         ensures same { OnErr result (self.new ≡ self.old) }
     {
         let mut hub = node.hub(rt);
-        let place = hub.place();
+        let place = hub.tape.len();
         let (kept, connect) = hub.info(session, info)?;
         self.tell(
             node.keep,
@@ -150,7 +150,7 @@ impl<N: NodeName> Pass<N> {
         ensures same { OnErr result (self.new ≡ self.old) }
     {
         let mut hub = node.hub(rt);
-        let place = hub.place();
+        let place = hub.tape.len();
         let kept = hub.connect(session, connect)?;
         self.tell(
             node.keep,
@@ -172,7 +172,7 @@ impl<N: NodeName> Pass<N> {
         ensures same { OnErr result (self.new ≡ self.old) }
     {
         let mut hub = node.hub(rt);
-        let place = hub.place();
+        let place = hub.tape.len();
         let peer = hub.cut(session)?;
         self.tell(node.keep, 0, place, PassTold::Hub(HubTold::WasCut(peer)));
         Ok(peer)
@@ -190,7 +190,7 @@ impl<N: NodeName> Pass<N> {
         ensures same { OnErr result (self.new ≡ self.old) }
     {
         let mut hub = node.hub(rt);
-        let place = hub.place();
+        let place = hub.tape.len();
         let frames = hub.take_frames(peer, count)?;
         self.tell(
             node.keep,
@@ -215,7 +215,7 @@ impl<N: NodeName> Pass<N> {
         let Some(mut shard) = node.shard(rt, shard) else {
             return Err(NO_SHARD);
         };
-        let place = hub.place();
+        let place = hub.tape.len();
         let told = match hub.collect(&mut shard) {
             Ok(told) => told,
             Err(fault) => return Err(of_hub(fault)),
@@ -241,7 +241,7 @@ impl<N: NodeName> Pass<N> {
         let Some(mut state) = node.shard(rt, shard) else {
             return Err(NO_SHARD);
         };
-        let place = state.place();
+        let place = state.tape.len();
         let conn = match state.attach() {
             Ok(conn) => conn,
             Err(fault) => return Err(of_shard(fault)),
@@ -271,7 +271,7 @@ impl<N: NodeName> Pass<N> {
         let Some(mut state) = node.shard(rt, shard) else {
             return Err(NO_SHARD);
         };
-        let place = state.place();
+        let place = state.tape.len();
         let done = match state.subscribe(conn, key, sid) {
             Ok(done) => done,
             Err(fault) => return Err(of_shard(fault)),
@@ -301,7 +301,7 @@ impl<N: NodeName> Pass<N> {
         let Some(mut state) = node.shard(rt, shard) else {
             return Err(NodeFault::NoShard);
         };
-        let place = state.place();
+        let place = state.tape.len();
         let ended = match state.unsubscribe(conn, sid, max) {
             Ok(ended) => ended,
             Err(fault) => return Err(NodeFault::Shard(fault)),
@@ -330,7 +330,7 @@ impl<N: NodeName> Pass<N> {
         let Some(mut state) = node.shard(rt, shard) else {
             return Err(NO_SHARD);
         };
-        let place = state.place();
+        let place = state.tape.len();
         let closed = match state.reply(conn, frame) {
             Ok(closed) => closed,
             Err(fault) => return Err(of_shard(fault)),
@@ -358,7 +358,7 @@ impl<N: NodeName> Pass<N> {
         let Some(mut state) = node.shard(rt, shard) else {
             return Err(NO_SHARD);
         };
-        let place = state.place();
+        let place = state.tape.len();
         let ended = match state.shut(conn, text) {
             Ok(ended) => ended,
             Err(fault) => return Err(of_shard(fault)),
@@ -386,7 +386,7 @@ impl<N: NodeName> Pass<N> {
         let Some(mut state) = node.shard(rt, shard) else {
             return Err(NO_SHARD);
         };
-        let place = state.place();
+        let place = state.tape.len();
         let ended = match state.detach(conn) {
             Ok(ended) => ended,
             Err(fault) => return Err(of_shard(fault)),
@@ -415,7 +415,7 @@ impl<N: NodeName> Pass<N> {
         let Some(mut state) = node.shard(rt, shard) else {
             return Err(NO_SHARD);
         };
-        let place = state.place();
+        let place = state.tape.len();
         let entries = match state.take(conn, count) {
             Ok(entries) => entries,
             Err(fault) => return Err(of_shard(fault)),
@@ -442,7 +442,7 @@ impl<N: NodeName> Pass<N> {
         let Some(mut state) = node.shard(rt, shard) else {
             return Err(NO_SHARD);
         };
-        let place = state.place();
+        let place = state.tape.len();
         let turn = match state.drop_job(rt) {
             Ok(turn) => turn,
             Err(fault) => return Err(of_shard(fault)),

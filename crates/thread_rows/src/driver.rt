@@ -46,6 +46,21 @@ pub fn turned<N: NodeName, R: Wait>(
     shard.turn(rt, cells, &Open, &mut Tape::new(alloc, false))
 }
 
+/// The number of the refusal of a drop; 0 where a job was dropped.
+pub fn drop_fault<N: NodeName, R: Wait>(
+    rt: &R,
+    alloc: Global,
+    shard: &mut ShardState<ListTable, N>,
+    cells: &Cells,
+) -> u16
+    requires { cells.now ≡ N.race }
+{
+    match shard.drop_job(rt, cells, &mut Tape::new(alloc, false)) {
+        Err(Failure::Refused(fault)) => fault.number(),
+        Ok(_) | Err(Failure::OutOfMemory) => 0,
+    }
+}
+
 /// Issues the next turn. Gives whether it was issued.
 pub fn issue(cells: &Cells, hub: &mut HubSeat) -> bool
     requires { hub.old.race ≡ cells.now }

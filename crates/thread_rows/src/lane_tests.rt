@@ -38,11 +38,12 @@ fn message(rt: &impl Abort, alloc: Global, number: u64) -> Message {
     let reply = Subject::read(alloc, b"answers.1").ok();
     let payload = Bytes::copy_from_slice(alloc, &number.to_be_bytes()).ok();
     let message = Message::new(
+        alloc,
         subject.expect(rt, "a subject"),
         reply,
         payload.expect(rt, "memory"),
     );
-    message.expect(rt, "a message")
+    message.expect(rt, "memory").expect(rt, "a message")
 }
 
 fn id(rt: &impl Abort, number: u64) -> PubId {
@@ -299,6 +300,7 @@ fn push_in_time<R: Wait>(rt: &R, writer: &mut LaneIn, run: Run)
         }
         thread::yield_now();
     }
+    // `forever` ends by a return alone
     unreachable!()
 }
 
@@ -332,6 +334,7 @@ fn pop_in_time<R: Wait>(rt: &R, reader: &mut LaneOut) -> Turn
         }
         thread::yield_now();
     }
+    // `forever` ends by a return alone
     unreachable!()
 }
 

@@ -4,7 +4,7 @@ ghost use Rattle.std.specs.Prelude.{◌≡◌, ◌∷◌, [], IfOk};
 ghost use Rattle.claim_cells.specs.Rule.{fresh_hub};
 ghost use Rattle.thread_rows.specs.Turns.{IsAlone};
 
-use crate::driver::{attach, collected, issue, published, subscribe, taken, turned};
+use crate::driver::{attach, collected, drop_fault, issue, published, subscribe, taken, turned};
 use bytes::Bytes;
 use claim_cells::{Cells, HubSeat, ShardSeat};
 use job_lane::{LANE_CAPACITY, LaneIn, LaneOut, Run, lane};
@@ -44,7 +44,7 @@ fn names(alloc: Global) -> Result<QueueNames, Fail> {
 
 fn hello(alloc: Global) -> Result<Message, Fail> {
     let subject = Subject::read(alloc, b"foo")?;
-    Ok(Message::new(subject, None, Bytes::from_static(b"hello")).ok_or("a message")?)
+    Ok(Message::new(alloc, subject, None, Bytes::from_static(b"hello"))?.ok_or("a message")?)
 }
 
 fn publication(number: u64) -> Result<PubId, Fail> {
@@ -120,7 +120,7 @@ fn hand_over<R: Wait>(rt: &R, alloc: Global, near: &mut LaneIn) -> Result<bool, 
     Ok(near.push(rt, run).is_ok())
 }
 
-/// A turn is idle until a job waits and its turn is issued.
+/// A turn is idle, and no job can be dropped, until a job waits and its turn is issued.
 fn waits_for_its_turn<N: NodeName, R: Abort + Wait>(
     rt: &R,
     alloc: Global,
@@ -132,8 +132,10 @@ fn waits_for_its_turn<N: NodeName, R: Abort + Wait>(
     requires pushed { near.old.pushed ≡ [] }
 {
     assert_eq!(rt; turned(rt, alloc, shard, cells), Turned::Idle);
+    assert_eq!(rt; drop_fault(rt, alloc, shard, cells), 52);
     assert!(rt; hand_over(rt, alloc, near)?);
     assert_eq!(rt; turned(rt, alloc, shard, cells), Turned::Idle);
+    assert_eq!(rt; drop_fault(rt, alloc, shard, cells), 52);
     Ok(())
 }
 

@@ -1,4 +1,5 @@
-use Rattle.std.proofs.Common.{◌≡◌, ◌+◌, List, [], ◌∷◌, ◌++◌, length, true≢false, None, refl, sym, ap, ◌∙◌, subst}
+use Rattle.std.proofs.Common.{◌≡◌, ◌+◌, List, [], ◌∷◌, ◌++◌, length, true, true≢false, None, refl, sym, ap, ◌∙◌, subst}
+use Rattle.subj.specs.QueueNames.{are_queue_names}
 use Rattle.subj.specs.declared.jobs.Job.{Job}
 use Rattle.claim_cells.specs.Calls.{ShowsRoom}
 use Rattle.claim_cells.specs.Seats.{RaceId}
@@ -39,5 +40,5 @@ invariant_of-self-2 g c =
     let done = published_done w p plan.job plan.frames.items side planned.0 planned.1 c.commit_publish.ensures in
     let h = has_issued c.args.cells.now.shards s.seat.part c.issue.new.seat.part c.in-Ok-issue.field-0 (c.in-Ok-issue.ensures).told in
     let jobs_are : c.add.new.self.jobs ≡ s.outlet.jobs ++ job ∷ [] = c.add.ensures ∙ (λ k. c.reserve.ensures.same k ++ planned.1.job k ∷ []) in
-    let new = issues g.N.NodeName.race.shards w side c.issue.new.seat.part (ByHub (of_hub.Publish p s.finished)) (OfHub (of_hub.Issued job (frames_of s.side.server s.side.hub p))) job c.self.invariant.0 done h (ap (λ (t : Side). t.hub.issued) c.commit_publish.ensures) refl refl in
+    let new = issues g.N.NodeName.race.shards w side c.issue.new.seat.part (ByHub (of_hub.Publish p s.finished)) (OfHub (of_hub.Issued job (frames_of s.side.server s.side.hub p))) job c.self.invariant.0 done h (ap (λ (t : Side). t.hub.issued) c.commit_publish.ensures) refl refl (subst (λ (j : Job). are_queue_names j.queues ≡ true) planned.1.job c.as_slice-in_order.ensures.valid) in
     (subst (λ js. IsAtHub g.N.NodeName.race.shards (hub_at side c.issue.new.seat.part s.finished js)) (sym {A = List Job} jobs_are) new.0, c.issue.ensures.race ∙ c.self.invariant.1)

@@ -46,10 +46,13 @@ returns-clause-legal g c =
     let tape = c.into_parts-state.result.2 in
     let wrote = subst (λ (v : AtHub). IsHubTape v tape) (sym c.into_parts-state.ensures.state) c.into_parts-state.ensures.tape in
     let at_hub = c.into_parts-seat.ensures.done in
-    let over = subst (λ (r : RaceId). IsClosed r w.part seats told.issued told.finished told.cells.items) (sym cells) (subst (λ (h : HubPart). IsClosed c.in-Some.cells h seats told.issued told.finished told.cells.items) c.into_parts-seat.ensures.seat.1 c.in_ok-closed.ensures) in (
-      hub_run race w.issued kept seats tapes closed w refl at_hub tape wrote count told.issued told.finished told.cells.items over,
+    let over = subst (λ (r : RaceId). IsClosed r w.part seats told.issued told.finished told.cells.items) (sym cells) (subst (λ (h : HubPart). IsClosed c.in-Some.cells h seats told.issued told.finished told.cells.items) c.into_parts-seat.ensures.seat.1 c.in_ok-closed.ensures) in
+    let run = hub_run race w.issued kept seats tapes closed w refl at_hub tape wrote count told.issued told.finished told.cells.items over in
+    let run_is_legal = legal race w.issued kept seats tapes closed w refl at_hub tape wrote count told.issued told.finished told.cells.items over in (
+      run,
       closed.0,
-      legal race w.issued kept seats tapes closed w refl at_hub tape wrote count told.issued told.finished told.cells.items over,
+      run_is_legal,
+      c.legal_runs_are_once.ensures race.shards run closed.0 run_is_legal,
       tells race w.issued kept seats tapes closed w refl at_hub tape wrote count told.issued told.finished told.cells.items over,
       is_written race w.issued kept seats tapes closed w refl at_hub tape wrote count told.issued told.finished told.cells.items over c.in_ok-hub.hub.items c.in_ok-hub.ensures,
     )

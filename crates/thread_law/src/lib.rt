@@ -1,0 +1,8 @@
+//! What a server on threads did, as the hub's run and each shard's, and what holds of every legal run.
+//!
+//! All is definitions and laws: each law is a function with an empty body.
+#![tactic(auto)]
+
+mod laws;
+
+pub use laws::legal_runs_are_once;
