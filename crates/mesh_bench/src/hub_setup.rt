@@ -111,7 +111,7 @@ fn bring_up(alloc: Global, hub: &mut Hub, wanting: Wanting, number: u64) -> io::
 fn publication(alloc: Global) -> io::Result<Pub> {
     let subject = Subject::read(alloc, b"orders.eu.new").map_err(|_| invalid())?;
     let payload = Bytes::copy_from_slice(alloc, b"sixteen bytes ..")?;
-    Pub::new(subject, None, payload, true).ok_or_else(invalid)
+    Pub::new(alloc, subject, None, payload, true)?.ok_or_else(invalid)
 }
 
 /// The hub with what it counts and what it was told.

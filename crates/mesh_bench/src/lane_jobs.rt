@@ -14,7 +14,7 @@ fn invalid() -> io::Error {
 fn new_job(alloc: Global, number: u64) -> io::Result<Job> {
     let subject = Subject::read(alloc, b"foo").map_err(|_| invalid())?;
     let payload = Bytes::from_static(b"hello");
-    let message = Message::new(subject, None, payload).ok_or_else(invalid)?;
+    let message = Message::new(alloc, subject, None, payload)?.ok_or_else(invalid)?;
     let origin = NodeId::read(b"n1").map_err(|_| invalid())?;
     let inc = Incarnation::new(1).ok_or_else(invalid)?;
     let id = PubId {

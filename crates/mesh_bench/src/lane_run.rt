@@ -23,6 +23,7 @@ fn push_in_time<R: Wait>(rt: &R, writer: &mut LaneIn, run: Run)
         }
         thread::yield_now();
     }
+    // `forever` ends by a return alone
     unreachable!()
 }
 
@@ -106,6 +107,7 @@ fn pop_in_time<R: Wait>(rt: &R, reader: &mut LaneOut) -> Turn {
         }
         thread::yield_now();
     }
+    // `forever` ends by a return alone
     unreachable!()
 }
 

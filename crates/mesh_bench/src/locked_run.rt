@@ -49,6 +49,7 @@ fn push_in_time<R: Wait>(rt: &R, waiting: &Mutex<Waiting>, job: Job) {
         }
         thread::yield_now();
     }
+    // `forever` ends by a return alone
     unreachable!()
 }
 
@@ -74,6 +75,7 @@ fn pop_in_time<R: Wait>(rt: &R, waiting: &Mutex<Waiting>) -> Job {
         }
         thread::yield_now();
     }
+    // `forever` ends by a return alone
     unreachable!()
 }
 

@@ -110,7 +110,7 @@ fn publication(alloc: Global) -> io::Result<Pub> {
     let subject = Subject::read(alloc, b"orders.new").map_err(|_| invalid())?;
     let payload = vec![in alloc; b'x'; PAYLOAD]?;
     let payload = Bytes::copy_from_slice(alloc, &payload)?;
-    Pub::new(subject, None, payload, true).ok_or_else(invalid)
+    Pub::new(alloc, subject, None, payload, true)?.ok_or_else(invalid)
 }
 
 /// A server with these readers.

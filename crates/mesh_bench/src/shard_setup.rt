@@ -96,7 +96,7 @@ fn message(alloc: Global, size: usize) -> io::Result<Message> {
     let subject = Subject::read(alloc, b"orders.new").map_err(|_| invalid())?;
     let payload = vec![in alloc; b'x'; size]?;
     let payload = Bytes::copy_from_slice(alloc, &payload)?;
-    Message::new(subject, None, payload).ok_or_else(invalid)
+    Message::new(alloc, subject, None, payload)?.ok_or_else(invalid)
 }
 
 /// A shard with this audience.

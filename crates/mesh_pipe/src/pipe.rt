@@ -128,6 +128,7 @@ fn serve<S: Source, W: Sink>(
             Ok(count) => count,
             Err(ReadFault::OutOfMemory) => return Err(PipeFault::OutOfMemory),
             Err(ReadFault::Failed) => return Err(PipeFault::Read),
+            // what was answered left the connection open
             Err(ReadFault::Closed) => unreachable!(),
         };
         if count == 0 {

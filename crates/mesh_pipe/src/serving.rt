@@ -30,9 +30,11 @@ pub fn info() -> InfoData
     ensures { result ≡ pipe_info }
 {
     let Ok(name) = NodeId::read(b"n1") else {
+        // `n1` is a name
         unreachable!()
     };
     let Some(inc) = Incarnation::new(1) else {
+        // 1 is an incarnation
         unreachable!()
     };
     InfoData {
@@ -52,6 +54,7 @@ fn only_server(alloc: Global) -> Result<Server, AllocError>
     names.push(info.name)?;
     match Server::new(names, 0, info.inc, SHARD) {
         Some(server) => Ok(server),
+        // one name, the first place and one shard are a server
         None => unreachable!(),
     }
 }
@@ -63,6 +66,7 @@ pub fn new_node(alloc: Global) -> Result<PipeNode, AllocError>
     let mut node = Node::new(alloc, only_server(alloc)?)?;
     match node.attach(SHARD) {
         Ok(_) => Ok(node),
+        // the shard is there, and no number is spent yet
         Err(Failure::Refused(_)) => unreachable!(),
         Err(Failure::OutOfMemory) => Err(AllocError),
     }
@@ -89,6 +93,7 @@ pub fn reply(node: &mut PipeNode, conn: ConnId, frame: &ReplyFrame) -> Result<bo
 {
     match node.reply(conn, frame) {
         Ok(closed) => Ok(closed.shut),
+        // required: the connection is open
         Err(Failure::Refused(_)) => unreachable!(),
         Err(Failure::OutOfMemory) => Err(AllocError),
     }
@@ -103,6 +108,7 @@ pub fn shut(node: &mut PipeNode, conn: ConnId, text: ErrText) -> Result<(), Allo
 {
     match node.shut(conn, text) {
         Ok(_ended) => Ok(()),
+        // required: the connection is open
         Err(Failure::Refused(_)) => unreachable!(),
         Err(Failure::OutOfMemory) => Err(AllocError),
     }
@@ -135,6 +141,7 @@ pub fn unsubscribe(node: &mut PipeNode, conn: ConnId, sid: &Sid, max: Option<u64
 {
     match node.unsubscribe(conn, sid, max) {
         Ok(_) => {}
+        // required: the connection is open
         Err(_) => unreachable!(),
     }
 }
@@ -170,6 +177,7 @@ fn begin(node: &mut PipeNode) -> Result<bool, AllocError>
 {
     match node.begin(SHARD, false) {
         Ok(begun) => Ok(!begun.closed.is_empty()),
+        // required: no job is in hand, and one waits
         Err(Failure::Refused(_)) => unreachable!(),
         Err(Failure::OutOfMemory) => Err(AllocError),
     }
@@ -185,6 +193,7 @@ fn claim(node: &mut PipeNode, index: u64) -> Result<(), AllocError>
 {
     match node.claim(SHARD, index, false) {
         Ok(_claimed) => Ok(()),
+        // required: the claim is not refused
         Err(Failure::Refused(_)) => unreachable!(),
         Err(Failure::OutOfMemory) => Err(AllocError),
     }
@@ -243,6 +252,7 @@ pub fn collect(node: &mut PipeNode) -> Result<(), AllocError>
     counts_are_open();
     match node.collect(SHARD) {
         Ok(_told) => Ok(()),
+        // a shard closes only what it opened, and opens no more than can be counted
         Err(Failure::Refused(_)) => unreachable!(),
         Err(Failure::OutOfMemory) => Err(AllocError),
     }
@@ -258,6 +268,7 @@ pub fn take(node: &mut PipeNode, conn: ConnId, out: &mut Vec<u8>) -> Result<(), 
 {
     match node.take_bytes(conn, usize::MAX, out) {
         Ok(_) => Ok(()),
+        // required: the connection is known
         Err(Failure::Refused(_)) => unreachable!(),
         Err(Failure::OutOfMemory) => Err(AllocError),
     }

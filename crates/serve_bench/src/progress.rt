@@ -98,6 +98,7 @@ impl Progress {
                 quiet = 0;
             }
         }
+        // `forever` ends by a return alone
         unreachable!()
     }
 

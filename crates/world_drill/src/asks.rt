@@ -85,7 +85,7 @@ fn pub_of(alloc: Global, said: Said) -> anyhow::Result<Pub> {
     };
     let payload = format!(in alloc; "{}", said.payload)?;
     let payload = Bytes::from_string(payload)?;
-    Pub::new(subject, reply, payload, said.echo).context("a publication")
+    Pub::new(alloc, subject, reply, payload, said.echo)?.context("a publication")
 }
 
 fn client_event(alloc: Global, event: ByClient) -> anyhow::Result<ConnEvent> {
