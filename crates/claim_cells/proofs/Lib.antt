@@ -1,14 +1,2 @@
-mod Lists
-mod Turns
-mod LawKept
-mod WordsKept
-mod SeatedKept
-mod Opening
-mod Moves
-mod SeatsKept
-mod Behind
-mod Rounds
-mod Issuing
-mod Wins
-mod OneSeats
-mod Gathering
+mod Rules
+mod SeatSteps

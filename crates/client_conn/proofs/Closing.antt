@@ -123,16 +123,16 @@ read_finished : (o : Options) (r : Reading Awaited StreamItem) (end : End Awaite
 read_finished o r (waits awaited unread) is some = ap (λ e. no_asks (items_asks o r.items) && is_over (onward_of (options_after r.items o) e)) is ∙ and_false _
 read_finished o r closed is some = ap (λ b. b && is_over (onward_of (options_after r.items o) r.end)) (some_asks (items_asks o r.items) (some refl))
 
-finished_at : (standing : List Ask) (o : Options) (awaited : Awaited) (unread : List ℕ) (ended : Bool)
-    → (no_asks standing && ended) ≡ is_finished (asking_at standing o (if ended then closed else waits awaited unread))
-finished_at (ask ∷ standing) o awaited unread ended = refl
+finished_at : (open_asks : List Ask) (o : Options) (awaited : Awaited) (unread : List ℕ) (ended : Bool)
+    → (no_asks open_asks && ended) ≡ is_finished (asking_at open_asks o (if ended then closed else waits awaited unread))
+finished_at (ask ∷ open_asks) o awaited unread ended = refl
 finished_at [] o awaited unread true = refl
 finished_at [] o awaited unread false =
     let r = reading_of client_grammar awaited unread in
     sym (read_finished o r r.end refl (λ is. within_asks _ awaited unread o is))
 
-pub finished_is : (standing : List Ask) (o : Options) (r : ItemReader) → (no_asks standing && r.ended) ≡ is_finished (asking_at standing o (end_of r))
-finished_is standing o r = finished_at standing o r.awaited r.cutter.unread r.ended
+pub finished_is : (open_asks : List Ask) (o : Options) (r : ItemReader) → (no_asks open_asks && r.ended) ≡ is_finished (asking_at open_asks o (end_of r))
+finished_is open_asks o r = finished_at open_asks o r.awaited r.cutter.unread r.ended
 
-pub finished_behind_none : (standing : List Ask) (o : Options) (r : ItemReader) (empty : Bool) → empty ≡ no_asks standing → empty ≡ true → r.ended ≡ is_finished (asking_at standing o (end_of r))
-finished_behind_none standing o r empty is holds = ap (λ b. b && r.ended) (sym (sym is ∙ holds)) ∙ finished_is standing o r
+pub finished_behind_none : (open_asks : List Ask) (o : Options) (r : ItemReader) (empty : Bool) → empty ≡ no_asks open_asks → empty ≡ true → r.ended ≡ is_finished (asking_at open_asks o (end_of r))
+finished_behind_none open_asks o r empty is holds = ap (λ b. b && r.ended) (sym (sym is ∙ holds)) ∙ finished_is open_asks o r

@@ -47,13 +47,13 @@ fed_reading o awaited bytes more =
     ∙ sym (told_before o r.items (resumed client_grammar r.end more))
     ∙ ap (asking_of o) (reads_on client_grammar awaited bytes more)
 
-pub fed_behind : (standing : List Ask) (s : Asking) (bytes : List ℕ) → fed bytes (behind standing s) ≡ behind standing (fed bytes s)
-fed_behind standing s bytes = sym (behind-behind standing s.asks (read_onward s.onward bytes))
+pub fed_behind : (open_asks : List Ask) (s : Asking) (bytes : List ℕ) → fed bytes (behind open_asks s) ≡ behind open_asks (fed bytes s)
+fed_behind open_asks s bytes = sym (behind-behind open_asks s.asks (read_onward s.onward bytes))
 
 fed_end : (o : Options) (end : End Awaited) (bytes : List ℕ) → fed bytes (asking_of o (reading_at end)) ≡ asking_of o (reading_at (longer bytes end))
 fed_end o (waits awaited unread) bytes = fed_reading o awaited unread bytes
 fed_end o closed bytes = refl
 
 -- a reader that has more bytes
-pub fed_standing : (standing : List Ask) (o : Options) (end : End Awaited) (bytes : List ℕ) → fed bytes (asking_at standing o end) ≡ asking_at standing o (longer bytes end)
-fed_standing standing o end bytes = fed_behind standing (asking_of o (reading_at end)) bytes ∙ ap (behind standing) (fed_end o end bytes)
+pub fed_standing : (open_asks : List Ask) (o : Options) (end : End Awaited) (bytes : List ℕ) → fed bytes (asking_at open_asks o end) ≡ asking_at open_asks o (longer bytes end)
+fed_standing open_asks o end bytes = fed_behind open_asks (asking_of o (reading_at end)) bytes ∙ ap (behind open_asks) (fed_end o end bytes)

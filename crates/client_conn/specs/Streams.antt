@@ -49,7 +49,7 @@ AwaitsLostPayload awaited = (size : ℕ) × (awaited ≡ awaits.LostPayload size
 
 -- what stands to be asked: these, and then what the rest of the stream asks for
 abbrev pub asking_at : List Ask → Options → End Awaited → Asking
-asking_at standing options end = behind standing (asking_of options (reading_at end))
+asking_at open_asks options end = behind open_asks (asking_of options (reading_at end))
 
 -- the reader has n bytes more
 pub record HasFilled (old new : End Awaited) (before after : Option (List ℕ)) (asked n : ℕ) : Type 0 where

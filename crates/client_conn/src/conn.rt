@@ -10,8 +10,8 @@ ghost use Rattle.client_conn.specs.Shown.{Stays};
 
 use crate::ask::{Ask, Refusal};
 use crate::faults::ReadFault;
+use crate::open_asks::OpenAsks;
 use crate::reader::ItemReader;
-use crate::standing::Standing;
 use client_frames::{ErrText, InfoData, Options, ReplyFrame};
 use std::alloc::{AllocError, Global};
 use std::marker::Model;
@@ -27,7 +27,7 @@ use wire_cut::Source;
 pub struct Conn {
     reader: ItemReader,
     options: Options,
-    standing: Standing,
+    open_asks: OpenAsks,
 }
 
 impl Model for Conn {
@@ -38,8 +38,8 @@ impl Model for Conn {
     ghost Value = { ConnState };
 
     ghost view = { λ c. record {
-      asking = asking_at c.standing c.options (end_of c.reader);
-      given = not (no_asks c.standing);
+      asking = asking_at c.open_asks c.options (end_of c.reader);
+      given = not (no_asks c.open_asks);
     } };
 
     ghost invariant = { λ c. IsInStep c.reader };
@@ -49,19 +49,19 @@ impl Model for Conn {
 fn advance(
     reader: &mut ItemReader,
     options: &mut Options,
-    standing: &mut Standing,
+    open_asks: &mut OpenAsks,
 ) -> Result<(), AllocError>
     requires { IsInStep reader.old }
-    ensures same { asking_at standing.new options.new (end_of reader.new) ≡ asking_at standing.old options.old (end_of reader.old) }
-    ensures first { OnOk result (standing.new ≡ [] → (asking_at standing.new options.new (end_of reader.new)).asks ≡ []) }
-    ensures kept { OnErr result (standing.new ≡ []) }
+    ensures same { asking_at open_asks.new options.new (end_of reader.new) ≡ asking_at open_asks.old options.old (end_of reader.old) }
+    ensures first { OnOk result (open_asks.new ≡ [] → (asking_at open_asks.new options.new (end_of reader.new)).asks ≡ []) }
+    ensures kept { OnErr result (open_asks.new ≡ []) }
     ensures step { IsInStep reader.new }
 {
-    while standing.is_empty() {
+    while open_asks.is_empty() {
         let Some(item) = reader.next()? else {
             return Ok(());
         };
-        standing.ask_for(item, options);
+        open_asks.ask_for(item, options);
     }
     Ok(())
 }
@@ -77,7 +77,7 @@ impl Conn {
                 verbose: true,
                 echo: true,
             },
-            standing: Standing::of(Ask::Reply(ReplyFrame::Info(info))),
+            open_asks: OpenAsks::of(Ask::Reply(ReplyFrame::Info(info))),
         }
     }
 
@@ -117,8 +117,8 @@ impl Conn {
         ensures first { IfOk result (λ ask. option_copied ask ≡ slice_get self.old.asking.asks 0) }
         ensures* rest { sem 𝓛 (Stays (IsOkAnd result (λ ask. IsSome ask)) self.entry) }
     {
-        advance(&mut self.reader, &mut self.options, &mut self.standing)?;
-        Ok(self.standing.first())
+        advance(&mut self.reader, &mut self.options, &mut self.open_asks)?;
+        Ok(self.open_asks.first())
     }
 
     /// The server's answer to what `next` gave last. Done: the next comes. `Busy`: the same is asked again.
@@ -129,7 +129,7 @@ impl Conn {
         ensures { self.new.asking ≡ answered answer self.old.asking }
     {
         match answer {
-            Ok(()) => self.standing.advance(),
+            Ok(()) => self.open_asks.advance(),
             Err(refusal) => self.refuse(refusal),
         }
     }
@@ -141,11 +141,11 @@ impl Conn {
     {
         match refusal {
             Refusal::Busy => {}
-            Refusal::TooManySubscriptions => self.standing.tell(ErrText::TooManySubscriptions),
-            Refusal::NumbersSpent => self.standing.tell(ErrText::NumbersSpent),
-            Refusal::TooManyQueueGroups => self.standing.tell(ErrText::TooManyQueueGroups),
+            Refusal::TooManySubscriptions => self.open_asks.tell(ErrText::TooManySubscriptions),
+            Refusal::NumbersSpent => self.open_asks.tell(ErrText::NumbersSpent),
+            Refusal::TooManyQueueGroups => self.open_asks.tell(ErrText::TooManyQueueGroups),
             Refusal::Other => {
-                self.standing.clear();
+                self.open_asks.clear();
                 self.reader.close();
             }
         }
@@ -155,6 +155,6 @@ impl Conn {
     pub fn is_closed(&self) -> bool
         ensures { result ≡ is_finished self.now.asking }
     {
-        self.standing.is_empty() && self.reader.has_ended()
+        self.open_asks.is_empty() && self.reader.has_ended()
     }
 }

@@ -2,7 +2,7 @@
 //!
 //! The asks are a function of the bytes and of the answers, however the bytes were cut (`asks_follow_bytes_and_answers`).
 //!
-//! In reading order: `item` is what a stream tells, which `reader` reads; `ask` is what is asked, and `standing` what one item asks
+//! In reading order: `item` is what a stream tells, which `reader` reads; `ask` is what is asked, and `open_asks` what one item asks
 //! for; `conn` is the connection.
 #![tactic(auto)]
 
@@ -11,8 +11,8 @@ mod conn;
 mod faults;
 mod item;
 mod laws;
+mod open_asks;
 mod reader;
-mod standing;
 
 pub use ask::{Ask, Refusal};
 pub use conn::Conn;

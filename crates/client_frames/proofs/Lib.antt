@@ -1,4 +1,3 @@
-pub mod NameBytes
 pub mod Texts
 pub mod SpellingCommands
 pub mod Rows

@@ -1,6 +1,6 @@
 //! Writing what a server sends.
 
-ghost use Rattle.std.specs.Prelude.{◌≡◌, ◌+◌, ◌≤◌, ◌++◌, length, is_ok, vec_len, vec_capacity, if◌then◌else◌, IfOk};
+ghost use Rattle.std.specs.Prelude.{◌≡◌, ◌++◌, is_ok, if◌then◌else◌, IfOk};
 ghost use Rattle.std.specs.Cow.{cow_slice_items};
 ghost use Rattle.client_frames.specs.Frames.{frame_bytes, reply_line as line_of_reply};
 ghost use Rattle.client_frames.specs.declared.server_frames.ServerFrame.TheVariants.{Reply, Msg};
@@ -8,10 +8,9 @@ ghost use Rattle.client_frames.specs.declared.server_frames.ServerFrame.TheVaria
 use crate::info::info_text;
 use crate::message_lines::message_line;
 use crate::server_frames::{Delivery, ReplyFrame, ServerFrame};
+use line_fields::{CR_LF, append_reserved};
 use std::alloc::{AllocError, Global};
 use std::borrow::CowSlice;
-
-const CR_LF: &[u8] = b"\r\n";
 
 /// The line of an answer, without its CR LF. Only that of `INFO` takes memory.
 pub fn reply_line(alloc: Global, reply: &ReplyFrame) -> Result<CowSlice<'static, u8>, AllocError>
@@ -28,17 +27,6 @@ pub fn reply_line(alloc: Global, reply: &ReplyFrame) -> Result<CowSlice<'static,
         ReplyFrame::Ok => Ok(CowSlice::Borrowed(b"+OK")),
         ReplyFrame::Err(text) => Ok(CowSlice::Borrowed(text.line())),
     }
-}
-
-/// Appends bytes for which there is room.
-fn append_reserved(out: &mut Vec<u8>, bytes: &[u8])
-    requires { vec_len out.old + length bytes.now ≤ vec_capacity out.old }
-    ensures items { out.new.items ≡ out.old.items ++ bytes.now }
-    ensures len { vec_len out.new ≡ vec_len out.old + length bytes.now }
-    ensures capacity { vec_capacity out.old ≤ vec_capacity out.new }
-{
-    let appended = out.extend_from_slice(bytes);
-    prove!(appended.is_ok());
 }
 
 fn encode_reply(reply: &ReplyFrame, out: &mut Vec<u8>) -> Result<(), AllocError>

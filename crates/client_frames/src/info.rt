@@ -2,7 +2,6 @@
 
 ghost use Rattle.std.specs.Prelude.{◌≡◌, IfOk, string_bytes};
 ghost use Rattle.serde_json.specs.View.{view};
-ghost use Rattle.subj.specs.Names.{node_name_fault};
 ghost use Rattle.client_frames.specs.Info.{info_data, info_json, server_id};
 
 use serde_json::{Value, json};
@@ -22,22 +21,10 @@ pub struct InfoData {
     pub port: u16,
 }
 
-/// The name of a server as text.
-#[tactic(auto, using(crate::proofs::NameBytes::name_is_text))]
-fn name_text(name: &NodeId) -> &str
-    ensures { result.now ≡ name.now }
-{
-    match str::from_utf8(name.bytes()) {
-        Ok(text) => text,
-        // the bytes of a name are ASCII
-        Err(_) => unreachable!(),
-    }
-}
-
 fn server_id_text(alloc: Global, info: &InfoData) -> Result<String, AllocError>
     ensures { IfOk result (λ text. string_bytes text ≡ server_id info.now) }
 {
-    format!(in alloc; "{}-{}", name_text(&info.name), info.inc.get())
+    format!(in alloc; "{}-{}", info.name.text(), info.inc.get())
 }
 
 fn info_value(alloc: Global, info: &InfoData) -> Result<Value, AllocError>
@@ -52,7 +39,7 @@ fn info_value(alloc: Global, info: &InfoData) -> Result<Value, AllocError>
         "port": info.port,
         "proto": 1,
         "server_id": server_id.as_str(),
-        "server_name": name_text(&info.name),
+        "server_name": info.name.text(),
         "version": "1.0.0",
     })
 }

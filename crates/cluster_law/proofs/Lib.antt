@@ -1,16 +1,2 @@
-pub mod Races
-pub mod Invariants
-pub mod Hubs
-pub mod HubEvents
-pub mod Shards
-pub mod ShardEvents
-pub mod NodeSteps
-pub mod Views
-pub mod Starts
-pub mod Whole
+pub mod Kept
 pub mod Scripts
-pub mod Settings
-pub mod WithoutClaimRules
-pub mod WithoutFrameRules
-pub mod Growth
-pub mod Example

@@ -117,7 +117,7 @@ fn close_all_lives(lives: &mut Vec<Life>, acted: &Acted)
 }
 
 /// What a step put is listed, if it put anything. Takes no memory.
-#[tactic(auto, using(crate::proofs::Finds::flat_more, crate::proofs::Finds::no_more))]
+#[tactic(auto, using(crate::proofs::Clusters::Finds::flat_more, crate::proofs::Clusters::Finds::no_more))]
 fn keep_entries(placements: &mut Vec<Placements>, acted: &Acted, entries: Vec<Placed>)
     requires { vec_len placements.old < vec_capacity placements.old }
     ensures { flat_map placements_in placements.new.items ≡ flat_map placements_in placements.old.items ++ placements_put (placing acted.now.node acted.now.inc) acted.now.step entries.items }
@@ -134,7 +134,7 @@ fn keep_entries(placements: &mut Vec<Placements>, acted: &Acted, entries: Vec<Pl
 }
 
 /// What a step sent is listed, if it sent anything. Takes no memory.
-#[tactic(auto, using(crate::proofs::Finds::flat_more, crate::proofs::Finds::no_more))]
+#[tactic(auto, using(crate::proofs::Clusters::Finds::flat_more, crate::proofs::Clusters::Finds::no_more))]
 fn keep_frames(sent: &mut Vec<Vec<RouteFrame>>, frames: Vec<RouteFrame>)
     requires { vec_len sent.old < vec_capacity sent.old }
     ensures { flat_map items_of sent.new.items ≡ flat_map items_of sent.old.items ++ frames.items }

@@ -134,7 +134,7 @@ impl Hub {
 
     /// The kept session with the peer at the place has ended: the peer is not up, and what is known of
     /// it and what waits for it stays. Required: the place is of a peer. Takes no memory.
-    #[tactic(auto, using(crate::proofs::Changed::changed_is))]
+    #[tactic(auto, using(crate::proofs::Neighbours::Changed::changed_is))]
     pub fn peer_cut(&mut self, place: usize)
         requires { is_peer self.old.server place ≡ true }
         ensures { IsStep self.old (Cut place) WasCut self.new }
@@ -145,7 +145,7 @@ impl Hub {
 
     /// Gives and removes the first frames that wait for the peer at the place, or all where there are
     /// fewer. Refused with [`HubFault::NotInCluster`] where the place is of no peer.
-    #[tactic(auto, using(crate::proofs::Changed::changed_is))]
+    #[tactic(auto, using(crate::proofs::Neighbours::Changed::changed_is))]
     pub fn take_route(
         &mut self,
         place: usize,

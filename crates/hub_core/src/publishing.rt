@@ -86,7 +86,7 @@ fn put_frame(
 }
 
 /// The same for any peer: one that is not eligible is owed none.
-#[tactic(auto, using(crate::proofs::Sending::eligible_up))]
+#[tactic(auto, using(crate::proofs::Neighbours::Sending::eligible_up))]
 fn add_frame(
     out: &Outgoing<'_>,
     place: usize,

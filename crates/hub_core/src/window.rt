@@ -15,7 +15,7 @@ fn first_behind(issued: Turn, finished: &[Turn]) -> Option<usize>
 }
 
 /// The first shard that is a window behind, of those that these turns are of.
-#[tactic(auto, using(crate::proofs::Behind::no_busy, crate::proofs::Behind::some_busy))]
+#[tactic(auto, using(crate::proofs::Steps::Behind::no_busy, crate::proofs::Steps::Behind::some_busy))]
 fn busy_among(issued: Turn, finished: &[Turn]) -> Option<Busy>
     ensures { result ≡ busy_of issued finished.now }
 {

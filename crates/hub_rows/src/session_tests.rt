@@ -45,10 +45,10 @@ fn sessions_at(alloc: Global, place: usize) -> Result<Sessions, Fail> {
 fn crossing(alloc: Global) -> Result<(Sessions, Sessions), Fail> {
     let mut n1 = sessions_at(alloc, 0)?;
     let mut n2 = sessions_at(alloc, 1)?;
-    n1.dialed(1)?;
-    n2.dialed(0)?;
-    n1.accepted()?;
-    n2.accepted()?;
+    n1.dial(1)?;
+    n2.dial(0)?;
+    n1.accept()?;
+    n2.accept()?;
     Ok((n1, n2))
 }
 
@@ -124,8 +124,8 @@ fn both_keep_the_session_of_the_first_server(rt: HostRuntime) -> Result<(), Fail
 fn dial_later(rt: &impl Abort, n1: &mut Sessions) -> Result<(), Fail> {
     assert!(rt; n1.on_info(first(), &second_server()?, 0).is_ok());
     let wrong = Failure::Refused(SessionFault::WrongName);
-    assert_eq!(rt; n1.dialed(0), Err(wrong));
-    assert_eq!(rt; n1.dialed(1)?, SessionId::new(3));
+    assert_eq!(rt; n1.dial(0), Err(wrong));
+    assert_eq!(rt; n1.dial(1)?, SessionId::new(3));
     Ok(())
 }
 

@@ -67,7 +67,7 @@ fn pop_below(entries: &mut VecDeque<Entry>, key: &Key) -> Option<Entry>
 }
 
 /// Moves the entries below the key behind those that are done, which have room for them.
-#[tactic(auto, using(crate::proofs::Recounted::one_below, crate::proofs::Recounted::none_below))]
+#[tactic(auto, using(crate::proofs::Counting::Recounted::one_below, crate::proofs::Counting::Recounted::none_below))]
 fn move_below(entries: &mut VecDeque<Entry>, key: &Key, done: &mut Vec<Entry>)
     requires { vec_len done.old + length entries.old.items ≤ vec_capacity done.old }
     ensures done { done.new.items ≡ done.old.items ++ below key.now entries.old.items }
@@ -81,7 +81,7 @@ fn move_below(entries: &mut VecDeque<Entry>, key: &Key, done: &mut Vec<Entry>)
 }
 
 /// Takes the first entry away where it is of the key.
-#[tactic(auto, using(crate::proofs::Recounted::without_fewer))]
+#[tactic(auto, using(crate::proofs::Counting::Recounted::without_fewer))]
 fn drop_first(entries: &mut VecDeque<Entry>, key: &Key)
     ensures left { entries.new.items ≡ without_first key.now entries.old.items }
     ensures fewer { length entries.new.items ≤ length entries.old.items }

@@ -1,13 +1,2 @@
-mod Balance
-mod NamesOpen
-mod Alone
-mod Working
-mod Calls
-mod Collecting
-mod Publishing
-mod Heard
-mod Answering
-mod Said
-mod Runs
-mod Serves
-mod Rows
+mod Server
+mod Text

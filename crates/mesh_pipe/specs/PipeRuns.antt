@@ -8,36 +8,36 @@ use Rattle.mesh_pipe.specs.declared.pipe.PipeFault.TheVariants.{Read, Write, Out
 use Rattle.mesh_pipe.specs.declared.pipe.Flow.{Flow}
 use Rattle.mesh_pipe.specs.declared.pipe.Flow.TheVariants.{Open, Closed}
 use Rattle.mesh_pipe.specs.declared.pipe_server.PipeServer.{PipeServer}
-use Rattle.mesh_pipe.specs.PipeText.{Served, Spoken, silent, behind, asks_said}
+use Rattle.mesh_pipe.specs.PipeText.{Served, Output, no_output, behind, asks_said}
 use Rattle.mesh_pipe.specs.PipeStates.{IsReady, served, asks_of}
 
 -- ---- where a pipe stands in its stream
 
-pub record Standing : Type 0 where
+pub record PipeState : Type 0 where
   pub asking : Asking
   pub served : Served
 
 -- what is said of what stands to be asked, and of what these bytes ask for
-abbrev pub said_from : Standing → List ℕ → Spoken
+abbrev pub said_from : PipeState → List ℕ → Output
 said_from at more = asks_said (fed more at.asking).asks at.served
 
 -- nothing is said before more bytes come
-abbrev pub Waits : Standing → Type 0
-Waits at = said_from at [] ≡ silent at.served
+abbrev pub Waits : PipeState → Type 0
+Waits at = said_from at [] ≡ no_output at.served
 
 -- this is said, and then what is said from there, whatever comes behind
-pub record GoesOn (from : Standing) (said : List ℕ) (to : Standing) : Type 0 where
+pub record GoesOn (from : PipeState) (said : List ℕ) (to : PipeState) : Type 0 where
   pub whatever_follows : (more : List ℕ) → said_from from more ≡ behind said (said_from to more)
 
 -- this is said, and nothing behind it
-pub record Ends (from : Standing) (said : List ℕ) : Type 0 where
+pub record Ends (from : PipeState) (said : List ℕ) : Type 0 where
   pub text : (more : List ℕ) → (said_from from more).text ≡ said
   pub closed : (more : List ℕ) → (said_from from more).closed ≡ true
 
 -- ---- the connection and its server
 
-abbrev pub standing : ConnState → PipeServer → Standing
-standing conn server = record { asking = conn.asking; served = served server }
+abbrev pub state_of : ConnState → PipeServer → PipeState
+state_of conn server = record { asking = conn.asking; served = served server }
 
 pub record IsInStep (conn : ConnState) (server : PipeServer) : Type 0 where
   pub ready : IsReady server
@@ -55,23 +55,23 @@ pub record HasWorked (old_conn : ConnState) (old : PipeServer) (new_conn : ConnS
   pub said : List ℕ
   pub put : new.output.items ≡ old.output.items ++ said
   pub in_step : IsInStep new_conn new
-  pub goes : GoesOn (standing old_conn old) said (standing new_conn new)
+  pub goes : GoesOn (state_of old_conn old) said (state_of new_conn new)
   pub fewer : left_of new_conn < left_of old_conn
 
 -- an ask was answered, behind which nothing is said
 pub record HasClosed (old_conn : ConnState) (old new : PipeServer) : Type 0 where
   pub said : List ℕ
   pub put : new.output.items ≡ old.output.items ++ said
-  pub ends : Ends (standing old_conn old) said
+  pub ends : Ends (state_of old_conn old) said
 
 -- nothing is asked, for lack of bytes
-pub record IsStarved (old_conn : ConnState) (old : PipeServer) (new_conn : ConnState) (new : PipeServer) : Type 0 where
+pub record NeedsBytes (old_conn : ConnState) (old : PipeServer) (new_conn : ConnState) (new : PipeServer) : Type 0 where
   pub same : new ≡ old
   pub asking : new_conn.asking ≡ old_conn.asking
   pub none : old_conn.asking.asks ≡ []
 
 abbrev pub HasLooked : Option Flow → ConnState → PipeServer → ConnState → PipeServer → Type 0
-HasLooked None old_conn old new_conn new = IsStarved old_conn old new_conn new
+HasLooked None old_conn old new_conn new = NeedsBytes old_conn old new_conn new
 HasLooked (Some Open) old_conn old new_conn new = HasWorked old_conn old new_conn new
 HasLooked (Some Closed) old_conn old new_conn new = HasClosed old_conn old new
 
@@ -97,10 +97,10 @@ pub record HasMoved (old_conn : ConnState) (old : PipeServer) (was : Option (Lis
   pub written : Appends was is put
   pub text : put ++ new.output.items ≡ old.output.items ++ said
   pub in_step : IsInStep new_conn new
-  pub goes : GoesOn (standing old_conn old) said (standing new_conn new)
+  pub goes : GoesOn (state_of old_conn old) said (state_of new_conn new)
 
 -- all that stood to be asked was answered
-pub record HasStarved (old_conn : ConnState) (old : PipeServer) (was : Option (List ℕ)) (new_conn : ConnState) (new : PipeServer) (is : Option (List ℕ)) : Type 0 where
+pub record HasAnsweredAll (old_conn : ConnState) (old : PipeServer) (was : Option (List ℕ)) (new_conn : ConnState) (new : PipeServer) (is : Option (List ℕ)) : Type 0 where
   pub moved : HasMoved old_conn old was new_conn new is
   pub none : new_conn.asking.asks ≡ []
 
@@ -110,17 +110,17 @@ pub record HasEnded (old_conn : ConnState) (old : PipeServer) (was : Option (Lis
   pub said : List ℕ
   pub written : Appends was is put
   pub text : put ++ new.output.items ≡ old.output.items ++ said
-  pub ends : Ends (standing old_conn old) said
+  pub ends : Ends (state_of old_conn old) said
 
 -- what was written is a beginning of what was put and is to be said, whatever comes behind
 pub record HasBegun (old_conn : ConnState) (old : PipeServer) (was is : Option (List ℕ)) : Type 0 where
   pub put : List ℕ
   pub rest : List ℕ → List ℕ
   pub written : Appends was is put
-  pub text : (more : List ℕ) → old.output.items ++ (said_from (standing old_conn old) more).text ≡ put ++ rest more
+  pub text : (more : List ℕ) → old.output.items ++ (said_from (state_of old_conn old) more).text ≡ put ++ rest more
 
 abbrev pub Works : Result Flow PipeFault → ConnState → PipeServer → Option (List ℕ) → ConnState → PipeServer → Option (List ℕ) → Type 0
-Works (Ok Open) old_conn old was new_conn new is = HasStarved old_conn old was new_conn new is
+Works (Ok Open) old_conn old was new_conn new is = HasAnsweredAll old_conn old was new_conn new is
 Works (Ok Closed) old_conn old was new_conn new is = HasEnded old_conn old was new is
 Works (Err fault) old_conn old was new_conn new is = HasBegun old_conn old was is
 
@@ -133,20 +133,20 @@ pub record HasAnswered (old_conn : ConnState) (old : PipeServer) (was : Option (
   pub empty : new.output.items ≡ []
   pub none : new_conn.asking.asks ≡ []
   pub in_step : IsInStep new_conn new
-  pub goes : GoesOn (standing old_conn old) said (standing new_conn new)
+  pub goes : GoesOn (state_of old_conn old) said (state_of new_conn new)
 
 -- and behind it nothing is said
 pub record HasFinished (old_conn : ConnState) (old : PipeServer) (was is : Option (List ℕ)) : Type 0 where
   pub said : List ℕ
   pub written : Appends was is said
-  pub ends : Ends (standing old_conn old) said
+  pub ends : Ends (state_of old_conn old) said
 
 -- a beginning of it was written
 pub record HasFronted (old_conn : ConnState) (old : PipeServer) (was is : Option (List ℕ)) : Type 0 where
   pub put : List ℕ
   pub rest : List ℕ → List ℕ
   pub written : Appends was is put
-  pub text : (more : List ℕ) → (said_from (standing old_conn old) more).text ≡ put ++ rest more
+  pub text : (more : List ℕ) → (said_from (state_of old_conn old) more).text ≡ put ++ rest more
 
 abbrev pub AnswersAll : Result Flow PipeFault → ConnState → PipeServer → Option (List ℕ) → ConnState → PipeServer → Option (List ℕ) → Type 0
 AnswersAll (Ok Open) old_conn old was new_conn new is = HasAnswered old_conn old was new_conn new is

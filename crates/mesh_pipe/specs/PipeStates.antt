@@ -8,7 +8,7 @@ use Rattle.client_conn.specs.declared.ask.Refusal.TheVariants.{Busy, TooManySubs
 use Rattle.mesh_pipe.specs.declared.pipe_server.Outcome.{Outcome}
 use Rattle.mesh_pipe.specs.declared.pipe_server.Outcome.TheVariants.{Answered, Closed}
 use Rattle.mesh_pipe.specs.declared.pipe_server.PipeServer.{PipeServer}
-use Rattle.mesh_pipe.specs.PipeText.{Served, Spoken, at_first, at_rest, served_by, told}
+use Rattle.mesh_pipe.specs.PipeText.{Served, Output, at_first, at_rest, served_by, told}
 use Rattle.mesh_pipe.specs.PipeServing.{IsServing, shard_in, waiting_in}
 
 -- what the answers depend on
@@ -31,7 +31,7 @@ pub record IsNew (server : PipeServer) : Type 0 where
 -- ---- an ask
 
 -- this was put, and behind it this is served
-pub record HasSaid (said : Spoken) (old new : PipeServer) : Type 0 where
+pub record HasSaid (said : Output) (old new : PipeServer) : Type 0 where
   pub text : new.output.items ≡ old.output.items ++ said.text
   pub ready : IsReady new
   pub same : served new ≡ said.served
@@ -42,14 +42,14 @@ outcome_by true = Closed
 outcome_by false = Answered (Ok tt)
 
 -- the client is to be told of a refusal
-abbrev pub IsTold : Refusal → Served → Spoken → Type 0
+abbrev pub IsTold : Refusal → Served → Output → Type 0
 IsTold Busy s said = ⊥
 IsTold TooManySubscriptions s said = said ≡ told text.TooManySubscriptions s
 IsTold NumbersSpent s said = said ≡ told text.NumbersSpent s
 IsTold TooManyQueueGroups s said = said ≡ told text.TooManyQueueGroups s
 IsTold Other s said = ⊥
 
-abbrev pub HasServed : Outcome → Spoken → PipeServer → PipeServer → Type 0
+abbrev pub HasServed : Outcome → Output → PipeServer → PipeServer → Type 0
 HasServed (Answered (Ok done)) said old new = (said.closed ≡ false) × HasSaid said old new
 HasServed (Answered (Err why)) said old new = IsTold why (served old) said × (new ≡ old)
 HasServed Closed said old new = (said.closed ≡ true) × (new.output.items ≡ old.output.items ++ said.text)

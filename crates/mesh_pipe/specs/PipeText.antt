@@ -44,50 +44,50 @@ at_rest s = record (attached (new_shard 1 1)) { opened = s.opened; finished = s.
 -- ---- what is written
 
 -- bytes, what is served behind them, and whether nothing comes behind them
-pub record Spoken : Type 0 where
+pub record Output : Type 0 where
   pub text : List ℕ
   pub served : Served
   pub closed : Bool
 
-abbrev pub silent : Served → Spoken
-silent s = record { text = []; served = s; closed = false }
+abbrev pub no_output : Served → Output
+no_output s = record { text = []; served = s; closed = false }
 
 -- the text behind another
-abbrev pub behind : List ℕ → Spoken → Spoken
+abbrev pub behind : List ℕ → Output → Output
 behind text said = record said { text = text ++ said.text }
 
 -- nothing comes behind what closes
-abbrev pub and_then : Spoken → (Served → Spoken) → Spoken
+abbrev pub and_then : Output → (Served → Output) → Output
 and_then first rest = if first.closed then first else behind first.text (rest first.served)
 
 abbrev pub served_by : State → Served
 served_by t = record { subs = t.subs; opened = t.opened; jobs = t.finished }
 
 -- all that the shard has put for the connection, and whether it was shut
-abbrev pub heard : State → Spoken
-heard t = record { text = bytes_of_all (waits_for 1 t.clients); served = served_by t; closed = not (is_open 1 t.clients) }
+abbrev pub output_of : State → Output
+output_of t = record { text = bytes_of_all (waits_for 1 t.clients); served = served_by t; closed = not (is_open 1 t.clients) }
 
 -- what one event leads to
-abbrev pub after_event : Event → Served → Spoken
-after_event event s = heard (shard_after (at_rest s) event)
+abbrev pub after_event : Event → Served → Output
+after_event event s = output_of (shard_after (at_rest s) event)
 
 -- the client is told of a refusal
-abbrev pub told : ErrText → Served → Spoken
+abbrev pub told : ErrText → Served → Output
 told text s = after_event (Reply 1 (reply.Err text)) s
 
 -- ---- a subscription is opened, or the client is told why not
 
 -- the two causes for which the shard of one open connection refuses a subscription; the others have no text
-abbrev pub opening_refused : ShardFault → Served → Spoken
+abbrev pub opening_refused : ShardFault → Served → Output
 opening_refused TooManySubs s = told TooManySubscriptions s
 opening_refused Spent s = told NumbersSpent s
-opening_refused fault s = silent s
+opening_refused fault s = no_output s
 
-abbrev pub opened_or_not : Key → List ℕ → Served → Option ShardFault → Spoken
+abbrev pub opened_or_not : Key → List ℕ → Served → Option ShardFault → Output
 opened_or_not key sid s None = after_event (Subscribe 1 key sid) s
 opened_or_not key sid s (Some fault) = opening_refused fault s
 
-abbrev pub opening : Key → List ℕ → Served → Spoken
+abbrev pub opening : Key → List ℕ → Served → Output
 opening key sid s = opened_or_not key sid s (shard_refusal (at_rest s) (Subscribe 1 key sid))
 
 -- ---- a publication makes a job of the next turn, which is worked off
@@ -115,15 +115,15 @@ abbrev pub worked_off : Job → State → State
 worked_off job t = shard_after (claimed_first (length job.queues) (shard_after t (Begin job))) End
 
 -- numbers are asked for first, and then whether the job has places for all queue names (profile)
-abbrev pub placing : Pub → Served → Spoken
+abbrev pub placing : Pub → Served → Output
 placing p s =
     if nat_le MAX_COUNTER s.jobs then told NumbersSpent s
     else (if nat_lt MAX_QUEUE_NAMES (length (names_wanted p.message.subject s.subs)) then told TooManyQueueGroups s
-    else heard (worked_off (job_of p s) (at_rest s)))
+    else output_of (worked_off (job_of p s) (at_rest s)))
 
 -- ---- all that a client's connection asks
 
-abbrev pub ask_said : Ask → Served → Spoken
+abbrev pub ask_said : Ask → Served → Output
 ask_said (ask.Reply frame) s = after_event (Reply 1 frame) s
 ask_said (ask.Shut text) s = after_event (Shut 1 text) s
 ask_said (ask.Subscribe key sid) s = opening key sid s
@@ -131,12 +131,12 @@ ask_said (ask.Unsubscribe sid max) s = after_event (Unsubscribe 1 sid max) s
 ask_said (ask.Publish p) s = placing p s
 
 -- one after the other, up to the first that closes
-unfoldable pub asks_said : List Ask → Served → Spoken
-asks_said [] s = silent s
+unfoldable pub asks_said : List Ask → Served → Output
+asks_said [] s = no_output s
 asks_said (a ∷ asks) s = and_then (ask_said a s) (asks_said asks)
 
 -- what a connection asks of these bytes where each ask is done: a refused one is told in its place
-abbrev pub pipe_said : List ℕ → Spoken
+abbrev pub pipe_said : List ℕ → Output
 pipe_said bytes = asks_said (asking pipe_info bytes []).asks at_first
 
 -- what is written of a stream

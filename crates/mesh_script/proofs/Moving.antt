@@ -11,17 +11,17 @@ use Rattle.mesh_script.specs.Asks.{Asks, NoMore, Ask, and_then}
 use Rattle.mesh_script.specs.Lines.{lines_text}
 use Rattle.mesh_script.specs.Played.{AppendsStart}
 use Rattle.mesh_script.specs.Putting.{Puts}
-use Rattle.mesh_script.specs.Playing.{Standing, Moves, BreaksOff, Makes}
+use Rattle.mesh_script.specs.Playing.{PlayState, Moves, BreaksOff, Makes}
 use Rattle.mesh_script.specs.Told.{Told}
 use Rattle.mesh_script.proofs.Asking.{told_on, told_before}
 use Rattle.mesh_script.proofs.Putting.{puts_nothing, puts_on, puts_same, starts_with_nothing}
 use Rattle.mesh_script.proofs.Texts.{lines_behind, outcomes_behind, counted_behind}
 
-pub moves_nowhere : (old : Standing) (was : Option (List ℕ)) (asks : Asks) → Moves old was asks asks old was
+pub moves_nowhere : (old : PlayState) (was : Option (List ℕ)) (asks : Asks) → Moves old was asks asks old was
 moves_nowhere old was asks = record { outcomes = []; cluster = refl; told = (refl, refl); number = omega arith; puts = puts_nothing old.text was }
 
 -- one event, with its line
-pub moved_one : (old new : Standing) (was is : Option (List ℕ)) (e : Event) (outcome : Outcome)
+pub moved_one : (old new : PlayState) (was is : Option (List ℕ)) (e : Event) (outcome : Outcome)
     → new.cluster ≡ old.cluster → WorldStep old.cluster old.world e outcome new.world → new.number ≡ old.number + 1
     → Puts old.text was ((decimal new.number ++ (codes " " ++ outcome_text outcome)) ++ codes "\n") new.text is
     → (more : World → Outcome → Asks) → Moves old was (Ask e more) (more old.world outcome) new is
@@ -35,7 +35,7 @@ moved_one old new was is e outcome cluster step number puts more =
       puts = puts_same old.text _ (lines_text (outcome_lines old.number (outcome ∷ []))) new.text was is (ap (λ n. (decimal n ++ (codes " " ++ outcome_text outcome)) ++ codes "\n") count ∙ sym (append-nil _)) puts;
     }
 
-pub moves_on : (old mid new : Standing) (was is now : Option (List ℕ)) (asks rest left : Asks) → Moves old was asks rest mid is → Moves mid is rest left new now → Moves old was asks left new now
+pub moves_on : (old mid new : PlayState) (was is now : Option (List ℕ)) (asks rest left : Asks) → Moves old was asks rest mid is → Moves mid is rest left new now → Moves old was asks left new now
 moves_on old mid new was is now asks rest left first next =
     let told = subst (λ c. Told c mid.world rest next.outcomes left new.world) first.cluster next.told in
     let count = counted_behind first.outcomes next.outcomes in
@@ -55,7 +55,7 @@ moves_on old mid new was is now asks rest left first next =
     }
 
 -- where less is asked, the rest waits
-pub moves_before : (old new : Standing) (was is : Option (List ℕ)) (asks rest behind : Asks) → Moves old was asks rest new is → Moves old was (and_then asks behind) (and_then rest behind) new is
+pub moves_before : (old new : PlayState) (was is : Option (List ℕ)) (asks rest behind : Asks) → Moves old was asks rest new is → Moves old was (and_then asks behind) (and_then rest behind) new is
 moves_before old new was is asks rest behind moves = record {
   outcomes = moves.outcomes;
   cluster = moves.cluster;
@@ -66,14 +66,14 @@ moves_before old new was is asks rest behind moves = record {
 
 -- ---- breaking off
 
-pub breaks_after : (old mid : Standing) (was is now : Option (List ℕ)) (asks rest : Asks) → Moves old was asks rest mid is → BreaksOff mid is rest now → BreaksOff old was asks now
+pub breaks_after : (old mid : PlayState) (was is now : Option (List ℕ)) (asks rest : Asks) → Moves old was asks rest mid is → BreaksOff mid is rest now → BreaksOff old was asks now
 breaks_after old mid was is now asks rest moves broke = record { rest = broke.rest; new = broke.new; moves = moves_on old mid broke.new was is now asks rest broke.rest moves broke.moves }
 
-pub breaks_before : (old : Standing) (was is : Option (List ℕ)) (asks behind : Asks) → BreaksOff old was asks is → BreaksOff old was (and_then asks behind) is
+pub breaks_before : (old : PlayState) (was is : Option (List ℕ)) (asks behind : Asks) → BreaksOff old was asks is → BreaksOff old was (and_then asks behind) is
 breaks_before old was is asks behind broke = record { rest = and_then broke.rest behind; new = broke.new; moves = moves_before old broke.new was is asks broke.rest behind broke.moves }
 
 -- before any event
-pub breaks_first : (old : Standing) (was is : Option (List ℕ)) (asks : Asks) → AppendsStart was is old.text → BreaksOff old was asks is
+pub breaks_first : (old : PlayState) (was is : Option (List ℕ)) (asks : Asks) → AppendsStart was is old.text → BreaksOff old was asks is
 breaks_first old was is asks start = record {
   rest = asks;
   new = record old { text = start.behind };
@@ -88,14 +88,14 @@ breaks_first old was is asks start = record {
 
 -- ---- answers
 
-pub makes_on : {T : Type 0} (result : Result T PlayFault) (old mid new : Standing) (was is now : Option (List ℕ)) (asks rest : Asks) → Moves old was asks rest mid is → Makes result mid is rest new now → Makes result old was asks new now
+pub makes_on : {T : Type 0} (result : Result T PlayFault) (old mid new : PlayState) (was is now : Option (List ℕ)) (asks rest : Asks) → Moves old was asks rest mid is → Makes result mid is rest new now → Makes result old was asks new now
 makes_on (Ok x) old mid new was is now asks rest moves made = moves_on old mid new was is now asks rest NoMore moves made
 makes_on (Err fault) old mid new was is now asks rest moves made = breaks_after old mid was is now asks rest moves made
 
-pub makes_failed : {T : Type 0} (result : Result T PlayFault) (old new : Standing) (was is : Option (List ℕ)) (asks : Asks) → IsErr result → BreaksOff old was asks is → Makes result old was asks new is
+pub makes_failed : {T : Type 0} (result : Result T PlayFault) (old new : PlayState) (was is : Option (List ℕ)) (asks : Asks) → IsErr result → BreaksOff old was asks is → Makes result old was asks new is
 makes_failed (Ok x) old new was is asks err broke = let e : false ≡ true = err in absurd (cc)
 makes_failed (Err fault) old new was is asks err broke = broke
 
 -- no event was made, and nothing written
-pub breaks_unmoved : (old : Standing) (was : Option (List ℕ)) (asks : Asks) → BreaksOff old was asks was
+pub breaks_unmoved : (old : PlayState) (was : Option (List ℕ)) (asks : Asks) → BreaksOff old was asks was
 breaks_unmoved old was asks = breaks_first old was was asks (starts_with_nothing old.text was)

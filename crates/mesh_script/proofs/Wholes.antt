@@ -12,7 +12,7 @@ use Rattle.mesh_script.specs.declared.faults.PlayFault.{PlayFault}
 use Rattle.mesh_script.specs.Asks.{NoMore, steps_ask}
 use Rattle.mesh_script.specs.Lines.{lines_text}
 use Rattle.mesh_script.specs.Played.{IsPlayed, Plays, Writes, cluster_of}
-use Rattle.mesh_script.specs.Playing.{Standing, Moves, BreaksOff, Finishes, GoesOn, ArePlayedSafely, first_standing}
+use Rattle.mesh_script.specs.Playing.{PlayState, Moves, BreaksOff, Finishes, GoesOn, ArePlayedSafely, first_standing}
 use Rattle.mesh_script.specs.Told.{Told}
 use Rattle.mesh_script.proofs.Asking.{told_counts}
 use Rattle.mesh_script.proofs.Names.{apart_names}
@@ -40,7 +40,7 @@ broken_play result script was is goes safe within err broke =
       written = write_failed result was is text err (starts_same (first ++ behind) text was is (run_front l moves.outcomes whole.more whole.world) (starts_longer first behind was is (starts_of_puts [] first broke.new.text was is moves.puts)));
     }
 
-pub whole_play : {T : Type 0} (result : Result T PlayFault) (script : Script) (new : Standing) (was is now : Option (List ℕ)) → ArePlayedSafely → is_cluster script.names script.shards ≡ true
+pub whole_play : {T : Type 0} (result : Result T PlayFault) (script : Script) (new : PlayState) (was is now : Option (List ℕ)) → ArePlayedSafely → is_cluster script.names script.shards ≡ true
     → Moves (first_standing (cluster_of script)) was (steps_ask script.names script.steps) NoMore new is → Finishes result script.names new is now → Plays script result was now
 whole_play result script new was is now safe within moves finishes =
     let l = cluster_of script in

@@ -21,14 +21,14 @@ use Rattle.mesh_script.specs.Told.{Told}
 -- ---- the cluster
 
 -- the cluster with its world, how many events were made, and what stands to be written
-pub record Standing : Type 0 where
+pub record PlayState : Type 0 where
   pub cluster : Cluster
   pub world : World
   pub number : ℕ
   pub text : List ℕ
 
 -- of what is asked, these outcomes were told and put, and this is left
-pub record Moves (old : Standing) (was : Option (List ℕ)) (asks rest : Asks) (new : Standing) (is : Option (List ℕ)) : Type 0 where
+pub record Moves (old : PlayState) (was : Option (List ℕ)) (asks rest : Asks) (new : PlayState) (is : Option (List ℕ)) : Type 0 where
   pub outcomes : List Outcome
   pub cluster : new.cluster ≡ old.cluster
   pub told : Told old.cluster old.world asks outcomes rest new.world
@@ -36,18 +36,18 @@ pub record Moves (old : Standing) (was : Option (List ℕ)) (asks rest : Asks) (
   pub puts : Puts old.text was (lines_text (outcome_lines old.number outcomes)) new.text is
 
 -- somewhere on the way to the end it broke off
-pub record BreaksOff (old : Standing) (was : Option (List ℕ)) (asks : Asks) (is : Option (List ℕ)) : Type 0 where
+pub record BreaksOff (old : PlayState) (was : Option (List ℕ)) (asks : Asks) (is : Option (List ℕ)) : Type 0 where
   pub rest : Asks
-  pub new : Standing
+  pub new : PlayState
   pub moves : Moves old was asks rest new is
 
 -- all that is asked was told
-abbrev pub Makes : {T : Type 0} → Result T PlayFault → Standing → Option (List ℕ) → Asks → Standing → Option (List ℕ) → Type 0
+abbrev pub Makes : {T : Type 0} → Result T PlayFault → PlayState → Option (List ℕ) → Asks → PlayState → Option (List ℕ) → Type 0
 Makes (Ok x) old was asks new is = Moves old was asks NoMore new is
 Makes (Err fault) old was asks new is = BreaksOff old was asks is
 
 -- one event was made, whatever depends on its outcome
-abbrev pub AsksOne : Result code.Outcome PlayFault → Event → Standing → Option (List ℕ) → Standing → Option (List ℕ) → Type 0
+abbrev pub AsksOne : Result code.Outcome PlayFault → Event → PlayState → Option (List ℕ) → PlayState → Option (List ℕ) → Type 0
 AsksOne (Ok outcome) e old was new is = (more : World → Outcome → Asks) → Moves old was (Ask e more) (more old.world (outcome_of outcome)) new is
 AsksOne (Err fault) e old was new is = AppendsStart was is old.text
 
@@ -59,11 +59,11 @@ asks_of (asked.Join a b) = joining a b
 
 -- ---- a whole script
 
-abbrev pub first_standing : Cluster → Standing
+abbrev pub first_standing : Cluster → PlayState
 first_standing c = record { cluster = c; world = new_world c; number = 0; text = [] }
 
 -- what stood to be written, the lines of the placements and the last line are written, or a beginning of these
-abbrev pub Finishes : {T : Type 0} → Result T PlayFault → List (List ℕ) → Standing → Option (List ℕ) → Option (List ℕ) → Type 0
+abbrev pub Finishes : {T : Type 0} → Result T PlayFault → List (List ℕ) → PlayState → Option (List ℕ) → Option (List ℕ) → Type 0
 Finishes result names old was is = old.number ≡ old.world.step → Writes result was is (old.text ++ lines_text (last_lines (named names) old.world))
 
 -- the rest of what is asked can be told, wherever it broke off

@@ -34,9 +34,9 @@ pub(crate) struct Player<T: SubTable, R: Race> {
 }
 
 impl<T: SubTable, R: Race> Model for Player<T, R> {
-    ghost use Rattle.mesh_script.specs.Playing.{Standing};
+    ghost use Rattle.mesh_script.specs.Playing.{PlayState};
 
-    ghost Value = { Standing };
+    ghost Value = { PlayState };
 
     ghost view = { λ p. record { cluster = p.world.cluster; world = p.world.world; number = p.number; text = p.output } };
 }

@@ -35,7 +35,7 @@ use sub_table::SubTable;
 use subj::{ConnId, Failure, Job, Key, Server, Sid, SubId, Turn};
 
 /// The lines of a server of so many shards.
-#[tactic(auto, using(crate::proofs::Starts::lines_more))]
+#[tactic(auto, using(crate::proofs::Calls::Starts::lines_more))]
 fn new_lines<T: SubTable>(alloc: Global, shards: u64) -> Result<Vec<Line<T>>, AllocError>
     requires first { 1 ≤ shards }
     requires few { shards ≤ MAX_SHARDS }
@@ -274,18 +274,18 @@ impl<T: SubTable, R: Race> Node<T, R> {
         }
     }
 
-    /// Dials the server at this place: [`Sessions::dialed`]. Gives the number of the session.
+    /// Dials the server at this place: [`Sessions::dial`]. Gives the number of the session.
     pub fn dial(&mut self, peer: usize) -> Result<SessionId, Failure<NodeFault>>
         ensures { IsAnswered (refusal self.old (Own (Dial peer))) (λ session. DialStep self.old peer session self.new) (self.new ≡ self.old) result }
     {
-        of_sessions(self.sessions.dialed(peer))
+        of_sessions(self.sessions.dial(peer))
     }
 
-    /// Accepts a session: [`Sessions::accepted`]. Gives its number, and the `INFO` to send.
+    /// Accepts a session: [`Sessions::accept`]. Gives its number, and the `INFO` to send.
     pub fn accept(&mut self) -> Result<(SessionId, RouteInfo), Failure<NodeFault>>
         ensures { IsAnswered (refusal self.old (Own Accept)) (λ given. AcceptStep self.old given.0 given.1 self.new) (self.new ≡ self.old) result }
     {
-        of_sessions(self.sessions.accepted())
+        of_sessions(self.sessions.accept())
     }
 
     /// Ends a session; where it was kept, its peer is not up any more. Gives the place of that peer.

@@ -201,8 +201,8 @@ impl<'n, S: Stream, T: SubTable, N: NodeName> Server<'n, S, T, N> {
         self.make_room()?;
         let mut connection = match side {
             Side::Client => self.client(rt, stream)?,
-            Side::Accepted => self.accepted(rt, stream)?,
-            Side::Dialed(peer) => self.dialed(rt, stream, peer)?,
+            Side::Accepted => self.accepted_connection(rt, stream)?,
+            Side::Dialed(peer) => self.dialed_connection(rt, stream, peer)?,
         };
         let client = connection.client();
         connection.stands_again = true;
@@ -265,7 +265,11 @@ impl<'n, S: Stream, T: SubTable, N: NodeName> Server<'n, S, T, N> {
     }
 
     /// The connection of a server that has dialed.
-    fn accepted<R: Wait>(&mut self, rt: &R, stream: S) -> Result<Connection<S>, AddFault> {
+    fn accepted_connection<R: Wait>(
+        &mut self,
+        rt: &R,
+        stream: S,
+    ) -> Result<Connection<S>, AddFault> {
         let (session, info) = match accept(rt, self.node) {
             Ok(accepted) => accepted,
             Err(Failure::Refused(fault)) => return Err(AddFault::Route(fault)),
@@ -283,7 +287,7 @@ impl<'n, S: Stream, T: SubTable, N: NodeName> Server<'n, S, T, N> {
     }
 
     /// The connection to a server that this one has dialed.
-    fn dialed<R: Wait>(
+    fn dialed_connection<R: Wait>(
         &mut self,
         rt: &R,
         stream: S,

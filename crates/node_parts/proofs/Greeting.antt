@@ -16,7 +16,7 @@ use Rattle.route_values.specs.Records.{Info, Connect}
 use Rattle.route_session.specs.Calls as calls
 use Rattle.route_session.specs.Events as of_session
 use Rattle.route_session.specs.State.{session_at}
-use Rattle.node_law.proofs.HubEvents.{Greets, info_greets, connect_greets}
+use Rattle.node_law.proofs.Moves.HubEvents.{Greets, info_greets, connect_greets}
 
 -- ---- the peer of a name
 

@@ -11,7 +11,7 @@ use Rattle.hub_core.specs.Hubs.{Hub}
 use Rattle.hub_core.specs.Events as of_hub
 use Rattle.hub_core.specs.Steps.{received_answer}
 use Rattle.hub_core.specs.Receiving.{has_message, receive_refusal}
-use Rattle.hub_core.proofs.Receives.{from_peer}
+use Rattle.hub_core.proofs.Steps.Receives.{from_peer}
 use Rattle.route_session.specs.Calls as calls
 use Rattle.node_parts.specs.Sides.{ByHub, side_after, session_after_frame}
 use Rattle.node_parts.proofs.Sides.{side_of}

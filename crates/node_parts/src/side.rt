@@ -94,18 +94,18 @@ impl Side {
         self.hub.plan_receive(frame, finished)
     }
 
-    /// [`Sessions::dialed`].
+    /// [`Sessions::dial`].
     pub fn dial(&mut self, peer: usize) -> Result<SessionId, Failure<SessionFault>>
         ensures { IsAnswered (session_refusal self.old.server self.old.sessions (Dial peer)) (λ session. IsDone self.old (BySessions (Dial peer)) (OfSessions (Dialed session)) self.new) (self.new ≡ self.old) result }
     {
-        self.sessions.dialed(peer)
+        self.sessions.dial(peer)
     }
 
-    /// [`Sessions::accepted`].
+    /// [`Sessions::accept`].
     pub fn accept(&mut self) -> Result<(SessionId, RouteInfo), Failure<SessionFault>>
         ensures { IsAnswered (session_refusal self.old.server self.old.sessions Accept) (λ given. IsDone self.old (BySessions Accept) (OfSessions (Accepted given.0 given.1)) self.new) (self.new ≡ self.old) result }
     {
-        self.sessions.accepted()
+        self.sessions.accept()
     }
 
     /// [`Sessions::cut`]; the peer of a kept session is not up any more.

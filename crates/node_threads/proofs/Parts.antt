@@ -5,7 +5,7 @@ use Rattle.subj.specs.Servers.{Server}
 use Rattle.claim_race.specs.Race.{RaceState}
 use Rattle.hub_core.specs.Telling.{collect_refusal}
 use Rattle.hub_core.specs.State as hub
-use Rattle.hub_core.proofs.Rooms.{map_none}
+use Rattle.hub_core.proofs.Steps.Rooms.{map_none}
 use Rattle.node_law.specs.declared.faults.NodeFault.TheVariants.{NoShard, Hub, Session}
 use Rattle.node_law.specs.Events.{NodeEvent, Own, OfConn, AtShard, Publish, Collect, Dial, Accept, CutSession, TakeFrames, Receive, OnInfo, OnConnect}
 use Rattle.node_law.specs.State.{Node, Line}

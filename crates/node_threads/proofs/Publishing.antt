@@ -21,7 +21,7 @@ use Rattle.hub_core.specs.Chosen.{IsPlanOf}
 use Rattle.hub_core.specs.Calls.{put_out}
 use Rattle.hub_core.specs.Publishing.{Publication, busy_fault, names_of, publish_fault, publish_refusal, own_job, frames_of}
 use Rattle.hub_core.specs.declared.faults.HubFault.TheVariants.{Spent, TooManyQueues}
-use Rattle.hub_core.proofs.Rooms.{or_none, has_room}
+use Rattle.hub_core.proofs.Steps.Rooms.{or_none, has_room}
 use Rattle.route_values.specs.Frames.{Frame}
 use Rattle.node_parts.specs.Sides.{Side, Event, ByHub, Answer, OfHub, IsDone, job_in}
 use Rattle.node_threads.specs.AtHub.{AtHub, hub_at, HasDone, Issues, IsAtHub}

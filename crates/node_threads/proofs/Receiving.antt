@@ -19,8 +19,8 @@ use Rattle.hub_core.specs.declared.faults.HubFault.TheVariants as fault
 use Rattle.hub_core.specs.Publishing.{busy_fault}
 use Rattle.hub_core.specs.Calls.{job_of}
 use Rattle.hub_core.specs.Receiving.{has_message, body_fault, receive_refusal, received, routed_job}
-use Rattle.hub_core.proofs.Receives.{from_peer}
-use Rattle.hub_core.proofs.Rooms.{or_none}
+use Rattle.hub_core.proofs.Steps.Receives.{from_peer}
+use Rattle.hub_core.proofs.Steps.Rooms.{or_none}
 use Rattle.node_parts.specs.Sides.{Side, ByHub, OfHub, job_in}
 use Rattle.node_threads.specs.AtHub.{AtHub, IsAtHub}
 use Rattle.node_threads.proofs.HubCalls.{Quiet}

@@ -253,14 +253,14 @@ impl<N: NodeName> HubState<N> {
         }
     }
 
-    /// [`Sessions::dialed`](route_session::Sessions::dialed).
+    /// [`Sessions::dial`](route_session::Sessions::dial).
     pub fn dial(&mut self, peer: usize) -> Result<SessionId, Failure<SessionFault>>
         ensures { IsAnswered (session_refusal self.old.side.server self.old.side.sessions (Dial peer)) (λ session. Does self.old (BySessions (Dial peer)) (OfSessions (Dialed session)) self.new) (self.new ≡ self.old) result }
     {
         self.side.dial(peer)
     }
 
-    /// [`Sessions::accepted`](route_session::Sessions::accepted).
+    /// [`Sessions::accept`](route_session::Sessions::accept).
     pub fn accept(&mut self) -> Result<(SessionId, RouteInfo), Failure<SessionFault>>
         ensures { IsAnswered (session_refusal self.old.side.server self.old.side.sessions Accept) (λ given. Does self.old (BySessions Accept) (OfSessions (Accepted given.0 given.1)) self.new) (self.new ≡ self.old) result }
     {

@@ -1,6 +1,6 @@
 -- What an outbox's fields keep.
 use Rattle.std.specs.Prelude.{◌≡◌, ℕ, ◌+◌, ◌≤◌, Bool, false, List, [], length, take}
-use Rattle.outbox.specs.declared.boxes.TheConstants.{LAST_LINE_TEXT}
+use Rattle.outbox.specs.declared.outbox.TheConstants.{LAST_LINE_TEXT}
 use Rattle.outbox.specs.Views.{Written, size_of}
 
 pub record IsSound (entries : List Written) (capacity shown shown_bytes bytes : ℕ) (shut closing : Bool) (max_bytes : ℕ) : Type 0 where

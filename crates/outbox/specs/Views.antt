@@ -21,23 +21,23 @@ abbrev pub message_entry : PubId → SubId → Mode → List ℕ → List ℕ �
 message_entry id sub mode line payload = record { tag = Msg id sub mode; bytes = bytes_of line (Some payload) }
 
 -- the entries that wait, in order, and whether the last line was put (profile)
-pub record Shelf : Type 0 where
+pub record Backlog : Type 0 where
   pub entries : List Written
   pub shut : Bool
 
 -- what waits; what will wait once all that was staged is shown; the limits
 pub record Waiting : Type 0 where
-  pub shown : Shelf
-  pub next : Shelf
+  pub shown : Backlog
+  pub next : Backlog
   pub max_entries : ℕ
   pub max_bytes : ℕ
 
-abbrev pub empty_shelf : Shelf
-empty_shelf = record { entries = []; shut = false }
+abbrev pub empty_backlog : Backlog
+empty_backlog = record { entries = []; shut = false }
 
 abbrev pub empty_outbox : ℕ → ℕ → Waiting
 empty_outbox max_entries max_bytes =
-    record { shown = empty_shelf; next = empty_shelf; max_entries = max_entries; max_bytes = max_bytes }
+    record { shown = empty_backlog; next = empty_backlog; max_entries = max_entries; max_bytes = max_bytes }
 
 abbrev pub size_of : List Written → ℕ
 size_of entries = sum_by (λ entry. length entry.bytes) entries
@@ -47,20 +47,20 @@ abbrev pub bytes_of_all : List Written → List ℕ
 bytes_of_all entries = flat_map (λ entry. entry.bytes) entries
 
 -- an entry of this many bytes may be put: not behind the last line, and within both limits (profile)
-abbrev pub has_room : ℕ → ℕ → ℕ → Shelf → Bool
-has_room max_entries max_bytes len shelf =
-    not shelf.shut && (nat_lt (length shelf.entries) max_entries && nat_le (size_of shelf.entries + len) max_bytes)
+abbrev pub has_room : ℕ → ℕ → ℕ → Backlog → Bool
+has_room max_entries max_bytes len backlog =
+    not backlog.shut && (nat_lt (length backlog.entries) max_entries && nat_le (size_of backlog.entries + len) max_bytes)
 
-abbrev pub with_entry : Written → Shelf → Shelf
-with_entry entry shelf = record { entries = shelf.entries ++ entry ∷ []; shut = shelf.shut }
+abbrev pub with_entry : Written → Backlog → Backlog
+with_entry entry backlog = record { entries = backlog.entries ++ entry ∷ []; shut = backlog.shut }
 
 -- the last line goes beyond both limits (profile)
-abbrev pub with_last : List ℕ → Shelf → Shelf
-with_last line shelf = record { entries = shelf.entries ++ reply_entry line ∷ []; shut = true }
+abbrev pub with_last : List ℕ → Backlog → Backlog
+with_last line backlog = record { entries = backlog.entries ++ reply_entry line ∷ []; shut = true }
 
-abbrev pub without_first : ℕ → Shelf → Shelf
-without_first count shelf = record { entries = drop count shelf.entries; shut = shelf.shut }
+abbrev pub without_first : ℕ → Backlog → Backlog
+without_first count backlog = record { entries = drop count backlog.entries; shut = backlog.shut }
 
 -- nothing is staged
-abbrev pub on_both : (Shelf → Shelf) → Waiting → Waiting
+abbrev pub on_both : (Backlog → Backlog) → Waiting → Waiting
 on_both change box = record box { shown = change box.shown; next = change box.next }

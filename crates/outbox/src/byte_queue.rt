@@ -3,7 +3,8 @@
 ghost use Rattle.std.specs.Prelude.{◌≡◌, ◌+◌, ◌<◌, ◌≤◌, ◌^◌, ◌++◌, [], vec_len, vec_capacity, length, take, drop, Some, None, IfOk, OnOk, OnErr};
 ghost use Rattle.outbox.specs.Bytes.{bytes_of};
 
-use crate::entries::{Entry, LINE_END};
+use crate::entries::Entry;
+use line_fields::CR_LF;
 use std::alloc::{AllocError, Global};
 use std::marker::Model;
 use std::mem;
@@ -89,7 +90,7 @@ impl ByteQueue {
         ensures ok { OnOk result (self.new ≡ self.old ++ bytes_of line.now None) }
         ensures err { OnErr result (self.new ≡ self.old) }
     {
-        let len = line.len() + LINE_END.len();
+        let len = line.len() + CR_LF.len();
         self.bytes.reserve(len)?;
         append_ended(line, &mut self.bytes);
         Ok(len)
@@ -103,7 +104,7 @@ impl ByteQueue {
         ensures ok { OnOk result (self.new ≡ self.old ++ bytes_of line.now (Some payload.now)) }
         ensures err { OnErr result (self.new ≡ self.old) }
     {
-        let len = line.len() + payload.len() + 2 * LINE_END.len();
+        let len = line.len() + payload.len() + 2 * CR_LF.len();
         self.bytes.reserve(len)?;
         append_ended(line, &mut self.bytes);
         append_ended(payload, &mut self.bytes);

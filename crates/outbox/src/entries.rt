@@ -5,11 +5,10 @@ ghost use Rattle.outbox.specs.Bytes.{bytes_of};
 ghost use Rattle.outbox.specs.Views.{reply_entry, message_entry};
 
 use bytes::Bytes;
+use line_fields::CR_LF;
 use std::alloc::{AllocError, Global};
 use std::marker::Model;
 use subj::{PubId, QueueName, SubId};
-
-pub(crate) const LINE_END: &[u8] = b"\r\n";
 
 /// How a message came to its subscription.
 #[derive(Debug, Drop)]
@@ -166,8 +165,8 @@ impl Entry {
     {
         let behind = match &self.behind {
             Behind::Nothing => 0,
-            Behind::LineEnd => LINE_END.len(),
-            Behind::Payload(payload) => LINE_END.len() + payload.len() + LINE_END.len(),
+            Behind::LineEnd => CR_LF.len(),
+            Behind::Payload(payload) => CR_LF.len() + payload.len() + CR_LF.len(),
         };
         self.line.len() + behind
     }
@@ -181,11 +180,11 @@ impl Entry {
         out.extend_from_slice(&self.line)?;
         match &self.behind {
             Behind::Nothing => {}
-            Behind::LineEnd => out.extend_from_slice(LINE_END)?,
+            Behind::LineEnd => out.extend_from_slice(CR_LF)?,
             Behind::Payload(payload) => {
-                out.extend_from_slice(LINE_END)?;
+                out.extend_from_slice(CR_LF)?;
                 out.extend_from_slice(payload)?;
-                out.extend_from_slice(LINE_END)?;
+                out.extend_from_slice(CR_LF)?;
             }
         }
         Ok(())

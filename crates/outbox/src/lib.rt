@@ -1,14 +1,14 @@
 //! What waits to be written to a client: a list of entries within limits.
 //!
-//! In reading order: `entries` is what waits, `kept` how one entry is kept, `byte_queue` and `entry_queue` how all are, and `boxes` is
+//! In reading order: `entries` is what waits, `kept` how one entry is kept, `byte_queue` and `entry_queue` how all are, and `outbox` is
 //! the outbox.
 #![tactic(auto)]
 
-mod boxes;
 mod byte_queue;
 mod entries;
 mod entry_queue;
 mod kept;
+mod outbox;
 
-pub use boxes::{LAST_LINE_TEXT, Outbox};
 pub use entries::{Entry, Mode, Tag};
+pub use outbox::{LAST_LINE_TEXT, Outbox};

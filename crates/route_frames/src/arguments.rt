@@ -99,7 +99,7 @@ pub(crate) fn size_alone(text: &[u8]) -> Option<&[u8]>
 }
 
 /// All fields of a text but the last, and the last.
-#[tactic(auto, using(crate::proofs::Forms::last_at, crate::proofs::Forms::drop_more, crate::proofs::Forms::count_at, crate::proofs::Forms::few_fields))]
+#[tactic(auto, using(crate::proofs::Meaning::Forms::last_at, crate::proofs::Meaning::Forms::drop_more, crate::proofs::Meaning::Forms::count_at, crate::proofs::Meaning::Forms::few_fields))]
 fn split_last(text: &[u8]) -> Option<(Names<'_>, &[u8])>
     ensures { MatchOption result (last_split_off (fields_of text.now) ≡ None)
         (λ split. last_split_off (fields_of text.now) ≡ Some (names_view split.0, split.1.now)) }

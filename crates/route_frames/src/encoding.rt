@@ -19,24 +19,12 @@ use route_values::{
 };
 use serde_json::{Value, json};
 use std::alloc::{AllocError, Global};
-use subj::{Key, MAX_SNAPSHOT, Message, NodeId, QueueName, QueueNames, Subject};
+use subj::{Key, MAX_SNAPSHOT, Message, QueueName, QueueNames, Subject};
 
 const BLANK: &[u8] = b" ";
 
 /// How many bytes a line has room for at first; most lines are shorter.
 const LINE_ROOM: usize = 256;
-
-/// The name of a server as text.
-#[tactic(auto, using(crate::proofs::NameBytes::name_is_text))]
-fn name_text(name: &NodeId) -> &str
-    ensures { result.now ≡ name.now }
-{
-    match str::from_utf8(name.bytes()) {
-        Ok(text) => text,
-        // the bytes of a name are ASCII
-        Err(_) => unreachable!(),
-    }
-}
 
 fn info_value(alloc: Global, info: &RouteInfo) -> Result<Value, AllocError>
     ensures { IfOk result (λ value. view value ≡ info_json info.now) }
@@ -44,7 +32,7 @@ fn info_value(alloc: Global, info: &RouteInfo) -> Result<Value, AllocError>
     let server_name = info.server_name();
     json!(in alloc; {
         "inc": info.inc().get(),
-        "server_name": name_text(&server_name),
+        "server_name": server_name.text(),
     })
 }
 
@@ -56,8 +44,8 @@ fn connect_value(alloc: Global, connect: &RouteConnect) -> Result<Value, AllocEr
     json!(in alloc; {
         "inc": connect.inc().get(),
         "serial": connect.serial(),
-        "server_name": name_text(&server_name),
-        "to": name_text(&to),
+        "server_name": server_name.text(),
+        "to": to.text(),
         "to_inc": connect.to_inc().get(),
     })
 }

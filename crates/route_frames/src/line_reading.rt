@@ -216,7 +216,7 @@ fn are_rising(names: Names<'_>) -> bool
     true
 }
 
-#[tactic(auto, using(crate::proofs::QueueNames::names_read))]
+#[tactic(auto, using(crate::proofs::Spelt::QueueNames::names_read))]
 fn check_names(names: Names<'_>) -> Result<(), RouteFault>
     ensures { Checks (names_view names.entry) (queue_names_in (names_view names.entry)) result }
 {

@@ -39,7 +39,7 @@ impl<'a> Names<'a> {
     }
 
     /// How many they are.
-    #[tactic(auto, using(crate::proofs::Forms::few_names))]
+    #[tactic(auto, using(crate::proofs::Meaning::Forms::few_names))]
     pub(crate) fn len(self) -> usize
         ensures { result ≡ length (names_view self.entry) }
     {

@@ -58,7 +58,7 @@ fn message(text: &[u8]) -> Result<NumberedText<'_>, RouteFault>
 }
 
 /// What a line says, as it stands there.
-#[tactic(auto, using(crate::proofs::Behind::behind_first))]
+#[tactic(auto, using(crate::proofs::Cuts::Behind::behind_first))]
 fn read_text(line: &[u8]) -> Result<LineText<'_>, RouteFault>
     ensures { Judges line.now result }
 {

@@ -61,7 +61,7 @@ pub struct Kept {
 /// incarnation of the peer, then of the dialer with the smaller place, then of the greater serial.
 ///
 /// Seen as the server and its sessions. Each call is a step of these: it is refused by the first cause, or
-/// does what the step says. Only [`Sessions::dialed`] and [`Sessions::accepted`] take memory.
+/// does what the step says. Only [`Sessions::dial`] and [`Sessions::accept`] take memory.
 #[derive(Drop)]
 pub struct Sessions {
     server: Server,
@@ -110,7 +110,7 @@ impl Sessions {
         let _ = &self.numbers;
     }
 
-    /// Why an [`Sessions::accepted`] is refused.
+    /// Why a [`Sessions::accept`] is refused.
     pub fn accept_fault(&self) -> Option<SessionFault>
         ensures { result ≡ refusal self.now Accept }
     {
@@ -123,7 +123,7 @@ impl Sessions {
         None
     }
 
-    /// Why a [`Sessions::dialed`] is refused.
+    /// Why a [`Sessions::dial`] is refused.
     pub fn dial_fault(&self, place: usize) -> Option<SessionFault>
         ensures { result ≡ refusal self.now (Dial place) }
     {
@@ -137,7 +137,7 @@ impl Sessions {
     ///
     /// Refused: 70 where the place is of no other server of the cluster; 74 where [`MAX_SESSIONS`] stand;
     /// 75 where the numbers have come to [`MAX_COUNTER`]. Any `Err` leaves all as it was.
-    pub fn dialed(&mut self, place: usize) -> Result<SessionId, Failure<SessionFault>>
+    pub fn dial(&mut self, place: usize) -> Result<SessionId, Failure<SessionFault>>
         ensures { IsAnswered (refusal self.old (Dial place)) (λ session. IsStep self.old (Dial place) (Dialed session) self.new) (self.new ≡ self.old) result }
     {
         if let Some(fault) = self.dial_fault(place) {
@@ -160,7 +160,7 @@ impl Sessions {
     ///
     /// Refused: 74 where [`MAX_SESSIONS`] stand; 75 where the numbers have come to [`MAX_COUNTER`]. Any
     /// `Err` leaves all as it was.
-    pub fn accepted(&mut self) -> Result<(SessionId, RouteInfo), Failure<SessionFault>>
+    pub fn accept(&mut self) -> Result<(SessionId, RouteInfo), Failure<SessionFault>>
         ensures { IsAnswered (refusal self.old Accept) (λ given. IsStep self.old Accept (Accepted given.0 given.1) self.new) (self.new ≡ self.old) result }
     {
         if let Some(fault) = self.accept_fault() {

@@ -1,7 +1,7 @@
 -- Connections as a shard keeps them: what waits for each, and what will wait once all that was staged is shown.
 use Rattle.std.specs.Prelude.{◌≡◌, ℕ, ◌<◌, List, ◌∷◌, length, map, slice_index_or, nat_eq, false}
 use Rattle.std.specs.List.{AllPairs, list_any}
-use Rattle.outbox.specs.Views.{Waiting, Shelf}
+use Rattle.outbox.specs.Views.{Waiting, Backlog}
 use Rattle.shard_core.specs.declared.connections.Conn.{Conn}
 use Rattle.shard_core.specs.Shards.{Client}
 
@@ -16,14 +16,14 @@ on_both change c = record { shown = change c.shown; next = change c.next }
 abbrev pub IsSettled : Clients → Type 0
 IsSettled c = c.next ≡ c.shown
 
--- one of the two shelves of a connection
-abbrev pub seen : (Waiting → Shelf) → Conn → Client
-seen shelf conn = record { number = conn.number; outbox = shelf conn.outbox; max_entries = conn.outbox.max_entries; max_bytes = conn.outbox.max_bytes }
+-- one of the two backlogs of a connection
+abbrev pub seen : (Waiting → Backlog) → Conn → Client
+seen backlog conn = record { number = conn.number; outbox = backlog conn.outbox; max_entries = conn.outbox.max_entries; max_bytes = conn.outbox.max_bytes }
 
-abbrev pub shown_shelf : Waiting → Shelf
+abbrev pub shown_shelf : Waiting → Backlog
 shown_shelf box = box.shown
 
-abbrev pub next_shelf : Waiting → Shelf
+abbrev pub next_shelf : Waiting → Backlog
 next_shelf box = box.next
 
 abbrev pub number_of : Conn → ℕ

@@ -3,7 +3,7 @@ use Rattle.std.specs.Prelude.{◌≡◌, ℕ, ◌+◌, ◌/◌, Bool, true, not,
 use Rattle.std.specs.Option.{option_or}
 use Rattle.client_frames.specs.ErrTexts.{err_line}
 use Rattle.client_frames.specs.Frames.{reply_line}
-use Rattle.outbox.specs.Views.{empty_shelf, reply_entry, with_entry, with_last, without_first}
+use Rattle.outbox.specs.Views.{empty_backlog, reply_entry, with_entry, with_last, without_first}
 use Rattle.sub_table.specs.Subscriptions.{is_called, with_max, total_cost}
 use Rattle.sub_table.specs.declared.Subscription.{Subscription}
 use Rattle.subj.specs.Keys.{cost_of}
@@ -75,7 +75,7 @@ shard_refusal s Collect = None
 -- ---- the state after an event that is not refused
 
 abbrev pub new_client : ℕ → Client
-new_client number = record { number = number; outbox = empty_shelf; max_entries = OUTBOX_ENTRIES; max_bytes = OUTBOX_BYTES }
+new_client number = record { number = number; outbox = empty_backlog; max_entries = OUTBOX_ENTRIES; max_bytes = OUTBOX_BYTES }
 
 abbrev pub attached : State → State
 attached s = record s { next_conn = s.next_conn + s.shards; clients = s.clients ++ new_client s.next_conn ∷ [] }

@@ -1,7 +1,7 @@
 -- A shard as its callers see it, and its connections.
 use Rattle.std.specs.Prelude.{ℕ, Bool, false, not, nat_eq, List, [], ◌∷◌, filter, find, Option, Some, None, is_some, if◌then◌else◌}
 use Rattle.interest.specs.declared.changes.Delta.{Delta}
-use Rattle.outbox.specs.Views.{Written, Shelf, has_room}
+use Rattle.outbox.specs.Views.{Written, Backlog, has_room}
 use Rattle.sub_table.specs.declared.Subscription.{Subscription}
 use Rattle.subj.specs.declared.jobs.Job.{Job}
 use Rattle.std.specs.Prelude.{length}
@@ -9,7 +9,7 @@ use Rattle.std.specs.Prelude.{length}
 -- a connection: its number, what waits for it, and the limits of that
 pub record Client : Type 0 where
   pub number : ℕ
-  pub outbox : Shelf
+  pub outbox : Backlog
   pub max_entries : ℕ
   pub max_bytes : ℕ
 
@@ -54,10 +54,10 @@ abbrev pub is_known : ℕ → List Client → Bool
 is_known number clients = is_some (client_at number clients)
 
 -- the list with a change to what waits for the connection
-abbrev pub with_outbox : (Shelf → Shelf) → Client → Client
+abbrev pub with_outbox : (Backlog → Backlog) → Client → Client
 with_outbox change client = record client { outbox = change client.outbox }
 
-abbrev pub changed : (Shelf → Shelf) → ℕ → List Client → List Client
+abbrev pub changed : (Backlog → Backlog) → ℕ → List Client → List Client
 changed change number [] = []
 changed change number (client ∷ clients) = if has_number number client then with_outbox change client ∷ clients else client ∷ changed change number clients
 

@@ -30,7 +30,7 @@ fn place_of(conns: &[Conn], number: u64) -> Option<usize>
 }
 
 /// Shows what was staged at one place.
-#[tactic(auto, using(crate::proofs::Lookups::numbers_stay))]
+#[tactic(auto, using(crate::proofs::Clients::Lookups::numbers_stay))]
 fn commit_at(conns: &mut [Conn], place: usize)
     ensures numbers { map number_of conns.new ≡ map number_of conns.old }
     ensures next { map (seen next_shelf) conns.new ≡ map (seen next_shelf) conns.old }
@@ -55,7 +55,7 @@ fn commit_all(conns: &mut [Conn], places: &[usize])
 }
 
 /// Drops what was staged at one place.
-#[tactic(auto, using(crate::proofs::Lookups::numbers_stay))]
+#[tactic(auto, using(crate::proofs::Clients::Lookups::numbers_stay))]
 fn rollback_at(conns: &mut [Conn], place: usize)
     ensures numbers { map number_of conns.new ≡ map number_of conns.old }
     ensures shown { map (seen shown_shelf) conns.new ≡ map (seen shown_shelf) conns.old }

@@ -4,3 +4,4 @@ mod Matches
 mod Padded
 mod Fits
 mod Apart
+pub mod NameBytes

@@ -91,4 +91,16 @@ impl NodeId {
     {
         &self.padded[..self.len]
     }
+
+    /// The name as text.
+    #[tactic(auto, using(crate::proofs::NameBytes::name_is_text))]
+    pub fn text(&self) -> &str
+        ensures { result.now ≡ self.now }
+    {
+        match str::from_utf8(self.bytes()) {
+            Ok(text) => text,
+            // the bytes of a name are ASCII
+            Err(_) => unreachable!(),
+        }
+    }
 }

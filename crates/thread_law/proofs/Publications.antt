@@ -24,8 +24,8 @@ use Rattle.hub_core.specs.State.{Peer, known, changed_in, changed_at}
 use Rattle.hub_core.specs.Steps.{received_answer}
 use Rattle.hub_core.specs.Telling.{without_slow, count_of_changes, collected, collect_frames}
 use Rattle.hub_core.specs.declared.faults.HubFault.TheVariants as fault
-use Rattle.hub_core.proofs.Places.{named}
-use Rattle.hub_core.proofs.Receives.{FromPeer, from_peer}
+use Rattle.hub_core.proofs.Choices.Places.{named}
+use Rattle.hub_core.proofs.Steps.Receives.{FromPeer, from_peer}
 use Rattle.node_law.specs.Steps.{cut_if}
 use Rattle.route_session.specs.Events as of_sessions
 use Rattle.route_session.specs.State as sessions

@@ -1,4 +1,4 @@
-use Rattle.cluster_law.proofs.WithoutFrameRules.{addressee_is_needed}
+use Rattle.cluster_law.proofs.Scripts.WithoutFrameRules.{addressee_is_needed}
 use Rattle.cluster_law.proofs.addressee_is_needed.Goals as goal
 
 pub returns : goal.returns

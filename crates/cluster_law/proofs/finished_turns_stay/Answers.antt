@@ -1,4 +1,4 @@
-use Rattle.cluster_law.proofs.Growth.{turns_stay}
+use Rattle.cluster_law.proofs.Kept.Growth.{turns_stay}
 use Rattle.cluster_law.proofs.finished_turns_stay.Goals as goal
 
 pub returns : goal.returns

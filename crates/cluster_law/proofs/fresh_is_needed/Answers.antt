@@ -1,4 +1,4 @@
-use Rattle.cluster_law.proofs.WithoutClaimRules.{fresh_is_needed}
+use Rattle.cluster_law.proofs.Scripts.WithoutClaimRules.{fresh_is_needed}
 use Rattle.cluster_law.proofs.fresh_is_needed.Goals as goal
 
 pub returns : goal.returns

@@ -1,4 +1,4 @@
-use Rattle.cluster_law.proofs.Whole.{reached, headline_of}
+use Rattle.cluster_law.proofs.Kept.Whole.{reached, headline_of}
 use Rattle.cluster_law.proofs.headline.Goals as goal
 
 pub returns : goal.returns

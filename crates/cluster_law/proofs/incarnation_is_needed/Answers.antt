@@ -1,4 +1,4 @@
-use Rattle.cluster_law.proofs.WithoutFrameRules.{incarnation_is_needed}
+use Rattle.cluster_law.proofs.Scripts.WithoutFrameRules.{incarnation_is_needed}
 use Rattle.cluster_law.proofs.incarnation_is_needed.Goals as goal
 
 pub returns : goal.returns

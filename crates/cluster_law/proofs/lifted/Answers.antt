@@ -1,6 +1,6 @@
 use Rattle.std.proofs.Common.{[], refl}
 use Rattle.cluster_law.specs.Cluster.{begin}
-use Rattle.cluster_law.proofs.Growth.{path_reached}
+use Rattle.cluster_law.proofs.Kept.Growth.{path_reached}
 use Rattle.cluster_law.proofs.lifted.Goals as goal
 
 pub returns : goal.returns

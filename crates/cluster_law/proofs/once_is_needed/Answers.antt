@@ -1,4 +1,4 @@
-use Rattle.cluster_law.proofs.WithoutClaimRules.{once_is_needed}
+use Rattle.cluster_law.proofs.Scripts.WithoutClaimRules.{once_is_needed}
 use Rattle.cluster_law.proofs.once_is_needed.Goals as goal
 
 pub returns : goal.returns

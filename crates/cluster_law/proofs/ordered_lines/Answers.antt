@@ -1,4 +1,4 @@
-use Rattle.cluster_law.proofs.Whole.{reached, lines_of}
+use Rattle.cluster_law.proofs.Kept.Whole.{reached, lines_of}
 use Rattle.cluster_law.proofs.ordered_lines.Goals as goal
 
 pub returns : goal.returns

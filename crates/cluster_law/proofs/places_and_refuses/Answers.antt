@@ -1,4 +1,4 @@
-use Rattle.cluster_law.proofs.Example.{witness}
+use Rattle.cluster_law.proofs.Scripts.Example.{witness}
 use Rattle.cluster_law.proofs.places_and_refuses.Goals as goal
 
 pub returns : goal.returns

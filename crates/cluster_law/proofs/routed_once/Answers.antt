@@ -1,4 +1,4 @@
-use Rattle.cluster_law.proofs.Whole.{reached, routing_of}
+use Rattle.cluster_law.proofs.Kept.Whole.{reached, routing_of}
 use Rattle.cluster_law.proofs.routed_once.Goals as goal
 
 pub returns : goal.returns

@@ -1,4 +1,4 @@
-use Rattle.cluster_law.proofs.WithoutFrameRules.{sent_is_needed}
+use Rattle.cluster_law.proofs.Scripts.WithoutFrameRules.{sent_is_needed}
 use Rattle.cluster_law.proofs.sent_is_needed.Goals as goal
 
 pub returns : goal.returns

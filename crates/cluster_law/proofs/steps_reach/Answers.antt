@@ -1,4 +1,4 @@
-use Rattle.cluster_law.proofs.Growth.{one_more_reached}
+use Rattle.cluster_law.proofs.Kept.Growth.{one_more_reached}
 use Rattle.cluster_law.proofs.steps_reach.Goals as goal
 
 pub returns : goal.returns

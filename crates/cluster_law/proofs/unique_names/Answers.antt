@@ -1,4 +1,4 @@
-use Rattle.cluster_law.proofs.Whole.{reached, unique_of}
+use Rattle.cluster_law.proofs.Kept.Whole.{reached, unique_of}
 use Rattle.cluster_law.proofs.unique_names.Goals as goal
 
 pub returns : goal.returns

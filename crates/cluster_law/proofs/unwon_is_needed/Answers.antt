@@ -1,4 +1,4 @@
-use Rattle.cluster_law.proofs.WithoutClaimRules.{unwon_is_needed}
+use Rattle.cluster_law.proofs.Scripts.WithoutClaimRules.{unwon_is_needed}
 use Rattle.cluster_law.proofs.unwon_is_needed.Goals as goal
 
 pub returns : goal.returns

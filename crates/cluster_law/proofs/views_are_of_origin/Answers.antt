@@ -1,4 +1,4 @@
-use Rattle.cluster_law.proofs.Whole.{reached, views_of}
+use Rattle.cluster_law.proofs.Kept.Whole.{reached, views_of}
 use Rattle.cluster_law.proofs.views_are_of_origin.Goals as goal
 
 pub returns : goal.returns

@@ -33,7 +33,7 @@ fn answer_of_claim(claimed: Claimed) -> Answer
 
 impl<T: SubTable, R: Race> Node<T, R> {
     /// Opens a subscription, with copies of the key and of the id.
-    #[tactic(auto, using(crate::proofs::Answered::conn_answers))]
+    #[tactic(auto, using(crate::proofs::Outcomes::Answered::conn_answers))]
     pub(super) fn answer_of_subscribe(
         &mut self,
         conn: ConnId,
@@ -54,7 +54,7 @@ impl<T: SubTable, R: Race> Node<T, R> {
     }
 
     /// The step of an event of a connection.
-    #[tactic(auto, using(crate::proofs::Answered::conn_answers))]
+    #[tactic(auto, using(crate::proofs::Outcomes::Answered::conn_answers))]
     pub(super) fn answer_of_conn(
         &mut self,
         conn: ConnId,
@@ -88,7 +88,7 @@ impl<T: SubTable, R: Race> Node<T, R> {
     }
 
     /// The step of what a shard is asked to do.
-    #[tactic(auto, using(crate::proofs::Answered::work_answers, crate::proofs::Answered::claim_answers, crate::proofs::Answered::begin_answers, crate::proofs::Answered::drop_answers))]
+    #[tactic(auto, using(crate::proofs::Outcomes::Answered::work_answers, crate::proofs::Outcomes::Answered::claim_answers, crate::proofs::Outcomes::Answered::begin_answers, crate::proofs::Outcomes::Answered::drop_answers))]
     pub(super) fn answer_of_shard(
         &mut self,
         shard: u64,
@@ -124,7 +124,7 @@ impl<T: SubTable, R: Race> Node<T, R> {
     }
 
     /// The step of an event of its own.
-    #[tactic(auto, using(crate::proofs::Answered::publish_answers, crate::proofs::Answered::collect_answers, crate::proofs::Answered::dial_answers, crate::proofs::Answered::accept_answers, crate::proofs::Answered::cut_answers, crate::proofs::Answered::frames_answers))]
+    #[tactic(auto, using(crate::proofs::Outcomes::Answered::publish_answers, crate::proofs::Outcomes::Answered::collect_answers, crate::proofs::Outcomes::Answered::dial_answers, crate::proofs::Outcomes::Answered::accept_answers, crate::proofs::Outcomes::Answered::cut_answers, crate::proofs::Outcomes::Answered::frames_answers))]
     pub(super) fn own_answer(&mut self, event: &OwnEvent) -> Result<Answer, Failure<NodeFault>>
         ensures { IsAnswered (refusal self.old (Own (own_event_of event.now))) (λ answer. Answers self.old (Own (own_event_of event.now)) (answer_of answer) self.new) (self.new ≡ self.old) result }
     {
@@ -160,7 +160,7 @@ impl<T: SubTable, R: Race> Node<T, R> {
     }
 
     /// The step of an `INFO` on a session.
-    #[tactic(auto, using(crate::proofs::Answered::info_answers))]
+    #[tactic(auto, using(crate::proofs::Outcomes::Answered::info_answers))]
     fn answer_of_info(
         &mut self,
         session: SessionId,
@@ -175,7 +175,7 @@ impl<T: SubTable, R: Race> Node<T, R> {
     }
 
     /// The step of a `CONNECT` on a session.
-    #[tactic(auto, using(crate::proofs::Answered::connect_answers))]
+    #[tactic(auto, using(crate::proofs::Outcomes::Answered::connect_answers))]
     fn answer_of_connect(
         &mut self,
         session: SessionId,
@@ -190,7 +190,7 @@ impl<T: SubTable, R: Race> Node<T, R> {
     }
 
     /// The step of an event.
-    #[tactic(auto, using(crate::proofs::Answered::receive_answers, crate::proofs::Answered::info_answers, crate::proofs::Answered::connect_answers))]
+    #[tactic(auto, using(crate::proofs::Outcomes::Answered::receive_answers, crate::proofs::Outcomes::Answered::info_answers, crate::proofs::Outcomes::Answered::connect_answers))]
     pub(super) fn answer(&mut self, event: &NodeEvent) -> Result<Answer, Failure<NodeFault>>
         ensures { IsAnswered (refusal self.old (event_of event.now)) (λ answer. Answers self.old (event_of event.now) (answer_of answer) self.new) (self.new ≡ self.old) result }
     {

@@ -51,7 +51,7 @@ impl<T: SubTable, R: Race> Node<T, R> {
     }
 
     /// Takes a frame of a peer.
-    #[tactic(auto, using(crate::proofs::Answered::receive_answers, crate::proofs::Sending::receive_does))]
+    #[tactic(auto, using(crate::proofs::Outcomes::Answered::receive_answers, crate::proofs::Outcomes::Sending::receive_does))]
     fn did_receive(&mut self, frame: &Numbered) -> Result<Did, Failure<NodeFault>>
         ensures { IsAnswered (refusal self.old (Receive frame.now)) (λ did. Does self.old (Receive frame.now) (did_of did) self.new) (self.new ≡ self.old) result }
     {

@@ -99,7 +99,7 @@ impl<T: SubTable, R: Race> Node<T, R> {
     }
 
     /// Accepts a session, with the `INFO` to send.
-    #[tactic(auto, using(crate::proofs::Sending::accept_does))]
+    #[tactic(auto, using(crate::proofs::Outcomes::Sending::accept_does))]
     fn did_accept(&mut self) -> Result<Did, Failure<NodeFault>>
         ensures { IsAnswered (refusal self.old (Own Accept)) (λ did. Does self.old (Own Accept) (did_of did) self.new) (self.new ≡ self.old) result }
     {
@@ -113,7 +113,7 @@ impl<T: SubTable, R: Race> Node<T, R> {
     }
 
     /// The step of an event of its own.
-    #[tactic(auto, using(crate::proofs::Sending::publish_does, crate::proofs::Sending::collect_does, crate::proofs::Sending::dial_does, crate::proofs::Sending::cut_does, crate::proofs::Sending::frames_does))]
+    #[tactic(auto, using(crate::proofs::Outcomes::Sending::publish_does, crate::proofs::Outcomes::Sending::collect_does, crate::proofs::Outcomes::Sending::dial_does, crate::proofs::Outcomes::Sending::cut_does, crate::proofs::Outcomes::Sending::frames_does))]
     pub(super) fn own_did(&mut self, event: &OwnEvent) -> Result<Did, Failure<NodeFault>>
         ensures { IsAnswered (refusal self.old (Own (own_event_of event.now))) (λ did. Does self.old (Own (own_event_of event.now)) (did_of did) self.new) (self.new ≡ self.old) result }
     {
@@ -139,7 +139,7 @@ impl<T: SubTable, R: Race> Node<T, R> {
     }
 
     /// The snapshot for an incarnation of the peer of this name. It changes nothing.
-    #[tactic(auto, using(crate::proofs::Sending::peer_there))]
+    #[tactic(auto, using(crate::proofs::Outcomes::Sending::peer_there))]
     fn snapshot_for(&self, name: NodeId, inc: Incarnation) -> Result<Option<Numbered>, AllocError>
         ensures { IfOk result (λ snapshot. snapshot ≡ option_map (λ q. snapshot_to self.now.server self.now.node.hub q inc) (peer_by_name self.now.server name)) }
     {
@@ -150,7 +150,7 @@ impl<T: SubTable, R: Race> Node<T, R> {
     }
 
     /// Completes a dialed session, with the `CONNECT` to send and the snapshot that waits.
-    #[tactic(auto, using(crate::proofs::Sending::info_does))]
+    #[tactic(auto, using(crate::proofs::Outcomes::Sending::info_does))]
     pub(super) fn did_info(
         &mut self,
         session: SessionId,
@@ -172,7 +172,7 @@ impl<T: SubTable, R: Race> Node<T, R> {
     }
 
     /// Completes an accepted session, with the snapshot that waits.
-    #[tactic(auto, using(crate::proofs::Sending::connect_does))]
+    #[tactic(auto, using(crate::proofs::Outcomes::Sending::connect_does))]
     pub(super) fn did_connect(
         &mut self,
         session: SessionId,
@@ -194,7 +194,7 @@ impl<T: SubTable, R: Race> Node<T, R> {
     }
 
     /// The step of an event.
-    #[tactic(auto, using(crate::proofs::Sending::receive_does))]
+    #[tactic(auto, using(crate::proofs::Outcomes::Sending::receive_does))]
     fn did(&mut self, event: &NodeEvent) -> Result<Did, Failure<NodeFault>>
         ensures { IsAnswered (refusal self.old (event_of event.now)) (λ did. Does self.old (event_of event.now) (did_of did) self.new) (self.new ≡ self.old) result }
     {

@@ -84,7 +84,7 @@ pub(super) fn route_frames(
 
 impl<T: SubTable, R: Race> Node<T, R> {
     /// Closes a subscription, or sets its maximum.
-    #[tactic(auto, using(crate::proofs::Outcomes::unsubscribe_does))]
+    #[tactic(auto, using(crate::proofs::Outcomes::Told::unsubscribe_does))]
     fn did_unsubscribe(
         &mut self,
         conn: ConnId,
@@ -106,7 +106,7 @@ impl<T: SubTable, R: Race> Node<T, R> {
     }
 
     /// Puts an answer, or shuts the connection for want of room.
-    #[tactic(auto, using(crate::proofs::Outcomes::reply_shut, crate::proofs::Outcomes::reply_put))]
+    #[tactic(auto, using(crate::proofs::Outcomes::Told::reply_shut, crate::proofs::Outcomes::Told::reply_put))]
     fn did_reply(&mut self, conn: ConnId, frame: &ReplyFrame) -> Result<Did, Failure<NodeFault>>
         requires { refusal self.old (Own (OfConn conn (Reply frame.now))) ≡ None }
         ensures { IsAnswered (refusal self.old (Own (OfConn conn (Reply frame.now)))) (λ did. Does self.old (Own (OfConn conn (Reply frame.now))) (did_of did) self.new) (self.new ≡ self.old) result }
@@ -125,7 +125,7 @@ impl<T: SubTable, R: Race> Node<T, R> {
     }
 
     /// Shuts a connection.
-    #[tactic(auto, using(crate::proofs::Outcomes::shut_does))]
+    #[tactic(auto, using(crate::proofs::Outcomes::Told::shut_does))]
     fn did_shut(&mut self, conn: ConnId, text: ErrText) -> Result<Did, Failure<NodeFault>>
         requires { refusal self.old (Own (OfConn conn (Shut text))) ≡ None }
         ensures { IsAnswered (refusal self.old (Own (OfConn conn (Shut text)))) (λ did. Does self.old (Own (OfConn conn (Shut text))) (did_of did) self.new) (self.new ≡ self.old) result }
@@ -138,7 +138,7 @@ impl<T: SubTable, R: Race> Node<T, R> {
     }
 
     /// A connection goes.
-    #[tactic(auto, using(crate::proofs::Outcomes::detach_does))]
+    #[tactic(auto, using(crate::proofs::Outcomes::Told::detach_does))]
     fn did_detach(&mut self, conn: ConnId) -> Result<Did, Failure<NodeFault>>
         ensures { IsAnswered (refusal self.old (Own (OfConn conn Detach))) (λ did. Does self.old (Own (OfConn conn Detach)) (did_of did) self.new) (self.new ≡ self.old) result }
     {
@@ -149,7 +149,7 @@ impl<T: SubTable, R: Race> Node<T, R> {
     }
 
     /// The step of an event of a connection.
-    #[tactic(auto, using(crate::proofs::Outcomes::subscribe_does, crate::proofs::Outcomes::take_does, crate::proofs::Answered::conn_answers))]
+    #[tactic(auto, using(crate::proofs::Outcomes::Told::subscribe_does, crate::proofs::Outcomes::Told::take_does, crate::proofs::Outcomes::Answered::conn_answers))]
     pub(super) fn did_of_conn(
         &mut self,
         conn: ConnId,
@@ -181,7 +181,7 @@ impl<T: SubTable, R: Race> Node<T, R> {
 
 impl<T: SubTable, R: Race> Node<T, R> {
     /// Begins the first job that waits.
-    #[tactic(auto, using(crate::proofs::Outcomes::begin_does))]
+    #[tactic(auto, using(crate::proofs::Outcomes::Told::begin_does))]
     fn did_begin(&mut self, shard: u64) -> Result<Did, Failure<NodeFault>>
         ensures { IsAnswered (refusal self.old (Own (AtShard shard Begin))) (λ did. Does self.old (Own (AtShard shard Begin)) (did_of did) self.new) (self.new ≡ self.old) result }
     {
@@ -195,7 +195,7 @@ impl<T: SubTable, R: Race> Node<T, R> {
     }
 
     /// Claims a queue name of the job in hand.
-    #[tactic(auto, using(crate::proofs::Outcomes::claim_does, crate::proofs::Outcomes::claim_won_does))]
+    #[tactic(auto, using(crate::proofs::Outcomes::Told::claim_does, crate::proofs::Outcomes::Told::claim_won_does))]
     fn did_claim(&mut self, shard: u64, index: u64) -> Result<Did, Failure<NodeFault>>
         requires { refusal self.old (Own (AtShard shard (Claim index))) ≡ None }
         ensures { IsAnswered (refusal self.old (Own (AtShard shard (Claim index)))) (λ did. Does self.old (Own (AtShard shard (Claim index))) (did_of did) self.new) (self.new ≡ self.old) result }
@@ -216,7 +216,7 @@ impl<T: SubTable, R: Race> Node<T, R> {
     }
 
     /// The step of what a shard is asked to do.
-    #[tactic(auto, using(crate::proofs::Outcomes::attach_does, crate::proofs::Outcomes::end_does, crate::proofs::Outcomes::drop_does))]
+    #[tactic(auto, using(crate::proofs::Outcomes::Told::attach_does, crate::proofs::Outcomes::Told::end_does, crate::proofs::Outcomes::Told::drop_does))]
     pub(super) fn did_of_shard(
         &mut self,
         shard: u64,

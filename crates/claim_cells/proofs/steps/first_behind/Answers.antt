@@ -3,7 +3,7 @@ use Rattle.subj.specs.Numbers.{finished_turn}
 use Rattle.subj.specs.declared.limits.TheConstants.{WINDOW}
 use Rattle.subj.specs.declared.turns.Busy.{Busy}
 use Rattle.claim_race.specs.Race.{is_behind}
-use Rattle.claim_cells.proofs.Behind.{NearSome, is_far, is_near, near_more, none_of_some, first_of_some}
+use Rattle.claim_cells.proofs.SeatSteps.Behind.{NearSome, is_far, is_near, near_more, none_of_some, first_of_some}
 use Rattle.claim_cells.proofs.steps.first_behind.Goals as goal
 
 pub loop-before-init : goal.loop-before-init

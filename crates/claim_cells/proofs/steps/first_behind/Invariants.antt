@@ -1,4 +1,4 @@
-use Rattle.claim_cells.proofs.Behind.{NearSome}
+use Rattle.claim_cells.proofs.SeatSteps.Behind.{NearSome}
 use Rattle.claim_cells.proofs.steps.first_behind.Given as goal
 
 -- no shard so far is too far behind

@@ -3,7 +3,7 @@ use Rattle.std.specs.Prelude.{slice_get}
 use Rattle.std.specs.List.{flat_map}
 use Rattle.std.proofs.lemmas.Option.{slice_get_read}
 use Rattle.cluster_world.specs.InCode.{items_of}
-use Rattle.cluster_world.proofs.Finds.{found_here, found_later}
+use Rattle.cluster_world.proofs.Clusters.Finds.{found_here, found_later}
 use Rattle.cluster_world.proofs.frames.frame_at.Goals as goal
 
 pub returns-then-left-len : goal.returns-then-left-len

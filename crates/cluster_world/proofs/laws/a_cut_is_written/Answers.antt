@@ -1,4 +1,4 @@
-use Rattle.cluster_world.proofs.Printed.{writes_a_cut}
+use Rattle.cluster_world.proofs.Examples.Printed.{writes_a_cut}
 use Rattle.cluster_world.proofs.laws.a_cut_is_written.Goals as goal
 
 pub returns : goal.returns

@@ -1,4 +1,4 @@
-use Rattle.cluster_world.proofs.Scripts.{a_full_window}
+use Rattle.cluster_world.proofs.Examples.Scripts.{a_full_window}
 use Rattle.cluster_world.proofs.laws.a_full_window.Goals as goal
 
 pub returns : goal.returns

@@ -1,4 +1,4 @@
-use Rattle.cluster_world.proofs.Scripts.{a_lower_incarnation}
+use Rattle.cluster_world.proofs.Examples.Scripts.{a_lower_incarnation}
 use Rattle.cluster_world.proofs.laws.a_lower_incarnation.Goals as goal
 
 pub returns : goal.returns

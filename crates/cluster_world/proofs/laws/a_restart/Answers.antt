@@ -1,4 +1,4 @@
-use Rattle.cluster_world.proofs.Scripts.{a_restart}
+use Rattle.cluster_world.proofs.Examples.Scripts.{a_restart}
 use Rattle.cluster_world.proofs.laws.a_restart.Goals as goal
 
 pub returns : goal.returns

@@ -1,4 +1,4 @@
-use Rattle.cluster_world.proofs.Scripts.{a_snapshot}
+use Rattle.cluster_world.proofs.Examples.Scripts.{a_snapshot}
 use Rattle.cluster_world.proofs.laws.a_snapshot.Goals as goal
 
 pub returns : goal.returns

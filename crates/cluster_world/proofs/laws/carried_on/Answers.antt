@@ -1,7 +1,7 @@
 use Rattle.std.proofs.Common.{[], ◌∷◌, ◌++◌}
 use Rattle.std.proofs.Math.Logic.{∥∥₁_map}
 use Rattle.cluster_world.specs.State.{new_world}
-use Rattle.cluster_world.proofs.Runs.{one_more}
+use Rattle.cluster_world.proofs.Runs.Programs.{one_more}
 use Rattle.cluster_world.proofs.laws.carried_on.Goals as goal
 
 pub returns : goal.returns

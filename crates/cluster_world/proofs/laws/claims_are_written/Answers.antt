@@ -1,4 +1,4 @@
-use Rattle.cluster_world.proofs.Printed.{writes_claims}
+use Rattle.cluster_world.proofs.Examples.Printed.{writes_claims}
 use Rattle.cluster_world.proofs.laws.claims_are_written.Goals as goal
 
 pub returns : goal.returns

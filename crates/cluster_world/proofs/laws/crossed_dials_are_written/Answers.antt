@@ -1,4 +1,4 @@
-use Rattle.cluster_world.proofs.Printed.{writes_crossed_dials}
+use Rattle.cluster_world.proofs.Examples.Printed.{writes_crossed_dials}
 use Rattle.cluster_world.proofs.laws.crossed_dials_are_written.Goals as goal
 
 pub returns : goal.returns

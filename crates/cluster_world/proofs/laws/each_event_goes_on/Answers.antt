@@ -1,5 +1,5 @@
-use Rattle.cluster_world.proofs.Runs.{reached_step}
-use Rattle.cluster_world.proofs.Whole.{laws_of}
+use Rattle.cluster_world.proofs.Runs.Programs.{reached_step}
+use Rattle.cluster_world.proofs.Seen.Whole.{laws_of}
 use Rattle.cluster_world.proofs.laws.each_event_goes_on.Goals as goal
 
 pub returns : goal.returns

@@ -1,4 +1,4 @@
-use Rattle.cluster_world.proofs.Plays.{has_step}
+use Rattle.cluster_world.proofs.Runs.Plays.{has_step}
 use Rattle.cluster_world.proofs.laws.each_event_has_a_step.Goals as goal
 
 pub returns : goal.returns

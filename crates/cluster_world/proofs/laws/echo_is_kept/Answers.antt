@@ -1,4 +1,4 @@
-use Rattle.cluster_world.proofs.Echo.{echoes_are_kept}
+use Rattle.cluster_world.proofs.Subscriptions.Echo.{echoes_are_kept}
 use Rattle.cluster_world.proofs.laws.echo_is_kept.Goals as goal
 
 pub returns : goal.returns

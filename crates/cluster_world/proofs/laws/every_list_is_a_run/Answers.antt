@@ -1,5 +1,5 @@
-use Rattle.cluster_world.proofs.Runs.{played_run}
-use Rattle.cluster_world.proofs.Whole.{laws_of}
+use Rattle.cluster_world.proofs.Runs.Programs.{played_run}
+use Rattle.cluster_world.proofs.Seen.Whole.{laws_of}
 use Rattle.cluster_world.proofs.laws.every_list_is_a_run.Goals as goal
 
 pub returns : goal.returns

@@ -1,5 +1,5 @@
-use Rattle.cluster_world.proofs.Rests.{finished_stays}
-use Rattle.cluster_world.proofs.Whole.{laws_of}
+use Rattle.cluster_world.proofs.Runs.Rests.{finished_stays}
+use Rattle.cluster_world.proofs.Seen.Whole.{laws_of}
 use Rattle.cluster_world.proofs.laws.finished_turns_stay.Goals as goal
 
 pub returns : goal.returns

@@ -1,8 +1,8 @@
 use Rattle.cluster_world.specs.Made.{passed}
 use Rattle.cluster_world.specs.State.{new_world}
-use Rattle.cluster_world.proofs.Seen.{law_for}
-use Rattle.cluster_world.proofs.Plays.{puts_placed}
-use Rattle.cluster_world.proofs.Whole.{laws_of, seen_over, is_reached, headline_of}
+use Rattle.cluster_world.proofs.Seen.Machine.{law_for}
+use Rattle.cluster_world.proofs.Runs.Plays.{puts_placed}
+use Rattle.cluster_world.proofs.Seen.Whole.{laws_of, seen_over, is_reached, headline_of}
 use Rattle.cluster_world.proofs.laws.headline.Goals as goal
 
 pub returns-clause-once : goal.returns-clause-once

@@ -1,9 +1,9 @@
 use Rattle.cluster_world.specs.Made.{passed}
 use Rattle.cluster_world.specs.State.{new_world}
-use Rattle.cluster_world.proofs.MadeOf.{all_made}
-use Rattle.cluster_world.proofs.Rests.{rests}
-use Rattle.cluster_world.proofs.Seen.{law_for}
-use Rattle.cluster_world.proofs.Whole.{laws_of, seen_over, is_reached}
+use Rattle.cluster_world.proofs.Runs.MadeOf.{all_made}
+use Rattle.cluster_world.proofs.Runs.Rests.{rests}
+use Rattle.cluster_world.proofs.Seen.Machine.{law_for}
+use Rattle.cluster_world.proofs.Seen.Whole.{laws_of, seen_over, is_reached}
 use Rattle.cluster_world.proofs.laws.it_rests_on_this.Goals as goal
 
 pub returns : goal.returns

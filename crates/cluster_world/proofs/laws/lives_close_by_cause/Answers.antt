@@ -1,4 +1,4 @@
-use Rattle.cluster_world.proofs.Lives.{lives_close_by_cause}
+use Rattle.cluster_world.proofs.Subscriptions.Lives.{lives_close_by_cause}
 use Rattle.cluster_world.proofs.laws.lives_close_by_cause.Goals as goal
 
 pub returns : goal.returns

@@ -1,4 +1,4 @@
-use Rattle.cluster_world.proofs.Lives.{lives_are_open}
+use Rattle.cluster_world.proofs.Subscriptions.Lives.{lives_are_open}
 use Rattle.cluster_world.proofs.laws.open_lives_are_subscriptions.Goals as goal
 
 pub returns : goal.returns

@@ -1,4 +1,4 @@
-use Rattle.cluster_world.proofs.Counted.{publications_are_counted}
+use Rattle.cluster_world.proofs.Runs.Counted.{publications_are_counted}
 use Rattle.cluster_world.proofs.laws.publications_are_counted.Goals as goal
 
 pub returns : goal.returns

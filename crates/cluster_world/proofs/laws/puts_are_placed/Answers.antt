@@ -1,4 +1,4 @@
-use Rattle.cluster_world.proofs.Plays.{puts_placed}
+use Rattle.cluster_world.proofs.Runs.Plays.{puts_placed}
 use Rattle.cluster_world.proofs.laws.puts_are_placed.Goals as goal
 
 pub returns : goal.returns

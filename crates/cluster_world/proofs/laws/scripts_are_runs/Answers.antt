@@ -1,4 +1,4 @@
-use Rattle.cluster_world.proofs.Printed.{all_runs}
+use Rattle.cluster_world.proofs.Examples.Printed.{all_runs}
 use Rattle.cluster_world.proofs.laws.scripts_are_runs.Goals as goal
 
 pub returns : goal.returns

@@ -1,4 +1,4 @@
-use Rattle.cluster_world.proofs.Whole.{laws_of, seen_over, sound_of}
+use Rattle.cluster_world.proofs.Seen.Whole.{laws_of, seen_over, sound_of}
 use Rattle.cluster_world.proofs.laws.servers_are_sound.Goals as goal
 
 pub returns : goal.returns

@@ -1,4 +1,4 @@
-use Rattle.cluster_world.proofs.OwnRuns.{each_keeps}
+use Rattle.cluster_world.proofs.Runs.OwnRuns.{each_keeps}
 use Rattle.cluster_world.proofs.laws.servers_keep_their_laws.Goals as goal
 
 pub returns : goal.returns

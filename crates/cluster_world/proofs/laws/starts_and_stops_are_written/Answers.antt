@@ -1,4 +1,4 @@
-use Rattle.cluster_world.proofs.Printed.{writes_starts_and_stops}
+use Rattle.cluster_world.proofs.Examples.Printed.{writes_starts_and_stops}
 use Rattle.cluster_world.proofs.laws.starts_and_stops_are_written.Goals as goal
 
 pub returns : goal.returns

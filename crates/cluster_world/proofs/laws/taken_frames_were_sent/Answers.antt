@@ -1,4 +1,4 @@
-use Rattle.cluster_world.proofs.Sent.{are_sent}
+use Rattle.cluster_world.proofs.Runs.Sent.{are_sent}
 use Rattle.cluster_world.proofs.laws.taken_frames_were_sent.Goals as goal
 
 pub returns : goal.returns

@@ -1,4 +1,4 @@
-use Rattle.cluster_world.proofs.Scripts.{two_shards}
+use Rattle.cluster_world.proofs.Examples.Scripts.{two_shards}
 use Rattle.cluster_world.proofs.laws.two_shards.Goals as goal
 
 pub returns : goal.returns

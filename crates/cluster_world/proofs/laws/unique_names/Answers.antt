@@ -1,7 +1,7 @@
 use Rattle.cluster_world.specs.Made.{passed}
 use Rattle.cluster_world.specs.State.{new_world}
-use Rattle.cluster_world.proofs.Seen.{law_for}
-use Rattle.cluster_world.proofs.Whole.{laws_of, seen_over, is_reached, names_of}
+use Rattle.cluster_world.proofs.Seen.Machine.{law_for}
+use Rattle.cluster_world.proofs.Seen.Whole.{laws_of, seen_over, is_reached, names_of}
 use Rattle.cluster_world.proofs.laws.unique_names.Goals as goal
 
 pub returns : goal.returns

@@ -1,4 +1,4 @@
-use Rattle.cluster_world.proofs.Waiting.{waits_are_kept}
+use Rattle.cluster_world.proofs.Seen.Waiting.{waits_are_kept}
 use Rattle.cluster_world.proofs.laws.waiting_entries_are_kept.Goals as goal
 
 pub returns : goal.returns

@@ -2,7 +2,7 @@ use Rattle.std.proofs.Common.{arith}
 use Rattle.std.specs.Option.{option_copied}
 use Rattle.cluster_world.specs.Adding.{closed_if}
 use Rattle.cluster_world.specs.InCode.{life_of}
-use Rattle.cluster_world.proofs.Living.{map_on, rest_on, whole}
+use Rattle.cluster_world.proofs.Clusters.Living.{map_on, rest_on, whole}
 use Rattle.cluster_world.proofs.lists.close_lives.Goals as goal
 
 pub loop-i-preserved : goal.loop-i-preserved

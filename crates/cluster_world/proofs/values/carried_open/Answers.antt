@@ -1,5 +1,5 @@
-use Rattle.cluster_world.proofs.OfRuns.{lives_open}
-use Rattle.cluster_world.proofs.Whole.{laws_of}
+use Rattle.cluster_world.proofs.Runs.OfRuns.{lives_open}
+use Rattle.cluster_world.proofs.Seen.Whole.{laws_of}
 use Rattle.cluster_world.proofs.values.carried_open.Goals as goal
 
 pub returns : goal.returns

@@ -2,7 +2,7 @@ use Rattle.std.proofs.Common.{◌<◌, List, [], ℕ, length, ap, subst, ◌∙�
 use Rattle.std.proofs.lemmas.Result.{err_from_is_err_and}
 use Rattle.subj.specs.declared.limits.TheConstants.{MAX_QUEUE_NAMES}
 use Rattle.interest.specs.Matches.{names_in}
-use Rattle.hub_core.proofs.Choosing.{not_fewer_from, too_many_at}
+use Rattle.hub_core.proofs.Choices.Choosing.{not_fewer_from, too_many_at}
 use Rattle.hub_core.proofs.choice.gather_names.Goals as goal
 
 pub returns-in_err-names_in : goal.returns-in_err-names_in

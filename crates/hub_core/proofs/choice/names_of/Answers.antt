@@ -2,7 +2,7 @@ use Rattle.std.proofs.Common.{ℕ, ◌+◌, ◌++◌, List, [], drop, sym, ap, �
 use Rattle.std.specs.Prelude.{option_to_list, if◌then◌else◌}
 use Rattle.std.specs.Option.{option_copied}
 use Rattle.hub_core.specs.Chosen.{chosen_for}
-use Rattle.hub_core.proofs.Choosing.{chosen_step}
+use Rattle.hub_core.proofs.Choices.Choosing.{chosen_step}
 use Rattle.hub_core.proofs.choice.names_of.Goals as goal
 
 pub loop-place-preserved : goal.loop-place-preserved

@@ -2,7 +2,7 @@ use Rattle.std.proofs.Common.{◌≡◌, ℕ, ◌+◌, ◌*◌, ◌++◌, List, 
 use Rattle.subj.specs.declared.limits.TheConstants.{MAX_KEYS, MAX_WEIGHT}
 use Rattle.pick.specs.Pick.{Weighted, picked}
 use Rattle.hub_core.specs.Choice.{weights_from}
-use Rattle.hub_core.proofs.Choosing.{set_step, weights_step, total_step, all_written}
+use Rattle.hub_core.proofs.Choices.Choosing.{set_step, weights_step, total_step, all_written}
 use Rattle.hub_core.proofs.choice.server_for.Goals as goal
 
 pub loop-place-preserved : goal.loop-place-preserved

@@ -3,7 +3,7 @@ use Rattle.std.specs.Prelude.{option_and_then}
 use Rattle.std.specs.Option.{option_copied}
 use Rattle.pick.specs.Pick.{picked}
 use Rattle.hub_core.specs.Choice.{weights_from}
-use Rattle.hub_core.proofs.Choosing.{servers_step}
+use Rattle.hub_core.proofs.Choices.Choosing.{servers_step}
 use Rattle.hub_core.proofs.choice.servers_for.Goals as goal
 
 pub loop-place-preserved : goal.loop-place-preserved

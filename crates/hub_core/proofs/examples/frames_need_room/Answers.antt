@@ -1,4 +1,4 @@
-use Rattle.hub_core.proofs.Computed.{needs_room}
+use Rattle.hub_core.proofs.ByExample.Computed.{needs_room}
 use Rattle.hub_core.proofs.examples.frames_need_room.Goals as goal
 
 pub returns : goal.returns

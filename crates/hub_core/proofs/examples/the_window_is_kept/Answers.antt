@@ -1,4 +1,4 @@
-use Rattle.hub_core.proofs.Computed.{keeps_the_window}
+use Rattle.hub_core.proofs.ByExample.Computed.{keeps_the_window}
 use Rattle.hub_core.proofs.examples.the_window_is_kept.Goals as goal
 
 pub returns : goal.returns

@@ -1,4 +1,4 @@
-use Rattle.hub_core.proofs.Receives.{cuts_unseen, takes_unseen}
+use Rattle.hub_core.proofs.Steps.Receives.{cuts_unseen, takes_unseen}
 use Rattle.hub_core.proofs.laws.the_rest_is_unseen.Goals as goal
 
 pub returns-clause-cut : goal.returns-clause-cut

@@ -4,7 +4,7 @@ use Rattle.std.specs.Option.{option_copied}
 use Rattle.subj.specs.Servers.{name_of}
 use Rattle.route_values.specs.Frames.{Frame}
 use Rattle.hub_core.specs.Chosen.{chosen_for, frame_at, sent_from}
-use Rattle.hub_core.proofs.Sending.{frames_step}
+use Rattle.hub_core.proofs.Neighbours.Sending.{frames_step}
 use Rattle.hub_core.proofs.publishing.frames_for.Goals as goal
 
 pub loop-place-preserved : goal.loop-place-preserved

@@ -4,7 +4,7 @@ use Rattle.std.specs.Option.{option_copied}
 use Rattle.route_values.specs.declared.bodies.Body.TheVariants.{Msg}
 use Rattle.route_values.specs.Frames.{Frame}
 use Rattle.hub_core.specs.Chosen.{message_frame}
-use Rattle.hub_core.proofs.Sending.{listed_name, none_owed, one_owed}
+use Rattle.hub_core.proofs.Neighbours.Sending.{listed_name, none_owed, one_owed}
 use Rattle.hub_core.proofs.publishing.put_frame.Goals as goal
 
 pub returns-then-not-is_owed : goal.returns-then-not-is_owed

@@ -1,5 +1,5 @@
 use Rattle.std.proofs.Common.{refl, ◌∙◌}
-use Rattle.hub_core.proofs.Puts.{found_place}
+use Rattle.hub_core.proofs.Neighbours.Puts.{found_place}
 use Rattle.hub_core.proofs.putting.place_in.Goals as goal
 
 pub unwrap-requires : goal.unwrap-requires

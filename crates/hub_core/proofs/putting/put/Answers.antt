@@ -3,7 +3,7 @@ use Rattle.std.proofs.lemmas.Option.{slice_get-get_or}
 use Rattle.subj.specs.Servers.{place}
 use Rattle.hub_core.specs.State.{changed_at}
 use Rattle.hub_core.specs.Calls.{with_frame}
-use Rattle.hub_core.proofs.Changed.{changed_is}
+use Rattle.hub_core.proofs.Neighbours.Changed.{changed_is}
 use Rattle.hub_core.proofs.putting.put.Goals as goal
 
 pub put-requires : goal.put-requires

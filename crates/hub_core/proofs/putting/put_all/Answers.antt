@@ -5,8 +5,8 @@ use Rattle.list_laws.proofs.Tests.{eq_true}
 use Rattle.route_values.specs.Frames.{Frame}
 use Rattle.hub_core.specs.Publishing.{with_frames}
 use Rattle.hub_core.specs.Calls.{with_frame, HasRoomFor}
-use Rattle.hub_core.proofs.Known.{changed_length}
-use Rattle.hub_core.proofs.Puts.{has_room, put_one, nothing_put, no_items}
+use Rattle.hub_core.proofs.Neighbours.Known.{changed_length}
+use Rattle.hub_core.proofs.Neighbours.Puts.{has_room, put_one, nothing_put, no_items}
 use Rattle.hub_core.proofs.putting.put_all.Goals as goal
 
 pub put-requires-clause-room : goal.put-requires-clause-room

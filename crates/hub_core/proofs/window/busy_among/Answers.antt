@@ -2,7 +2,7 @@ use Rattle.std.proofs.Common.{◌≡◌, Some, sym, ◌∙◌}
 use Rattle.std.specs.Prelude.{position}
 use Rattle.claim_race.specs.Race.{is_behind}
 use Rattle.std.proofs.lemmas.List.Quantifiers.{position-Some}
-use Rattle.hub_core.proofs.Behind.{some_busy}
+use Rattle.hub_core.proofs.Steps.Behind.{some_busy}
 use Rattle.hub_core.proofs.window.busy_among.Goals as goal
 
 pub returns-in-Some : goal.returns-in-Some

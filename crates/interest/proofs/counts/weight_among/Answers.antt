@@ -1,8 +1,8 @@
 use Rattle.std.proofs.Common.{ap, arith}
 use Rattle.route_values.specs.Snapshots.{Weighted}
 use Rattle.interest.specs.Matches.{weight_in}
-use Rattle.interest.proofs.Entries.{counted_at}
-use Rattle.interest.proofs.Wanting.{weight_at_start, weight_further}
+use Rattle.interest.proofs.Counting.Entries.{counted_at}
+use Rattle.interest.proofs.Matching.Wanting.{weight_at_start, weight_further}
 use Rattle.interest.proofs.counts.weight_among.Goals as goal
 
 pub loop-place-init : goal.loop-place-init

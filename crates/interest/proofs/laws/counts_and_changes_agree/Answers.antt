@@ -1,4 +1,4 @@
-use Rattle.interest.proofs.Agreement.{stays_within, steps_agree, runs_agree}
+use Rattle.interest.proofs.Counting.Agreement.{stays_within, steps_agree, runs_agree}
 use Rattle.interest.proofs.laws.counts_and_changes_agree.Goals as goal
 
 pub returns-clause-stays : goal.returns-clause-stays

@@ -1,4 +1,4 @@
-use Rattle.interest.proofs.Told.{counts_open}
+use Rattle.interest.proofs.Counting.Told.{counts_open}
 use Rattle.interest.proofs.laws.counts_are_of_the_open.Goals as goal
 
 pub returns : goal.returns

@@ -1,4 +1,4 @@
-use Rattle.interest.proofs.Counting.{is_counting}
+use Rattle.interest.proofs.Counting.Limits.{is_counting}
 use Rattle.interest.proofs.laws.openings_are_counted.Goals as goal
 
 pub returns : goal.returns

@@ -1,6 +1,6 @@
 use Rattle.std.proofs.Common.{◌+◌, ap, sym, ◌∙◌}
 use Rattle.interest.specs.Matches.{is_of_kind}
-use Rattle.interest.proofs.Wanting.{kind_on, kind_behind, found_here}
+use Rattle.interest.proofs.Matching.Wanting.{kind_on, kind_behind, found_here}
 use Rattle.interest.proofs.matches.has_match.Goals as goal
 
 pub loop-place-init : goal.loop-place-init

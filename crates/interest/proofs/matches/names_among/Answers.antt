@@ -4,7 +4,7 @@ use Rattle.subj.specs.declared.keys.Key.{Key}
 use Rattle.subj.specs.declared.limits.TheConstants.{MAX_QUEUE_NAMES}
 use Rattle.subj.specs.Matching.{subject_matches}
 use Rattle.interest.specs.Matches.{add_queue, names_in}
-use Rattle.interest.proofs.Wanting.{names_at, too_many_at, names_at_end}
+use Rattle.interest.proofs.Matching.Wanting.{names_at, too_many_at, names_at_end}
 use Rattle.interest.proofs.matches.names_among.Goals as goal
 
 pub loop-place-init : goal.loop-place-init

@@ -3,7 +3,7 @@ use Rattle.std.proofs.lemmas.Result.{err_from_is_err_and}
 use Rattle.subj.specs.declared.keys.Key.{Key}
 use Rattle.subj.specs.declared.limits.TheConstants.{MAX_QUEUE_NAMES}
 use Rattle.interest.specs.Matches.{add_queue, names_in}
-use Rattle.interest.proofs.Wanting.{names_on, names_here, too_many, found_here}
+use Rattle.interest.proofs.Matching.Wanting.{names_on, names_here, too_many, found_here}
 use Rattle.interest.proofs.matches.names_in.Goals as goal
 
 pub loop-place-init : goal.loop-place-init

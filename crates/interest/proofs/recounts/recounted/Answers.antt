@@ -1,7 +1,7 @@
 use Rattle.std.proofs.Common.{◌≡◌, ◌∷◌, ◌++◌, length, ap, sym, ◌∙◌, arith}
 use Rattle.subj.specs.declared.keys.Key.{Key}
 use Rattle.interest.specs.Recounts.{below, behind, without_first, one_if}
-use Rattle.interest.proofs.Recounted.{put_next, put_rises, rest_rises}
+use Rattle.interest.proofs.Counting.Recounted.{put_next, put_rises, rest_rises}
 use Rattle.interest.proofs.recounts.recounted.Goals as goal
 
 pub loop-key-preserved : goal.loop-key-preserved

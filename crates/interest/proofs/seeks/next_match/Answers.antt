@@ -1,7 +1,7 @@
 use Rattle.std.proofs.Common.{ap, ◌∙◌, arith}
 use Rattle.subj.specs.declared.keys.Key.{Key}
 use Rattle.interest.specs.Sights.{text_of}
-use Rattle.interest.proofs.Passing.{moves_on, moves_to_end}
+use Rattle.interest.proofs.Matching.Passing.{moves_on, moves_to_end}
 use Rattle.interest.proofs.seeks.next_match.Goals as goal
 
 pub loop-place-preserved : goal.loop-place-preserved

@@ -1,6 +1,6 @@
 use Rattle.std.proofs.Common.{◌≡◌, Option, Bor, List, ℕ, Some, ap, sym, ◌∙◌}
 use Rattle.std.specs.Option.{option_copied}
-use Rattle.interest.proofs.Levels.{is_other, is_further, is_longer, is_shorter}
+use Rattle.interest.proofs.Matching.Levels.{is_other, is_further, is_longer, is_shorter}
 use Rattle.interest.proofs.sights.first_level.Goals as goal
 
 pub returns-then-not-takes_token : goal.returns-then-not-takes_token

@@ -1,6 +1,6 @@
 use Rattle.std.proofs.Common.{refl, sym, subst}
 use Rattle.interest.specs.Sights.{IsSightOf, text_if}
-use Rattle.interest.proofs.Looking.{further, ended, no_match, sight_is}
+use Rattle.interest.proofs.Matching.Looking.{further, ended, no_match, sight_is}
 use Rattle.interest.proofs.sights.look.Goals as goal
 
 pub loop-width-preserved : goal.loop-width-preserved

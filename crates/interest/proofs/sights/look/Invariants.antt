@@ -1,6 +1,6 @@
 use Rattle.std.proofs.Common.{length}
 use Rattle.interest.specs.Sights.{text_if}
-use Rattle.interest.proofs.Looking.{IsSoFar}
+use Rattle.interest.proofs.Matching.Looking.{IsSoFar}
 use Rattle.interest.proofs.sights.look.Given as goal
 
 abbrev pub invariant-loop-width : goal.invariant-loop-width

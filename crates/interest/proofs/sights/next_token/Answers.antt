@@ -2,7 +2,7 @@ use Rattle.std.proofs.Common.{◌+◌, Option, Bor, List, ℕ, length, ◌∷◌
 use Rattle.std.specs.Option.{option_copied}
 use Rattle.std.proofs.lemmas.List.{length-take-le}
 use Rattle.subj.specs.Names.{tokens_behind}
-use Rattle.interest.proofs.Levels.{dotted, next_is}
+use Rattle.interest.proofs.Matching.Levels.{dotted, next_is}
 use Rattle.interest.specs.Sights.{nearest}
 use Rattle.interest.proofs.sights.next_token.Goals as goal
 

@@ -1,6 +1,6 @@
 use Rattle.std.specs.BTreeMap.{insert_entry}
 use Rattle.subj.specs.Keys.{key_cmp}
-use Rattle.interest.proofs.Hearing.{put_is_heard, less_is_heard, either_heard}
+use Rattle.interest.proofs.News.Hearing.{put_is_heard, less_is_heard, either_heard}
 use Rattle.interest.proofs.views.follow.Goals as goal
 
 pub returns-in-Up-clause-heard : goal.returns-in-Up-clause-heard

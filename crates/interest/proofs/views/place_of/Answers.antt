@@ -1,9 +1,9 @@
 use Rattle.std.proofs.Common.{rules, ℕ}
 use Rattle.subj.specs.declared.keys.Key.{Key}
 use Rattle.subj.specs.Keys.{key_cmp}
-use Rattle.interest.proofs.Calls.{always_same}
+use Rattle.interest.proofs.Matching.Calls.{always_same}
 use Rattle.interest.specs.KeyOrder.{key_order_total}
-use Rattle.interest.proofs.Places.{searched}
+use Rattle.interest.proofs.Counting.Places.{searched}
 use Rattle.interest.proofs.views.place_of.Goals as goal
 
 pub returns : goal.returns

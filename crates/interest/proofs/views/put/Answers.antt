@@ -2,7 +2,7 @@ use Rattle.std.proofs.Common.{subst}
 use Rattle.subj.specs.declared.keys.Key.{Key}
 use Rattle.subj.specs.Keys.{key_cmp}
 use Rattle.interest.specs.Places.{IsPlaceOf}
-use Rattle.interest.proofs.Hearing.{written}
+use Rattle.interest.proofs.News.Hearing.{written}
 use Rattle.interest.proofs.views.put.Goals as goal
 
 pub returns-in-Ok-clause-ok : goal.returns-in-Ok-clause-ok

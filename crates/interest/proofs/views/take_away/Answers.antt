@@ -1,7 +1,7 @@
 use Rattle.std.proofs.Common.{subst}
 use Rattle.subj.specs.Keys.{key_cmp}
 use Rattle.interest.specs.Places.{IsGapFor}
-use Rattle.interest.proofs.Hearing.{nothing_less}
+use Rattle.interest.proofs.News.Hearing.{nothing_less}
 use Rattle.interest.proofs.views.take_away.Goals as goal
 
 pub returns-in_default : goal.returns-in_default

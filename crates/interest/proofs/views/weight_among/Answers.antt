@@ -1,7 +1,7 @@
 use Rattle.std.proofs.Common.{◌∙◌, cond, arith}
 use Rattle.subj.specs.QueueNames.{is_named}
 use Rattle.interest.specs.Matches.{weight_in}
-use Rattle.interest.proofs.Wanting.{weight_at_start, weight_further}
+use Rattle.interest.proofs.Matching.Wanting.{weight_at_start, weight_further}
 use Rattle.interest.proofs.views.weight_among.Goals as goal
 
 pub loop-place-init : goal.loop-place-init

@@ -1,4 +1,4 @@
-use Rattle.mesh_pipe.proofs.Runs.{answers_all, front_all, answers_begun}
+use Rattle.mesh_pipe.proofs.Text.Runs.{answers_all, front_all, answers_begun}
 use Rattle.mesh_pipe.proofs.pipe.answer_all.Goals as goal
 
 pub returns-in_err-flush-clause-answers : goal.returns-in_err-flush-clause-answers

@@ -1,6 +1,6 @@
 use Rattle.std.proofs.Common.{refl, sym, ap, ◌∙◌}
 use Rattle.std.specs.Option.{option_copied}
-use Rattle.mesh_pipe.proofs.Said.{ask_worked, ask_closed, none_there}
+use Rattle.mesh_pipe.proofs.Text.Said.{ask_worked, ask_closed, none_there}
 use Rattle.mesh_pipe.proofs.pipe.look.Goals as goal
 
 pub returns-in-None : goal.returns-in-None

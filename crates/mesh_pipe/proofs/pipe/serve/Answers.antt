@@ -1,6 +1,6 @@
 use Rattle.std.proofs.Common.{Err, ap, refl, sym, ◌∙◌, add-zero, arith, lit<}
 use Rattle.std.proofs.KnownBytes.{Consumes-kept}
-use Rattle.mesh_pipe.proofs.Serves.{read_first, read_on, not_over, served_again, broke_off, no_read_failed, writes_failed, whole_text, whole_beginning, read_to_end, begun_text, closed_text}
+use Rattle.mesh_pipe.proofs.Text.Serves.{read_first, read_on, not_over, served_again, broke_off, no_read_failed, writes_failed, whole_text, whole_beginning, read_to_end, begun_text, closed_text}
 use Rattle.mesh_pipe.proofs.pipe.serve.Goals as goal
 
 pub returns-in_err-answer_all-clause-text : goal.returns-in_err-answer_all-clause-text

@@ -1,5 +1,5 @@
 use Rattle.std.proofs.Common.{◌≡◌, ◌+◌}
-use Rattle.mesh_pipe.proofs.Serves.{HasServed}
+use Rattle.mesh_pipe.proofs.Text.Serves.{HasServed}
 use Rattle.mesh_pipe.proofs.pipe.serve.Given as goal
 
 abbrev pub invariant-loop : goal.invariant-loop

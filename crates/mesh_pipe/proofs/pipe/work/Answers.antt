@@ -1,5 +1,5 @@
 use Rattle.std.proofs.Common.{refl, ◌∙◌}
-use Rattle.mesh_pipe.proofs.Runs.{nothing_moved, moved_further, moved_and_flushed, moved_to_end, begun_by_moves, begun_by_front, works_begun}
+use Rattle.mesh_pipe.proofs.Text.Runs.{nothing_moved, moved_further, moved_and_flushed, moved_to_end, begun_by_moves, begun_by_front, works_begun}
 use Rattle.mesh_pipe.proofs.pipe.work.Goals as goal
 
 pub loop-server-init : goal.loop-server-init

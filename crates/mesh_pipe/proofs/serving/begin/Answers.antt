@@ -1,6 +1,6 @@
 use Rattle.std.proofs.Common.{not}
-use Rattle.mesh_pipe.proofs.Calls.{cannot_begin}
-use Rattle.mesh_pipe.proofs.Working.{has_begun, shut_told}
+use Rattle.mesh_pipe.proofs.Server.Calls.{cannot_begin}
+use Rattle.mesh_pipe.proofs.Server.Working.{has_begun, shut_told}
 use Rattle.mesh_pipe.proofs.serving.begin.Goals as goal
 
 pub unreachable-requires : goal.unreachable-requires

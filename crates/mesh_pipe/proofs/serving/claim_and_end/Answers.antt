@@ -4,8 +4,8 @@ use Rattle.shard_core.specs.Shards.{State}
 use Rattle.mesh_pipe.specs.PipeServing.{shard_in}
 use Rattle.shard_core.specs.ShardEvents.{End}
 use Rattle.shard_core.specs.ShardSteps.{shard_refusal}
-use Rattle.mesh_pipe.proofs.Heard.{claimed_hand}
-use Rattle.mesh_pipe.proofs.Working.{claim_due, still_in_hand, claims_next, claims_all}
+use Rattle.mesh_pipe.proofs.Server.Outputs.{claimed_hand}
+use Rattle.mesh_pipe.proofs.Server.Working.{claim_due, still_in_hand, claims_next, claims_all}
 use Rattle.mesh_pipe.proofs.serving.claim_and_end.Goals as goal
 
 pub end-requires-clause-hand : goal.end-requires-clause-hand

@@ -1,6 +1,6 @@
 use Rattle.std.proofs.Common.{◌-◌}
 use Rattle.mesh_pipe.specs.PipeServing.{queues_in}
-use Rattle.mesh_pipe.proofs.Working.{IsClaiming}
+use Rattle.mesh_pipe.proofs.Server.Working.{IsClaiming}
 use Rattle.mesh_pipe.proofs.serving.claim_and_end.Given as goal
 
 abbrev pub invariant-loop-node : goal.invariant-loop-node

@@ -1,6 +1,6 @@
 use Rattle.std.proofs.Common.{sym, ◌∙◌}
 use Rattle.std.proofs.lemmas.Option.{none-some}
-use Rattle.mesh_pipe.proofs.Collecting.{collects, collect_steps}
+use Rattle.mesh_pipe.proofs.Server.Collecting.{collects, collect_steps}
 use Rattle.mesh_pipe.proofs.serving.collect.Goals as goal
 
 pub unreachable-requires : goal.unreachable-requires

@@ -1,4 +1,4 @@
-use Rattle.mesh_pipe.proofs.Working.{has_ended}
+use Rattle.mesh_pipe.proofs.Server.Working.{has_ended}
 use Rattle.mesh_pipe.proofs.serving.end.Goals as goal
 
 pub returns-in-Ok : goal.returns-in-Ok

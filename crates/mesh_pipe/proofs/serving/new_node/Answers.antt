@@ -1,6 +1,6 @@
 use Rattle.std.proofs.Common.{ap, ◌∙◌}
 use Rattle.node_core.specs.Served.{started}
-use Rattle.mesh_pipe.proofs.Calls.{attaches}
+use Rattle.mesh_pipe.proofs.Server.Calls.{attaches}
 use Rattle.mesh_pipe.proofs.serving.new_node.Goals as goal
 
 pub returns-in-Ok : goal.returns-in-Ok

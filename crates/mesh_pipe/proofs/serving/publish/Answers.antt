@@ -2,8 +2,8 @@ use Rattle.std.proofs.Common.{sym, ap, refl, ◌∙◌}
 use Rattle.std.specs.Option.{option_map}
 use Rattle.hub_core.specs.Chosen.{publication}
 use Rattle.mesh_pipe.specs.PipeServing.{refusal_of}
-use Rattle.mesh_pipe.proofs.Calls.{publishes}
-use Rattle.mesh_pipe.proofs.Publishing.{IsIdle, publish_told, has_issued}
+use Rattle.mesh_pipe.proofs.Server.Calls.{publishes}
+use Rattle.mesh_pipe.proofs.Server.Publishing.{IsIdle, publish_told, has_issued}
 use Rattle.mesh_pipe.proofs.serving.publish.Goals as goal
 
 pub returns-in-Ok : goal.returns-in-Ok

@@ -1,5 +1,5 @@
 use Rattle.node_law.specs.declared.events.ConnEvent.TheVariants.{Reply}
-use Rattle.mesh_pipe.proofs.Calls.{by_conn}
+use Rattle.mesh_pipe.proofs.Server.Calls.{by_conn}
 use Rattle.mesh_pipe.proofs.serving.reply.Goals as goal
 
 pub returns-in-Ok-clause-steps : goal.returns-in-Ok-clause-steps

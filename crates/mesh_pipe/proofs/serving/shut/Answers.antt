@@ -1,5 +1,5 @@
 use Rattle.node_law.specs.declared.events.ConnEvent.TheVariants.{Shut}
-use Rattle.mesh_pipe.proofs.Calls.{by_conn}
+use Rattle.mesh_pipe.proofs.Server.Calls.{by_conn}
 use Rattle.mesh_pipe.proofs.serving.shut.Goals as goal
 
 pub returns-in-Ok : goal.returns-in-Ok

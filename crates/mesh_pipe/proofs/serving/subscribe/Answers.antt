@@ -1,5 +1,5 @@
 use Rattle.node_law.specs.declared.events.ConnEvent.TheVariants.{Subscribe}
-use Rattle.mesh_pipe.proofs.Calls.{opens, opens_not}
+use Rattle.mesh_pipe.proofs.Server.Calls.{opens, opens_not}
 use Rattle.mesh_pipe.proofs.serving.subscribe.Goals as goal
 
 pub returns-in-Ok : goal.returns-in-Ok

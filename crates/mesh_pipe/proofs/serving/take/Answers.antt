@@ -1,6 +1,6 @@
 use Rattle.node_law.specs.declared.events.ConnEvent.TheVariants.{Take}
 use Rattle.mesh_pipe.specs.PipeServing.{all_entries}
-use Rattle.mesh_pipe.proofs.Calls.{by_conn, take_text}
+use Rattle.mesh_pipe.proofs.Server.Calls.{by_conn, take_text}
 use Rattle.mesh_pipe.proofs.serving.take.Goals as goal
 
 pub returns-in-Ok-clause-steps : goal.returns-in-Ok-clause-steps

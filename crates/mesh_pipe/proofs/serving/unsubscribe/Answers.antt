@@ -1,5 +1,5 @@
 use Rattle.node_law.specs.declared.events.ConnEvent.TheVariants.{Unsubscribe}
-use Rattle.mesh_pipe.proofs.Calls.{by_conn}
+use Rattle.mesh_pipe.proofs.Server.Calls.{by_conn}
 use Rattle.mesh_pipe.proofs.serving.unsubscribe.Goals as goal
 
 pub returns : goal.returns

@@ -1,4 +1,4 @@
-use Rattle.node_law.proofs.Placing.{claims_place}
+use Rattle.node_law.proofs.Claims.Placing.{claims_place}
 use Rattle.node_law.proofs.laws.claims_place.Goals as goal
 
 pub returns : goal.returns

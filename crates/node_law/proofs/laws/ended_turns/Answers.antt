@@ -1,4 +1,4 @@
-use Rattle.node_law.proofs.Ends.{ended_turns}
+use Rattle.node_law.proofs.Claims.Ends.{ended_turns}
 use Rattle.node_law.proofs.laws.ended_turns.Goals as goal
 
 pub returns : goal.returns

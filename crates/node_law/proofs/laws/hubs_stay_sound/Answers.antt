@@ -1,4 +1,4 @@
-use Rattle.node_law.proofs.HubsSound.{hubs_stay_sound}
+use Rattle.node_law.proofs.Sessions.HubsSound.{hubs_stay_sound}
 use Rattle.node_law.proofs.laws.hubs_stay_sound.Goals as goal
 
 pub returns : goal.returns

@@ -1,4 +1,4 @@
-use Rattle.node_law.proofs.OneWinner.{one_winner}
+use Rattle.node_law.proofs.Claims.OneWinner.{one_winner}
 use Rattle.node_law.proofs.laws.one_winner.Goals as goal
 
 pub returns : goal.returns

@@ -1,4 +1,4 @@
-use Rattle.node_law.proofs.PlacedOnce.{places_once}
+use Rattle.node_law.proofs.Claims.PlacedOnce.{places_once}
 use Rattle.node_law.proofs.laws.places_once.Goals as goal
 
 pub returns : goal.returns

@@ -1,4 +1,4 @@
-use Rattle.node_law.proofs.Winners.{race_follows}
+use Rattle.node_law.proofs.Claims.Winners.{race_follows}
 use Rattle.node_law.proofs.laws.race_follows.Goals as goal
 
 pub returns : goal.returns

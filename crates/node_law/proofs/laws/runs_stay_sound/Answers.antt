@@ -1,4 +1,4 @@
-use Rattle.node_law.proofs.Runs.{run_sound}
+use Rattle.node_law.proofs.Runs.Sound.{run_sound}
 use Rattle.node_law.proofs.laws.runs_stay_sound.Goals as goal
 
 pub returns : goal.returns

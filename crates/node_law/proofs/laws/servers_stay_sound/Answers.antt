@@ -1,4 +1,4 @@
-use Rattle.node_law.proofs.NodeMoves.{stays_sound}
+use Rattle.node_law.proofs.Moves.Nodes.{stays_sound}
 use Rattle.node_law.proofs.laws.servers_stay_sound.Goals as goal
 
 pub returns : goal.returns

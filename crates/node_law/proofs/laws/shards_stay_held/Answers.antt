@@ -1,4 +1,4 @@
-use Rattle.node_law.proofs.EachShard.{shards_stay_held}
+use Rattle.node_law.proofs.Runs.EachShard.{shards_stay_held}
 use Rattle.node_law.proofs.laws.shards_stay_held.Goals as goal
 
 pub returns : goal.returns

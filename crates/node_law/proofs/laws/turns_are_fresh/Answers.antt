@@ -1,4 +1,4 @@
-use Rattle.node_law.proofs.OneWinner.{turns_are_fresh}
+use Rattle.node_law.proofs.Claims.OneWinner.{turns_are_fresh}
 use Rattle.node_law.proofs.laws.turns_are_fresh.Goals as goal
 
 pub returns : goal.returns

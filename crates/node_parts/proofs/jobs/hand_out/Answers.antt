@@ -6,7 +6,7 @@ use Rattle.subj.specs.declared.limits.TheConstants.{WINDOW}
 use Rattle.node_law.specs.State.{Line}
 use Rattle.node_law.specs.Steps.{queued}
 use Rattle.node_parts.proofs.Handing.{mapped_more, rest_same, first_of_rest, popped, rest_next}
-use Rattle.hub_core.proofs.Known.{set_length}
+use Rattle.hub_core.proofs.Neighbours.Known.{set_length}
 use Rattle.node_parts.proofs.jobs.hand_out.Goals as goal
 
 pub hand_over-requires : goal.hand_over-requires

@@ -1,6 +1,6 @@
 use Rattle.std.proofs.Common.{rules}
 use Rattle.serde_json.specs.Errors.{IsMemory}
-use Rattle.route_frames.proofs.Json.{is_json, no_json}
+use Rattle.route_frames.proofs.Again.Json.{is_json, no_json}
 use Rattle.route_frames.proofs.greetings.read_json.Goals as goal
 
 pub returns-in-Ok : goal.returns-in-Ok

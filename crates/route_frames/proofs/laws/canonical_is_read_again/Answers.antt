@@ -1,6 +1,6 @@
-use Rattle.route_frames.proofs.Cuts.{payload_cut}
-use Rattle.route_frames.proofs.CanonicalSpelt.{canonical_is_spelt}
-use Rattle.route_frames.proofs.RoutesAgain.{are_lines, are_payloads, is_cut_again, is_announced_again, is_read_again}
+use Rattle.route_frames.proofs.Cuts.Frames.{payload_cut}
+use Rattle.route_frames.proofs.Canonical.Frames.{canonical_is_spelt}
+use Rattle.route_frames.proofs.Again.Routes.{are_lines, are_payloads, is_cut_again, is_announced_again, is_read_again}
 use Rattle.route_frames.proofs.laws.canonical_is_read_again.Goals as goal
 
 pub returns : goal.returns

@@ -1,4 +1,4 @@
-use Rattle.route_frames.proofs.InStream.{read_in_any_parts}
+use Rattle.route_frames.proofs.Again.Streams.{read_in_any_parts}
 use Rattle.route_frames.proofs.laws.written_is_read_in_any_parts.Goals as goal
 
 pub returns : goal.returns

@@ -1,4 +1,4 @@
-use Rattle.route_frames.proofs.Answered.{frame_answered}
+use Rattle.route_frames.proofs.Refused.Answered.{frame_answered}
 use Rattle.route_frames.proofs.reading.decode.Goals as goal
 
 pub returns-clause-spelt : goal.returns-clause-spelt

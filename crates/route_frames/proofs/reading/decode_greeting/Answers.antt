@@ -1,4 +1,4 @@
-use Rattle.route_frames.proofs.Answered.{greeting_told}
+use Rattle.route_frames.proofs.Refused.Answered.{greeting_told}
 use Rattle.route_frames.proofs.reading.decode_greeting.Goals as goal
 
 pub returns : goal.returns

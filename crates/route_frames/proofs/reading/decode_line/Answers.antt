@@ -1,7 +1,7 @@
 use Rattle.std.proofs.Common.{◌≡◌, true, ap, ◌∙◌}
 use Rattle.std.proofs.lemmas.Result.{err_from_is_err_and}
 use Rattle.route_frames.specs.TextViews.{numbered_view, text_meaning, is_json}
-use Rattle.route_frames.proofs.Answered.{bad_line_means, numbered_means, greeting_means, greeting_is_json}
+use Rattle.route_frames.proofs.Refused.Answered.{bad_line_means, numbered_means, greeting_means, greeting_is_json}
 use Rattle.route_frames.proofs.reading.decode_line.Goals as goal
 
 pub returns-in_err-text : goal.returns-in_err-text

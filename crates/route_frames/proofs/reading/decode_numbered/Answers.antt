@@ -1,5 +1,5 @@
 use Rattle.route_frames.specs.TextViews.{numbered_view}
-use Rattle.route_frames.proofs.Answered.{numbered_told}
+use Rattle.route_frames.proofs.Refused.Answered.{numbered_told}
 use Rattle.route_frames.proofs.reading.decode_numbered.Goals as goal
 
 pub returns : goal.returns

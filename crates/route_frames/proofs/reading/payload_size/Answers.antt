@@ -1,4 +1,4 @@
-use Rattle.route_frames.proofs.Answered.{size_answered}
+use Rattle.route_frames.proofs.Refused.Answered.{size_answered}
 use Rattle.route_frames.proofs.reading.payload_size.Goals as goal
 
 pub returns-clause-spelt : goal.returns-clause-spelt

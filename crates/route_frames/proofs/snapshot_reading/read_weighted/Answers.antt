@@ -1,4 +1,4 @@
-use Rattle.route_frames.proofs.Pieces.{too_many_fields}
+use Rattle.route_frames.proofs.Cuts.Pieces.{too_many_fields}
 use Rattle.route_frames.proofs.snapshot_reading.read_weighted.Goals as goal
 
 pub returns-in-Some-split_at_byte-2 : goal.returns-in-Some-split_at_byte-2

@@ -1,5 +1,5 @@
 use Rattle.std.proofs.Common.{sym, ◌∙◌}
-use Rattle.route_frames.proofs.Pieces.{one_piece, first_piece}
+use Rattle.route_frames.proofs.Cuts.Pieces.{one_piece, first_piece}
 use Rattle.route_frames.proofs.snapshot_reading.split_at_byte.Goals as goal
 
 pub returns-in_default : goal.returns-in_default

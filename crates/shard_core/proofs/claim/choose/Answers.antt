@@ -6,8 +6,8 @@ use Rattle.sub_table.specs.Subscriptions.{gets}
 use Rattle.sub_table.specs.declared.Subscription.{Subscription}
 use Rattle.shard_core.specs.Tallies.{behind}
 use Rattle.shard_core.specs.Members.{is_in_group_of}
-use Rattle.shard_core.proofs.Groups.{same_members}
-use Rattle.shard_core.proofs.Claims.{nobody_chosen, chosen_fits, one_chosen}
+use Rattle.shard_core.proofs.Turns.Groups.{same_members}
+use Rattle.shard_core.proofs.Turns.Claims.{nobody_chosen, chosen_fits, one_chosen}
 use Rattle.shard_core.proofs.claim.choose.Goals as goal
 
 pub returns-then-count-eq0-clause-ok : goal.returns-then-count-eq0-clause-ok

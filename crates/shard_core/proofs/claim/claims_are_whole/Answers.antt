@@ -1,4 +1,4 @@
-use Rattle.shard_core.proofs.Claims.{claims_whole}
+use Rattle.shard_core.proofs.Turns.Claims.{claims_whole}
 use Rattle.shard_core.proofs.claim.claims_are_whole.Goals as goal
 
 pub returns : goal.returns

@@ -2,8 +2,8 @@ use Rattle.std.proofs.Common.{ap, sym, ◌∙◌}
 use Rattle.std.specs.Prelude.{slice_index_or}
 use Rattle.outbox.specs.Views.{Waiting}
 use Rattle.shard_core.specs.Boxes.{seen, next_shelf}
-use Rattle.shard_core.proofs.Lookups.{same_seen}
-use Rattle.shard_core.proofs.ConnStaging.{conns_less_at, no_such_conn}
+use Rattle.shard_core.proofs.Clients.Lookups.{same_seen}
+use Rattle.shard_core.proofs.Clients.Staging.{conns_less_at, no_such_conn}
 use Rattle.shard_core.proofs.connections.commit_at.Goals as goal
 
 pub returns-then-place-conns-clause-next : goal.returns-then-place-conns-clause-next

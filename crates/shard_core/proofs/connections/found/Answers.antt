@@ -1,7 +1,7 @@
 use Rattle.std.proofs.Common.{Some, sym, ap, ◌∙◌}
 use Rattle.shard_core.specs.declared.connections.Conn.{Conn}
 use Rattle.shard_core.specs.Boxes.{seen, shown_shelf, next_shelf}
-use Rattle.shard_core.proofs.Lookups.{client_none, client_some}
+use Rattle.shard_core.proofs.Clients.Lookups.{client_none, client_some}
 use Rattle.shard_core.proofs.connections.found.Goals as goal
 
 pub returns-in-None-clause-shown : goal.returns-in-None-clause-shown

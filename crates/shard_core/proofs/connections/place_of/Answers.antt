@@ -1,6 +1,6 @@
 use Rattle.std.proofs.Common.{◌∙◌, rules}
 use Rattle.std.proofs.lemmas.List.Sorted.{answers_always}
-use Rattle.shard_core.proofs.ConnOrder.{place_found}
+use Rattle.shard_core.proofs.Clients.Order.{place_found}
 use Rattle.shard_core.proofs.connections.place_of.Goals as goal
 
 pub returns : goal.returns

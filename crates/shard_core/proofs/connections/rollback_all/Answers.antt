@@ -1,7 +1,7 @@
 use Rattle.std.proofs.Common.{◌+◌, drop, ◌∙◌, subst}
 use Rattle.std.proofs.lemmas.List.{drop_all, drop_more}
 use Rattle.shard_core.specs.Boxes.{AreConns}
-use Rattle.shard_core.proofs.ConnStaging.{all_settled}
+use Rattle.shard_core.proofs.Clients.Staging.{all_settled}
 use Rattle.shard_core.proofs.connections.rollback_all.Goals as goal
 
 pub loop-place-preserved : goal.loop-place-preserved

@@ -1,4 +1,4 @@
-use Rattle.shard_core.proofs.Rows.{chooses_by_turn}
+use Rattle.shard_core.proofs.Steps.Examples.{chooses_by_turn}
 use Rattle.shard_core.proofs.examples.members_take_turns.Goals as goal
 
 pub returns : goal.returns

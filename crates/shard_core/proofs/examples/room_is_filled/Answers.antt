@@ -1,4 +1,4 @@
-use Rattle.shard_core.proofs.Rows.{fills_the_room}
+use Rattle.shard_core.proofs.Steps.Examples.{fills_the_room}
 use Rattle.shard_core.proofs.examples.room_is_filled.Goals as goal
 
 pub returns : goal.returns

@@ -1,4 +1,4 @@
-use Rattle.shard_core.proofs.Limits.{limits_stay}
+use Rattle.shard_core.proofs.Clients.Limits.{limits_stay}
 use Rattle.shard_core.proofs.laws.limits_stay.Goals as goal
 
 pub returns : goal.returns

@@ -1,4 +1,4 @@
-use Rattle.shard_core.proofs.Limits.{numbers_tell_shards}
+use Rattle.shard_core.proofs.Clients.Limits.{numbers_tell_shards}
 use Rattle.shard_core.proofs.laws.numbers_tell_shards.Goals as goal
 
 pub returns : goal.returns

@@ -1,7 +1,7 @@
 use Rattle.std.proofs.Common.{Some, sym, ap, ◌∙◌}
 use Rattle.std.specs.Option.{option_map, option_copied}
 use Rattle.shard_core.specs.Answers.{call_of}
-use Rattle.shard_core.proofs.Serials.{called_by_serial}
+use Rattle.shard_core.proofs.Closings.Serials.{called_by_serial}
 use Rattle.shard_core.proofs.shard.called.Goals as goal
 
 pub returns-in_err-sub : goal.returns-in_err-sub

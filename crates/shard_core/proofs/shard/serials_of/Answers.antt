@@ -2,7 +2,7 @@ use Rattle.std.proofs.Common.{List, ◌++◌, sym, ap, ◌∙◌, subst}
 use Rattle.sub_table.specs.Subscriptions.{is_of, serials_of}
 use Rattle.sub_table.specs.declared.Subscription.{Subscription}
 use Rattle.shard_core.specs.Opened.{AreApart}
-use Rattle.shard_core.proofs.Serials.{apart_among}
+use Rattle.shard_core.proofs.Closings.Serials.{apart_among}
 use Rattle.shard_core.proofs.shard.serials_of.Goals as goal
 
 pub returns-clause-apart : goal.returns-clause-apart

@@ -2,7 +2,7 @@ use Rattle.std.proofs.Common.{◌≡◌, length, ap, sym, ◌∙◌}
 use Rattle.shard_core.specs.Closings.{ended_ids}
 use Rattle.shard_core.specs.Opened.{Opened, with_counts, with_closings}
 use Rattle.shard_core.specs.Tallies.{Tallied}
-use Rattle.shard_core.proofs.TallySteps.{has_placed}
+use Rattle.shard_core.proofs.Turns.TallySteps.{has_placed}
 use Rattle.shard_core.proofs.walk.place_all.Goals as goal
 
 pub returns-clause-ok : goal.returns-clause-ok

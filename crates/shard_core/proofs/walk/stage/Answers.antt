@@ -6,7 +6,7 @@ use Rattle.shard_core.specs.Puts.{put_line}
 use Rattle.shard_core.specs.Closings.{ended_ids}
 use Rattle.shard_core.specs.Opened.{AreApart}
 use Rattle.shard_core.specs.Tallies.{Tallied, with_lines}
-use Rattle.shard_core.proofs.TallySteps.{walk_staged, all_staged, staged_shard, staged_given, staged_ended}
+use Rattle.shard_core.proofs.Turns.TallySteps.{walk_staged, all_staged, staged_shard, staged_given, staged_ended}
 use Rattle.shard_core.proofs.walk.stage.Goals as goal
 
 copied_none : (copies : Bool) → copied copies [] ≡ []

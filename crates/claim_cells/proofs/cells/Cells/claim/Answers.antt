@@ -1,7 +1,7 @@
 use Rattle.std.proofs.Common.{sym, subst}
 use Rattle.claim_cells.specs.Steps.{part_of}
 use Rattle.claim_cells.specs.Seats.{ShardShown, HasTurn}
-use Rattle.claim_cells.proofs.SeatsKept.{sighted}
+use Rattle.claim_cells.proofs.SeatSteps.Kept.{sighted}
 use Rattle.claim_cells.proofs.cells.Cells.claim.Goals as goal
 
 pub claim_at-won-requires-clause-seen : goal.claim_at-won-requires-clause-seen

@@ -2,8 +2,8 @@ use Rattle.std.proofs.Common.{◌≡◌, ℕ, ◌+◌, ◌*◌, ◌%◌, ◌<◌
 use Rattle.subj.specs.declared.limits.TheConstants.{MAX_COUNTER, MAX_QUEUE_NAMES, WINDOW}
 use Rattle.claim_cells.specs.Rule.{cell}
 use Rattle.claim_cells.specs.Steps.{part_of}
-use Rattle.claim_cells.proofs.Lists.{cell_below}
-use Rattle.claim_cells.proofs.Moves.{claim}
+use Rattle.claim_cells.proofs.Rules.Lists.{cell_below}
+use Rattle.claim_cells.proofs.Rules.Moves.{claim}
 use Rattle.claim_cells.proofs.cells.Cells.claim_at.Goals as goal
 
 pub fetch_max-found-requires : goal.fetch_max-found-requires

@@ -1,6 +1,6 @@
 use Rattle.std.proofs.Common.{rules, ◌≡◌, ℕ, ◌+◌, ◌*◌, length, slice_index, ap, ◌∙◌, arith}
 use Rattle.subj.specs.declared.limits.TheConstants.{MAX_QUEUE_NAMES, WINDOW}
-use Rattle.claim_cells.proofs.Gathering.{is_closed}
+use Rattle.claim_cells.proofs.SeatSteps.Gathering.{is_closed}
 use Rattle.claim_cells.proofs.cells.Cells.close.Goals as goal
 
 pub returns : goal.returns

@@ -1,7 +1,7 @@
 use Rattle.std.proofs.Common.{sym, subst}
 use Rattle.claim_cells.specs.Steps.{part_of}
 use Rattle.claim_cells.specs.Seats.{ShardShown, HasTurn}
-use Rattle.claim_cells.proofs.SeatsKept.{sighted}
+use Rattle.claim_cells.proofs.SeatSteps.Kept.{sighted}
 use Rattle.claim_cells.proofs.cells.Cells.finish.Goals as goal
 
 pub finish_at-requires-clause-seen : goal.finish_at-requires-clause-seen

@@ -6,9 +6,9 @@ use Rattle.claim_cells.specs.declared.parts.View.{View}
 use Rattle.atomic_table.specs.Table.{Final, Seen}
 use Rattle.claim_cells.specs.Rule.{Kept}
 use Rattle.claim_cells.specs.Calls.{Gathers}
-use Rattle.claim_cells.proofs.Moves.{joins}
-use Rattle.claim_cells.proofs.SeatsKept.{has_hub}
-use Rattle.claim_cells.proofs.Gathering.{gather_start, gather_step, gather_end, all_last, all_rest, limited}
+use Rattle.claim_cells.proofs.Rules.Moves.{joins}
+use Rattle.claim_cells.proofs.SeatSteps.Kept.{has_hub}
+use Rattle.claim_cells.proofs.SeatSteps.Gathering.{gather_start, gather_step, gather_end, all_last, all_rest, limited}
 use Rattle.claim_cells.proofs.cells.Cells.gather.Goals as goal
 
 pub loop-other-init : goal.loop-other-init

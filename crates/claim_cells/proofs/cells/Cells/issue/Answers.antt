@@ -3,7 +3,7 @@ use Rattle.subj.specs.declared.turns.Busy.{Busy}
 use Rattle.claim_cells.specs.Steps.{hub_of}
 use Rattle.claim_cells.specs.Seats.{HubShown}
 use Rattle.claim_cells.specs.Calls.{IsIssueAt, IsIssuedOrBusy}
-use Rattle.claim_cells.proofs.Issuing.{issued_hub, never_busy}
+use Rattle.claim_cells.proofs.SeatSteps.Issuing.{issued_hub, never_busy}
 use Rattle.claim_cells.proofs.cells.Cells.issue.Goals as goal
 
 pub returns-in_err-turn-clause-told : goal.returns-in_err-turn-clause-told

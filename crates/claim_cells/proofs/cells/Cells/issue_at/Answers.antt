@@ -1,8 +1,8 @@
 use Rattle.std.proofs.Common.{◌≡◌, ℕ, ◌+◌, List, take, None, sym, ap, ◌∙◌, arith}
 use Rattle.claim_race.specs.Race.{busy_of}
 use Rattle.claim_cells.specs.Calls.{finished_list}
-use Rattle.claim_cells.proofs.Turns.{same_turn}
-use Rattle.claim_cells.proofs.Rounds.{near_loads}
+use Rattle.claim_cells.proofs.SeatSteps.Turns.{same_turn}
+use Rattle.claim_cells.proofs.SeatSteps.Rounds.{near_loads}
 use Rattle.claim_cells.proofs.cells.Cells.issue_at.Goals as goal
 
 pub store_issued-requires-clause-near : goal.store_issued-requires-clause-near

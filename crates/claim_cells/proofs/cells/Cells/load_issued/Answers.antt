@@ -1,8 +1,8 @@
 use Rattle.std.proofs.Common.{ℕ, lit<, arith, sym, ap, ◌∙◌, subst}
 use Rattle.subj.specs.declared.limits.TheConstants.{MAX_COUNTER, MAX_QUEUE_NAMES, WINDOW}
 use Rattle.claim_cells.specs.Steps.{part_of, IsSeenAt}
-use Rattle.claim_cells.proofs.Turns.{some_turn, same_turn}
-use Rattle.claim_cells.proofs.Moves.{see}
+use Rattle.claim_cells.proofs.SeatSteps.Turns.{some_turn, same_turn}
+use Rattle.claim_cells.proofs.Rules.Moves.{see}
 use Rattle.claim_cells.proofs.cells.Cells.load_issued.Goals as goal
 
 pub load-found-requires : goal.load-found-requires

@@ -2,8 +2,8 @@ use Rattle.std.proofs.Common.{ap, ◌∙◌, subst}
 use Rattle.claim_cells.specs.Steps.{hub_of, with_loads}
 use Rattle.claim_cells.specs.Seats.{HubShown}
 use Rattle.claim_cells.specs.Calls.{IsLooked}
-use Rattle.claim_cells.proofs.SeatsKept.{hub_now}
-use Rattle.claim_cells.proofs.Issuing.{looked_loads}
+use Rattle.claim_cells.proofs.SeatSteps.Kept.{hub_now}
+use Rattle.claim_cells.proofs.SeatSteps.Issuing.{looked_loads}
 use Rattle.claim_cells.proofs.cells.Cells.look.Goals as goal
 
 pub invariant_of-seat : goal.invariant_of-seat

@@ -1,6 +1,6 @@
 use Rattle.std.proofs.Common.{◌+◌, ◌-◌, ◌++◌, ◌∷◌, [], ℕ, set, refl, ap, ◌∙◌, arith}
 use Rattle.subj.specs.declared.limits.TheConstants.{MAX_COUNTER}
-use Rattle.claim_cells.proofs.Rounds.{round_start, round_more, finished_more}
+use Rattle.claim_cells.proofs.SeatSteps.Rounds.{round_start, round_more, finished_more}
 use Rattle.claim_cells.proofs.cells.Cells.look_at_all.Goals as goal
 
 pub loop-before-init : goal.loop-before-init

@@ -2,8 +2,8 @@ use Rattle.std.proofs.Common.{[], ◌∷◌, ◌++◌, ◌≡◌, ◌+◌, lit<,
 use Rattle.subj.specs.declared.limits.TheConstants.{MAX_COUNTER, MAX_QUEUE_NAMES, WINDOW}
 use Rattle.claim_cells.specs.Seats.{RaceId}
 use Rattle.claim_cells.specs.Calls.{AllNew}
-use Rattle.claim_cells.proofs.Moves.{splits}
-use Rattle.claim_cells.proofs.Rounds.{split_off, one_more}
+use Rattle.claim_cells.proofs.Rules.Moves.{splits}
+use Rattle.claim_cells.proofs.SeatSteps.Rounds.{split_off, one_more}
 use Rattle.claim_cells.proofs.cells.Cells.new.Goals as goal
 
 pub split_seat-part-requires : goal.split_seat-part-requires

@@ -1,7 +1,7 @@
 use Rattle.std.proofs.Common.{ℕ, ◌≤◌, subst}
 use Rattle.claim_cells.specs.Rule.{Has}
 use Rattle.claim_cells.specs.Seats.{ShardShown}
-use Rattle.claim_cells.proofs.SeatsKept.{seat_saw}
+use Rattle.claim_cells.proofs.SeatSteps.Kept.{seat_saw}
 use Rattle.claim_cells.proofs.cells.Cells.seen.Goals as goal
 
 pub invariant_of-seat : goal.invariant_of-seat

@@ -1,7 +1,7 @@
 use Rattle.std.proofs.Common.{◌≡◌, lit<, arith, sym, ap, ◌∙◌}
 use Rattle.subj.specs.declared.limits.TheConstants.{MAX_COUNTER, MAX_QUEUE_NAMES, WINDOW}
 use Rattle.claim_cells.specs.Steps.{hub_of}
-use Rattle.claim_cells.proofs.Moves.{issue}
+use Rattle.claim_cells.proofs.Rules.Moves.{issue}
 use Rattle.claim_cells.proofs.cells.Cells.store_issued.Goals as goal
 
 pub store-requires : goal.store-requires

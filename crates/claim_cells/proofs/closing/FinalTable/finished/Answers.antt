@@ -1,5 +1,5 @@
 use Rattle.std.proofs.Common.{◌≡◌, ◌+◌, ◌-◌, ◌++◌, ◌∷◌, [], ℕ, set, length-append, refl, ap, ◌∙◌, arith}
-use Rattle.claim_cells.proofs.Rounds.{finished_more, found_more}
+use Rattle.claim_cells.proofs.SeatSteps.Rounds.{finished_more, found_more}
 use Rattle.claim_cells.proofs.closing.FinalTable.finished.Goals as goal
 
 pub loop-before-init : goal.loop-before-init

@@ -1,8 +1,8 @@
 use Rattle.std.proofs.Common.{ℕ, ◌≤◌, List, slice_index, sym, ap, ◌∙◌, subst}
 use Rattle.std.specs.Mem.Slots.{slots_items}
 use Rattle.subj.specs.declared.limits.TheConstants.{MAX_COUNTER}
-use Rattle.claim_cells.proofs.Lists.{read_at}
-use Rattle.claim_cells.proofs.Turns.{some_turn, same_turn}
+use Rattle.claim_cells.proofs.Rules.Lists.{read_at}
+use Rattle.claim_cells.proofs.SeatSteps.Turns.{some_turn, same_turn}
 use Rattle.claim_cells.proofs.closing.FinalTable.turn.Goals as goal
 
 pub unwrap-requires : goal.unwrap-requires

@@ -4,7 +4,7 @@ use Rattle.claim_race.specs.Race.{RaceState, IsInTurn, IsFinished}
 use Rattle.claim_cells.specs.Seats.{RaceId}
 use Rattle.claim_cells.specs.Calls.{finished_list}
 use Rattle.claim_cells.specs.OneSeat.{shown, finished_in}
-use Rattle.claim_cells.proofs.OneSeats.{looked_part, ready, finishes, noted_finish}
+use Rattle.claim_cells.proofs.SeatSteps.OneSeat.{looked_part, ready, finishes, noted_finish}
 use Rattle.claim_cells.proofs.one_seat.CellsRaceRace.finish.Goals as goal
 
 pub load_issued-requires-clause-part : goal.load_issued-requires-clause-part

@@ -4,7 +4,7 @@ use Rattle.subj.specs.declared.turns.Busy.{Busy}
 use Rattle.claim_race.specs.Race.{RaceState, busy_of, IsIssued}
 use Rattle.claim_cells.specs.Calls.{IsIssueAt}
 use Rattle.claim_cells.specs.OneSeat.{shown}
-use Rattle.claim_cells.proofs.OneSeats.{issues}
+use Rattle.claim_cells.proofs.SeatSteps.OneSeat.{issues}
 use Rattle.claim_cells.proofs.one_seat.CellsRaceRace.issue.Goals as goal
 
 pub returns-in_err-turn : goal.returns-in_err-turn

@@ -1,7 +1,7 @@
 use Rattle.std.proofs.Common.{rules, ◌≡◌, [], sym, ◌∙◌}
 use Rattle.claim_cells.specs.Rule.{whole_view}
 use Rattle.claim_cells.specs.Seats.{RaceId}
-use Rattle.claim_cells.proofs.OneSeats.{begins, none_finished}
+use Rattle.claim_cells.proofs.SeatSteps.OneSeat.{begins, none_finished}
 use Rattle.claim_cells.proofs.one_seat.CellsRaceRace.new.Goals as goal
 
 pub invariant_of-result : goal.invariant_of-result

@@ -6,7 +6,7 @@ use Rattle.node_core.specs.Lent.{asked_of}
 use Rattle.cluster_world.specs.InCode.{event_of, items_of}
 use Rattle.cluster_world.specs.Outcomes.{Done}
 use Rattle.cluster_world.specs.Value.{Listed, listed, added, shown, world_of, IsStepped}
-use Rattle.cluster_world.proofs.Kept.{slot_free, made_steps, made_keeps}
+use Rattle.cluster_world.proofs.Clusters.Kept.{slot_free, made_steps, made_keeps}
 use Rattle.cluster_world.proofs.world.World.act.Goals as goal
 
 pub step-requires-clause-cause : goal.step-requires-clause-cause

@@ -4,7 +4,7 @@ use Rattle.std.specs.Option.{option_map}
 use Rattle.node_core.specs.Lent.{asked_of}
 use Rattle.cluster_world.specs.InCode.{event_of, items_of}
 use Rattle.cluster_world.specs.Value.{listed, world_of, IsStepped}
-use Rattle.cluster_world.proofs.Kept.{found_cause}
+use Rattle.cluster_world.proofs.Clusters.Kept.{found_cause}
 use Rattle.cluster_world.proofs.world.World.ask.Goals as goal
 
 pub refuse-requires-clause-cause : goal.refuse-requires-clause-cause

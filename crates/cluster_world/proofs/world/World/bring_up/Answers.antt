@@ -5,8 +5,8 @@ use Rattle.cluster_world.specs.Events.{Start}
 use Rattle.cluster_world.specs.Outcomes.{Done}
 use Rattle.cluster_world.specs.State.{server_at}
 use Rattle.cluster_world.specs.Value.{listed, cluster_of, shown, world_of, IsKept, IsStepped}
-use Rattle.cluster_world.proofs.Kept.{start_at, start_within, start_steps, start_keeps}
-use Rattle.cluster_world.proofs.Starting.{server_there}
+use Rattle.cluster_world.proofs.Clusters.Kept.{start_at, start_within, start_steps, start_keeps}
+use Rattle.cluster_world.proofs.Clusters.Starting.{server_there}
 use Rattle.cluster_world.proofs.world.World.bring_up.Goals as goal
 
 pub put-requires : goal.put-requires

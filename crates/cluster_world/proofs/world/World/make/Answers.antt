@@ -3,8 +3,8 @@ use Rattle.std.proofs.lemmas.List.{take_all}
 use Rattle.list_laws.proofs.Changes.{map_append}
 use Rattle.cluster_world.specs.InCode.{event_of, outcome_of}
 use Rattle.cluster_world.specs.Value.{Ran}
-use Rattle.cluster_world.proofs.Finds.{map_take_more, take_map}
-use Rattle.cluster_world.proofs.Starting.{ran_more}
+use Rattle.cluster_world.proofs.Clusters.Finds.{map_take_more, take_map}
+use Rattle.cluster_world.proofs.Clusters.Starting.{ran_more}
 use Rattle.cluster_world.proofs.world.World.make.Goals as goal
 
 pub loop-event-preserved : goal.loop-event-preserved

@@ -1,5 +1,5 @@
 use Rattle.cluster_world.specs.Value.{listed}
-use Rattle.cluster_world.proofs.Kept.{refused_steps, refused_keeps}
+use Rattle.cluster_world.proofs.Clusters.Kept.{refused_steps, refused_keeps}
 use Rattle.cluster_world.proofs.world.World.refuse.Goals as goal
 
 pub invariant_of-self : goal.invariant_of-self

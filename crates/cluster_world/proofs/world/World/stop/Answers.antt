@@ -1,7 +1,7 @@
 use Rattle.std.proofs.Common.{◌∙◌, sym, subst}
 use Rattle.cluster_world.specs.Events.{Stop}
 use Rattle.cluster_world.specs.Value.{listed, IsStepped}
-use Rattle.cluster_world.proofs.Kept.{stop_cause}
+use Rattle.cluster_world.proofs.Clusters.Kept.{stop_cause}
 use Rattle.cluster_world.proofs.world.World.stop.Goals as goal
 
 pub refuse-requires-clause-cause : goal.refuse-requires-clause-cause

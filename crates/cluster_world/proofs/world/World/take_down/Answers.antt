@@ -3,7 +3,7 @@ use Rattle.node_law.specs.Answers.{Nothing}
 use Rattle.cluster_world.specs.Events.{Stop}
 use Rattle.cluster_world.specs.Outcomes.{Done}
 use Rattle.cluster_world.specs.Value.{listed, shown, world_of, IsKept, IsStepped}
-use Rattle.cluster_world.proofs.Kept.{stop_steps, stop_keeps}
+use Rattle.cluster_world.proofs.Clusters.Kept.{stop_steps, stop_keeps}
 use Rattle.cluster_world.proofs.world.World.take_down.Goals as goal
 
 pub invariant_of-self : goal.invariant_of-self

@@ -5,8 +5,8 @@ use Rattle.interest.specs.declared.changes.Delta.{Delta}
 use Rattle.hub_core.specs.Hubs.{Hub, shown, IsStep}
 use Rattle.hub_core.specs.Events.{Collect, Collected}
 use Rattle.hub_core.specs.Telling.{collect_refusal, collect_frames}
-use Rattle.hub_core.proofs.Collected.{nothing_refused, nothing_told}
-use Rattle.hub_core.proofs.Puts.{no_items}
+use Rattle.hub_core.proofs.Steps.Collected.{nothing_refused, nothing_told}
+use Rattle.hub_core.proofs.Neighbours.Puts.{no_items}
 use Rattle.hub_core.proofs.hub.Hub.collect.Goals as goal
 
 pub returns-then-is_empty : goal.returns-then-is_empty

@@ -4,7 +4,7 @@ use Rattle.subj.specs.Servers.{is_peer, place}
 use Rattle.hub_core.specs.State.{State}
 use Rattle.hub_core.specs.Receiving.{receive_refusal, received, has_message}
 use Rattle.hub_core.specs.Hubs.{Hub, shown}
-use Rattle.hub_core.proofs.Origins.{received_is, received_kept, turn_is}
+use Rattle.hub_core.proofs.Neighbours.Origins.{received_is, received_kept, turn_is}
 use Rattle.hub_core.proofs.hub.Hub.commit_message.Goals as goal
 
 pub invariant_of-self : goal.invariant_of-self

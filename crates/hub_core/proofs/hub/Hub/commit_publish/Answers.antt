@@ -3,7 +3,7 @@ use Rattle.hub_core.specs.State.{State, Peer}
 use Rattle.hub_core.specs.Publishing.{with_frames}
 use Rattle.hub_core.specs.Calls.{HasRoomFor, IsPlanned}
 use Rattle.hub_core.specs.Hubs.{Hub, shown}
-use Rattle.hub_core.proofs.Issued.{frames_have_room, issued_kept, issued_is}
+use Rattle.hub_core.proofs.Steps.Issued.{frames_have_room, issued_kept, issued_is}
 use Rattle.hub_core.proofs.hub.Hub.commit_publish.Goals as goal
 
 pub put_all-requires-clause-room : goal.put_all-requires-clause-room

@@ -4,7 +4,7 @@ use Rattle.hub_core.specs.Events.{Up, IsUp}
 use Rattle.hub_core.specs.Peers.{snapshot_to}
 use Rattle.hub_core.specs.Steps.{IsMeeting}
 use Rattle.hub_core.specs.Hubs.{Hub, IsStep, shown}
-use Rattle.hub_core.proofs.CameUp.{met_kept, met_done}
+use Rattle.hub_core.proofs.Neighbours.CameUp.{met_kept, met_done}
 use Rattle.hub_core.proofs.hub.Hub.commit_up.Goals as goal
 
 pub invariant_of-self : goal.invariant_of-self

@@ -5,7 +5,7 @@ use Rattle.subj.specs.Servers.{is_peer, place}
 use Rattle.hub_core.specs.declared.faults.HubFault.{HubFault}
 use Rattle.hub_core.specs.Receiving.{receive_refusal, received}
 use Rattle.hub_core.specs.Hubs.{Hub, shown}
-use Rattle.hub_core.proofs.Origins.{heard_kept, heard_done}
+use Rattle.hub_core.proofs.Neighbours.Origins.{heard_kept, heard_done}
 use Rattle.hub_core.proofs.hub.Hub.hear.Goals as goal
 
 pub invariant_of-self : goal.invariant_of-self

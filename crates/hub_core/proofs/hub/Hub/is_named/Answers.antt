@@ -4,7 +4,7 @@ use Rattle.hub_core.specs.State.{State, Peer}
 use Rattle.hub_core.specs.Hubs.{Hub}
 use Rattle.hub_core.specs.Choice.{queue_names}
 use Rattle.hub_core.specs.Chosen.{wants_name_from}
-use Rattle.hub_core.proofs.Choosing.{none_wanted}
+use Rattle.hub_core.proofs.Choices.Choosing.{none_wanted}
 use Rattle.hub_core.proofs.hub.Hub.is_named.Goals as goal
 
 pub returns : goal.returns

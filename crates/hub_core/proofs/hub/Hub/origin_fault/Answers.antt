@@ -1,7 +1,7 @@
 use Rattle.std.proofs.Common.{◌≡◌, ◌<◌, ◌≤◌, get_or, sym, ap, ◌∙◌, arith}
 use Rattle.hub_core.specs.State.{Peer, known}
 use Rattle.hub_core.specs.Hubs.{Hub}
-use Rattle.hub_core.proofs.Origins.{of_news, of_late, of_turn}
+use Rattle.hub_core.proofs.Neighbours.Origins.{of_news, of_late, of_turn}
 use Rattle.hub_core.proofs.hub.Hub.origin_fault.Goals as goal
 
 pub returns-then-not-is_message : goal.returns-then-not-is_message

@@ -4,8 +4,8 @@ use Rattle.subj.specs.Servers.{is_peer}
 use Rattle.hub_core.specs.State.{Peer}
 use Rattle.hub_core.specs.Events.{Cut}
 use Rattle.hub_core.specs.Hubs.{Hub, shown}
-use Rattle.hub_core.proofs.Changed.{changed_is}
-use Rattle.hub_core.proofs.Kept.{kept_after, peer_within}
+use Rattle.hub_core.proofs.Neighbours.Changed.{changed_is}
+use Rattle.hub_core.proofs.Steps.Kept.{kept_after, peer_within}
 use Rattle.hub_core.proofs.hub.Hub.peer_cut.Goals as goal
 
 pub invariant_of-self : goal.invariant_of-self

@@ -9,8 +9,8 @@ use Rattle.hub_core.specs.Choice.{names_for, queue_names}
 use Rattle.hub_core.specs.Publishing.{choice_of, names_of}
 use Rattle.hub_core.specs.Chosen.{chosen_for, IsPlanOf, publication, sent_from}
 use Rattle.hub_core.specs.Serving.{IsServed}
-use Rattle.hub_core.proofs.Sending.{chosen_is, split_is, sent_is}
-use Rattle.hub_core.proofs.Wanted.{names_are_wanted}
+use Rattle.hub_core.proofs.Neighbours.Sending.{chosen_is, split_is, sent_is}
+use Rattle.hub_core.proofs.Choices.Wanted.{names_are_wanted}
 use Rattle.hub_core.proofs.hub.Hub.plan_by.Goals as goal
 
 pub names_for-requires-clause-all : goal.names_for-requires-clause-all

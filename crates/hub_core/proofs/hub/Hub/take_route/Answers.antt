@@ -4,7 +4,7 @@ use Rattle.subj.specs.Servers.{is_peer}
 use Rattle.hub_core.specs.Events.{TakeFrom, Taken}
 use Rattle.hub_core.specs.Peers.{take_refusal}
 use Rattle.hub_core.specs.Hubs.{Hub, IsStep, shown}
-use Rattle.hub_core.proofs.Taken.{taken_kept, taken_done}
+use Rattle.hub_core.proofs.Neighbours.Taken.{taken_kept, taken_done}
 use Rattle.hub_core.proofs.hub.Hub.take_route.Goals as goal
 
 pub invariant_of-self-2 : goal.invariant_of-self-2

@@ -4,9 +4,9 @@ use Rattle.hub_core.specs.Publishing.{with_frames}
 use Rattle.hub_core.specs.Telling.{without_slow}
 use Rattle.hub_core.specs.Calls.{HasRoomFor, AreCounted}
 use Rattle.hub_core.specs.Hubs.{Hub, shown}
-use Rattle.hub_core.proofs.Collected.{told_have_room, told_kept}
-use Rattle.hub_core.proofs.Issued.{rewritten}
-use Rattle.hub_core.proofs.Known.{map_length, frames_length}
+use Rattle.hub_core.proofs.Steps.Collected.{told_have_room, told_kept}
+use Rattle.hub_core.proofs.Steps.Issued.{rewritten}
+use Rattle.hub_core.proofs.Neighbours.Known.{map_length, frames_length}
 use Rattle.hub_core.proofs.hub.Hub.tell.Goals as goal
 
 pub put_all-requires-clause-room : goal.put_all-requires-clause-room

@@ -3,7 +3,7 @@ use Rattle.std.proofs.lemmas.Result.{err_from_is_err_and}
 use Rattle.subj.specs.declared.limits.TheConstants.{MAX_KEYS, SUBSCRIPTION_BYTES}
 use Rattle.subj.specs.Keys.{cost_of}
 use Rattle.interest.specs.Counts.{Counts, total_cost, is_full, too_many_if}
-use Rattle.interest.proofs.Deltas.{has_room}
+use Rattle.interest.proofs.Counting.Deltas.{has_room}
 use Rattle.interest.proofs.counts.Local.add.Goals as goal
 
 pub returns-in_err-key : goal.returns-in_err-key

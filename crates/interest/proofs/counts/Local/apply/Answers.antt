@@ -2,8 +2,8 @@ use Rattle.std.proofs.Common.{refl, sym, ap, ◌∙◌, subst}
 use Rattle.subj.specs.Keys.{key_cmp}
 use Rattle.interest.specs.Places.{IsGapFor}
 use Rattle.interest.specs.Counts.{Counts, count_after}
-use Rattle.interest.proofs.Entries.{no_count}
-use Rattle.interest.proofs.Deltas.{answered, opening_of_unknown, closing_of_unknown, counts_are, change_is}
+use Rattle.interest.proofs.Counting.Entries.{no_count}
+use Rattle.interest.proofs.Counting.Deltas.{answered, opening_of_unknown, closing_of_unknown, counts_are, change_is}
 use Rattle.interest.proofs.counts.Local.apply.Goals as goal
 
 pub returns-in-Err-true : goal.returns-in-Err-true

@@ -1,7 +1,7 @@
 use Rattle.std.proofs.Common.{◌≡◌, suc, take, ◌+◌, cond, length, Some, None, sym, ap, ◌∙◌, subst, arith}
 use Rattle.interest.specs.Counts.{IsInterest}
 use Rattle.interest.specs.Told.{changes_told}
-use Rattle.interest.proofs.InOrder.{CountedSoFar, number_here, refused_here, counted_next}
+use Rattle.interest.proofs.Counting.InOrder.{CountedSoFar, number_here, refused_here, counted_next}
 use Rattle.interest.proofs.counts.Local.changes_one_by_one.Goals as goal
 
 pub returns-then-is_refused : goal.returns-then-is_refused

@@ -1,4 +1,4 @@
-use Rattle.interest.proofs.InOrder.{CountedSoFar}
+use Rattle.interest.proofs.Counting.InOrder.{CountedSoFar}
 use Rattle.interest.proofs.counts.Local.changes_one_by_one.Given as goal
 
 abbrev pub invariant-loop-place : goal.invariant-loop-place

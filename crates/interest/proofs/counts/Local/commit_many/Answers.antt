@@ -3,7 +3,7 @@ use Rattle.std.specs.Prelude.{vec_capacity}
 use Rattle.subj.specs.declared.limits.TheConstants.{MAX_KEYS}
 use Rattle.interest.specs.Counts.{Counts, IsInterest, total_cost}
 use Rattle.interest.specs.Recounts.{with_numbers}
-use Rattle.interest.proofs.Numbered.{stays_valid, told_at_once}
+use Rattle.interest.proofs.Counting.Numbered.{stays_valid, told_at_once}
 use Rattle.interest.proofs.counts.Local.commit_many.Goals as goal
 
 pub invariant_of-self : goal.invariant_of-self

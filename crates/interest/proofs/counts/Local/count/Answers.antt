@@ -3,9 +3,9 @@ use Rattle.subj.specs.declared.keys.Key.{Key}
 use Rattle.subj.specs.Keys.{key_cmp}
 use Rattle.interest.specs.Places.{IsPlaceOf, IsGapFor}
 use Rattle.interest.specs.Counts.{Counts, with_count, is_full}
-use Rattle.interest.proofs.Entries.{number_is, number_fits}
-use Rattle.interest.proofs.Deltas.{counts_are}
-use Rattle.interest.proofs.Counted.{not_refused, number_left, nothing_taken, opens_one, has_place, is_counted, is_first, one_more, not_none}
+use Rattle.interest.proofs.Counting.Entries.{number_is, number_fits}
+use Rattle.interest.proofs.Counting.Deltas.{counts_are}
+use Rattle.interest.proofs.Counting.InPlace.{not_refused, number_left, nothing_taken, opens_one, has_place, is_counted, is_first, one_more, not_none}
 use Rattle.interest.proofs.counts.Local.count.Goals as goal
 
 pub number_after-count-requires : goal.number_after-count-requires

@@ -1,7 +1,7 @@
 use Rattle.std.proofs.Common.{◌≡◌, suc, take, ◌+◌, subst, arith}
 use Rattle.interest.specs.Counts.{IsInterest}
-use Rattle.interest.proofs.InOrder.{number_here}
-use Rattle.interest.proofs.Planned.{Planned, planned_next, planned_most, planned_fits}
+use Rattle.interest.proofs.Counting.InOrder.{number_here}
+use Rattle.interest.proofs.Counting.Planned.{Planned, planned_next, planned_most, planned_fits}
 use Rattle.interest.proofs.counts.Local.plan_few.Goals as goal
 
 pub add-requires-clause-fits : goal.add-requires-clause-fits

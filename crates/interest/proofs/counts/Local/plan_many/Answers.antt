@@ -5,7 +5,7 @@ use Rattle.std.specs.BTreeMap.{is_at, insert_entry}
 use Rattle.subj.specs.declared.keys.Key.{Key}
 use Rattle.subj.specs.Keys.{key_cmp}
 use Rattle.interest.specs.Counts.{count_of, change_between}
-use Rattle.interest.proofs.Numbered.{Reached, number_small, number_fits, refused_now, reached_next}
+use Rattle.interest.proofs.Counting.Numbered.{Reached, number_small, number_fits, refused_now, reached_next}
 use Rattle.interest.proofs.counts.Local.plan_many.Goals as goal
 
 pub returns-then-is_refused : goal.returns-then-is_refused

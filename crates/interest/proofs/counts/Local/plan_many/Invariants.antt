@@ -1,4 +1,4 @@
-use Rattle.interest.proofs.Numbered.{Reached}
+use Rattle.interest.proofs.Counting.Numbered.{Reached}
 use Rattle.interest.proofs.counts.Local.plan_many.Given as goal
 
 abbrev pub invariant-loop-place : goal.invariant-loop-place

@@ -3,7 +3,7 @@ use Rattle.std.specs.Prelude.{insert}
 use Rattle.subj.specs.Keys.{key_cmp}
 use Rattle.interest.specs.Places.{IsGapFor}
 use Rattle.interest.specs.Counts.{Counts, total_cost, is_full}
-use Rattle.interest.proofs.Entries.{added, total_added}
+use Rattle.interest.proofs.Counting.Entries.{added, total_added}
 use Rattle.interest.proofs.counts.Local.put_new.Goals as goal
 
 pub invariant_of-self : goal.invariant_of-self

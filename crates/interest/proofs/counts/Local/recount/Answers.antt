@@ -1,8 +1,8 @@
 use Rattle.std.proofs.Common.{◌≡◌, refl, ap, ◌∙◌, arith}
 use Rattle.std.proofs.lemmas.Result.{err_from_is_err_and}
 use Rattle.interest.specs.Counts.{change_between}
-use Rattle.interest.proofs.Entries.{number_is, number_fits}
-use Rattle.interest.proofs.Deltas.{too_many, no_fault, number_most, counts_are, change_is}
+use Rattle.interest.proofs.Counting.Entries.{number_is, number_fits}
+use Rattle.interest.proofs.Counting.Deltas.{too_many, no_fault, number_most, counts_are, change_is}
 use Rattle.interest.proofs.counts.Local.recount.Goals as goal
 
 pub returns-then-count-ge-MAX_WEIGHT : goal.returns-then-count-ge-MAX_WEIGHT

@@ -1,6 +1,6 @@
 use Rattle.std.proofs.Common.{◌<◌, length, subst}
 use Rattle.interest.specs.Counts.{Counts}
-use Rattle.interest.proofs.Entries.{counted_at}
+use Rattle.interest.proofs.Counting.Entries.{counted_at}
 use Rattle.interest.proofs.counts.Local.weight.Goals as goal
 
 pub returns-in-Ok-clause-most : goal.returns-in-Ok-clause-most

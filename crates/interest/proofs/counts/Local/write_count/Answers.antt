@@ -4,8 +4,8 @@ use Rattle.subj.specs.declared.keys.Key.{Key}
 use Rattle.subj.specs.Keys.{key_cmp, cost_of}
 use Rattle.interest.specs.Places.{IsPlaceOf}
 use Rattle.interest.specs.Counts.{Counts, total_cost, IsInterest}
-use Rattle.interest.proofs.Entries.{changed, removed, total_set, total_removed}
-use Rattle.interest.proofs.Ties.{tied_cost}
+use Rattle.interest.proofs.Counting.Entries.{changed, removed, total_set, total_removed}
+use Rattle.interest.proofs.Counting.Ties.{tied_cost}
 use Rattle.interest.proofs.counts.Local.write_count.Goals as goal
 
 pub overflow_sub-self : goal.overflow_sub-self

@@ -3,7 +3,7 @@ use Rattle.std.specs.Prelude.{unwrap_or, is_some, ◌==◌}
 use Rattle.std.specs.Option.{option_copied}
 use Rattle.std.proofs.lemmas.Bool.Decides.{nat_tests}
 use Rattle.subj.specs.declared.limits.TheConstants.{MAX_QUEUE_NAMES}
-use Rattle.interest.proofs.Gathering.{there, put, has_is, put_is, full_is, All-insert}
+use Rattle.interest.proofs.Matching.Gathering.{there, put, has_is, put_is, full_is, All-insert}
 use Rattle.interest.proofs.names.FoundNames.add.Goals as goal
 
 abbrev name_of : Option (Bor (List ℕ)) → List ℕ

@@ -1,4 +1,4 @@
-use Rattle.interest.proofs.ByBytes.{behind_stripped, behind_unstripped}
+use Rattle.interest.proofs.Matching.ByBytes.{behind_stripped, behind_unstripped}
 use Rattle.std.proofs.Common.{◌∙◌}
 use Rattle.interest.proofs.sights.Beginning.is_behind.Goals as goal
 

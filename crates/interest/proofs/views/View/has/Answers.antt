@@ -5,7 +5,7 @@ use Rattle.subj.specs.Keys.{key_cmp}
 use Rattle.interest.specs.Heard.{Heard}
 use Rattle.interest.specs.Places.{IsPlaceOf, IsGapFor}
 use Rattle.interest.specs.Views.{View, has_key}
-use Rattle.interest.proofs.Hearing.{key_at, no_key_at}
+use Rattle.interest.proofs.News.Hearing.{key_at, no_key_at}
 use Rattle.interest.proofs.views.View.has.Goals as goal
 
 found : (keys : View) (key : Key) (r : Result ℕ ℕ) → MatchResult r (IsPlaceOf key_cmp key keys) (IsGapFor key_cmp key keys) → is_ok r ≡ has_key keys key

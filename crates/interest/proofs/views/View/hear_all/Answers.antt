@@ -3,7 +3,7 @@ use Rattle.std.specs.Prelude.{nat_lt}
 use Rattle.route_values.specs.Snapshots.{are_snapshot_keys, is_short}
 use Rattle.interest.specs.Heard.{IsHeard}
 use Rattle.interest.specs.Views.{View}
-use Rattle.interest.proofs.Hearing.{snapshot_is_heard}
+use Rattle.interest.proofs.News.Hearing.{snapshot_is_heard}
 use Rattle.interest.proofs.views.View.hear_all.Goals as goal
 
 pub invariant_of-self : goal.invariant_of-self

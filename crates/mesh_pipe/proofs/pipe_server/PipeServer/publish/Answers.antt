@@ -1,5 +1,5 @@
 use Rattle.std.proofs.Common.{refl}
-use Rattle.mesh_pipe.proofs.Answering.{publish_outcome, published_known}
+use Rattle.mesh_pipe.proofs.Text.Answering.{publish_outcome, published_known}
 use Rattle.mesh_pipe.proofs.pipe_server.PipeServer.publish.Goals as goal
 
 pub take-requires-clause-known : goal.take-requires-clause-known

@@ -7,7 +7,7 @@ use Rattle.node_law.specs.Events.{Own, AtShard}
 use Rattle.node_law.specs.declared.events.ShardWork.TheVariants.{Attach}
 use Rattle.node_core.specs.Served.{DoesStep, LineStep, WorkStep, work_answer, seen, refusal}
 use Rattle.node_law.specs.Steps.{shard_line}
-use Rattle.node_core.proofs.Composed.{work_call, reworded}
+use Rattle.node_core.proofs.Calls.Composed.{work_call, reworded}
 use Rattle.node_core.proofs.node.Node.attach.Goals as goal
 
 pub invariant_of-self : goal.invariant_of-self

@@ -6,7 +6,7 @@ use Rattle.node_law.specs.Events.{Own, AtShard}
 use Rattle.node_law.specs.declared.events.ShardWork.TheVariants.{Begin}
 use Rattle.node_core.specs.Served.{DoesStep, LineBegins, BeginStep, IsToldAt, seen, refusal}
 use Rattle.node_law.specs.Steps.{shard_line, begin_of, line_after_if}
-use Rattle.node_core.proofs.Composed.{work_call, reworded}
+use Rattle.node_core.proofs.Calls.Composed.{work_call, reworded}
 use Rattle.node_core.proofs.node.Node.begin.Goals as goal
 
 pub invariant_of-self : goal.invariant_of-self

@@ -5,8 +5,8 @@ use Rattle.subj.specs.Answers.{IsAnswered}
 use Rattle.node_law.specs.Events.{Own, AtShard}
 use Rattle.node_law.specs.declared.events.ShardWork.TheVariants.{Claim}
 use Rattle.node_core.specs.Served.{ClaimStep, seen, refusal}
-use Rattle.node_core.proofs.Composed.{shard_found}
-use Rattle.node_core.proofs.Claiming.{may_claim, claim_call}
+use Rattle.node_core.proofs.Calls.Composed.{shard_found}
+use Rattle.node_core.proofs.Calls.Claiming.{may_claim, claim_call}
 use Rattle.node_core.proofs.node.Node.claim.Goals as goal
 
 pub claim-requires : goal.claim-requires

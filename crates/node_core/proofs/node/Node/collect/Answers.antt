@@ -14,9 +14,9 @@ use Rattle.node_parts.specs.declared.told.Told.{Told}
 use Rattle.node_law.specs.Events.{Own, Collect}
 use Rattle.node_law.specs.Steps.{collect_refusal_at}
 use Rattle.node_core.specs.Served.{Served, CollectStep, seen, refusal}
-use Rattle.node_core.proofs.Composed.{shard_found, lines_same}
-use Rattle.node_core.proofs.GivenJobs.{hub_refuses, refused_same, refused_as}
-use Rattle.node_core.proofs.Collects.{is_up, told_of, frames_within, collect_done, collect_kept, collect_left}
+use Rattle.node_core.proofs.Calls.Composed.{shard_found, lines_same}
+use Rattle.node_core.proofs.Calls.GivenJobs.{hub_refuses, refused_same, refused_as}
+use Rattle.node_core.proofs.Calls.Collects.{is_up, told_of, frames_within, collect_done, collect_kept, collect_left}
 use Rattle.node_core.proofs.node.Node.collect.Goals as goal
 
 pub invariant_of-self : goal.invariant_of-self

@@ -7,7 +7,7 @@ use Rattle.node_law.specs.declared.faults.NodeFault.TheVariants as node_fault
 use Rattle.node_law.specs.Events.{Own, Collect}
 use Rattle.node_core.specs.Served.{Served, seen, refusal}
 use Rattle.node_law.specs.Steps.{collect_refusal_at}
-use Rattle.node_core.proofs.Composed.{shard_found}
+use Rattle.node_core.proofs.Calls.Composed.{shard_found}
 use Rattle.node_core.proofs.node.Node.collect_fault.Goals as goal
 
 pub returns : goal.returns

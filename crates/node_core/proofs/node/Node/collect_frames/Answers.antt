@@ -9,8 +9,8 @@ use Rattle.node_law.specs.declared.faults.NodeFault.TheVariants as node_fault
 use Rattle.node_law.specs.Events.{Own, Collect}
 use Rattle.node_core.specs.Served.{Served, seen, refusal}
 use Rattle.node_law.specs.Steps.{node_frames, collect_refusal_at, deltas_at}
-use Rattle.node_core.proofs.Composed.{shard_found}
-use Rattle.node_core.proofs.GivenJobs.{hub_refuses}
+use Rattle.node_core.proofs.Calls.Composed.{shard_found}
+use Rattle.node_core.proofs.Calls.GivenJobs.{hub_refuses}
 use Rattle.node_core.proofs.node.Node.collect_frames.Goals as goal
 
 pub returns-in-Err : goal.returns-in-Err

@@ -6,7 +6,7 @@ use Rattle.route_session.specs.Events as of_session
 use Rattle.node_law.specs.Events.{OnConnect}
 use Rattle.node_core.specs.Served.{Served, ConnectStep, seen, refusal}
 use Rattle.node_parts.proofs.Greeting.{peer_is, same_name, same_seen, same_up, greets_peer, meets, connect_free}
-use Rattle.node_core.proofs.Greeting.{connect_done, connect_kept}
+use Rattle.node_core.proofs.Calls.Greeting.{connect_done, connect_kept}
 use Rattle.node_core.proofs.node.Node.connect.Goals as goal
 
 pub unreachable-requires : goal.unreachable-requires

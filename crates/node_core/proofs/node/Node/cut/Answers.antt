@@ -1,4 +1,4 @@
-use Rattle.node_core.proofs.Composed.{cut_keeps}
+use Rattle.node_core.proofs.Calls.Composed.{cut_keeps}
 use Rattle.node_core.proofs.node.Node.cut.Goals as goal
 
 pub invariant_of-self-in-Ok-Some : goal.invariant_of-self-in-Ok-Some

@@ -5,7 +5,7 @@ use Rattle.route_session.specs.Calls.{peer_of as peer_by_name}
 use Rattle.node_law.specs.Answers.{Kept}
 use Rattle.node_law.specs.Events.{OnConnect}
 use Rattle.node_core.specs.Outcome.{Outcome, Does}
-use Rattle.node_core.proofs.Sending.{bare, connect_does}
+use Rattle.node_core.proofs.Outcomes.Sending.{bare, connect_does}
 use Rattle.node_core.proofs.node.Node.did_connect.Goals as goal
 
 pub returns : goal.returns

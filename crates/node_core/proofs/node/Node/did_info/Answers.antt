@@ -5,7 +5,7 @@ use Rattle.route_session.specs.Calls.{peer_of as peer_by_name}
 use Rattle.node_law.specs.Answers.{Kept}
 use Rattle.node_law.specs.Events.{OnInfo}
 use Rattle.node_core.specs.Outcome.{Outcome, Does}
-use Rattle.node_core.proofs.Sending.{bare, info_does}
+use Rattle.node_core.proofs.Outcomes.Sending.{bare, info_does}
 use Rattle.node_core.proofs.node.Node.did_info.Goals as goal
 
 pub returns : goal.returns

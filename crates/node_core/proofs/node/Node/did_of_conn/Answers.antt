@@ -5,8 +5,8 @@ use Rattle.node_law.specs.Events.{Own, OfConn}
 use Rattle.node_law.specs.declared.events.ConnEvent.TheVariants.{Take}
 use Rattle.node_core.specs.Outcome.{Does, did_of}
 use Rattle.node_core.specs.Served.{refusal}
-use Rattle.node_core.proofs.Answered.{conn_answers}
-use Rattle.node_core.proofs.Outcomes.{take_does}
+use Rattle.node_core.proofs.Outcomes.Answered.{conn_answers}
+use Rattle.node_core.proofs.Outcomes.Told.{take_does}
 use Rattle.node_core.proofs.node.Node.did_of_conn.Goals as goal
 
 pub returns-in_ok-entries-in-Take : goal.returns-in_ok-entries-in-Take

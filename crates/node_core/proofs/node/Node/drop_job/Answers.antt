@@ -5,7 +5,7 @@ use Rattle.node_law.specs.Events.{Own, AtShard}
 use Rattle.node_law.specs.declared.events.ShardWork.TheVariants.{DropJob}
 use Rattle.node_core.specs.Served.{DropStep, seen, refusal}
 use Rattle.node_law.specs.Steps.{work_refusal}
-use Rattle.node_core.proofs.Composed.{shard_found, dropped_held, waits_next, drop_done, step_keeps, lines_same}
+use Rattle.node_core.proofs.Calls.Composed.{shard_found, dropped_held, waits_next, drop_done, step_keeps, lines_same}
 use Rattle.node_core.proofs.node.Node.drop_job.Goals as goal
 
 pub drop_job-requires : goal.drop_job-requires

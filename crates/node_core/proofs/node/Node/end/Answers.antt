@@ -6,7 +6,7 @@ use Rattle.node_law.specs.Events.{Own, AtShard}
 use Rattle.node_law.specs.declared.events.ShardWork.TheVariants.{End}
 use Rattle.node_core.specs.Served.{WorkStep, seen, refusal}
 use Rattle.node_law.specs.Steps.{work_refusal}
-use Rattle.node_core.proofs.Composed.{shard_found, held_turn, end_done, step_keeps, lines_same}
+use Rattle.node_core.proofs.Calls.Composed.{shard_found, held_turn, end_done, step_keeps, lines_same}
 use Rattle.node_core.proofs.node.Node.end.Goals as goal
 
 pub finish-requires : goal.finish-requires

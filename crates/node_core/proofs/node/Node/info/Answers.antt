@@ -6,7 +6,7 @@ use Rattle.route_session.specs.Events as of_session
 use Rattle.node_law.specs.Events.{OnInfo}
 use Rattle.node_core.specs.Served.{Served, InfoStep, seen, refusal}
 use Rattle.node_parts.proofs.Greeting.{peer_is, same_name, same_seen, same_up, greets_peer, meets, info_free}
-use Rattle.node_core.proofs.Greeting.{info_done, info_kept}
+use Rattle.node_core.proofs.Calls.Greeting.{info_done, info_kept}
 use Rattle.node_core.proofs.node.Node.info.Goals as goal
 
 pub unreachable-requires : goal.unreachable-requires

@@ -4,7 +4,7 @@ use Rattle.hub_core.specs.Hubs.{Hub}
 use Rattle.route_session.specs.Calls.{Served}
 use Rattle.node_core.specs.Served.{IsKept}
 use Rattle.node_law.specs.State.{lines_from}
-use Rattle.node_core.proofs.Starts.{starts_as, starts_kept}
+use Rattle.node_core.proofs.Calls.Starts.{starts_as, starts_kept}
 use Rattle.node_core.proofs.node.Node.new.Goals as goal
 
 pub invariant_of-result : goal.invariant_of-result

@@ -10,7 +10,7 @@ use Rattle.node_parts.specs.declared.told.Issued.{Issued}
 use Rattle.node_law.specs.State.{Line}
 use Rattle.node_law.specs.Events.{Own, Publish}
 use Rattle.node_core.specs.Served.{Served, IsKept, MayIssue, AreGiven, PublishStep, seen, refusal}
-use Rattle.node_core.proofs.GivenJobs.{are_counted, publish_heard, publish_ready, IsPublished, publish_done, publish_kept, given_length, hub_refuses, refused_as}
+use Rattle.node_core.proofs.Calls.GivenJobs.{are_counted, publish_heard, publish_ready, IsPublished, publish_done, publish_kept, given_length, hub_refuses, refused_as}
 use Rattle.node_parts.proofs.Handing.{written}
 use Rattle.node_core.proofs.node.Node.publish.Goals as goal
 

@@ -4,7 +4,7 @@ use Rattle.hub_core.specs.Chosen.{publication}
 use Rattle.node_law.specs.declared.faults.NodeFault.TheVariants as node_fault
 use Rattle.node_law.specs.Events.{Own, Publish}
 use Rattle.node_core.specs.Served.{Served, seen, refusal}
-use Rattle.node_core.proofs.GivenJobs.{are_counted, publish_heard}
+use Rattle.node_core.proofs.Calls.GivenJobs.{are_counted, publish_heard}
 use Rattle.node_core.proofs.node.Node.publish_fault.Goals as goal
 
 pub finished_by-finished-requires-clause-all : goal.finished_by-finished-requires-clause-all

@@ -9,7 +9,7 @@ use Rattle.node_law.specs.declared.faults.NodeFault.TheVariants as node_fault
 use Rattle.node_law.specs.Events.{Own, Publish}
 use Rattle.node_core.specs.Served.{Served, seen, refusal}
 use Rattle.node_law.specs.Steps.{node_frames}
-use Rattle.node_core.proofs.GivenJobs.{are_counted, publish_heard, hub_refuses}
+use Rattle.node_core.proofs.Calls.GivenJobs.{are_counted, publish_heard, hub_refuses}
 use Rattle.node_core.proofs.node.Node.publish_frames.Goals as goal
 
 pub finished_by-finished-requires-clause-all : goal.finished_by-finished-requires-clause-all

@@ -11,9 +11,9 @@ use Rattle.node_parts.specs.declared.told.Received.{Received}
 use Rattle.node_law.specs.Events.{Receive}
 use Rattle.node_law.specs.State.{Line}
 use Rattle.node_core.specs.Served.{Served, IsKept, MayRoute, AreRouted, ReceiveStep, IsReceived, seen, refusal}
-use Rattle.node_core.proofs.Composed.{Kept}
-use Rattle.node_core.proofs.GivenJobs.{are_counted, hub_refuses, refused_same, refused_as}
-use Rattle.node_core.proofs.Routing.{receive_heard, may_route, is_of_peer, IsDone, receive_done, receive_kept, routed_length}
+use Rattle.node_core.proofs.Calls.Composed.{Kept}
+use Rattle.node_core.proofs.Calls.GivenJobs.{are_counted, hub_refuses, refused_same, refused_as}
+use Rattle.node_core.proofs.Calls.Routing.{receive_heard, may_route, is_of_peer, IsDone, receive_done, receive_kept, routed_length}
 use Rattle.node_parts.proofs.Handing.{written}
 use Rattle.node_core.proofs.node.Node.receive.Goals as goal
 

@@ -3,8 +3,8 @@ use Rattle.std.specs.Option.{option_map}
 use Rattle.node_law.specs.declared.faults.NodeFault.TheVariants as node_fault
 use Rattle.node_law.specs.Events.{Receive}
 use Rattle.node_core.specs.Served.{Served, seen, refusal}
-use Rattle.node_core.proofs.GivenJobs.{are_counted}
-use Rattle.node_core.proofs.Routing.{receive_heard}
+use Rattle.node_core.proofs.Calls.GivenJobs.{are_counted}
+use Rattle.node_core.proofs.Calls.Routing.{receive_heard}
 use Rattle.node_core.proofs.node.Node.receive_fault.Goals as goal
 
 pub finished_by-finished-requires-clause-all : goal.finished_by-finished-requires-clause-all

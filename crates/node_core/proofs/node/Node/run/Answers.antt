@@ -3,7 +3,7 @@ use Rattle.subj.specs.Servers.{IsListed}
 use Rattle.node_core.specs.InCode.{event_of}
 use Rattle.node_core.specs.OneRun.{told}
 use Rattle.node_core.specs.Served.{Served}
-use Rattle.node_core.proofs.Running.{goes_one_on, ends_here, all_gone, goes_on}
+use Rattle.node_core.proofs.Outcomes.Running.{goes_one_on, ends_here, all_gone, goes_on}
 use Rattle.node_core.proofs.node.Node.run.Goals as goal
 
 pub returns-then-is_last-clause-run : goal.returns-then-is_last-clause-run

@@ -2,7 +2,7 @@ use Rattle.std.proofs.Common.{◌≡◌, ◌≤◌, length, drop, map}
 use Rattle.std.specs.Prelude.{vec_len, vec_capacity}
 use Rattle.node_core.specs.InCode.{event_of}
 use Rattle.node_core.specs.OneRun.{told}
-use Rattle.node_core.proofs.Running.{IsBegun}
+use Rattle.node_core.proofs.Outcomes.Running.{IsBegun}
 use Rattle.node_core.proofs.node.Node.run.Given as goal
 
 abbrev pub invariant-loop-event : goal.invariant-loop-event

@@ -6,7 +6,7 @@ use Rattle.shard_core.specs.Answers.{answer_of}
 use Rattle.node_law.specs.Events.{Own, OfConn}
 use Rattle.node_law.specs.declared.events.ConnEvent.TheVariants.{Subscribe}
 use Rattle.node_core.specs.Served.{ConnStep, seen, refusal}
-use Rattle.node_core.proofs.Composed.{conn_call}
+use Rattle.node_core.proofs.Calls.Composed.{conn_call}
 use Rattle.node_core.proofs.node.Node.subscribe.Goals as goal
 
 pub invariant_of-self : goal.invariant_of-self

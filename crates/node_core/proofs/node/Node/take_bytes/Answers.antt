@@ -8,8 +8,8 @@ use Rattle.node_law.specs.declared.events.ConnEvent.TheVariants.{Take}
 use Rattle.node_core.specs.Served.{seen, refusal}
 use Rattle.node_parts.specs.Lines.{first_entries}
 use Rattle.node_core.specs.TakesBytes.{TakesBytes}
-use Rattle.node_core.proofs.Composed.{conn_call}
-use Rattle.node_core.proofs.Taking.{line_takes, takes_bytes}
+use Rattle.node_core.proofs.Calls.Composed.{conn_call}
+use Rattle.node_core.proofs.Calls.Taking.{line_takes, takes_bytes}
 use Rattle.node_core.proofs.node.Node.take_bytes.Goals as goal
 
 pub invariant_of-self : goal.invariant_of-self

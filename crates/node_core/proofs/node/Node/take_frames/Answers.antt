@@ -1,4 +1,4 @@
-use Rattle.node_core.proofs.Composed.{frames_keep}
+use Rattle.node_core.proofs.Calls.Composed.{frames_keep}
 use Rattle.node_core.proofs.node.Node.take_frames.Goals as goal
 
 pub invariant_of-self : goal.invariant_of-self

@@ -3,7 +3,7 @@ use Rattle.std.specs.Prelude.{slice_get}
 use Rattle.std.proofs.lemmas.Option.{slice_get-get_or}
 use Rattle.node_law.specs.Events.{Own, AtShard}
 use Rattle.node_core.specs.Served.{seen, refusal}
-use Rattle.node_core.proofs.Refusing.{work_refused}
+use Rattle.node_core.proofs.Calls.Refusing.{work_refused}
 use Rattle.node_core.proofs.node.Node.work_fault.Goals as goal
 
 pub returns : goal.returns

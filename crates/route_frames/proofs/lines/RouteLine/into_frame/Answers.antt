@@ -1,4 +1,4 @@
-use Rattle.route_frames.proofs.Answered.{joined_answered}
+use Rattle.route_frames.proofs.Refused.Answered.{joined_answered}
 use Rattle.route_frames.proofs.lines.RouteLine.into_frame.Goals as goal
 
 pub returns-clause-spelt : goal.returns-clause-spelt

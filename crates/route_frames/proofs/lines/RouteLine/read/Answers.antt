@@ -1,4 +1,4 @@
-use Rattle.route_frames.proofs.Answered.{line_answered}
+use Rattle.route_frames.proofs.Refused.Answered.{line_answered}
 use Rattle.route_frames.proofs.lines.RouteLine.read.Goals as goal
 
 pub returns-clause-spelt : goal.returns-clause-spelt

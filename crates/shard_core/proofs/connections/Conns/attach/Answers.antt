@@ -4,7 +4,7 @@ use Rattle.outbox.specs.Views.{Waiting}
 use Rattle.shard_core.specs.declared.connections.Conn.{Conn}
 use Rattle.shard_core.specs.Shards.{Client}
 use Rattle.shard_core.specs.Boxes.{Clients, AreConns, seen, shown_shelf, next_shelf}
-use Rattle.shard_core.proofs.ConnStaging.{conns_attached, numbers_below}
+use Rattle.shard_core.proofs.Clients.Staging.{conns_attached, numbers_below}
 use Rattle.shard_core.proofs.connections.Conns.attach.Goals as goal
 
 pub invariant_of-self-2 : goal.invariant_of-self-2

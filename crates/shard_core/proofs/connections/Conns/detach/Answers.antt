@@ -3,8 +3,8 @@ use Rattle.std.specs.Prelude.{filter}
 use Rattle.shard_core.specs.declared.connections.Conn.{Conn}
 use Rattle.shard_core.specs.Boxes.{Clients, AreConns, seen, shown_shelf, next_shelf}
 use Rattle.shard_core.specs.Shards.{detached}
-use Rattle.shard_core.proofs.Lookups.{detached_is}
-use Rattle.shard_core.proofs.ConnStaging.{conns_without}
+use Rattle.shard_core.proofs.Clients.Lookups.{detached_is}
+use Rattle.shard_core.proofs.Clients.Staging.{conns_without}
 use Rattle.shard_core.proofs.connections.Conns.detach.Goals as goal
 
 pub invariant_of-self : goal.invariant_of-self

@@ -2,7 +2,7 @@ use Rattle.std.proofs.Common.{◌≡◌, ◌==◌, Bool, true, false, not, vec_l
 use Rattle.std.proofs.lemmas.Bool.Decides.{nat_tests}
 use Rattle.std.proofs.lemmas.Grind.{common_steps}
 use Rattle.shard_core.specs.Boxes.{Clients, seen, shown_shelf, next_shelf}
-use Rattle.shard_core.proofs.ConnStaging.{nothing_staged}
+use Rattle.shard_core.proofs.Clients.Staging.{nothing_staged}
 use Rattle.shard_core.proofs.connections.Conns.has_staged.Goals as goal
 
 not_false : (b : Bool) → not b ≡ false → b ≡ true

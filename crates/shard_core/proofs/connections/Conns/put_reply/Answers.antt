@@ -1,19 +1,19 @@
 use Rattle.std.proofs.Common.{◌≡◌, ◌==◌, ◌<◌, true, false, List, length, map, Some, ap, sym, ◌∙◌, rules}
 use Rattle.std.specs.Prelude.{position, slice_set}
 use Rattle.std.proofs.lemmas.List.Quantifiers.{position-Some}
-use Rattle.outbox.specs.Views.{Waiting, Shelf, reply_entry, with_entry}
+use Rattle.outbox.specs.Views.{Waiting, Backlog, reply_entry, with_entry}
 use Rattle.shard_core.specs.declared.connections.Conn.{Conn}
 use Rattle.shard_core.specs.Boxes.{Clients, seen, shown_shelf, next_shelf}
 use Rattle.shard_core.specs.Shards.{Client, changed, client_at, fits}
-use Rattle.shard_core.proofs.Lookups.{client_none, changed_is, room_is, settled_box}
-use Rattle.shard_core.proofs.ConnStaging.{conns_settled}
+use Rattle.shard_core.proofs.Clients.Lookups.{client_none, changed_is, room_is, settled_box}
+use Rattle.shard_core.proofs.Clients.Staging.{conns_settled}
 use Rattle.shard_core.proofs.connections.Conns.put_reply.Goals as goal
 
 -- what is staged where nothing was, and is shown then, was put
-put_and_shown : (change : Shelf → Shelf) (was staged box : Waiting) → staged ≡ record was { next = change was.next } → box ≡ record staged { shown = staged.next } → was.next ≡ was.shown
+put_and_shown : (change : Backlog → Backlog) (was staged box : Waiting) → staged ≡ record was { next = change was.next } → box ≡ record staged { shown = staged.next } → was.next ≡ was.shown
     → box ≡ record { shown = change was.shown; next = change was.next; max_entries = was.max_entries; max_bytes = was.max_bytes }
 put_and_shown change was staged box unseen shown alone =
-    shown ∙ ap (λ (b : Waiting). record b { shown = b.next }) unseen ∙ ap (λ (shelf : Shelf). record { shown = change shelf; next = change was.next; max_entries = was.max_entries; max_bytes = was.max_bytes }) alone
+    shown ∙ ap (λ (b : Waiting). record b { shown = b.next }) unseen ∙ ap (λ (backlog : Backlog). record { shown = change backlog; next = change was.next; max_entries = was.max_entries; max_bytes = was.max_bytes }) alone
 
 pub returns-in_default-clause-room : goal.returns-in_default-clause-room
 returns-in_default-clause-room c =

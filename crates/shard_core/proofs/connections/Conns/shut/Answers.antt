@@ -5,8 +5,8 @@ use Rattle.outbox.specs.Views.{Waiting, with_last}
 use Rattle.shard_core.specs.declared.connections.Conn.{Conn}
 use Rattle.shard_core.specs.Boxes.{Clients, seen, shown_shelf, next_shelf}
 use Rattle.shard_core.specs.Shards.{changed, is_open}
-use Rattle.shard_core.proofs.Lookups.{changed_none, open_is, changed_is, settled_box, not_shut}
-use Rattle.shard_core.proofs.ConnStaging.{conns_settled}
+use Rattle.shard_core.proofs.Clients.Lookups.{changed_none, open_is, changed_is, settled_box, not_shut}
+use Rattle.shard_core.proofs.Clients.Staging.{conns_settled}
 use Rattle.shard_core.proofs.connections.Conns.shut.Goals as goal
 
 pub shut-requires-clause-settled : goal.shut-requires-clause-settled

@@ -4,8 +4,8 @@ use Rattle.outbox.specs.Views.{Waiting, with_entry}
 use Rattle.shard_core.specs.declared.connections.Conn.{Conn}
 use Rattle.shard_core.specs.Boxes.{Clients, AreConns, seen, shown_shelf, next_shelf}
 use Rattle.shard_core.specs.Shards.{changed, fits, client_at}
-use Rattle.shard_core.proofs.Lookups.{changed_none, room_is, changed_is, same_is}
-use Rattle.shard_core.proofs.ConnStaging.{conns_staged}
+use Rattle.shard_core.proofs.Clients.Lookups.{changed_none, room_is, changed_is, same_is}
+use Rattle.shard_core.proofs.Clients.Staging.{conns_staged}
 use Rattle.shard_core.proofs.connections.Conns.stage.Goals as goal
 
 pub stage-requires : goal.stage-requires

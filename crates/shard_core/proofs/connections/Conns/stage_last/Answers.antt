@@ -4,8 +4,8 @@ use Rattle.outbox.specs.Views.{Waiting, with_last}
 use Rattle.shard_core.specs.declared.connections.Conn.{Conn}
 use Rattle.shard_core.specs.Boxes.{Clients, AreConns, seen, shown_shelf, next_shelf}
 use Rattle.shard_core.specs.Shards.{changed, is_open}
-use Rattle.shard_core.proofs.Lookups.{changed_none, open_is, changed_is, same_is, not_shut}
-use Rattle.shard_core.proofs.ConnStaging.{conns_staged}
+use Rattle.shard_core.proofs.Clients.Lookups.{changed_none, open_is, changed_is, same_is, not_shut}
+use Rattle.shard_core.proofs.Clients.Staging.{conns_staged}
 use Rattle.shard_core.proofs.connections.Conns.stage_last.Goals as goal
 
 pub stage_last-requires-clause-once : goal.stage_last-requires-clause-once

@@ -6,8 +6,8 @@ use Rattle.outbox.specs.Views.{Waiting, Written, bytes_of_all, without_first}
 use Rattle.shard_core.specs.declared.connections.Conn.{Conn}
 use Rattle.shard_core.specs.Boxes.{Clients, seen, shown_shelf, next_shelf}
 use Rattle.shard_core.specs.Shards.{entries_of, waits_for, changed}
-use Rattle.shard_core.proofs.Lookups.{client_none, changed_none, waits_is, changed_is, settled_box}
-use Rattle.shard_core.proofs.ConnStaging.{conns_settled}
+use Rattle.shard_core.proofs.Clients.Lookups.{client_none, changed_none, waits_is, changed_is, settled_box}
+use Rattle.shard_core.proofs.Clients.Staging.{conns_settled}
 use Rattle.shard_core.proofs.connections.Conns.take_bytes.Goals as goal
 
 pub take_bytes-requires : goal.take_bytes-requires

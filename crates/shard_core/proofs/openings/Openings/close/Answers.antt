@@ -4,8 +4,8 @@ use Rattle.interest.specs.declared.changes.Delta.{Delta}
 use Rattle.list_laws.proofs.Changes.{append_nil}
 use Rattle.shard_core.specs.Closings.{closings_of}
 use Rattle.shard_core.specs.Opened.{AreRising, with_closings}
-use Rattle.shard_core.proofs.Groups.{forgotten}
-use Rattle.shard_core.proofs.Opened.{opened_same, rising_left, rest_is, closes_none, closes_one}
+use Rattle.shard_core.proofs.Turns.Groups.{forgotten}
+use Rattle.shard_core.proofs.Closings.Opened.{opened_same, rising_left, rest_is, closes_none, closes_one}
 use Rattle.shard_core.proofs.openings.Openings.close.Goals as goal
 
 pub invariant_of-self : goal.invariant_of-self

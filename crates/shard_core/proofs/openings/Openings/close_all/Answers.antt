@@ -1,7 +1,7 @@
 use Rattle.std.proofs.Common.{◌+◌, drop, get_or, ap, sym, subst, ◌∙◌}
 use Rattle.std.proofs.lemmas.List.{drop_more, drop_all}
 use Rattle.shard_core.specs.Opened.{AreApart, with_closings}
-use Rattle.shard_core.proofs.Opened.{no_closings, closings_step}
+use Rattle.shard_core.proofs.Closings.Opened.{no_closings, closings_step}
 use Rattle.shard_core.proofs.openings.Openings.close_all.Goals as goal
 
 pub loop-serial-preserved : goal.loop-serial-preserved

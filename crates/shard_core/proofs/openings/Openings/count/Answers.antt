@@ -3,10 +3,10 @@ use Rattle.std.specs.Prelude.{map}
 use Rattle.shard_core.specs.Closings.{serials_of}
 use Rattle.shard_core.specs.Opened.{Opened, CanCount, with_counts}
 use Rattle.shard_core.specs.Owed.{counted}
-use Rattle.shard_core.proofs.ClosedSubs.{counted_serials}
+use Rattle.shard_core.proofs.Closings.Closed.{counted_serials}
 use Rattle.shard_core.specs.Members.{AreNoted}
-use Rattle.shard_core.proofs.Groups.{noted_counted}
-use Rattle.shard_core.proofs.Opened.{opened_same, same_serials, counts_none, counts_one, found_counts}
+use Rattle.shard_core.proofs.Turns.Groups.{noted_counted}
+use Rattle.shard_core.proofs.Closings.Opened.{opened_same, same_serials, counts_none, counts_one, found_counts}
 use Rattle.shard_core.proofs.openings.Openings.count.Goals as goal
 
 pub returns-in_default : goal.returns-in_default

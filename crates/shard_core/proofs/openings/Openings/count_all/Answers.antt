@@ -1,7 +1,7 @@
 use Rattle.std.proofs.Common.{◌+◌, drop, get_or, refl, ap, sym, subst, ◌∙◌, inl, inr}
 use Rattle.std.proofs.lemmas.List.{drop_more, drop_all}
 use Rattle.shard_core.specs.Opened.{Opened, AreApart, CanCount, CanCountEach, with_counts}
-use Rattle.shard_core.proofs.Opened.{no_counts, counts_step, still_counts}
+use Rattle.shard_core.proofs.Closings.Opened.{no_counts, counts_step, still_counts}
 use Rattle.shard_core.proofs.openings.Openings.count_all.Goals as goal
 
 pub count-requires : goal.count-requires

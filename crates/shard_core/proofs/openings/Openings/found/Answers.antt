@@ -3,7 +3,7 @@ use Rattle.std.specs.Option.{option_to_list, option_copied}
 use Rattle.std.proofs.lemmas.List.{map-append, take_all, append-nil}
 use Rattle.sub_table.specs.declared.Subscription.{Subscription}
 use Rattle.shard_core.specs.Members.{found_at, found_of}
-use Rattle.shard_core.proofs.Groups.{found_more}
+use Rattle.shard_core.proofs.Turns.Groups.{found_more}
 use Rattle.shard_core.proofs.openings.Openings.found.Goals as goal
 use Rattle.shard_core.proofs.openings.Openings.found.Goals.{in-Some+in_ok-push, in_default}
 

@@ -4,7 +4,7 @@ use Rattle.std.proofs.lemmas.Fn.{filter_same}
 use Rattle.sub_table.specs.Subscriptions.{serials_of}
 use Rattle.shard_core.specs.Closings.{left_of}
 use Rattle.shard_core.specs.Opened.{Opened}
-use Rattle.shard_core.proofs.Opened.{stays, left_is}
+use Rattle.shard_core.proofs.Closings.Opened.{stays, left_is}
 use Rattle.shard_core.proofs.openings.Openings.left_of.Goals as goal
 
 pub returns : goal.returns

@@ -5,7 +5,7 @@ use Rattle.sub_table.specs.declared.Subscription.{Subscription}
 use Rattle.shard_core.specs.Members.{mark_of, members_of}
 use Rattle.shard_core.specs.Opened.{Opened, AreRising}
 use Rattle.shard_core.specs.Tallies.{behind}
-use Rattle.shard_core.proofs.Groups.{all_found}
+use Rattle.shard_core.proofs.Turns.Groups.{all_found}
 use Rattle.shard_core.proofs.openings.Openings.members.Goals as goal
 
 pub returns-in_ok-subs-in-Some-clause-all : goal.returns-in_ok-subs-in-Some-clause-all

@@ -1,6 +1,6 @@
 use Rattle.std.proofs.Common.{◌≡◌, [], ◌∷◌, ◌+◌, ◌++◌, length, ap, sym, subst, ◌∙◌, arith, length-append, vec_capacity}
 use Rattle.shard_core.specs.Opened.{Opened, AreRising, IsNext}
-use Rattle.shard_core.proofs.Opened.{rising_push}
+use Rattle.shard_core.proofs.Closings.Opened.{rising_push}
 use Rattle.shard_core.proofs.openings.Openings.open.Goals as goal
 
 pub invariant_of-self-2 : goal.invariant_of-self-2

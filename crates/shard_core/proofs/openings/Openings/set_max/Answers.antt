@@ -1,7 +1,7 @@
 use Rattle.std.proofs.Common.{ap, ◌∙◌}
 use Rattle.shard_core.specs.Closings.{serials_of}
-use Rattle.shard_core.proofs.ClosedSubs.{max_serials}
-use Rattle.shard_core.proofs.Opened.{same_serials}
+use Rattle.shard_core.proofs.Closings.Closed.{max_serials}
+use Rattle.shard_core.proofs.Closings.Opened.{same_serials}
 use Rattle.shard_core.proofs.openings.Openings.set_max.Goals as goal
 
 pub invariant_of-self : goal.invariant_of-self

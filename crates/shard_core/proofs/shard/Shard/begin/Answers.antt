@@ -2,7 +2,7 @@ use Rattle.std.proofs.Common.{◌+◌, ◌≤◌, refl, sym, ap, ◌∙◌, subs
 use Rattle.subj.specs.declared.limits.TheConstants.{MAX_COUNTER}
 use Rattle.shard_core.specs.Boxes.{Clients}
 use Rattle.shard_core.specs.Tallies.{Tallied}
-use Rattle.shard_core.proofs.Kept.{sound_begun}
+use Rattle.shard_core.proofs.Steps.Kept.{sound_begun}
 use Rattle.shard_core.proofs.shard.Shard.begin.Goals as goal
 
 pub invariant_of-self-2 : goal.invariant_of-self-2

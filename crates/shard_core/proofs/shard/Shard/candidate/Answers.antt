@@ -5,7 +5,7 @@ use Rattle.shard_core.specs.Shards.{State}
 use Rattle.shard_core.specs.ShardSteps.{claim_refusal}
 use Rattle.shard_core.specs.Held.{Held, Chooses, IsSound, with_serial}
 use Rattle.shard_core.specs.Opened.{Opened}
-use Rattle.shard_core.proofs.Claims.{chooses, sound_chosen, claims_next, few_tried}
+use Rattle.shard_core.proofs.Turns.Claims.{chooses, sound_chosen, claims_next, few_tried}
 use Rattle.shard_core.proofs.shard.Shard.candidate.Goals as goal
 
 pub returns : goal.returns

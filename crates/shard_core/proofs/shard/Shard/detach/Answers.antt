@@ -1,5 +1,5 @@
 use Rattle.shard_core.specs.Shards.{detached}
-use Rattle.shard_core.proofs.Kept.{numbered_detached, sound_closed}
+use Rattle.shard_core.proofs.Steps.Kept.{numbered_detached, sound_closed}
 use Rattle.shard_core.proofs.shard.Shard.detach.Goals as goal
 
 pub invariant_of-self-2 : goal.invariant_of-self-2

@@ -1,4 +1,4 @@
-use Rattle.shard_core.proofs.Kept.{sound_ended}
+use Rattle.shard_core.proofs.Steps.Kept.{sound_ended}
 use Rattle.shard_core.proofs.shard.Shard.end.Goals as goal
 
 pub invariant_of-self-2 : goal.invariant_of-self-2

@@ -5,8 +5,8 @@ use Rattle.sub_table.specs.Subscriptions.{has_serial}
 use Rattle.sub_table.specs.declared.Subscription.{Subscription}
 use Rattle.shard_core.specs.Shards.{State}
 use Rattle.shard_core.specs.Opened.{with_closings, with_counts}
-use Rattle.shard_core.proofs.Opened.{no_closings}
-use Rattle.shard_core.proofs.Claims.{place_counts, place_done, place_sound, place_ended, ends_none, ends_one, serial_is}
+use Rattle.shard_core.proofs.Closings.Opened.{no_closings}
+use Rattle.shard_core.proofs.Turns.Claims.{place_counts, place_done, place_sound, place_ended, ends_none, ends_one, serial_is}
 use Rattle.shard_core.proofs.shard.Shard.place.Goals as goal
 
 pub is_last-ends-requires : goal.is_last-ends-requires

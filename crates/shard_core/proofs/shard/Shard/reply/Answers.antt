@@ -2,7 +2,7 @@ use Rattle.std.proofs.Common.{◌∙◌}
 use Rattle.client_frames.specs.Frames.{reply_line}
 use Rattle.outbox.specs.Views.{reply_entry, with_entry, with_last}
 use Rattle.shard_core.specs.Shards.{changed}
-use Rattle.shard_core.proofs.Kept.{numbered_changed, sound_changed, sound_closed, still_possible}
+use Rattle.shard_core.proofs.Steps.Kept.{numbered_changed, sound_changed, sound_closed, still_possible}
 use Rattle.shard_core.proofs.shard.Shard.reply.Goals as goal
 
 pub invariant_of-self-then-branch : goal.invariant_of-self-then-branch

@@ -1,6 +1,6 @@
 use Rattle.outbox.specs.Views.{with_last}
 use Rattle.shard_core.specs.Shards.{changed}
-use Rattle.shard_core.proofs.Kept.{numbered_changed, sound_closed}
+use Rattle.shard_core.proofs.Steps.Kept.{numbered_changed, sound_closed}
 use Rattle.shard_core.proofs.shard.Shard.shut.Goals as goal
 
 pub invariant_of-self-2 : goal.invariant_of-self-2

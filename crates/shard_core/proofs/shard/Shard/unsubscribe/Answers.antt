@@ -1,5 +1,5 @@
 use Rattle.std.proofs.Common.{[], ◌∷◌}
-use Rattle.shard_core.proofs.Kept.{sound_max, sound_left}
+use Rattle.shard_core.proofs.Steps.Kept.{sound_max, sound_left}
 use Rattle.shard_core.proofs.shard.Shard.unsubscribe.Goals as goal
 
 pub invariant_of-self-then-not-called : goal.invariant_of-self-then-not-called

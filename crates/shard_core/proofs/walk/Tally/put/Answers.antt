@@ -1,7 +1,7 @@
 use Rattle.std.proofs.Common.{None, refl, sym, ap, ◌∙◌}
 use Rattle.shard_core.specs.Shards.{client_at, fits_len}
 use Rattle.shard_core.specs.Owed.{due_entry}
-use Rattle.shard_core.proofs.TallySteps.{put_given, put_shut}
+use Rattle.shard_core.proofs.Turns.TallySteps.{put_given, put_shut}
 use Rattle.shard_core.proofs.walk.Tally.put.Goals as goal
 
 pub give-requires-clause-room : goal.give-requires-clause-room

@@ -5,7 +5,7 @@ use Rattle.std.specs.Prelude.{filter}
 use Rattle.sub_table.specs.Subscriptions.{gets}
 use Rattle.sub_table.specs.declared.Subscription.{Subscription}
 use Rattle.shard_core.specs.Tallies.{Follows, put_if_due, walk_matching, behind}
-use Rattle.shard_core.proofs.TallySteps.{holds_of_each, walk_on, walk_of_none, walk_whole}
+use Rattle.shard_core.proofs.Turns.TallySteps.{holds_of_each, walk_on, walk_of_none, walk_whole}
 use Rattle.shard_core.proofs.walk.Tally.walk.Goals as goal
 
 pub put_if_due-requires-clause-counts : goal.put_if_due-requires-clause-counts

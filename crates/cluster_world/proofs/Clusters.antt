@@ -1,0 +1,7 @@
+-- A step of the cluster in code is that of the exact cluster.
+pub mod Started
+pub mod Starting
+pub mod Making
+pub mod Kept
+pub mod Living
+pub mod Finds

@@ -1,0 +1,128 @@
+-- What the steps of a cluster in code keep, and that they are steps: over the fields of a value and how it is seen.
+use Rattle.std.proofs.Common.{◌≡◌, ◌<◌, ◌≤◌, ℕ, ◌+◌, List, set, length, Option, Some, None, refl, sym, ap, ◌∙◌, subst}
+use Rattle.std.specs.Prelude.{slice_get}
+use Rattle.std.specs.Option.{option_map}
+use Rattle.std.proofs.lemmas.Option.{slice_get_within, slice_get-map}
+use Rattle.subj.specs.Servers.{Server}
+use Rattle.node_law.specs.Answers.{Nothing}
+use Rattle.node_law.specs.Events.{NodeEvent}
+use Rattle.node_core.specs.InCode.{answer_of}
+use Rattle.node_core.specs.Served.{Served, started}
+use Rattle.cluster_world.specs.declared.faults.WorldFault.{WorldFault}
+use Rattle.cluster_world.specs.declared.nodes.Made.{Made}
+use Rattle.cluster_world.specs.Events.{Event, Start, Stop, event_for}
+use Rattle.cluster_world.specs.Headline.{IsCluster}
+use Rattle.cluster_world.specs.Outcomes.{Outcome, Done, Refused}
+use Rattle.cluster_world.specs.Play.{PutsArePlaced}
+use Rattle.cluster_world.specs.Refusals.{world_refusal, start_refusal, stop_refusal}
+use Rattle.cluster_world.specs.State.{Cluster, World, server_at}
+use Rattle.cluster_world.specs.Steps.{WorldStep, Carried}
+use Rattle.cluster_world.specs.Value.{Listed, added, with_start, with_closed, inc_in, running_in, slot_refusal, IsMade, Shown, shown, world_of, cluster_of, IsFor, IsKept, IsStepped, LivesAreOpen}
+use Rattle.cluster_world.proofs.Clusters.Making.{cause_is, made_step, size_set}
+use Rattle.cluster_world.proofs.Clusters.Starting.{refused_step, free_at, up_at, start_step, start_places, stop_step, stop_places}
+
+abbrev pub CarriedOn : Type 0
+CarriedOn = (c : Cluster) (w : World) (e : Event) (outcome : Outcome) (w' : World) → WorldStep c w e outcome w' → Carried c w → Carried c w'
+
+abbrev pub CarriedOpen : Type 0
+CarriedOpen = (c : Cluster) → IsCluster c → (w : World) → Carried c w → LivesAreOpen w
+
+module _ (server : Server) (step : ℕ) (nodes : List (Option Served)) (l : Listed) (v : Shown) (view_is : shown server step nodes l ≡ v) (kept : IsKept server nodes (world_of step nodes l)) where
+  abbrev c : Cluster
+  c = cluster_of server
+
+  abbrev w : World
+  w = world_of step nodes l
+
+  cause_here : (e : Event) (o : Option WorldFault) → world_refusal v.cluster v.world e ≡ o → world_refusal c w e ≡ o
+  cause_here e o is = ap (λ (s : Shown). world_refusal s.cluster s.world e) view_is ∙ is
+
+  now_here : (now : ℕ) → now ≡ v.world.step + 1 → now ≡ step + 1
+  now_here now is = is ∙ ap (λ (s : Shown). s.world.step + 1) (sym view_is)
+
+  stepped : (e : Event) (o : Outcome) (now : ℕ) (new : List (Option Served)) (l' : Listed) → WorldStep c w e o (world_of now new l') → IsStepped v e o (shown server now new l')
+  stepped e o now new l' s = subst (λ t. IsStepped t e o (shown server now new l')) view_is (record { cluster = refl; step = s })
+
+  -- a refusal
+  pub refused_steps : (e : Event) (why : WorldFault) (now : ℕ) → now ≡ v.world.step + 1 → world_refusal v.cluster v.world e ≡ Some why → IsStepped v e (Refused why) (shown server now nodes l)
+  refused_steps e why now next cause = stepped e (Refused why) now nodes l (refused_step c w e why now (now_here now next) (cause_here e (Some why) cause))
+
+  pub refused_keeps : CarriedOn → (e : Event) (why : WorldFault) (now : ℕ) → now ≡ v.world.step + 1 → world_refusal v.cluster v.world e ≡ Some why → IsKept server nodes (world_of now nodes l)
+  refused_keeps on e why now next cause = record {
+    apart = kept.apart;
+    tested = kept.tested;
+    size = kept.size;
+    places = kept.places;
+    carried = on c w e (Refused why) (world_of now nodes l) (refused_step c w e why now (now_here now next) (cause_here e (Some why) cause)) kept.carried;
+  }
+
+  -- why an event is refused at a place
+  pub found_cause : (n : ℕ) (e : Event) (found : Option NodeEvent) → IsFor n e → found ≡ event_for w e → slot_refusal found (slice_get nodes n) ≡ world_refusal v.cluster v.world e
+  found_cause n e found at is = cause_is server step n nodes l e found kept.places at is ∙ ap (λ (s : Shown). world_refusal s.cluster s.world e) view_is
+
+  pub slot_free : (n : ℕ) (e : Event) (found : Option NodeEvent) → IsFor n e → found ≡ event_for w e → world_refusal v.cluster v.world e ≡ None → slot_refusal found (slice_get nodes n) ≡ None
+  slot_free n e found at is cause = found_cause n e found at is ∙ cause
+
+  pub start_cause : (n inc : ℕ) → start_refusal n inc l.started (option_map running_in (slice_get nodes n)) ≡ world_refusal v.cluster v.world (Start n inc)
+  start_cause n inc = ap (start_refusal n inc l.started) (sym (slice_get-map running_in nodes n)) ∙ ap (λ (s : Shown). world_refusal s.cluster s.world (Start n inc)) view_is
+
+  pub stop_cause : (n : ℕ) → stop_refusal (option_map running_in (slice_get nodes n)) ≡ world_refusal v.cluster v.world (Stop n)
+  stop_cause n = ap stop_refusal (sym (slice_get-map running_in nodes n)) ∙ ap (λ (s : Shown). world_refusal s.cluster s.world (Stop n)) view_is
+
+  -- a server's step
+  pub made_steps : PutsArePlaced → CarriedOpen → (n now : ℕ) (new : List (Option Served)) (l' : Listed) (e : Event) (found : Option NodeEvent) (made : Made) → now ≡ v.world.step + 1 → IsFor n e → found ≡ event_for w e → world_refusal v.cluster v.world e ≡ None
+      → IsMade n now found nodes made new → l' ≡ added (record { step = now; node = n; inc = made.inc }) made.noted made.did l → IsStepped v e (Done (answer_of made.did.answer)) (shown server now new l')
+  made_steps puts opens n now new l' e found made next at is cause m lists =
+      stepped e (Done (answer_of made.did.answer)) now new l' (subst (λ t. WorldStep c w e (Done (answer_of made.did.answer)) (world_of now new t)) (sym lists)
+      (made_step puts server step now n nodes new l e found made (now_here now next) kept.places (opens c kept.apart w kept.carried) at is (cause_here e None cause) m).0)
+
+  pub made_keeps : PutsArePlaced → CarriedOpen → CarriedOn → (n now : ℕ) (new : List (Option Served)) (l' : Listed) (e : Event) (found : Option NodeEvent) (made : Made) → now ≡ v.world.step + 1 → IsFor n e → found ≡ event_for w e → world_refusal v.cluster v.world e ≡ None
+      → IsMade n now found nodes made new → l' ≡ added (record { step = now; node = n; inc = made.inc }) made.noted made.did l → IsKept server new (world_of now new l')
+  made_keeps puts opens on n now new l' e found made next at is cause m lists =
+      let s = made_step puts server step now n nodes new l e found made (now_here now next) kept.places (opens c kept.apart w kept.carried) at is (cause_here e None cause) m in
+      record {
+        apart = kept.apart;
+        tested = kept.tested;
+        size = s.2 ∙ kept.size;
+        places = s.1;
+        carried = subst (λ t. Carried c (world_of now new t)) (sym lists) (on c w e (Done (answer_of made.did.answer)) _ s.0 kept.carried);
+      }
+
+  -- a start
+  pub start_at : (n inc : ℕ) → world_refusal v.cluster v.world (Start n inc) ≡ None → slice_get nodes n ≡ Some None
+  start_at n inc cause = free_at c step n inc nodes l (cause_here (Start n inc) None cause)
+
+  pub start_within : (n inc : ℕ) → world_refusal v.cluster v.world (Start n inc) ≡ None → n < length server.names
+  start_within n inc cause = subst (λ k. n < k) kept.size (slice_get_within nodes n None (start_at n inc cause))
+
+  pub start_steps : (n inc now : ℕ) (made : Server) (y : Served) (l' : Listed) → now ≡ v.world.step + 1 → 1 ≤ inc → world_refusal v.cluster v.world (Start n inc) ≡ None → made ≡ server_at c n inc → y ≡ started made → l' ≡ with_start n inc l
+      → IsStepped v (Start n inc) (Done Nothing) (shown server now (set nodes n (Some y)) l')
+  start_steps n inc now made y l' next some cause made_is y_is lists = stepped (Start n inc) (Done Nothing) now (set nodes n (Some y)) l' (start_step server made step now n inc nodes l l' y (now_here now next) some (cause_here (Start n inc) None cause) made_is y_is lists)
+
+  pub start_keeps : CarriedOn → (n inc now : ℕ) (made : Server) (y : Served) (l' : Listed) → now ≡ v.world.step + 1 → 1 ≤ inc → world_refusal v.cluster v.world (Start n inc) ≡ None → made ≡ server_at c n inc → y ≡ started made → l' ≡ with_start n inc l
+      → IsKept server (set nodes n (Some y)) (world_of now (set nodes n (Some y)) l')
+  start_keeps on n inc now made y l' next some cause made_is y_is lists = record {
+    apart = kept.apart;
+    tested = kept.tested;
+    size = size_set nodes n (Some y) ∙ kept.size;
+    places = start_places server made n inc step nodes l y kept.places (cause_here (Start n inc) None cause) made_is y_is;
+    carried = on c w (Start n inc) (Done Nothing) _ (start_step server made step now n inc nodes l l' y (now_here now next) some (cause_here (Start n inc) None cause) made_is y_is lists) kept.carried;
+  }
+
+  -- a stop
+  pub stop_at : (n : ℕ) → world_refusal v.cluster v.world (Stop n) ≡ None → (s : Served) × (slice_get nodes n ≡ Some (Some s))
+  stop_at n cause = up_at c step n nodes l (cause_here (Stop n) None cause)
+
+  pub stop_steps : CarriedOpen → (n inc now : ℕ) (l' : Listed) → now ≡ v.world.step + 1 → world_refusal v.cluster v.world (Stop n) ≡ None → Some inc ≡ inc_in (slice_get nodes n) → l' ≡ with_closed (record { step = now; node = n; inc = inc }) l
+      → IsStepped v (Stop n) (Done Nothing) (shown server now (set nodes n None) l')
+  stop_steps opens n inc now l' next cause inc_is lists = stepped (Stop n) (Done Nothing) now (set nodes n None) l' (stop_step server step now n inc nodes l l' (now_here now next) (opens c kept.apart w kept.carried) (cause_here (Stop n) None cause) inc_is lists)
+
+  pub stop_keeps : CarriedOpen → CarriedOn → (n inc now : ℕ) (l' : Listed) → now ≡ v.world.step + 1 → world_refusal v.cluster v.world (Stop n) ≡ None → Some inc ≡ inc_in (slice_get nodes n) → l' ≡ with_closed (record { step = now; node = n; inc = inc }) l
+      → IsKept server (set nodes n None) (world_of now (set nodes n None) l')
+  stop_keeps opens on n inc now l' next cause inc_is lists = record {
+    apart = kept.apart;
+    tested = kept.tested;
+    size = size_set nodes n None ∙ kept.size;
+    places = stop_places c step n nodes l kept.places (cause_here (Stop n) None cause);
+    carried = on c w (Stop n) (Done Nothing) _ (stop_step server step now n inc nodes l l' (now_here now next) (opens c kept.apart w kept.carried) (cause_here (Stop n) None cause) inc_is lists) kept.carried;
+  }

@@ -1,0 +1,3 @@
+-- Scripts that are runs, computed.
+pub mod Scripts
+pub mod Printed

@@ -1,0 +1,5 @@
+-- Which server serves each queue name.
+pub mod Places
+pub mod Names
+pub mod Choosing
+pub mod Wanted

@@ -1,0 +1,150 @@
+-- The frames of a publication, peer by peer, and the names of each server.
+use Rattle.std.proofs.Common.{◌≡◌, ℕ, suc, ◌+◌, ◌<◌, ◌≤◌, Bool, true, false, ◌&&◌, cond, List, [], ◌∷◌, ◌++◌, length, take, drop, get_or, Option, Some, None, refl, sym, ap, ◌∙◌, arith, append_assoc, add-one}
+use Rattle.std.specs.Prelude.{map, filter, unwrap_or, not, nat_eq, nat_lt, nat_le, if◌then◌else◌}
+use Rattle.std.specs.Cmp.Lexicographic.{slice_cmp, nat_list_cmp_total}
+use Rattle.std.specs.declared.cmp.Ordering.{Ordering}
+use Rattle.std.specs.declared.cmp.Ordering.TheVariants.{Less, Equal, Greater}
+use Rattle.std.specs.Ordering.{is_lt, nat_cmp}
+use Rattle.std.proofs.lemmas.Bool.Decides.{nat_tests}
+use Rattle.std.proofs.lemmas.List.{at_drop_more}
+use Rattle.std.proofs.lemmas.Option.{slice_get-get_or}
+use Rattle.list_laws.proofs.Tests.{and_true, lt_true}
+use Rattle.subj.specs.declared.limits.TheConstants.{MAX_QUEUE_NAMES, ROUTE_FRAMES}
+use Rattle.subj.specs.Messages.{Content}
+use Rattle.subj.specs.QueueNames.{is_before, is_before_first, are_rising, is_named, are_queue_names}
+use Rattle.subj.specs.Servers.{Server, name_of}
+use Rattle.route_values.specs.Frames.{Frame}
+use Rattle.std.specs.Option.{option_or}
+use Rattle.hub_core.specs.declared.faults.HubFault.{HubFault}
+use Rattle.hub_core.specs.declared.faults.HubFault.TheVariants.{Spent, TooManyQueues}
+use Rattle.hub_core.specs.State.{Peer}
+use Rattle.hub_core.specs.Choice.{is_eligible, names_for}
+use Rattle.hub_core.specs.Publishing.{is_owed, frames_from}
+use Rattle.hub_core.specs.Chosen.{chosen_for, message_frame, frame_at, sent_from, IsSplit}
+use Rattle.hub_core.proofs.Choices.Names.{fewer}
+
+-- ---- who is eligible is up, and has room
+
+pub eligible_up : (server : Server) (q : ℕ) (peer : Peer) → is_eligible server q peer ≡ true → peer.up ≡ true
+eligible_up server q peer is = (and_true peer.up (nat_lt (length peer.outbox) ROUTE_FRAMES) (and_true (not (nat_eq q server.me)) (peer.up && nat_lt (length peer.outbox) ROUTE_FRAMES) is).1).0
+
+pub eligible_room : (server : Server) (q : ℕ) (peer : Peer) → is_eligible server q peer ≡ true → length peer.outbox < ROUTE_FRAMES
+eligible_room server q peer is = lt_true (length peer.outbox) ROUTE_FRAMES (and_true peer.up (nat_lt (length peer.outbox) ROUTE_FRAMES) (and_true (not (nat_eq q server.me)) (peer.up && nat_lt (length peer.outbox) ROUTE_FRAMES) is).1).1
+
+-- ---- peer by peer
+
+pub frames_step : (server : Server) (number : ℕ) (content : Content) (queues_of : List ℕ → List (List ℕ)) (peers : List Peer) (i : ℕ) (peer : Peer) (frames before all : List Frame) → i < length peers → peer ≡ get_or peers i peer → frames ≡ frame_at server number content (queues_of (name_of server i)) i peer
+    → before ++ sent_from server number content queues_of i (drop i peers) ≡ all → (before ++ frames) ++ sent_from server number content queues_of (i + 1) (drop (i + 1) peers) ≡ all
+frames_step server number content queues_of peers i peer frames before all below read are is =
+    append_assoc before frames (sent_from server number content queues_of (i + 1) (drop (i + 1) peers))
+    ∙ ap (λ l. before ++ l) (
+    (λ k. (are ∙ ap (frame_at server number content (queues_of (name_of server i)) i) read) k ++ sent_from server number content queues_of (add-one i k) (drop (i + 1) peers))
+    ∙ sym (at_drop_more (sent_from server number content queues_of i) peers i peer below)
+    )
+    ∙ is
+
+pub listed_name : (server : Server) (names : List (List ℕ)) (q : ℕ) (name : List ℕ) → names ≡ server.names → q < length server.names → name ≡ get_or names q name → name ≡ name_of server q
+listed_name server names q name are below read =
+    read ∙ ap (λ (names : List (List ℕ)). get_or names q name) are ∙ sym (ap (λ o. unwrap_or o []) (slice_get-get_or server.names q name below))
+
+-- what an eligible peer gets, of names that its name has
+module _ (server : Server) (number : ℕ) (content : Content) (names : List (List ℕ)) (servers : List (Option (List ℕ))) (q : ℕ) (peer : Peer) (name : List ℕ) (queues : List (List ℕ)) (called : name ≡ name_of server q) (queues_are : queues ≡ chosen_for name names servers) (is : is_eligible server q peer ≡ true) where
+  same : queues ≡ chosen_for (name_of server q) names servers
+  same = queues_are ∙ ap (λ name. chosen_for name names servers) called
+
+  pub none_owed : is_owed content.subject queues peer ≡ false → frame_at server number content (chosen_for (name_of server q) names servers) q peer ≡ []
+  none_owed free = ap (λ queues. frame_at server number content queues q peer) (sym same) ∙ (λ k. if is k && free k then message_frame server number content queues q peer ∷ [] else [])
+
+  pub one_owed : is_owed content.subject queues peer ≡ true → frame_at server number content (chosen_for (name_of server q) names servers) q peer ≡ message_frame server number content queues q peer ∷ []
+  one_owed due = ap (λ queues. frame_at server number content queues q peer) (sym same) ∙ (λ k. if is k && due k then message_frame server number content queues q peer ∷ [] else [])
+
+-- the frames of a publication are these
+pub sent_is : (server : Server) (number : ℕ) (content : Content) (choice : List ℕ → Option (List ℕ)) (names : List (List ℕ)) (q : ℕ) (peers : List Peer) → sent_from server number content (λ name. names_for choice name names) q peers ≡ frames_from server number content choice names q peers
+sent_is server number content choice names q [] = refl
+sent_is server number content choice names q (peer ∷ peers) =
+    ap (λ l. frame_at server number content (names_for choice (name_of server q) names) q peer ++ l) (sent_is server number content choice names (suc q) peers)
+
+-- ---- the names of one server, of names that have their servers
+
+pub chosen_is : (choice : List ℕ → Option (List ℕ)) (server_name : List ℕ) (names : List (List ℕ)) (servers : List (Option (List ℕ))) → take (length names) servers ≡ map choice names → chosen_for server_name names servers ≡ names_for choice server_name names
+chosen_is choice server_name [] servers is = refl
+chosen_is choice server_name (name ∷ names) [] is = cc
+chosen_is choice server_name (name ∷ names) (server ∷ servers) is =
+    let first : server ≡ choice name = cc in
+    let others : take (length names) servers ≡ map choice names = cc in
+    (λ k. if is_named server_name (first k) then name ∷ chosen_is choice server_name names servers others k else chosen_is choice server_name names servers others k)
+
+-- ---- names of one server rise as all of them do
+
+less_is : (r : Ordering) → is_lt r ≡ true → r ≡ Less
+less_is Less is = refl
+less_is Equal is = cc
+less_is Greater is = cc
+
+before_trans : (x y z : List ℕ) → is_before x y ≡ true → is_before y z ≡ true → is_before x z ≡ true
+before_trans x y z a b = ap is_lt (nat_list_cmp_total.trans x y z (less_is (slice_cmp nat_cmp x y) a) (less_is (slice_cmp nat_cmp y z) b))
+
+-- what stands before the first stands before the first of those that are left
+first_left : (test : List ℕ → Bool) (x : List ℕ) (names : List (List ℕ)) → is_before_first x names ≡ true → are_rising names ≡ true → is_before_first x (filter test names) ≡ true
+first_left test x [] before rise = refl
+first_left test x (y ∷ names) before rise =
+    let parts = and_true (is_before_first y names) (are_rising names) rise in
+    go (test y) (first_left test x names (next names before parts.0) parts.1)
+  where
+    next : (zs : List (List ℕ)) → is_before x y ≡ true → is_before_first y zs ≡ true → is_before_first x zs ≡ true
+    next [] a b = refl
+    next (z ∷ zs) a b = before_trans x y z a b
+
+    go : (b : Bool) → is_before_first x (filter test names) ≡ true → is_before_first x (cond b (y ∷ filter test names) (filter test names)) ≡ true
+    go true rest = before
+    go false rest = rest
+
+pub rising_left : (test : List ℕ → Bool) (names : List (List ℕ)) → are_rising names ≡ true → are_rising (filter test names) ≡ true
+rising_left test [] rise = refl
+rising_left test (x ∷ names) rise =
+    let parts = and_true (is_before_first x names) (are_rising names) rise in
+    go (test x) (first_left test x names parts.0 parts.1) (rising_left test names parts.1)
+  where
+    go : (b : Bool) → is_before_first x (filter test names) ≡ true → are_rising (filter test names) ≡ true → are_rising (cond b (x ∷ filter test names) (filter test names)) ≡ true
+    go true first rest = (λ k. first k && rest k)
+    go false first rest = rest
+
+within : (n m : ℕ) → n ≤ m → nat_le n m ≡ true
+within n m few = grind (arith, nat_tests)
+
+pub are_some : (test : List ℕ → Bool) (names : List (List ℕ)) → are_rising names ≡ true → length names ≤ MAX_QUEUE_NAMES → are_queue_names (filter test names) ≡ true
+are_some test names rise few =
+    let less = fewer test names in
+    let short : length (filter test names) ≤ MAX_QUEUE_NAMES = omega arith in
+    (λ k. within (length (filter test names)) MAX_QUEUE_NAMES short k && rising_left test names rise k)
+
+pub split_is : (choice : List ℕ → Option (List ℕ)) (names : List (List ℕ)) (servers : List (Option (List ℕ))) → length names ≤ length servers → take (length names) servers ≡ map choice names → are_rising names ≡ true → length names ≤ MAX_QUEUE_NAMES → IsSplit names servers
+split_is choice names servers room is rise few = record {
+  few = room;
+  ordered = λ server_name. ap are_queue_names (chosen_is choice server_name names servers is) ∙ are_some (λ name. is_named server_name (choice name)) names rise few;
+}
+
+-- ---- why a publish is refused, by the turn and by the names
+
+module _ (turn : Option HubFault) (spent : Bool) where
+  abbrev early : Option HubFault
+  early = option_or turn (if spent then Some Spent else None)
+
+  abbrev whole : Bool → Option HubFault
+  whole many = option_or turn (if spent then Some Spent else (if many then Some TooManyQueues else None))
+
+pub refused_early : (turn : Option HubFault) (spent many : Bool) (why : HubFault) → early turn spent ≡ Some why → whole turn spent many ≡ Some why
+refused_early None true many why is = is
+refused_early None false many why is = cc
+refused_early (Some fault) spent many why is = is
+
+pub refused_late : (turn : Option HubFault) (spent many : Bool) → early turn spent ≡ None → whole turn spent many ≡ (if many then Some TooManyQueues else None)
+refused_late None true many is = cc
+refused_late None false many is = refl
+refused_late (Some fault) spent many is = cc
+
+pub too_many : (n m : ℕ) → m < n → nat_lt m n ≡ true
+too_many n m more = grind (arith, nat_tests)
+
+pub not_too_many : (n m : ℕ) → n ≤ m → nat_lt m n ≡ false
+not_too_many n m few = grind (arith, nat_tests)

@@ -1,0 +1,4 @@
+-- What an origin has told.
+pub mod Hearing
+pub mod Origins
+pub mod Snapshots

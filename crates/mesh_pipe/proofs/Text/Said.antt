@@ -1,0 +1,226 @@
+-- What is said of what a connection asks, ask by ask.
+use Rattle.std.proofs.Common.{◌≡◌, ℕ, ◌+◌, ◌<◌, Bool, true, false, true≢false, cond, List, [], ◌∷◌, ◌++◌, Some, None, Ok, Err, refl, ap, sym, ◌∙◌, subst, arith, append_assoc, append-nil}
+use Rattle.std.specs.Prelude.{slice_get, sum_by}
+use Rattle.std.proofs.lemmas.Option.{none-some, same_Some}
+use Rattle.std.proofs.lemmas.List.Sums.{sum_by-cons}
+use Rattle.client_frames.specs.declared.err_texts.ErrText.{ErrText}
+use Rattle.client_frames.specs.declared.err_texts.ErrText.TheVariants as text
+use Rattle.client_frames.specs.declared.server_frames.ReplyFrame.TheVariants as reply
+use Rattle.client_frames.specs.ErrTexts.{err_line}
+use Rattle.client_conn.specs.declared.ask.Ask.{Ask}
+use Rattle.client_conn.specs.declared.ask.Ask.TheVariants as ask
+use Rattle.client_conn.specs.declared.ask.Refusal.{Refusal}
+use Rattle.client_conn.specs.declared.ask.Refusal.TheVariants.{Busy, TooManySubscriptions, NumbersSpent, TooManyQueueGroups, Other}
+use Rattle.client_conn.specs.Asks.{Asking, Answer, ConnState, Onward, fed, read_onward, answered, answered_first}
+use Rattle.client_conn.specs.Shuts.{AsksToShut}
+use Rattle.client_conn.proofs.Following.{in_any_order}
+use Rattle.outbox.specs.Views.{reply_entry}
+use Rattle.mesh_pipe.specs.declared.pipe_server.Outcome.TheVariants.{Answered, Closed}
+use Rattle.mesh_pipe.specs.declared.pipe_server.PipeServer.{PipeServer}
+use Rattle.mesh_pipe.specs.PipeText.{Served, Output, at_rest, no_output, behind, and_then, ask_said, asks_said, told}
+use Rattle.mesh_pipe.specs.PipeStates.{served, asks_of, HasServed, MayBeTold}
+use Rattle.mesh_pipe.specs.PipeRuns.{PipeState, said_from, state_of, left_of, Waits, GoesOn, Ends, IsInStep, HasWorked, HasClosed}
+use Rattle.mesh_pipe.proofs.Server.Outputs.{alone_at_rest, behind_shut, output_closed}
+
+-- ---- one after the other
+
+pub behind-behind : (front text : List ℕ) (said : Output) → behind front (behind text said) ≡ behind (front ++ text) said
+behind-behind front text said = ap (λ t. let r : Output = record said { text = t } in r) (sym (append_assoc front text said.text))
+
+then_open : (first : Output) (rest : Served → Output) → first.closed ≡ false → and_then first rest ≡ behind first.text (rest first.served)
+then_open first rest is = ap (λ b. cond b first (behind first.text (rest first.served))) is
+
+then_closed : (first : Output) (rest : Served → Output) → first.closed ≡ true → and_then first rest ≡ first
+then_closed first rest is = ap (λ b. cond b first (behind first.text (rest first.served))) is
+
+said_first : (a : Ask) (asks : List Ask) (s : Served) → asks_said (a ∷ asks) s ≡ and_then (ask_said a s) (asks_said asks)
+unfolding asks_said
+said_first a asks s = refl
+
+pub said_none : (s : Served) → asks_said [] s ≡ no_output s
+unfolding asks_said
+said_none s = refl
+
+pub goes_nowhere : (at : PipeState) → GoesOn at [] at
+goes_nowhere at = record { whatever_follows = λ more. refl }
+
+pub goes_further : (from mid to : PipeState) (front text : List ℕ) → GoesOn from front mid → GoesOn mid text to → GoesOn from (front ++ text) to
+goes_further from mid to front text first second = record {
+  whatever_follows = λ more. first.whatever_follows more ∙ ap (behind front) (second.whatever_follows more) ∙ behind-behind front text (said_from to more);
+}
+
+pub ends_further : (from mid : PipeState) (front text : List ℕ) → GoesOn from front mid → Ends mid text → Ends from (front ++ text)
+ends_further from mid front text first second = record {
+  text = λ more. ap (λ (r : Output). r.text) (first.whatever_follows more) ∙ ap (λ t. front ++ t) (second.text more);
+  closed = λ more. ap (λ (r : Output). r.closed) (first.whatever_follows more) ∙ second.closed more;
+}
+
+-- nothing is said where nothing stands to be asked
+pub waits_there : (at : PipeState) → fed [] at.asking ≡ at.asking → at.asking.asks ≡ [] → Waits at
+waits_there at settled none = ap (λ (a : Asking). asks_said a.asks at.served) settled ∙ ap (λ (asks : List Ask). asks_said asks at.served) none ∙ said_none at.served
+
+-- ---- the first ask
+
+record StartsWith (a : Ask) (asks : List Ask) : Type 0 where
+  rest : List Ask
+  are : asks ≡ a ∷ rest
+
+starts : (a : Ask) (asks : List Ask) → slice_get asks 0 ≡ Some a → StartsWith a asks
+starts a [] is = absurd (none-some a is)
+starts a (b ∷ rest) is = record { rest = rest; are = ap (λ (x : Ask). x ∷ rest) (same_Some b a is) }
+
+pub none_there : (asks : List Ask) → slice_get asks 0 ≡ None → asks ≡ []
+none_there [] is = refl
+none_there (b ∷ rest) is = absurd (none-some b (sym is))
+
+abbrev at_ask : Ask → List Ask → Onward → Served → PipeState
+at_ask a rest onward s = record { asking = record { asks = a ∷ rest; onward = onward }; served = s }
+
+abbrev behind_ask : List Ask → Onward → Served → PipeState
+behind_ask rest onward s = record { asking = record { asks = rest; onward = onward }; served = s }
+
+goes_by_ask : (a : Ask) (rest : List Ask) (onward : Onward) (s : Served) → (ask_said a s).closed ≡ false → GoesOn (at_ask a rest onward s) (ask_said a s).text (behind_ask rest onward (ask_said a s).served)
+goes_by_ask a rest onward s still = record {
+  whatever_follows = λ more. said_first a (rest ++ (read_onward onward more).asks) s ∙ then_open (ask_said a s) (asks_said (rest ++ (read_onward onward more).asks)) still;
+}
+
+ends_by_ask : (a : Ask) (rest : List Ask) (onward : Onward) (s : Served) → (ask_said a s).closed ≡ true → Ends (at_ask a rest onward s) (ask_said a s).text
+ends_by_ask a rest onward s closes =
+    let all : (more : List ℕ) → said_from (at_ask a rest onward s) more ≡ ask_said a s = λ more. said_first a (rest ++ (read_onward onward more).asks) s ∙ then_closed (ask_said a s) (asks_said (rest ++ (read_onward onward more).asks)) closes in
+    record { text = λ more. ap (λ (r : Output). r.text) (all more); closed = λ more. ap (λ (r : Output). r.closed) (all more) ∙ closes }
+
+-- a refusal is told in its place
+goes_by_telling : (a : Ask) (rest : List Ask) (onward : Onward) (s : Served) (why : ErrText) → ask_said a s ≡ told why s → GoesOn (at_ask a rest onward s) [] (behind_ask (ask.Reply (reply.Err why) ∷ rest) onward s)
+goes_by_telling a rest onward s why is = record {
+  whatever_follows = λ more. let others = rest ++ (read_onward onward more).asks in said_first a others s ∙ ap (λ (r : Output). and_then r (asks_said others)) is ∙ sym (said_first (ask.Reply (reply.Err why)) others s);
+}
+
+-- ---- the shut that stands to be asked
+
+shut_closes : (why : ErrText) (s : Served) → (ask_said (ask.Shut why) s).closed ≡ true
+shut_closes why s = output_closed _ (reply_entry (err_line why) ∷ []) true (behind_shut (at_rest s) (err_line why) (alone_at_rest (at_rest s) s refl))
+
+abbrev rest_of : List Ask → List Ask
+rest_of [] = []
+rest_of (a ∷ asks) = asks
+
+abbrev first_of : Ask → List Ask → Ask
+first_of d [] = d
+first_of d (a ∷ asks) = a
+
+shuts_later : (a : Ask) (rest : List Ask) → ((why : ErrText) → a ≡ ask.Shut why → ⊥) → AsksToShut (a ∷ rest) → AsksToShut rest
+shuts_later a rest other shuts = go shuts.before shuts.are
+  where
+    go : (before : List Ask) → (a ∷ rest) ≡ before ++ (ask.Shut shuts.text ∷ shuts.behind) → AsksToShut rest
+    go [] is = absurd (other shuts.text (ap (first_of a) is))
+    go (b ∷ before) is = record { before = before; text = shuts.text; behind = shuts.behind; are = ap rest_of is }
+
+one_more : (a : Ask) (rest : List Ask) → AsksToShut rest → AsksToShut (a ∷ rest)
+one_more a rest shuts = record { before = a ∷ shuts.before; text = shuts.text; behind = shuts.behind; are = ap (λ l. a ∷ l) shuts.are }
+
+no_shut : (a : Ask) (why : ErrText) → asks_of a ≡ 2 → a ≡ ask.Shut why → ⊥
+no_shut a why two is = let same = ap asks_of is in absurd (omega (arith, two, same))
+
+-- ---- an answer
+
+record Goes (conn : ConnState) (server : PipeServer) (next : Asking) (new : PipeServer) : Type 0 where
+  said : List ℕ
+  put : new.output.items ≡ server.output.items ++ said
+  ready : IsInStep (record conn { asking = next }) new
+  goes : GoesOn (state_of conn server) said (record { asking = next; served = served new })
+  fewer : sum_by asks_of next.asks < left_of conn
+
+some_ask : (a : Ask) (rest : List Ask) → ¬ ((a ∷ rest) ≡ [])
+some_ask a rest is = cc
+
+weigh : (a : Ask) (rest : List Ask) → sum_by asks_of (a ∷ rest) ≡ asks_of a + sum_by asks_of rest
+weigh a rest = sum_by-cons asks_of a rest
+
+pos : (a : Ask) → 0 < asks_of a
+pos (ask.Reply frame) = omega arith
+pos (ask.Shut why) = omega arith
+pos (ask.Subscribe key sid) = omega arith
+pos (ask.Unsubscribe sid max) = omega arith
+pos (ask.Publish p) = omega arith
+
+settled_behind : (answer : Answer) (a : Ask) (rest : List Ask) (onward : Onward) → (let s : Asking = record { asks = a ∷ rest; onward = onward } in fed [] s ≡ s)
+    → fed [] (answered_first answer (a ∷ rest) onward) ≡ answered_first answer (a ∷ rest) onward
+settled_behind answer a rest onward settled = in_any_order answer (record { asks = a ∷ rest; onward = onward }) [] (some_ask a rest) ∙ ap (answered answer) settled
+
+abbrev conn_at : Ask → List Ask → Onward → Bool → ConnState
+conn_at a rest onward given = record { asking = record { asks = a ∷ rest; onward = onward }; given = given }
+
+telling_goes : (a : Ask) (rest : List Ask) (onward : Onward) (given : Bool) (server : PipeServer) (refusal : Refusal) (why : ErrText) → IsInStep (conn_at a rest onward given) server → asks_of a ≡ 2 → ask_said a (served server) ≡ told why (served server)
+    → fed [] (answered_first (Err refusal) (a ∷ rest) onward) ≡ answered_first (Err refusal) (a ∷ rest) onward
+    → answered_first (Err refusal) (a ∷ rest) onward ≡ record { asks = ask.Reply (reply.Err why) ∷ rest; onward = onward }
+    → Goes (conn_at a rest onward given) server (record { asks = ask.Reply (reply.Err why) ∷ rest; onward = onward }) server
+telling_goes a rest onward given server refusal why step two is settled same = record {
+  said = [];
+  put = sym (append-nil server.output.items);
+  ready = record {
+    ready = step.ready;
+    settled = subst (λ (s : Asking). fed [] s ≡ s) same settled;
+    shuts = λ ends. one_more (ask.Reply (reply.Err why)) rest (shuts_later a rest (λ t shut. no_shut a t two shut) (step.shuts ends));
+  };
+  goes = goes_by_telling a rest onward (served server) why is;
+  fewer = let before = weigh a rest in let after = weigh (ask.Reply (reply.Err why)) rest in omega (arith, before, after, two);
+}
+
+answer_goes : (answer : Answer) (a : Ask) (rest : List Ask) (onward : Onward) (given : Bool) (old new : PipeServer) → IsInStep (conn_at a rest onward given) old → HasServed (Answered answer) (ask_said a (served old)) old new → MayBeTold (Answered answer) a
+    → Goes (conn_at a rest onward given) old (answered_first answer (a ∷ rest) onward) new
+answer_goes (Ok done) a rest onward given old new step serves may = record {
+  said = (ask_said a (served old)).text;
+  put = serves.1.text;
+  ready = record {
+    ready = serves.1.ready;
+    settled = settled_behind (Ok done) a rest onward step.settled;
+    shuts = λ ends. shuts_later a rest (λ t shut. true≢false (sym (ap (λ x. (ask_said x (served old)).closed) shut ∙ shut_closes t (served old)) ∙ serves.0)) (step.shuts ends);
+  };
+  goes = subst (λ (s : Served). GoesOn (at_ask a rest onward (served old)) (ask_said a (served old)).text (behind_ask rest onward s)) (sym serves.1.same) (goes_by_ask a rest onward (served old) serves.0);
+  fewer = let before = weigh a rest in let some = pos a in omega (arith, before, some);
+}
+answer_goes (Err Busy) a rest onward given old new step serves may = absurd serves.0
+answer_goes (Err TooManySubscriptions) a rest onward given old new step serves may =
+    subst (Goes (conn_at a rest onward given) old (record { asks = ask.Reply (reply.Err text.TooManySubscriptions) ∷ rest; onward = onward })) (sym serves.1) (telling_goes a rest onward given old TooManySubscriptions text.TooManySubscriptions step may serves.0 (settled_behind (Err TooManySubscriptions) a rest onward step.settled) refl)
+answer_goes (Err NumbersSpent) a rest onward given old new step serves may =
+    subst (Goes (conn_at a rest onward given) old (record { asks = ask.Reply (reply.Err text.NumbersSpent) ∷ rest; onward = onward })) (sym serves.1) (telling_goes a rest onward given old NumbersSpent text.NumbersSpent step may serves.0 (settled_behind (Err NumbersSpent) a rest onward step.settled) refl)
+answer_goes (Err TooManyQueueGroups) a rest onward given old new step serves may =
+    subst (Goes (conn_at a rest onward given) old (record { asks = ask.Reply (reply.Err text.TooManyQueueGroups) ∷ rest; onward = onward })) (sym serves.1) (telling_goes a rest onward given old TooManyQueueGroups text.TooManyQueueGroups step may serves.0 (settled_behind (Err TooManyQueueGroups) a rest onward step.settled) refl)
+answer_goes (Err Other) a rest onward given old new step serves may = absurd serves.0
+
+-- a connection that asks for this first
+asking_is : (conn : ConnState) (a : Ask) (rest : List Ask) → conn.asking.asks ≡ a ∷ rest → conn ≡ conn_at a rest conn.asking.onward conn.given
+asking_is conn a rest is = λ k. record { asking = record { asks = is k; onward = conn.asking.onward }; given = conn.given }
+
+in_step_again : (conn : ConnState) (next : Asking) (new_conn : ConnState) (new : PipeServer) → new_conn.asking ≡ next → IsInStep (record conn { asking = next }) new → IsInStep new_conn new
+in_step_again conn next new_conn new is step = record {
+  ready = step.ready;
+  settled = ap (fed []) is ∙ step.settled ∙ sym is;
+  shuts = λ ends. subst (λ (s : Asking). AsksToShut s.asks) (sym is) (step.shuts (sym (ap (λ (s : Asking). s.onward) is) ∙ ends));
+}
+
+pub ask_worked : (answer : Answer) (a : Ask) (conn mid new_conn : ConnState) (old new : PipeServer) → IsInStep conn old → slice_get conn.asking.asks 0 ≡ Some a → HasServed (Answered answer) (ask_said a (served old)) old new → MayBeTold (Answered answer) a
+    → mid.asking ≡ conn.asking → new_conn.asking ≡ answered answer mid.asking → HasWorked conn old new_conn new
+ask_worked answer a conn mid new_conn old new step is serves may same next =
+    let begins = starts a conn.asking.asks is in
+    let at = asking_is conn a begins.rest begins.are in
+    let goes = answer_goes answer a begins.rest conn.asking.onward conn.given old new (subst (λ (c : ConnState). IsInStep c old) at step) serves may in
+    let next_is : new_conn.asking ≡ answered_first answer (a ∷ begins.rest) conn.asking.onward = next ∙ ap (answered answer) (same ∙ ap (λ (c : ConnState). c.asking) at) in
+    record {
+      said = goes.said;
+      put = goes.put;
+      in_step = in_step_again (conn_at a begins.rest conn.asking.onward conn.given) _ new_conn new next_is goes.ready;
+      goes = subst (λ (c : ConnState). GoesOn (state_of c old) goes.said (state_of new_conn new)) (sym at)
+          (subst (λ (s : Asking). GoesOn (state_of (conn_at a begins.rest conn.asking.onward conn.given) old) goes.said (record { asking = s; served = served new })) (sym next_is) goes.goes);
+      fewer = let fewer = goes.fewer in let here = ap (λ (s : Asking). sum_by asks_of s.asks) next_is in let there = ap left_of at in omega (arith, fewer, here, there);
+    }
+
+pub ask_closed : (a : Ask) (conn : ConnState) (old new : PipeServer) → slice_get conn.asking.asks 0 ≡ Some a → HasServed Closed (ask_said a (served old)) old new → HasClosed conn old new
+ask_closed a conn old new is serves =
+    let begins = starts a conn.asking.asks is in
+    let at = asking_is conn a begins.rest begins.are in
+    record {
+      said = (ask_said a (served old)).text;
+      put = serves.1;
+      ends = subst (λ (c : ConnState). Ends (state_of c old) (ask_said a (served old)).text) (sym at) (ends_by_ask a begins.rest conn.asking.onward (served old) serves.0);
+    }

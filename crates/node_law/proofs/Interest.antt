@@ -1,0 +1,3 @@
+-- The hub's counts are those of the open subscriptions.
+pub mod Replays
+pub mod CountsOpen

@@ -1,0 +1,3 @@
+-- What waits for a connection, and its last line.
+pub mod LastLines
+pub mod Known

@@ -1,0 +1,298 @@
+//! The outbox of a client.
+
+ghost use Rattle.std.specs.Prelude.{◌≡◌, ℕ, ◌+◌, ◌-◌, ◌≤◌, ◌<◌, ◌++◌, ◌==◌, vec_len, vec_capacity, length, take, drop, [], true, false, IfOk, OnOk, OnErr, IsTrue, Some, None, ◌^◌};
+ghost use Rattle.outbox.specs.Bytes.{bytes_of};
+ghost use Rattle.outbox.specs.Views.{Waiting, Backlog, empty_outbox, size_of, bytes_of_all, has_room, reply_entry, message_entry, with_entry, with_last, without_first, on_both};
+
+use crate::entries::{Entry, Mode, Tag};
+use crate::entry_queue::EntryQueue;
+use bytes::Bytes;
+use line_fields::CR_LF;
+use std::alloc::{AllocError, Global};
+use std::marker::Model;
+use std::mem;
+use subj::{LAST_LINE, PubId, SubId};
+
+/// The most bytes of a last line, without its CR LF.
+pub const LAST_LINE_TEXT: usize = LAST_LINE - CR_LF.len();
+
+/// What waits to be written to a client: a list of entries within a limit of entries and one of bytes.
+/// A last line may be put beyond both; behind it nothing is put any more. (Profile.)
+///
+/// Entries may also be staged: put behind what waits, unseen, until [`Outbox::commit`] shows all of
+/// them or [`Outbox::rollback`] drops them. An entry that is staged has its place and its room: to show
+/// it takes no memory, and to drop it gives both back.
+///
+/// Seen as what waits, what will wait once all that was staged is shown, and the two limits.
+#[derive(Drop)]
+pub struct Outbox {
+    alloc: Global,
+    /// What waits, and behind it what was staged.
+    entries: EntryQueue,
+    /// How many of the entries wait.
+    shown: usize,
+    /// The bytes of the entries that wait, and of all entries, while there is no last line.
+    shown_bytes: usize,
+    bytes: usize,
+    /// Whether a last line waits, and whether one waits or was staged.
+    shut: bool,
+    closing: bool,
+    /// The memory of the last line.
+    last_line: Vec<u8>,
+    max_entries: usize,
+    max_bytes: usize,
+}
+
+impl Model for Outbox {
+    ghost use Rattle.outbox.specs.Views.{Waiting};
+
+    ghost Value = { Waiting };
+
+    ghost use Rattle.std.specs.Prelude.{take, vec_capacity};
+    ghost use Rattle.outbox.specs.Sound.{IsSound, HasLastLine};
+
+    ghost view = { λ b. record {
+      shown = record { entries = take b.shown b.entries.entries; shut = b.shut };
+      next = record { entries = b.entries.entries; shut = b.closing };
+      max_entries = b.max_entries;
+      max_bytes = b.max_bytes;
+    } };
+
+    ghost invariant = { λ b. IsSound b.entries.entries b.entries.places b.shown b.shown_bytes b.bytes b.shut b.closing b.max_bytes × HasLastLine b.shut b.last_line.items (vec_capacity b.last_line) };
+}
+
+impl Outbox {
+    /// An empty outbox with these limits. The room of its last line is taken here.
+    pub fn new(alloc: Global, max_entries: usize, max_bytes: usize) -> Result<Outbox, AllocError>
+        ensures { IfOk result (λ outbox. outbox ≡ empty_outbox max_entries max_bytes) }
+    {
+        let entries = EntryQueue::new(alloc)?;
+        let last_line = Vec::with_capacity(alloc, LAST_LINE_TEXT)?;
+        Ok(Outbox {
+            alloc,
+            entries,
+            shown: 0,
+            shown_bytes: 0,
+            bytes: 0,
+            shut: false,
+            closing: false,
+            last_line,
+            max_entries,
+            max_bytes,
+        })
+    }
+
+    /// How many entries wait.
+    pub fn len(&self) -> usize
+        ensures { result ≡ length self.now.shown.entries }
+    {
+        self.shown
+    }
+
+    /// Whether nothing waits.
+    pub fn is_empty(&self) -> bool
+        ensures { result ≡ (length self.now.shown.entries == 0) }
+    {
+        self.shown == 0
+    }
+
+    /// Whether the last line was put.
+    pub fn is_shut(&self) -> bool
+        ensures { result ≡ self.now.shown.shut }
+    {
+        self.shut
+    }
+
+    /// Whether the last line was put or staged.
+    pub fn is_closing(&self) -> bool
+        ensures { result ≡ self.now.next.shut }
+    {
+        self.closing
+    }
+
+    /// Whether an entry of this many bytes may be put behind all that was put or staged: none where
+    /// there is a last line, and none beyond a limit.
+    pub fn room(&self, len: usize) -> bool
+        ensures { result ≡ has_room self.now.max_entries self.now.max_bytes len self.now.next }
+    {
+        !self.closing
+            && self.entries.len() < self.max_entries
+            && len <= self.max_bytes
+            && self.bytes <= self.max_bytes - len
+    }
+
+    /// Whether an answer of this line, given without its CR LF, may be put behind all that was put or
+    /// staged.
+    pub fn room_for(&self, line: &[u8]) -> bool
+        ensures room { result ≡ has_room self.now.max_entries self.now.max_bytes (length (bytes_of line.now None)) self.now.next }
+        ensures fits { IsTrue result → length line.now + 2 < 2 ^ 64 }
+    {
+        match line.len().checked_add(CR_LF.len()) {
+            None => false,
+            Some(len) => self.room(len),
+        }
+    }
+
+    /// Puts the last line, given without its CR LF, beyond both limits. Takes no memory.
+    pub fn shut(&mut self, line: &[u8])
+        requires settled { self.old.next ≡ self.old.shown }
+        requires once { self.old.shown.shut ≡ false }
+        requires small { length line.now ≤ LAST_LINE_TEXT }
+        ensures { self.new ≡ on_both (with_last line.now) self.old }
+    {
+        let mut text = mem::replace(&mut self.last_line, Vec::new(self.alloc));
+        let _ = text.extend_from_slice(line);
+        self.entries.push_whole_reserved(Entry::reply(text));
+        self.shown = self.entries.len();
+        self.shut = true;
+        self.closing = true;
+    }
+
+    /// Puts an entry behind all that was put or staged, unseen. Want of memory leaves all as it was.
+    pub fn stage(&mut self, entry: Entry) -> Result<(), AllocError>
+        requires { IsTrue (has_room self.old.max_entries self.old.max_bytes (length entry.bytes) self.old.next) }
+        ensures ok { OnOk result (self.new ≡ record self.old { next = with_entry entry self.old.next }) }
+        ensures err { OnErr result (self.new ≡ self.old) }
+    {
+        let size = entry.len();
+        self.entries.push(entry)?;
+        self.bytes += size;
+        Ok(())
+    }
+
+    /// Puts an answer behind all that was put or staged, unseen: what [`Outbox::stage`] does with
+    /// [`Entry::reply`]. The line, given without its CR LF, is copied. Want of memory leaves all as it was.
+    pub fn stage_reply(&mut self, line: &[u8]) -> Result<(), AllocError>
+        requires fits { length line.now + 2 < 2 ^ 64 }
+        requires room { IsTrue (has_room self.old.max_entries self.old.max_bytes (length (bytes_of line.now None)) self.old.next) }
+        ensures ok { OnOk result (self.new ≡ record self.old { next = with_entry (reply_entry line.now) self.old.next }) }
+        ensures err { OnErr result (self.new ≡ self.old) }
+    {
+        let len = line.len() + CR_LF.len();
+        self.entries.push_reply(line)?;
+        self.bytes += len;
+        Ok(())
+    }
+
+    /// Puts a message behind all that was put or staged, unseen: what [`Outbox::stage`] does with
+    /// [`Entry::message`]. The line is copied, and of small messages the payload; a larger payload is shared.
+    /// Both come without their CR LF. Want of memory leaves all as it was.
+    pub fn stage_message(
+        &mut self,
+        id: PubId,
+        sub: SubId,
+        mode: Mode,
+        line: &[u8],
+        payload: &Bytes,
+    ) -> Result<(), AllocError>
+        requires fits { length line.now + length payload.now + 4 < 2 ^ 64 }
+        requires room { IsTrue (has_room self.old.max_entries self.old.max_bytes (length (bytes_of line.now (Some payload.now))) self.old.next) }
+        ensures ok { OnOk result (self.new ≡ record self.old { next = with_entry (message_entry id sub mode line.now payload.now) self.old.next }) }
+        ensures err { OnErr result (self.new ≡ self.old) }
+    {
+        let len = line.len() + payload.len() + 2 * CR_LF.len();
+        let tag = Tag::Msg { id, sub, mode };
+        self.entries.push_message(self.alloc, tag, line, payload)?;
+        self.bytes += len;
+        Ok(())
+    }
+
+    /// Puts the last line, given without its CR LF, beyond both limits, unseen. Want of memory leaves
+    /// all as it was.
+    pub fn stage_last(&mut self, line: &[u8]) -> Result<(), AllocError>
+        requires once { self.old.next.shut ≡ false }
+        requires small { length line.now ≤ LAST_LINE_TEXT }
+        ensures ok { OnOk result (self.new ≡ record self.old { next = with_last line.now self.old.next }) }
+        ensures err { OnErr result (self.new ≡ self.old) }
+    {
+        let text = Vec::from_slice(self.alloc, line)?;
+        self.entries.push_whole(Entry::reply(text))?;
+        self.closing = true;
+        Ok(())
+    }
+
+    /// Shows what was staged. Takes no memory.
+    pub fn commit(&mut self)
+        ensures { self.new ≡ record self.old { shown = self.old.next } }
+    {
+        self.shown = self.entries.len();
+        self.shown_bytes = self.bytes;
+        self.shut = self.closing;
+    }
+
+    /// Drops what was staged. Takes no memory.
+    pub fn rollback(&mut self)
+        ensures { self.new ≡ record self.old { next = self.old.shown } }
+    {
+        self.entries.truncate(self.shown);
+        self.bytes = self.shown_bytes;
+        self.closing = self.shut;
+    }
+
+    /// Removes the first entries that wait. Takes no memory.
+    fn remove_first(&mut self, count: usize)
+        requires { self.old.next ≡ self.old.shown }
+        ensures { self.new ≡ on_both (without_first count) self.old }
+    {
+        self.entries.drop_front(count, &mut self.bytes);
+        self.shown = self.entries.len();
+        self.shown_bytes = self.bytes;
+    }
+
+    /// Gives and removes the first entries that wait, or all where there are fewer. Want of memory
+    /// leaves all as it was.
+    pub fn take(&mut self, count: usize) -> Result<Vec<Entry>, AllocError>
+        requires { self.old.next ≡ self.old.shown }
+        ensures entries { IfOk result (λ entries. entries.items ≡ take count self.old.shown.entries) }
+        ensures ok { OnOk result (self.new ≡ on_both (without_first count) self.old) }
+        ensures err { OnErr result (self.new ≡ self.old) }
+    {
+        let count = count.min(self.entries.len());
+        let taken = self.entries.copies(self.alloc, count)?;
+        self.remove_first(count);
+        Ok(taken)
+    }
+
+    /// Moves the bytes of all entries that wait behind those that are in `out`, in order, and removes the
+    /// entries. Want of memory leaves all as it was.
+    fn take_all_bytes(&mut self, out: &mut Vec<u8>) -> Result<(), AllocError>
+        requires { self.old.next ≡ self.old.shown }
+        ensures bytes { OnOk result (out.new.items ≡ out.old.items ++ bytes_of_all self.old.shown.entries) }
+        ensures ok { OnOk result (self.new ≡ on_both (λ backlog. record { entries = []; shut = backlog.shut }) self.old) }
+        ensures err { OnErr result (self.new ≡ self.old) }
+        ensures out { OnErr result (out.new.items ≡ out.old.items) }
+    {
+        self.entries.move_all(out)?;
+        self.shown = 0;
+        self.shown_bytes = 0;
+        self.bytes = 0;
+        Ok(())
+    }
+
+    /// Moves the bytes of the first entries that wait, or of all where there are fewer, behind those that
+    /// are in `out`, in order, and removes these entries. Gives how many they were. Want of memory leaves
+    /// all as it was.
+    ///
+    /// Where all are taken, have many bytes together and no shared payload, and nothing is in `out`, the two
+    /// buffers are swapped: no byte is copied, and no memory is taken.
+    pub fn take_bytes(&mut self, count: usize, out: &mut Vec<u8>) -> Result<usize, AllocError>
+        requires { self.old.next ≡ self.old.shown }
+        ensures taken { IfOk result (λ taken. taken ≡ length (take count self.old.shown.entries)) }
+        ensures bytes { OnOk result (out.new.items ≡ out.old.items ++ bytes_of_all (take count self.old.shown.entries)) }
+        ensures ok { OnOk result (self.new ≡ on_both (without_first count) self.old) }
+        ensures err { OnErr result (self.new ≡ self.old) }
+        ensures out { OnErr result (out.new.items ≡ out.old.items) }
+    {
+        let waiting = self.entries.len();
+        if waiting == 0 {
+            return Ok(0);
+        }
+        if count >= waiting {
+            self.take_all_bytes(out)?;
+            return Ok(waiting);
+        }
+        self.entries.append_front(count, out)?;
+        self.remove_first(count);
+        Ok(count)
+    }
+}

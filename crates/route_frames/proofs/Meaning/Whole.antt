@@ -1,0 +1,251 @@
+-- What is spelt is read: a line, and a line with its payload.
+use Rattle.std.proofs.Common.{◌≡◌, ℕ, Bool, true, false, not, ◌||◌, cond, List, [], ◌∷◌, ◌++◌, length, refl, ap, sym, ◌∙◌, arith, Option, Some, None, Ok, nat_eq, nat_le, Err, ◌≤◌, ◌&&◌}
+use Rattle.std.specs.Prelude.{codes, drop}
+use Rattle.std.specs.Option.{ok_or, option_to_list}
+use Rattle.std.specs.List.{list_any}
+use Rattle.std.specs.Char.{to_ascii_lowercase}
+use Rattle.std.specs.Str.{bytes_eq, str_to_ascii_lowercase}
+use Rattle.std.proofs.lemmas.Bool.{le-leb}
+use Rattle.std.proofs.lemmas.Bool.Decides.{nat_tests}
+use Rattle.std.proofs.lemmas.Slice.Eq.{bytes_eq-Decides}
+use Rattle.line_fields.specs.Fields.{is_empty, is_blank, is_word, fields, begins_with_field, line_fields}
+use Rattle.line_fields.specs.Spelling.{IsField}
+use Rattle.line_fields.proofs.SpellingFields.{stops, follow_fields, line_fields_are}
+use Rattle.subj.specs.declared.limits.TheConstants.{MAX_PAYLOAD, MAX_COUNTER}
+use Rattle.route_values.specs.declared.bodies.Body.{Body}
+use Rattle.route_values.specs.declared.bodies.Body.TheVariants.{Plus, Minus, Snapshot, Msg}
+use Rattle.route_values.specs.declared.frames.RouteFrame.{RouteFrame}
+use Rattle.route_values.specs.declared.frames.RouteFrame.TheVariants as route
+use Rattle.route_values.specs.Frames.{Frame, is_number}
+use Rattle.route_values.specs.Valid.{IsFrame, IsRouteFrame}
+use Rattle.route_frames.specs.declared.faults.RouteFault.TheVariants.{BadArgs}
+use Rattle.route_frames.specs.declared.lines.LineBody.{LineBody}
+use Rattle.route_frames.specs.declared.lines.LineBody.TheVariants as said
+use Rattle.route_frames.specs.declared.lines.NumberedLine.{NumberedLine}
+use Rattle.route_frames.specs.declared.lines.RouteLine.{RouteLine}
+use Rattle.route_frames.specs.declared.lines.RouteLine.TheVariants as line
+use Rattle.route_frames.specs.declared.operation.Operation.{Operation}
+use Rattle.route_frames.specs.declared.operation.Operation.TheVariants as operation
+use Rattle.route_frames.specs.Meaning.{Meaning, ◌>>=◌}
+use Rattle.route_frames.specs.Operations.{operation_of}
+use Rattle.route_frames.specs.CommonFields.{CommonFields}
+use Rattle.route_frames.specs.NumberedLines.{plus_line, minus_line, snapshot_line, message_line}
+use Rattle.route_frames.specs.Lines.{numbered, operation_meaning, fields_meaning, line_meaning}
+use Rattle.route_frames.specs.Announced.{announced_size}
+use Rattle.route_frames.specs.Decoding.{sized, body_meaning, frame_behind, frame_meaning, numbered_meaning}
+use Rattle.route_frames.specs.Canonical.{operation_word, form_fields}
+use Rattle.route_frames.specs.Spelling.{SpellsBody, SpellsBehind, body_announces, frame_word, SpellsText, SpellsLine, SpellsPayload, announces}
+use Rattle.route_frames.specs.Readings.{SpeltIsRead, AnnouncedIsTold}
+use Rattle.route_frames.proofs.Cuts.Behind.{drop_front}
+use Rattle.route_frames.proofs.Meaning.Lines.{AreEnds, line_spelt, AreDigits, common_with, plus_means, minus_means, snapshot_means, message_means}
+use Rattle.route_frames.proofs.Meaning.Keys.{text_means}
+use Rattle.route_frames.proofs.Meaning.Greetings.{info_means, connect_means}
+
+-- ---- operations
+
+abbrev lower : List ℕ → List ℕ
+lower bytes = str_to_ascii_lowercase bytes
+
+abbrev by_letters : List ℕ → Option Operation
+by_letters letters =
+    cond (bytes_eq letters (lower (codes "RMSG"))) (Some operation.Msg)
+    (cond (bytes_eq letters (lower (codes "RS+"))) (Some operation.Plus)
+    (cond (bytes_eq letters (lower (codes "RS-"))) (Some operation.Minus)
+    (cond (bytes_eq letters (lower (codes "RSS"))) (Some operation.Snapshot)
+    (cond (bytes_eq letters (lower (codes "INFO"))) (Some operation.Info)
+    (cond (bytes_eq letters (lower (codes "CONNECT"))) (Some operation.Connect) None)))))
+
+named : (word field : List ℕ) → is_word word field ≡ true → operation_of field ≡ by_letters (lower word)
+named word field names = ap by_letters ((bytes_eq-Decides (lower field) (lower word)).0 names)
+
+blank_in_any_case : (x : ℕ) (b : Bool) → is_blank x ≡ b → is_blank (to_ascii_lowercase x) ≡ b
+blank_in_any_case x true e = grind (arith, nat_tests)
+blank_in_any_case x false e = grind (arith, nat_tests)
+
+blanks_in_any_case : (field : List ℕ) → list_any is_blank (lower field) ≡ list_any is_blank field
+blanks_in_any_case [] = refl
+blanks_in_any_case (x ∷ xs) = ap (λ b. b || list_any is_blank (lower xs)) (blank_in_any_case x (is_blank x) refl) ∙ ap (λ b. is_blank x || b) (blanks_in_any_case xs)
+
+empty_in_any_case : (field : List ℕ) → is_empty (lower field) ≡ is_empty field
+empty_in_any_case [] = refl
+empty_in_any_case (x ∷ xs) = refl
+
+word_is_field : (word field : List ℕ) → IsField (lower word) → is_word word field ≡ true → IsField field
+word_is_field word field is names =
+    let same = (bytes_eq-Decides (lower field) (lower word)).0 names in (
+      sym (empty_in_any_case field) ∙ ap is_empty same ∙ is.0,
+      sym (blanks_in_any_case field) ∙ ap (list_any is_blank) same ∙ is.1,
+    )
+
+-- ---- a line, by its operation and the text behind it
+
+end_of_field : (bytes : List ℕ) → begins_with_field bytes ≡ false → stops bytes ≡ true
+end_of_field [] e = refl
+end_of_field (x ∷ xs) e = other (is_blank x) e where
+  other : (b : Bool) → not b ≡ false → b ≡ true
+  other true e = refl
+  other false e = absurd (cc)
+
+line_means_by : (text word field behind : List ℕ) (op : Option Operation) → text ≡ field ++ behind → is_word word field ≡ true → IsField (lower word) → by_letters (lower word) ≡ op → begins_with_field behind ≡ false → line_meaning text ≡ operation_meaning op behind (fields behind)
+line_means_by text word field behind op whole names is_field is ends =
+    let follows = follow_fields (fields behind) behind refl (end_of_field behind ends) in
+    let are : line_fields text ≡ field ∷ fields behind = line_fields_are field (fields behind) text (record { rest = behind; whole = whole; is_field = word_is_field word field is_field names; follows = follows }) in
+    ap (fields_meaning text) are
+    ∙ ap (λ op. operation_meaning op (drop (length field) text) (fields behind)) (named word field names ∙ is)
+    ∙ ap (λ behind_field. operation_meaning op behind_field (fields behind)) (ap (drop (length field)) whole ∙ drop_front field behind)
+
+-- ---- numbered frames
+
+abbrev op_of : Body → Operation
+op_of (Plus weighted) = operation.Plus
+op_of (Minus key) = operation.Minus
+op_of (Snapshot keys) = operation.Snapshot
+op_of (Msg message queues) = operation.Msg
+
+op_is : (body : Body) → by_letters (lower (operation_word body)) ≡ Some (op_of body)
+op_is (Plus weighted) = refl
+op_is (Minus key) = refl
+op_is (Snapshot keys) = refl
+op_is (Msg message queues) = refl
+
+op_is_field : (body : Body) → IsField (lower (operation_word body))
+op_is_field (Plus weighted) = (refl, refl)
+op_is_field (Minus key) = (refl, refl)
+op_is_field (Snapshot keys) = (refl, refl)
+op_is_field (Msg message queues) = (refl, refl)
+
+abbrev frame_with : List ℕ → ℕ → List ℕ → ℕ → ℕ → Body → Frame
+frame_with from inc to to_inc number body = record { from = from; inc = inc; to = to; to_inc = to_inc; number = number; body = body }
+
+read_frame : (from to : List ℕ) (inc to_inc number : ℕ) (said : LineBody) (body : Body) (payload : List ℕ) → body_meaning said payload ≡ Ok body → is_number number body ≡ true
+    → numbered_meaning (line_spelt from to inc to_inc number said) payload ≡ Ok (record { from = from; inc = inc; to = to; to_inc = to_inc; number = number; body = body })
+unfolding numbered_meaning
+read_frame from to inc to_inc number said body payload read is =
+    rw read (ap (λ b. ok_or (cond b (Some (record { from = from; inc = inc; to = to; to_inc = to_inc; number = number; body = body })) None) BadArgs) is)
+
+of_size : (n : ℕ) (same : Bool) → nat_eq n n ≡ same → same ≡ true
+of_size n same is = grind (arith, nat_tests)
+
+has_size : (payload : List ℕ) → sized (Some (length payload)) payload ≡ Ok tt
+has_size payload = ap (λ b. cond b (Ok tt) (Err BadArgs)) (of_size (length payload) _ refl)
+
+numbered_from_one : (n : ℕ) → (nat_le n MAX_COUNTER && (nat_le 1 n || false)) ≡ true → (1 ≤ n) × (n ≤ MAX_COUNTER)
+numbered_from_one n is = grind (arith, nat_tests)
+
+numbered_from_zero : (n : ℕ) → (nat_le n MAX_COUNTER && (nat_le 1 n || true)) ≡ true → n ≤ MAX_COUNTER
+numbered_from_zero n is = grind (arith, nat_tests)
+
+ends_of : (frame : Frame) → IsFrame frame → frame.number ≤ MAX_COUNTER → AreEnds frame.from frame.to frame.inc frame.to_inc frame.number
+ends_of frame is most = record { sender = is.from; receiver = is.to; life = is.inc; other_life = is.to_inc; most = most }
+
+-- what the text behind an operation says of a frame, and what is made of it and a payload
+record BodyMeans (text : List ℕ) (all : List (List ℕ)) (frame : Frame) (size : Option ℕ) : Type 0 where
+  pub said : LineBody
+  pub says : operation_meaning (Some (op_of frame.body)) text all ≡ Ok (line.Numbered (line_spelt frame.from frame.to frame.inc frame.to_inc frame.number said))
+  pub told : announced_size (line.Numbered (line_spelt frame.from frame.to frame.inc frame.to_inc frame.number said)) ≡ size
+  pub makes : (payload : List ℕ) → SpellsBehind frame.body payload → size ≡ body_announces frame.body payload → body_meaning said payload ≡ Ok frame.body
+
+abbrev spelt_fields : List ℕ → List ℕ → (inc to_inc number : ℕ) → AreDigits inc to_inc number → List (List ℕ) → List (List ℕ)
+spelt_fields from to inc to_inc number are behind = from ∷ are.inc_digits ∷ to ∷ are.to_inc_digits ∷ are.number_digits ∷ behind
+
+numbered_by : (behind_common : CommonFields → List (List ℕ) → Meaning NumberedLine) (from to : List ℕ) (inc to_inc number : ℕ) (are : AreDigits inc to_inc number) (all behind spelt : List (List ℕ)) (read : NumberedLine)
+    → all ≡ spelt_fields from to inc to_inc number are behind → behind ≡ spelt → behind_common (common_with from to inc to_inc number are) spelt ≡ Ok read → numbered behind_common all ≡ Ok (line.Numbered read)
+numbered_by behind_common from to inc to_inc number are all behind spelt read whole is says =
+    ap (numbered behind_common) whole ∙ ap (λ fields. behind_common (common_with from to inc to_inc number are) fields >>= λ read. Ok (line.Numbered read)) is ∙ ap (λ read. read >>= λ read. Ok (line.Numbered read)) says
+
+body_by : (text : List ℕ) (all behind : List (List ℕ)) (from to : List ℕ) (inc to_inc number : ℕ) (body : Body) (size : Option ℕ) (are : AreDigits inc to_inc number) → all ≡ spelt_fields from to inc to_inc number are behind → IsFrame (frame_with from inc to to_inc number body) → SpellsBody body size behind
+    → BodyMeans text all (frame_with from inc to to_inc number body) size
+body_by text all behind from to inc to_inc number (Plus weighted) size are whole is spelt =
+    let counts = numbered_from_one number is.number in
+    let means = plus_means from to inc to_inc number are weighted spelt.1.0 (ends_of (frame_with from inc to to_inc number (Plus weighted)) is counts.1) counts.0 is.body spelt.1.2 in record {
+      said = said.Plus weighted;
+      says = numbered_by plus_line from to inc to_inc number are all behind (codes "$G" ∷ weighted.0.pattern ∷ spelt.1.0) (line_spelt from to inc to_inc number (said.Plus weighted)) whole spelt.1.1 means;
+      told = sym spelt.0;
+      makes = λ payload behind told. refl;
+    }
+body_by text all behind from to inc to_inc number (Minus key) size are whole is spelt =
+    let counts = numbered_from_one number is.number in
+    let means = minus_means from to inc to_inc number are key (ends_of (frame_with from inc to to_inc number (Minus key)) is counts.1) counts.0 is.body in record {
+      said = said.Minus key;
+      says = numbered_by minus_line from to inc to_inc number are all behind (codes "$G" ∷ key.pattern ∷ option_to_list key.queue) (line_spelt from to inc to_inc number (said.Minus key)) whole spelt.1 means;
+      told = sym spelt.0;
+      makes = λ payload behind told. refl;
+    }
+body_by text all behind from to inc to_inc number (Snapshot keys) size are whole is spelt =
+    let most = numbered_from_zero number is.number in
+    let bytes = spelt.0 in
+    let means = snapshot_means from to inc to_inc number are spelt.3.0 bytes (ends_of (frame_with from inc to to_inc number (Snapshot keys)) is most) spelt.2 spelt.3.2 in record {
+      said = said.Snapshot bytes;
+      says = numbered_by snapshot_line from to inc to_inc number are all behind (spelt.3.0 ∷ []) (line_spelt from to inc to_inc number (said.Snapshot bytes)) whole spelt.3.1 means;
+      told = sym spelt.1;
+      makes = λ payload behind told. ap (λ read. read >>= λ keys. Ok (Snapshot keys)) (text_means keys payload is.body behind);
+    }
+body_by text all behind from to inc to_inc number (Msg message queues) size are whole is spelt =
+    let counts = numbered_from_one number is.number in
+    let bytes = length message.payload in
+    let means = message_means from to inc to_inc number are spelt.1.0 message queues (ends_of (frame_with from inc to to_inc number (Msg message queues)) is counts.1) counts.0 is.body spelt.1.2 in
+    let content = ap (λ b. ok_or (cond b (Some message) None) BadArgs >>= λ message. Ok (Msg message queues)) (le-leb bytes MAX_PAYLOAD (is.body).payload) in record {
+      said = said.Msg message.subject message.reply queues bytes;
+      says = numbered_by message_line from to inc to_inc number are all behind (codes "$G" ∷ message.subject ∷ (form_fields message.reply queues ++ spelt.1.0 ∷ [])) (line_spelt from to inc to_inc number (said.Msg message.subject message.reply queues bytes)) whole spelt.1.1 means;
+      told = sym spelt.0;
+      makes = λ payload behind told. ap (λ payload. body_meaning (said.Msg message.subject message.reply queues bytes) payload) behind ∙ content;
+    }
+
+-- ---- any frame
+
+-- what a line is read as, and what is made of it and a payload
+record LineMeans (text : List ℕ) (frame : RouteFrame) (size : Option ℕ) : Type 0 where
+  pub read : RouteLine
+  pub says : line_meaning text ≡ Ok read
+  pub told : announced_size read ≡ size
+  pub makes : (payload : List ℕ) → SpellsPayload frame payload → size ≡ announces frame payload → frame_behind read payload ≡ Ok frame
+
+line_by : (text word behind : List ℕ) (frame : RouteFrame) (size : Option ℕ) → text ≡ word ++ behind → is_word (frame_word frame) word ≡ true → begins_with_field behind ≡ false → SpellsText frame size behind → IsRouteFrame frame → LineMeans text frame size
+line_by text word behind (route.Info info) size whole names ends spelt is = record {
+  read = line.Info info;
+  says = line_means_by text (codes "INFO") word behind (Some operation.Info) whole names (refl, refl) refl ends ∙ ap (λ read. read >>= λ info. Ok (line.Info info)) (info_means behind spelt.1 info spelt.2 spelt.3 is);
+  told = sym spelt.0;
+  makes = λ payload behind told. refl;
+}
+line_by text word behind (route.Connect connect) size whole names ends spelt is = record {
+  read = line.Connect connect;
+  says = line_means_by text (codes "CONNECT") word behind (Some operation.Connect) whole names (refl, refl) refl ends ∙ ap (λ read. read >>= λ connect. Ok (line.Connect connect)) (connect_means behind spelt.1 connect spelt.2 spelt.3 is);
+  told = sym spelt.0;
+  makes = λ payload behind told. refl;
+}
+line_by text word behind (route.Numbered frame) size whole names ends spelt is =
+    let common = spelt.1 in
+    let are : AreDigits frame.inc frame.to_inc frame.number = record { inc_digits = common.inc; to_inc_digits = common.to_inc; number_digits = common.number; is_inc = common.is_inc; is_to_inc = common.is_to_inc; is_number = common.is_number } in
+    let means = body_by behind (fields behind) spelt.0 frame.from frame.to frame.inc frame.to_inc frame.number frame.body size are common.whole is spelt.2 in record {
+      read = line.Numbered (line_spelt frame.from frame.to frame.inc frame.to_inc frame.number means.said);
+      says = line_means_by text (operation_word frame.body) word behind (Some (op_of frame.body)) whole names (op_is_field frame.body) (op_is frame.body) ends ∙ means.says;
+      told = means.told;
+      makes = λ payload behind told. ap (λ read. read >>= λ frame. Ok (route.Numbered frame)) (read_frame frame.from frame.to frame.inc frame.to_inc frame.number means.said frame.body payload (means.makes payload behind told) is.number);
+    }
+
+line_means : (text : List ℕ) (frame : RouteFrame) (size : Option ℕ) → SpellsLine frame size text → LineMeans text frame size
+line_means text frame size spelt = line_by text spelt.word spelt.text frame size spelt.whole spelt.names spelt.is_behind spelt.says spelt.valid
+
+body_sized : (body : Body) (payload : List ℕ) → SpellsBehind body payload → sized (body_announces body payload) payload ≡ Ok tt
+body_sized (Plus weighted) payload is = ap (λ payload. sized None payload) is
+body_sized (Minus key) payload is = ap (λ payload. sized None payload) is
+body_sized (Snapshot keys) payload is = has_size payload
+body_sized (Msg message queues) payload is = has_size payload
+
+payload_sized : (frame : RouteFrame) (payload : List ℕ) → SpellsPayload frame payload → sized (announces frame payload) payload ≡ Ok tt
+payload_sized (route.Info info) payload is = ap (λ payload. sized None payload) is
+payload_sized (route.Connect connect) payload is = ap (λ payload. sized None payload) is
+payload_sized (route.Numbered frame) payload is = body_sized frame.body payload is
+
+pub spelt_is_read : SpeltIsRead
+unfolding frame_meaning
+spelt_is_read frame text payload spelt =
+    let means = line_means text frame (announces frame payload) spelt.in_line in
+    let fits : sized (announced_size means.read) payload ≡ Ok tt = ap (λ size. sized size payload) means.told ∙ payload_sized frame payload spelt.behind in
+    let made = means.makes payload spelt.behind refl in
+    rw (means.says, fits, made) refl
+
+pub announced_is_told : AnnouncedIsTold
+announced_is_told text size spelt =
+    let means = line_means text spelt.0 size spelt.1 in
+    ap (λ read. read >>= λ line. Ok (announced_size line)) means.says ∙ ap (λ size. Ok size) means.told

@@ -1,0 +1,119 @@
+-- What a line and its payload mean agrees with the causes of the line: the first of them is told, and where there is none a refusal is `BadArgs`.
+use Rattle.std.proofs.Common.{ℕ, List, [], ◌∷◌, length, drop, refl, Option, Some, None}
+use Rattle.std.specs.Prelude.{nat_eq}
+use Rattle.std.specs.Option.{ok_or}
+use Rattle.line_fields.specs.Fields.{line_fields, number_of, is_empty}
+use Rattle.subj.specs.Messages.{content_of}
+use Rattle.route_values.specs.Frames.{frame_of}
+use Rattle.route_values.specs.Snapshots.{weighted_key, snapshot_of}
+use Rattle.route_frames.specs.declared.faults.RouteFault.{RouteFault}
+use Rattle.route_frames.specs.declared.faults.RouteFault.TheVariants.{BadArgs}
+use Rattle.route_frames.specs.declared.line_reading.TheConstants.{WEIGHT_DIGITS}
+use Rattle.route_frames.specs.declared.operation.Operation.{Operation}
+use Rattle.route_frames.specs.declared.operation.Operation.TheVariants as operation
+use Rattle.route_frames.specs.declared.lines.LineBody.{LineBody}
+use Rattle.route_frames.specs.declared.lines.LineBody.TheVariants as body
+use Rattle.route_frames.specs.declared.lines.NumberedLine.{NumberedLine}
+use Rattle.route_frames.specs.declared.lines.RouteLine.{RouteLine}
+use Rattle.route_frames.specs.declared.lines.RouteLine.TheVariants as line
+use Rattle.route_frames.specs.Meaning.{Meaning}
+use Rattle.route_frames.specs.Operations.{operation_of}
+use Rattle.route_frames.specs.CommonFields.{CommonFields, common_fields}
+use Rattle.route_frames.specs.Arguments.{plus_fields, minus_fields, snapshot_field, message_fields}
+use Rattle.route_frames.specs.NumberedLines.{key_of, plus_line, minus_line, snapshot_line, message_line}
+use Rattle.route_frames.specs.Greetings.{json_of, info_of, connect_text_of}
+use Rattle.route_frames.specs.Lines.{numbered, operation_meaning, fields_meaning, line_meaning}
+use Rattle.route_frames.specs.Announced.{announced_size}
+use Rattle.route_frames.specs.SnapshotTexts.{pieces, plain_key, queue_key, weighted_of, before_cr, key_line_of, keys_in, snapshot_in}
+use Rattle.route_frames.specs.Decoding.{size_meaning, sized, body_meaning, numbered_meaning, frame_behind, frame_meaning}
+use Rattle.route_frames.specs.Causes.{plus_cause, minus_cause, snapshot_cause, message_cause, common_cause, members_cause, info_members, connect_members, operation_cause, fields_cause, line_cause}
+use Rattle.route_frames.proofs.Refused.Agreement.{Agrees, agrees_then, ok_or_agrees, refused_unless, fields_agree}
+use Rattle.route_frames.proofs.Refused.Numbered.{key_agrees, plus_agrees, minus_agrees, snapshot_agrees, message_agrees}
+use Rattle.route_frames.proofs.Refused.Greetings.{info_agrees, connect_agrees}
+
+-- ---- lines
+
+numbered_agrees : (behind : CommonFields → List (List ℕ) → Meaning NumberedLine) (cause : CommonFields → List (List ℕ) → Option RouteFault) (fields : List (List ℕ)) → ((common : CommonFields) (fields : List (List ℕ)) → Agrees (cause common fields) (behind common fields))
+    → Agrees (common_cause cause (common_fields fields)) (numbered behind fields)
+numbered_agrees behind cause fields each = fields_agree (common_cause cause) (common_fields fields) _ refl (λ split.
+    agrees_then (cause split.0 split.1) (behind split.0 split.1) _ (each split.0 split.1) (λ line. tt))
+
+operation_agrees : (named : Option Operation) (text : List ℕ) (fields : List (List ℕ)) → Agrees (operation_cause named text fields) (operation_meaning named text fields)
+operation_agrees None text fields = refl
+operation_agrees (Some operation.Info) text fields = agrees_then (members_cause info_members (json_of text)) (info_of text) _ (info_agrees text) (λ info. tt)
+operation_agrees (Some operation.Connect) text fields = agrees_then (members_cause connect_members (json_of text)) (connect_text_of text) _ (connect_agrees text) (λ connect. tt)
+operation_agrees (Some operation.Plus) text fields = numbered_agrees plus_line (λ common behind. plus_cause common (plus_fields behind)) fields plus_agrees
+operation_agrees (Some operation.Minus) text fields = numbered_agrees minus_line (λ common behind. minus_cause common (minus_fields behind)) fields minus_agrees
+operation_agrees (Some operation.Snapshot) text fields = numbered_agrees snapshot_line (λ common behind. snapshot_cause common (snapshot_field behind)) fields snapshot_agrees
+operation_agrees (Some operation.Msg) text fields = numbered_agrees message_line (λ common behind. message_cause common (message_fields behind)) fields message_agrees
+
+fields_of_line_agree : (line : List ℕ) (fields : List (List ℕ)) → Agrees (fields_cause line fields) (fields_meaning line fields)
+fields_of_line_agree line [] = refl
+fields_of_line_agree line (field ∷ fields) = operation_agrees (operation_of field) (drop (length field) line) fields
+
+pub line_agrees : (line : List ℕ) → Agrees (line_cause line) (line_meaning line)
+line_agrees line = fields_of_line_agree line (line_fields line)
+
+pub size_agrees : (line : List ℕ) → Agrees (line_cause line) (size_meaning line)
+size_agrees line = agrees_then (line_cause line) (line_meaning line) _ (line_agrees line) (λ read. tt)
+
+-- ---- payloads: whatever is wrong with one is `BadArgs`
+
+plain_key_agrees : (pattern : List ℕ) → Agrees None (plain_key pattern)
+unfolding plain_key
+plain_key_agrees pattern = agrees_then None (key_of pattern None) _ (key_agrees pattern None) (λ key. ok_or_agrees (weighted_key key 1))
+
+queue_key_agrees : (pattern queue weight : List ℕ) → Agrees None (queue_key pattern queue weight)
+unfolding queue_key
+queue_key_agrees pattern queue weight =
+    agrees_then None (ok_or (number_of WEIGHT_DIGITS weight) BadArgs) _ (ok_or_agrees (number_of WEIGHT_DIGITS weight)) (λ weight.
+    agrees_then None (key_of pattern (Some queue)) _ (key_agrees pattern (Some queue)) (λ key. ok_or_agrees (weighted_key key weight)))
+
+weighted_agrees : (fields : List (List ℕ)) → Agrees None (weighted_of fields)
+weighted_agrees [] = refl
+weighted_agrees (pattern ∷ []) = plain_key_agrees pattern
+weighted_agrees (pattern ∷ queue ∷ []) = refl
+weighted_agrees (pattern ∷ queue ∷ weight ∷ []) = queue_key_agrees pattern queue weight
+weighted_agrees (pattern ∷ queue ∷ weight ∷ other ∷ others) = refl
+
+key_line_agrees : (text : List ℕ) → Agrees None (key_line_of text)
+unfolding key_line_of
+key_line_agrees text = agrees_then None (ok_or (before_cr text) BadArgs) _ (ok_or_agrees (before_cr text)) (λ line. weighted_agrees (pieces 32 line))
+
+keys_agree : (texts : List (List ℕ)) → Agrees None (keys_in texts)
+keys_agree [] = tt
+keys_agree (last ∷ []) = refused_unless (is_empty last) []
+keys_agree (text ∷ next ∷ texts) =
+    agrees_then None (key_line_of text) _ (key_line_agrees text) (λ key.
+    agrees_then None (keys_in (next ∷ texts)) _ (keys_agree (next ∷ texts)) (λ others. tt))
+
+snapshot_in_agrees : (text : List ℕ) → Agrees None (snapshot_in text)
+unfolding snapshot_in
+snapshot_in_agrees text = agrees_then None (keys_in (pieces 10 text)) _ (keys_agree (pieces 10 text)) (λ keys. ok_or_agrees (snapshot_of keys))
+
+sized_agrees : (size : Option ℕ) (payload : List ℕ) → Agrees None (sized size payload)
+sized_agrees None payload = refused_unless (is_empty payload) tt
+sized_agrees (Some size) payload = refused_unless (nat_eq (length payload) size) tt
+
+body_agrees : (said : LineBody) (payload : List ℕ) → Agrees None (body_meaning said payload)
+body_agrees (body.Plus key) payload = tt
+body_agrees (body.Minus key) payload = tt
+body_agrees (body.Snapshot size) payload = agrees_then None (snapshot_in payload) _ (snapshot_in_agrees payload) (λ keys. tt)
+body_agrees (body.Msg subject reply queues size) payload = agrees_then None (ok_or (content_of subject reply payload) BadArgs) _ (ok_or_agrees (content_of subject reply payload)) (λ message. tt)
+
+numbered_frame_agrees : (numbered : NumberedLine) (payload : List ℕ) → Agrees None (numbered_meaning numbered payload)
+unfolding numbered_meaning
+numbered_frame_agrees numbered payload = agrees_then None (body_meaning numbered.body payload) _ (body_agrees numbered.body payload) (λ body.
+    ok_or_agrees (frame_of numbered.from numbered.numbers.inc numbered.to numbered.numbers.to_inc numbered.numbers.number body))
+
+behind_agrees : (read : RouteLine) (payload : List ℕ) → Agrees None (frame_behind read payload)
+behind_agrees (line.Info info) payload = tt
+behind_agrees (line.Connect connect) payload = tt
+behind_agrees (line.Numbered numbered) payload = agrees_then None (numbered_meaning numbered payload) _ (numbered_frame_agrees numbered payload) (λ frame. tt)
+
+-- ---- frames
+
+pub frame_agrees : (line payload : List ℕ) → Agrees (line_cause line) (frame_meaning line payload)
+unfolding frame_meaning
+frame_agrees line payload = agrees_then (line_cause line) (line_meaning line) _ (line_agrees line) (λ read.
+    agrees_then None (sized (announced_size read) payload) _ (sized_agrees (announced_size read) payload) (λ fits. behind_agrees read payload))

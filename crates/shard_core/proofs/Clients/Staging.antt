@@ -1,0 +1,169 @@
+-- What waits and what will wait, where entries are staged at some places.
+use Rattle.std.proofs.Common.{◌≡◌, ℕ, ◌<◌, ◌≤◌, Bool, true, false, List, [], ◌∷◌, ◌++◌, length, map, get_or, refl, sym, ap, ◌∙◌, arith}
+use Rattle.std.specs.Prelude.{nat_eq, ◌||◌, slice_set}
+use Rattle.std.specs.List.{list_any}
+use Rattle.std.proofs.lemmas.Bool.Decides.{nat_tests}
+use Rattle.std.proofs.Common.{cond}
+use Rattle.std.proofs.lemmas.List.{nil_from_length, map-append, ext_get_or, get_or-map, length-map, length-set, get_or-set_other}
+use Rattle.std.proofs.lemmas.Grind.{common_steps}
+use Rattle.shard_core.specs.declared.connections.Conn.{Conn}
+use Rattle.shard_core.specs.Shards.{Client}
+use Rattle.std.proofs.Common.{subst, filter, not, suc}
+use Rattle.std.specs.List.{AllPairs}
+use Rattle.std.specs.Prelude.{◌==◌, All, slice_index_or}
+use Rattle.std.proofs.lemmas.List.Kept.{AllPairs-filter}
+use Rattle.std.proofs.lemmas.List.Quantifiers.{all_pairs_push}
+use Rattle.outbox.specs.Views.{Waiting}
+use Rattle.shard_core.specs.Boxes.{AreRising, AreConns, IsStagedWithin, seen, number_of, shown_shelf, next_shelf}
+use Rattle.shard_core.proofs.Clients.Lookups.{numbers_stay}
+
+-- ---- places
+
+any_append : (i p : ℕ) (places : List ℕ) → list_any (nat_eq i) (places ++ p ∷ []) ≡ false → (list_any (nat_eq i) places ≡ false) × (nat_eq i p ≡ false)
+any_append i p [] e = (refl, by (nat_eq i p) e) where
+  by : (b : Bool) → (b || false) ≡ false → b ≡ false
+  by true e = e
+  by false e = refl
+any_append i p (q ∷ places) e = by (any_append i p places) (nat_eq i q) e where
+  by : (list_any (nat_eq i) (places ++ p ∷ []) ≡ false → (list_any (nat_eq i) places ≡ false) × (nat_eq i p ≡ false)) → (b : Bool) → (b || list_any (nat_eq i) (places ++ p ∷ [])) ≡ false → ((b || list_any (nat_eq i) places) ≡ false) × (nat_eq i p ≡ false)
+  by rest true e = (e, cc)
+  by rest false e = rest e
+
+-- ---- where it is settled, nothing is staged
+
+pub none_staged : (places : List ℕ) (conns : List Conn) → map (seen next_shelf) conns ≡ map (seen shown_shelf) conns → IsStagedWithin places conns
+none_staged places conns settled i d within out =
+    sym (get_or-map (seen next_shelf) conns i d ((seen next_shelf) d) within) ∙ ap (λ (l : List Client). get_or l i ((seen next_shelf) d)) settled ∙ get_or-map (seen shown_shelf) conns i d ((seen next_shelf) d) within
+
+pub all_settled : (conns : List Conn) → IsStagedWithin [] conns → map (seen next_shelf) conns ≡ map (seen shown_shelf) conns
+all_settled [] within = refl
+all_settled (c ∷ cs) within =
+    let conns = c ∷ cs in
+    ext_get_or ((seen next_shelf) c) (map (seen next_shelf) conns) (map (seen shown_shelf) conns) (length-map conns (seen next_shelf) ∙ sym (length-map conns (seen shown_shelf)))
+    (λ k lt. let inside : k < length conns = omega (arith, length-map conns (seen next_shelf)) in
+    get_or-map (seen next_shelf) conns k c ((seen next_shelf) c) inside ∙ within k c inside refl ∙ sym (get_or-map (seen shown_shelf) conns k c ((seen next_shelf) c) inside))
+
+-- where nothing is staged anywhere, what will wait is what waits
+pub nothing_staged : (places : List ℕ) (conns : List Conn) → length places ≡ 0 → AreConns places conns → map (seen next_shelf) conns ≡ map (seen shown_shelf) conns
+nothing_staged places conns none was = all_settled conns (subst (λ (ps : List ℕ). IsStagedWithin ps conns) (nil_from_length places none) was.staged)
+
+-- ---- one more place
+
+pub staged_at : (places : List ℕ) (conns : List Conn) (p : ℕ) (y : Conn) → IsStagedWithin places conns → IsStagedWithin (places ++ p ∷ []) (slice_set conns p y)
+staged_at places conns p y within i d inside out =
+    let apart = any_append i p places out in
+    let same : get_or (slice_set conns p y) i d ≡ get_or conns i d = get_or-set_other conns p i y d (grind (arith, nat_tests)) in
+    ap (seen next_shelf) same ∙ within i d (omega (arith, length-set conns p y)) apart.0 ∙ sym (ap (seen shown_shelf) same)
+
+pub place_added : (places : List ℕ) (conns : List Conn) (p : ℕ) → IsStagedWithin places conns → IsStagedWithin (places ++ p ∷ []) conns
+place_added places conns p within i d inside out = within i d inside (any_append i p places out).0
+
+-- ---- one place less, which was settled
+
+pub settled_at_place : (places : List ℕ) (conns : List Conn) (p : ℕ) (y : Conn) → (seen next_shelf) y ≡ (seen shown_shelf) y → p < length conns → IsStagedWithin (p ∷ places) conns → IsStagedWithin places (slice_set conns p y)
+settled_at_place places conns p y settled there within i d inside out = by (nat_eq i p) refl where
+  by : (b : Bool) → nat_eq i p ≡ b → (seen next_shelf) (get_or (slice_set conns p y) i d) ≡ (seen shown_shelf) (get_or (slice_set conns p y) i d)
+  by true e =
+      let at : get_or (slice_set conns p y) i d ≡ y = grind (arith, nat_tests, common_steps) in
+      ap (seen next_shelf) at ∙ settled ∙ sym (ap (seen shown_shelf) at)
+  by false e =
+      let same : get_or (slice_set conns p y) i d ≡ get_or conns i d = get_or-set_other conns p i y d (grind (arith, nat_tests)) in
+      ap (seen next_shelf) same ∙ within i d (omega (arith, length-set conns p y)) (ap (λ b. b || list_any (nat_eq i) places) e ∙ out) ∙ sym (ap (seen shown_shelf) same)
+
+-- a place that is not there
+pub no_such_place : (places : List ℕ) (conns : List Conn) (p : ℕ) → length conns ≤ p → IsStagedWithin (p ∷ places) conns → IsStagedWithin places conns
+no_such_place places conns p past within i d inside out =
+    let apart : nat_eq i p ≡ false = grind (arith, nat_tests) in
+    within i d inside (ap (λ b. b || list_any (nat_eq i) places) apart ∙ out)
+
+-- ---- connections in order, staged at their places
+
+rising_still : (old new : List Conn) → map number_of new ≡ map number_of old → AreRising old → AreRising new
+rising_still old new same rising = subst (AllPairs (λ (a b : ℕ). a < b)) (sym same) rising
+
+written : (conns : List Conn) (i : ℕ) (x : Conn) (box : Waiting) → x ≡ slice_index_or conns i x → map number_of (slice_set conns i (record { number = x.number; outbox = box })) ≡ map number_of conns
+written conns i x box is = ap (λ (y : Conn). map number_of (slice_set conns i (record { number = y.number; outbox = box }))) is ∙ numbers_stay conns i x box
+
+more_places : (places : List ℕ) (p : ℕ) (conns : List Conn) → IsStagedWithin places conns → IsStagedWithin (p ∷ places) conns
+more_places places p conns within i d inside out = within i d inside (by (nat_eq i p) out) where
+  by : (b : Bool) → (b || list_any (nat_eq i) places) ≡ false → list_any (nat_eq i) places ≡ false
+  by true e = cc
+  by false e = e
+
+pub conns_staged : (places : List ℕ) (conns : List Conn) (i : ℕ) (x : Conn) (box : Waiting) → x ≡ slice_index_or conns i x → AreConns places conns → AreConns (places ++ i ∷ []) (slice_set conns i (record { number = x.number; outbox = box }))
+conns_staged places conns i x box is was = record {
+  rising = rising_still conns (slice_set conns i (record { number = x.number; outbox = box })) (written conns i x box is) was.rising;
+  staged = staged_at places conns i (record { number = x.number; outbox = box }) was.staged;
+}
+
+pub conns_noted : (places : List ℕ) (conns : List Conn) (i : ℕ) → AreConns places conns → AreConns (places ++ i ∷ []) conns
+conns_noted places conns i was = record { rising = was.rising; staged = place_added places conns i was.staged }
+
+pub conns_settled : (places : List ℕ) (conns : List Conn) (i : ℕ) (x : Conn) (box : Waiting) → x ≡ slice_index_or conns i x → i < length conns → box.next ≡ box.shown → AreConns places conns → AreConns places (slice_set conns i (record { number = x.number; outbox = box }))
+conns_settled places conns i x box is there alike was = record {
+  rising = rising_still conns (slice_set conns i (record { number = x.number; outbox = box })) (written conns i x box is) was.rising;
+  staged = settled_at_place places conns i (record { number = x.number; outbox = box }) (ap (λ backlog. record { number = x.number; outbox = backlog; max_entries = box.max_entries; max_bytes = box.max_bytes }) alike) there (more_places places i conns was.staged);
+}
+
+-- one place less
+pub conns_less : (places : List ℕ) (conns : List Conn) (i : ℕ) (x : Conn) (box : Waiting) → x ≡ slice_index_or conns i x → i < length conns → box.next ≡ box.shown → AreConns (i ∷ places) conns → AreConns places (slice_set conns i (record { number = x.number; outbox = box }))
+conns_less places conns i x box is there alike was = record {
+  rising = rising_still conns (slice_set conns i (record { number = x.number; outbox = box })) (written conns i x box is) was.rising;
+  staged = settled_at_place places conns i (record { number = x.number; outbox = box }) (ap (λ backlog. record { number = x.number; outbox = backlog; max_entries = box.max_entries; max_bytes = box.max_bytes }) alike) there was.staged;
+}
+
+-- connections go, where nothing is staged
+head_same : (c : Conn) (cs : List Conn) → IsStagedWithin [] (c ∷ cs) → seen next_shelf c ≡ seen shown_shelf c
+head_same c cs within = within 0 c (omega arith) refl
+
+tail_same : (c : Conn) (cs : List Conn) → IsStagedWithin [] (c ∷ cs) → IsStagedWithin [] cs
+tail_same c cs within i d inside out = within (suc i) d (omega arith) refl
+
+none_left : (p : Conn → Bool) (conns : List Conn) → IsStagedWithin [] conns → map (seen next_shelf) (filter p conns) ≡ map (seen shown_shelf) (filter p conns)
+none_left p [] within = refl
+none_left p (c ∷ cs) within = elim (p c) as (λ b. map (seen next_shelf) (cond b (c ∷ filter p cs) (filter p cs)) ≡ map (seen shown_shelf) (cond b (c ∷ filter p cs) (filter p cs))) [
+  | true ↦ (λ k. head_same c cs within k ∷ none_left p cs (tail_same c cs within) k)
+  | false ↦ none_left p cs (tail_same c cs within)
+]
+
+filter_numbers : (q : ℕ → Bool) (conns : List Conn) → map number_of (filter (λ (x : Conn). q x.number) conns) ≡ filter q (map number_of conns)
+filter_numbers q [] = refl
+filter_numbers q (c ∷ cs) = elim (q c.number) as (λ b. map number_of (cond b (c ∷ filter (λ (x : Conn). q x.number) cs) (filter (λ (x : Conn). q x.number) cs)) ≡ cond b (c.number ∷ filter q (map number_of cs)) (filter q (map number_of cs))) [
+  | true ↦ ap (λ l. c.number ∷ l) (filter_numbers q cs)
+  | false ↦ filter_numbers q cs
+]
+
+pub conns_without : (places : List ℕ) (conns left : List Conn) (n : ℕ) → map (seen next_shelf) conns ≡ map (seen shown_shelf) conns → left ≡ filter (λ (x : Conn). not (x.number == n)) conns → AreConns places conns → AreConns [] left
+conns_without places conns left n settled is was = subst (AreConns []) (sym is) (record {
+  rising = subst (AllPairs (λ (a b : ℕ). a < b)) (sym (filter_numbers (λ m. not (m == n)) conns)) (AllPairs-filter (λ (a b : ℕ). a < b) (λ m. not (m == n)) (map number_of conns) was.rising);
+  staged = none_staged [] (filter (λ (x : Conn). not (x.number == n)) conns) (none_left (λ (x : Conn). not (x.number == n)) conns (none_staged [] conns settled));
+})
+
+-- one more behind the others, with nothing staged
+pub conns_attached : (places : List ℕ) (conns : List Conn) (x : Conn) → x.outbox.next ≡ x.outbox.shown → All (λ m. m < x.number) (map number_of conns) → map (seen next_shelf) conns ≡ map (seen shown_shelf) conns → AreConns places conns → AreConns places (conns ++ x ∷ [])
+conns_attached places conns x alike above settled was = record {
+  rising = subst (AllPairs (λ (a b : ℕ). a < b)) (sym (map-append number_of conns (x ∷ []))) (all_pairs_push (λ (a b : ℕ). a < b) (map number_of conns) x.number was.rising (λ k d within. above k d within));
+  staged = none_staged places (conns ++ x ∷ []) (map-append (seen next_shelf) conns (x ∷ []) ∙ ap (λ l. l ++ seen next_shelf x ∷ []) settled ∙ ap (λ backlog. map (seen shown_shelf) conns ++ record { number = x.number; outbox = backlog; max_entries = x.outbox.max_entries; max_bytes = x.outbox.max_bytes } ∷ []) alike ∙ sym (map-append (seen shown_shelf) conns (x ∷ [])));
+}
+
+-- by the place alone
+pub conns_less_at : (places : List ℕ) (conns : List Conn) (i : ℕ) (r : Conn) (box : Waiting) → i < length conns → box.next ≡ box.shown → AreConns (i ∷ places) conns → AreConns places (slice_set conns i (record { number = (slice_index_or conns i r).number; outbox = box }))
+conns_less_at places conns i r box there alike was = record {
+  rising = rising_still conns (slice_set conns i (record { number = (slice_index_or conns i r).number; outbox = box })) (numbers_stay conns i r box) was.rising;
+  staged = settled_at_place places conns i (record { number = (slice_index_or conns i r).number; outbox = box }) (ap (λ backlog. record { number = (slice_index_or conns i r).number; outbox = backlog; max_entries = box.max_entries; max_bytes = box.max_bytes }) alike) there was.staged;
+}
+
+pub no_such_conn : (places : List ℕ) (conns : List Conn) (i : ℕ) → length conns ≤ i → AreConns (i ∷ places) conns → AreConns places conns
+no_such_conn places conns i past was = record { rising = was.rising; staged = no_such_place places conns i past was.staged }
+
+-- numbers above those of the clients are above those of the connections
+pub numbers_below : (n : ℕ) (conns : List Conn) → All (λ (c : Client). c.number < n) (map (seen shown_shelf) conns) → All (λ m. m < n) (map number_of conns)
+numbers_below n [] above k d within = absurd (omega arith)
+numbers_below n (c ∷ cs) above k d within =
+    let conns = c ∷ cs in
+    let inside : k < length conns = omega (arith, length-map conns number_of) in
+    let number : get_or (map number_of conns) k d ≡ (get_or conns k c).number = get_or-map number_of conns k c d inside in
+    let client : get_or (map (seen shown_shelf) conns) k (seen shown_shelf c) ≡ seen shown_shelf (get_or conns k c) = get_or-map (seen shown_shelf) conns k c (seen shown_shelf c) inside in
+    let same : (get_or (map (seen shown_shelf) conns) k (seen shown_shelf c)).number ≡ (get_or conns k c).number = ap (λ (x : Client). x.number) client in
+    let below : (get_or (map (seen shown_shelf) conns) k (seen shown_shelf c)).number < n = above k (seen shown_shelf c) (omega (arith, length-map conns (seen shown_shelf))) in
+    omega (arith, number, same, below)

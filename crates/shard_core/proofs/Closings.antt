@@ -1,0 +1,7 @@
+-- Why subscriptions close, and in which order they stand.
+pub mod Closed
+pub mod Ended
+pub mod Leaving
+pub mod Opened
+pub mod Serials
+pub mod Causes

@@ -1,0 +1,4 @@
+-- What a walk and a claim choose.
+pub mod TallySteps
+pub mod Claims
+pub mod Groups
