@@ -3,6 +3,8 @@
 #![tactic(auto)]
 
 #[cfg(test)]
+mod call_tests;
+#[cfg(test)]
 mod leaving_tests;
 #[cfg(test)]
 mod node_tests;

@@ -2,6 +2,8 @@
 pub mod Parts
 -- what is kept in writing of what the hub did
 pub mod HubTapes
+-- what each of its steps was asked, as an event of the server
+pub mod Events
 -- what the passes of callers have to tell of it
 pub mod Owed
 -- the deltas that shards hand to the hub

@@ -1,18 +1,20 @@
 -- What the passes of callers have to tell of what was written down under the locks.
-use Rattle.std.specs.Prelude.{◌≡◌, ◌<◌, ℕ, suc, All, length, take, slice_index_or, flat_map, Bool, true, false, List, [], ◌∷◌, ◌++◌, Option, Some, None}
+use Rattle.std.specs.Prelude.{◌≡◌, ◌<◌, ℕ, suc, All, length, take, slice_index_or, flat_map, Bool, true, false, cond, List, [], ◌∷◌, ◌++◌, Option, Some, None}
 use Rattle.std.specs.List.Sorted.{IsPermutation}
+use Rattle.node_law.specs.declared.events.NodeEvent.{NodeEvent}
 use Rattle.node_threads.specs.Tapes.{Grows}
 use Rattle.node_threads.specs.declared.shard_entries.ShardEntry.{ShardEntry}
 use Rattle.node_threads.specs.declared.shard_entries.ShardTold.{ShardTold}
 use Rattle.node_threads.specs.declared.shard_entries.ShardTold.TheVariants.{Attached, Opened, AlreadyOpen, Unsubscribed, Replied, WasShut, Detached, Taken, Work, Dropped}
+use Rattle.thread_node.specs.Events.{event_of_hub, event_of_shard}
 use Rattle.thread_node.specs.declared.hub_entries.HubEntry.{HubEntry}
 use Rattle.thread_node.specs.declared.passes.Call.{Call}
 use Rattle.thread_node.specs.declared.passes.Told.{Told}
 use Rattle.thread_node.specs.declared.passes.Told.TheVariants.{Hub, Shard}
 
 -- under the hub's lock, which is 0, or that of the shard of this number
-abbrev pub call : ℕ → ℕ → Told → Call
-call lock place told = record { lock = lock; place = place; told = told }
+abbrev pub call : ℕ → ℕ → NodeEvent → Told → Call
+call lock place event told = record { lock = lock; place = place; event = event; told = told }
 
 -- the calls of a pass, unless they were given up
 abbrev pub calls_of : Option (List Call) → List Call
@@ -20,34 +22,43 @@ calls_of None = []
 calls_of (Some calls) = calls
 
 -- where steps are written down, a pass gains this call, at some place among the steps under its lock
-abbrev pub Gains : Bool → ℕ → Told → Option (List Call) → Option (List Call) → Type 0
-Gains true lock told old new = (place : ℕ) × Grows old (call lock place told ∷ []) new
-Gains false lock told old new = new ≡ old
+abbrev pub Gains : Bool → ℕ → NodeEvent → Told → Option (List Call) → Option (List Call) → Type 0
+Gains true lock event told old new = (place : ℕ) × Grows old (call lock place event told ∷ []) new
+Gains false lock event told old new = new ≡ old
 
--- ---- what is owed
+-- ---- what is owed: what was asked, and what was answered
+
+abbrev pub call_of_hub : ℕ → HubEntry → Call
+call_of_hub place entry = call 0 place (event_of_hub entry.event) (Hub entry.told)
+
+abbrev pub call_of_shard : ℕ → ℕ → ShardEntry → Call
+call_of_shard shard place entry = call shard place (event_of_shard shard entry.event) (Shard entry.told)
 
 -- of what the hub did, from this place on
 abbrev pub owed_by_hub : ℕ → List HubEntry → List Call
 owed_by_hub place [] = []
-owed_by_hub place (entry ∷ tape) = call 0 place (Hub entry.told) ∷ owed_by_hub (suc place) tape
+owed_by_hub place (entry ∷ tape) = call_of_hub place entry ∷ owed_by_hub (suc place) tape
 
 -- nobody is told of the parts of a turn; and of a collect the hub's caller is
-abbrev pub owed_one : ℕ → ℕ → ShardTold → List Call
-owed_one shard place (Attached conn) = call shard place (Shard (Attached conn)) ∷ []
-owed_one shard place (Opened sub) = call shard place (Shard (Opened sub)) ∷ []
-owed_one shard place AlreadyOpen = call shard place (Shard AlreadyOpen) ∷ []
-owed_one shard place (Unsubscribed ended) = call shard place (Shard (Unsubscribed ended)) ∷ []
-owed_one shard place (Replied shut ended) = call shard place (Shard (Replied shut ended)) ∷ []
-owed_one shard place (WasShut ended) = call shard place (Shard (WasShut ended)) ∷ []
-owed_one shard place (Detached ended) = call shard place (Shard (Detached ended)) ∷ []
-owed_one shard place (Taken entries) = call shard place (Shard (Taken entries)) ∷ []
-owed_one shard place Work = []
-owed_one shard place (Dropped turn) = call shard place (Shard (Dropped turn)) ∷ []
+abbrev pub is_told : ShardTold → Bool
+is_told (Attached conn) = true
+is_told (Opened sub) = true
+is_told AlreadyOpen = true
+is_told (Unsubscribed ended) = true
+is_told (Replied shut ended) = true
+is_told (WasShut ended) = true
+is_told (Detached ended) = true
+is_told (Taken entries) = true
+is_told Work = false
+is_told (Dropped turn) = true
+
+abbrev pub owed_one : ℕ → ℕ → ShardEntry → List Call
+owed_one shard place entry = cond (is_told entry.told) (call_of_shard shard place entry ∷ []) []
 
 -- of what one shard did, from this place on
 abbrev pub owed_by_shard : ℕ → ℕ → List ShardEntry → List Call
 owed_by_shard shard place [] = []
-owed_by_shard shard place (entry ∷ tape) = owed_one shard place entry.told ++ owed_by_shard shard (suc place) tape
+owed_by_shard shard place (entry ∷ tape) = owed_one shard place entry ++ owed_by_shard shard (suc place) tape
 
 -- of what all shards did, from this one on
 abbrev pub owed_by_shards : ℕ → List (List ShardEntry) → List Call

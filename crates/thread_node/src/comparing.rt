@@ -1,13 +1,14 @@
 //! Whether the passes of all callers tell what was written down.
 
-ghost use Rattle.std.specs.Prelude.{◌≡◌, ◌++◌, true, All, IfOk, OnOk, flat_map, map};
-ghost use Rattle.thread_node.specs.Owed.{AreTold, IsInOrder, calls_of, owed, owed_by_hub, owed_by_shard, owed_by_shards, owed_one};
+ghost use Rattle.std.specs.Prelude.{◌≡◌, ◌++◌, true, All, IfOk, IfSome, flat_map, map};
+ghost use Rattle.thread_node.specs.Owed.{AreTold, IsInOrder, call_of_hub, call_of_shard, calls_of, owed, owed_by_hub, owed_by_shard, owed_by_shards, owed_one};
 
+use crate::asked::{is_of_hub, is_of_shard};
 use crate::finish::Unfinished;
 use crate::hub_entries::HubEntry;
 use crate::passes::{Call, Pass, Told};
 use node_threads::{NodeName, ShardEntry, ShardTold};
-use std::alloc::{AllocError, Global};
+use std::alloc::Global;
 
 /// Whether the passes tell each step that a caller made, once, and nothing else, those of one caller under one lock
 /// in order; or nothing was to be written down. An `Err` is [`Unfinished::OutOfMemory`].
@@ -41,8 +42,7 @@ fn tell<N: NodeName>(
     let mut told = all_told(alloc, passes)?;
     told.as_mut_slice()
         .sort_unstable_by_key(|call| (call.lock, call.place));
-    let due = all_owed(alloc, hub, worked)?;
-    Ok(are_same(told.as_slice(), due.as_slice()))
+    Ok(are_owed(told.as_slice(), hub, worked))
 }
 
 /// Whether each pass has its calls under each lock in order.
@@ -58,88 +58,100 @@ fn all_told<N: NodeName>(alloc: Global, passes: Vec<Pass<N>>) -> Result<Vec<Call
 {
     let mut all = Vec::new(alloc);
     for pass in passes {
-        let Some(calls) = pass.into_calls() else {
+        let Some(mut calls) = pass.into_calls() else {
             return Err(Unfinished::OutOfMemory);
         };
-        all.extend_from_slice(calls.as_slice())?;
+        all.append(&mut calls)?;
     }
     Ok(all)
 }
 
-/// What the callers have to tell of all that was written down.
-fn all_owed(
-    alloc: Global,
-    hub: &[HubEntry],
-    worked: &[Vec<ShardEntry>],
-) -> Result<Vec<Call>, AllocError>
-    ensures { IfOk result (λ calls. calls.items ≡ owed hub.now (map (λ entries. entries.items) worked.now)) }
+/// Whether these calls are what callers have to tell of all that was written down, in order: what was asked, and what was answered.
+fn are_owed(calls: &[Call], hub: &[HubEntry], worked: &[Vec<ShardEntry>]) -> bool
+    ensures { result ≡ true → calls.now ≡ owed hub.now (map (λ entries. entries.items) worked.now) }
 {
-    let mut all = Vec::new(alloc);
-    owe_hub(&mut all, hub)?;
-    owe_shards(&mut all, worked)?;
-    Ok(all)
-}
-
-/// Adds what they have to tell of the hub.
-fn owe_hub(all: &mut Vec<Call>, tape: &[HubEntry]) -> Result<(), AllocError>
-    ensures { OnOk result (all.new.items ≡ all.old.items ++ owed_by_hub 0 tape.now) }
-{
-    for place in 0..tape.len() {
-        all.push(Call {
-            lock: 0,
-            place,
-            told: Told::Hub(tape[place].told),
-        })?;
-    }
-    Ok(())
-}
-
-/// Adds what they have to tell of all shards.
-fn owe_shards(all: &mut Vec<Call>, worked: &[Vec<ShardEntry>]) -> Result<(), AllocError>
-    ensures { OnOk result (all.new.items ≡ all.old.items ++ owed_by_shards 1 (map (λ entries. entries.items) worked.now)) }
-{
-    for place in 0..worked.len() {
-        owe_shard(all, place as u64 + 1, worked[place].as_slice())?;
-    }
-    Ok(())
-}
-
-/// Adds what they have to tell of a shard.
-fn owe_shard(all: &mut Vec<Call>, shard: u64, tape: &[ShardEntry]) -> Result<(), AllocError>
-    ensures { OnOk result (all.new.items ≡ all.old.items ++ owed_by_shard shard 0 tape.now) }
-{
-    for place in 0..tape.len() {
-        owe_one(all, shard, place, tape[place].told)?;
-    }
-    Ok(())
-}
-
-/// Adds a step of a shard, unless nobody is told of it.
-fn owe_one(all: &mut Vec<Call>, shard: u64, place: usize, told: ShardTold) -> Result<(), AllocError>
-    ensures { OnOk result (all.new.items ≡ all.old.items ++ owed_one shard place told) }
-{
-    if matches!(told, ShardTold::Work) {
-        return Ok(());
-    }
-    all.push(Call {
-        lock: shard,
-        place,
-        told: Told::Shard(told),
-    })?;
-    Ok(())
-}
-
-/// Whether the lists are the same.
-fn are_same(a: &[Call], b: &[Call]) -> bool
-    ensures { result ≡ true → a.now ≡ b.now }
-{
-    if a.len() != b.len() {
+    let Some(rest) = behind_hub(calls, hub) else {
         return false;
-    }
-    for place in 0..a.len() {
-        if a[place] != b[place] {
-            return false;
+    };
+    let Some(rest) = behind_shards(rest, worked) else {
+        return false;
+    };
+    rest.is_empty()
+}
+
+/// The calls behind those that tell of what the hub did. None where others stand there.
+fn behind_hub<'a>(calls: &'a [Call], tape: &[HubEntry]) -> Option<&'a [Call]>
+    ensures { IfSome result (λ rest. calls.now ≡ owed_by_hub 0 tape.now ++ rest.now) }
+{
+    let mut rest = calls;
+    for place in 0..tape.len() {
+        let (call, others) = rest.split_first()?;
+        if !is_by_hub(call, place, &tape[place]) {
+            return None;
         }
+        rest = others;
     }
-    true
+    Some(rest)
+}
+
+/// The same of all shards.
+fn behind_shards<'a>(calls: &'a [Call], worked: &[Vec<ShardEntry>]) -> Option<&'a [Call]>
+    ensures { IfSome result (λ rest. calls.now ≡ owed_by_shards 1 (map (λ entries. entries.items) worked.now) ++ rest.now) }
+{
+    let mut rest = calls;
+    for place in 0..worked.len() {
+        rest = behind_shard(rest, place as u64 + 1, worked[place].as_slice())?;
+    }
+    Some(rest)
+}
+
+/// The same of one shard.
+fn behind_shard<'a>(calls: &'a [Call], shard: u64, tape: &[ShardEntry]) -> Option<&'a [Call]>
+    ensures { IfSome result (λ rest. calls.now ≡ owed_by_shard shard 0 tape.now ++ rest.now) }
+{
+    let mut rest = calls;
+    for place in 0..tape.len() {
+        rest = behind_one(rest, shard, place, &tape[place])?;
+    }
+    Some(rest)
+}
+
+/// The same of one step of a shard.
+fn behind_one<'a>(
+    calls: &'a [Call],
+    shard: u64,
+    place: usize,
+    entry: &ShardEntry,
+) -> Option<&'a [Call]>
+    ensures { IfSome result (λ rest. calls.now ≡ owed_one shard place entry.now ++ rest.now) }
+{
+    if matches!(entry.told, ShardTold::Work) {
+        return Some(calls);
+    }
+    let (call, rest) = calls.split_first()?;
+    if is_by_shard(call, shard, place, entry) {
+        Some(rest)
+    } else {
+        None
+    }
+}
+
+/// Whether the call tells of this step of the hub, at its place.
+fn is_by_hub(call: &Call, place: usize, entry: &HubEntry) -> bool
+    ensures { result ≡ true → call.now ≡ call_of_hub place entry.now }
+{
+    call.lock == 0
+        && call.place == place
+        && call.told == Told::Hub(entry.told)
+        && is_of_hub(&call.event, &entry.event)
+}
+
+/// Whether the call tells of this step of the shard of this number, at its place.
+fn is_by_shard(call: &Call, shard: u64, place: usize, entry: &ShardEntry) -> bool
+    ensures { result ≡ true → call.now ≡ call_of_shard shard place entry.now }
+{
+    call.lock == shard
+        && call.place == place
+        && call.told == Told::Shard(entry.told)
+        && is_of_shard(&call.event, shard, &entry.event)
 }

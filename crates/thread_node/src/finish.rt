@@ -23,6 +23,7 @@ use std::alloc::{AllocError, Global};
 use std::sync::{Arc, Mutex, Wait};
 use sub_table::SubTable;
 use subj::{Finished, Turn};
+use thiserror::Error;
 use thread_law::legal_runs_are_once;
 
 /// What a server has done.
@@ -41,15 +42,18 @@ pub struct Report {
 }
 
 /// Why a server gave no report.
-#[derive(Clone, Copy, Debug, PartialEq, Eq)]
+#[derive(Clone, Copy, Debug, PartialEq, Eq, Error)]
 pub enum Unfinished {
     /// The allocator gave no memory, now or when a step was to be written down.
+    #[error("there was no memory to write all down, or to tell of it")]
     OutOfMemory,
     /// The value under the lock of this shard, from 1, or the hub's end of its lane, is another shard's, or the
     /// deltas that the hub took of it are not those that it gave; 0 where the race is held by somebody else
     /// still. No server comes to it: the locks' types cannot say so.
+    #[error("what stands under the lock of shard {0} is not its own (0: under none)")]
     Torn(u64),
-    /// The passes do not tell each step once that a caller made under a lock, and nothing else.
+    /// The passes do not tell each step once that a caller made under a lock, as it was asked and answered, and nothing else.
+    #[error("the passes do not tell each call once, as it was asked and answered")]
     Untold,
 }
 
@@ -150,8 +154,8 @@ impl<T: SubTable, N: NodeName> ThreadNode<T, N> {
     /// it was put once at most for a queue name and once for a subscription, and each subscription got those of
     /// one incarnation in rising number. Where it was written down, the hub was handed just the deltas that each shard gave, collect for
     /// collect ([`Unfinished::Torn`] else, which no server comes to); and then the passes tell each step of the hub's and each one of a shard's but for
-    /// collects and the parts of turns, once, with what was answered, and nothing else; and those of one caller
-    /// under one lock stand in order.
+    /// collects and the parts of turns, once, with what was asked and answered, and nothing else; and those of one
+    /// caller under one lock stand in order.
     ///
     /// The server is given up for want of memory too. May wait.
     pub fn finish<R: Wait>(

@@ -7,25 +7,7 @@ use crate::hub_entries::{HubEntry, HubEvent};
 use interest::Delta;
 use node_threads::{Deltas, ShardEntry, ShardEvent};
 use std::alloc::{AllocError, Global};
-use subj::{Key, QueueName};
-
-/// Whether it is the same queue name, or none twice.
-fn is_same_queue(a: &Option<QueueName>, b: &Option<QueueName>) -> bool
-    ensures { result ≡ true → a.now ≡ b.now }
-{
-    match (a, b) {
-        (None, None) => true,
-        (Some(a), Some(b)) => a.bytes() == b.bytes(),
-        (None, Some(_)) | (Some(_), None) => false,
-    }
-}
-
-/// Whether it is the same key.
-fn is_same_key(a: &Key, b: &Key) -> bool
-    ensures { result ≡ true → a.now ≡ b.now }
-{
-    a.pattern.bytes() == b.pattern.bytes() && is_same_queue(&a.queue, &b.queue)
-}
+use value_equality::is_same_key;
 
 /// Whether it is the same delta.
 fn is_same(a: &Delta, b: &Delta) -> bool

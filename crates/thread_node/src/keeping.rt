@@ -108,6 +108,19 @@ pub(crate) fn count_of(ended: Option<SubId>) -> usize
     }
 }
 
+/// A copy of what a client said, where there is memory for it.
+pub(crate) fn copy_of(said: &Pub) -> Option<Pub>
+    ensures { IfSome result (λ copy. copy ≡ said.now) }
+{
+    let Ok(message) = said.message.try_clone() else {
+        return None;
+    };
+    Some(Pub {
+        message,
+        echo: said.echo,
+    })
+}
+
 /// A publication, where it is to be written down and there is memory for it.
 pub(crate) fn publish_event(
     tape: &Tape<HubEntry>,
@@ -121,13 +134,7 @@ pub(crate) fn publish_event(
     if !tape.is_kept() {
         return None;
     }
-    let Ok(message) = said.message.try_clone() else {
-        return None;
-    };
-    let said = Pub {
-        message,
-        echo: said.echo,
-    };
+    let said = copy_of(said)?;
     Some(HubEvent::Publish {
         conn,
         said,

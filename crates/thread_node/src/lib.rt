@@ -1,9 +1,12 @@
 //! One server on threads: the hub and each shard under a lock of its own. Any thread may make its calls.
 //!
 //! In reading order: `parts` is what a server is made of, `locked_hub` and `locked_shard` what stands under its locks, `node` the
-//! server with its locks, `calls` those that take a lock for one call, `workers` the threads that work lanes, `finish` the end.
+//! server with its locks, `calls` those that take a lock for one call, `pass_calls` those whose caller keeps what it asked and what
+//! it was answered, `workers` the threads that work lanes, `finish` the end.
 #![tactic(auto)]
 
+mod asked;
+mod asking;
 mod calls;
 mod comparing;
 mod finish;
@@ -16,6 +19,7 @@ mod node;
 mod parts;
 mod pass_calls;
 mod passes;
+mod rising;
 mod workers;
 
 pub use finish::{Report, Unfinished};

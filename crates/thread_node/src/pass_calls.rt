@@ -1,7 +1,11 @@
-//! The calls of a caller whose answers its pass tells.
+//! The calls of a caller whose pass tells what it asked and what it was answered.
 
 ghost use Rattle.std.specs.Prelude.{◌≡◌, length, option_to_list, Some, IfOk, OnErr};
 ghost use Rattle.shard_core.specs.Answers.{answer_of};
+ghost use Rattle.node_law.specs.declared.events.ConnEvent.TheVariants as of_conn;
+ghost use Rattle.node_law.specs.declared.events.NodeEvent.TheVariants.{Own, Receive, OnInfo, OnConnect};
+ghost use Rattle.node_law.specs.declared.events.OwnEvent.TheVariants as own;
+ghost use Rattle.node_law.specs.declared.events.ShardWork.TheVariants as work;
 ghost use Rattle.node_threads.specs.Tapes.{told_of};
 ghost use Rattle.node_threads.specs.declared.shard_entries.ShardTold.TheVariants as shard_told;
 ghost use Rattle.thread_node.specs.HubTapes.{of_received};
@@ -9,14 +13,15 @@ ghost use Rattle.thread_node.specs.Owed.{Gains};
 ghost use Rattle.thread_node.specs.declared.hub_entries.HubTold.TheVariants as hub_told;
 ghost use Rattle.thread_node.specs.declared.passes.Told.TheVariants.{Hub, Shard};
 
+use crate::asking::{frame_of_peer, of_conn, publication, subscription, unsubscription};
 use crate::calls::{NO_SHARD, of_hub, of_shard};
 use crate::hub_entries::HubTold;
 use crate::keeping::{count_of, length_of, told_received, told_subscribed};
 use crate::node::ThreadNode;
-use crate::passes::{Pass, Told as PassTold};
+use crate::passes::Pass;
 use client_frames::{ErrText, ReplyFrame};
 use hub_core::{HubFault, Told};
-use node_law::NodeFault;
+use node_law::{ConnEvent, NodeEvent, NodeFault, OwnEvent, ShardWork};
 use node_parts::{Issued, Received};
 use node_threads::{NodeName, ShardTold};
 use outbox::Entry;
@@ -28,7 +33,7 @@ use sub_table::SubTable;
 use subj::{ConnId, Failure, Key, Pub, Sid, SubId, Turn};
 
 /// Each call is that of [`ThreadNode`] of the same name. Where what is done is written down, the pass gains it, with
-/// what was answered; a refused call and want of memory leave it as it was.
+/// what was asked and what was answered; a refused call and want of memory leave it as it was.
 impl<N: NodeName> Pass<N> {
     /// [`ThreadNode::publish`]. May wait.
     pub fn publish<T: SubTable, R: Wait>(
@@ -39,7 +44,7 @@ impl<N: NodeName> Pass<N> {
         said: &Pub,
         word: u64,
     ) -> Result<Issued, Failure<HubFault>>
-        ensures told { IfOk result (λ issued. Gains N.keep 0 (Hub (hub_told.Issued issued.turn issued.frames)) self.old self.new) }
+        ensures told { IfOk result (λ issued. Gains N.keep 0 (Own (own.Publish conn said.now word)) (Hub (hub_told.Issued issued.turn issued.frames)) self.old self.new) }
         ensures same { OnErr result (self.new ≡ self.old) }
     {
         let mut hub = node.hub(rt);
@@ -52,7 +57,8 @@ impl<N: NodeName> Pass<N> {
             turn: issued.turn,
             frames: issued.frames,
         };
-        self.tell(node.keep, 0, place, PassTold::Hub(told));
+        let event = publication(self.is_kept(node.keep), conn, said, word);
+        self.tell_hub(node.keep, place, event, told);
         Ok(issued)
     }
 
@@ -63,7 +69,7 @@ impl<N: NodeName> Pass<N> {
         node: &ThreadNode<T, N>,
         frame: &Numbered,
     ) -> Result<Received, Failure<HubFault>>
-        ensures told { IfOk result (λ received. Gains N.keep 0 (Hub (of_received received)) self.old self.new) }
+        ensures told { IfOk result (λ received. Gains N.keep 0 (Receive frame.now) (Hub (of_received received)) self.old self.new) }
         ensures same { OnErr result (self.new ≡ self.old) }
     {
         let mut hub = node.hub(rt);
@@ -73,7 +79,8 @@ impl<N: NodeName> Pass<N> {
         drop(hub);
         node.unpark_workers();
         let told = told_received(&received);
-        self.tell(node.keep, 0, place, PassTold::Hub(told));
+        let event = frame_of_peer(self.alloc, self.is_kept(node.keep), frame);
+        self.tell_hub(node.keep, place, event, told);
         Ok(received)
     }
 
@@ -84,13 +91,14 @@ impl<N: NodeName> Pass<N> {
         node: &ThreadNode<T, N>,
         peer: usize,
     ) -> Result<SessionId, Failure<SessionFault>>
-        ensures told { IfOk result (λ session. Gains N.keep 0 (Hub (hub_told.Dialed session)) self.old self.new) }
+        ensures told { IfOk result (λ session. Gains N.keep 0 (Own (own.Dial peer)) (Hub (hub_told.Dialed session)) self.old self.new) }
         ensures same { OnErr result (self.new ≡ self.old) }
     {
         let mut hub = node.hub(rt);
         let place = hub.tape.len();
         let session = hub.dial(peer)?;
-        self.tell(node.keep, 0, place, PassTold::Hub(HubTold::Dialed(session)));
+        let event = Some(NodeEvent::Own(OwnEvent::Dial { peer }));
+        self.tell_hub(node.keep, place, event, HubTold::Dialed(session));
         Ok(session)
     }
 
@@ -100,18 +108,14 @@ impl<N: NodeName> Pass<N> {
         rt: &R,
         node: &ThreadNode<T, N>,
     ) -> Result<(SessionId, RouteInfo), Failure<SessionFault>>
-        ensures told { IfOk result (λ given. Gains N.keep 0 (Hub (hub_told.Accepted given.0)) self.old self.new) }
+        ensures told { IfOk result (λ given. Gains N.keep 0 (Own own.Accept) (Hub (hub_told.Accepted given.0)) self.old self.new) }
         ensures same { OnErr result (self.new ≡ self.old) }
     {
         let mut hub = node.hub(rt);
         let place = hub.tape.len();
         let (session, info) = hub.accept()?;
-        self.tell(
-            node.keep,
-            0,
-            place,
-            PassTold::Hub(HubTold::Accepted(session)),
-        );
+        let event = Some(NodeEvent::Own(OwnEvent::Accept));
+        self.tell_hub(node.keep, place, event, HubTold::Accepted(session));
         Ok((session, info))
     }
 
@@ -123,17 +127,21 @@ impl<N: NodeName> Pass<N> {
         session: SessionId,
         info: &RouteInfo,
     ) -> Result<(Kept, RouteConnect), Failure<SessionFault>>
-        ensures told { IfOk result (λ done. Gains N.keep 0 (Hub (hub_told.KeptAfterInfo done.0.instead_of)) self.old self.new) }
+        ensures told { IfOk result (λ done. Gains N.keep 0 (OnInfo session info.now) (Hub (hub_told.KeptAfterInfo done.0.instead_of)) self.old self.new) }
         ensures same { OnErr result (self.new ≡ self.old) }
     {
         let mut hub = node.hub(rt);
         let place = hub.tape.len();
         let (kept, connect) = hub.info(session, info)?;
-        self.tell(
+        let event = Some(NodeEvent::OnInfo {
+            session,
+            info: *info,
+        });
+        self.tell_hub(
             node.keep,
-            0,
             place,
-            PassTold::Hub(HubTold::KeptAfterInfo(kept.instead_of)),
+            event,
+            HubTold::KeptAfterInfo(kept.instead_of),
         );
         Ok((kept, connect))
     }
@@ -146,18 +154,17 @@ impl<N: NodeName> Pass<N> {
         session: SessionId,
         connect: &RouteConnect,
     ) -> Result<Kept, Failure<SessionFault>>
-        ensures told { IfOk result (λ kept. Gains N.keep 0 (Hub (hub_told.Kept kept.instead_of)) self.old self.new) }
+        ensures told { IfOk result (λ kept. Gains N.keep 0 (OnConnect session connect.now) (Hub (hub_told.Kept kept.instead_of)) self.old self.new) }
         ensures same { OnErr result (self.new ≡ self.old) }
     {
         let mut hub = node.hub(rt);
         let place = hub.tape.len();
         let kept = hub.connect(session, connect)?;
-        self.tell(
-            node.keep,
-            0,
-            place,
-            PassTold::Hub(HubTold::Kept(kept.instead_of)),
-        );
+        let event = Some(NodeEvent::OnConnect {
+            session,
+            connect: *connect,
+        });
+        self.tell_hub(node.keep, place, event, HubTold::Kept(kept.instead_of));
         Ok(kept)
     }
 
@@ -168,13 +175,14 @@ impl<N: NodeName> Pass<N> {
         node: &ThreadNode<T, N>,
         session: SessionId,
     ) -> Result<Option<usize>, SessionFault>
-        ensures told { IfOk result (λ peer. Gains N.keep 0 (Hub (hub_told.WasCut peer)) self.old self.new) }
+        ensures told { IfOk result (λ peer. Gains N.keep 0 (Own (own.CutSession session)) (Hub (hub_told.WasCut peer)) self.old self.new) }
         ensures same { OnErr result (self.new ≡ self.old) }
     {
         let mut hub = node.hub(rt);
         let place = hub.tape.len();
         let peer = hub.cut(session)?;
-        self.tell(node.keep, 0, place, PassTold::Hub(HubTold::WasCut(peer)));
+        let event = Some(NodeEvent::Own(OwnEvent::CutSession { session }));
+        self.tell_hub(node.keep, place, event, HubTold::WasCut(peer));
         Ok(peer)
     }
 
@@ -186,18 +194,14 @@ impl<N: NodeName> Pass<N> {
         peer: usize,
         count: usize,
     ) -> Result<Vec<Numbered>, Failure<HubFault>>
-        ensures told { IfOk result (λ frames. Gains N.keep 0 (Hub (hub_told.Taken (length frames.items))) self.old self.new) }
+        ensures told { IfOk result (λ frames. Gains N.keep 0 (Own (own.TakeFrames peer count)) (Hub (hub_told.Taken (length frames.items))) self.old self.new) }
         ensures same { OnErr result (self.new ≡ self.old) }
     {
         let mut hub = node.hub(rt);
         let place = hub.tape.len();
         let frames = hub.take_frames(peer, count)?;
-        self.tell(
-            node.keep,
-            0,
-            place,
-            PassTold::Hub(HubTold::Taken(length_of(&frames))),
-        );
+        let event = Some(NodeEvent::Own(OwnEvent::TakeFrames { peer, count }));
+        self.tell_hub(node.keep, place, event, HubTold::Taken(length_of(&frames)));
         Ok(frames)
     }
 
@@ -208,15 +212,15 @@ impl<N: NodeName> Pass<N> {
         node: &ThreadNode<T, N>,
         shard: u64,
     ) -> Result<Told, Failure<NodeFault>>
-        ensures told { IfOk result (λ told. Gains N.keep 0 (Hub (hub_told.Collected (length told.changes.items) (length told.cut.items))) self.old self.new) }
+        ensures told { IfOk result (λ told. Gains N.keep 0 (Own (own.Collect shard)) (Hub (hub_told.Collected (length told.changes.items) (length told.cut.items))) self.old self.new) }
         ensures same { OnErr result (self.new ≡ self.old) }
     {
         let mut hub = node.hub(rt);
-        let Some(mut shard) = node.shard(rt, shard) else {
+        let Some(mut state) = node.shard(rt, shard) else {
             return Err(NO_SHARD);
         };
         let place = hub.tape.len();
-        let told = match hub.collect(&mut shard) {
+        let told = match hub.collect(&mut state) {
             Ok(told) => told,
             Err(fault) => return Err(of_hub(fault)),
         };
@@ -224,7 +228,8 @@ impl<N: NodeName> Pass<N> {
             changes: length_of(&told.changes),
             cut: length_of(&told.cut),
         };
-        self.tell(node.keep, 0, place, PassTold::Hub(answer));
+        let event = Some(NodeEvent::Own(OwnEvent::Collect { shard }));
+        self.tell_hub(node.keep, place, event, answer);
         Ok(told)
     }
 
@@ -235,7 +240,7 @@ impl<N: NodeName> Pass<N> {
         node: &ThreadNode<T, N>,
         shard: u64,
     ) -> Result<ConnId, Failure<NodeFault>>
-        ensures told { IfOk result (λ conn. Gains N.keep shard (Shard (shard_told.Attached conn)) self.old self.new) }
+        ensures told { IfOk result (λ conn. Gains N.keep shard (Own (own.AtShard shard work.Attach)) (Shard (shard_told.Attached conn)) self.old self.new) }
         ensures same { OnErr result (self.new ≡ self.old) }
     {
         let Some(mut state) = node.shard(rt, shard) else {
@@ -246,12 +251,11 @@ impl<N: NodeName> Pass<N> {
             Ok(conn) => conn,
             Err(fault) => return Err(of_shard(fault)),
         };
-        self.tell(
-            node.keep,
+        let event = Some(NodeEvent::Own(OwnEvent::AtShard {
             shard,
-            place,
-            PassTold::Shard(ShardTold::Attached(conn)),
-        );
+            work: ShardWork::Attach,
+        }));
+        self.tell_shard(node.keep, shard, place, event, ShardTold::Attached(conn));
         Ok(conn)
     }
 
@@ -265,9 +269,10 @@ impl<N: NodeName> Pass<N> {
         key: Key,
         sid: Sid,
     ) -> Result<Subscribed, Failure<NodeFault>>
-        ensures told { IfOk result (λ done. Gains N.keep shard (Shard (told_of (answer_of done))) self.old self.new) }
+        ensures told { IfOk result (λ done. Gains N.keep shard (Own (own.OfConn conn (of_conn.Subscribe key sid))) (Shard (told_of (answer_of done))) self.old self.new) }
         ensures same { OnErr result (self.new ≡ self.old) }
     {
+        let event = subscription(self.alloc, self.is_kept(node.keep), conn, &key, &sid);
         let Some(mut state) = node.shard(rt, shard) else {
             return Err(NO_SHARD);
         };
@@ -276,12 +281,7 @@ impl<N: NodeName> Pass<N> {
             Ok(done) => done,
             Err(fault) => return Err(of_shard(fault)),
         };
-        self.tell(
-            node.keep,
-            shard,
-            place,
-            PassTold::Shard(told_subscribed(done)),
-        );
+        self.tell_shard(node.keep, shard, place, event, told_subscribed(done));
         Ok(done)
     }
 
@@ -295,7 +295,7 @@ impl<N: NodeName> Pass<N> {
         sid: &Sid,
         max: Option<u64>,
     ) -> Result<Option<SubId>, NodeFault>
-        ensures told { IfOk result (λ ended. Gains N.keep shard (Shard (shard_told.Unsubscribed (length (option_to_list ended)))) self.old self.new) }
+        ensures told { IfOk result (λ ended. Gains N.keep shard (Own (own.OfConn conn (of_conn.Unsubscribe sid.now max))) (Shard (shard_told.Unsubscribed (length (option_to_list ended)))) self.old self.new) }
         ensures same { OnErr result (self.new ≡ self.old) }
     {
         let Some(mut state) = node.shard(rt, shard) else {
@@ -306,11 +306,13 @@ impl<N: NodeName> Pass<N> {
             Ok(ended) => ended,
             Err(fault) => return Err(NodeFault::Shard(fault)),
         };
-        self.tell(
+        let event = unsubscription(self.alloc, self.is_kept(node.keep), conn, sid, max);
+        self.tell_shard(
             node.keep,
             shard,
             place,
-            PassTold::Shard(ShardTold::Unsubscribed(count_of(ended))),
+            event,
+            ShardTold::Unsubscribed(count_of(ended)),
         );
         Ok(ended)
     }
@@ -324,7 +326,7 @@ impl<N: NodeName> Pass<N> {
         conn: ConnId,
         frame: &ReplyFrame,
     ) -> Result<Closed, Failure<NodeFault>>
-        ensures told { IfOk result (λ closed. Gains N.keep shard (Shard (shard_told.Replied closed.shut (length closed.ended.items))) self.old self.new) }
+        ensures told { IfOk result (λ closed. Gains N.keep shard (Own (own.OfConn conn (of_conn.Reply frame.now))) (Shard (shard_told.Replied closed.shut (length closed.ended.items))) self.old self.new) }
         ensures same { OnErr result (self.new ≡ self.old) }
     {
         let Some(mut state) = node.shard(rt, shard) else {
@@ -339,7 +341,8 @@ impl<N: NodeName> Pass<N> {
             shut: closed.shut,
             ended: length_of(&closed.ended),
         };
-        self.tell(node.keep, shard, place, PassTold::Shard(told));
+        let event = Some(of_conn(conn, ConnEvent::Reply { frame: *frame }));
+        self.tell_shard(node.keep, shard, place, event, told);
         Ok(closed)
     }
 
@@ -352,7 +355,7 @@ impl<N: NodeName> Pass<N> {
         conn: ConnId,
         text: ErrText,
     ) -> Result<Vec<SubId>, Failure<NodeFault>>
-        ensures told { IfOk result (λ ended. Gains N.keep shard (Shard (shard_told.WasShut (length ended.items))) self.old self.new) }
+        ensures told { IfOk result (λ ended. Gains N.keep shard (Own (own.OfConn conn (of_conn.Shut text))) (Shard (shard_told.WasShut (length ended.items))) self.old self.new) }
         ensures same { OnErr result (self.new ≡ self.old) }
     {
         let Some(mut state) = node.shard(rt, shard) else {
@@ -363,11 +366,13 @@ impl<N: NodeName> Pass<N> {
             Ok(ended) => ended,
             Err(fault) => return Err(of_shard(fault)),
         };
-        self.tell(
+        let event = Some(of_conn(conn, ConnEvent::Shut { text }));
+        self.tell_shard(
             node.keep,
             shard,
             place,
-            PassTold::Shard(ShardTold::WasShut(length_of(&ended))),
+            event,
+            ShardTold::WasShut(length_of(&ended)),
         );
         Ok(ended)
     }
@@ -380,7 +385,7 @@ impl<N: NodeName> Pass<N> {
         shard: u64,
         conn: ConnId,
     ) -> Result<Vec<SubId>, Failure<NodeFault>>
-        ensures told { IfOk result (λ ended. Gains N.keep shard (Shard (shard_told.Detached (length ended.items))) self.old self.new) }
+        ensures told { IfOk result (λ ended. Gains N.keep shard (Own (own.OfConn conn of_conn.Detach)) (Shard (shard_told.Detached (length ended.items))) self.old self.new) }
         ensures same { OnErr result (self.new ≡ self.old) }
     {
         let Some(mut state) = node.shard(rt, shard) else {
@@ -391,11 +396,13 @@ impl<N: NodeName> Pass<N> {
             Ok(ended) => ended,
             Err(fault) => return Err(of_shard(fault)),
         };
-        self.tell(
+        let event = Some(of_conn(conn, ConnEvent::Detach));
+        self.tell_shard(
             node.keep,
             shard,
             place,
-            PassTold::Shard(ShardTold::Detached(length_of(&ended))),
+            event,
+            ShardTold::Detached(length_of(&ended)),
         );
         Ok(ended)
     }
@@ -409,7 +416,7 @@ impl<N: NodeName> Pass<N> {
         conn: ConnId,
         count: usize,
     ) -> Result<Vec<Entry>, Failure<NodeFault>>
-        ensures told { IfOk result (λ entries. Gains N.keep shard (Shard (shard_told.Taken (length entries.items))) self.old self.new) }
+        ensures told { IfOk result (λ entries. Gains N.keep shard (Own (own.OfConn conn (of_conn.Take count))) (Shard (shard_told.Taken (length entries.items))) self.old self.new) }
         ensures same { OnErr result (self.new ≡ self.old) }
     {
         let Some(mut state) = node.shard(rt, shard) else {
@@ -420,11 +427,13 @@ impl<N: NodeName> Pass<N> {
             Ok(entries) => entries,
             Err(fault) => return Err(of_shard(fault)),
         };
-        self.tell(
+        let event = Some(of_conn(conn, ConnEvent::Take { count }));
+        self.tell_shard(
             node.keep,
             shard,
             place,
-            PassTold::Shard(ShardTold::Taken(length_of(&entries))),
+            event,
+            ShardTold::Taken(length_of(&entries)),
         );
         Ok(entries)
     }
@@ -436,7 +445,7 @@ impl<N: NodeName> Pass<N> {
         node: &ThreadNode<T, N>,
         shard: u64,
     ) -> Result<Turn, Failure<NodeFault>>
-        ensures told { IfOk result (λ turn. Gains N.keep shard (Shard (shard_told.Dropped (Some turn))) self.old self.new) }
+        ensures told { IfOk result (λ turn. Gains N.keep shard (Own (own.AtShard shard work.DropJob)) (Shard (shard_told.Dropped (Some turn))) self.old self.new) }
         ensures same { OnErr result (self.new ≡ self.old) }
     {
         let Some(mut state) = node.shard(rt, shard) else {
@@ -447,11 +456,16 @@ impl<N: NodeName> Pass<N> {
             Ok(turn) => turn,
             Err(fault) => return Err(of_shard(fault)),
         };
-        self.tell(
+        let event = Some(NodeEvent::Own(OwnEvent::AtShard {
+            shard,
+            work: ShardWork::DropJob,
+        }));
+        self.tell_shard(
             node.keep,
             shard,
             place,
-            PassTold::Shard(ShardTold::Dropped(Some(turn))),
+            event,
+            ShardTold::Dropped(Some(turn)),
         );
         Ok(turn)
     }

@@ -1,5 +1,5 @@
 use Rattle.std.proofs.Common.{◌≡◌, take, length}
-use Rattle.thread_node.proofs.comparing.are_same.Given as goal
+use Rattle.value_equality.proofs.frames.are_same_names.Given as goal
 
 abbrev pub invariant-loop-place : goal.invariant-loop-place
 invariant-loop-place l = (take l.place l.a ≡ take l.place l.b) × (length l.a ≡ length l.b)

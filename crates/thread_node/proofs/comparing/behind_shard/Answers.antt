@@ -1,7 +1,7 @@
 use Rattle.std.proofs.Common.{◌<◌, ◌++◌, length, get_or, take, add-one, arith, sym, ap, ◌∙◌, append_assoc}
 use Rattle.thread_node.specs.Owed.{owed_by_shard, owed_one}
 use Rattle.thread_node.proofs.Owing.{owed_by_shard_more}
-use Rattle.thread_node.proofs.comparing.owe_shard.Goals as goal
+use Rattle.thread_node.proofs.comparing.behind_shard.Goals as goal
 
 pub loop-place-preserved : goal.loop-place-preserved
 loop-place-preserved c =
@@ -9,10 +9,11 @@ loop-place-preserved c =
     let n = l.place in
     let s = c.args.shard in
     let tape = c.args.tape.now in
-    let all = c.args.all.now.items in
     let d = c.index-tape-place.result in
+    let rest = c.in_ok-rest.rest.now in
     let lt : n < length tape = omega arith in
-    let here = owed_one s n (get_or tape n d).told in
+    let before = owed_by_shard s 0 (take n tape) in
+    let here = owed_one s n (get_or tape n d) in
     rw add-one
-    (c.in_ok-owe_one.ensures ∙ ap (λ w. w ++ here) l.invariant ∙ append_assoc all (owed_by_shard s 0 (take n tape)) here
-    ∙ ap (λ w. all ++ w) (sym (owed_by_shard_more s 0 n n tape d lt (omega arith))))
+    (l.invariant ∙ ap (λ w. before ++ w) (c.in_ok-rest.ensures ∙ ap (λ e. owed_one s n e ++ rest) c.index-tape-place.is) ∙ sym (append_assoc before here rest)
+    ∙ ap (λ w. w ++ rest) (sym (owed_by_shard_more s 0 n n tape d lt (omega arith))))

@@ -1,0 +1,17 @@
+//! Whether two values that a server is asked with are the same: keys, messages and numbered frames, which own what they hold and so
+//! have no `==` of their own; and lines of clients and of routes.
+//!
+//! Each function answers true just where its two values are one to every contract. None takes memory.
+#![tactic(auto)]
+
+mod frames;
+mod keys;
+mod lines;
+mod messages;
+#[cfg(test)]
+mod tests;
+
+pub use frames::is_same_frame;
+pub use keys::{is_same_key, is_same_sid};
+pub use lines::{is_same_answer, is_same_connect, is_same_info};
+pub use messages::{is_same_message, is_same_pub};
