@@ -1,7 +1,17 @@
 -- The ranges of the options of a mesh. (Profile.)
-use Rattle.std.specs.Prelude.{ℕ, ◌+◌, ◌*◌, ◌≤◌}
-use Rattle.subj.specs.declared.limits.TheConstants.{MAX_NODES, MAX_SHARDS}
+use Rattle.std.specs.Prelude.{ℕ, ◌+◌, ◌-◌, ◌*◌, ◌^◌, ◌≤◌}
+use Rattle.subj.specs.declared.limits.TheConstants.{MAX_INCARNATION, MAX_NODES, MAX_SHARDS}
+use Rattle.mesh_serve.specs.declared.faults.OptionName.{OptionName}
+use Rattle.mesh_serve.specs.declared.faults.OptionName.TheVariants.{Nodes, Port, Shards, Inc, StopAfter}
 use Rattle.mesh_serve.specs.declared.options.Options.{Options}
+
+-- the least value that the option takes, and the greatest
+abbrev pub range_of : OptionName → ℕ × ℕ
+range_of Nodes = (1, MAX_NODES)
+range_of Port = (1, 2 ^ 16 - 1)
+range_of Shards = (1, MAX_SHARDS)
+range_of Inc = (1, MAX_INCARNATION)
+range_of StopAfter = (1, 2 ^ 64 - 1)
 
 -- 1 to 8 servers of 1 to 8 shards each, and a port for the clients and one for the routes of each server, all of them ports
 pub record AreWithin (options : Options) : Type 0 where

@@ -1,9 +1,13 @@
 //! Why a mesh is not served.
 
+ghost use Rattle.std.specs.Prelude.{◌≡◌};
+ghost use Rattle.mesh_serve.specs.Ranges.{range_of};
+
 use std::alloc::{AllocError, AllocFailed};
 use std::error::Error;
 use std::fmt::{Display, Formatter, Write};
 use std::{fmt, io};
+use subj::{MAX_INCARNATION, MAX_NODES, MAX_SHARDS};
 
 /// An option of the command line.
 #[derive(Clone, Copy, Debug, PartialEq, Eq)]
@@ -27,15 +31,18 @@ impl OptionName {
         }
     }
 
-    /// Which values it takes.
-    pub fn range(self) -> &'static str {
-        match self {
-            OptionName::Nodes => "a number from 1 to 8",
-            OptionName::Port => "a number from 1 to 65535",
-            OptionName::Shards => "a number from 1 to 8",
-            OptionName::Inc => "a number from 1 to 9007199254740991",
-            OptionName::StopAfter => "a number from 1 to 18446744073709551615",
-        }
+    /// The least value that it takes, and the greatest.
+    pub fn range(self) -> (u64, u64)
+        ensures { result ≡ range_of self }
+    {
+        let most = match self {
+            OptionName::Nodes => MAX_NODES,
+            OptionName::Port => u16::MAX as u64,
+            OptionName::Shards => MAX_SHARDS,
+            OptionName::Inc => MAX_INCARNATION,
+            OptionName::StopAfter => u64::MAX,
+        };
+        (1, most)
     }
 }
 
@@ -44,19 +51,22 @@ impl OptionName {
 pub enum OptionFault {
     /// The value of the option is not in its range.
     BadValue(OptionName),
-    /// The last port would be above 65,535.
+    /// The last port would be above the greatest one.
     TooManyPorts,
 }
 
 impl Display for OptionFault {
     fn fmt<W: Write>(&self, f: &mut Formatter<W>) -> fmt::Result {
         match self {
-            OptionFault::BadValue(name) => write!(f, "{} takes {}", name.text(), name.range()),
-            OptionFault::TooManyPorts => {
-                f.write_str(
-                    "the last port, that of --port and 2 * --nodes - 1 more, is above 65535",
-                )
+            OptionFault::BadValue(name) => {
+                let (least, most) = name.range();
+                write!(f, "{} takes a number from {least} to {most}", name.text())
             }
+            OptionFault::TooManyPorts => write!(
+                f,
+                "the last port, that of --port and 2 * --nodes - 1 more, is above {}",
+                u16::MAX
+            ),
         }
     }
 }
@@ -68,10 +78,14 @@ impl Error for OptionFault {}
 pub enum ServeFault {
     /// The port is not to be had.
     Port { port: u16, error: io::Error },
-    /// A socket, the clock, or standard output failed.
+    /// A socket, or standard output, failed before the servers ran.
     Failed(io::Error),
-    /// A server could not go on.
-    Stopped,
+    /// The servers would be no cluster.
+    NoCluster,
+    /// No thread was to be had for the server of this number, from 1.
+    NoThread { server: u64 },
+    /// The server of this number, from 1, could not go on: a socket, the clock or its memory failed.
+    Stopped { server: u64, error: io::Error },
     /// There was no memory.
     OutOfMemory,
 }
@@ -83,7 +97,9 @@ impl Display for ServeFault {
                 write!(f, "port {port} of 127.0.0.1 is not to be had: {error}")
             }
             ServeFault::Failed(error) => write!(f, "{error}"),
-            ServeFault::Stopped => f.write_str("a server could not go on"),
+            ServeFault::NoCluster => f.write_str("the servers are no cluster"),
+            ServeFault::NoThread { server } => write!(f, "n{server} cannot run: no thread for it"),
+            ServeFault::Stopped { server, error } => write!(f, "n{server} cannot go on: {error}"),
             ServeFault::OutOfMemory => f.write_str("out of memory"),
         }
     }

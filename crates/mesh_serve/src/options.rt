@@ -1,10 +1,10 @@
 //! What the command line says of a mesh.
 
 ghost use Rattle.std.specs.Prelude.{◌≡◌, ◌≤◌, ◌<◌, ◌+◌, IfOk};
-ghost use Rattle.mesh_serve.specs.Ranges.{AreWithin};
+ghost use Rattle.mesh_serve.specs.Ranges.{AreWithin, range_of};
 
 use crate::faults::{OptionFault, OptionName};
-use subj::{Incarnation, MAX_NODES, MAX_SHARDS};
+use subj::Incarnation;
 
 /// What the command line says of a mesh: each number as it was given.
 #[derive(Clone, Copy, Debug, PartialEq, Eq)]
@@ -29,10 +29,11 @@ pub struct Options {
     pub stop_after: Option<u64>,
 }
 
-/// The value of an option, where it is from this number to that.
-fn within(value: u64, least: u64, most: u64, name: OptionName) -> Result<u64, OptionFault>
-    ensures { IfOk result (λ value. (least ≤ value) × (value ≤ most)) }
+/// The value of an option, where it is in its range.
+fn within(value: u64, name: OptionName) -> Result<u64, OptionFault>
+    ensures { IfOk result (λ value. ((range_of name).0 ≤ value) × (value ≤ (range_of name).1)) }
 {
+    let (least, most) = name.range();
     if value < least || value > most {
         return Err(OptionFault::BadValue(name));
     }
@@ -41,18 +42,18 @@ fn within(value: u64, least: u64, most: u64, name: OptionName) -> Result<u64, Op
 
 impl Options {
     /// The options of these numbers. Refused by the first that is out of its range, in the order of
-    /// [`OptionName`], and then where the last port would be above 65,535. (Profile.)
+    /// [`OptionName`], and then where the last port would be above the greatest one. (Profile.)
     pub fn new(given: Given) -> Result<Options, OptionFault>
         ensures { IfOk result AreWithin }
     {
-        let nodes = within(given.nodes, 1, MAX_NODES, OptionName::Nodes)? as u16;
-        let port = within(given.port, 1, u16::MAX as u64, OptionName::Port)? as u16;
-        let shards = within(given.shards, 1, MAX_SHARDS, OptionName::Shards)?;
+        let nodes = within(given.nodes, OptionName::Nodes)? as u16;
+        let port = within(given.port, OptionName::Port)? as u16;
+        let shards = within(given.shards, OptionName::Shards)?;
         let Some(inc) = Incarnation::new(given.inc) else {
             return Err(OptionFault::BadValue(OptionName::Inc));
         };
-        if given.stop_after == Some(0) {
-            return Err(OptionFault::BadValue(OptionName::StopAfter));
+        if let Some(count) = given.stop_after {
+            within(count, OptionName::StopAfter)?;
         }
         if port as u64 + 2 * nodes as u64 - 1 > u16::MAX as u64 {
             return Err(OptionFault::TooManyPorts);

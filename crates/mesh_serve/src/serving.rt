@@ -12,7 +12,7 @@ use std::alloc::Global;
 use std::marker::Brand;
 use std::net::{Ipv4Addr, Net, SocketAddr, TcpListener as Listener, TcpStream as Stream};
 use std::rt::Clock;
-use std::sync::Wait;
+use std::sync::{OnceLock, Wait};
 use std::thread::Threads;
 use std::{io, thread};
 use sub_trie::TrieTable;
@@ -60,9 +60,9 @@ fn sockets<R: Net>(rt: &R, options: &Options, place: u16) -> Result<Sockets, Ser
 fn name_of(place: u16) -> Result<NodeId, ServeFault> {
     let names: [&[u8]; 8] = [b"n1", b"n2", b"n3", b"n4", b"n5", b"n6", b"n7", b"n8"];
     let Some(name) = names.get(place as usize) else {
-        return Err(ServeFault::Stopped);
+        return Err(ServeFault::NoCluster);
     };
-    NodeId::read(*name).map_err(|_| ServeFault::Stopped)
+    NodeId::read(*name).map_err(|_| ServeFault::NoCluster)
 }
 
 /// The life of the server at this place.
@@ -73,7 +73,7 @@ fn life_of(alloc: Global, options: &Options, place: u16) -> Result<Server, Serve
     }
     match Server::new(names, place as usize, options.inc, options.shards) {
         Some(life) => Ok(life),
-        None => Err(ServeFault::Stopped),
+        None => Err(ServeFault::NoCluster),
     }
 }
 
@@ -106,15 +106,32 @@ fn addresses(alloc: Global, options: &Options) -> Result<Vec<SocketAddr>, ServeF
     Ok(all)
 }
 
+/// What the servers of a mesh share.
+#[derive(Clone, Copy)]
+struct Mesh<'a> {
+    /// Where other servers connect to each server.
+    addresses: &'a [SocketAddr],
+    company: &'a Company,
+    /// Why all of them stop, where one could not go on: the first cause.
+    cause: &'a OnceLock<ServeFault>,
+}
+
+impl Mesh<'_> {
+    /// All servers stop, for this cause where there was none before.
+    fn stop<R: Wait>(&self, rt: &R, cause: ServeFault) {
+        let _ = self.cause.set(rt, cause);
+        self.company.fail();
+    }
+}
+
 /// Runs a server of these parts.
 fn run_named<N: NodeName, R: Wait + Net<Listener = Listener, Stream = Stream> + Clock>(
     rt: &R,
     alloc: Global,
     parts: Parts,
     station: Station,
-    addresses: &[SocketAddr],
-    company: &Company,
-) -> Result<(), ServeFault>
+    mesh: Mesh<'_>,
+) -> io::Result<()>
     requires { (parts.race ≡ N.race) × (parts.lanes ≡ N.lanes) × (parts.keep ≡ N.keep) }
 {
     let Station {
@@ -125,8 +142,7 @@ fn run_named<N: NodeName, R: Wait + Net<Listener = Listener, Stream = Stream> + 
     } = station;
     let node: ThreadNode<TrieTable, N> = ThreadNode::start(alloc, parts)?;
     let mut connections = Connections::new(alloc, &node, life, port, word)?;
-    connections.run(rt, sockets, addresses, company)?;
-    Ok(())
+    connections.run(rt, sockets, mesh.addresses, mesh.company)
 }
 
 /// Runs a server.
@@ -134,49 +150,62 @@ fn run_station<R: Wait + Net<Listener = Listener, Stream = Stream> + Clock>(
     rt: &R,
     alloc: Global,
     station: Station,
-    addresses: &[SocketAddr],
-    company: &Company,
-) -> Result<(), ServeFault> {
+    mesh: Mesh<'_>,
+) -> io::Result<()> {
     let life = station.life.try_clone(alloc)?;
     let (parts, _parkers) = Parts::new(alloc, life, false)?;
-    run_named::<Brand, _>(rt, alloc, parts, station, addresses, company)
+    run_named::<Brand, _>(rt, alloc, parts, station, mesh)
 }
 
-/// Runs a server; where it cannot go on, all of them stop.
+/// Runs the server of this number; where it cannot go on, all of them stop.
 fn work<R: Wait + Net<Listener = Listener, Stream = Stream> + Clock>(
     rt: &R,
     alloc: Global,
+    number: u64,
     station: Station,
-    addresses: &[SocketAddr],
-    company: &Company,
+    mesh: Mesh<'_>,
 ) {
-    if run_station(rt, alloc, station, addresses, company).is_err() {
-        company.fail();
+    if let Err(error) = run_station(rt, alloc, station, mesh) {
+        mesh.stop(
+            rt,
+            ServeFault::Stopped {
+                server: number,
+                error,
+            },
+        );
     }
 }
 
-/// Runs all servers, each in a thread of its own.
-fn run_all<R: Threads + Wait + Net<Listener = Listener, Stream = Stream> + Clock + Sync>(
+/// Runs all servers, each in a thread of its own. The error is the first cause for which they stop.
+fn run_all<'m, R: Threads + Wait + Net<Listener = Listener, Stream = Stream> + Clock + Sync>(
     rt: &R,
     alloc: Global,
     stations: Vec<Station>,
-    addresses: &[SocketAddr],
-    company: &Company,
+    addresses: &'m [SocketAddr],
+    company: &'m Company,
 ) -> Result<(), ServeFault> {
+    let cause = OnceLock::new();
+    let mesh = Mesh {
+        addresses,
+        company,
+        cause: &cause,
+    };
     thread::scope(thread::scope_env(), rt, |scope| {
+        let mut number = 0u64;
         for station in stations {
+            number = number.saturating_add(1);
             if scope
-                .spawn(move || work(rt, alloc, station, addresses, company))
+                .spawn(move || work(rt, alloc, number, station, mesh))
                 .is_err()
             {
-                company.fail();
+                mesh.stop(rt, ServeFault::NoThread { server: number });
             }
         }
     });
-    if company.has_failed() {
-        return Err(ServeFault::Stopped);
+    match cause.into_inner() {
+        Some(cause) => Err(cause),
+        None => Ok(()),
     }
-    Ok(())
 }
 
 /// Tells on standard output that all servers can be reached, a line each.
@@ -198,8 +227,8 @@ fn tell<R: Print>(rt: &R, options: &Options) -> io::Result<()>
 /// line for each server is on standard output. It ends where the options say so: never, or once so many
 /// clients have come and all of them have gone.
 ///
-/// A port that is not to be had is told by its number. Required: options as [`Options::read`] gives them. May
-/// wait, and for ever.
+/// A port that is not to be had is told by its number, and of a server that cannot go on its number and the
+/// cause; the others stop then too. Required: options as [`Options::new`] gives them. May wait, and for ever.
 pub fn serve<R: Threads + Wait + Net<Listener = Listener, Stream = Stream> + Clock + Print + Sync>(
     rt: &R,
     alloc: Global,
