@@ -17,6 +17,8 @@ pub enum Command {
     Nodes(u64),
     /// A shard, with about so many entries in each case.
     Shards(u64),
+    /// A server on threads, with so many publications in each case.
+    Threads(u64),
 }
 
 /// The command of these words; None where they are none.
@@ -32,6 +34,7 @@ pub fn command_of(measure: Option<&str>, number: Option<&str>) -> Option<Command
         "hub" => Some(Command::Hubs(number)),
         "node" => Some(Command::Nodes(number)),
         "shard" => Some(Command::Shards(number)),
+        "threads" => Some(Command::Threads(number)),
         _ => None,
     }
 }

@@ -23,6 +23,9 @@ mod nodes;
 mod shard_run;
 mod shard_setup;
 mod shards;
+mod thread_run;
+mod thread_setup;
+mod threads;
 
 use command::{Command, command_of};
 use frames::measure_frames;
@@ -36,6 +39,7 @@ use std::rt::{Clock, Env};
 use std::sync::Wait;
 use std::thread::Threads;
 use std::{env, io};
+use threads::measure_threads;
 
 /// Makes the measures that the command names.
 fn run<R>(rt: &R, command: Command) -> io::Result<()>
@@ -49,7 +53,8 @@ where
             measure_matches(rt, None)?;
             measure_shards(rt, None)?;
             measure_hubs(rt, None)?;
-            measure_nodes(rt, None)
+            measure_nodes(rt, None)?;
+            measure_threads(rt, None)
         }
         Command::Lanes(jobs) => measure_lanes(rt, Some(jobs)),
         Command::Frames(megabytes) => measure_frames(rt, Some(megabytes)),
@@ -57,6 +62,7 @@ where
         Command::Hubs(publications) => measure_hubs(rt, Some(publications)),
         Command::Nodes(publications) => measure_nodes(rt, Some(publications)),
         Command::Shards(entries) => measure_shards(rt, Some(entries)),
+        Command::Threads(publications) => measure_threads(rt, Some(publications)),
     }
 }
 

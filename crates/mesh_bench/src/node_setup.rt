@@ -106,7 +106,7 @@ fn collect_all(running: &mut Running, shards: u64) -> io::Result<()> {
 }
 
 /// What is published again and again.
-fn publication(alloc: Global) -> io::Result<Pub> {
+pub fn publication(alloc: Global) -> io::Result<Pub> {
     let subject = Subject::read(alloc, b"orders.new").map_err(|_| invalid())?;
     let payload = vec![in alloc; b'x'; PAYLOAD]?;
     let payload = Bytes::copy_from_slice(alloc, &payload)?;
