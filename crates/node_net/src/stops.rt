@@ -49,14 +49,9 @@ impl Company {
         self.wake_all();
     }
 
-    /// Whether one of the servers could not go on.
-    pub fn has_failed(&self) -> bool {
-        self.has_failed.load(Ordering::SeqCst)
-    }
-
     /// Whether the servers stop.
     pub fn is_over(&self) -> bool {
-        if self.has_failed() {
+        if self.has_failed.load(Ordering::SeqCst) {
             return true;
         }
         let Some(least) = self.stops_after else {
