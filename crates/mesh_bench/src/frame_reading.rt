@@ -1,5 +1,6 @@
 //! Reading a stream of frames.
 
+use crate::faults::invalid;
 use client_frames::{ClientLine, SharedTexts, decode_line};
 use memchr::memchr_iter;
 use std::alloc::Global;
@@ -12,11 +13,6 @@ use wire_cut::{Cutter, MemSource, Piece};
 pub struct Read {
     pub lines: u64,
     pub payloads: u64,
-}
-
-/// What can't come: each frame of the stream is a valid one.
-fn invalid() -> io::Error {
-    io::ErrorKind::InvalidData.into()
 }
 
 /// How many bytes of a payload follow the line.

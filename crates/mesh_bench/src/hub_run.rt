@@ -1,7 +1,7 @@
 //! Publications are issued at a hub, and what waits for its peers is taken.
 
+use crate::faults::invalid;
 use crate::hub_setup::Publishing;
-use crate::shard_setup::invalid;
 use hub_core::Hub;
 use std::alloc::Global;
 use std::io;

@@ -1,6 +1,7 @@
 //! A hub whose own counts and whose peers' views have as many keys, of which some match what is published.
 
-use crate::shard_setup::{invalid, queue_name};
+use crate::faults::invalid;
+use crate::shard_setup::queue_name;
 use bytes::Bytes;
 use hub_core::Hub;
 use interest::Delta;

@@ -1,6 +1,7 @@
 //! The measure of lanes: jobs are passed from one thread to another, through a lane by runs of several
 //! lengths, and through a list under a lock.
 
+use crate::faults::invalid;
 use crate::lane_jobs::new_jobs;
 use crate::lane_run::pass_through_lane;
 use crate::locked_run::pass_through_lock;
@@ -71,7 +72,7 @@ where
     let passed = way.pass(rt, rt.alloc(), jobs)?;
     let time = start.elapsed(rt)?;
     if passed != count {
-        return Err(io::ErrorKind::InvalidData.into());
+        return Err(invalid());
     }
     way.tell(rt, count, given.map(|_count| time.as_nanos()))
 }

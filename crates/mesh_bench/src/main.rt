@@ -4,12 +4,14 @@
 #![tactic(auto)]
 
 mod command;
+mod faults;
 mod frame_reading;
 mod frame_stream;
 mod frames;
 mod hub_run;
 mod hub_setup;
 mod hubs;
+mod jobs;
 mod lane_jobs;
 mod lane_run;
 mod lanes;

@@ -1,7 +1,7 @@
 //! Publications are issued at a server and worked by all its shards, and what waits is taken as bytes.
 
+use crate::faults::invalid;
 use crate::node_setup::{Readers, Running, given};
-use crate::shard_setup::invalid;
 use claim_cells::CellsRace;
 use node_core::Node;
 use std::alloc::Global;

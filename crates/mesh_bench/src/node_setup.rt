@@ -1,6 +1,7 @@
 //! A server whose connections, spread over its shards, get what one of them publishes.
 
-use crate::shard_setup::{invalid, queue_name};
+use crate::faults::invalid;
+use crate::shard_setup::queue_name;
 use bytes::Bytes;
 use claim_cells::CellsRace;
 use node_core::{Node, NodeFault};

@@ -1,9 +1,9 @@
 //! The measure of a server: publications are issued, worked by each of its shards, and taken as bytes. With a
 //! number so many are issued in each case; without one few, and then it is told how many entries were taken.
 
+use crate::faults::invalid;
 use crate::node_run::run_all;
 use crate::node_setup::{Readers, set_up_node};
-use crate::shard_setup::invalid;
 use std::alloc::Global;
 use std::io;
 use std::rt::Clock;

@@ -1,11 +1,13 @@
 //! Publications are placed, and what waits is taken as bytes.
 
-use crate::shard_setup::{Setup, invalid};
+use crate::faults::invalid;
+use crate::jobs::new_job;
+use crate::shard_setup::Setup;
 use shard_core::{Shard, claims_are_whole};
 use std::alloc::Global;
 use std::io;
 use sub_trie::TrieTable;
-use subj::{ConnId, Incarnation, Job, NodeId, PubId, Turn};
+use subj::{ConnId, Job, Turn};
 
 /// After how many publications all is taken.
 const TAKEN: u64 = 256;
@@ -13,21 +15,9 @@ const TAKEN: u64 = 256;
 /// The job of the publication of this number.
 fn job(setup: &Setup, number: u64) -> io::Result<Job> {
     let turn = Turn::new(number).ok_or_else(invalid)?;
-    let origin = NodeId::read(b"n1").map_err(|_| invalid())?;
-    let inc = Incarnation::new(1).ok_or_else(invalid)?;
-    let id = PubId {
-        origin,
-        inc,
-        number,
-    };
-    Ok(Job {
-        turn,
-        id,
-        message: setup.message.try_clone()?,
-        publisher: None,
-        echo: true,
-        queues: setup.queues.try_clone()?,
-    })
+    let message = setup.message.try_clone()?;
+    let queues = setup.queues.try_clone()?;
+    new_job(number, turn, message, queues)
 }
 
 /// One member of the queue group gets the message.

@@ -1,16 +1,12 @@
 //! A shard with connections that publications are placed for.
 
+use crate::faults::invalid;
 use bytes::Bytes;
 use shard_core::Shard;
 use std::alloc::Global;
 use std::io;
 use sub_trie::TrieTable;
 use subj::{ConnId, Key, Message, Pattern, QueueName, QueueNames, Sid, Subject};
-
-/// What can't come: each value below is a valid one.
-pub fn invalid() -> io::Error {
-    io::ErrorKind::InvalidData.into()
-}
 
 /// Who gets the publications, and how large they are.
 #[derive(Clone, Copy)]

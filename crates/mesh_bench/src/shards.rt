@@ -1,8 +1,9 @@
 //! The measure of a shard: publications are placed for connections, or for one member of each queue group,
 //! and taken as bytes. With a number about so many entries are placed in each case.
 
+use crate::faults::invalid;
 use crate::shard_run::publish_all;
-use crate::shard_setup::{Audience, invalid, set_up};
+use crate::shard_setup::{Audience, set_up};
 use std::alloc::Global;
 use std::io;
 use std::rt::Clock;

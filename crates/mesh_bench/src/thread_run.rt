@@ -1,7 +1,7 @@
 //! Publications are issued at a server on threads by runs, worked by all its shards, and what waits is taken as bytes:
 //! in one thread, or by a thread that publishes and one for each shard.
 
-use crate::shard_setup::invalid;
+use crate::faults::invalid;
 use crate::thread_setup::{Staff, Talk};
 use hub_core::HubFault;
 use node_threads::Turned;

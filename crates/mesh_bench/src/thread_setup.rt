@@ -1,7 +1,7 @@
 //! A server on threads, one of whose connections gets what another one publishes.
 
+use crate::faults::invalid;
 use crate::node_setup::publication;
-use crate::shard_setup::invalid;
 use std::alloc::Global;
 use std::io;
 use std::sync::Wait;

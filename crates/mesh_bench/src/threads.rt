@@ -4,7 +4,7 @@
 
 ghost use Rattle.std.specs.Prelude.{◌≡◌};
 
-use crate::shard_setup::invalid;
+use crate::faults::invalid;
 use crate::thread_run::{Made, run_alone, run_apart};
 use crate::thread_setup::{Staff, server_of, set_up_talk};
 use std::alloc::Global;

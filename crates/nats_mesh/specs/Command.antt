@@ -1,7 +1,5 @@
 -- What the command line asks for, and how the program ends (profile).
 use Rattle.std.specs.Prelude.{ℕ, List, codes, Bool, Result, Ok, Err, if◌then◌else◌}
-use Rattle.clap.specs.declared.error.kind.ErrorKind.{ErrorKind}
-use Rattle.clap.specs.declared.error.kind.ErrorKind.TheVariants.{DisplayVersion, OutOfMemory}
 use Rattle.nats_mesh.specs.declared.command.Command.{Command}
 use Rattle.nats_mesh.specs.declared.command.Command.TheVariants.{Pipe, Match, Script, Serve}
 use Rattle.mesh_pipe.specs.declared.pipe.PipeEnd.{PipeEnd}
@@ -14,12 +12,6 @@ name_of Pipe = codes "pipe"
 name_of (Match pattern subject) = codes "match"
 name_of Script = codes "script"
 name_of (Serve given) = codes "serve"
-
--- by what is told of a line that asks for nothing
-abbrev pub status_of_line : ErrorKind → ℕ
-status_of_line DisplayVersion = 0
-status_of_line OutOfMemory = 1
-status_of_line kind = 2
 
 -- by how a pipe ended
 abbrev pub exit_status : Result PipeEnd PipeFault → ℕ

@@ -2,10 +2,9 @@
 
 ghost use Rattle.std.specs.Prelude.{◌≡◌, ◌≢◌, ◌↔◌, IsSome, IfSome, codes, is_ok};
 ghost use Rattle.clap.specs.Matches.{subcommand_name_of};
-ghost use Rattle.nats_mesh.specs.Command.{name_of, status_of_line, exit_status, status_of_end};
+ghost use Rattle.nats_mesh.specs.Command.{name_of, exit_status, status_of_end};
 
 use clap::builder::ValueParser;
-use clap::error::ErrorKind;
 use clap::{Arg, ArgMatches, Error};
 use mesh_pipe::{PipeEnd, PipeFault};
 use mesh_serve::Given;
@@ -134,17 +133,6 @@ pub fn command_of<'a>(alloc: Global, words: &'a [String]) -> Result<Command<'a>,
     match command_in(&found) {
         Some(command) => Ok(command),
         None => Err(Error::from(AllocError)),
-    }
-}
-
-/// The exit status of a command line of which this is told: 0 of the version, 1 of want of memory, and else 2.
-pub fn line_status(kind: ErrorKind) -> u8
-    ensures { result ≡ status_of_line kind }
-{
-    match kind {
-        ErrorKind::DisplayVersion => 0,
-        ErrorKind::OutOfMemory => 1,
-        _ => 2,
     }
 }
 

@@ -7,32 +7,24 @@ mod command;
 mod tests;
 
 use claim_cells::CellsRace;
-use command::{Command, command_of, line_status, pipe_complaint, pipe_status, status_of};
+use command::{Command, command_of, pipe_complaint, pipe_status, status_of};
+use command_line::{tell_line, words};
 use mesh_pipe::pipe_run;
 use mesh_script::{match_run, script_run};
 use mesh_serve::{Given, Options, serve};
 use std::alloc::Global;
 use std::fmt::Display;
+use std::io;
 use std::net::{Net, TcpListener, TcpStream};
 use std::process::ExitCode;
 use std::rt::Clock;
 use std::sync::Wait;
 use std::thread::Threads;
-use std::{env, io};
 use sub_trie::TrieTable;
 use wire_cut::Raw;
 
 /// The exit status of a command line that is no text, or has a number that is out of its range.
 const BAD_LINE: u8 = 2;
-
-/// The words of the command line, the program's name among them.
-fn words<R: env::Env + Alloc<A = Global>>(rt: &R) -> io::Result<Vec<String>> {
-    let mut words = Vec::new(rt.alloc());
-    for word in env::args(rt)? {
-        words.push(word)?;
-    }
-    Ok(words)
-}
 
 /// Tells on standard error why something was not done. Gives the exit status.
 fn told<R: Eprint, E: Display + Drop>(rt: &R, ended: Result<(), E>) -> u8 {
@@ -113,15 +105,7 @@ where
         Ok(Command::Match { pattern, subject }) => run_match(rt, pattern, subject),
         Ok(Command::Script) => run_script(rt),
         Ok(Command::Serve(given)) => run_serve(rt, given),
-        Err(error) => {
-            let status = line_status(error.kind());
-            let _ = if status == 0 {
-                rt.print(&error)
-            } else {
-                rt.eprint(&error)
-            };
-            status
-        }
+        Err(error) => tell_line(rt, &error),
     }
 }
 

@@ -1,7 +1,8 @@
 //! What command lines ask for, and how the program ends.
 
-use crate::command::{Command, command_of, line_status, pipe_complaint, pipe_status, status_of};
+use crate::command::{Command, command_of, pipe_complaint, pipe_status, status_of};
 use clap::error::ErrorKind;
+use command_line::line_status;
 use mesh_pipe::{PipeEnd, PipeFault};
 use mesh_serve::Given;
 use std::alloc::{AllocError, Global};

@@ -3,7 +3,6 @@
 use crate::given::Given;
 use crate::plan::{NAMES, case_of};
 use clap::builder::ValueParser;
-use clap::error::ErrorKind;
 use clap::{Arg, ArgAction, ArgMatches, Command, Error};
 use std::alloc::{AllocError, Global};
 
@@ -111,14 +110,5 @@ pub fn given_of<'a>(alloc: Global, words: &'a [String]) -> Result<Given<'a>, Err
     match given_in(&found) {
         Some(given) => Ok(given),
         None => Err(Error::from(AllocError)),
-    }
-}
-
-/// The exit status of a command line of which this is told: 0 of help and the version, 1 of want of memory, and else 2.
-pub fn line_status(kind: ErrorKind) -> u8 {
-    match kind {
-        ErrorKind::DisplayHelp | ErrorKind::DisplayVersion => 0,
-        ErrorKind::OutOfMemory => 1,
-        _ => 2,
     }
 }

@@ -20,28 +20,20 @@ mod tally;
 mod trips;
 mod window;
 
-use command::{given_of, line_status};
+use command::given_of;
+use command_line::{tell_line, words};
 use figures::tell;
 use flowing::run_flow;
 use given::Given;
 use plan::Case;
 use std::alloc::Global;
+use std::io;
 use std::net::{Net, TcpStream};
 use std::process::ExitCode;
 use std::rt::Clock;
 use std::sync::Wait;
 use std::thread::Threads;
-use std::{env, io};
 use trips::run_trips;
-
-/// The words of the command line, the program's name among them.
-fn words<R: env::Env + Alloc<A = Global>>(rt: &R) -> io::Result<Vec<String>> {
-    let mut words = Vec::new(rt.alloc());
-    for word in env::args(rt)? {
-        words.push(word)?;
-    }
-    Ok(words)
-}
 
 /// Runs the case, and tells its figures.
 fn measure<R>(rt: &R, given: &Given) -> io::Result<()>
@@ -76,15 +68,7 @@ where
                 1
             }
         },
-        Err(error) => {
-            let status = line_status(error.kind());
-            let _ = if status == 0 {
-                rt.print(&error)
-            } else {
-                rt.eprint(&error)
-            };
-            status
-        }
+        Err(error) => tell_line(rt, &error),
     }
 }
 

@@ -1,0 +1,14 @@
+//! The command line of a program: its words, and what is told where they are no command.
+//!
+//! ```text
+//! let words = words(&rt)?;
+//! match command_of(rt.alloc(), &words) {
+//!     Ok(command) => run(&rt, command),
+//!     Err(error) => tell_line(&rt, &error),
+//! }
+//! ```
+#![tactic(auto)]
+
+mod line;
+
+pub use line::{line_status, tell_line, words};

@@ -1,0 +1,46 @@
+//! What the words of a command line are, and how a program ends that they do not start.
+
+ghost use Rattle.std.specs.Prelude.{◌≡◌};
+ghost use Rattle.command_line.specs.Statuses.{status_of_line};
+
+use clap::Error;
+use clap::error::ErrorKind;
+use std::alloc::Global;
+use std::{env, io};
+
+/// The words of the command line, the program's name among them.
+///
+/// The error is that of the system; its kind is `InvalidData` where a word is no text.
+pub fn words<R: env::Env + Alloc<A = Global>>(rt: &R) -> io::Result<Vec<String>> {
+    let mut words = Vec::new(rt.alloc());
+    for word in env::args(rt)? {
+        words.push(word)?;
+    }
+    Ok(words)
+}
+
+/// The exit status of a command line of which this is told: 0 of the version, 1 of want of memory, and else 2,
+/// of help as well. (Profile.)
+pub fn line_status(kind: ErrorKind) -> u8
+    ensures { result ≡ status_of_line kind }
+{
+    match kind {
+        ErrorKind::DisplayVersion => 0,
+        ErrorKind::OutOfMemory => 1,
+        _ => 2,
+    }
+}
+
+/// Tells what is wrong with the command line on standard error, and the version on standard output. Gives the exit
+/// status: [`line_status`].
+pub fn tell_line<R: Print + Eprint>(rt: &R, error: &Error) -> u8
+    ensures { result ≡ status_of_line error.now.kind }
+{
+    let status = line_status(error.kind());
+    let _ = if status == 0 {
+        rt.print(error)
+    } else {
+        rt.eprint(error)
+    };
+    status
+}
