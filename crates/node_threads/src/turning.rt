@@ -1,6 +1,6 @@
 //! The turns of a shard.
 
-ghost use Rattle.std.specs.Prelude.{◌≡◌, [], true, false, None, is_some, nat_lt, OnOk, OnErr};
+ghost use Rattle.std.specs.Prelude.{◌≡◌, ◌≤◌, [], true, false, None, is_some, nat_lt, OnOk, OnErr};
 ghost use Rattle.claim_cells.specs.Seats.{last_load};
 ghost use Rattle.node_threads.specs.AtWork.{Makes};
 ghost use Rattle.node_threads.specs.Tapes.{Tells};
@@ -13,12 +13,20 @@ use crate::shard_entries::ShardEntry;
 use crate::shard_state::ShardState;
 use crate::tape::Tape;
 use crate::turned::Turned;
-use claim_cells::Cells;
+use claim_cells::{Cells, ShardSeat};
 use shard_core::claims_are_whole;
 use std::alloc::AllocError;
 use std::sync::Wait;
 use sub_table::SubTable;
 use subj::Turn;
+
+/// Tells the gate of a candidate for the queue name of this index, in this turn of the seat's shard. Required: its claim is
+/// still to come.
+fn tell<G: Gate>(gate: &G, seat: &ShardSeat, turn: Turn, index: u64)
+    requires { seat.now.part.next ≤ index }
+{
+    gate.reached(seat.shard(), turn, index);
+}
 
 impl<T: SubTable, N: NodeName> ShardState<T, N> {
     /// Makes a whole turn: begins the next job, unless one is in hand still; tries each of its queue names
@@ -175,7 +183,7 @@ impl<T: SubTable, N: NodeName> ShardState<T, N> {
                 Ok(())
             }
             Ok(Some(_)) => {
-                gate.reached(self.seat.shard(), turn, index);
+                tell(gate, &self.seat, turn, index);
                 self.next_index = index + 1;
                 if !cells.claim(&mut self.seat, index) {
                     note_claim(tape, index, false);
