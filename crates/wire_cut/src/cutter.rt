@@ -1,6 +1,6 @@
 //! Cuts a stream into lines and payloads.
 ghost use Rattle.std.specs.Prelude.{◌≡◌, ◌^◌, ◌<◌, ◌≤◌, None, Some, length};
-ghost use Rattle.std.specs.Prelude.{IsTrue, IfNone, IfSome, IfOk, OnOk, OnErr};
+ghost use Rattle.std.specs.Prelude.{IsTrue, IfNone, IfSome, IfOk, OnOk, OnErr, take};
 ghost use Rattle.std.specs.Result.{result_err};
 ghost use Rattle.std.specs.Borrow.{sem};
 ghost use Rattle.std.specs.Io.KnownBytes.{Keeps};
@@ -150,12 +150,7 @@ impl Cutter {
         let unread = self.window.unread();
         let reach = unread.len().min(self.line_max + CR_LF.len());
         match find_cr_lf(&unread[..reach], self.searched) {
-            Some(length) => {
-                self.searched = 0;
-                self.after_line = true;
-                self.window.advance(length + CR_LF.len());
-                Ok(Some(Piece::Line(self.window.used(length + CR_LF.len(), length))))
-            }
+            Some(length) => Ok(Some(Piece::Line(self.next_piece(length)))),
             None if reach == self.line_max + CR_LF.len() => {
                 self.fault = Some(CutFault::LineTooLong);
                 Err(CutFault::LineTooLong)
@@ -175,13 +170,7 @@ impl Cutter {
         ensures* rest { sem 𝓛 (LeavesNext self.entry) }
     {
         match has_cr_lf_at(self.window.unread(), size) {
-            Some(true) => {
-                self.searched = 0;
-                self.expected = None;
-                self.after_line = false;
-                self.window.advance(size + CR_LF.len());
-                Ok(Some(Piece::Payload(self.window.used(size + CR_LF.len(), size))))
-            }
+            Some(true) => Ok(Some(Piece::Payload(self.next_piece(size)))),
             Some(false) => {
                 self.fault = Some(CutFault::NoCrLfAfterPayload);
                 Err(CutFault::NoCrLfAfterPayload)
@@ -245,10 +234,22 @@ impl Cutter {
         requires { piece_length (cut_of self.old) ≡ Some size }
         ensures { self.new ≡ after_next self.old }
     {
-        self.window.advance(size + CR_LF.len());
-        self.searched = 0;
+        self.next_piece(size);
+    }
+
+    /// Uses up the piece that is due, of `size` bytes, with its CR LF, and lends its bytes.
+    #[inline]
+    fn next_piece(&mut self, size: usize) -> &[u8]
+        requires { piece_length (cut_of self.old) ≡ Some size }
+        ensures piece { result.now ≡ take size self.old.unread }
+        ensures* rest { sem 𝓛 (LeavesNext self.entry) }
+    {
         self.after_line = self.expected.is_none();
         self.expected = None;
+        self.searched = 0;
+        let with_cr_lf = size + CR_LF.len();
+        self.window.advance(with_cr_lf);
+        self.window.used(with_cr_lf, size)
     }
 
     /// Announces that a payload of `size` bytes follows the line given last, as `after_line` tells; a

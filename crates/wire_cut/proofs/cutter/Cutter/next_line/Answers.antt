@@ -1,34 +1,19 @@
 -- A line is found within reach, or none is, which is a fault where the reach is that of the longest line.
-use Rattle.std.proofs.Common.{◌+◌, refl, sym, ◌∙◌, arith}
+use Rattle.std.proofs.Common.{refl, sym, arith}
+use Rattle.std.proofs.lemmas.List.{length-take-le}
 use Rattle.wire_cut.specs.contracts.cutter.Cutter.{the_view}
-use Rattle.wire_cut.proofs.WindowLemmas.{used_last, used_enough}
 use Rattle.wire_cut.proofs.CutLemmas.{found_within, cut_line-found, cut_line-long, none_searched, next_is_line, next_is_too_long}
 use Rattle.wire_cut.proofs.cutter.Cutter.next_line.Goals as goal
 
-pub overflow_add-length : goal.overflow_add-length
-overflow_add-length c =
-    let reach = rw c.unread-unread.ensures at c.min-reach.ensures in
-    let found = rw c.unread-unread.ensures at (sym c.in-Some.ensures) in
-    let within = (found_within _ _ _ reach _ found).0 in omega (arith, within, c.self.invariant.line_limit)
-
-pub overflow_add-length-in-Some : goal.overflow_add-length-in-Some
-overflow_add-length-in-Some c =
-    let reach = rw c.unread-unread.ensures at c.min-reach.ensures in
-    let found = rw c.unread-unread.ensures at (sym c.in-Some.ensures) in
-    let within = (found_within _ _ _ reach _ found).0 in omega (arith, within, c.self.invariant.line_limit)
-
-pub advance-requires : goal.advance-requires
-advance-requires c =
-    let reach = rw c.unread-unread.ensures at c.min-reach.ensures in
-    let found = rw c.unread-unread.ensures at (sym c.in-Some.ensures) in
-    (found_within _ _ _ reach _ found).1
-
-pub used-requires-clause-back : goal.used-requires-clause-back
-used-requires-clause-back c =
+pub next_piece-requires : goal.next_piece-requires
+next_piece-requires c =
     let reach = rw c.unread-unread.ensures at c.min-reach.ensures in
     let found = rw c.unread-unread.ensures at (sym c.in-Some.ensures) in
     let within = (found_within _ _ _ reach _ found).1 in
-    used_enough c.self.inside.window.used c.self.inside.window.unread c.advance.new.self.used (c.in-Some.length + 2) within c.advance.ensures.used
+    let no_fault = rw (← c.self.view_is) at c.requires.no_fault in
+    let awaits_line = rw (← c.self.view_is) at c.requires.line in
+    let next = next_is_line (the_view c.self.inside) no_fault awaits_line c.in-Some.length within (cut_line-found _ _ _ reach _ found) in
+    rw (← c.self.view_is, next.0, length-take-le c.in-Some.length c.self.inside.window.unread (omega (arith, within))) refl
 
 pub invariant_of-self-in-None-2 : goal.invariant_of-self-in-None-2
 invariant_of-self-in-None-2 c =
@@ -49,10 +34,9 @@ returns-in-Some c =
     let within = (found_within _ _ _ reach _ found).1 in
     let no_fault = rw (← c.self.view_is) at c.requires.no_fault in
     let awaits_line = rw (← c.self.view_is) at c.requires.line in
-    let line_is = cut_line-found _ _ _ reach _ found in
-    let next = next_is_line (the_view c.self.inside) no_fault awaits_line c.in-Some.length within line_is in
-    let shown = c.used.ensures ∙ used_last c.self.inside.window.used c.self.inside.window.unread c.advance.new.self.used (c.in-Some.length + 2) c.in-Some.length within (omega arith) c.advance.ensures.used in
-    rw (← c.self.view_is) ((refl, λ _. tt, rw (next.1, c.advance.ensures.unread, awaits_line) refl), record { answer = rw (next.0, shown) refl; rest = tt })
+    let next = next_is_line (the_view c.self.inside) no_fault awaits_line c.in-Some.length within (cut_line-found _ _ _ reach _ found) in
+    let line_is = c.next_piece.ensures.piece in
+    ((refl, λ _. tt, c.next_piece.follows.holds-at-none), record { answer = rw (line_is, ← c.self.view_is, next.0) refl; rest = tt })
 
 pub returns-in-None : goal.returns-in-None
 returns-in-None c =
