@@ -3,9 +3,8 @@ pub mod Composed
 pub mod Claiming
 pub mod Collects
 pub mod GivenJobs
-pub mod Greeting
 pub mod Refusing
 pub mod Routing
-pub mod SessionCalls
+pub mod Sides
 pub mod Taking
 pub mod Starts

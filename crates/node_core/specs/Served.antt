@@ -7,7 +7,6 @@ use Rattle.subj.specs.declared.failures.Failure.TheVariants.{Refused, OutOfMemor
 use Rattle.subj.specs.declared.jobs.Job.{Job}
 use Rattle.subj.specs.declared.limits.TheConstants.{MAX_COUNTER, MAX_SHARDS, WINDOW}
 use Rattle.claim_race.specs.Race.{RaceState, IsIssued, IsInTurn, busy_of, next_of}
-use Rattle.hub_core.specs.State as hub
 use Rattle.hub_core.specs.Peers.{first_frames}
 use Rattle.hub_core.specs.Publishing.{Publication}
 use Rattle.hub_core.specs.Receiving.{routed_job}
@@ -16,7 +15,6 @@ use Rattle.route_values.specs.Frames.{Frame}
 use Rattle.route_values.specs.Records.{Info, Connect}
 use Rattle.route_values.specs.declared.bodies.Body.{Body}
 use Rattle.route_values.specs.declared.bodies.Body.TheVariants.{Plus, Minus, Snapshot, Msg}
-use Rattle.route_session.specs.State as sessions
 use Rattle.route_session.specs.State.{no_sessions, peer_of_session, session_at, number_kept}
 use Rattle.route_session.specs.Steps.{own_info, own_connect, serial_of, dropped}
 use Rattle.route_session.specs.declared.faults.SessionFault.{SessionFault}
@@ -46,7 +44,7 @@ use Rattle.node_law.specs.Steps.{conn_line, shard_line, conn_event, work_event, 
 pub use Rattle.node_parts.specs.Lines.{LineStep, LineBegins, LineEnds, dropped_job, LineDrops, is_won, IsClaimTold, LineClaims, MayClaim, WaitsNext, failure_of_shard, of_answer, of_decision}
 pub use Rattle.node_parts.specs.Jobs.{MayIssue, AreGiven, IsReceived, MayRoute, AreRouted}
 pub use Rattle.node_parts.specs.Places.{place_of_conn, place_of_shard}
-pub use Rattle.node_parts.specs.Sides.{session_after_frame}
+use Rattle.node_parts.specs.Sides.{Side}
 
 -- ---- what a part refuses, its server refuses
 
@@ -57,6 +55,10 @@ failure_of_session OutOfMemory = OutOfMemory
 abbrev pub of_session_answer : {X : Type 0} → Result X (Failure SessionFault) → Result X (Failure NodeFault)
 of_session_answer (Ok x) = Ok x
 of_session_answer (Err why) = Err (failure_of_session why)
+
+abbrev pub of_session_decision : {X : Type 0} → Result X SessionFault → Result X NodeFault
+of_session_decision (Ok x) = Ok x
+of_session_decision (Err why) = Err (Session why)
 
 abbrev pub failure_of_hub : Failure HubFault → Failure NodeFault
 failure_of_hub (Refused why) = Refused (Hub why)
@@ -73,8 +75,8 @@ pub record Served : Type 0 where
   pub node : Node
 
 -- a server with these parts
-abbrev pub seen : Server → hub.State → sessions.State → RaceState → List Line → Served
-seen server hub sessions race lines = record { server = server; node = record { hub = hub; sessions = sessions; race = race; lines = lines } }
+abbrev pub seen : Side → RaceState → List Line → Served
+seen side race lines = record { server = side.server; node = record { hub = side.hub; sessions = side.sessions; race = race; lines = lines } }
 
 -- a server that has just started
 abbrev pub started : Server → Served

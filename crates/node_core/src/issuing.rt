@@ -10,9 +10,7 @@ use crate::node::{Node, of_hub};
 use claim_race::Race;
 use hub_core::PublishPlan;
 use node_law::NodeFault;
-use node_parts::{
-    Issued, Received, end_old_session, fill, finished_by, issue, route, seen_of, take_in,
-};
+use node_parts::{Issued, Received, fill, finished_by, issue, route, take_in};
 use route_values::Numbered;
 use sub_table::SubTable;
 use subj::{ConnId, Failure, Pub};
@@ -34,7 +32,10 @@ impl<T: SubTable, R: Race> Node<T, R> {
     {
         let count = self.lines.len();
         let finished = finished_by(&self.race, count as u64);
-        let PublishPlan { job, frames } = match self.hub.plan_publish(conn, said, word, &finished) {
+        let PublishPlan { job, frames } = match self
+            .side
+            .plan_publish(conn, said, word, &finished)
+        {
             Ok(plan) => plan,
             Err(fault) => return of_hub(Err(fault)),
         };
@@ -45,7 +46,7 @@ impl<T: SubTable, R: Race> Node<T, R> {
         let Ok(()) = fill(&mut self.copies, &job, count) else {
             return Err(Failure::OutOfMemory);
         };
-        self.hub.commit_publish(frames);
+        self.side.commit_publish(frames);
         let lines = self.lines.as_mut_slice();
         issue(&mut self.race, lines, job, &mut self.copies);
         Ok(issued)
@@ -59,14 +60,12 @@ impl<T: SubTable, R: Race> Node<T, R> {
     {
         let count = self.lines.len();
         let finished = finished_by(&self.race, count as u64);
-        let seen = seen_of(&self.hub, frame.from());
-        let received = match take_in(&mut self.hub, frame, &finished, &mut self.copies, count) {
+        let received = match take_in(&mut self.side, frame, &finished, &mut self.copies, count) {
             Ok(received) => received,
             Err(fault) => return of_hub(Err(fault)),
         };
         let lines = self.lines.as_mut_slice();
         route(&mut self.race, lines, &mut self.copies, frame);
-        end_old_session(&mut self.sessions, frame, seen);
         Ok(received)
     }
 }

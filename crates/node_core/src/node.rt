@@ -9,7 +9,7 @@ ghost use Rattle.shard_core.specs.ShardEvents.{Attached, Unsubscribed, Replied, 
 ghost use Rattle.node_law.specs.Events.{Own, OfConn, AtShard, Publish, Collect, Dial, Accept, CutSession, TakeFrames, Receive, OnInfo, OnConnect};
 ghost use Rattle.node_law.specs.declared.events.ConnEvent.TheVariants.{Subscribe, Unsubscribe, Reply, Shut, Detach, Take};
 ghost use Rattle.node_law.specs.declared.events.ShardWork.TheVariants.{Attach, Begin, Claim, End, DropJob};
-ghost use Rattle.node_core.specs.Served.{started, of_session_answer, of_hub_answer, refusal, ConnStep, WorkStep, BeginStep, DialStep, AcceptStep, CutStep, FramesStep, DropStep, ClaimStep, InfoStep, ConnectStep};
+ghost use Rattle.node_core.specs.Served.{started, of_session_answer, of_session_decision, of_hub_answer, refusal, ConnStep, WorkStep, BeginStep, DialStep, AcceptStep, CutStep, FramesStep, DropStep, ClaimStep, InfoStep, ConnectStep};
 ghost use Rattle.node_law.specs.State.{lines_from};
 
 mod applying;
@@ -22,11 +22,11 @@ mod taking;
 
 use claim_race::Race;
 use client_frames::{ErrText, ReplyFrame};
-use hub_core::{Hub, HubFault};
+use hub_core::HubFault;
 use node_law::NodeFault;
-use node_parts::{Claimed, Line, peer_named, place_of_conn, place_of_shard, seen_of};
+use node_parts::{Claimed, Line, Side, place_of_conn, place_of_shard};
 use outbox::Entry;
-use route_session::{Kept, SessionFault, SessionId, Sessions};
+use route_session::{Kept, SessionFault, SessionId};
 use route_values::{Numbered, RouteConnect, RouteInfo};
 use shard_core::{Begun, Closed, ShardFault, Subscribed};
 use std::alloc::{AllocError, Global};
@@ -59,6 +59,16 @@ fn of_sessions<X>(answer: Result<X, Failure<SessionFault>>) -> Result<X, Failure
     }
 }
 
+/// What the sessions decide, as their server's decision.
+fn of_decision<X>(decision: Result<X, SessionFault>) -> Result<X, NodeFault>
+    ensures { result ≡ of_session_decision decision }
+{
+    match decision {
+        Ok(x) => Ok(x),
+        Err(fault) => Err(NodeFault::Session(fault)),
+    }
+}
+
 /// What the hub answers, as its server's answer.
 pub(crate) fn of_hub<X>(answer: Result<X, Failure<HubFault>>) -> Result<X, Failure<NodeFault>>
     ensures { result ≡ of_hub_answer answer }
@@ -79,8 +89,7 @@ pub(crate) fn of_hub<X>(answer: Result<X, Failure<HubFault>>) -> Result<X, Failu
 #[derive(Drop)]
 pub struct Node<T: SubTable, R: Race> {
     pub(crate) alloc: Global,
-    pub(crate) hub: Hub,
-    pub(crate) sessions: Sessions,
+    pub(crate) side: Side,
     pub(crate) race: R,
     pub(crate) lines: Vec<Line<T>>,
     /// Memory for the copies of a job, which the lines get.
@@ -92,12 +101,11 @@ impl<T: SubTable, R: Race> Model for Node<T, R> {
 
     ghost Value = { Served };
 
-    ghost use Rattle.std.specs.Prelude.{◌≡◌};
     ghost use Rattle.node_core.specs.Served.{seen, IsKept};
 
-    ghost view = { λ n. seen n.hub.server n.hub.state n.sessions.state (R.contents n.race) n.lines.items };
+    ghost view = { λ n. seen n.side (R.contents n.race) n.lines.items };
 
-    ghost invariant = { λ n. (n.sessions.server ≡ n.hub.server) × IsKept (seen n.hub.server n.hub.state n.sessions.state (R.contents n.race) n.lines.items) };
+    ghost invariant = { λ n. IsKept (seen n.side (R.contents n.race) n.lines.items) };
 }
 
 impl<T: SubTable, R: Race> Node<T, R> {
@@ -108,12 +116,10 @@ impl<T: SubTable, R: Race> Node<T, R> {
         let _me = server.me();
         let lines = new_lines(alloc, server.shards())?;
         let race = R::new(alloc, server.shards())?;
-        let sessions = Sessions::new(alloc, server.try_clone(alloc)?);
-        let hub = Hub::new(alloc, server)?;
+        let side = Side::new(alloc, server)?;
         Ok(Node {
             alloc,
-            hub,
-            sessions,
+            side,
             race,
             lines,
             copies: Vec::new(alloc),
@@ -274,36 +280,29 @@ impl<T: SubTable, R: Race> Node<T, R> {
         }
     }
 
-    /// Dials the server at this place: [`Sessions::dial`]. Gives the number of the session.
+    /// Dials the server at this place: [`Side::dial`]. Gives the number of the session.
     pub fn dial(&mut self, peer: usize) -> Result<SessionId, Failure<NodeFault>>
         ensures { IsAnswered (refusal self.old (Own (Dial peer))) (λ session. DialStep self.old peer session self.new) (self.new ≡ self.old) result }
     {
-        of_sessions(self.sessions.dial(peer))
+        of_sessions(self.side.dial(peer))
     }
 
-    /// Accepts a session: [`Sessions::accept`]. Gives its number, and the `INFO` to send.
+    /// Accepts a session: [`Side::accept`]. Gives its number, and the `INFO` to send.
     pub fn accept(&mut self) -> Result<(SessionId, RouteInfo), Failure<NodeFault>>
         ensures { IsAnswered (refusal self.old (Own Accept)) (λ given. AcceptStep self.old given.0 given.1 self.new) (self.new ≡ self.old) result }
     {
-        of_sessions(self.sessions.accept())
+        of_sessions(self.side.accept())
     }
 
     /// Ends a session; where it was kept, its peer is not up any more. Gives the place of that peer.
-    /// Refused as [`Sessions::cut`] is. Takes no memory.
+    /// Refused as [`Side::cut`] is. Takes no memory.
     pub fn cut(&mut self, session: SessionId) -> Result<Option<usize>, NodeFault>
         ensures { IsDecided (refusal self.old (Own (CutSession session))) (λ peer. CutStep self.old session peer self.new) (self.new ≡ self.old) result }
     {
-        match self.sessions.cut(session) {
-            Err(fault) => Err(NodeFault::Session(fault)),
-            Ok(None) => Ok(None),
-            Ok(Some(peer)) => {
-                self.hub.peer_cut(peer);
-                Ok(Some(peer))
-            }
-        }
+        of_decision(self.side.cut(session))
     }
 
-    /// Completes a dialed session on the `INFO` of the server that was dialed: [`Sessions::on_info`]. The
+    /// Completes a dialed session on the `INFO` of the server that was dialed: [`Side::info`]. The
     /// peer is up, and a snapshot of all interest is what waits for it. Gives the session that this one
     /// took the place of, and the `CONNECT` to send.
     pub fn info(
@@ -313,29 +312,11 @@ impl<T: SubTable, R: Race> Node<T, R> {
     ) -> Result<(Kept, RouteConnect), Failure<NodeFault>>
         ensures { IsAnswered (refusal self.old (OnInfo session info.now)) (λ done. InfoStep self.old session info.now done.0.instead_of done.1 self.new) (self.new ≡ self.old) result }
     {
-        let least = seen_of(&self.hub, info.server_name());
-        if let Some(fault) = self.sessions.info_fault(session, info, least) {
-            return Err(Failure::Refused(NodeFault::Session(fault)));
-        }
-        let Some(place) = peer_named(self.hub.server(), info.server_name()) else {
-            // an `INFO` that is not refused names a peer of the list
-            unreachable!()
-        };
-        let inc = info.inc();
-        let _life = inc.get();
-        let Ok(snapshot) = self.hub.plan_up(place, inc) else {
-            return Err(Failure::OutOfMemory);
-        };
-        let Ok(done) = self.sessions.on_info(session, info, least) else {
-            // the same was not refused above, and the sessions are as they were
-            unreachable!()
-        };
-        self.hub.commit_up(place, inc, snapshot);
-        Ok(done)
+        of_sessions(self.side.info(session, info))
     }
 
     /// Completes an accepted session on the `CONNECT` of the server that dialed:
-    /// [`Sessions::on_connect`]. The peer is up, and a snapshot of all interest is what waits for it.
+    /// [`Side::connect`]. The peer is up, and a snapshot of all interest is what waits for it.
     /// Gives the session that this one took the place of.
     pub fn connect(
         &mut self,
@@ -344,28 +325,10 @@ impl<T: SubTable, R: Race> Node<T, R> {
     ) -> Result<Kept, Failure<NodeFault>>
         ensures { IsAnswered (refusal self.old (OnConnect session connect.now)) (λ kept. ConnectStep self.old session connect.now kept.instead_of self.new) (self.new ≡ self.old) result }
     {
-        let least = seen_of(&self.hub, connect.server_name());
-        if let Some(fault) = self.sessions.connect_fault(session, connect, least) {
-            return Err(Failure::Refused(NodeFault::Session(fault)));
-        }
-        let Some(place) = peer_named(self.hub.server(), connect.server_name()) else {
-            // a `CONNECT` that is not refused names a peer of the list
-            unreachable!()
-        };
-        let inc = connect.inc();
-        let _life = inc.get();
-        let Ok(greeting) = self.hub.plan_up(place, inc) else {
-            return Err(Failure::OutOfMemory);
-        };
-        let Ok(kept) = self.sessions.on_connect(session, connect, least) else {
-            // the same was not refused above, and the sessions are as they were
-            unreachable!()
-        };
-        self.hub.commit_up(place, inc, greeting);
-        Ok(kept)
+        of_sessions(self.side.connect(session, connect))
     }
 
-    /// Gives and removes the first frames that wait for the peer at the place: [`Hub::take_route`].
+    /// Gives and removes the first frames that wait for the peer at the place: [`Side::take_frames`].
     pub fn take_frames(
         &mut self,
         peer: usize,
@@ -373,6 +336,6 @@ impl<T: SubTable, R: Race> Node<T, R> {
     ) -> Result<Vec<Numbered>, Failure<NodeFault>>
         ensures { IsAnswered (refusal self.old (Own (TakeFrames peer count))) (λ frames. FramesStep self.old peer count frames.items self.new) (self.new ≡ self.old) result }
     {
-        of_hub(self.hub.take_route(peer, count))
+        of_hub(self.side.take_frames(peer, count))
     }
 }

@@ -8,7 +8,7 @@ ghost use Rattle.node_core.specs.Served.{refusal, CollectStep};
 use crate::node::{Node, of_hub};
 use claim_race::Race;
 use node_law::NodeFault;
-use node_parts::{Told, drop_sessions, place_of_shard};
+use node_parts::{Told, place_of_shard};
 use sub_table::SubTable;
 use subj::Failure;
 
@@ -23,16 +23,15 @@ impl<T: SubTable, R: Race> Node<T, R> {
         let Some(place) = place_of_shard(self.lines.len(), shard) else {
             return Err(Failure::Refused(NodeFault::NoShard));
         };
-        let _me = self.hub.server().me();
+        let _me = self.side.hub().server().me();
         let line = &mut self.lines[place];
-        let told = match self.hub.collect(line.deltas()) {
+        let told = match self.side.collect(shard, line.deltas()) {
             Ok(told) => told,
             Err(fault) => return of_hub(Err(fault)),
         };
         line.take_deltas();
-        drop_sessions(&mut self.sessions, &told.cut);
         let changes = told.changes.len();
-        let frames = changes * self.hub.up_count();
+        let frames = changes * self.side.hub().up_count();
         Ok(Told {
             changes,
             frames,

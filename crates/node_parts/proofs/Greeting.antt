@@ -51,6 +51,9 @@ peer_is server name q e = go (is_peer server (place server name)) refl (sym e)
     go true f e = let same = same_Some (place server name) q e in record { same = same; peer = ap (is_peer server) (sym same) ∙ f }
     go false f e = absurd (none-some q e)
 
+pub peer_there : (server : Server) (name : List ℕ) (q : ℕ) → Some q ≡ calls.peer_of server name → is_peer server q ≡ true
+peer_there server name q e = (peer_is server name q e).peer
+
 -- so of a name and a server that are these
 pub same_name : (server given : Server) (name asked : List ℕ) (o result : Option ℕ) → result ≡ o → result ≡ calls.peer_of given asked → given ≡ server → asked ≡ name → o ≡ calls.peer_of server name
 same_name server given name asked o result is answers s n = sym is ∙ answers ∙ (λ k. calls.peer_of (s k) (n k))

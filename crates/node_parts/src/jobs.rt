@@ -7,16 +7,18 @@ ghost use Rattle.subj.specs.declared.limits.TheConstants.{MAX_SHARDS, WINDOW};
 ghost use Rattle.claim_race.specs.Race.{shards_of};
 ghost use Rattle.hub_core.specs.Events.{Receive as ReceiveFrame};
 ghost use Rattle.hub_core.specs.Receiving.{has_message};
-ghost use Rattle.hub_core.specs.Hubs.{refusal as hub_refusal, after as hub_after};
+ghost use Rattle.hub_core.specs.Steps.{hub_refusal};
 ghost use Rattle.node_law.specs.State.{Line as OneLine};
 ghost use Rattle.node_law.specs.Steps.{queued};
 ghost use Rattle.node_parts.specs.Jobs.{MayIssue, AreGiven, IsReceived, MayRoute, AreRouted};
+ghost use Rattle.node_parts.specs.Sides.{ByHub, side_after};
 
 use crate::lines::Line;
 use crate::peers::is_message;
+use crate::side::Side;
 use crate::told::Received;
 use claim_race::Race;
-use hub_core::{Hub, HubFault};
+use hub_core::HubFault;
 use route_values::Numbered;
 use std::alloc::AllocError;
 use sub_table::SubTable;
@@ -103,29 +105,29 @@ fn issue_all<T: SubTable, R: Race>(race: &mut R, lines: &mut [Line<T>], jobs: &m
     hand_out(lines, jobs);
 }
 
-/// Takes a frame of a peer at the hub; of a message, so many copies of its job are made first.
+/// Takes a frame of a peer; of a message, so many copies of its job are made first.
 pub fn take_in(
-    hub: &mut Hub,
+    side: &mut Side,
     frame: &Numbered,
     finished: &Finished,
     copies: &mut Vec<Job>,
     count: usize,
 ) -> Result<Received, Failure<HubFault>>
     requires { 1 ≤ count }
-    ensures { IsAnswered (hub_refusal hub.old (ReceiveFrame frame.now finished.now)) (λ received. (hub.new ≡ hub_after hub.old (ReceiveFrame frame.now finished.now)) × IsReceived hub.old.state frame.now frame.now.body count received copies.new.items) (hub.new ≡ hub.old) result }
+    ensures { let e = ReceiveFrame frame.now finished.now in IsAnswered (hub_refusal side.old.server side.old.hub e) (λ received. (side.new ≡ side_after side.old (ByHub e)) × IsReceived side.old.hub frame.now frame.now.body count received copies.new.items) (side.new ≡ side.old) result }
 {
     if !is_message(frame) {
-        let _heard = hub.receive(frame, finished)?;
+        side.hear(frame, finished)?;
         return Ok(Received::Heard(frame.number()));
     }
-    let Some(job) = hub.plan_receive(frame, finished)? else {
+    let Some(job) = side.plan_receive(frame, finished)? else {
         // a frame that is a message has a job
         unreachable!()
     };
     let turn = job.turn;
     fill(copies, &job, count)?;
     copies.push(job)?;
-    hub.commit_message(frame);
+    side.take_message(frame);
     Ok(Received::Routed(turn))
 }
 

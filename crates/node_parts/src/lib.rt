@@ -14,7 +14,7 @@ mod told;
 
 pub use jobs::{fill, finished_by, issue, route, take_in};
 pub use lines::{Claimed, Line};
-pub use peers::{drop_sessions, end_old_session, is_message, peer_named, seen_of};
+pub use peers::is_message;
 pub use places::{place_of_conn, place_of_shard};
 pub use side::Side;
 pub use told::{Issued, Received, Told};

@@ -15,7 +15,7 @@ use subj::{NodeId, Server};
 
 /// The place of the peer of this name.
 #[tactic(auto, using(crate::proofs::Greeting::nobody, crate::proofs::Greeting::at_place))]
-pub fn peer_named(server: &Server, name: NodeId) -> Option<usize>
+pub(crate) fn peer_named(server: &Server, name: NodeId) -> Option<usize>
     ensures { result ≡ peer_by_name server.now name }
 {
     let place = server.place(name)?;
@@ -23,7 +23,7 @@ pub fn peer_named(server: &Server, name: NodeId) -> Option<usize>
 }
 
 /// The greatest incarnation seen of the peer of this name; 0 before the first, and of anyone else.
-pub fn seen_of(hub: &Hub, name: NodeId) -> u64
+pub(crate) fn seen_of(hub: &Hub, name: NodeId) -> u64
     ensures { result ≡ seen_by_hub (peer_of hub.now.server hub.now.state name) }
 {
     match peer_named(hub.server(), name) {
@@ -33,7 +33,7 @@ pub fn seen_of(hub: &Hub, name: NodeId) -> u64
 }
 
 /// Ends the sessions that are kept with the peers at these places. Takes no memory.
-pub fn drop_sessions(sessions: &mut Sessions, peers: &[usize])
+pub(crate) fn drop_sessions(sessions: &mut Sessions, peers: &[usize])
     ensures { sessions.new ≡ record { server = sessions.old.server; state = all_dropped peers.now sessions.old.state } }
 {
     for peer in peers {
@@ -50,7 +50,7 @@ pub fn is_message(frame: &Numbered) -> bool
 
 /// Where the frame is of a later life of its peer than was seen, the session that was kept with the peer
 /// ends. Takes no memory.
-pub fn end_old_session(sessions: &mut Sessions, frame: &Numbered, seen: u64)
+pub(crate) fn end_old_session(sessions: &mut Sessions, frame: &Numbered, seen: u64)
     requires { peer sessions.old.server (place_of sessions.old.server frame.now.from) ≡ true }
     ensures { sessions.new ≡ record { server = sessions.old.server; state = session_after_frame (place_of sessions.old.server frame.now.from) seen frame.now.inc sessions.old.state } }
 {

@@ -1,6 +1,6 @@
 //! The hub's part of a server: its hub and its sessions.
 
-ghost use Rattle.std.specs.Prelude.{◌≡◌, ⊤, [], true, false, IfOk};
+ghost use Rattle.std.specs.Prelude.{◌≡◌, ⊤, [], true, false, option_map, IfOk};
 ghost use Rattle.subj.specs.Answers.{IsAnswered, IsDecided};
 ghost use Rattle.hub_core.specs.Calls.{IsPlanned, IsTaken, job_of, put_out};
 ghost use Rattle.hub_core.specs.Chosen.{IsPlanOf, publication};
@@ -8,8 +8,10 @@ ghost use Rattle.hub_core.specs.Events.{Collect, Receive, TakeFrom, Collected, H
 ghost use Rattle.hub_core.specs.Publishing.{publish_refusal};
 ghost use Rattle.hub_core.specs.Receiving.{has_message, receive_refusal};
 ghost use Rattle.hub_core.specs.Hubs.{IsStep};
+ghost use Rattle.hub_core.specs.Peers.{snapshot_to};
 ghost use Rattle.hub_core.specs.Steps.{hub_refusal};
 ghost use Rattle.hub_core.specs.Telling.{collect_frames};
+ghost use Rattle.route_session.specs.Calls.{peer_of as peer_by_name};
 ghost use Rattle.route_session.specs.Events.{Dial, Accept, OnInfo, OnConnect, Cut, Dialed, Accepted, KeptAfterInfo, Kept as WasKept, WasCut};
 ghost use Rattle.route_session.specs.Steps.{session_refusal};
 ghost use Rattle.subj.specs.Servers.{IsListed};
@@ -22,7 +24,7 @@ use route_session::{Kept, SessionFault, SessionId, Sessions};
 use route_values::{Numbered, RouteConnect, RouteInfo};
 use std::alloc::{AllocError, Global};
 use std::marker::Model;
-use subj::{ConnId, Failure, Finished, Job, Pub, Server};
+use subj::{ConnId, Failure, Finished, Incarnation, Job, NodeId, Pub, Server};
 
 /// Counts the deltas of the shard, and tells of them: [`Hub::collect`].
 fn tell(hub: &mut Hub, shard: u64, deltas: &[Delta]) -> Result<Told, Failure<HubFault>>
@@ -68,6 +70,53 @@ impl Side {
         ensures { IsListed self.now.server }
     {
         let _me = self.hub.server().me();
+    }
+
+    /// The hub, for what is asked of it alone.
+    pub fn hub(&self) -> &Hub
+        ensures server { result.now.server ≡ self.now.server }
+        ensures state { result.now.state ≡ self.now.hub }
+    {
+        &self.hub
+    }
+
+    /// The sessions, for what is asked of them alone.
+    pub fn sessions(&self) -> &Sessions
+        ensures server { result.now.server ≡ self.now.server }
+        ensures state { result.now.state ≡ self.now.sessions }
+    {
+        &self.sessions
+    }
+
+    /// [`Sessions::info_fault`], with the greatest incarnation that the hub has seen of the sender.
+    pub fn info_fault(&self, session: SessionId, info: &RouteInfo) -> Option<SessionFault>
+        ensures { result ≡ session_refusal self.now.server self.now.sessions (OnInfo session info.now (seen_name self.now info.now.server_name)) }
+    {
+        let least = seen_of(&self.hub, info.server_name());
+        self.sessions.info_fault(session, info, least)
+    }
+
+    /// [`Sessions::connect_fault`], with the greatest incarnation that the hub has seen of the sender.
+    pub fn connect_fault(&self, session: SessionId, connect: &RouteConnect) -> Option<SessionFault>
+        ensures { result ≡ session_refusal self.now.server self.now.sessions (OnConnect session connect.now (seen_name self.now connect.now.server_name)) }
+    {
+        let least = seen_of(&self.hub, connect.server_name());
+        self.sessions.connect_fault(session, connect, least)
+    }
+
+    /// The snapshot for an incarnation of the peer of this name: [`Hub::plan_up`]. It changes nothing.
+    #[tactic(auto, using(crate::proofs::Greeting::peer_there))]
+    pub fn snapshot_for(
+        &self,
+        name: NodeId,
+        inc: Incarnation,
+    ) -> Result<Option<Numbered>, AllocError>
+        ensures { IfOk result (λ snapshot. snapshot ≡ option_map (λ q. snapshot_to self.now.server self.now.hub q inc) (peer_by_name self.now.server name)) }
+    {
+        match peer_named(self.hub.server(), name) {
+            None => Ok(None),
+            Some(place) => Ok(Some(self.hub.plan_up(place, inc)?)),
+        }
     }
 
     /// [`Hub::plan_publish`].

@@ -2,11 +2,8 @@
 use Rattle.std.proofs.Common.{◌≡◌, ℕ, ◌≤◌, Bool, false, List, set, Option, Some, None, Result, Ok, Err, sym, ap, ◌∙◌, subst}
 use Rattle.std.specs.Prelude.{slice_get, slice_index}
 use Rattle.subj.specs.Answers.{IsAnswered}
-use Rattle.subj.specs.Servers.{Server}
 use Rattle.subj.specs.declared.failures.Failure.{Failure}
 use Rattle.subj.specs.declared.failures.Failure.TheVariants.{Refused, OutOfMemory}
-use Rattle.hub_core.specs.State as hub
-use Rattle.route_session.specs.State as sessions
 use Rattle.node_law.specs.declared.faults.NodeFault.{NodeFault}
 use Rattle.node_law.specs.Events.{Own, AtShard}
 use Rattle.node_law.specs.declared.events.ShardWork.TheVariants.{Claim}
@@ -18,6 +15,7 @@ use Rattle.node_law.specs.State.{Line}
 use Rattle.node_law.specs.Steps.{event_refusal, work_refusal}
 use Rattle.node_law.specs.Sound.{tried_of}
 use Rattle.node_parts.specs.Lines.{LineClaims, MayClaim, is_won}
+use Rattle.node_parts.specs.Sides.{Side}
 use Rattle.node_core.specs.Served.{IsClaimToldAt, ClaimStep, Served, IsKept, seen, refusal, work_answer}
 
 pub may_claim : (s : Served) (shard place : ℕ) (line : Line) → IsKept s → IsShard s.node shard place line → slice_get s.node.lines place ≡ Some line → MayClaim line s.node.race shard
@@ -26,27 +24,27 @@ may_claim s shard place line kept p here = record {
   next = subst (λ q. slice_index s.node.race.next q ≤ tried_of line.shard.hand line.shard.next_index) (sym p.at) (kept.sound.raced.next place line here);
 }
 
-pub claim_call : (copies : Bool) (server : Server) (hub : hub.State) (sessions : sessions.State) (race new_race : RaceState) (lines : List Line) (shard place index : ℕ) (line after : Line) (r : Result Claimed (Failure NodeFault))
-    → IsKept (seen server hub sessions race lines) → IsShard (record { hub = hub; sessions = sessions; race = race; lines = lines }) shard place line → slice_get lines place ≡ Some line
+pub claim_call : (copies : Bool) (side : Side) (race new_race : RaceState) (lines : List Line) (shard place index : ℕ) (line after : Line) (r : Result Claimed (Failure NodeFault))
+    → IsKept (seen side race lines) → IsShard (seen side race lines).node shard place line → slice_get lines place ≡ Some line
     → IsAnswered (event_refusal line (Some (of_shard.Claim index false))) (λ claimed. LineClaims copies line race shard index claimed after new_race) ((after ≡ line) × (new_race ≡ race)) r
-    → Called Claimed (seen server hub sessions race lines) (seen server hub sessions new_race (set lines place after)) (Own (AtShard shard (Claim index))) (λ claimed. ClaimStep copies (seen server hub sessions race lines) shard index claimed (seen server hub sessions new_race (set lines place after))) r
-claim_call copies server hub sessions race new_race lines shard place index line after r kept p here h = record { keeps = keep r (go r h); answers = go r h }
+    → Called Claimed (seen side race lines) (seen side new_race (set lines place after)) (Own (AtShard shard (Claim index))) (λ claimed. ClaimStep copies (seen side race lines) shard index claimed (seen side new_race (set lines place after))) r
+claim_call copies side race new_race lines shard place index line after r kept p here h = record { keeps = keep r (go r h); answers = go r h }
   where
     old : Served
-    old = seen server hub sessions race lines
+    old = seen side race lines
 
     new : Served
-    new = seen server hub sessions new_race (set lines place after)
+    new = seen side new_race (set lines place after)
 
     cause : (c : Option NodeFault) → event_refusal line (Some (of_shard.Claim index false)) ≡ c → refusal old (Own (AtShard shard (Claim index))) ≡ c
     cause c e = ap (work_refusal (Claim index)) p.is ∙ e
 
     same : (after ≡ line) × (new_race ≡ race) → new ≡ old
-    same e = λ k. seen server hub sessions (e.1 k) (lines_same lines place line after here e.0 k)
+    same e = λ k. seen side (e.1 k) (lines_same lines place line after here e.0 k)
 
     done : (claimed : Claimed) → event_refusal line (Some (of_shard.Claim index false)) ≡ None → LineClaims copies line race shard index claimed after new_race → ClaimStep copies old shard index claimed new
     done claimed free d = record {
-      step = work_done server hub sessions race new_race lines shard place (Claim index) (is_won claimed) line after p free d.after d.moves;
+      step = work_done side race new_race lines shard place (Claim index) (is_won claimed) line after p free d.after d.moves;
       told = subst (λ o. IsClaimToldAt copies claimed (work_answer (Claim index) (is_won claimed) o)) (sym p.is) d.told;
     }
 

@@ -1,5 +1,5 @@
 -- A collect at a server: how many frames it puts, and what it changes.
-use Rattle.std.proofs.Common.{◌≡◌, ℕ, suc, ◌+◌, ◌-◌, ◌*◌, ◌≤◌, Bool, true, false, cond, List, [], ◌∷◌, ◌++◌, length, map, set, Some, None, refl, sym, ap, ◌∙◌, subst, arith, length-append}
+use Rattle.std.proofs.Common.{◌≡◌, ℕ, suc, ◌+◌, ◌-◌, ◌*◌, ◌≤◌, Bool, true, false, cond, List, [], ◌∷◌, ◌++◌, length, map, set, Some, refl, sym, ap, ◌∙◌, subst, arith, length-append}
 use Rattle.std.specs.Prelude.{filter, slice_get, if◌then◌else◌}
 use Rattle.std.specs.List.{count_by}
 use Rattle.std.specs.Option.{option_map}
@@ -14,23 +14,18 @@ use Rattle.claim_race.specs.Race.{RaceState}
 use Rattle.route_values.specs.Frames.{Frame}
 use Rattle.hub_core.specs.State as hub
 use Rattle.hub_core.specs.State.{Peer}
-use Rattle.hub_core.specs.Hubs as hubs
-use Rattle.hub_core.specs.Hubs.{Hub}
 use Rattle.hub_core.specs.Events as of_hub
 use Rattle.hub_core.specs.AsLaw.{HasPeers}
 use Rattle.hub_core.specs.Publishing.{is_to, with_frames}
-use Rattle.hub_core.specs.Telling.{is_told, has_room_for, without_slow, body_of, changes_of, count_of_changes, frames_of_change, frames_behind, collect_frames, collect_refusal, collected, slow_peers}
-use Rattle.route_session.specs.Calls as calls
-use Rattle.route_session.specs.State as sessions
-use Rattle.route_session.specs.Steps.{all_dropped}
+use Rattle.hub_core.specs.Telling.{is_told, has_room_for, without_slow, body_of, changes_of, count_of_changes, frames_of_change, frames_behind, collect_frames, collected, slow_peers}
+use Rattle.node_parts.specs.Sides.{Side, ByHub, OfHub, IsDone, side_after}
 use Rattle.shard_core.specs.ShardEvents as of_shard
 use Rattle.node_law.specs.declared.faults.NodeFault.TheVariants as node_fault
 use Rattle.node_law.specs.Answers as answer
-use Rattle.node_law.specs.Events.{Own, Collect}
 use Rattle.node_law.specs.State.{Line, Node}
 use Rattle.node_law.specs.Steps.{shard_line, line_after, set_line, deltas_at, collect_refusal_at}
-use Rattle.node_core.specs.Served.{IsKept, CollectStep, seen}
-use Rattle.node_core.proofs.Calls.Composed.{Kept, IsShard, step_keeps, lines_same}
+use Rattle.node_core.specs.Served.{CollectStep, seen}
+use Rattle.node_core.proofs.Calls.Composed.{IsShard, lines_same}
 
 -- ---- how many frames
 
@@ -113,99 +108,74 @@ frames_within server hub deltas count ups size few count_is ups_are =
 
 -- ---- what is done
 
-abbrev changes_in : of_hub.Answer → List Change
-changes_in (of_hub.Issued job frames) = []
-changes_in (of_hub.Routed job) = []
-changes_in (of_hub.Heard mark) = []
-changes_in (of_hub.Collected changes frames cut) = changes
-changes_in (of_hub.IsUp snapshot) = []
-changes_in of_hub.WasCut = []
-changes_in (of_hub.Taken frames) = []
-
-abbrev cut_in : of_hub.Answer → List ℕ
-cut_in (of_hub.Issued job frames) = []
-cut_in (of_hub.Routed job) = []
-cut_in (of_hub.Heard mark) = []
-cut_in (of_hub.Collected changes frames cut) = cut
-cut_in (of_hub.IsUp snapshot) = []
-cut_in of_hub.WasCut = []
-cut_in (of_hub.Taken frames) = []
-
--- the hub has counted and told the line's deltas, the line has given them up, and the sessions of those that were cut are over
-pub record IsToldOf (old_sessions new_sessions : calls.Served) (old new : Hub) (shard : ℕ) (line after : Line) (changes : List Change) (ups : ℕ) (cut : List ℕ) : Type 0 where
-  pub free : collect_refusal old.state line.shard.deltas ≡ None
-  pub hub : new ≡ hubs.after old (of_hub.Collect shard line.shard.deltas)
-  pub changes_are : changes ≡ changes_of old.state line.shard.deltas
-  pub ups_are : ups ≡ count_by is_up new.state.peers
-  pub cut_are : cut ≡ slow_peers old.state line.shard.deltas
+-- the side has counted and told the line's deltas, and the line has given them up
+pub record IsToldOf (old new : Side) (shard : ℕ) (line after : Line) (changes : List Change) (ups : ℕ) (cut : List ℕ) : Type 0 where
+  pub done : IsDone old (ByHub (of_hub.Collect shard line.shard.deltas)) (OfHub (of_hub.Collected changes (collect_frames old.server old.hub line.shard.deltas) cut)) new
+  pub ups_are : ups ≡ count_by is_up new.hub.peers
   pub after_is : after ≡ line_after of_shard.Collect line
-  pub sessions : new_sessions ≡ record { server = old_sessions.server; state = all_dropped cut old_sessions.state }
 
-pub collect_done : (old_sessions new_sessions : calls.Served) (old new : Hub) (race : RaceState) (lines : List Line) (shard place : ℕ) (line after : Line) (changes : List Change) (ups : ℕ) (cut : List ℕ)
-    → IsShard (record { hub = old.state; sessions = old_sessions.state; race = race; lines = lines }) shard place line → IsToldOf old_sessions new_sessions old new shard line after changes ups cut
-    → CollectStep (seen old.server old.state old_sessions.state race lines) shard (length changes) (length changes * ups) cut (seen new.server new.state new_sessions.state race (set lines place after))
-collect_done old_sessions new_sessions old new race lines shard place line after changes ups cut p done = record {
+pub changes_told : (old new : Side) (shard : ℕ) (line after : Line) (changes : List Change) (ups : ℕ) (cut : List ℕ) → IsToldOf old new shard line after changes ups cut → changes ≡ changes_of old.hub line.shard.deltas
+changes_told old new shard line after changes ups cut told =
+    let d = line.shard.deltas in
+    let e : OfHub (of_hub.Collected changes (collect_frames old.server old.hub d) cut) ≡ OfHub (of_hub.Collected (changes_of old.hub d) (collect_frames old.server old.hub d) (slow_peers old.hub d)) = told.done.answered in
+    let is : changes ≡ changes_of old.hub d = cc (e) in
+    is
+
+cut_told : (old new : Side) (shard : ℕ) (line after : Line) (changes : List Change) (ups : ℕ) (cut : List ℕ) → IsToldOf old new shard line after changes ups cut → cut ≡ slow_peers old.hub line.shard.deltas
+cut_told old new shard line after changes ups cut told =
+    let d = line.shard.deltas in
+    let e : OfHub (of_hub.Collected changes (collect_frames old.server old.hub d) cut) ≡ OfHub (of_hub.Collected (changes_of old.hub d) (collect_frames old.server old.hub d) (slow_peers old.hub d)) = told.done.answered in
+    let is : cut ≡ slow_peers old.hub d = cc (e) in
+    is
+
+pub ups_told : (old new : Side) (shard : ℕ) (line after : Line) (changes : List Change) (ups : ℕ) (cut : List ℕ) → IsToldOf old new shard line after changes ups cut → ups ≡ count_by is_up (collected old.server old.hub line.shard.deltas).peers
+ups_told old new shard line after changes ups cut told = told.ups_are ∙ ap (λ (s : Side). count_by is_up s.hub.peers) told.done.after
+
+pub collect_done : (old new : Side) (race : RaceState) (lines : List Line) (shard place : ℕ) (line after : Line) (changes : List Change) (ups : ℕ) (cut : List ℕ) → IsShard (seen old race lines).node shard place line → IsToldOf old new shard line after changes ups cut
+    → CollectStep (seen old race lines) shard (length changes) (length changes * ups) cut (seen new race (set lines place after))
+collect_done old new race lines shard place line after changes ups cut p told = record {
   step = record {
     race = race;
-    server = ap (λ (t : Hub). t.server) done.hub;
+    server = ap (λ (s : Side). s.server) told.done.after;
     step = record {
-      cause = ap (collect_refusal_at old.state) p.is ∙ ap (option_map node_fault.Hub) done.free;
+      cause = ap (collect_refusal_at old.hub) p.is ∙ ap (option_map node_fault.Hub) told.done.free;
       moves = refl;
-      after = λ k. record { hub = hub_is k; sessions = sessions_are k; race = race; lines = lines_are k };
+      after = λ k. (seen (side_is k) race (lines_are k)).node;
     };
   };
   answered = λ k. answer.Collected (changes_length k) (frames_are k) (cut_are k);
 } where
   a : Node
-  a = record { hub = old.state; sessions = old_sessions.state; race = race; lines = lines }
+  a = (seen old race lines).node
 
-  hub_is : new.state ≡ collected old.server old.state (deltas_at (shard_line a shard))
-  hub_is = ap (λ (t : Hub). t.state) done.hub ∙ ap (λ o. collected old.server old.state (deltas_at o)) (sym p.is)
+  side_is : new ≡ side_after old (ByHub (of_hub.Collect shard (deltas_at (shard_line a shard))))
+  side_is = told.done.after ∙ ap (λ o. side_after old (ByHub (of_hub.Collect shard (deltas_at o)))) (sym p.is)
 
-  cut_are : cut ≡ slow_peers old.state (deltas_at (shard_line a shard))
-  cut_are = done.cut_are ∙ ap (λ o. slow_peers old.state (deltas_at o)) (sym p.is)
-
-  sessions_are : new_sessions.state ≡ all_dropped (slow_peers old.state (deltas_at (shard_line a shard))) old_sessions.state
-  sessions_are = ap (λ (t : calls.Served). t.state) done.sessions ∙ ap (λ qs. all_dropped qs old_sessions.state) cut_are
+  cut_are : cut ≡ slow_peers old.hub (deltas_at (shard_line a shard))
+  cut_are = cut_told old new shard line after changes ups cut told ∙ ap (λ o. slow_peers old.hub (deltas_at o)) (sym p.is)
 
   lines_are : set lines place after ≡ set_line lines (shard - 1) (line_after of_shard.Collect) (shard_line a shard)
-  lines_are = ap (set lines place) done.after_is ∙ sym (λ k. set_line lines (p.at k) (line_after of_shard.Collect) (p.is k))
+  lines_are = ap (set lines place) told.after_is ∙ sym (λ k. set_line lines (p.at k) (line_after of_shard.Collect) (p.is k))
 
-  changes_length : length changes ≡ length (changes_of old.state (deltas_at (shard_line a shard)))
-  changes_length = ap length done.changes_are ∙ ap (λ o. length (changes_of old.state (deltas_at o))) (sym p.is)
+  changes_length : length changes ≡ length (changes_of old.hub (deltas_at (shard_line a shard)))
+  changes_length = ap length (changes_told old new shard line after changes ups cut told) ∙ ap (λ o. length (changes_of old.hub (deltas_at o))) (sym p.is)
 
-  frames_are : length changes * ups ≡ length (collect_frames old.server old.state (deltas_at (shard_line a shard)))
+  frames_are : length changes * ups ≡ length (collect_frames old.server old.hub (deltas_at (shard_line a shard)))
   frames_are =
-      (λ k. length (done.changes_are k) * (done.ups_are ∙ ap (λ (t : Hub). count_by is_up t.state.peers) done.hub) k)
-      ∙ frames_told old.server old.state line.shard.deltas
-      ∙ ap (λ o. length (collect_frames old.server old.state (deltas_at o))) (sym p.is)
-
-pub collect_kept : (old_sessions new_sessions : calls.Served) (old new : Hub) (race : RaceState) (lines : List Line) (shard place : ℕ) (line after : Line) (changes : List Change) (ups : ℕ) (cut : List ℕ)
-    → old_sessions.server ≡ old.server → IsKept (seen old.server old.state old_sessions.state race lines) → IsToldOf old_sessions new_sessions old new shard line after changes ups cut
-    → CollectStep (seen old.server old.state old_sessions.state race lines) shard (length changes) (length changes * ups) cut (seen new.server new.state new_sessions.state race (set lines place after))
-    → Kept new_sessions.server new.server (seen new.server new.state new_sessions.state race (set lines place after))
-collect_kept old_sessions new_sessions old new race lines shard place line after changes ups cut same kept done does = record {
-  same = ap (λ (t : calls.Served). t.server) done.sessions ∙ same ∙ sym (ap (λ (t : Hub). t.server) done.hub);
-  keeps = step_keeps (seen old.server old.state old_sessions.state race lines) (Own (Collect shard)) false (seen new.server new.state new_sessions.state race (set lines place after)) kept does.step;
-}
+      (λ k. length (changes_told old new shard line after changes ups cut told k) * ups_told old new shard line after changes ups cut told k)
+      ∙ frames_told old.server old.hub line.shard.deltas
+      ∙ ap (λ o. length (collect_frames old.server old.hub (deltas_at o))) (sym p.is)
 
 -- what the calls have said
-pub told_of : (old_sessions new_sessions : calls.Served) (old new : Hub) (shard : ℕ) (line after : Line) (deltas : List Delta) (changes : List Change) (frames : List Frame) (ups : ℕ) (cut peers : List ℕ)
-    → deltas ≡ line.shard.deltas → hubs.refusal old (of_hub.Collect shard deltas) ≡ None → hubs.IsStep old (of_hub.Collect shard deltas) (of_hub.Collected changes frames cut) new → ups ≡ count_by is_up new.state.peers → after ≡ line_after of_shard.Collect line
-    → peers ≡ cut → new_sessions ≡ record { server = old_sessions.server; state = all_dropped peers old_sessions.state } → IsToldOf old_sessions new_sessions old new shard line after changes ups cut
-told_of old_sessions new_sessions old new shard line after deltas changes frames ups cut peers same free step ups_are after_is cut_is sessions = record {
-  free = subst (λ d. collect_refusal old.state d ≡ None) same free;
-  hub = step.after ∙ ap (λ d. hubs.after old (of_hub.Collect shard d)) same;
-  changes_are = ap changes_in step.answered ∙ ap (changes_of old.state) same;
+pub told_of : (old new : Side) (shard : ℕ) (line after : Line) (deltas : List Delta) (changes : List Change) (ups : ℕ) (cut : List ℕ) → deltas ≡ line.shard.deltas
+    → IsDone old (ByHub (of_hub.Collect shard deltas)) (OfHub (of_hub.Collected changes (collect_frames old.server old.hub deltas) cut)) new → ups ≡ count_by is_up new.hub.peers → after ≡ line_after of_shard.Collect line
+    → IsToldOf old new shard line after changes ups cut
+told_of old new shard line after deltas changes ups cut same done ups_are after_is = record {
+  done = subst (λ d. IsDone old (ByHub (of_hub.Collect shard d)) (OfHub (of_hub.Collected changes (collect_frames old.server old.hub d) cut)) new) same done;
   ups_are = ups_are;
-  cut_are = ap cut_in step.answered ∙ ap (slow_peers old.state) same;
   after_is = after_is;
-  sessions = sessions ∙ ap (λ qs. let s : calls.Served = record { server = old_sessions.server; state = all_dropped qs old_sessions.state } in s) cut_is;
 }
 
 -- a collect that is refused leaves all as it was
-pub collect_left : (given : Server) (old new : Hub) (sessions : sessions.State) (race : RaceState) (lines : List Line) (place : ℕ) (line : Line) → given ≡ old.server → IsKept (seen old.server old.state sessions race lines) → new ≡ old → slice_get lines place ≡ Some line
-    → Kept given new.server (seen new.server new.state sessions race (set lines place line))
-collect_left given old new sessions race lines place line same kept left here =
-    subst (λ (ls : List Line). Kept given new.server (seen new.server new.state sessions race ls)) (sym (lines_same lines place line line here refl))
-    (subst (λ (t : Hub). Kept given t.server (seen t.server t.state sessions race lines)) (sym left) (record { same = same; keeps = kept }))
+pub collect_left : (old new : Side) (race : RaceState) (lines : List Line) (place : ℕ) (line : Line) → new ≡ old → slice_get lines place ≡ Some line → seen new race (set lines place line) ≡ seen old race lines
+collect_left old new race lines place line left here = λ k. seen (left k) race (lines_same lines place line line here refl k)

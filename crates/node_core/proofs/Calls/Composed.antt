@@ -6,28 +6,18 @@ use Rattle.std.proofs.lemmas.Option.{none-some, same_Some}
 use Rattle.list_laws.proofs.Tests.{eq_false, lt_false}
 use Rattle.subj.specs.Servers.{Server}
 use Rattle.claim_race.specs.Race.{RaceState, IsInTurn, IsFinished, finished_of}
-use Rattle.hub_core.specs.State as hub
-use Rattle.hub_core.specs.Hubs as hubs
-use Rattle.hub_core.specs.Hubs.{Hub}
-use Rattle.hub_core.specs.Events as of_hub
-use Rattle.hub_core.specs.declared.faults.HubFault.{HubFault}
-use Rattle.route_values.specs.Frames.{Frame}
-use Rattle.route_session.specs.Calls as calls
-use Rattle.route_session.specs.Events as of_session
-use Rattle.route_session.specs.State as sessions
-use Rattle.route_session.specs.State.{peer_of_session}
-use Rattle.node_law.specs.declared.faults.NodeFault.TheVariants as hub_fault
 use Rattle.subj.specs.Answers.{IsAnswered, IsDecided}
 use Rattle.subj.specs.declared.failures.Failure.{Failure}
 use Rattle.subj.specs.declared.failures.Failure.TheVariants.{Refused, OutOfMemory}
 use Rattle.shard_core.specs.ShardEvents as of_shard
 use Rattle.node_law.specs.declared.faults.NodeFault.{NodeFault}
-use Rattle.node_law.specs.Events.{NodeEvent, Own, OfConn, AtShard, CutSession, TakeFrames}
+use Rattle.node_law.specs.Events.{NodeEvent, Own, OfConn, AtShard}
 use Rattle.node_law.specs.declared.events.ConnEvent.{ConnEvent}
 use Rattle.node_law.specs.declared.events.ShardWork.{ShardWork}
 use Rattle.node_law.specs.declared.events.ShardWork.TheVariants.{End, DropJob}
 use Rattle.node_law.specs.State.{Line, Node}
-use Rattle.node_law.specs.Steps.{conn_place, conn_line, shard_line, conn_event, work_event, conn_refusal, event_refusal, work_refusal, WorkRace, line_after, line_after_if, set_line, cut_if}
+use Rattle.node_law.specs.Steps.{conn_place, conn_line, shard_line, conn_event, work_event, conn_refusal, event_refusal, work_refusal, WorkRace, line_after, line_after_if, set_line}
+use Rattle.node_parts.specs.Sides.{Side}
 use Rattle.node_core.specs.Served.{Served, LineStep, LineEnds, LineDrops, DropStep, WaitsNext, dropped_job, dropped_turn, DoesStep, ConnStep, WorkStep, work_answer, IsKept, seen, refusal, answer_at, place_of_conn, place_of_shard}
 use Rattle.subj.specs.declared.jobs.Job.{Job}
 use Rattle.subj.specs.declared.limits.TheConstants.{WINDOW}
@@ -132,10 +122,10 @@ pub record Decided (X : Type 0) (old new : Served) (e : NodeEvent) (done : X →
 pub lines_same : (lines : List Line) (place : ℕ) (line after : Line) → slice_get lines place ≡ Some line → after ≡ line → set lines place after ≡ lines
 lines_same lines place line after here same = ap (set lines place) same ∙ write_same lines place line here
 
-conn_done : (server : Server) (hub : hub.State) (sessions : sessions.State) (race : RaceState) (lines : List Line) (conn place : ℕ) (event : ConnEvent) (line after : Line) (answer : of_shard.Answer)
-    → IsPlace server (record { hub = hub; sessions = sessions; race = race; lines = lines }) conn place line → event_refusal line (Some (conn_event conn event)) ≡ None → LineStep line (conn_event conn event) answer after
-    → ConnStep (seen server hub sessions race lines) conn event answer (seen server hub sessions race (set lines place after))
-conn_done server hub sessions race lines conn place event line after answer p free does = record {
+conn_done : (side : Side) (race : RaceState) (lines : List Line) (conn place : ℕ) (event : ConnEvent) (line after : Line) (answer : of_shard.Answer)
+    → IsPlace side.server (seen side race lines).node conn place line → event_refusal line (Some (conn_event conn event)) ≡ None → LineStep line (conn_event conn event) answer after
+    → ConnStep (seen side race lines) conn event answer (seen side race (set lines place after))
+conn_done side race lines conn place event line after answer p free does = record {
   step = record {
     race = race;
     server = refl;
@@ -143,69 +133,69 @@ conn_done server hub sessions race lines conn place event line after answer p fr
       cause = ap (conn_refusal event conn) p.is ∙ free;
       moves = refl;
       after =
-          let written : set lines place after ≡ set_line lines (conn_place server conn) (line_after (conn_event conn event)) (conn_line server (record { hub = hub; sessions = sessions; race = race; lines = lines }) conn) = ap (set lines place) does.after ∙ sym (λ k. set_line lines (p.at k) (line_after (conn_event conn event)) (p.is k)) in
-          λ k. record { hub = hub; sessions = sessions; race = race; lines = written k };
+          let written : set lines place after ≡ set_line lines (conn_place side.server conn) (line_after (conn_event conn event)) (conn_line side.server (seen side race lines).node conn) = ap (set lines place) does.after ∙ sym (λ k. set_line lines (p.at k) (line_after (conn_event conn event)) (p.is k)) in
+          λ k. (seen side race (written k)).node;
     };
   };
   answered = ap Some does.answered ∙ sym (ap (answer_at (Some (conn_event conn event))) p.is);
 }
 
-pub conn_call : {X : Type 0} (server : Server) (hub : hub.State) (sessions : sessions.State) (race : RaceState) (lines : List Line) (conn count place : ℕ) (o : Option ℕ) (event : ConnEvent) (line after : Line) (answer : X → of_shard.Answer) (r : Result X (Failure NodeFault))
-    → IsKept (seen server hub sessions race lines) → count ≡ length lines → o ≡ place_of_conn count conn → o ≡ Some place → slice_get lines place ≡ Some line
+pub conn_call : {X : Type 0} (side : Side) (race : RaceState) (lines : List Line) (conn count place : ℕ) (o : Option ℕ) (event : ConnEvent) (line after : Line) (answer : X → of_shard.Answer) (r : Result X (Failure NodeFault))
+    → IsKept (seen side race lines) → count ≡ length lines → o ≡ place_of_conn count conn → o ≡ Some place → slice_get lines place ≡ Some line
     → IsAnswered (event_refusal line (Some (conn_event conn event))) (λ x. LineStep line (conn_event conn event) (answer x) after) (after ≡ line) r
-    → Called X (seen server hub sessions race lines) (seen server hub sessions race (set lines place after)) (Own (OfConn conn event)) (λ x. ConnStep (seen server hub sessions race lines) conn event (answer x) (seen server hub sessions race (set lines place after))) r
-conn_call {X = X} server hub sessions race lines conn count place o event line after answer r kept is_count given some here h = record { keeps = answer_keeps old new (Own (OfConn conn event)) false (λ x. ConnStep old conn event (answer x) new) r kept (λ x d. d.step) (go r h); answers = go r h }
+    → Called X (seen side race lines) (seen side race (set lines place after)) (Own (OfConn conn event)) (λ x. ConnStep (seen side race lines) conn event (answer x) (seen side race (set lines place after))) r
+conn_call {X = X} side race lines conn count place o event line after answer r kept is_count given some here h = record { keeps = answer_keeps old new (Own (OfConn conn event)) false (λ x. ConnStep old conn event (answer x) new) r kept (λ x d. d.step) (go r h); answers = go r h }
   where
     old : Served
-    old = seen server hub sessions race lines
+    old = seen side race lines
 
     new : Served
-    new = seen server hub sessions race (set lines place after)
+    new = seen side race (set lines place after)
 
-    p : IsPlace server old.node conn place line
-    p = conn_found server old.node conn count place o line kept.sound.size is_count given some here
+    p : IsPlace side.server old.node conn place line
+    p = conn_found side.server old.node conn count place o line kept.sound.size is_count given some here
 
     cause : (c : Option NodeFault) → event_refusal line (Some (conn_event conn event)) ≡ c → refusal old (Own (OfConn conn event)) ≡ c
     cause c e = ap (conn_refusal event conn) p.is ∙ e
 
     same : after ≡ line → new ≡ old
-    same e = ap (seen server hub sessions race) (lines_same lines place line after here e)
+    same e = ap (seen side race) (lines_same lines place line after here e)
 
     go : (r : Result X (Failure NodeFault)) → IsAnswered (event_refusal line (Some (conn_event conn event))) (λ x. LineStep line (conn_event conn event) (answer x) after) (after ≡ line) r → IsAnswered (refusal old (Own (OfConn conn event))) (λ x. ConnStep old conn event (answer x) new) (new ≡ old) r
-    go (Ok x) g = (cause None g.0, conn_done server hub sessions race lines conn place event line after (answer x) p g.0 g.1)
+    go (Ok x) g = (cause None g.0, conn_done side race lines conn place event line after (answer x) p g.0 g.1)
     go (Err (Refused why)) g = (cause (Some why) g.0, same g.1)
     go (Err OutOfMemory) g = (cause None g.0, same g.1)
 
-pub conn_decision : {X : Type 0} (server : Server) (hub : hub.State) (sessions : sessions.State) (race : RaceState) (lines : List Line) (conn count place : ℕ) (o : Option ℕ) (event : ConnEvent) (line after : Line) (answer : X → of_shard.Answer) (r : Result X NodeFault)
-    → IsKept (seen server hub sessions race lines) → count ≡ length lines → o ≡ place_of_conn count conn → o ≡ Some place → slice_get lines place ≡ Some line
+pub conn_decision : {X : Type 0} (side : Side) (race : RaceState) (lines : List Line) (conn count place : ℕ) (o : Option ℕ) (event : ConnEvent) (line after : Line) (answer : X → of_shard.Answer) (r : Result X NodeFault)
+    → IsKept (seen side race lines) → count ≡ length lines → o ≡ place_of_conn count conn → o ≡ Some place → slice_get lines place ≡ Some line
     → IsDecided (event_refusal line (Some (conn_event conn event))) (λ x. LineStep line (conn_event conn event) (answer x) after) (after ≡ line) r
-    → Decided X (seen server hub sessions race lines) (seen server hub sessions race (set lines place after)) (Own (OfConn conn event)) (λ x. ConnStep (seen server hub sessions race lines) conn event (answer x) (seen server hub sessions race (set lines place after))) r
-conn_decision {X = X} server hub sessions race lines conn count place o event line after answer r kept is_count given some here h = record { keeps = decision_keeps old new (Own (OfConn conn event)) false (λ x. ConnStep old conn event (answer x) new) r kept (λ x d. d.step) (go r h); answers = go r h }
+    → Decided X (seen side race lines) (seen side race (set lines place after)) (Own (OfConn conn event)) (λ x. ConnStep (seen side race lines) conn event (answer x) (seen side race (set lines place after))) r
+conn_decision {X = X} side race lines conn count place o event line after answer r kept is_count given some here h = record { keeps = decision_keeps old new (Own (OfConn conn event)) false (λ x. ConnStep old conn event (answer x) new) r kept (λ x d. d.step) (go r h); answers = go r h }
   where
     old : Served
-    old = seen server hub sessions race lines
+    old = seen side race lines
 
     new : Served
-    new = seen server hub sessions race (set lines place after)
+    new = seen side race (set lines place after)
 
-    p : IsPlace server old.node conn place line
-    p = conn_found server old.node conn count place o line kept.sound.size is_count given some here
+    p : IsPlace side.server old.node conn place line
+    p = conn_found side.server old.node conn count place o line kept.sound.size is_count given some here
 
     cause : (c : Option NodeFault) → event_refusal line (Some (conn_event conn event)) ≡ c → refusal old (Own (OfConn conn event)) ≡ c
     cause c e = ap (conn_refusal event conn) p.is ∙ e
 
     go : (r : Result X NodeFault) → IsDecided (event_refusal line (Some (conn_event conn event))) (λ x. LineStep line (conn_event conn event) (answer x) after) (after ≡ line) r → IsDecided (refusal old (Own (OfConn conn event))) (λ x. ConnStep old conn event (answer x) new) (new ≡ old) r
-    go (Ok x) g = (cause None g.0, conn_done server hub sessions race lines conn place event line after (answer x) p g.0 g.1)
-    go (Err why) g = (cause (Some why) g.0, ap (seen server hub sessions race) (lines_same lines place line after here g.1))
+    go (Ok x) g = (cause None g.0, conn_done side race lines conn place event line after (answer x) p g.0 g.1)
+    go (Err why) g = (cause (Some why) g.0, ap (seen side race) (lines_same lines place line after here g.1))
 
 -- ---- shards
 
 -- the step of a shard's work, with the race after it
-pub work_done : (server : Server) (hub : hub.State) (sessions : sessions.State) (race new_race : RaceState) (lines : List Line) (shard place : ℕ) (work : ShardWork) (won : Bool) (line after : Line)
-    → IsShard (record { hub = hub; sessions = sessions; race = race; lines = lines }) shard place line → event_refusal line (work_event work false line) ≡ None → after ≡ line_after_if (work_event work won line) line → WorkRace race shard work (Some line) won new_race
-    → DoesStep (seen server hub sessions race lines) (Own (AtShard shard work)) won (seen server hub sessions new_race (set lines place after))
-work_done server hub sessions race new_race lines shard place work won line after p free does moves =
-    let a : Node = record { hub = hub; sessions = sessions; race = race; lines = lines } in
+pub work_done : (side : Side) (race new_race : RaceState) (lines : List Line) (shard place : ℕ) (work : ShardWork) (won : Bool) (line after : Line)
+    → IsShard (seen side race lines).node shard place line → event_refusal line (work_event work false line) ≡ None → after ≡ line_after_if (work_event work won line) line → WorkRace race shard work (Some line) won new_race
+    → DoesStep (seen side race lines) (Own (AtShard shard work)) won (seen side new_race (set lines place after))
+work_done side race new_race lines shard place work won line after p free does moves =
+    let a : Node = (seen side race lines).node in
     record {
       race = new_race;
       server = refl;
@@ -214,24 +204,24 @@ work_done server hub sessions race new_race lines shard place work won line afte
         moves = subst (λ o. WorkRace race shard work o won new_race) (sym p.is) moves;
         after =
             let written : set lines place after ≡ set_line lines (shard - 1) (λ line. line_after_if (work_event work won line) line) (shard_line a shard) = ap (set lines place) does ∙ sym (λ k. set_line lines (p.at k) (λ line. line_after_if (work_event work won line) line) (p.is k)) in
-            λ k. record { hub = hub; sessions = sessions; race = new_race; lines = written k };
+            λ k. (seen side new_race (written k)).node;
       };
     }
 
 -- of work that moves no race
-pub work_call : {X : Type 0} (server : Server) (hub : hub.State) (sessions : sessions.State) (race : RaceState) (lines : List Line) (shard count place : ℕ) (o : Option ℕ) (work : ShardWork) (line after : Line) (done : X → Type 0) (fact : X → Type 0) (r : Result X (Failure NodeFault))
-    → IsKept (seen server hub sessions race lines) → count ≡ length lines → o ≡ place_of_shard count shard → o ≡ Some place → slice_get lines place ≡ Some line
+pub work_call : {X : Type 0} (side : Side) (race : RaceState) (lines : List Line) (shard count place : ℕ) (o : Option ℕ) (work : ShardWork) (line after : Line) (done : X → Type 0) (fact : X → Type 0) (r : Result X (Failure NodeFault))
+    → IsKept (seen side race lines) → count ≡ length lines → o ≡ place_of_shard count shard → o ≡ Some place → slice_get lines place ≡ Some line
     → WorkRace race shard work (Some line) false race → ((x : X) → done x → after ≡ line_after_if (work_event work false line) line)
-    → (shard_line (record { hub = hub; sessions = sessions; race = race; lines = lines }) shard ≡ Some line → (x : X) → done x → fact x)
+    → (shard_line (seen side race lines).node shard ≡ Some line → (x : X) → done x → fact x)
     → IsAnswered (event_refusal line (work_event work false line)) done (after ≡ line) r
-    → Called X (seen server hub sessions race lines) (seen server hub sessions race (set lines place after)) (Own (AtShard shard work)) (λ x. DoesStep (seen server hub sessions race lines) (Own (AtShard shard work)) false (seen server hub sessions race (set lines place after)) × fact x) r
-work_call {X = X} server hub sessions race lines shard count place o work line after done fact r kept is_count given some here moves does told h = record { keeps = answer_keeps old new (Own (AtShard shard work)) false (λ x. DoesStep old (Own (AtShard shard work)) false new × fact x) r kept (λ x d. d.0) (go r h); answers = go r h }
+    → Called X (seen side race lines) (seen side race (set lines place after)) (Own (AtShard shard work)) (λ x. DoesStep (seen side race lines) (Own (AtShard shard work)) false (seen side race (set lines place after)) × fact x) r
+work_call {X = X} side race lines shard count place o work line after done fact r kept is_count given some here moves does told h = record { keeps = answer_keeps old new (Own (AtShard shard work)) false (λ x. DoesStep old (Own (AtShard shard work)) false new × fact x) r kept (λ x d. d.0) (go r h); answers = go r h }
   where
     old : Served
-    old = seen server hub sessions race lines
+    old = seen side race lines
 
     new : Served
-    new = seen server hub sessions race (set lines place after)
+    new = seen side race (set lines place after)
 
     p : IsShard old.node shard place line
     p = shard_found old.node shard count place o line is_count given some here
@@ -240,10 +230,10 @@ work_call {X = X} server hub sessions race lines shard count place o work line a
     cause c e = ap (work_refusal work) p.is ∙ e
 
     same : after ≡ line → new ≡ old
-    same e = ap (seen server hub sessions race) (lines_same lines place line after here e)
+    same e = ap (seen side race) (lines_same lines place line after here e)
 
     go : (r : Result X (Failure NodeFault)) → IsAnswered (event_refusal line (work_event work false line)) done (after ≡ line) r → IsAnswered (refusal old (Own (AtShard shard work))) (λ x. DoesStep old (Own (AtShard shard work)) false new × fact x) (new ≡ old) r
-    go (Ok x) g = (cause None g.0, (work_done server hub sessions race race lines shard place work false line after p g.0 (does x g.1) moves, told p.is x g.1))
+    go (Ok x) g = (cause None g.0, (work_done side race race lines shard place work false line after p g.0 (does x g.1) moves, told p.is x g.1))
     go (Err (Refused why)) g = (cause (Some why) g.0, same g.1)
     go (Err OutOfMemory) g = (cause None g.0, same g.1)
 
@@ -252,58 +242,6 @@ pub reworded : {X : Type 0} (cause : Option NodeFault) (same : Type 0) (done fac
 reworded cause same done fact (Ok x) f h = (h.0, f x h.1)
 reworded cause same done fact (Err (Refused why)) f h = h
 reworded cause same done fact (Err OutOfMemory) f h = h
-
--- ---- the hub and the sessions
-
-pub record Kept (sessions_server hub_server : Server) (s : Served) : Type 0 where
-  pub same : sessions_server ≡ hub_server
-  pub keeps : IsKept s
-
-left_hub : (given : Server) (old new : Hub) (sessions : sessions.State) (race : RaceState) (lines : List Line) → given ≡ old.server → IsKept (seen old.server old.state sessions race lines) → new ≡ old → Kept given new.server (seen new.server new.state sessions race lines)
-left_hub given old new sessions race lines same kept e = subst (λ (t : Hub). Kept given t.server (seen t.server t.state sessions race lines)) (sym e) (record { same = same; keeps = kept })
-
-abbrev cut_peer : of_session.Answer → Option ℕ
-cut_peer (of_session.Dialed session) = None
-cut_peer (of_session.Accepted session info) = None
-cut_peer (of_session.KeptAfterInfo instead_of connect) = None
-cut_peer (of_session.Kept instead_of) = None
-cut_peer (of_session.WasCut peer) = peer
-
-pub frames_keep : {X : Type 0} (given : Server) (old new : Hub) (sessions : sessions.State) (race : RaceState) (lines : List Line) (q count : ℕ) (frames : X → List Frame) (r : Result X (Failure HubFault))
-    → given ≡ old.server → IsKept (seen old.server old.state sessions race lines) → IsAnswered (hubs.refusal old (of_hub.TakeFrom q count)) (λ x. hubs.IsStep old (of_hub.TakeFrom q count) (of_hub.Taken (frames x)) new) (new ≡ old) r
-    → Kept given new.server (seen new.server new.state sessions race lines)
-frames_keep given old new sessions race lines q count frames (Ok x) same kept h = record {
-  same = same ∙ sym (ap (λ (t : Hub). t.server) h.1.after);
-  keeps = step_keeps (seen old.server old.state sessions race lines) (Own (TakeFrames q count)) false (seen new.server new.state sessions race lines) kept (record {
-    race = race;
-    server = ap (λ (t : Hub). t.server) h.1.after;
-    step = record {
-      cause = ap (option_map hub_fault.Hub) h.0;
-      moves = refl;
-      after = λ k. record { hub = (h.1.after k).state; sessions = sessions; race = race; lines = lines };
-    };
-  });
-}
-frames_keep given old new sessions race lines q count frames (Err (Refused why)) same kept h = left_hub given old new sessions race lines same kept h.1
-frames_keep given old new sessions race lines q count frames (Err OutOfMemory) same kept h = left_hub given old new sessions race lines same kept h.1
-
-pub cut_keeps : (old_sessions new_sessions : calls.Served) (old new : Hub) (race : RaceState) (lines : List Line) (session q : ℕ) (o : Option ℕ)
-    → o ≡ Some q → old_sessions.server ≡ old.server → IsKept (seen old.server old.state old_sessions.state race lines) → calls.refusal old_sessions (of_session.Cut session) ≡ None → calls.IsStep old_sessions (of_session.Cut session) (of_session.WasCut o) new_sessions
-    → new ≡ hubs.after old (of_hub.Cut q) → Kept new_sessions.server new.server (seen new.server new.state new_sessions.state race lines)
-cut_keeps old_sessions new_sessions old new race lines session q o is same kept free ended cut = record {
-  same = ap (λ (t : calls.Served). t.server) ended.after ∙ same ∙ sym (ap (λ (t : Hub). t.server) cut);
-  keeps = step_keeps (seen old.server old.state old_sessions.state race lines) (Own (CutSession session)) false (seen new.server new.state new_sessions.state race lines) kept (record {
-    race = race;
-    server = ap (λ (t : Hub). t.server) cut;
-    step = record {
-      cause = ap (option_map hub_fault.Session) free;
-      moves = refl;
-      after =
-          let hub_is : new.state ≡ cut_if old.state (peer_of_session session old_sessions.state.standing) = ap (λ (t : Hub). t.state) cut ∙ ap (cut_if old.state) (sym is ∙ ap cut_peer ended.answered) in
-          λ k. record { hub = hub_is k; sessions = (ended.after k).state; race = race; lines = lines };
-    };
-  });
-}
 
 -- ---- a turn is finished
 
@@ -344,11 +282,11 @@ held_turn s shard place turn line kept p held = go line.shard.hand refl held
         let at = finished in
         (omega arith, record { first = p.first; last = omega arith; behind = omega arith; issued = omega arith })
 
-pub end_done : (server : Server) (hub : hub.State) (sessions : sessions.State) (race new_race : RaceState) (lines : List Line) (shard place turn : ℕ) (line after : Line)
-    → IsKept (seen server hub sessions race lines) → IsShard (record { hub = hub; sessions = sessions; race = race; lines = lines }) shard place line → event_refusal line (Some of_shard.End) ≡ None → LineEnds line turn after → IsFinished race shard turn new_race
-    → WorkStep (seen server hub sessions race lines) shard End false of_shard.Finished (seen server hub sessions new_race (set lines place after))
-end_done server hub sessions race new_race lines shard place turn line after kept p free ends over = record {
-  step = work_done server hub sessions race new_race lines shard place End false line after p free ends.after (subst (λ t. IsFinished race shard t new_race) (held_turn (seen server hub sessions race lines) shard place turn line kept p ends.held).0 over);
+pub end_done : (side : Side) (race new_race : RaceState) (lines : List Line) (shard place turn : ℕ) (line after : Line)
+    → IsKept (seen side race lines) → IsShard (seen side race lines).node shard place line → event_refusal line (Some of_shard.End) ≡ None → LineEnds line turn after → IsFinished race shard turn new_race
+    → WorkStep (seen side race lines) shard End false of_shard.Finished (seen side new_race (set lines place after))
+end_done side race new_race lines shard place turn line after kept p free ends over = record {
+  step = work_done side race new_race lines shard place End false line after p free ends.after (subst (λ t. IsFinished race shard t new_race) (held_turn (seen side race lines) shard place turn line kept p ends.held).0 over);
   answered = sym (ap (work_answer End false) p.is);
 }
 
@@ -386,10 +324,10 @@ waits_next s shard place line kept p job free first =
     let next = next_turn line.shard line.waiting s.node.race.issued job (kept.sound.lines place line here).sound.turns free first in
     omega arith
 
-pub drop_done : (server : Server) (hub : hub.State) (sessions : sessions.State) (race new_race : RaceState) (lines : List Line) (shard place turn : ℕ) (line after : Line)
-    → IsKept (seen server hub sessions race lines) → IsShard (record { hub = hub; sessions = sessions; race = race; lines = lines }) shard place line → event_refusal line (work_event DropJob false line) ≡ None → LineDrops line turn after → IsFinished race shard turn new_race
-    → DropStep (seen server hub sessions race lines) shard turn (seen server hub sessions new_race (set lines place after))
-drop_done server hub sessions race new_race lines shard place turn line after kept p free drops over = record {
-  step = work_done server hub sessions race new_race lines shard place DropJob false line after p free drops.after (subst (λ t. IsFinished race shard t new_race) (dropped_held (seen server hub sessions race lines) shard place turn line kept p drops.held).0 over);
+pub drop_done : (side : Side) (race new_race : RaceState) (lines : List Line) (shard place turn : ℕ) (line after : Line)
+    → IsKept (seen side race lines) → IsShard (seen side race lines).node shard place line → event_refusal line (work_event DropJob false line) ≡ None → LineDrops line turn after → IsFinished race shard turn new_race
+    → DropStep (seen side race lines) shard turn (seen side new_race (set lines place after))
+drop_done side race new_race lines shard place turn line after kept p free drops over = record {
+  step = work_done side race new_race lines shard place DropJob false line after p free drops.after (subst (λ t. IsFinished race shard t new_race) (dropped_held (seen side race lines) shard place turn line kept p drops.held).0 over);
   answered = ap dropped_turn p.is ∙ drops.held;
 }

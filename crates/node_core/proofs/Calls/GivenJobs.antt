@@ -1,5 +1,5 @@
 -- A job for each shard: the hub hears how far the shards have come, the next turn may be issued, and there is room.
-use Rattle.std.proofs.Common.{◌≡◌, ℕ, suc, ◌+◌, ◌<◌, ◌≤◌, false, nat_lt, nat_le, ◌||◌, List, [], ◌∷◌, length, map, replicate, take, Option, Some, None, Result, Ok, Err, sym, ap, ◌∙◌, subst, arith}
+use Rattle.std.proofs.Common.{◌≡◌, ℕ, suc, ◌+◌, ◌<◌, ◌≤◌, false, nat_lt, nat_le, ◌||◌, List, [], ◌∷◌, length, map, replicate, take, Option, Some, None, Result, Err, sym, ap, ◌∙◌, subst, arith}
 use Rattle.std.specs.Prelude.{if◌then◌else◌}
 use Rattle.std.specs.Option.{option_map, option_or}
 use Rattle.std.proofs.lemmas.List.{take_all}
@@ -14,10 +14,8 @@ use Rattle.subj.specs.declared.limits.TheConstants.{MAX_COUNTER, MAX_QUEUE_NAMES
 use Rattle.claim_race.specs.Race.{RaceState, busy_of, shards_of}
 use Rattle.route_values.specs.Frames.{Frame}
 use Rattle.hub_core.specs.State as hub
-use Rattle.hub_core.specs.Hubs.{Hub as HubValue}
 use Rattle.hub_core.specs.Chosen.{IsPlanOf}
 use Rattle.hub_core.specs.Calls.{put_out}
-use Rattle.route_session.specs.State as sessions
 use Rattle.hub_core.specs.declared.faults.HubFault.{HubFault}
 use Rattle.hub_core.specs.declared.faults.HubFault.TheVariants.{Busy, Spent, TooManyQueues}
 use Rattle.hub_core.specs.Publishing.{Publication, busy_fault, names_of, publish_fault, publish_refusal, published, own_job, frames_of}
@@ -28,23 +26,14 @@ use Rattle.node_law.specs.declared.faults.NodeFault.{NodeFault}
 use Rattle.node_law.specs.declared.faults.NodeFault.TheVariants.{Hub}
 use Rattle.node_law.specs.State.{Line, finished_turns}
 use Rattle.node_law.specs.Answers.{Issued}
-use Rattle.node_law.specs.Events.{Own, Publish}
 use Rattle.node_law.specs.Steps.{queued}
-use Rattle.node_core.specs.Served.{Served, IsKept, MayIssue, AreGiven, PublishStep, of_hub_answer, failure_of_hub, seen}
-use Rattle.node_core.proofs.Calls.Composed.{Kept, step_keeps}
+use Rattle.node_parts.specs.Sides.{Side}
+use Rattle.node_core.specs.Served.{Served, IsKept, MayIssue, AreGiven, PublishStep, failure_of_hub, seen}
 use Rattle.node_law.proofs.Moves.Hubs.{all_room}
 
 -- ---- what the hub answers
 
-pub hub_answers : {X : Type 0} (cause : Option HubFault) (done : X → Type 0) (same : Type 0) (r : Result X (Failure HubFault)) (told : Result X (Failure NodeFault)) → told ≡ of_hub_answer r → IsAnswered cause done same r → IsAnswered (option_map Hub cause) done same told
-hub_answers {X = X} cause done same r told answers h = subst (IsAnswered (option_map Hub cause) done same) (sym answers) (go r h)
-  where
-    go : (r : Result X (Failure HubFault)) → IsAnswered cause done same r → IsAnswered (option_map Hub cause) done same (of_hub_answer r)
-    go (Ok x) h = (ap (option_map Hub) h.0, h.1)
-    go (Err (Refused why)) h = (ap (option_map Hub) h.0, h.1)
-    go (Err OutOfMemory) h = (ap (option_map Hub) h.0, h.1)
-
--- so where it refuses, for an answer of another type
+-- where the hub refuses, for an answer of another type
 pub hub_refuses : {X : Type 0} (cause : Option HubFault) (done : X → Type 0) (same : Type 0) (why : Failure HubFault) (told : Result X (Failure NodeFault)) → told ≡ Err (failure_of_hub why) → IsRefused cause same why → IsAnswered (option_map Hub cause) done same told
 hub_refuses {X = X} cause done same why told answers h = subst (IsAnswered (option_map Hub cause) done same) (sym answers) (go why h)
   where
@@ -139,43 +128,34 @@ given_length race new_race lines new_lines jobs job given alike = ap length (giv
 -- ---- what is done
 
 -- what a publication owes, with the jobs that the lines got
-pub record IsPublished (old new : HubValue) (race new_race : RaceState) (lines new_lines : List Line) (p : Publication) (turn frames : ℕ) : Type 0 where
+pub record IsPublished (old new : Side) (race new_race : RaceState) (lines new_lines : List Line) (p : Publication) (turn frames : ℕ) : Type 0 where
   pub job : Job
   pub sent : List Frame
   pub jobs : List Job
-  pub plan : IsPlanOf old.server old.state p job sent
+  pub plan : IsPlanOf old.server old.hub p job sent
   pub turn_is : turn ≡ job.turn
   pub frames_are : frames ≡ length sent
-  pub hub : new ≡ record old { state = put_out old.server old.state sent }
+  pub side : new ≡ record old { hub = put_out old.server old.hub sent }
   pub alike : jobs ≡ replicate (length lines) job
   pub given : AreGiven race lines jobs new_race new_lines
 
-pub publish_done : (sessions : sessions.State) (old new : HubValue) (race new_race : RaceState) (lines new_lines : List Line) (p : Publication) (turn frames : ℕ)
-    → publish_refusal old.server old.state p (finished_turns lines) ≡ None → IsPublished old new race new_race lines new_lines p turn frames
-    → PublishStep (seen old.server old.state sessions race lines) p turn frames (seen new.server new.state sessions new_race new_lines)
-publish_done sessions old new race new_race lines new_lines p turn frames cause done = record {
+pub publish_done : (old new : Side) (race new_race : RaceState) (lines new_lines : List Line) (p : Publication) (turn frames : ℕ) → publish_refusal old.server old.hub p (finished_turns lines) ≡ None → IsPublished old new race new_race lines new_lines p turn frames
+    → PublishStep (seen old race lines) p turn frames (seen new new_race new_lines)
+publish_done old new race new_race lines new_lines p turn frames cause done = record {
   step = record {
     race = new_race;
-    server = ap (λ (t : HubValue). t.server) done.hub;
+    server = ap (λ (s : Side). s.server) done.side;
     step = record {
       cause = ap (option_map Hub) cause;
       moves = done.given.issued;
       after =
-          let hub_is : new.state ≡ published old.server old.state p = ap (λ (t : HubValue). t.state) done.hub ∙ ap (put_out old.server old.state) done.plan.frames in
-          let lines_are : new_lines ≡ map (queued (own_job old.server old.state p)) lines = done.given.given done.job done.alike ∙ ap (λ (job : Job). map (queued job) lines) done.plan.job in
-          λ k. record { hub = hub_is k; sessions = sessions; race = new_race; lines = lines_are k };
+          let side_is : new ≡ record old { hub = published old.server old.hub p } = done.side ∙ ap (λ fs. record old { hub = put_out old.server old.hub fs }) done.plan.frames in
+          let lines_are : new_lines ≡ map (queued (own_job old.server old.hub p)) lines = done.given.given done.job done.alike ∙ ap (λ (job : Job). map (queued job) lines) done.plan.job in
+          λ k. (seen (side_is k) new_race (lines_are k)).node;
     };
   };
   answered =
-      let turn_is : turn ≡ (own_job old.server old.state p).turn = done.turn_is ∙ ap (λ (job : Job). job.turn) done.plan.job in
-      let frames_are : frames ≡ length (frames_of old.server old.state p) = done.frames_are ∙ ap length done.plan.frames in
+      let turn_is : turn ≡ (own_job old.server old.hub p).turn = done.turn_is ∙ ap (λ (job : Job). job.turn) done.plan.job in
+      let frames_are : frames ≡ length (frames_of old.server old.hub p) = done.frames_are ∙ ap length done.plan.frames in
       λ k. Issued (turn_is k) (frames_are k);
-}
-
-pub publish_kept : (given : Server) (sessions : sessions.State) (old new : HubValue) (race new_race : RaceState) (lines new_lines : List Line) (p : Publication) (turn frames : ℕ)
-    → given ≡ old.server → IsKept (seen old.server old.state sessions race lines) → PublishStep (seen old.server old.state sessions race lines) p turn frames (seen new.server new.state sessions new_race new_lines)
-    → Kept given new.server (seen new.server new.state sessions new_race new_lines)
-publish_kept given sessions old new race new_race lines new_lines p turn frames same kept does = record {
-  same = same ∙ sym does.step.server;
-  keeps = step_keeps (seen old.server old.state sessions race lines) (Own (Publish p)) false (seen new.server new.state sessions new_race new_lines) kept does.step;
 }

@@ -7,7 +7,7 @@ use Rattle.std.proofs.lemmas.List.{length-replicate}
 use Rattle.std.proofs.lemmas.Option.{none-some, same_Some}
 use Rattle.list_laws.proofs.Tests.{no_cause, le_false}
 use Rattle.subj.specs.Messages.{Content}
-use Rattle.subj.specs.Servers.{Server, own_name, place, is_peer}
+use Rattle.subj.specs.Servers.{Server, own_name}
 use Rattle.subj.specs.declared.jobs.Job.{Job}
 use Rattle.subj.specs.declared.limits.TheConstants.{MAX_COUNTER}
 use Rattle.claim_race.specs.Race.{RaceState}
@@ -15,9 +15,7 @@ use Rattle.route_values.specs.Frames.{Frame}
 use Rattle.route_values.specs.declared.bodies.Body.{Body}
 use Rattle.route_values.specs.declared.bodies.Body.TheVariants.{Plus, Minus, Snapshot, Msg}
 use Rattle.hub_core.specs.State as hub
-use Rattle.hub_core.specs.State.{Peer, known, peer_of, seen_of}
-use Rattle.hub_core.specs.Hubs as hubs
-use Rattle.hub_core.specs.Hubs.{Hub}
+use Rattle.hub_core.specs.State.{Peer, known, peer_of}
 use Rattle.hub_core.specs.Events as of_hub
 use Rattle.hub_core.specs.Steps.{received_answer}
 use Rattle.hub_core.specs.declared.faults.HubFault.TheVariants as fault
@@ -26,16 +24,15 @@ use Rattle.hub_core.specs.Calls.{job_of}
 use Rattle.hub_core.specs.Receiving.{has_message, body_fault, origin_fault, receive_refusal, routed_job}
 use Rattle.hub_core.proofs.Steps.Receives.{from_peer}
 use Rattle.hub_core.proofs.Steps.Rooms.{or_none}
-use Rattle.route_session.specs.Calls as calls
 use Rattle.node_law.specs.declared.faults.NodeFault.TheVariants as node_fault
+use Rattle.node_parts.specs.Sides.{Side, ByHub, side_after}
 use Rattle.node_parts.specs.declared.told.Received.{Received}
 use Rattle.node_parts.specs.declared.told.Received.TheVariants.{Routed, Heard}
 use Rattle.node_law.specs.Answers.{told_of_hub}
 use Rattle.node_law.specs.Events.{Receive}
 use Rattle.node_law.specs.State.{Line, Node, finished_turns}
 use Rattle.node_law.specs.Steps.{BodyRace, lines_after_body}
-use Rattle.node_core.specs.Served.{Served, IsKept, MayIssue, MayRoute, AreRouted, IsReceived, ReceiveStep, session_after_frame, told_of_received, seen}
-use Rattle.node_core.proofs.Calls.Composed.{Kept, step_keeps}
+use Rattle.node_core.specs.Served.{Served, IsKept, MayIssue, MayRoute, AreRouted, IsReceived, ReceiveStep, told_of_received, seen}
 use Rattle.node_core.proofs.Calls.GivenJobs.{are_counted, busy_same, may_issue, given_length}
 
 -- which turns are finished matters only by who is a window behind
@@ -78,9 +75,6 @@ may_route s frame received jobs kept cause is = go frame.body refl is
     go (Snapshot keys) e h = tt
     go (Msg content queues) e h = (message_ready s frame content queues kept cause e, ap length h.1 ∙ length-replicate (length s.node.lines) (routed_job s.node.hub frame content queues))
 
-pub is_of_peer : (s : Served) (frame : Frame) → IsKept s → receive_refusal s.server s.node.hub (finished_turns s.node.lines) frame ≡ None → is_peer s.server (place s.server frame.from) ≡ true
-is_of_peer s frame kept cause = (from_peer s.server kept.listed s.node.hub (finished_turns s.node.lines) frame cause).is
-
 -- there are as many lines as before
 pub routed_length : (hub : hub.State) (race new_race : RaceState) (lines new_lines : List Line) (frame : Frame) (received : Received) (jobs : List Job) → IsReceived hub frame frame.body (length lines) received jobs → AreRouted (has_message frame.body) race lines jobs new_race new_lines → length new_lines ≡ length lines
 routed_length hub race new_race lines new_lines frame received jobs is routed = go frame.body is routed
@@ -93,34 +87,29 @@ routed_length hub race new_race lines new_lines frame received jobs is routed = 
 
 -- ---- what is done
 
--- a received frame, what was routed of it, and the sessions after it
-pub record IsDone (old_sessions new_sessions : calls.Served) (old new : Hub) (race new_race : RaceState) (lines new_lines : List Line) (frame : Frame) (received : Received) (jobs : List Job) : Type 0 where
+-- a received frame, and what was routed of it
+pub record IsRouted (old new : Side) (race new_race : RaceState) (lines new_lines : List Line) (frame : Frame) (received : Received) (jobs : List Job) : Type 0 where
   pub finished : List ℕ
-  pub seen_before : ℕ
-  pub hub : new ≡ hubs.after old (of_hub.Receive frame finished)
-  pub received_is : IsReceived old.state frame frame.body (length lines) received jobs
+  pub side : new ≡ side_after old (ByHub (of_hub.Receive frame finished))
+  pub received_is : IsReceived old.hub frame frame.body (length lines) received jobs
   pub routed : AreRouted (has_message frame.body) race lines jobs new_race new_lines
-  pub seen_is : seen_before ≡ seen_of (peer_of old.server old.state frame.from)
-  pub sessions : new_sessions ≡ record { server = old_sessions.server; state = session_after_frame (place old_sessions.server frame.from) seen_before frame.inc old_sessions.state }
 
-pub receive_done : (old_sessions new_sessions : calls.Served) (old new : Hub) (race new_race : RaceState) (lines new_lines : List Line) (frame : Frame) (received : Received) (jobs : List Job)
-    → old_sessions.server ≡ old.server → IsKept (seen old.server old.state old_sessions.state race lines) → receive_refusal old.server old.state (finished_turns lines) frame ≡ None
-    → IsDone old_sessions new_sessions old new race new_race lines new_lines frame received jobs
-    → ReceiveStep (seen old.server old.state old_sessions.state race lines) frame received (seen new.server new.state new_sessions.state new_race new_lines)
-receive_done old_sessions new_sessions old new race new_race lines new_lines frame received jobs same kept cause done = record {
+pub receive_done : (old new : Side) (race new_race : RaceState) (lines new_lines : List Line) (frame : Frame) (received : Received) (jobs : List Job) → receive_refusal old.server old.hub (finished_turns lines) frame ≡ None
+    → IsRouted old new race new_race lines new_lines frame received jobs → ReceiveStep (seen old race lines) frame received (seen new new_race new_lines)
+receive_done old new race new_race lines new_lines frame received jobs cause done = record {
   step = record {
     race = new_race;
-    server = ap (λ (t : Hub). t.server) done.hub;
+    server = ap (λ (s : Side). s.server) done.side;
     step = record {
       cause = ap (option_map node_fault.Hub) cause;
       moves = moves frame.body done.routed;
-      after = λ k. record { hub = (done.hub k).state; sessions = sessions_are k; race = new_race; lines = lines_are frame.body done.received_is done.routed k };
+      after = λ k. (seen (done.side k) new_race (lines_are frame.body done.received_is done.routed k)).node;
     };
   };
   answered = answers frame.body done.received_is;
 } where
   a : Node
-  a = record { hub = old.state; sessions = old_sessions.state; race = race; lines = lines }
+  a = (seen old race lines).node
 
   moves : (b : Body) → AreRouted (has_message b) race lines jobs new_race new_lines → BodyRace a b new_race
   moves (Plus weighted) r = r.0
@@ -128,27 +117,14 @@ receive_done old_sessions new_sessions old new race new_race lines new_lines fra
   moves (Snapshot keys) r = r.0
   moves (Msg content queues) r = r.issued
 
-  lines_are : (b : Body) → IsReceived old.state frame b (length lines) received jobs → AreRouted (has_message b) race lines jobs new_race new_lines → new_lines ≡ lines_after_body a frame b
+  lines_are : (b : Body) → IsReceived old.hub frame b (length lines) received jobs → AreRouted (has_message b) race lines jobs new_race new_lines → new_lines ≡ lines_after_body a frame b
   lines_are (Plus weighted) h r = r.1
   lines_are (Minus key) h r = r.1
   lines_are (Snapshot keys) h r = r.1
-  lines_are (Msg content queues) h r = r.given (routed_job old.state frame content queues) h.1
+  lines_are (Msg content queues) h r = r.given (routed_job old.hub frame content queues) h.1
 
-  answers : (b : Body) → IsReceived old.state frame b (length lines) received jobs → told_of_received received ≡ told_of_hub (received_answer old.state frame b)
+  answers : (b : Body) → IsReceived old.hub frame b (length lines) received jobs → told_of_received received ≡ told_of_hub (received_answer old.hub frame b)
   answers (Plus weighted) h = ap told_of_received h
   answers (Minus key) h = ap told_of_received h
   answers (Snapshot keys) h = ap told_of_received h
   answers (Msg content queues) h = ap told_of_received h.0
-
-  sessions_are : new_sessions.state ≡ session_after_frame (place old.server frame.from) (seen_of (peer_of old.server old.state frame.from)) frame.inc old_sessions.state
-  sessions_are = ap (λ (t : calls.Served). t.state) done.sessions ∙ (λ k. session_after_frame (place (same k) frame.from) (done.seen_is k) frame.inc old_sessions.state)
-
-pub receive_kept : (old_sessions new_sessions : calls.Served) (old new : Hub) (race new_race : RaceState) (lines new_lines : List Line) (frame : Frame) (received : Received) (jobs : List Job)
-    → old_sessions.server ≡ old.server → IsKept (seen old.server old.state old_sessions.state race lines)
-    → IsDone old_sessions new_sessions old new race new_race lines new_lines frame received jobs
-    → ReceiveStep (seen old.server old.state old_sessions.state race lines) frame received (seen new.server new.state new_sessions.state new_race new_lines)
-    → Kept new_sessions.server new.server (seen new.server new.state new_sessions.state new_race new_lines)
-receive_kept old_sessions new_sessions old new race new_race lines new_lines frame received jobs same kept done does = record {
-  same = ap (λ (t : calls.Served). t.server) done.sessions ∙ same ∙ sym (ap (λ (t : Hub). t.server) done.hub);
-  keeps = step_keeps (seen old.server old.state old_sessions.state race lines) (Receive frame) false (seen new.server new.state new_sessions.state new_race new_lines) kept does.step;
-}

@@ -20,7 +20,6 @@ use Rattle.node_core.specs.Outcome.{Outcome, Answers, Does}
 use Rattle.node_core.specs.Served.{Served, AcceptStep, InfoStep, ConnectStep}
 use Rattle.node_law.specs.Steps.{node_frames, seen_name}
 use Rattle.node_core.proofs.Outcomes.Answered.{accept_answers, info_answers, connect_answers}
-use Rattle.node_parts.proofs.Greeting.{peer_is}
 use Rattle.node_law.proofs.Moves.HubEvents.{info_greets, connect_greets}
 use Rattle.node_core.proofs.Outcomes.Told.{alone_does}
 
@@ -49,9 +48,6 @@ pub accept_does : (old new : Served) (session : ℕ) (info : Info) → AcceptSte
 accept_does old new session info d = alone_does old new (Own Accept) (OnSession session) (route.Info info ∷ []) (λ won. record { put = refl; closed = refl; over = refl }) (ap (λ i. route.Info i ∷ []) d.sent) (accept_answers old new session info d)
 
 -- ---- a snapshot for whoever greets
-
-pub peer_there : (server : Server) (name : List ℕ) (q : ℕ) → Some q ≡ peer_by_name server name → is_peer server q ≡ true
-peer_there server name q e = (peer_is server name q e).peer
 
 greeted : (server : Server) (name : List ℕ) (hub : _) (inc : ℕ) (snapshot : Option Frame) → is_peer server (place server name) ≡ true → snapshot ≡ option_map (λ q. snapshot_to server hub q inc) (peer_by_name server name)
     → map route.Numbered (option_to_list snapshot) ≡ route.Numbered (snapshot_to server hub (place server name) inc) ∷ []

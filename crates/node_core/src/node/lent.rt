@@ -28,14 +28,14 @@ impl<T: SubTable, R: Race> Node<T, R> {
         ensures same { result.now ≡ self.now.server }
         ensures sound { SoundNode self.now.server self.now.node }
     {
-        self.hub.server()
+        self.side.hub().server()
     }
 
     /// What its next publication is called. Takes no memory.
     pub fn next_id(&self) -> PubId
         ensures { result ≡ id_of_next self.now.server self.now.node.hub }
     {
-        self.hub.next_id()
+        self.side.hub().next_id()
     }
 
     /// Why it refuses the event: [`Node::fault`], where the parts of the event are lent.

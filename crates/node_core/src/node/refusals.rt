@@ -12,7 +12,7 @@ use super::Node;
 use claim_race::Race;
 use hub_core::HubFault;
 use node_law::{ConnEvent, NodeEvent, NodeFault, OwnEvent, ShardWork};
-use node_parts::{finished_by, place_of_conn, place_of_shard, seen_of};
+use node_parts::{finished_by, place_of_conn, place_of_shard};
 use route_session::SessionId;
 use route_values::{Numbered, RouteConnect, RouteInfo};
 use shard_core::ShardFault;
@@ -64,8 +64,7 @@ impl<T: SubTable, R: Race> Node<T, R> {
     pub(super) fn info_fault(&self, session: SessionId, info: &RouteInfo) -> Option<NodeFault>
         ensures { result ≡ refusal self.now (OnInfo session info.now) }
     {
-        let least = seen_of(&self.hub, info.server_name());
-        let fault = self.sessions.info_fault(session, info, least)?;
+        let fault = self.side.info_fault(session, info)?;
         Some(NodeFault::Session(fault))
     }
 
@@ -77,8 +76,7 @@ impl<T: SubTable, R: Race> Node<T, R> {
     ) -> Option<NodeFault>
         ensures { result ≡ refusal self.now (OnConnect session connect.now) }
     {
-        let least = seen_of(&self.hub, connect.server_name());
-        let fault = self.sessions.connect_fault(session, connect, least)?;
+        let fault = self.side.connect_fault(session, connect)?;
         Some(NodeFault::Session(fault))
     }
 
@@ -88,7 +86,7 @@ impl<T: SubTable, R: Race> Node<T, R> {
     {
         let count = self.lines.len();
         let finished = finished_by(&self.race, count as u64);
-        of_hub_fault(self.hub.publish_fault(said, &finished))
+        of_hub_fault(self.side.hub().publish_fault(said, &finished))
     }
 
     /// Why it refuses a frame of a peer.
@@ -97,7 +95,7 @@ impl<T: SubTable, R: Race> Node<T, R> {
     {
         let count = self.lines.len();
         let finished = finished_by(&self.race, count as u64);
-        of_hub_fault(self.hub.receive_fault(frame, &finished))
+        of_hub_fault(self.side.hub().receive_fault(frame, &finished))
     }
 
     /// Why it refuses a collect.
@@ -108,14 +106,14 @@ impl<T: SubTable, R: Race> Node<T, R> {
             return Some(NodeFault::NoShard);
         };
         let line = &self.lines[place];
-        of_hub_fault(self.hub.collect_fault(line.deltas()))
+        of_hub_fault(self.side.hub().collect_fault(line.deltas()))
     }
 
     /// Why it refuses to take frames.
     fn take_frames_fault(&self, peer: usize, count: usize) -> Option<NodeFault>
         ensures { result ≡ refusal self.now (Own (TakeFrames peer count)) }
     {
-        if self.hub.server().is_peer(peer) {
+        if self.side.hub().server().is_peer(peer) {
             return None;
         }
         Some(NodeFault::Hub(HubFault::NotInCluster))
@@ -130,10 +128,12 @@ impl<T: SubTable, R: Race> Node<T, R> {
             OwnEvent::AtShard { shard, work } => self.work_fault(*shard, *work),
             OwnEvent::Publish { conn, said, word } => self.publish_fault(*conn, said, *word),
             OwnEvent::Collect { shard } => self.collect_fault(*shard),
-            OwnEvent::Dial { peer } => Some(NodeFault::Session(self.sessions.dial_fault(*peer)?)),
-            OwnEvent::Accept => Some(NodeFault::Session(self.sessions.accept_fault()?)),
+            OwnEvent::Dial { peer } => {
+                Some(NodeFault::Session(self.side.sessions().dial_fault(*peer)?))
+            }
+            OwnEvent::Accept => Some(NodeFault::Session(self.side.sessions().accept_fault()?)),
             OwnEvent::CutSession { session } => {
-                Some(NodeFault::Session(self.sessions.cut_fault(*session)?))
+                Some(NodeFault::Session(self.side.sessions().cut_fault(*session)?))
             }
             OwnEvent::TakeFrames { peer, count } => self.take_frames_fault(*peer, *count),
         }

@@ -1,11 +1,9 @@
 //! A server's step whole: with copies of the frames that it puts for peers, or that are to be sent on a session.
 
-ghost use Rattle.std.specs.Prelude.{◌≡◌, ◌≤◌, ◌+◌, ◌∷◌, [], ⊤, map, option_map, option_to_list, vec_len, vec_capacity, IfOk};
+ghost use Rattle.std.specs.Prelude.{◌≡◌, ◌≤◌, ◌+◌, ◌∷◌, [], ⊤, map, option_to_list, vec_len, vec_capacity};
 ghost use Rattle.route_values.specs.declared.frames.RouteFrame.TheVariants.{Connect as ConnectFrame, Numbered as NumberedFrame};
 ghost use Rattle.subj.specs.Answers.{IsAnswered};
 ghost use Rattle.hub_core.specs.Chosen.{publication};
-ghost use Rattle.hub_core.specs.Peers.{snapshot_to};
-ghost use Rattle.route_session.specs.Calls.{peer_of as peer_by_name};
 ghost use Rattle.node_law.specs.Events.{Own, Publish, Collect, Accept, OnInfo, OnConnect};
 ghost use Rattle.node_core.specs.InCode.{answered, event_of, own_event_of};
 ghost use Rattle.node_core.specs.Outcome.{Does, did_of};
@@ -19,12 +17,11 @@ use crate::did::Did;
 use crate::refused::{Refused, as_refused};
 use claim_race::Race;
 use node_law::{NodeEvent, NodeFault, OwnEvent};
-use node_parts::{finished_by, peer_named, place_of_shard};
+use node_parts::{finished_by, place_of_shard};
 use route_session::SessionId;
 use route_values::{Numbered, RouteConnect, RouteFrame, RouteInfo};
-use std::alloc::AllocError;
 use sub_table::SubTable;
-use subj::{ConnId, Failure, Incarnation, NodeId, Pub};
+use subj::{ConnId, Failure, Pub};
 
 /// A `CONNECT` to send and the snapshot that waits behind it, in a list that has no items and two places.
 /// Takes no memory.
@@ -70,7 +67,7 @@ impl<T: SubTable, R: Race> Node<T, R> {
     {
         let count = self.lines.len();
         let finished = finished_by(&self.race, count as u64);
-        let plan = match self.hub.plan_publish(conn, said, word, &finished) {
+        let plan = match self.side.plan_publish(conn, said, word, &finished) {
             Ok(plan) => plan,
             Err(fault) => return of_hub(Err(fault)),
         };
@@ -88,7 +85,7 @@ impl<T: SubTable, R: Race> Node<T, R> {
             return Err(Failure::Refused(NodeFault::NoShard));
         };
         let line = &self.lines[place];
-        let frames = match self.hub.frames_of_collect(line.deltas()) {
+        let frames = match self.side.hub().frames_of_collect(line.deltas()) {
             Ok(frames) => frames,
             Err(fault) => return of_hub(Err(fault)),
         };
@@ -103,7 +100,7 @@ impl<T: SubTable, R: Race> Node<T, R> {
     fn did_accept(&mut self) -> Result<Did, Failure<NodeFault>>
         ensures { IsAnswered (refusal self.old (Own Accept)) (λ did. Does self.old (Own Accept) (did_of did) self.new) (self.new ≡ self.old) result }
     {
-        if let Some(fault) = self.sessions.accept_fault() {
+        if let Some(fault) = self.side.sessions().accept_fault() {
             return Err(Failure::Refused(NodeFault::Session(fault)));
         }
         let mut frames = Vec::with_capacity(self.alloc, 1)?;
@@ -138,17 +135,6 @@ impl<T: SubTable, R: Race> Node<T, R> {
         }
     }
 
-    /// The snapshot for an incarnation of the peer of this name. It changes nothing.
-    #[tactic(auto, using(crate::proofs::Outcomes::Sending::peer_there))]
-    fn snapshot_for(&self, name: NodeId, inc: Incarnation) -> Result<Option<Numbered>, AllocError>
-        ensures { IfOk result (λ snapshot. snapshot ≡ option_map (λ q. snapshot_to self.now.server self.now.node.hub q inc) (peer_by_name self.now.server name)) }
-    {
-        match peer_named(self.hub.server(), name) {
-            None => Ok(None),
-            Some(place) => Ok(Some(self.hub.plan_up(place, inc)?)),
-        }
-    }
-
     /// Completes a dialed session, with the `CONNECT` to send and the snapshot that waits.
     #[tactic(auto, using(crate::proofs::Outcomes::Sending::info_does))]
     pub(super) fn did_info(
@@ -161,7 +147,7 @@ impl<T: SubTable, R: Race> Node<T, R> {
         if let Some(fault) = self.info_fault(session, info) {
             return Err(Failure::Refused(fault));
         }
-        let snapshot = self.snapshot_for(info.server_name(), info.inc())?;
+        let snapshot = self.side.snapshot_for(info.server_name(), info.inc())?;
         let frames = Vec::with_capacity(self.alloc, 2)?;
         let (kept, connect) = self.info(session, info)?;
         let frames = sent_on_info(frames, connect, snapshot);
@@ -183,7 +169,9 @@ impl<T: SubTable, R: Race> Node<T, R> {
         if let Some(fault) = self.connect_fault(session, connect) {
             return Err(Failure::Refused(fault));
         }
-        let snapshot = self.snapshot_for(connect.server_name(), connect.inc())?;
+        let snapshot = self
+            .side
+            .snapshot_for(connect.server_name(), connect.inc())?;
         let frames = Vec::with_capacity(self.alloc, 1)?;
         let kept = self.connect(session, connect)?;
         let frames = sent_on_connect(frames, snapshot);

@@ -17,9 +17,9 @@ claim-requires g c =
     let count : c.len.result ≡ length lines = c.len.ensures ∙ old.lines.ok.0 in
     let within : c.in-Some.place < length lines = subst (λ n. c.in-Some.place < n) count c.in-Some.ensures.within in
     let here : slice_get lines c.in-Some.place ≡ Some x = slice_get-get_or lines c.in-Some.place x within ∙ ap Some (sym c.index_mut-line.ensures.value) in
-    let before = seen old.hub.server old.hub.state old.sessions.state (g.R.Race.contents old.race) lines in
+    let before = seen old.side (g.R.Race.contents old.race) lines in
     let p = shard_found before.node c.args.shard c.len.result c.in-Some.place c.place_of_shard.result x count c.place_of_shard.ensures.place c.in-Some.is here in
-    may_claim before c.args.shard c.in-Some.place x c.self.invariant.1 p here
+    may_claim before c.args.shard c.in-Some.place x c.self.invariant p here
 
 pub invariant_of-self : goal.invariant_of-self
 invariant_of-self g c =
@@ -29,10 +29,10 @@ invariant_of-self g c =
     let count : c.len.result ≡ length lines = c.len.ensures ∙ old.lines.ok.0 in
     let within : c.in-Some.place < length lines = subst (λ n. c.in-Some.place < n) count c.in-Some.ensures.within in
     let here : slice_get lines c.in-Some.place ≡ Some x = slice_get-get_or lines c.in-Some.place x within ∙ ap Some (sym c.index_mut-line.ensures.value) in
-    let before = seen old.hub.server old.hub.state old.sessions.state (g.R.Race.contents old.race) lines in
+    let before = seen old.side (g.R.Race.contents old.race) lines in
     let p = shard_found before.node c.args.shard c.len.result c.in-Some.place c.place_of_shard.result x count c.place_of_shard.ensures.place c.in-Some.is here in
-    let called = claim_call c.args.copies old.hub.server old.hub.state old.sessions.state (g.R.Race.contents old.race) (g.R.Race.contents c.claim.new.race) lines c.args.shard c.in-Some.place c.args.index x c.claim.new.self c.claim.result c.self.invariant.1 p here c.claim.ensures in
-    (c.self.invariant.0, called.keeps)
+    let called = claim_call c.args.copies old.side (g.R.Race.contents old.race) (g.R.Race.contents c.claim.new.race) lines c.args.shard c.in-Some.place c.args.index x c.claim.new.self c.claim.result c.self.invariant p here c.claim.ensures in
+    called.keeps
 
 pub returns : goal.returns
 returns g c =
@@ -42,8 +42,8 @@ returns g c =
     let count : c.len.result ≡ length lines = c.len.ensures ∙ old.lines.ok.0 in
     let within : c.in-Some.place < length lines = subst (λ n. c.in-Some.place < n) count c.in-Some.ensures.within in
     let here : slice_get lines c.in-Some.place ≡ Some x = slice_get-get_or lines c.in-Some.place x within ∙ ap Some (sym c.index_mut-line.ensures.value) in
-    let before = seen old.hub.server old.hub.state old.sessions.state (g.R.Race.contents old.race) lines in
+    let before = seen old.side (g.R.Race.contents old.race) lines in
     let p = shard_found before.node c.args.shard c.len.result c.in-Some.place c.place_of_shard.result x count c.place_of_shard.ensures.place c.in-Some.is here in
-    let called = claim_call c.args.copies old.hub.server old.hub.state old.sessions.state (g.R.Race.contents old.race) (g.R.Race.contents c.claim.new.race) lines c.args.shard c.in-Some.place c.args.index x c.claim.new.self c.claim.result c.self.invariant.1 p here c.claim.ensures in
-    let after = seen old.hub.server old.hub.state old.sessions.state (g.R.Race.contents c.claim.new.race) (set lines c.in-Some.place c.claim.new.self) in
+    let called = claim_call c.args.copies old.side (g.R.Race.contents old.race) (g.R.Race.contents c.claim.new.race) lines c.args.shard c.in-Some.place c.args.index x c.claim.new.self c.claim.result c.self.invariant p here c.claim.ensures in
+    let after = seen old.side (g.R.Race.contents c.claim.new.race) (set lines c.in-Some.place c.claim.new.self) in
     subst (λ s. IsAnswered (refusal s (Own (AtShard c.args.shard (Claim c.args.index)))) (λ y. ClaimStep c.args.copies s c.args.shard c.args.index y after) (after ≡ s) c.claim.result) c.self.view_is called.answers

@@ -1,8 +1,17 @@
-use Rattle.node_core.proofs.Calls.Composed.{cut_keeps}
+use Rattle.node_law.specs.Events.{Own, CutSession}
+use Rattle.node_core.specs.Served.{CutStep, seen, of_session_decision}
+use Rattle.node_core.proofs.Calls.Sides.{cut_call, decided_as}
 use Rattle.node_core.proofs.node.Node.cut.Goals as goal
 
-pub invariant_of-self-in-Ok-Some : goal.invariant_of-self-in-Ok-Some
-invariant_of-self-in-Ok-Some g c =
+pub invariant_of-self : goal.invariant_of-self
+invariant_of-self g c =
     let old = c.self.inside in
-    let k = cut_keeps old.sessions c.cut.new.self old.hub c.peer_cut.new.self (g.R.Race.contents old.race) old.lines.items c.args.session c.in-Ok-Some.peer c.in-Ok-Some.field-0 c.in-Ok-Some.field-0-is c.self.invariant.0 c.self.invariant.1 c.in-Ok-Some.ensures.done.0 c.in-Ok-Some.ensures.done.1 c.peer_cut.ensures.after in
-    (k.same, k.keeps)
+    (cut_call old.side c.cut.new.self (g.R.Race.contents old.race) old.lines.items c.args.session c.cut.result c.self.invariant c.cut.ensures).keeps
+
+pub returns : goal.returns
+returns g c =
+    let old = c.self.inside in
+    let race = g.R.Race.contents old.race in
+    let after = seen c.cut.new.self race old.lines.items in
+    let called = cut_call old.side c.cut.new.self race old.lines.items c.args.session c.cut.result c.self.invariant c.cut.ensures in
+    decided_as (seen old.side race old.lines.items) c.args.self.now after (Own (CutSession c.args.session)) (of_session_decision c.cut.result) c.of_decision.result (λ s peer. CutStep s c.args.session peer after) c.self.view_is c.of_decision.ensures called.answers

@@ -17,7 +17,7 @@ invariant_of-self g c =
     let count : c.len.result ≡ length lines = c.len.ensures ∙ old.lines.ok.0 in
     let within : c.in-Some.place < length lines = subst (λ n. c.in-Some.place < n) count c.in-Some.ensures.within in
     let here : slice_get lines c.in-Some.place ≡ Some x = slice_get-get_or lines c.in-Some.place x within ∙ ap Some (sym c.index_mut-line.ensures.value) in
-    (c.self.invariant.0, (conn_call old.hub.server old.hub.state old.sessions.state (g.R.Race.contents old.race) lines c.args.conn c.len.result c.in-Some.place c.place_of_conn.result (Detach) x c.detach.new.self (λ ended. Detached ended.items) c.detach.result c.self.invariant.1 count c.place_of_conn.ensures.place c.in-Some.is here c.detach.ensures).keeps)
+    (conn_call old.side (g.R.Race.contents old.race) lines c.args.conn c.len.result c.in-Some.place c.place_of_conn.result (Detach) x c.detach.new.self (λ ended. Detached ended.items) c.detach.result c.self.invariant count c.place_of_conn.ensures.place c.in-Some.is here c.detach.ensures).keeps
 
 pub returns : goal.returns
 returns g c =
@@ -25,9 +25,9 @@ returns g c =
     let lines = old.lines.items in
     let x = c.index_mut-line.result.now in
     let e = Detach in
-    let after = seen old.hub.server old.hub.state old.sessions.state (g.R.Race.contents old.race) (set lines c.in-Some.place c.detach.new.self) in
+    let after = seen old.side (g.R.Race.contents old.race) (set lines c.in-Some.place c.detach.new.self) in
     let count : c.len.result ≡ length lines = c.len.ensures ∙ old.lines.ok.0 in
     let within : c.in-Some.place < length lines = subst (λ n. c.in-Some.place < n) count c.in-Some.ensures.within in
     let here : slice_get lines c.in-Some.place ≡ Some x = slice_get-get_or lines c.in-Some.place x within ∙ ap Some (sym c.index_mut-line.ensures.value) in
     subst (λ s. IsAnswered (refusal s (Own (OfConn c.args.conn e))) (λ y. ConnStep s c.args.conn e (Detached y.items) after) (after ≡ s) c.detach.result) c.self.view_is
-    (conn_call old.hub.server old.hub.state old.sessions.state (g.R.Race.contents old.race) lines c.args.conn c.len.result c.in-Some.place c.place_of_conn.result e x c.detach.new.self (λ ended. Detached ended.items) c.detach.result c.self.invariant.1 count c.place_of_conn.ensures.place c.in-Some.is here c.detach.ensures).answers
+    (conn_call old.side (g.R.Race.contents old.race) lines c.args.conn c.len.result c.in-Some.place c.place_of_conn.result e x c.detach.new.self (λ ended. Detached ended.items) c.detach.result c.self.invariant count c.place_of_conn.ensures.place c.in-Some.is here c.detach.ensures).answers

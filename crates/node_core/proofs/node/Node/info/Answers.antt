@@ -1,71 +1,17 @@
-use Rattle.std.proofs.Common.{◌≡◌, ◌≤◌, Some, None, sym, ◌∙◌, subst}
-use Rattle.hub_core.specs.State.{seen_of, peer_of}
-use Rattle.hub_core.specs.Steps.{IsMeeting}
-use Rattle.route_session.specs.Calls as calls
-use Rattle.route_session.specs.Events as of_session
 use Rattle.node_law.specs.Events.{OnInfo}
-use Rattle.node_core.specs.Served.{Served, InfoStep, seen, refusal}
-use Rattle.node_parts.proofs.Greeting.{peer_is, same_name, same_seen, same_up, greets_peer, meets, info_free}
-use Rattle.node_core.proofs.Calls.Greeting.{info_done, info_kept}
+use Rattle.node_core.specs.Served.{InfoStep, seen, of_session_answer}
+use Rattle.node_core.proofs.Calls.Sides.{info_call, told_as}
 use Rattle.node_core.proofs.node.Node.info.Goals as goal
-
-pub unreachable-requires : goal.unreachable-requires
-unreachable-requires g c =
-    let old = c.self.inside in
-    let x = c.args.info.now in
-    let same = c.self.invariant.0 in
-    let least_is : c.seen_of-least.result ≡ seen_of (peer_of old.hub.server old.hub.state x.server_name) = same_seen old.hub.server old.hub.state x.server_name c.server_name.result c.seen_of-least.result c.seen_of-least.ensures c.server_name.ensures in
-    let free : calls.refusal old.sessions (of_session.OnInfo c.args.session x c.seen_of-least.result) ≡ None = sym c.info_fault.ensures ∙ c.in_default.is in
-    let greets = info_free old.sessions old.hub.server old.hub.state c.args.session c.seen_of-least.result x same least_is free in
-    let is : None ≡ calls.peer_of old.hub.server x.server_name = same_name old.hub.server c.server.result.now x.server_name c.server_name-2.result None c.peer_named.result c.in_default-peer_named.is c.peer_named.ensures c.server.ensures c.server_name-2.ensures in
-    greets_peer old.hub.server x.server_name x.inc (seen_of (peer_of old.hub.server old.hub.state x.server_name)) greets is
-
-pub plan_up-requires : goal.plan_up-requires
-plan_up-requires g c =
-    let old = c.self.inside in
-    let x = c.args.info.now in
-    let is : Some c.in-Some-peer_named.place ≡ calls.peer_of old.hub.server x.server_name = same_name old.hub.server c.server.result.now x.server_name c.server_name-2.result (Some c.in-Some-peer_named.place) c.peer_named.result c.in-Some-peer_named.is c.peer_named.ensures c.server.ensures c.server_name-2.ensures in
-    (peer_is old.hub.server x.server_name c.in-Some-peer_named.place is).peer
-
-pub commit_up-requires-clause-meeting : goal.commit_up-requires-clause-meeting
-commit_up-requires-clause-meeting g c =
-    let old = c.self.inside in
-    let x = c.args.info.now in
-    let same = c.self.invariant.0 in
-    let least_is : c.seen_of-least.result ≡ seen_of (peer_of old.hub.server old.hub.state x.server_name) = same_seen old.hub.server old.hub.state x.server_name c.server_name.result c.seen_of-least.result c.seen_of-least.ensures c.server_name.ensures in
-    let free : calls.refusal old.sessions (of_session.OnInfo c.args.session x c.seen_of-least.result) ≡ None = sym c.info_fault.ensures ∙ c.in_default.is in
-    let greets = info_free old.sessions old.hub.server old.hub.state c.args.session c.seen_of-least.result x same least_is free in
-    let is : Some c.in-Some-peer_named.place ≡ calls.peer_of old.hub.server x.server_name = same_name old.hub.server c.server.result.now x.server_name c.server_name-2.result (Some c.in-Some-peer_named.place) c.peer_named.result c.in-Some-peer_named.is c.peer_named.ensures c.server.ensures c.server_name-2.ensures in
-    let first : 1 ≤ x.inc = subst (λ i. 1 ≤ i) (c.get-life.ensures.same ∙ c.inc-inc.ensures) c.get-life.ensures.least in
-    subst (λ i. IsMeeting old.hub.server old.hub.state c.in-Some-peer_named.place i) (sym c.inc-inc.ensures) (meets old.hub.server old.hub.state x.server_name x.inc c.in-Some-peer_named.place greets first is)
 
 pub invariant_of-self : goal.invariant_of-self
 invariant_of-self g c =
     let old = c.self.inside in
-    let x = c.args.info.now in
-    let same = c.self.invariant.0 in
-    let least_is : c.seen_of-least.result ≡ seen_of (peer_of old.hub.server old.hub.state x.server_name) = same_seen old.hub.server old.hub.state x.server_name c.server_name.result c.seen_of-least.result c.seen_of-least.ensures c.server_name.ensures in
-    let free : calls.refusal old.sessions (of_session.OnInfo c.args.session x c.seen_of-least.result) ≡ None = sym c.info_fault.ensures ∙ c.in_default.is in
-    let greets = info_free old.sessions old.hub.server old.hub.state c.args.session c.seen_of-least.result x same least_is free in
-    let is : Some c.in-Some-peer_named.place ≡ calls.peer_of old.hub.server x.server_name = same_name old.hub.server c.server.result.now x.server_name c.server_name-2.result (Some c.in-Some-peer_named.place) c.peer_named.result c.in-Some-peer_named.is c.peer_named.ensures c.server.ensures c.server_name-2.ensures in
-    let up = same_up old.hub c.commit_up.new.self c.in-Some-peer_named.place c.inc-inc.result x.inc c.commit_up.ensures.after c.inc-inc.ensures in
-    let race = g.R.Race.contents old.race in
-    let does = info_done old.sessions c.on_info.new.self old.hub c.commit_up.new.self race old.lines.items c.args.session c.seen_of-least.result c.in-Some-peer_named.place x c.in-Ok-on_info.done.0.instead_of c.in-Ok-on_info.done.1 same least_is is free c.in-Ok-on_info.ensures.1 up in
-    let k = info_kept old.sessions c.on_info.new.self old.hub c.commit_up.new.self race old.lines.items c.args.session c.in-Some-peer_named.place x c.in-Ok-on_info.done.0.instead_of c.in-Ok-on_info.done.1 (of_session.OnInfo c.args.session x c.seen_of-least.result) (of_session.KeptAfterInfo c.in-Ok-on_info.done.0.instead_of c.in-Ok-on_info.done.1) same c.self.invariant.1 does c.in-Ok-on_info.ensures.1 up in
-    (k.same, k.keeps)
+    (info_call old.side c.info.new.self (g.R.Race.contents old.race) old.lines.items c.args.session c.args.info.now (λ done. done.0.instead_of) (λ done. done.1) c.info.result c.self.invariant c.info.ensures).keeps
 
 pub returns : goal.returns
 returns g c =
     let old = c.self.inside in
-    let x = c.args.info.now in
-    let same = c.self.invariant.0 in
-    let least_is : c.seen_of-least.result ≡ seen_of (peer_of old.hub.server old.hub.state x.server_name) = same_seen old.hub.server old.hub.state x.server_name c.server_name.result c.seen_of-least.result c.seen_of-least.ensures c.server_name.ensures in
-    let free : calls.refusal old.sessions (of_session.OnInfo c.args.session x c.seen_of-least.result) ≡ None = sym c.info_fault.ensures ∙ c.in_default.is in
-    let greets = info_free old.sessions old.hub.server old.hub.state c.args.session c.seen_of-least.result x same least_is free in
-    let is : Some c.in-Some-peer_named.place ≡ calls.peer_of old.hub.server x.server_name = same_name old.hub.server c.server.result.now x.server_name c.server_name-2.result (Some c.in-Some-peer_named.place) c.peer_named.result c.in-Some-peer_named.is c.peer_named.ensures c.server.ensures c.server_name-2.ensures in
-    let up = same_up old.hub c.commit_up.new.self c.in-Some-peer_named.place c.inc-inc.result x.inc c.commit_up.ensures.after c.inc-inc.ensures in
     let race = g.R.Race.contents old.race in
-    let does = info_done old.sessions c.on_info.new.self old.hub c.commit_up.new.self race old.lines.items c.args.session c.seen_of-least.result c.in-Some-peer_named.place x c.in-Ok-on_info.done.0.instead_of c.in-Ok-on_info.done.1 same least_is is free c.in-Ok-on_info.ensures.1 up in
-    let after = seen c.commit_up.new.self.server c.commit_up.new.self.state c.on_info.new.self.state race old.lines.items in
-    subst (λ (s : Served). (refusal s (OnInfo c.args.session x) ≡ None) × InfoStep s c.args.session x c.in-Ok-on_info.done.0.instead_of c.in-Ok-on_info.done.1 after) c.self.view_is
-    (does.step.step.cause, does)
+    let after = seen c.info.new.self race old.lines.items in
+    let called = info_call old.side c.info.new.self race old.lines.items c.args.session c.args.info.now (λ done. done.0.instead_of) (λ done. done.1) c.info.result c.self.invariant c.info.ensures in
+    told_as (seen old.side race old.lines.items) c.args.self.now after (OnInfo c.args.session c.args.info.now) (of_session_answer c.info.result) c.of_sessions.result (λ s done. InfoStep s c.args.session c.args.info.now done.0.instead_of done.1 after) c.self.view_is c.of_sessions.ensures called.answers

@@ -1,8 +1,17 @@
-use Rattle.node_core.proofs.Calls.Composed.{frames_keep}
+use Rattle.node_law.specs.Events.{Own, TakeFrames}
+use Rattle.node_core.specs.Served.{FramesStep, seen, of_hub_answer}
+use Rattle.node_core.proofs.Calls.Sides.{frames_call, told_as}
 use Rattle.node_core.proofs.node.Node.take_frames.Goals as goal
 
 pub invariant_of-self : goal.invariant_of-self
 invariant_of-self g c =
     let old = c.self.inside in
-    let k = frames_keep old.sessions.server old.hub c.take_route.new.self old.sessions.state (g.R.Race.contents old.race) old.lines.items c.args.peer c.args.count (λ frames. frames.items) c.take_route.result c.self.invariant.0 c.self.invariant.1 c.take_route.ensures in
-    (k.same, k.keeps)
+    (frames_call old.side c.take_frames.new.self (g.R.Race.contents old.race) old.lines.items c.args.peer c.args.count (λ frames. frames.items) c.take_frames.result c.self.invariant c.take_frames.ensures).keeps
+
+pub returns : goal.returns
+returns g c =
+    let old = c.self.inside in
+    let race = g.R.Race.contents old.race in
+    let after = seen c.take_frames.new.self race old.lines.items in
+    let called = frames_call old.side c.take_frames.new.self race old.lines.items c.args.peer c.args.count (λ frames. frames.items) c.take_frames.result c.self.invariant c.take_frames.ensures in
+    told_as (seen old.side race old.lines.items) c.args.self.now after (Own (TakeFrames c.args.peer c.args.count)) (of_hub_answer c.take_frames.result) c.of_hub.result (λ s frames. FramesStep s c.args.peer c.args.count frames.items after) c.self.view_is c.of_hub.ensures called.answers
