@@ -1,6 +1,6 @@
 //! What is kept in writing of what is done under a lock.
 
-ghost use Rattle.std.specs.Prelude.{◌≡◌, ◌∷◌, ◌++◌, List, [], cond, length, true, false, Some, None, IfSome};
+ghost use Rattle.std.specs.Prelude.{◌≡◌, ◌∷◌, ◌++◌, List, [], cond, length, true, false, Some, None, IfSome, is_some};
 ghost use Rattle.node_threads.specs.Tapes.{Grows};
 
 use std::alloc::Global;
@@ -45,7 +45,8 @@ impl<E: Drop> Tape<E> {
 
     /// Whether entries are kept.
     pub fn is_kept(&self) -> bool
-        ensures { result ≡ false → (more : List E) → Grows self.now more self.now }
+        ensures kept { result ≡ is_some self.now }
+        ensures none { result ≡ false → (more : List E) → Grows self.now more self.now }
     {
         self.kept
     }
@@ -73,7 +74,8 @@ impl<E: Drop> Tape<E> {
 
     /// The entries, if they were kept.
     pub fn into_entries(self) -> Option<Vec<E>>
-        ensures { IfSome result (λ entries. self ≡ Some entries.items) }
+        ensures some { IfSome result (λ entries. self ≡ Some entries.items) }
+        ensures none { is_some result ≡ is_some self }
     {
         if !self.kept {
             return None;

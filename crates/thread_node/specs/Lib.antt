@@ -1,5 +1,7 @@
 -- what a server on threads is made of
 pub mod Parts
+-- of which shards a server on threads answers, and what it refuses of others
+pub mod Refusing
 -- what is kept in writing of what the hub did
 pub mod HubTapes
 -- what each of its steps was asked, as an event of the server

@@ -1,5 +1,8 @@
 //! The calls of a server on threads that take a lock, make one call, and give its answer.
 
+ghost use Rattle.std.specs.Prelude.{◌≡◌, true, is_some};
+ghost use Rattle.thread_node.specs.Refusing.{AnswersAt, DecidesAt, FailsAt, has_shard};
+
 use crate::node::ThreadNode;
 use client_frames::{ErrText, ReplyFrame};
 use hub_core::{HubFault, Told};
@@ -18,7 +21,9 @@ use subj::{ConnId, Failure, Key, Pub, Sid, SubId, Turn};
 pub(crate) const NO_SHARD: Failure<NodeFault> = Failure::Refused(NodeFault::NoShard);
 
 /// A refusal of a shard, as its server tells it.
-pub(crate) fn of_shard(fault: Failure<ShardFault>) -> Failure<NodeFault> {
+pub(crate) fn of_shard(fault: Failure<ShardFault>) -> Failure<NodeFault>
+    ensures { FailsAt true result }
+{
     match fault {
         Failure::Refused(fault) => Failure::Refused(NodeFault::Shard(fault)),
         Failure::OutOfMemory => Failure::OutOfMemory,
@@ -26,7 +31,9 @@ pub(crate) fn of_shard(fault: Failure<ShardFault>) -> Failure<NodeFault> {
 }
 
 /// A refusal of the hub, as its server tells it.
-pub(crate) fn of_hub(fault: Failure<HubFault>) -> Failure<NodeFault> {
+pub(crate) fn of_hub(fault: Failure<HubFault>) -> Failure<NodeFault>
+    ensures { FailsAt true result }
+{
     match fault {
         Failure::Refused(fault) => Failure::Refused(NodeFault::Hub(fault)),
         Failure::OutOfMemory => Failure::OutOfMemory,
@@ -113,36 +120,53 @@ impl<T: SubTable, N: NodeName> ThreadNode<T, N> {
 
     /// [`HubState::collect`](node_threads::HubState::collect), of the shard of this number; the only call that takes two locks, the
     /// hub's and then the shard's. Refused with [`NodeFault::NoShard`] first. May wait.
-    pub fn collect<R: Wait>(&self, rt: &R, shard: u64) -> Result<Told, Failure<NodeFault>> {
+    pub fn collect<R: Wait>(&self, rt: &R, shard: u64) -> Result<Told, Failure<NodeFault>>
+        ensures { AnswersAt (has_shard N.race shard) result }
+    {
         let mut hub = self.hub(rt);
         let Some(mut shard) = self.shard(rt, shard) else {
             return Err(NO_SHARD);
         };
-        hub.collect(&mut shard).map_err(of_hub)
+        match hub.collect(&mut shard) {
+            Ok(done) => Ok(done),
+            Err(fault) => Err(of_hub(fault)),
+        }
     }
 
     /// [`ShardState::turn`](node_threads::ShardState::turn), of the shard of this number; None where the server has no such shard.
     /// May wait.
-    pub fn turn<G: Gate, R: Wait>(&self, rt: &R, shard: u64, gate: &G) -> Option<Turned> {
+    pub fn turn<G: Gate, R: Wait>(&self, rt: &R, shard: u64, gate: &G) -> Option<Turned>
+        ensures { is_some result ≡ has_shard N.race shard }
+    {
         Some(self.shard(rt, shard)?.turn(rt, gate))
     }
 
     /// [`ShardState::drop_job`](node_threads::ShardState::drop_job), of the shard of this number. Refused with
     /// [`NodeFault::NoShard`] first. May wait.
-    pub fn drop_job<R: Wait>(&self, rt: &R, shard: u64) -> Result<Turn, Failure<NodeFault>> {
+    pub fn drop_job<R: Wait>(&self, rt: &R, shard: u64) -> Result<Turn, Failure<NodeFault>>
+        ensures { AnswersAt (has_shard N.race shard) result }
+    {
         let Some(mut shard) = self.shard(rt, shard) else {
             return Err(NO_SHARD);
         };
-        shard.drop_job(rt).map_err(of_shard)
+        match shard.drop_job(rt) {
+            Ok(done) => Ok(done),
+            Err(fault) => Err(of_shard(fault)),
+        }
     }
 
     /// [`ShardState::attach`](node_threads::ShardState::attach), of the shard of this number. Refused with
     /// [`NodeFault::NoShard`] first. May wait.
-    pub fn attach<R: Wait>(&self, rt: &R, shard: u64) -> Result<ConnId, Failure<NodeFault>> {
+    pub fn attach<R: Wait>(&self, rt: &R, shard: u64) -> Result<ConnId, Failure<NodeFault>>
+        ensures { AnswersAt (has_shard N.race shard) result }
+    {
         let Some(mut shard) = self.shard(rt, shard) else {
             return Err(NO_SHARD);
         };
-        shard.attach().map_err(of_shard)
+        match shard.attach() {
+            Ok(done) => Ok(done),
+            Err(fault) => Err(of_shard(fault)),
+        }
     }
 
     /// [`ShardState::subscribe`](node_threads::ShardState::subscribe), of the shard of this number. Refused with
@@ -154,11 +178,16 @@ impl<T: SubTable, N: NodeName> ThreadNode<T, N> {
         conn: ConnId,
         key: Key,
         sid: Sid,
-    ) -> Result<Subscribed, Failure<NodeFault>> {
+    ) -> Result<Subscribed, Failure<NodeFault>>
+        ensures { AnswersAt (has_shard N.race shard) result }
+    {
         let Some(mut shard) = self.shard(rt, shard) else {
             return Err(NO_SHARD);
         };
-        shard.subscribe(conn, key, sid).map_err(of_shard)
+        match shard.subscribe(conn, key, sid) {
+            Ok(done) => Ok(done),
+            Err(fault) => Err(of_shard(fault)),
+        }
     }
 
     /// [`ShardState::unsubscribe`](node_threads::ShardState::unsubscribe), of the shard of this number. Refused with
@@ -170,11 +199,16 @@ impl<T: SubTable, N: NodeName> ThreadNode<T, N> {
         conn: ConnId,
         sid: &Sid,
         max: Option<u64>,
-    ) -> Result<Option<SubId>, NodeFault> {
+    ) -> Result<Option<SubId>, NodeFault>
+        ensures { DecidesAt (has_shard N.race shard) result }
+    {
         let Some(mut shard) = self.shard(rt, shard) else {
             return Err(NodeFault::NoShard);
         };
-        shard.unsubscribe(conn, sid, max).map_err(NodeFault::Shard)
+        match shard.unsubscribe(conn, sid, max) {
+            Ok(done) => Ok(done),
+            Err(fault) => Err(NodeFault::Shard(fault)),
+        }
     }
 
     /// [`ShardState::reply`](node_threads::ShardState::reply), of the shard of this number. Refused with
@@ -185,11 +219,16 @@ impl<T: SubTable, N: NodeName> ThreadNode<T, N> {
         shard: u64,
         conn: ConnId,
         frame: &ReplyFrame,
-    ) -> Result<Closed, Failure<NodeFault>> {
+    ) -> Result<Closed, Failure<NodeFault>>
+        ensures { AnswersAt (has_shard N.race shard) result }
+    {
         let Some(mut shard) = self.shard(rt, shard) else {
             return Err(NO_SHARD);
         };
-        shard.reply(conn, frame).map_err(of_shard)
+        match shard.reply(conn, frame) {
+            Ok(done) => Ok(done),
+            Err(fault) => Err(of_shard(fault)),
+        }
     }
 
     /// [`ShardState::shut`](node_threads::ShardState::shut), of the shard of this number. Refused with
@@ -200,11 +239,16 @@ impl<T: SubTable, N: NodeName> ThreadNode<T, N> {
         shard: u64,
         conn: ConnId,
         text: ErrText,
-    ) -> Result<Vec<SubId>, Failure<NodeFault>> {
+    ) -> Result<Vec<SubId>, Failure<NodeFault>>
+        ensures { AnswersAt (has_shard N.race shard) result }
+    {
         let Some(mut shard) = self.shard(rt, shard) else {
             return Err(NO_SHARD);
         };
-        shard.shut(conn, text).map_err(of_shard)
+        match shard.shut(conn, text) {
+            Ok(done) => Ok(done),
+            Err(fault) => Err(of_shard(fault)),
+        }
     }
 
     /// [`ShardState::detach`](node_threads::ShardState::detach), of the shard of this number. Refused with
@@ -214,11 +258,16 @@ impl<T: SubTable, N: NodeName> ThreadNode<T, N> {
         rt: &R,
         shard: u64,
         conn: ConnId,
-    ) -> Result<Vec<SubId>, Failure<NodeFault>> {
+    ) -> Result<Vec<SubId>, Failure<NodeFault>>
+        ensures { AnswersAt (has_shard N.race shard) result }
+    {
         let Some(mut shard) = self.shard(rt, shard) else {
             return Err(NO_SHARD);
         };
-        shard.detach(conn).map_err(of_shard)
+        match shard.detach(conn) {
+            Ok(done) => Ok(done),
+            Err(fault) => Err(of_shard(fault)),
+        }
     }
 
     /// [`ShardState::take`](node_threads::ShardState::take), of the shard of this number. Refused with
@@ -229,10 +278,15 @@ impl<T: SubTable, N: NodeName> ThreadNode<T, N> {
         shard: u64,
         conn: ConnId,
         count: usize,
-    ) -> Result<Vec<Entry>, Failure<NodeFault>> {
+    ) -> Result<Vec<Entry>, Failure<NodeFault>>
+        ensures { AnswersAt (has_shard N.race shard) result }
+    {
         let Some(mut shard) = self.shard(rt, shard) else {
             return Err(NO_SHARD);
         };
-        shard.take(conn, count).map_err(of_shard)
+        match shard.take(conn, count) {
+            Ok(done) => Ok(done),
+            Err(fault) => Err(of_shard(fault)),
+        }
     }
 }

@@ -1,9 +1,10 @@
 //! A hub and its shards, each under a lock of its own.
 
-ghost use Rattle.std.specs.Prelude.{◌≡◌, ◌≤◌, [], All, vec_len, IfOk};
+ghost use Rattle.std.specs.Prelude.{◌≡◌, ◌≤◌, [], All, vec_len, IfOk, is_some};
 ghost use Rattle.std.specs.Arc.{arc_value};
 ghost use Rattle.subj.specs.declared.limits.TheConstants.{MAX_SHARDS};
 ghost use Rattle.thread_node.specs.Parts.{IsNamed};
+ghost use Rattle.thread_node.specs.Refusing.{has_shard};
 
 use crate::locked_hub::LockedHub;
 use crate::locked_shard::LockedShard;
@@ -97,7 +98,9 @@ impl<T: SubTable, N: NodeName> ThreadNode<T, N> {
     }
 
     /// How many shards the server has.
-    pub fn shards(&self) -> u64 {
+    pub fn shards(&self) -> u64
+        ensures { result ≡ N.race.shards }
+    {
         self.shards.len() as u64
     }
 
@@ -108,7 +111,9 @@ impl<T: SubTable, N: NodeName> ThreadNode<T, N> {
 
     /// Takes the lock of the shard of this number, from 1. None where the server has no such shard. May
     /// wait.
-    pub fn shard<R: Wait>(&self, rt: &R, number: u64) -> Option<ShardSection<'_, T, N>> {
+    pub fn shard<R: Wait>(&self, rt: &R, number: u64) -> Option<ShardSection<'_, T, N>>
+        ensures { is_some result ≡ has_shard N.race number }
+    {
         let place = place_of_shard(self.shards.len(), number)?;
         Some(self.shards[place].lock(rt))
     }

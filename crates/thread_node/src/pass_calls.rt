@@ -10,6 +10,7 @@ ghost use Rattle.node_threads.specs.Tapes.{told_of};
 ghost use Rattle.node_threads.specs.declared.shard_entries.ShardTold.TheVariants as shard_told;
 ghost use Rattle.thread_node.specs.HubTapes.{of_received};
 ghost use Rattle.thread_node.specs.Owed.{Gains};
+ghost use Rattle.thread_node.specs.Refusing.{AnswersAt, DecidesAt, has_shard};
 ghost use Rattle.thread_node.specs.declared.hub_entries.HubTold.TheVariants as hub_told;
 ghost use Rattle.thread_node.specs.declared.passes.Told.TheVariants.{Hub, Shard};
 
@@ -214,6 +215,7 @@ impl<N: NodeName> Pass<N> {
     ) -> Result<Told, Failure<NodeFault>>
         ensures told { IfOk result (λ told. Gains N.keep 0 (Own (own.Collect shard)) (Hub (hub_told.Collected (length told.changes.items) (length told.cut.items))) self.old self.new) }
         ensures same { OnErr result (self.new ≡ self.old) }
+        ensures answers { AnswersAt (has_shard N.race shard) result }
     {
         let mut hub = node.hub(rt);
         let Some(mut state) = node.shard(rt, shard) else {
@@ -242,6 +244,7 @@ impl<N: NodeName> Pass<N> {
     ) -> Result<ConnId, Failure<NodeFault>>
         ensures told { IfOk result (λ conn. Gains N.keep shard (Own (own.AtShard shard work.Attach)) (Shard (shard_told.Attached conn)) self.old self.new) }
         ensures same { OnErr result (self.new ≡ self.old) }
+        ensures answers { AnswersAt (has_shard N.race shard) result }
     {
         let Some(mut state) = node.shard(rt, shard) else {
             return Err(NO_SHARD);
@@ -271,6 +274,7 @@ impl<N: NodeName> Pass<N> {
     ) -> Result<Subscribed, Failure<NodeFault>>
         ensures told { IfOk result (λ done. Gains N.keep shard (Own (own.OfConn conn (of_conn.Subscribe key sid))) (Shard (told_of (answer_of done))) self.old self.new) }
         ensures same { OnErr result (self.new ≡ self.old) }
+        ensures answers { AnswersAt (has_shard N.race shard) result }
     {
         let event = subscription(self.alloc, self.is_kept(node.keep), conn, &key, &sid);
         let Some(mut state) = node.shard(rt, shard) else {
@@ -297,6 +301,7 @@ impl<N: NodeName> Pass<N> {
     ) -> Result<Option<SubId>, NodeFault>
         ensures told { IfOk result (λ ended. Gains N.keep shard (Own (own.OfConn conn (of_conn.Unsubscribe sid.now max))) (Shard (shard_told.Unsubscribed (length (option_to_list ended)))) self.old self.new) }
         ensures same { OnErr result (self.new ≡ self.old) }
+        ensures answers { DecidesAt (has_shard N.race shard) result }
     {
         let Some(mut state) = node.shard(rt, shard) else {
             return Err(NodeFault::NoShard);
@@ -328,6 +333,7 @@ impl<N: NodeName> Pass<N> {
     ) -> Result<Closed, Failure<NodeFault>>
         ensures told { IfOk result (λ closed. Gains N.keep shard (Own (own.OfConn conn (of_conn.Reply frame.now))) (Shard (shard_told.Replied closed.shut (length closed.ended.items))) self.old self.new) }
         ensures same { OnErr result (self.new ≡ self.old) }
+        ensures answers { AnswersAt (has_shard N.race shard) result }
     {
         let Some(mut state) = node.shard(rt, shard) else {
             return Err(NO_SHARD);
@@ -357,6 +363,7 @@ impl<N: NodeName> Pass<N> {
     ) -> Result<Vec<SubId>, Failure<NodeFault>>
         ensures told { IfOk result (λ ended. Gains N.keep shard (Own (own.OfConn conn (of_conn.Shut text))) (Shard (shard_told.WasShut (length ended.items))) self.old self.new) }
         ensures same { OnErr result (self.new ≡ self.old) }
+        ensures answers { AnswersAt (has_shard N.race shard) result }
     {
         let Some(mut state) = node.shard(rt, shard) else {
             return Err(NO_SHARD);
@@ -387,6 +394,7 @@ impl<N: NodeName> Pass<N> {
     ) -> Result<Vec<SubId>, Failure<NodeFault>>
         ensures told { IfOk result (λ ended. Gains N.keep shard (Own (own.OfConn conn of_conn.Detach)) (Shard (shard_told.Detached (length ended.items))) self.old self.new) }
         ensures same { OnErr result (self.new ≡ self.old) }
+        ensures answers { AnswersAt (has_shard N.race shard) result }
     {
         let Some(mut state) = node.shard(rt, shard) else {
             return Err(NO_SHARD);
@@ -418,6 +426,7 @@ impl<N: NodeName> Pass<N> {
     ) -> Result<Vec<Entry>, Failure<NodeFault>>
         ensures told { IfOk result (λ entries. Gains N.keep shard (Own (own.OfConn conn (of_conn.Take count))) (Shard (shard_told.Taken (length entries.items))) self.old self.new) }
         ensures same { OnErr result (self.new ≡ self.old) }
+        ensures answers { AnswersAt (has_shard N.race shard) result }
     {
         let Some(mut state) = node.shard(rt, shard) else {
             return Err(NO_SHARD);
@@ -447,6 +456,7 @@ impl<N: NodeName> Pass<N> {
     ) -> Result<Turn, Failure<NodeFault>>
         ensures told { IfOk result (λ turn. Gains N.keep shard (Own (own.AtShard shard work.DropJob)) (Shard (shard_told.Dropped (Some turn))) self.old self.new) }
         ensures same { OnErr result (self.new ≡ self.old) }
+        ensures answers { AnswersAt (has_shard N.race shard) result }
     {
         let Some(mut state) = node.shard(rt, shard) else {
             return Err(NO_SHARD);
