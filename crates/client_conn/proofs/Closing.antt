@@ -19,7 +19,7 @@ use Rattle.client_frames.specs.Streams.{StreamItem, refused, unreadable, client_
 use Rattle.client_conn.specs.declared.ask.Ask.{Ask}
 use Rattle.client_conn.specs.declared.ask.Ask.TheVariants.{Reply, Shut}
 use Rattle.client_conn.specs.declared.reader.ItemReader.{ItemReader}
-use Rattle.client_conn.specs.Items.{options_after, item_asks, items_asks, refusing}
+use Rattle.client_conn.specs.Items.{OpenState, options_after, item_asks, items_asks, refusing}
 use Rattle.client_conn.specs.Asks.{over, listens, asking_of, onward_of, read_onward, is_over, no_asks, is_finished}
 use Rattle.client_conn.specs.Shuts.{AsksToShut}
 use Rattle.client_conn.specs.Streams.{end_of, reading_at, asking_at}
@@ -124,15 +124,15 @@ read_finished o r (waits awaited unread) is some = ap (λ e. no_asks (items_asks
 read_finished o r closed is some = ap (λ b. b && is_over (onward_of (options_after r.items o) r.end)) (some_asks (items_asks o r.items) (some refl))
 
 finished_at : (open_asks : List Ask) (o : Options) (awaited : Awaited) (unread : List ℕ) (ended : Bool)
-    → (no_asks open_asks && ended) ≡ is_finished (asking_at open_asks o (if ended then closed else waits awaited unread))
+    → (no_asks open_asks && ended) ≡ is_finished (asking_at (record { asks = open_asks; options = o }) (if ended then closed else waits awaited unread))
 finished_at (ask ∷ open_asks) o awaited unread ended = refl
 finished_at [] o awaited unread true = refl
 finished_at [] o awaited unread false =
     let r = reading_of client_grammar awaited unread in
     sym (read_finished o r r.end refl (λ is. within_asks _ awaited unread o is))
 
-pub finished_is : (open_asks : List Ask) (o : Options) (r : ItemReader) → (no_asks open_asks && r.ended) ≡ is_finished (asking_at open_asks o (end_of r))
-finished_is open_asks o r = finished_at open_asks o r.awaited r.cutter.unread r.ended
+pub finished_is : (stand : OpenState) (r : ItemReader) → (no_asks stand.asks && r.ended) ≡ is_finished (asking_at stand (end_of r))
+finished_is stand r = finished_at stand.asks stand.options r.awaited r.cutter.unread r.ended
 
-pub finished_behind_none : (open_asks : List Ask) (o : Options) (r : ItemReader) (empty : Bool) → empty ≡ no_asks open_asks → empty ≡ true → r.ended ≡ is_finished (asking_at open_asks o (end_of r))
-finished_behind_none open_asks o r empty is holds = ap (λ b. b && r.ended) (sym (sym is ∙ holds)) ∙ finished_is open_asks o r
+pub finished_behind_none : (stand : OpenState) (r : ItemReader) (empty : Bool) → empty ≡ no_asks stand.asks → empty ≡ true → r.ended ≡ is_finished (asking_at stand (end_of r))
+finished_behind_none stand r empty is holds = ap (λ b. b && r.ended) (sym (sym is ∙ holds)) ∙ finished_is stand r

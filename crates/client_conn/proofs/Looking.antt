@@ -1,7 +1,9 @@
 -- What a look at a client's stream finds.
-use Rattle.std.proofs.Common.{◌≡◌, ℕ, suc, ◌+◌, ◌<◌, ◌≤◌, Bool, true, false, nat_le, List, [], ◌∷◌, ◌++◌, length, drop, Option, Some, None, Ok, Err, refl, ap, sym, ◌∙◌, subst, arith, append-nil, length-drop}
+use Rattle.std.proofs.Common.{◌≡◌, ℕ, suc, ◌+◌, ◌<◌, ◌≤◌, Bool, true, false, nat_le, List, [], ◌∷◌, ◌++◌, length, drop, Option, Some, None, Result, Ok, Err, refl, ap, sym, ◌∙◌, subst, arith, append-nil, length-drop}
 use Rattle.std.specs.Prelude.{if◌then◌else◌}
-use Rattle.subj.specs.Messages.{Content, content_of}
+use Rattle.subj.specs.Messages.{Content}
+use Rattle.subj.specs.declared.failures.Failure.{Failure}
+use Rattle.subj.specs.declared.failures.Failure.TheVariants.{Refused}
 use Rattle.subj.specs.declared.limits.TheConstants.{MAX_PAYLOAD}
 use Rattle.wire_cut.specs.Cut.{Answer, CutterState, StreamPiece, line, payload, bytes_of, cut_of, after_answer, after_next, after_expect, after_refusal, expect_fault, IsWithinUnread}
 use Rattle.wire_cut.specs.declared.faults.CutFault.{CutFault}
@@ -11,15 +13,20 @@ use Rattle.wire_cut.proofs.ReadingLemmas.{cuts_alike, reads_by_looks, waits_for_
 use Rattle.client_frames.specs.declared.awaited.Awaited.{Awaited}
 use Rattle.client_frames.specs.declared.awaited.Awaited.TheVariants as awaits
 use Rattle.client_frames.specs.declared.client_line.PubHead.{PubHead}
-use Rattle.client_frames.specs.Lines.{line_meaning}
-use Rattle.client_frames.specs.Streams.{StreamItem, published, client_grammar, piece_told, line_told}
-use Rattle.client_conn.specs.declared.item.Item.{Item}
-use Rattle.client_conn.specs.declared.item.Item.TheVariants.{Publication}
+use Rattle.client_frames.specs.Lines.{Meaning, Means, line_meaning}
+use Rattle.client_frames.specs.declared.client_line.ClientLine.{ClientLine}
+use Rattle.client_frames.specs.declared.client_line.ClientLine.TheVariants.{Connect, Pub, PubBad, Sub, Unsub, Ping, Pong}
+use Rattle.client_frames.specs.declared.err_texts.ErrText.{ErrText}
+use Rattle.client_frames.specs.declared.faults.LineFault.{LineFault}
+use Rattle.client_frames.specs.declared.faults.LineFault.TheVariants.{BadSubject}
+use Rattle.client_frames.specs.ErrTexts.{text_closes, line_fault_text, cut_fault_text}
+use Rattle.client_frames.specs.Streams.{StreamItem, asked, published, refused, unreadable, client_grammar, piece_told, line_told, command_told, refusal_told}
+use Rattle.client_conn.specs.declared.ask.Ask.TheVariants.{Publish}
 use Rattle.client_conn.specs.declared.reader.ItemReader.{ItemReader}
 use Rattle.client_conn.specs.declared.reader.Looked.{Looked}
 use Rattle.client_conn.specs.declared.reader.Looked.TheVariants.{Waits, Announced, Told as told_item}
-use Rattle.client_conn.specs.Items.{message_of}
-use Rattle.client_conn.specs.Streams.{end_of, reading_at, left_of, IsInStep, IsBehindLine, Shows, FoundAlone, TellsFound, Moves, HasMoved, HasLooked, HasLookedAt, HasTaken, HasNone}
+use Rattle.client_conn.specs.Items.{OpenState, publication_of, confirmed, message_of, refusing, asked_by}
+use Rattle.client_conn.specs.Streams.{end_of, reading_at, left_of, IsInStep, IsBehindLine, FoundAlone, TellsFound, Moves, HasMoved, HasLooked, HasLookedAt, HasTaken, HasNone}
 
 -- ---- what a look finds, as what is told
 
@@ -47,30 +54,37 @@ found_alone awaited unread told (the_end items) new is alone =
     ∙ ap (λ l. let r : Reading Awaited StreamItem = ended_by l in r) alone.0
     ∙ ap (λ e. with_items (told ∷ []) (reading_at e)) (sym alone.1)
 
-pub takes : (item : Item) (old new : End Awaited) → HasLooked (told_item item) old new → HasTaken item old new
-takes item (waits awaited unread) new has = record {
+pub takes : (before stand : OpenState) (old new : End Awaited) → HasLooked told_item before stand old new → HasTaken before stand old new
+takes before stand (waits awaited unread) new has = record {
   told = has.tells.0;
-  shown = has.tells.1;
+  stands = has.tells.1;
   front = found_alone awaited unread has.tells.0 (found client_grammar awaited unread) new refl has.tells.2;
-  fewer = has.moves;
 }
-takes item closed new has = absurd has
+takes before stand closed new has = absurd has
 
-pub passes : (old new : End Awaited) → HasLooked Announced old new → reading_at new ≡ reading_at old
-passes (waits awaited unread) new has =
-    ap reading_at has.tells.3 ∙ sym (found_items awaited unread [] has.tells.0 has.tells.1 has.tells.2)
-passes closed new has = absurd has
+-- a look that finds anything leaves less
+pub lessens_at_an_item : (before stand : OpenState) (old new : End Awaited) → HasLooked told_item before stand old new → left_of new < left_of old
+lessens_at_an_item before stand (waits awaited unread) new has = has.moves
+lessens_at_an_item before stand closed new has = absurd has
 
-pub lessens : (old new : End Awaited) → HasLooked Announced old new → left_of new < left_of old
-lessens (waits awaited unread) new has = has.moves
-lessens closed new has = absurd has
+pub lessens_at_a_line : (before stand : OpenState) (old new : End Awaited) → HasLooked Announced before stand old new → left_of new < left_of old
+lessens_at_a_line before stand (waits awaited unread) new has = has.moves
+lessens_at_a_line before stand closed new has = absurd has
 
-pub starves : (old new : End Awaited) → HasLooked Waits old new → HasNone old new
-starves (waits awaited unread) new has = record {
-  same = ap reading_at has.moves;
-  none = ap (λ e. (reading_at e).items) has.moves ∙ ap (λ r. r.items) (waits_for_more client_grammar awaited unread has.tells);
-}
-starves closed new has = record { same = ap reading_at has; none = ap (λ e. (reading_at e).items) has }
+pub passes : (before stand : OpenState) (old new : End Awaited) → HasLooked Announced before stand old new → (reading_at new ≡ reading_at old) × (stand ≡ before)
+passes before stand (waits awaited unread) new has =
+    (ap reading_at has.tells.3 ∙ sym (found_items awaited unread [] has.tells.0 has.tells.1 has.tells.2), has.tells.4)
+passes before stand closed new has = absurd has
+
+pub starves : (before stand : OpenState) (old new : End Awaited) → HasLooked Waits before stand old new → HasNone old new × (stand ≡ before)
+starves before stand (waits awaited unread) new has = (
+  record {
+    same = ap reading_at has.moves;
+    none = ap (λ e. (reading_at e).items) has.moves ∙ ap (λ r. r.items) (waits_for_more client_grammar awaited unread has.tells.0);
+  },
+  has.tells.1,
+)
+starves before stand closed new has = (record { same = ap reading_at has.0; none = ap (λ e. (reading_at e).items) has.0 }, has.1)
 
 -- ---- what the cutter gives, as a look
 
@@ -90,26 +104,26 @@ finds_piece awaited cutter piece stands is =
 same_rest : (items first : List StreamItem) (next other : Awaited) (rest behind : List ℕ) → something items next behind ≡ something first other rest → rest ≡ behind
 same_rest items first next other rest behind is = cc
 
-next_within : (looks : Looked) (items : List StreamItem) (next : Awaited) (behind : List ℕ) (fault : Option CutFault) (new : End Awaited) → TellsFound looks (found_next client_grammar items next behind fault) new → left_of new ≤ suc (length behind)
-next_within Waits items next behind None new tells = absurd (cc)
-next_within Waits items next behind (Some fault) new tells = absurd (cc)
-next_within Announced items next behind None new tells =
+next_within : (looks : Looked) (s t : OpenState) (items : List StreamItem) (next : Awaited) (behind : List ℕ) (fault : Option CutFault) (new : End Awaited) → TellsFound looks s t (found_next client_grammar items next behind fault) new → left_of new ≤ suc (length behind)
+next_within Waits s t items next behind None new tells = let is = tells.0 in absurd (cc)
+next_within Waits s t items next behind (Some fault) new tells = let is = tells.0 in absurd (cc)
+next_within Announced s t items next behind None new tells =
     let same : tells.1 ≡ behind = same_rest items [] next tells.0 tells.1 behind tells.2 in
     subst (λ e. left_of e ≤ suc (length behind)) (sym tells.3) (subst (λ l. suc (length l) ≤ suc (length behind)) (sym same) (omega arith))
-next_within Announced items next behind (Some fault) new tells = let is = tells.2 in absurd (cc)
-next_within (told_item item) items next behind None new tells = subst (λ e. left_of e ≤ suc (length behind)) (sym tells.2.1) (omega arith)
-next_within (told_item item) items next behind (Some fault) new tells = subst (λ e. left_of e ≤ suc (length behind)) (sym tells.2.1) (omega arith)
+next_within Announced s t items next behind (Some fault) new tells = let is = tells.2 in absurd (cc)
+next_within told_item s t items next behind None new tells = subst (λ e. left_of e ≤ suc (length behind)) (sym tells.2.1) (omega arith)
+next_within told_item s t items next behind (Some fault) new tells = subst (λ e. left_of e ≤ suc (length behind)) (sym tells.2.1) (omega arith)
 
-before_within : (looks : Looked) (behind : List ℕ) (told : Told Awaited StreamItem) (new : End Awaited) → TellsFound looks (found_before client_grammar behind told) new → left_of new ≤ suc (length behind)
-before_within looks behind (going_on items next) new tells = next_within looks items next behind _ new tells
-before_within Waits behind (ending items) new tells = absurd (cc)
-before_within Announced behind (ending items) new tells = let is = tells.2 in absurd (cc)
-before_within (told_item item) behind (ending items) new tells = subst (λ e. left_of e ≤ suc (length behind)) (sym tells.2.1) (omega arith)
+before_within : (looks : Looked) (s t : OpenState) (behind : List ℕ) (told : Told Awaited StreamItem) (new : End Awaited) → TellsFound looks s t (found_before client_grammar behind told) new → left_of new ≤ suc (length behind)
+before_within looks s t behind (going_on items next) new tells = next_within looks s t items next behind _ new tells
+before_within Waits s t behind (ending items) new tells = let is = tells.0 in absurd (cc)
+before_within Announced s t behind (ending items) new tells = let is = tells.2 in absurd (cc)
+before_within told_item s t behind (ending items) new tells = subst (λ e. left_of e ≤ suc (length behind)) (sym tells.2.1) (omega arith)
 
-moves_by : (looks : Looked) (f : Found Awaited StreamItem) (old new : End Awaited) → TellsFound looks f new → ¬ (f ≡ nothing) → left_of new < left_of old → Moves looks old new
-moves_by Waits f old new tells some less = absurd (some tells)
-moves_by Announced f old new tells some less = less
-moves_by (told_item item) f old new tells some less = less
+moves_by : (looks : Looked) (s t : OpenState) (f : Found Awaited StreamItem) (old new : End Awaited) → TellsFound looks s t f new → ¬ (f ≡ nothing) → left_of new < left_of old → Moves looks old new
+moves_by Waits s t f old new tells some less = absurd (some tells.0)
+moves_by Announced s t f old new tells some less = less
+moves_by told_item s t f old new tells some less = less
 
 before_some : (behind : List ℕ) (told : Told Awaited StreamItem) → ¬ (found_before client_grammar behind told ≡ nothing)
 before_some behind (going_on items next) is = next_some (size_fault client_grammar.payload_max (client_grammar.size next)) is where
@@ -122,34 +136,111 @@ reading_end : (r : ItemReader) → r.ended ≡ false → end_of r ≡ waits r.aw
 reading_end r reads = ap (λ b. let e : End Awaited = if b then closed else waits r.awaited r.cutter.unread in e) reads
 
 -- a piece was used up, and what it tells was found
-pub moved : (looks : Looked) (old : ItemReader) (piece : StreamPiece) (new : End Awaited) → IsInStep old → old.ended ≡ false → cut_of old.cutter ≡ Ok (Some piece)
-    → TellsFound looks (found_before client_grammar (after_next old.cutter).unread (piece_told old.awaited (bytes_of piece))) new
-    → HasMoved looks (found client_grammar old.awaited old.cutter.unread) (end_of old) new
-moved looks old piece new step reads is tells =
+pub moved : (looks : Looked) (s t : OpenState) (old : ItemReader) (piece : StreamPiece) (new : End Awaited) → IsInStep old → old.ended ≡ false → cut_of old.cutter ≡ Ok (Some piece)
+    → TellsFound looks s t (found_before client_grammar (after_next old.cutter).unread (piece_told old.awaited (bytes_of piece))) new
+    → HasMoved looks s t (found client_grammar old.awaited old.cutter.unread) (end_of old) new
+moved looks s t old piece new step reads is tells =
     let told = piece_told old.awaited (bytes_of piece) in
     let within : left_of new ≤ suc (length (drop (length (bytes_of piece) + 2) old.cutter.unread)) =
-    subst (λ l. left_of new ≤ suc (length l)) (behind_piece old.cutter piece is) (before_within looks (after_next old.cutter).unread told new tells) in
+    subst (λ l. left_of new ≤ suc (length l)) (behind_piece old.cutter piece is) (before_within looks s t (after_next old.cutter).unread told new tells) in
     let there : IsWithinUnread piece old.cutter = cut_of-piece_length old.cutter piece is in
     let less : left_of new < left_of (waits old.awaited old.cutter.unread) = omega (arith, within, there, length-drop (length (bytes_of piece) + 2) old.cutter.unread) in
     record {
-      tells = subst (λ f. TellsFound looks f new) (sym (finds_piece old.awaited old.cutter piece (step.stands reads) is)) tells;
+      tells = subst (λ f. TellsFound looks s t f new) (sym (finds_piece old.awaited old.cutter piece (step.stands reads) is)) tells;
       moves = subst (λ e. Moves looks e new) (sym (reading_end old reads))
-          (moves_by looks _ (waits old.awaited old.cutter.unread) new tells (before_some (after_next old.cutter).unread told) less);
+          (moves_by looks s t _ (waits old.awaited old.cutter.unread) new tells (before_some (after_next old.cutter).unread told) less);
     }
+
+-- ---- what ends a stream, and what does not
+
+-- one item alone was found, and it is the last
+ends_with : (s t : OpenState) (item : StreamItem) (f : Found Awaited StreamItem) (new : End Awaited) → f ≡ the_end (item ∷ []) → t ≡ asked_by item s.options → new ≡ closed → TellsFound told_item s t f new
+ends_with s t item f new is stands ended = (item, stands, subst (λ g. FoundAlone item g new) (sym is) (refl, ended))
+
+-- one item alone was found, and a line is due behind it
+goes_on_with : (s t : OpenState) (item : StreamItem) (f : Found Awaited StreamItem) (rest : List ℕ) (new : End Awaited) → f ≡ something (item ∷ []) awaits.Line rest → t ≡ asked_by item s.options → new ≡ waits awaits.Line rest → TellsFound told_item s t f new
+goes_on_with s t item f rest new is stands there = (item, stands, subst (λ g. FoundAlone item g new) (sym is) (refl, there))
+
+unreadable_asked : (s t : OpenState) (fault : CutFault) (text : ErrText) → text ≡ cut_fault_text fault → t ≡ record s { asks = refusing text } → t ≡ asked_by (unreadable fault) s.options
+unreadable_asked s t fault text is stands = stands ∙ ap (λ x. let r : OpenState = record s { asks = refusing x } in r) is
+
+refused_asked : (s t : OpenState) (fault : LineFault) (text : ErrText) → text ≡ line_fault_text fault → t ≡ record s { asks = refusing text } → t ≡ asked_by (refused fault) s.options
+refused_asked s t fault text is stands = stands ∙ ap (λ x. let r : OpenState = record s { asks = refusing x } in r) is
+
+is_closed : (old new : ItemReader) → new ≡ record old { ended = true } → end_of new ≡ closed
+is_closed old new is = ap end_of is
+
+behind_end : (r : ItemReader) → IsBehindLine r → end_of r ≡ waits awaits.Line r.cutter.unread
+behind_end r behind = reading_end r behind.reads ∙ ap (λ a. let e : End Awaited = waits a r.cutter.unread in e) behind.awaits_line
+
+-- bytes that cannot be read
+pub unread_moved : (looks : Looked) (s t : OpenState) (old new : ItemReader) (fault : CutFault) (text : ErrText) → IsInStep old → old.ended ≡ false → cut_of old.cutter ≡ Err fault
+    → looks ≡ told_item → text ≡ cut_fault_text fault → t ≡ record s { asks = refusing text } → new ≡ record old { ended = true }
+    → HasMoved looks s t (found client_grammar old.awaited old.cutter.unread) (end_of old) (end_of new)
+unread_moved looks s t old new fault text step reads is tells told stands ended =
+    subst (λ l. HasMoved l s t (found client_grammar old.awaited old.cutter.unread) (end_of old) (end_of new)) (sym tells) (record {
+      tells = ends_with s t (unreadable fault) (found client_grammar old.awaited old.cutter.unread) (end_of new) (finds old.awaited old.cutter (Err fault) (step.stands reads) is) (unreadable_asked s t fault text told stands) (is_closed old new ended);
+      moves = subst (λ e. left_of (end_of new) < left_of e) (sym (reading_end old reads)) (subst (λ e. left_of e < left_of (waits old.awaited old.cutter.unread)) (sym (is_closed old new ended)) (omega arith));
+    })
+
+-- a line that is refused
+pub refused_to_the_end : (looks : Looked) (s t : OpenState) (old new : ItemReader) (fault : LineFault) (text : ErrText) → text_closes text ≡ true → looks ≡ told_item → text ≡ line_fault_text fault
+    → t ≡ record s { asks = refusing text } → new ≡ record old { ended = true } → TellsFound looks s t (found_before client_grammar old.cutter.unread (refusal_told fault)) (end_of new)
+refused_to_the_end looks s t old new fault text closes tells told stands ended =
+    let is : found_before client_grammar old.cutter.unread (refusal_told fault) ≡ the_end (refused fault ∷ []) =
+    ap (λ b. found_before client_grammar old.cutter.unread (if b then ending (refused fault ∷ []) else going_on (refused fault ∷ []) awaits.Line)) (ap text_closes (sym told) ∙ closes) in
+    subst (λ l. TellsFound l s t (found_before client_grammar old.cutter.unread (refusal_told fault)) (end_of new)) (sym tells)
+    (ends_with s t (refused fault) _ (end_of new) is (refused_asked s t fault text told stands) (is_closed old new ended))
+
+pub refused_and_read_on : (s t : OpenState) (r : ItemReader) (fault : LineFault) (text : ErrText) → IsBehindLine r → text_closes text ≡ false → text ≡ line_fault_text fault
+    → t ≡ record s { asks = refusing text } → TellsFound told_item s t (found_before client_grammar r.cutter.unread (refusal_told fault)) (end_of r)
+refused_and_read_on s t r fault text behind open_still told stands =
+    let is : found_before client_grammar r.cutter.unread (refusal_told fault) ≡ something (refused fault ∷ []) awaits.Line r.cutter.unread =
+    ap (λ b. found_before client_grammar r.cutter.unread (if b then ending (refused fault ∷ []) else going_on (refused fault ∷ []) awaits.Line)) (ap text_closes (sym told) ∙ open_still) in
+    goes_on_with s t (refused fault) _ r.cutter.unread (end_of r) is (refused_asked s t fault text told stands) (behind_end r behind)
+
+-- a command that announces nothing
+pub command_asked : (s t : OpenState) (r : ItemReader) (command : ClientLine) → IsBehindLine r → ((head : PubHead) → ¬ (command ≡ Pub head)) → ((size : ℕ) → ¬ (command ≡ PubBad size))
+    → t ≡ asked_by (asked command) s.options → TellsFound told_item s t (found_before client_grammar r.cutter.unread (command_told command)) (end_of r)
+command_asked s t r command behind no_pub no_bad stands = goes_on_with s t (asked command) _ r.cutter.unread (end_of r) (by_command command no_pub no_bad) stands (behind_end r behind) where
+  by_command : (command : ClientLine) → ((head : PubHead) → ¬ (command ≡ Pub head)) → ((size : ℕ) → ¬ (command ≡ PubBad size))
+      → found_before client_grammar r.cutter.unread (command_told command) ≡ something (asked command ∷ []) awaits.Line r.cutter.unread
+  by_command (Connect options) no_pub no_bad = refl
+  by_command (Pub head) no_pub no_bad = absurd (no_pub head refl)
+  by_command (PubBad size) no_pub no_bad = absurd (no_bad size refl)
+  by_command (Sub pattern queue sid) no_pub no_bad = refl
+  by_command (Unsub sid max) no_pub no_bad = refl
+  by_command Ping no_pub no_bad = refl
+  by_command Pong no_pub no_bad = refl
+
+-- a payload is announced that is too large
+pub too_large : (looks : Looked) (s t : OpenState) (r new : ItemReader) (awaited : Awaited) (size : ℕ) (fault : CutFault) (text : ErrText) → IsBehindLine r → expect_fault r.cutter.fault r.cutter.payload_max size ≡ Some fault
+    → looks ≡ told_item → text ≡ cut_fault_text fault → t ≡ record s { asks = refusing text } → end_of new ≡ closed
+    → TellsFound looks s t (found_next client_grammar [] awaited r.cutter.unread (expect_fault None MAX_PAYLOAD size)) (end_of new)
+too_large looks s t r new awaited size fault text behind is tells told stands ended =
+    let some : expect_fault None MAX_PAYLOAD size ≡ Some fault =
+    ap (λ f. expect_fault f MAX_PAYLOAD size) (sym behind.stands.fault) ∙ ap (λ m. expect_fault r.cutter.fault m size) (sym behind.stands.payload_max) ∙ is in
+    subst (λ l. TellsFound l s t (found_next client_grammar [] awaited r.cutter.unread (expect_fault None MAX_PAYLOAD size)) (end_of new)) (sym tells)
+    (ends_with s t (unreadable fault) _ (end_of new) (ap (found_next client_grammar [] awaited r.cutter.unread) some) (unreadable_asked s t fault text told stands) ended)
 
 -- ---- lines
 
-pub line_moved : (looks : Looked) (old mid : ItemReader) (bytes : List ℕ) (new : End Awaited) → IsInStep old → old.ended ≡ false → old.awaited ≡ awaits.Line → cut_of old.cutter ≡ Ok (Some (line bytes))
-    → mid ≡ record old { cutter = after_next old.cutter } → TellsFound looks (found_before client_grammar mid.cutter.unread (line_told (line_meaning bytes))) new
-    → HasMoved looks (found client_grammar old.awaited old.cutter.unread) (end_of old) new
-line_moved looks old mid bytes new step reads due is same tells =
-    moved looks old (line bytes) new step reads is
-    (subst (λ a. TellsFound looks (found_before client_grammar (after_next old.cutter).unread (piece_told a bytes)) new) (sym due)
-    (subst (λ l. TellsFound looks (found_before client_grammar l (line_told (line_meaning bytes))) new) (ap (λ r. r.cutter.unread) same) tells))
+pub line_moved : (looks : Looked) (s t : OpenState) (old mid : ItemReader) (bytes : List ℕ) (meaning : Meaning) (new : End Awaited) → IsInStep old → old.ended ≡ false → old.awaited ≡ awaits.Line → cut_of old.cutter ≡ Ok (Some (line bytes))
+    → mid ≡ record old { cutter = after_next old.cutter } → line_meaning bytes ≡ meaning → TellsFound looks s t (found_before client_grammar mid.cutter.unread (line_told meaning)) new
+    → HasMoved looks s t (found client_grammar old.awaited old.cutter.unread) (end_of old) new
+line_moved looks s t old mid bytes meaning new step reads due is same means tells =
+    moved looks s t old (line bytes) new step reads is
+    (subst (λ a. TellsFound looks s t (found_before client_grammar (after_next old.cutter).unread (piece_told a bytes)) new) (sym due)
+    (subst (λ m. TellsFound looks s t (found_before client_grammar (after_next old.cutter).unread (line_told m)) new) (sym means)
+    (subst (λ l. TellsFound looks s t (found_before client_grammar l (line_told meaning)) new) (ap (λ r. r.cutter.unread) same) tells)))
 
-pub announced : (r : ItemReader) (cutter : CutterState) (awaited : Awaited) (size : ℕ) → IsBehindLine r → expect_fault r.cutter.fault r.cutter.payload_max size ≡ None → cutter ≡ after_expect r.cutter size
-    → TellsFound Announced (found_next client_grammar [] awaited r.cutter.unread (expect_fault None MAX_PAYLOAD size)) (end_of (record r { cutter = cutter; awaited = awaited }))
-announced r cutter awaited size behind fits is =
+pub means_refused : (meaning : Meaning) (result : Result ClientLine (Failure LineFault)) (failure : Failure LineFault) (fault : LineFault) → result ≡ Err failure → failure ≡ Refused fault → Means meaning result → meaning ≡ Err fault
+means_refused meaning result failure fault is refuses means = subst (λ f. Means meaning (Err f)) refuses (subst (Means meaning) is means)
+
+-- a payload is announced that is not too large
+pub announced : (s : OpenState) (r : ItemReader) (cutter : CutterState) (awaited : Awaited) (size : ℕ) → IsBehindLine r → expect_fault r.cutter.fault r.cutter.payload_max size ≡ None → cutter ≡ after_expect r.cutter size
+    → TellsFound Announced s s (found_next client_grammar [] awaited r.cutter.unread (expect_fault None MAX_PAYLOAD size)) (end_of (record r { cutter = cutter; awaited = awaited }))
+announced s r cutter awaited size behind fits is =
     let none : expect_fault None MAX_PAYLOAD size ≡ None =
     ap (λ f. expect_fault f MAX_PAYLOAD size) (sym behind.stands.fault) ∙ ap (λ m. expect_fault r.cutter.fault m size) (sym behind.stands.payload_max) ∙ fits in
     let after : cutter.unread ≡ r.cutter.unread = ap (λ c. c.unread) (is ∙ ap (after_refusal r.cutter size) fits) in (
@@ -157,15 +248,25 @@ announced r cutter awaited size behind fits is =
       r.cutter.unread,
       ap (found_next client_grammar [] awaited r.cutter.unread) none,
       ap (λ b. let e : End Awaited = if b then closed else waits awaited cutter.unread in e) behind.reads ∙ ap (λ l. let e : End Awaited = waits awaited l in e) after,
+      refl,
     )
 
 -- ---- payloads
 
-pub published_found : (head : PubHead) (awaited : Awaited) (bytes rest : List ℕ) (message : Content) (new : End Awaited) → awaited ≡ awaits.Payload head → message ≡ message_of head bytes → new ≡ waits awaits.Line rest
-    → TellsFound (told_item (Publication message)) (found_before client_grammar rest (piece_told awaited bytes)) new
-published_found head awaited bytes rest message new due is there =
-    subst (λ a. TellsFound (told_item (Publication message)) (found_before client_grammar rest (piece_told a bytes)) new) (sym due)
-    (published head bytes, (head, bytes, refl, is), (refl, there))
+pub published_found : (s t : OpenState) (head : PubHead) (awaited : Awaited) (bytes rest : List ℕ) (message : Content) (new : End Awaited) → awaited ≡ awaits.Payload head → message ≡ message_of head bytes
+    → t ≡ record s { asks = confirmed s.options (Publish (publication_of message s.options) ∷ []) } → new ≡ waits awaits.Line rest → TellsFound told_item s t (found_before client_grammar rest (piece_told awaited bytes)) new
+published_found s t head awaited bytes rest message new due is stands there =
+    goes_on_with s t (published head bytes) _ rest new (ap (λ a. found_before client_grammar rest (piece_told a bytes)) due)
+    (stands ∙ ap (λ m. let r : OpenState = record s { asks = confirmed s.options (Publish (publication_of m s.options) ∷ []) } in r) is) there
+
+-- the payload of a publication that is refused
+pub lost_found : (s t : OpenState) (size : ℕ) (awaited : Awaited) (bytes rest : List ℕ) (text : ErrText) (new : End Awaited) → awaited ≡ awaits.LostPayload size → text ≡ line_fault_text BadSubject
+    → t ≡ record s { asks = refusing text } → new ≡ waits awaits.Line rest → TellsFound told_item s t (found_before client_grammar rest (piece_told awaited bytes)) new
+lost_found s t size awaited bytes rest text new due told stands there =
+    goes_on_with s t (refused BadSubject) _ rest new (ap (λ a. found_before client_grammar rest (piece_told a bytes)) due) (refused_asked s t BadSubject text told stands) there
+
+pub is_in_step : (r : ItemReader) → IsBehindLine r → IsInStep r
+is_in_step r behind = record { stands = λ reads. behind.stands }
 
 -- a line is due behind a piece that was used up
 pub line_due : (old new : CutterState) (ended : Bool) → ended ≡ false → new ≡ after_next old
@@ -173,3 +274,8 @@ pub line_due : (old new : CutterState) (ended : Bool) → ended ≡ false → ne
 line_due old new ended reads is =
     ap (λ b. let e : End Awaited = if b then closed else waits awaits.Line new.unread in e) reads
     ∙ ap (λ k. let e : End Awaited = waits awaits.Line k.unread in e) is
+
+pub line_due_behind : (old new : CutterState) (ended : Bool) (awaited : Awaited) → ended ≡ false → awaited ≡ awaits.Line → new ≡ after_next old
+    → (let e : End Awaited = if ended then closed else waits awaited new.unread in e) ≡ waits awaits.Line (after_next old).unread
+line_due_behind old new ended awaited reads due is =
+    ap (λ a. let e : End Awaited = if ended then closed else waits a new.unread in e) due ∙ line_due old new ended reads is

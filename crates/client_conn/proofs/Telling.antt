@@ -6,7 +6,7 @@ use Rattle.client_frames.specs.declared.awaited.Awaited.{Awaited}
 use Rattle.client_frames.specs.declared.client_line.Options.{Options}
 use Rattle.client_frames.specs.Streams.{StreamItem, client_grammar}
 use Rattle.client_conn.specs.declared.ask.Ask.{Ask}
-use Rattle.client_conn.specs.Items.{options_behind, options_after, item_asks, items_asks}
+use Rattle.client_conn.specs.Items.{OpenState, options_behind, options_after, item_asks, items_asks}
 use Rattle.client_conn.specs.Asks.{Asking, Onward, listens, over, behind, onward_of, asking_of, read_onward, nothing_more, fed}
 use Rattle.client_conn.specs.Streams.{reading_at, longer, asking_at}
 
@@ -55,5 +55,5 @@ fed_end o (waits awaited unread) bytes = fed_reading o awaited unread bytes
 fed_end o closed bytes = refl
 
 -- a reader that has more bytes
-pub fed_standing : (open_asks : List Ask) (o : Options) (end : End Awaited) (bytes : List ℕ) → fed bytes (asking_at open_asks o end) ≡ asking_at open_asks o (longer bytes end)
-fed_standing open_asks o end bytes = fed_behind open_asks (asking_of o (reading_at end)) bytes ∙ ap (behind open_asks) (fed_end o end bytes)
+pub fed_standing : (stand : OpenState) (end : End Awaited) (bytes : List ℕ) → fed bytes (asking_at stand end) ≡ asking_at stand (longer bytes end)
+fed_standing stand end bytes = fed_behind stand.asks (asking_of stand.options (reading_at end)) bytes ∙ ap (behind stand.asks) (fed_end stand.options end bytes)

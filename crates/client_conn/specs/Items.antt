@@ -75,6 +75,15 @@ item_asks options (published head payload) = confirmed options (Publish (publica
 item_asks options (refused fault) = refusing (line_fault_text fault)
 item_asks options (unreadable fault) = refusing (cut_fault_text fault)
 
+-- what stands to be asked of one item, and the options by which the next ones ask
+pub record OpenState : Type 0 where
+  pub asks : List Ask
+  pub options : Options
+
+-- what stands behind an item that comes by these options
+abbrev pub asked_by : StreamItem → Options → OpenState
+asked_by item options = record { asks = item_asks options item; options = options_behind item options }
+
 -- ---- all items
 
 -- one after the other, each by the options as those before it leave them

@@ -1,19 +1,16 @@
 -- A client's stream, read item by item.
 use Rattle.std.specs.Prelude.{◌≡◌, ℕ, suc, ◌<◌, ◌≤◌, true, false, List, [], ◌∷◌, ◌++◌, length, Option, Some, None, if◌then◌else◌}
 use Rattle.std.specs.Io.KnownBytes.{Consumes, IsAtEnd}
+use Rattle.subj.specs.Messages.{Content}
 use Rattle.wire_cut.specs.Reading.{End, waits, closed, Reading, reading_of, with_items, ended_by, StandsAt, Found, nothing, something, the_end, found}
 use Rattle.client_frames.specs.declared.awaited.Awaited.{Awaited}
 use Rattle.client_frames.specs.declared.awaited.Awaited.TheVariants as awaits
-use Rattle.client_frames.specs.declared.client_line.Options.{Options}
 use Rattle.client_frames.specs.declared.client_line.PubHead.{PubHead}
-use Rattle.client_frames.specs.Streams.{StreamItem, asked, published, refused, unreadable, client_grammar}
-use Rattle.client_conn.specs.declared.ask.Ask.{Ask}
-use Rattle.client_conn.specs.declared.item.Item.{Item}
-use Rattle.client_conn.specs.declared.item.Item.TheVariants.{Command, Publication, Refused, Unreadable}
+use Rattle.client_frames.specs.Streams.{StreamItem, client_grammar}
 use Rattle.client_conn.specs.declared.reader.ItemReader.{ItemReader}
 use Rattle.client_conn.specs.declared.reader.Looked.{Looked}
 use Rattle.client_conn.specs.declared.reader.Looked.TheVariants.{Waits, Announced, Told}
-use Rattle.client_conn.specs.Items.{message_of}
+use Rattle.client_conn.specs.Items.{OpenState, message_of, asked_by}
 use Rattle.client_conn.specs.Asks.{Asking, behind, asking_of}
 
 -- how far a reader has read
@@ -44,12 +41,16 @@ pub record IsBehindLine (r : ItemReader) : Type 0 where
 abbrev pub AwaitsPayload : Awaited → Type 0
 AwaitsPayload awaited = (head : PubHead) × (awaited ≡ awaits.Payload head)
 
+-- the message of the head that is awaited, with this payload
+abbrev pub IsMessageOf : Awaited → List ℕ → Content → Type 0
+IsMessageOf awaited payload message = (head : PubHead) × (awaited ≡ awaits.Payload head) × (message ≡ message_of head payload)
+
 abbrev pub AwaitsLostPayload : Awaited → Type 0
 AwaitsLostPayload awaited = (size : ℕ) × (awaited ≡ awaits.LostPayload size)
 
 -- what stands to be asked: these, and then what the rest of the stream asks for
-abbrev pub asking_at : List Ask → Options → End Awaited → Asking
-asking_at open_asks options end = behind open_asks (asking_of options (reading_at end))
+abbrev pub asking_at : OpenState → End Awaited → Asking
+asking_at stand end = behind stand.asks (asking_of stand.options (reading_at end))
 
 -- the reader has n bytes more
 pub record HasFilled (old new : End Awaited) (before after : Option (List ℕ)) (asked n : ℕ) : Type 0 where
@@ -60,15 +61,6 @@ pub record HasFilled (old new : End Awaited) (before after : Option (List ℕ)) 
   pub consumed : Consumes before after bytes
   pub end : n ≡ 0 → 0 < asked → IsAtEnd after
 
--- ---- items
-
--- an item of the code is one of the stream
-abbrev pub Shows : Item → StreamItem → Type 0
-Shows (Command command) told = told ≡ asked command
-Shows (Publication message) told = (head : PubHead) × (payload : List ℕ) × (told ≡ published head payload) × (message ≡ message_of head payload)
-Shows (Refused fault) told = told ≡ refused fault
-Shows (Unreadable fault) told = told ≡ unreadable fault
-
 -- ---- looks
 
 -- this alone was found, and the reader stands behind it
@@ -77,11 +69,11 @@ FoundAlone told nothing new = ⊥
 FoundAlone told (something items next behind) new = (items ≡ told ∷ []) × (new ≡ waits next behind)
 FoundAlone told (the_end items) new = (items ≡ told ∷ []) × (new ≡ closed)
 
--- what a look has found, and where the reader stands then
-abbrev pub TellsFound : Looked → Found Awaited StreamItem → End Awaited → Type 0
-TellsFound Waits f new = f ≡ nothing
-TellsFound Announced f new = (next : Awaited) × (rest : List ℕ) × (f ≡ something [] next rest) × (new ≡ waits next rest)
-TellsFound (Told item) f new = (told : StreamItem) × Shows item told × FoundAlone told f new
+-- what a look has found, what stands to be asked then, and where the reader stands
+abbrev pub TellsFound : Looked → OpenState → OpenState → Found Awaited StreamItem → End Awaited → Type 0
+TellsFound Waits before stand f new = (f ≡ nothing) × (stand ≡ before)
+TellsFound Announced before stand f new = (next : Awaited) × (rest : List ℕ) × (f ≡ something [] next rest) × (new ≡ waits next rest) × (stand ≡ before)
+TellsFound Told before stand f new = (told : StreamItem) × (stand ≡ asked_by told before.options) × FoundAlone told f new
 
 -- how much is left to be read
 abbrev pub left_of : End Awaited → ℕ
@@ -92,14 +84,13 @@ left_of closed = 0
 abbrev pub Moves : Looked → End Awaited → End Awaited → Type 0
 Moves Waits old new = new ≡ old
 Moves Announced old new = left_of new < left_of old
-Moves (Told item) old new = left_of new < left_of old
+Moves Told old new = left_of new < left_of old
 
--- an item was taken off what is told
-pub record HasTaken (item : Item) (old new : End Awaited) : Type 0 where
+-- an item was taken off what is told, and what it asks for stands
+pub record HasTaken (before stand : OpenState) (old new : End Awaited) : Type 0 where
   pub told : StreamItem
-  pub shown : Shows item told
+  pub stands : stand ≡ asked_by told before.options
   pub front : reading_at old ≡ with_items (told ∷ []) (reading_at new)
-  pub fewer : left_of new < left_of old
 
 -- nothing is told before more bytes come
 pub record HasNone (old new : End Awaited) : Type 0 where
@@ -107,20 +98,16 @@ pub record HasNone (old new : End Awaited) : Type 0 where
   pub none : (reading_at new).items ≡ []
 
 -- a look from one end to another
-pub record HasMoved (looked : Looked) (f : Found Awaited StreamItem) (old new : End Awaited) : Type 0 where
-  pub tells : TellsFound looked f new
+pub record HasMoved (looked : Looked) (before stand : OpenState) (f : Found Awaited StreamItem) (old new : End Awaited) : Type 0 where
+  pub tells : TellsFound looked before stand f new
   pub moves : Moves looked old new
 
-abbrev pub HasLooked : Looked → End Awaited → End Awaited → Type 0
-HasLooked looked (waits awaited unread) new = HasMoved looked (found client_grammar awaited unread) (waits awaited unread) new
-HasLooked Waits closed new = new ≡ closed
-HasLooked Announced closed new = ⊥
-HasLooked (Told item) closed new = ⊥
+abbrev pub HasLooked : Looked → OpenState → OpenState → End Awaited → End Awaited → Type 0
+HasLooked looked before stand (waits awaited unread) new = HasMoved looked before stand (found client_grammar awaited unread) (waits awaited unread) new
+HasLooked Waits before stand closed new = (new ≡ closed) × (stand ≡ before)
+HasLooked Announced before stand closed new = ⊥
+HasLooked Told before stand closed new = ⊥
 
 -- the same of a reader that reads
-abbrev pub HasLookedAt : Looked → ItemReader → ItemReader → Type 0
-HasLookedAt looked old new = HasMoved looked (found client_grammar old.awaited old.cutter.unread) (end_of old) (end_of new)
-
-abbrev pub HasNext : Option Item → End Awaited → End Awaited → Type 0
-HasNext (Some item) old new = HasTaken item old new
-HasNext None old new = HasNone old new
+abbrev pub HasLookedAt : Looked → OpenState → OpenState → ItemReader → ItemReader → Type 0
+HasLookedAt looked before stand old new = HasMoved looked before stand (found client_grammar old.awaited old.cutter.unread) (end_of old) (end_of new)

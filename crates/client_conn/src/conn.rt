@@ -11,8 +11,8 @@ ghost use Rattle.client_conn.specs.Shown.{Stays};
 use crate::ask::{Ask, Refusal};
 use crate::faults::ReadFault;
 use crate::open_asks::OpenAsks;
-use crate::reader::ItemReader;
-use client_frames::{ErrText, InfoData, Options, ReplyFrame};
+use crate::reader::{ItemReader, Looked};
+use client_frames::{ErrText, InfoData, ReplyFrame};
 use std::alloc::{AllocError, Global};
 use std::marker::Model;
 use wire_cut::Source;
@@ -26,7 +26,6 @@ use wire_cut::Source;
 #[derive(Drop)]
 pub struct Conn {
     reader: ItemReader,
-    options: Options,
     open_asks: OpenAsks,
 }
 
@@ -38,30 +37,26 @@ impl Model for Conn {
     ghost Value = { ConnState };
 
     ghost view = { λ c. record {
-      asking = asking_at c.open_asks c.options (end_of c.reader);
-      given = not (no_asks c.open_asks);
+      asking = asking_at c.open_asks (end_of c.reader);
+      given = not (no_asks c.open_asks.asks);
     } };
 
     ghost invariant = { λ c. IsInStep c.reader };
 }
 
 /// Reads on until something stands to be asked, or more bytes are needed.
-fn advance(
-    reader: &mut ItemReader,
-    options: &mut Options,
-    open_asks: &mut OpenAsks,
-) -> Result<(), AllocError>
+fn advance(reader: &mut ItemReader, open_asks: &mut OpenAsks) -> Result<(), AllocError>
     requires { IsInStep reader.old }
-    ensures same { asking_at open_asks.new options.new (end_of reader.new) ≡ asking_at open_asks.old options.old (end_of reader.old) }
-    ensures first { OnOk result (open_asks.new ≡ [] → (asking_at open_asks.new options.new (end_of reader.new)).asks ≡ []) }
-    ensures kept { OnErr result (open_asks.new ≡ []) }
+    ensures same { asking_at open_asks.new (end_of reader.new) ≡ asking_at open_asks.old (end_of reader.old) }
+    ensures first { OnOk result (open_asks.new.asks ≡ [] → (asking_at open_asks.new (end_of reader.new)).asks ≡ []) }
+    ensures kept { OnErr result (open_asks.new.asks ≡ []) }
     ensures step { IsInStep reader.new }
 {
     while open_asks.is_empty() {
-        let Some(item) = reader.next()? else {
-            return Ok(());
-        };
-        open_asks.ask_for(item, options);
+        match reader.look(open_asks)? {
+            Looked::Waits => return Ok(()),
+            Looked::Announced | Looked::Told => {}
+        }
     }
     Ok(())
 }
@@ -73,10 +68,6 @@ impl Conn {
     {
         Conn {
             reader: ItemReader::new(alloc),
-            options: Options {
-                verbose: true,
-                echo: true,
-            },
             open_asks: OpenAsks::of(Ask::Reply(ReplyFrame::Info(info))),
         }
     }
@@ -117,7 +108,7 @@ impl Conn {
         ensures first { IfOk result (λ ask. option_copied ask ≡ slice_get self.old.asking.asks 0) }
         ensures* rest { sem 𝓛 (Stays (IsOkAnd result (λ ask. IsSome ask)) self.entry) }
     {
-        advance(&mut self.reader, &mut self.options, &mut self.open_asks)?;
+        advance(&mut self.reader, &mut self.open_asks)?;
         Ok(self.open_asks.first())
     }
 

@@ -2,14 +2,13 @@
 //!
 //! The asks are a function of the bytes and of the answers, however the bytes were cut (`asks_follow_bytes_and_answers`).
 //!
-//! In reading order: `item` is what a stream tells, which `reader` reads; `ask` is what is asked, and `open_asks` what one item asks
-//! for; `conn` is the connection.
+//! In reading order: `ask` is what is asked, and `open_asks` what one item of a stream asks for; `reader` reads the items; `conn` is
+//! the connection.
 #![tactic(auto)]
 
 mod ask;
 mod conn;
 mod faults;
-mod item;
 mod laws;
 mod open_asks;
 mod reader;

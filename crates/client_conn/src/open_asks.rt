@@ -1,84 +1,74 @@
 //! What an item asks for.
 
-ghost use Rattle.std.specs.Prelude.{◌≡◌, ◌∷◌, [], drop, is_some, not, slice_get, option_copied, option_to_list};
+ghost use Rattle.std.specs.Prelude.{◌≡◌, ◌∷◌, ◌++◌, List, [], drop, is_some, not, slice_get, option_copied, option_to_list};
 ghost use Rattle.client_frames.specs.declared.server_frames.ReplyFrame.TheVariants as reply;
-ghost use Rattle.client_frames.specs.Streams.{StreamItem};
+ghost use Rattle.client_frames.specs.Streams.{asked};
+ghost use Rattle.client_conn.specs.declared.ask.Ask.{Ask};
 ghost use Rattle.client_conn.specs.declared.ask.Ask.TheVariants as ask;
 ghost use Rattle.client_conn.specs.Asks.{no_asks};
-ghost use Rattle.client_conn.specs.Items.{confirmed, refusing, options_behind, item_asks, options_by, command_asks, publication_of};
-ghost use Rattle.client_conn.specs.Streams.{Shows};
+ghost use Rattle.client_conn.specs.Items.{asked_by, confirmed, first_options, publication_of, refusing};
 
 use crate::ask::Ask;
-use crate::item::Item;
 use client_frames::{ClientLine, ErrText, Options, ReplyFrame};
 use std::marker::Model;
 use subj::{Key, Message, Pub};
 
-/// The asks of one item that are not answered yet, of which there are at most two. Seen as their list.
+/// The asks of one item that are not answered yet, of which there are at most two, and the options by which the next
+/// items ask.
+///
+/// Seen as the list of the asks, and the options.
 #[derive(Drop)]
 pub struct OpenAsks {
-    first: Option<Ask>,
-    second: Option<Ask>,
+    options: Options,
+    /// What is asked before the item's own, where that is asked too.
+    confirmation: Option<Ask>,
+    own: Option<Ask>,
 }
 
 impl Model for OpenAsks {
-    ghost use Rattle.std.specs.Prelude.{◌≡◌, ◌++◌, List, None, option_to_list};
-    ghost use Rattle.client_conn.specs.declared.ask.Ask.{Ask};
+    ghost use Rattle.std.specs.Prelude.{◌++◌, option_to_list};
+    ghost use Rattle.client_conn.specs.Items.{OpenState};
 
-    ghost Value = { List Ask };
+    ghost Value = { OpenState };
 
-    ghost view = { λ s. option_to_list s.first ++ option_to_list s.second };
+    ghost view = { λ s. record { asks = option_to_list s.confirmation ++ option_to_list s.own; options = s.options } };
+}
 
-    ghost invariant = { λ s. s.first ≡ None → s.second ≡ None };
+/// `+OK` in verbose mode, which comes before what a command asks for itself.
+fn confirmation_by(options: Options) -> Option<Ask>
+    ensures { (own : List Ask) → option_to_list result ++ own ≡ confirmed options own }
+{
+    if options.verbose {
+        Some(Ask::Reply(ReplyFrame::Ok))
+    } else {
+        None
+    }
 }
 
 impl OpenAsks {
-    /// Nothing is asked.
-    pub fn none() -> OpenAsks
-        ensures { result ≡ [] }
-    {
-        OpenAsks {
-            first: None,
-            second: None,
-        }
-    }
-
-    /// This alone is asked.
+    /// This alone is asked, of a client that has chosen no options yet.
     pub fn of(ask: Ask) -> OpenAsks
-        ensures { result ≡ ask ∷ [] }
+        ensures { result ≡ record { asks = ask ∷ []; options = first_options } }
     {
         OpenAsks {
-            first: Some(ask),
-            second: None,
+            options: Options {
+                verbose: true,
+                echo: true,
+            },
+            confirmation: None,
+            own: Some(ask),
         }
     }
 
-    /// What an item asks for stands in place of what stood. The item may change the options first.
-    pub fn ask_for(&mut self, item: Item, options: &mut Options)
-        ensures { (told : StreamItem) → Shows item told → (self.new ≡ item_asks options.old told) × (options.new ≡ options_behind told options.old) }
-    {
-        *self = OpenAsks::of_item(item, options);
-    }
-
-    fn of_item(item: Item, options: &mut Options) -> OpenAsks
-        ensures { (told : StreamItem) → Shows item told → (result ≡ item_asks options.old told) × (options.new ≡ options_behind told options.old) }
-    {
-        match item {
-            Item::Command(command) => OpenAsks::of_command(command, options),
-            Item::Publication(message) => OpenAsks::of_publication(message, options),
-            Item::Refused(fault) => OpenAsks::refusing(ErrText::of_line(fault)),
-            Item::Unreadable(fault) => OpenAsks::refusing(ErrText::of_cut(fault)),
-        }
-    }
-
-    fn of_command(command: ClientLine, options: &mut Options) -> OpenAsks
-        ensures asks { result ≡ command_asks options.old command }
-        ensures options { options.new ≡ options_by command options.old }
+    /// What a command asks for stands in place of what stood. It may change the options first.
+    pub fn ask_command(&mut self, command: ClientLine)
+        ensures { self.new ≡ asked_by (asked command) self.old.options }
     {
         match command {
             ClientLine::Connect(chosen) => {
-                *options = chosen;
-                OpenAsks::confirmed(*options, None)
+                self.options = chosen;
+                self.confirmation = confirmation_by(self.options);
+                self.own = None;
             }
             ClientLine::Sub {
                 pattern,
@@ -86,91 +76,94 @@ impl OpenAsks {
                 sid,
             } => {
                 let key = Key { pattern, queue };
-                OpenAsks::confirmed(*options, Some(Ask::Subscribe { key, sid }))
+                self.confirmation = confirmation_by(self.options);
+                self.own = Some(Ask::Subscribe { key, sid });
             }
             ClientLine::Unsub { sid, max } => {
-                OpenAsks::confirmed(*options, Some(Ask::Unsubscribe { sid, max }))
+                self.confirmation = confirmation_by(self.options);
+                self.own = Some(Ask::Unsubscribe { sid, max });
             }
-            ClientLine::Ping => OpenAsks::of(Ask::Reply(ReplyFrame::Pong)),
-            ClientLine::Pong | ClientLine::Pub(_) | ClientLine::PubBad { .. } => OpenAsks::none(),
+            ClientLine::Ping => self.ask_alone(Ask::Reply(ReplyFrame::Pong)),
+            ClientLine::Pong | ClientLine::Pub(_) | ClientLine::PubBad { .. } => self.clear(),
         }
     }
 
-    fn of_publication(message: Message, options: &Options) -> OpenAsks
-        ensures { result ≡ confirmed options.now (ask.Publish (publication_of message options.now) ∷ []) }
+    /// What a publication asks for stands in place of what stood.
+    pub fn ask_publication(&mut self, message: Message)
+        ensures { self.new ≡ record self.old { asks = confirmed self.old.options (ask.Publish (publication_of message self.old.options) ∷ []) } }
     {
         let publication = Pub {
             message,
-            echo: options.echo,
+            echo: self.options.echo,
         };
-        OpenAsks::confirmed(*options, Some(Ask::Publish(publication)))
+        self.confirmation = confirmation_by(self.options);
+        self.own = Some(Ask::Publish(publication));
     }
 
-    /// `+OK` in verbose mode, and then what a command asks for itself.
-    fn confirmed(options: Options, own: Option<Ask>) -> OpenAsks
-        ensures { result ≡ confirmed options (option_to_list own) }
-    {
-        if options.verbose {
-            OpenAsks {
-                first: Some(Ask::Reply(ReplyFrame::Ok)),
-                second: own,
-            }
-        } else {
-            OpenAsks {
-                first: own,
-                second: None,
-            }
-        }
-    }
-
-    fn refusing(text: ErrText) -> OpenAsks
-        ensures { result ≡ refusing text }
+    /// What a refusal with this text asks for stands in place of what stood.
+    pub fn refuse(&mut self, text: ErrText)
+        ensures { self.new ≡ record self.old { asks = refusing text } }
     {
         if text.closes() {
-            OpenAsks::of(Ask::Shut(text))
+            self.ask_alone(Ask::Shut(text));
         } else {
-            OpenAsks::of(Ask::Reply(ReplyFrame::Err(text)))
+            self.ask_alone(Ask::Reply(ReplyFrame::Err(text)));
         }
+    }
+
+    fn ask_alone(&mut self, ask: Ask)
+        ensures { self.new ≡ record self.old { asks = ask ∷ [] } }
+    {
+        self.confirmation = None;
+        self.own = Some(ask);
     }
 
     /// Whether nothing is asked.
     pub fn is_empty(&self) -> bool
-        ensures { result ≡ no_asks self.now }
+        ensures { result ≡ no_asks self.now.asks }
     {
-        self.first.is_none()
+        self.confirmation.is_none() && self.own.is_none()
     }
 
     /// What is asked first.
     pub fn first(&self) -> Option<&Ask>
-        ensures value { option_copied result ≡ slice_get self.now 0 }
-        ensures some { is_some result ≡ not (no_asks self.now) }
+        ensures value { option_copied result ≡ slice_get self.now.asks 0 }
+        ensures some { is_some result ≡ not (no_asks self.now.asks) }
     {
-        self.first.as_ref()
+        match &self.confirmation {
+            Some(confirmation) => Some(confirmation),
+            None => self.own.as_ref(),
+        }
     }
 
     /// The first was answered.
     pub fn advance(&mut self)
-        ensures { self.new ≡ drop 1 self.old }
+        ensures { self.new ≡ record self.old { asks = drop 1 self.old.asks } }
     {
-        if self.second.is_none() {
-            self.first = None;
-            return;
+        if self.confirmation.is_some() {
+            self.confirmation = None;
+        } else {
+            self.own = None;
         }
-        self.first = self.second.take();
     }
 
     /// The client is told this in place of the first.
     pub fn tell(&mut self, text: ErrText)
-        ensures { self.new ≡ ask.Reply (reply.Err text) ∷ drop 1 self.old }
+        ensures { self.new ≡ record self.old { asks = ask.Reply (reply.Err text) ∷ drop 1 self.old.asks } }
     {
-        self.first = Some(Ask::Reply(ReplyFrame::Err(text)));
+        let told = Some(Ask::Reply(ReplyFrame::Err(text)));
+        if self.confirmation.is_some() {
+            self.confirmation = told;
+        } else {
+            self.own = told;
+        }
     }
 
     /// Nothing is asked any more.
     pub fn clear(&mut self)
-        ensures { self.new ≡ [] }
+        ensures { self.new ≡ record self.old { asks = [] } }
     {
-        self.first = None;
-        self.second = None;
+        self.confirmation = None;
+        self.own = None;
     }
 }

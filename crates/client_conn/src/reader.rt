@@ -3,25 +3,26 @@
 ghost use Rattle.std.specs.Prelude.{◌≡◌, ◌≤◌, length, false, true, [], None, Some, IfOk, OnOk, OnErr};
 ghost use Rattle.wire_cut.specs.Cut.{expect_fault};
 ghost use Rattle.wire_cut.specs.Reading.{waits, found_before, found_next};
-ghost use Rattle.client_frames.specs.Lines.{line_meaning};
-ghost use Rattle.client_frames.specs.Streams.{client_grammar, line_told, refusal_told, size_awaited};
+ghost use Rattle.client_frames.specs.Streams.{client_grammar, command_told, refusal_told};
 ghost use Rattle.client_frames.specs.declared.awaited.Awaited.TheVariants as awaits;
 ghost use Rattle.std.specs.Io.KnownBytes.{Keeps};
 ghost use Rattle.subj.specs.declared.limits.TheConstants.{MAX_PAYLOAD};
-ghost use Rattle.client_conn.specs.Items.{message_of};
+ghost use Rattle.client_conn.specs.Items.{refusing};
 ghost use Rattle.client_conn.specs.declared.reader.Looked.TheVariants as looks;
 ghost use Rattle.client_conn.specs.Feeding.{CountsRead, ClosedWhere};
-ghost use Rattle.client_conn.specs.Streams.{end_of, longer, reading_at, IsInStep, IsBehindLine, AwaitsPayload, AwaitsLostPayload, TellsFound, HasLooked, HasLookedAt, HasNext, HasFilled};
+ghost use Rattle.client_conn.specs.Streams.{end_of, longer, IsInStep, IsBehindLine, AwaitsPayload, AwaitsLostPayload, IsMessageOf, TellsFound, HasLooked, HasLookedAt, HasFilled};
 
 use crate::faults::ReadFault;
-use crate::item::Item;
+use crate::open_asks::OpenAsks;
 use bytes::Bytes;
 use client_frames::{Awaited, ClientLine, ErrText, LineFault, PubHead, SharedTexts, decode_line};
-use std::alloc::{AllocError, Global};
-use subj::{CLIENT_LINE, Failure, MAX_PAYLOAD, Message};
-use wire_cut::{CutFault, Cutter, FeedFault, FillFault, Piece, Source};
+use std::alloc::{AllocError, AllocFailed, Global};
+use std::mem;
+use subj::{CLIENT_LINE, Failure, MAX_PAYLOAD, Message, MessageParts};
+use wire_cut::{Cutter, FeedFault, FillFault, Piece, Source};
 
-/// Reads the items of a client's stream. An item is read only once there is memory for it, so none is lost.
+/// Reads the items of a client's stream, each of which asks for something. An item is read only once there is memory
+/// for it, so none is lost.
 #[derive(Drop)]
 pub struct ItemReader {
     alloc: Global,
@@ -33,43 +34,48 @@ pub struct ItemReader {
 }
 
 /// What a look at the bytes has found.
+#[derive(Clone, Copy, Debug, PartialEq, Eq)]
 pub enum Looked {
     /// More bytes are needed.
     Waits,
     /// The line of a publication, which tells nothing before its payload is there.
     Announced,
     /// An item.
-    Told(Item),
+    Told,
 }
 
-/// What a line means.
-fn meaning_of(
-    texts: &mut SharedTexts,
-    line: &[u8],
-) -> Result<Result<ClientLine, LineFault>, AllocError>
-    ensures { IfOk result (λ meaning. meaning ≡ line_meaning line.now) }
+/// The message of the head that is awaited, with this payload; a line is awaited behind it. Want of memory leaves the head.
+fn message_with(alloc: Global, awaited: &mut Awaited, payload: Bytes) -> Result<Message, AllocError>
+    requires due { AwaitsPayload awaited.old }
+    requires fits { length payload ≤ MAX_PAYLOAD }
+    ensures ok { IfOk result (λ message. IsMessageOf awaited.old payload message × (awaited.new ≡ awaits.Line)) }
+    ensures err { OnErr result (awaited.new ≡ awaited.old) }
 {
-    match decode_line(texts, line) {
-        Ok(command) => Ok(Ok(command)),
-        Err(Failure::Refused(fault)) => Ok(Err(fault)),
-        Err(Failure::OutOfMemory) => Err(AllocError),
-    }
-}
-
-/// The message of this head, with this payload. Copies of its subject and its reply share their bytes.
-fn message_with(alloc: Global, head: &PubHead, payload: Bytes) -> Result<Message, AllocError>
-    requires { length payload ≤ MAX_PAYLOAD }
-    ensures { IfOk result (λ message. message ≡ message_of head.now payload) }
-{
-    let subject = head.subject.try_clone()?;
-    let reply = match &head.reply {
-        None => None,
-        Some(reply) => Some(reply.try_clone()?),
+    let Awaited::Payload(head) = mem::replace(awaited, Awaited::Line) else {
+        // required: a payload is awaited
+        unreachable!()
     };
-    match Message::new(alloc, subject, reply, payload)? {
-        Some(message) => Ok(message),
-        // required: the payload is within the limit
-        None => unreachable!(),
+    let PubHead {
+        subject,
+        reply,
+        size,
+    } = head;
+    let parts = MessageParts {
+        subject,
+        reply,
+        payload,
+    };
+    match Message::from_parts(alloc, parts) {
+        Ok(message) => Ok(message),
+        Err(AllocFailed { value }) => {
+            let MessageParts { subject, reply, .. } = value;
+            *awaited = Awaited::Payload(PubHead {
+                subject,
+                reply,
+                size,
+            });
+            Err(AllocError)
+        }
     }
 }
 
@@ -142,121 +148,112 @@ impl ItemReader {
         }
     }
 
-    /// The next item of what was fed, or None where more bytes are needed. After want of memory what
-    /// is told from here on is the same.
-    pub fn next(&mut self) -> Result<Option<Item>, AllocError>
+    /// Looks at the next piece, and puts what an item asks for in place of what is asked. Want of memory changes nothing.
+    pub fn look(&mut self, open_asks: &mut OpenAsks) -> Result<Looked, AllocError>
         requires { IsInStep self.old }
-        ensures ok { IfOk result (λ item. HasNext item (end_of self.old) (end_of self.new)) }
-        ensures err { OnErr result (reading_at (end_of self.new) ≡ reading_at (end_of self.old)) }
-        ensures step { IsInStep self.new }
-    {
-        loop {
-            match self.look()? {
-                Looked::Waits => return Ok(None),
-                Looked::Told(item) => return Ok(Some(item)),
-                Looked::Announced => {}
-            }
-        }
-    }
-
-    /// Looks at the next piece.
-    fn look(&mut self) -> Result<Looked, AllocError>
-        requires { IsInStep self.old }
-        ensures ok { IfOk result (λ looked. HasLooked looked (end_of self.old) (end_of self.new)) }
-        ensures err { OnErr result (self.new ≡ self.old) }
+        ensures ok { IfOk result (λ looked. HasLooked looked open_asks.old open_asks.new (end_of self.old) (end_of self.new)) }
+        ensures err { OnErr result ((self.new ≡ self.old) × (open_asks.new ≡ open_asks.old)) }
         ensures step { IsInStep self.new }
     {
         if self.ended {
             return Ok(Looked::Waits);
         }
         match &self.awaited {
-            Awaited::Line => self.line(),
-            Awaited::Payload(_) => self.publication(),
-            Awaited::LostPayload { .. } => Ok(self.lost_publication()),
+            Awaited::Line => self.line(open_asks),
+            Awaited::Payload(_) => self.publication(open_asks),
+            Awaited::LostPayload { .. } => Ok(self.lost_publication(open_asks)),
         }
     }
 
     /// Looks at the next line.
-    fn line(&mut self) -> Result<Looked, AllocError>
+    fn line(&mut self, open_asks: &mut OpenAsks) -> Result<Looked, AllocError>
         requires step { IsInStep self.old }
         requires reads { self.old.ended ≡ false }
         requires due { self.old.awaited ≡ awaits.Line }
-        ensures ok { IfOk result (λ looked. HasLookedAt looked self.old self.new) }
-        ensures err { OnErr result (self.new ≡ self.old) }
+        ensures ok { IfOk result (λ looked. HasLookedAt looked open_asks.old open_asks.new self.old self.new) }
+        ensures err { OnErr result ((self.new ≡ self.old) × (open_asks.new ≡ open_asks.old)) }
         ensures step { IsInStep self.new }
     {
         let (size, meaning) = match self.cutter.peek() {
             Ok(None) => return Ok(Looked::Waits),
-            Ok(Some(Piece::Line(line))) => (line.len(), meaning_of(&mut self.texts, line)?),
+            Ok(Some(Piece::Line(line))) => (line.len(), decode_line(&mut self.texts, line)),
             // a payload comes only where one was announced
             Ok(Some(Piece::Payload(_))) => unreachable!(),
-            Err(fault) => return Ok(self.end_with(Item::Unreadable(fault))),
+            Err(fault) => return Ok(self.end_with(ErrText::of_cut(fault), open_asks)),
         };
-        self.cutter.use_up(size);
-        Ok(self.tell(meaning))
-    }
-
-    /// Nothing is read behind this item.
-    fn end_with(&mut self, item: Item) -> Looked
-        ensures told { result ≡ looks.Told item }
-        ensures ended { self.new ≡ record self.old { ended = true } }
-    {
-        self.ended = true;
-        Looked::Told(item)
-    }
-
-    /// What a line tells that was used up.
-    fn tell(&mut self, meaning: Result<ClientLine, LineFault>) -> Looked
-        requires behind { IsBehindLine self.old }
-        ensures tells { TellsFound result (found_before client_grammar self.old.cutter.unread (line_told meaning)) (end_of self.new) }
-        ensures step { IsInStep self.new }
-    {
         match meaning {
-            Ok(ClientLine::Pub(head)) => {
-                let size = head.size;
-                self.announce(size, Awaited::Payload(head))
+            Ok(command) => {
+                self.cutter.use_up(size);
+                Ok(self.tell(command, open_asks))
             }
-            Ok(ClientLine::PubBad { size }) => self.announce(size, Awaited::LostPayload { size }),
-            Ok(command) => Looked::Told(Item::Command(command)),
-            Err(fault) => self.refuse(fault),
+            Err(Failure::Refused(fault)) => {
+                self.cutter.use_up(size);
+                Ok(self.refuse(fault, open_asks))
+            }
+            Err(Failure::OutOfMemory) => Err(AllocError),
         }
     }
 
-    /// A payload has to come, unless it is too large.
-    fn announce(&mut self, size: u64, awaited: Awaited) -> Looked
+    /// The client is told this text, and nothing is read behind it.
+    fn end_with(&mut self, text: ErrText, open_asks: &mut OpenAsks) -> Looked
+        ensures told { result ≡ looks.Told }
+        ensures asks { open_asks.new ≡ record open_asks.old { asks = refusing text } }
+        ensures ended { self.new ≡ record self.old { ended = true } }
+    {
+        self.ended = true;
+        open_asks.refuse(text);
+        Looked::Told
+    }
+
+    /// What a command tells whose line was used up.
+    fn tell(&mut self, command: ClientLine, open_asks: &mut OpenAsks) -> Looked
         requires behind { IsBehindLine self.old }
-        requires sized { size_awaited awaited ≡ Some size }
-        ensures tells { TellsFound result (found_next client_grammar [] awaited self.old.cutter.unread (expect_fault None MAX_PAYLOAD size)) (end_of self.new) }
+        ensures tells { TellsFound result open_asks.old open_asks.new (found_before client_grammar self.old.cutter.unread (command_told command)) (end_of self.new) }
         ensures step { IsInStep self.new }
     {
-        match self.cutter.expect(size) {
-            Ok(()) => {
-                self.awaited = awaited;
+        match command {
+            ClientLine::Pub(head) => {
+                if let Err(fault) = self.cutter.expect(head.size) {
+                    return self.end_with(ErrText::of_cut(fault), open_asks);
+                }
+                self.awaited = Awaited::Payload(head);
                 Looked::Announced
             }
-            Err(fault) => self.end_with(Item::Unreadable(fault)),
+            ClientLine::PubBad { size } => {
+                if let Err(fault) = self.cutter.expect(size) {
+                    return self.end_with(ErrText::of_cut(fault), open_asks);
+                }
+                self.awaited = Awaited::LostPayload { size };
+                Looked::Announced
+            }
+            command => {
+                open_asks.ask_command(command);
+                Looked::Told
+            }
         }
     }
 
     /// A line is refused, and nothing is read behind it where its text closes.
-    fn refuse(&mut self, fault: LineFault) -> Looked
+    fn refuse(&mut self, fault: LineFault, open_asks: &mut OpenAsks) -> Looked
         requires behind { IsBehindLine self.old }
-        ensures tells { TellsFound result (found_before client_grammar self.old.cutter.unread (refusal_told fault)) (end_of self.new) }
+        ensures tells { TellsFound result open_asks.old open_asks.new (found_before client_grammar self.old.cutter.unread (refusal_told fault)) (end_of self.new) }
         ensures step { IsInStep self.new }
     {
-        if ErrText::of_line(fault).closes() {
-            return self.end_with(Item::Refused(fault));
+        let text = ErrText::of_line(fault);
+        if text.closes() {
+            return self.end_with(text, open_asks);
         }
-        Looked::Told(Item::Refused(fault))
+        open_asks.refuse(text);
+        Looked::Told
     }
 
     /// Looks at the payload of a publication, and copies it.
-    fn publication(&mut self) -> Result<Looked, AllocError>
+    fn publication(&mut self, open_asks: &mut OpenAsks) -> Result<Looked, AllocError>
         requires step { IsInStep self.old }
         requires reads { self.old.ended ≡ false }
         requires due { AwaitsPayload self.old.awaited }
-        ensures ok { IfOk result (λ looked. HasLookedAt looked self.old self.new) }
-        ensures err { OnErr result (self.new ≡ self.old) }
+        ensures ok { IfOk result (λ looked. HasLookedAt looked open_asks.old open_asks.new self.old self.new) }
+        ensures err { OnErr result ((self.new ≡ self.old) × (open_asks.new ≡ open_asks.old)) }
         ensures step { IsInStep self.new }
     {
         let (size, payload) = match self.cutter.peek() {
@@ -264,24 +261,20 @@ impl ItemReader {
             Ok(Some(Piece::Payload(payload))) => (payload.len(), self.texts.copied(payload)?),
             // a line comes only where no payload was announced
             Ok(Some(Piece::Line(_))) => unreachable!(),
-            Err(fault) => return Ok(self.end_with(Item::Unreadable(fault))),
+            Err(fault) => return Ok(self.end_with(ErrText::of_cut(fault), open_asks)),
         };
-        let Awaited::Payload(head) = &self.awaited else {
-            // required: a payload is awaited
-            unreachable!()
-        };
-        let message = message_with(self.alloc, head, payload)?;
+        let message = message_with(self.alloc, &mut self.awaited, payload)?;
         self.cutter.use_up(size);
-        self.awaited = Awaited::Line;
-        Ok(Looked::Told(Item::Publication(message)))
+        open_asks.ask_publication(message);
+        Ok(Looked::Told)
     }
 
     /// Looks at the payload of a publication that is refused.
-    fn lost_publication(&mut self) -> Looked
+    fn lost_publication(&mut self, open_asks: &mut OpenAsks) -> Looked
         requires step { IsInStep self.old }
         requires reads { self.old.ended ≡ false }
         requires due { AwaitsLostPayload self.old.awaited }
-        ensures looked { HasLookedAt result self.old self.new }
+        ensures looked { HasLookedAt result open_asks.old open_asks.new self.old self.new }
         ensures step { IsInStep self.new }
     {
         let size = match self.cutter.peek() {
@@ -289,10 +282,11 @@ impl ItemReader {
             Ok(Some(Piece::Payload(payload))) => payload.len(),
             // a line comes only where no payload was announced
             Ok(Some(Piece::Line(_))) => unreachable!(),
-            Err(fault) => return self.end_with(Item::Unreadable(fault)),
+            Err(fault) => return self.end_with(ErrText::of_cut(fault), open_asks),
         };
         self.cutter.use_up(size);
         self.awaited = Awaited::Line;
-        Looked::Told(Item::Refused(LineFault::BadSubject))
+        open_asks.refuse(ErrText::of_line(LineFault::BadSubject));
+        Looked::Told
     }
 }

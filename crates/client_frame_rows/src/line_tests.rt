@@ -27,7 +27,12 @@ fn on_or_off(option: bool) -> &'static [u8] {
 
 /// What a line means, in words: a bar stands where there is no reply or queue name.
 fn told(alloc: Global, line: &[u8]) -> Result<Vec<u8>, AllocError> {
-    match decode_line(&mut SharedTexts::new(alloc), line) {
+    told_behind(&mut SharedTexts::new(alloc), alloc, line)
+}
+
+/// The same of a line behind those whose texts these are.
+fn told_behind(texts: &mut SharedTexts, alloc: Global, line: &[u8]) -> Result<Vec<u8>, AllocError> {
+    match decode_line(texts, line) {
         Ok(ClientLine::Pub(head)) => {
             let reply = match &head.reply {
                 None => b"|",
@@ -127,6 +132,31 @@ static COMMANDS: [(&[u8], &[u8]); 44] = [
     (b"UNSUB 1 0000000002", b"unsub 1 2"),
     (b"UNSUB 1 9999999999", b"unsub 1 9999999999"),
 ];
+
+/// Lines of one client, one behind another: the subject is the same as before, longer, shorter, no subject, a reply alone.
+static PUBLICATIONS: [(&[u8], &[u8]); 10] = [
+    (b"PUB foo 1", b"pub foo | 1"),
+    (b"PUB foo 2", b"pub foo | 2"),
+    (b"PUB fop 3", b"pub fop | 3"),
+    (b"PUB fo 4", b"pub fo | 4"),
+    (b"PUB fo. 5", b"bad 5"),
+    (b"PUB fo 6", b"pub fo | 6"),
+    (b"PUB fo fo 7", b"pub fo fo 7"),
+    (b"PUB bar fo 8", b"pub bar fo 8"),
+    (b"PUB bar fo. 9", b"bad 9"),
+    (b"PUB fo 10", b"pub fo | 10"),
+];
+
+#[test]
+fn subjects_come_again(rt: HostRuntime) -> Result<(), Fail> {
+    let alloc = rt.alloc();
+    let mut texts = SharedTexts::new(alloc);
+    for (line, want) in &PUBLICATIONS {
+        let got = told_behind(&mut texts, alloc, line)?;
+        assert_eq!(rt; got.as_slice(), *want, "{line:?}");
+    }
+    Ok(())
+}
 
 /// Of an object that has a name twice the last member counts, and one that is absent is on.
 static CHOICES: [(&[u8], &[u8]); 20] = [

@@ -77,18 +77,6 @@ fn fault_of_reply(reply: Option<&[u8]>) -> Option<NameFault>
     Subject::fault(reply?)
 }
 
-/// The subject of bytes that are one.
-fn read_subject(texts: &mut SharedTexts, text: &[u8]) -> Result<Subject, AllocError>
-    requires { subject_fault text.now ≡ None }
-    ensures { IfOk result (λ subject. subject ≡ text.now) }
-{
-    match Subject::from_shared(texts.copied(text)?) {
-        Ok(subject) => Ok(subject),
-        // (the bytes are those that were judged)
-        Err(_) => unreachable!(),
-    }
-}
-
 /// The subject of an answer, where one is awaited.
 fn read_reply(texts: &mut SharedTexts, reply: Option<&[u8]>) -> Result<Option<Reply>, AllocError>
     requires { reply_fault (option_copied reply) ≡ None }
@@ -96,7 +84,7 @@ fn read_reply(texts: &mut SharedTexts, reply: Option<&[u8]>) -> Result<Option<Re
 {
     match reply {
         None => Ok(None),
-        Some(reply) => Ok(Some(read_subject(texts, reply)?)),
+        Some(reply) => Ok(Some(texts.new_subject(reply)?)),
     }
 }
 
@@ -112,10 +100,10 @@ fn decode_pub(texts: &mut SharedTexts, text: &[u8]) -> Result<ClientLine, Failur
     if fault_of_reply(arguments.between).is_some() {
         return Ok(ClientLine::PubBad { size });
     }
-    if Subject::fault(arguments.first).is_some() {
+    if !texts.has_last_subject(arguments.first) && Subject::fault(arguments.first).is_some() {
         return Ok(ClientLine::PubBad { size });
     }
-    let subject = read_subject(texts, arguments.first)?;
+    let subject = texts.next_subject(arguments.first)?;
     let reply = read_reply(texts, arguments.between)?;
     Ok(ClientLine::Pub(PubHead {
         subject,

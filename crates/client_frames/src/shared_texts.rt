@@ -1,10 +1,13 @@
 //! The memory of small texts.
 
-ghost use Rattle.std.specs.Prelude.{◌≡◌, ⊤, IfOk};
+ghost use Rattle.std.specs.Bool.{OnTrue};
+ghost use Rattle.std.specs.Prelude.{◌≡◌, ⊤, None, IfOk};
+ghost use Rattle.subj.specs.Names.{subject_fault};
 
 use bytes::{Bytes, BytesMut};
 use std::alloc::{AllocError, Global};
 use std::marker::Model;
+use subj::Subject;
 
 /// The most bytes of a text that shares its memory with others.
 const SMALL: usize = 256;
@@ -15,11 +18,14 @@ const BLOCK: usize = 2_048;
 /// Copies texts, such as the subjects and the payloads of publications. Small ones share blocks of memory, each of
 /// which is given back with the last text in it, so that most of them take none of their own.
 ///
+/// A client mostly publishes on the subject that it has just published on, which is judged and copied once.
+///
 /// Nothing is seen of it but what it copies.
 #[derive(Drop)]
 pub struct SharedTexts {
     pub(crate) alloc: Global,
     block: BytesMut,
+    last_subject: Option<Subject>,
 }
 
 impl Model for SharedTexts {
@@ -34,6 +40,7 @@ impl SharedTexts {
         SharedTexts {
             alloc,
             block: BytesMut::new(alloc),
+            last_subject: None,
         }
     }
 
@@ -49,5 +56,42 @@ impl SharedTexts {
         }
         self.block.extend_reserved(text);
         self.block.freeze_to(text.len())
+    }
+
+    /// Whether the bytes are the subject that was copied last.
+    pub(crate) fn has_last_subject(&self, text: &[u8]) -> bool
+        ensures { OnTrue result (subject_fault text.now ≡ None) }
+    {
+        match &self.last_subject {
+            None => false,
+            Some(last) => last.bytes() == text,
+        }
+    }
+
+    /// A copy of bytes that are a subject.
+    pub(crate) fn new_subject(&mut self, text: &[u8]) -> Result<Subject, AllocError>
+        requires { subject_fault text.now ≡ None }
+        ensures { IfOk result (λ subject. subject ≡ text.now) }
+    {
+        match Subject::from_shared(self.copied(text)?) {
+            Ok(subject) => Ok(subject),
+            // required: the bytes are a subject
+            Err(_) => unreachable!(),
+        }
+    }
+
+    /// The same, and it is the one that was copied last.
+    pub(crate) fn next_subject(&mut self, text: &[u8]) -> Result<Subject, AllocError>
+        requires { subject_fault text.now ≡ None }
+        ensures { IfOk result (λ subject. subject ≡ text.now) }
+    {
+        if let Some(last) = &self.last_subject {
+            if last.bytes() == text {
+                return last.try_clone();
+            }
+        }
+        let subject = self.new_subject(text)?;
+        self.last_subject = Some(subject.try_clone()?);
+        Ok(subject)
     }
 }

@@ -32,7 +32,7 @@ pub use limits::{
     OUTBOX_ENTRIES, READ_BYTES, ROUTE_FRAMES, ROUTE_LINE, SCRIPT_BYTES, SCRIPT_EVENTS,
     SUBSCRIPTION_BYTES, SUBSCRIPTION_COST, SUBSCRIPTIONS, WINDOW,
 };
-pub use messages::{Message, Pub};
+pub use messages::{Message, MessageParts, Pub};
 pub use names::{NameFault, split_token};
 pub use node_ids::NodeId;
 pub use patterns::Pattern;

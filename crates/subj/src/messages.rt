@@ -1,6 +1,6 @@
 //! Publications as clients hand them in.
 
-ghost use Rattle.std.specs.Prelude.{◌≡◌, ◌≤◌, length, IfOk, OnErr};
+ghost use Rattle.std.specs.Prelude.{◌≡◌, ◌≤◌, length, IfErr, IfOk, OnErr};
 ghost use Rattle.std.specs.Option.{option_copied};
 ghost use Rattle.subj.specs.Messages.{content_of};
 ghost use Rattle.subj.specs.Publications.{published};
@@ -8,24 +8,24 @@ ghost use Rattle.subj.specs.Publications.{published};
 use crate::limits::MAX_PAYLOAD;
 use crate::subjects::{Reply, Subject};
 use bytes::Bytes;
-use std::alloc::{AllocError, Global};
+use std::alloc::{AllocError, AllocFailed, Global};
 use std::marker::Model;
 use std::sync::Arc;
 
-/// What the copies of a message share.
+/// What a message is made of, which its copies share.
 #[derive(Debug, Drop)]
-struct Shared {
-    subject: Subject,
-    reply: Option<Reply>,
-    payload: Bytes,
+pub struct MessageParts {
+    pub subject: Subject,
+    pub reply: Option<Reply>,
+    pub payload: Bytes,
 }
 
-impl Model for Shared {
+impl Model for MessageParts {
     ghost use Rattle.subj.specs.Messages.{Content};
 
     ghost Value = { Content };
 
-    ghost view = { λ shared. record { subject = shared.subject; reply = shared.reply; payload = shared.payload } };
+    ghost view = { λ parts. record { subject = parts.subject; reply = parts.reply; payload = parts.payload } };
 }
 
 /// The content of a publication: its subject, the subject that an answer is awaited on, and its
@@ -34,7 +34,7 @@ impl Model for Shared {
 /// The payload has at most [`MAX_PAYLOAD`] bytes. (Profile.)
 #[derive(Debug, Drop)]
 pub struct Message {
-    shared: Arc<Shared, Global>,
+    shared: Arc<MessageParts, Global>,
 }
 
 impl Model for Message {
@@ -64,13 +64,25 @@ impl Message {
         if payload.len() > MAX_PAYLOAD {
             return Ok(None);
         }
-        let shared = Shared {
+        let parts = MessageParts {
             subject,
             reply,
             payload,
         };
-        let shared = Arc::new(alloc, shared)?;
-        Ok(Some(Message { shared }))
+        Ok(Some(Message::from_parts(alloc, parts)?))
+    }
+
+    /// The message that is made of these. They come back where there is no memory for it.
+    pub fn from_parts(
+        alloc: Global,
+        parts: MessageParts,
+    ) -> Result<Message, AllocFailed<MessageParts>>
+        requires { length parts.payload ≤ MAX_PAYLOAD }
+        ensures ok { IfOk result (λ message. message ≡ parts) }
+        ensures err { IfErr result (λ failed. failed.value ≡ parts) }
+    {
+        let shared = Arc::new(alloc, parts)?;
+        Ok(Message { shared })
     }
 
     /// What it was published on.

@@ -6,7 +6,7 @@ use Rattle.client_conn.proofs.conn.advance.Given as goal
 abbrev pub invariant-loop-reader : goal.invariant-loop-reader
 invariant-loop-reader l =
     IsInStep l.reader
-    × (asking_at l.open_asks l.options (end_of l.reader) ≡ asking_at l.initial.open_asks l.initial.options (end_of l.initial.reader))
+    × (asking_at l.open_asks (end_of l.reader) ≡ asking_at l.initial.open_asks (end_of l.initial.reader))
 
 abbrev pub decreases-loop-reader : goal.decreases-loop-reader
 decreases-loop-reader l = left_of (end_of l.reader)

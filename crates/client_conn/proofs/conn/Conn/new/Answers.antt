@@ -8,6 +8,6 @@ use Rattle.client_conn.proofs.conn.Conn.new.Goals as goal
 
 pub returns : goal.returns
 returns c =
-    ap (λ open_asks. asking_at open_asks first_options (end_of c.new.result)) c.of.ensures
-    ∙ ap (asking_at (Reply (reply.Info c.args.info) ∷ []) first_options) c.new.ensures.end
-    ∙ new_asks (Reply (reply.Info c.args.info)) first_options
+    ap (λ open_asks. asking_at open_asks (end_of c.new.result)) c.of.ensures
+    ∙ ap (asking_at (record { asks = Reply (reply.Info c.args.info) ∷ []; options = first_options })) c.new.ensures.end
+    ∙ new_asks (Reply (reply.Info c.args.info))

@@ -9,6 +9,6 @@ returns-in-Other c =
     let given = rw (← c.self.view_is) at c.requires in
     let other = ap (λ r. let e : Answer = Err r in e) c.in-Other.is in
     rw (← c.self.view_is)
-    (ap (λ open_asks. asking_at open_asks c.self.inside.options (end_of c.close.new.self)) c.clear.ensures
-    ∙ ap (λ r. asking_at [] c.self.inside.options (end_of r)) c.close.ensures.ended
-    ∙ other_answered c.self.inside.open_asks c.self.inside.options (end_of c.self.inside.reader) _ other given)
+    (ap (λ open_asks. asking_at open_asks (end_of c.close.new.self)) c.clear.ensures
+    ∙ ap (λ r. asking_at (record c.self.inside.open_asks { asks = [] }) (end_of r)) c.close.ensures.ended
+    ∙ other_answered c.self.inside.open_asks (end_of c.self.inside.reader) _ other given)
