@@ -5,6 +5,7 @@ Only the crates that the program stands on are built, lowest first, as many side
 allow. Where one is refused, what the prover said of it is printed and the status is 1.
 Usage: tools/build.py PROGRAM
 """
+import math
 import os
 import re
 import signal
@@ -110,9 +111,9 @@ class Build:
         """Starts the crates whose libraries are proved; each takes its part of the slots that are free."""
         ready = [crate for crate, libraries in self.waiting.items() if self.proved.issuperset(libraries)]
         free = self.slots - sum(check.slots for check in self.running)
-        for place, crate in enumerate(ready[:free]):
-            left = min(len(ready), free) - place
-            slots = (free + left - 1) // left
+        starting = ready[:free]
+        for place, crate in enumerate(starting):
+            slots = math.ceil(free / (len(starting) - place))
             free -= slots
             del self.waiting[crate]
             self.running.append(Check(crate, crate == self.program, slots))
