@@ -57,7 +57,7 @@ pub fn steps_reach()
 
 /// A machine that knows more of its nodes has these laws too. Where each next world, as far as this machine sees it, is a step or no change, each of its worlds is one that is
 /// reached.
-pub fn lifted()
+pub fn paths_are_reached()
     ensures { (c : Config) (worlds : List World) → Path c (begin c) worlds → Each (Reached every_rule c) worlds }
 {}
 

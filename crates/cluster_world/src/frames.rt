@@ -31,7 +31,7 @@ pub(crate) fn frame_at(sent: &[Vec<RouteFrame>], number: usize) -> Option<&Route
 }
 
 /// The frame, where it is a numbered one, as what a server is asked.
-fn numbered(frame: Option<&RouteFrame>) -> Option<Asked<'_>>
+fn numbered_ask(frame: Option<&RouteFrame>) -> Option<Asked<'_>>
     ensures { option_map asked_of result ≡ numbered_frame (option_copied frame.entry) }
 {
     match frame {
@@ -67,7 +67,7 @@ pub(crate) fn asked_by<'a>(event: &'a Event, sent: &'a [Vec<RouteFrame>]) -> Opt
 {
     match event {
         Event::Start { .. } | Event::Stop { .. } => None,
-        Event::Receive { frame, .. } => numbered(frame_at(sent, *frame)),
+        Event::Receive { frame, .. } => numbered_ask(frame_at(sent, *frame)),
         Event::OnInfo { session, frame, .. } => info_on(*session, frame_at(sent, *frame)),
         Event::OnConnect { session, frame, .. } => connect_on(*session, frame_at(sent, *frame)),
         Event::At { event, .. } => Some(Asked::Own(event)),

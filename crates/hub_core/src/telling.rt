@@ -13,7 +13,7 @@ use std::alloc::{AllocError, Global};
 use subj::{Incarnation, Key, Server};
 
 /// A counted key with what it weighs to a peer.
-fn weighted(alloc: Global, key: &Key, count: u64) -> Result<WeightedKey, AllocError>
+fn key_with_weight(alloc: Global, key: &Key, count: u64) -> Result<WeightedKey, AllocError>
     requires { weighted_key key.now (told_weight key.now count) ≡ Some (key.now, told_weight key.now count) }
     ensures { IfOk result (λ weighted. weighted ≡ (key.now, told_weight key.now count)) }
 {
@@ -47,7 +47,7 @@ pub(crate) fn snapshot_of(alloc: Global, counts: &Local) -> Result<SnapshotKeys,
     let mut keys = Vec::new(alloc);
     let mut left = counts.keys();
     while let Some((key, count)) = left.next() {
-        keys.push(weighted(alloc, key, *count)?)?;
+        keys.push(key_with_weight(alloc, key, *count)?)?;
     }
     Ok(SnapshotKeys::from_keys(keys).unwrap())
 }

@@ -36,7 +36,7 @@ fn tell<R: Alloc<A = Global> + Print>(
 }
 
 /// The line ends that a search finds, and how many nanoseconds it took.
-fn searched<R: Clock>(rt: &R, bytes: &[u8]) -> io::Result<(usize, u128)> {
+fn timed_search<R: Clock>(rt: &R, bytes: &[u8]) -> io::Result<(usize, u128)> {
     let start = Instant::now(rt)?;
     let ends = count_line_ends(bytes);
     Ok((ends, start.elapsed(rt)?.as_nanos()))
@@ -57,7 +57,7 @@ where
     let rounds = given.map_or(FEW, |megabytes| rounds_in(megabytes, size));
     let bytes = stream(rt.alloc(), rounds, size)?;
     let len = bytes.len();
-    let (ends, search_time) = searched(rt, &bytes)?;
+    let (ends, search_time) = timed_search(rt, &bytes)?;
     let (Read { lines, payloads }, cut_time) = cut(rt, bytes)?;
     if given.is_some() {
         tell(rt, "cutter and decoder", size, len, cut_time)?;

@@ -17,7 +17,7 @@ fn open<T: SubTable>(table: &mut T, last: u64, sub: Subscription) -> Result<(), 
 }
 
 /// A table with so many subscriptions.
-pub fn filled<T: SubTable>(alloc: Global, drawn: Drawn, size: u64) -> Result<T, AllocError> {
+pub fn filled_table<T: SubTable>(alloc: Global, drawn: Drawn, size: u64) -> Result<T, AllocError> {
     let mut table = T::new(alloc)?;
     for last in 0..size {
         let sub = subscription(alloc, drawn, last)?;

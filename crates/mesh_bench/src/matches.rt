@@ -2,7 +2,7 @@
 //! subscriptions are opened, found and closed. With a number so many subjects are looked up for each case;
 //! without one few, and then it is told that both tables found as many matches.
 
-use crate::match_calls::{filled, find_all, look_up, remove_all};
+use crate::match_calls::{filled_table, find_all, look_up, remove_all};
 use crate::match_subjects::{Drawn, subjects, subscription};
 use std::alloc::{AllocError, Global};
 use std::io;
@@ -92,7 +92,7 @@ where
 {
     measure_making(rt, Drawn::Apart, size)?;
     let start = Instant::now(rt)?;
-    let mut trie: TrieTable = filled(rt.alloc(), Drawn::Apart, size)?;
+    let mut trie: TrieTable = filled_table(rt.alloc(), Drawn::Apart, size)?;
     let time = start.elapsed(rt)?;
     tell(rt, "making and opening", size, size, 0, time.as_nanos())?;
     measure(rt, &mut trie, "trie, new subjects", size, number, 1)?;
@@ -119,7 +119,7 @@ where
     let found = remove_all(&mut trie, size);
     let time = start.elapsed(rt)?;
     tell(rt, "closing", size, size, found, time.as_nanos())?;
-    let mut list: ListTable = filled(rt.alloc(), Drawn::Apart, size)?;
+    let mut list: ListTable = filled_table(rt.alloc(), Drawn::Apart, size)?;
     let many = u64::min(number, 1 + LIST_STEPS / u64::max(size, 1));
     measure(rt, &mut list, "list, new subjects", size, many, 1)
 }
@@ -130,9 +130,9 @@ where
     R: Alloc<A = Global> + Clock + Print,
 {
     let rounds = 1 + number / ALIKE / HOT;
-    let mut trie: TrieTable = filled(rt.alloc(), Drawn::Alike, ALIKE)?;
+    let mut trie: TrieTable = filled_table(rt.alloc(), Drawn::Alike, ALIKE)?;
     measure(rt, &mut trie, "trie, one pattern", ALIKE, HOT, rounds)?;
-    let mut list: ListTable = filled(rt.alloc(), Drawn::Alike, ALIKE)?;
+    let mut list: ListTable = filled_table(rt.alloc(), Drawn::Alike, ALIKE)?;
     measure(rt, &mut list, "list, one pattern", ALIKE, HOT, rounds)
 }
 
@@ -143,7 +143,7 @@ fn found_in<T: SubTable>(
     size: u64,
     subjects: &[Subject],
 ) -> Result<u64, AllocError> {
-    let mut table: T = filled(alloc, drawn, size)?;
+    let mut table: T = filled_table(alloc, drawn, size)?;
     look_up(&mut table, subjects)
 }
 

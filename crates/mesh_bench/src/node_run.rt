@@ -1,7 +1,7 @@
 //! Publications are issued at a server and worked by all its shards, and what waits is taken as bytes.
 
 use crate::faults::invalid;
-use crate::node_setup::{Readers, Running, given};
+use crate::node_setup::{Readers, Running, answer_of};
 use claim_cells::CellsRace;
 use node_core::Node;
 use std::alloc::Global;
@@ -14,9 +14,9 @@ const TAKEN: u64 = 256;
 
 /// The turn of one shard, whose job is for a queue name where there are members.
 fn work(node: &mut Node<TrieTable, CellsRace>, shard: u64, has_members: bool) -> io::Result<()> {
-    given(node.begin(shard, false))?;
+    answer_of(node.begin(shard, false))?;
     if has_members {
-        given(node.claim(shard, 0, false))?;
+        answer_of(node.claim(shard, 0, false))?;
     }
     match node.end(shard) {
         Ok(()) => Ok(()),
@@ -27,7 +27,7 @@ fn work(node: &mut Node<TrieTable, CellsRace>, shard: u64, has_members: bool) ->
 /// One publication, and the turns of all shards.
 fn publish(running: &mut Running, readers: Readers) -> io::Result<()> {
     let node = &mut running.node;
-    given(node.publish(running.publisher, &running.said, 0))?;
+    answer_of(node.publish(running.publisher, &running.said, 0))?;
     for shard in 1..=readers.shards {
         work(&mut running.node, shard, readers.members > 0)?;
     }
@@ -43,7 +43,7 @@ fn take_all(
     let mut count = 0;
     for conn in conns {
         output.clear();
-        let taken = given(node.take_bytes(*conn, usize::MAX, output))?;
+        let taken = answer_of(node.take_bytes(*conn, usize::MAX, output))?;
         count = u64::wrapping_add(count, taken as u64);
     }
     Ok(count)

@@ -43,7 +43,7 @@ pub struct Running {
 }
 
 /// What a call of the server gave.
-pub fn given<T: Drop>(answer: Result<T, Failure<NodeFault>>) -> io::Result<T> {
+pub fn answer_of<T: Drop>(answer: Result<T, Failure<NodeFault>>) -> io::Result<T> {
     match answer {
         Ok(value) => Ok(value),
         Err(_) => Err(invalid()),
@@ -68,7 +68,7 @@ fn open(
 ) -> io::Result<()> {
     let pattern = Pattern::read(alloc, b"orders.new").map_err(|_| invalid())?;
     let sid = Sid::read(alloc, b"1").map_err(|_| invalid())?;
-    given(node.subscribe(conn, Key { pattern, queue }, sid))?;
+    answer_of(node.subscribe(conn, Key { pattern, queue }, sid))?;
     Ok(())
 }
 
@@ -86,7 +86,7 @@ fn attach_all(
     };
     for number in 0..count {
         let shard = u64::wrapping_add(number % readers.shards.max(1), 1);
-        let conn = given(running.node.attach(shard))?;
+        let conn = answer_of(running.node.attach(shard))?;
         let queue = if is_member {
             Some(queue_name(alloc, 0)?)
         } else {
@@ -101,7 +101,7 @@ fn attach_all(
 /// The hub hears of what was opened.
 fn collect_all(running: &mut Running, shards: u64) -> io::Result<()> {
     for shard in 1..=shards {
-        given(running.node.collect(shard))?;
+        answer_of(running.node.collect(shard))?;
     }
     Ok(())
 }
@@ -117,7 +117,7 @@ pub fn publication(alloc: Global) -> io::Result<Pub> {
 /// A server with these readers.
 pub fn set_up_node(alloc: Global, readers: Readers) -> io::Result<Running> {
     let mut node = new_node(alloc, readers.shards)?;
-    let publisher = given(node.attach(1))?;
+    let publisher = answer_of(node.attach(1))?;
     let mut running = Running {
         node,
         conns: Vec::new(alloc),

@@ -27,7 +27,7 @@ use wire_cut::Raw;
 const BAD_LINE: u8 = 2;
 
 /// Tells on standard error why something was not done. Gives the exit status.
-fn told<R: Eprint, E: Display + Drop>(rt: &R, ended: Result<(), E>) -> u8 {
+fn report<R: Eprint, E: Display + Drop>(rt: &R, ended: Result<(), E>) -> u8 {
     let status = status_of(&ended);
     if let Err(fault) = &ended {
         let _ = eprintln!(rt; "nats_mesh: {fault}");
@@ -55,7 +55,7 @@ fn run_match<R: Print + Eprint + Alloc<A = Global>>(rt: &R, pattern: &str, subje
         subject.as_bytes(),
         &mut sink,
     );
-    told(rt, ended)
+    report(rt, ended)
 }
 
 /// Plays a script.
@@ -63,7 +63,7 @@ fn run_script<R: Input + Print + Eprint + Alloc<A = Global>>(rt: &R) -> u8 {
     let mut source = Raw::new(rt.reader());
     let mut sink = Raw::new(io::writer(rt));
     let ended = script_run::<TrieTable, CellsRace, _, _>(rt.alloc(), &mut source, &mut sink);
-    told(rt, ended)
+    report(rt, ended)
 }
 
 /// Serves a mesh.
@@ -79,7 +79,7 @@ where
         + Sync,
 {
     match Options::new(given) {
-        Ok(options) => told(rt, serve(rt, rt.alloc(), &options)),
+        Ok(options) => report(rt, serve(rt, rt.alloc(), &options)),
         Err(fault) => {
             let _ = eprintln!(rt; "nats_mesh: {fault}");
             BAD_LINE

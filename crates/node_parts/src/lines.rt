@@ -28,7 +28,7 @@ use sub_table::SubTable;
 use subj::{ConnId, Failure, Job, Key, Sid, SubId, Turn, WINDOW};
 
 /// What a shard answers, as its server's answer.
-fn answered<X>(answer: Result<X, Failure<ShardFault>>) -> Result<X, Failure<NodeFault>>
+fn shard_answer<X>(answer: Result<X, Failure<ShardFault>>) -> Result<X, Failure<NodeFault>>
     ensures { result ≡ of_answer answer }
 {
     match answer {
@@ -39,7 +39,7 @@ fn answered<X>(answer: Result<X, Failure<ShardFault>>) -> Result<X, Failure<Node
 }
 
 /// The same of a call that takes no memory.
-fn decided<X>(answer: Result<X, ShardFault>) -> Result<X, NodeFault>
+fn shard_decision<X>(answer: Result<X, ShardFault>) -> Result<X, NodeFault>
     ensures { result ≡ of_decision answer }
 {
     match answer {
@@ -115,7 +115,7 @@ impl<T: SubTable> Line<T> {
     pub fn attach(&mut self) -> Result<ConnId, Failure<NodeFault>>
         ensures { IsAnswered (event_refusal self.old (Some Attach)) (λ conn. LineStep self.old Attach (Attached conn) self.new) (self.new ≡ self.old) result }
     {
-        answered(self.shard.attach())
+        shard_answer(self.shard.attach())
     }
 
     /// [`Shard::subscribe`].
@@ -127,7 +127,7 @@ impl<T: SubTable> Line<T> {
     ) -> Result<Subscribed, Failure<NodeFault>>
         ensures { IsAnswered (event_refusal self.old (Some (Subscribe conn key sid))) (λ done. LineStep self.old (Subscribe conn key sid) (answer_of done) self.new) (self.new ≡ self.old) result }
     {
-        answered(self.shard.subscribe(conn, key, sid))
+        shard_answer(self.shard.subscribe(conn, key, sid))
     }
 
     /// [`Shard::unsubscribe`].
@@ -139,35 +139,35 @@ impl<T: SubTable> Line<T> {
     ) -> Result<Option<SubId>, NodeFault>
         ensures { IsDecided (event_refusal self.old (Some (Unsubscribe conn sid.now max))) (λ ended. LineStep self.old (Unsubscribe conn sid.now max) (Unsubscribed (option_to_list ended)) self.new) (self.new ≡ self.old) result }
     {
-        decided(self.shard.unsubscribe(conn, sid, max))
+        shard_decision(self.shard.unsubscribe(conn, sid, max))
     }
 
     /// [`Shard::reply`].
     pub fn reply(&mut self, conn: ConnId, frame: &ReplyFrame) -> Result<Closed, Failure<NodeFault>>
         ensures { IsAnswered (event_refusal self.old (Some (Reply conn frame.now))) (λ closed. LineStep self.old (Reply conn frame.now) (Replied closed.shut closed.ended.items) self.new) (self.new ≡ self.old) result }
     {
-        answered(self.shard.reply(conn, frame))
+        shard_answer(self.shard.reply(conn, frame))
     }
 
     /// [`Shard::shut`].
     pub fn shut(&mut self, conn: ConnId, text: ErrText) -> Result<Vec<SubId>, Failure<NodeFault>>
         ensures { IsAnswered (event_refusal self.old (Some (Shut conn text))) (λ ended. LineStep self.old (Shut conn text) (WasShut ended.items) self.new) (self.new ≡ self.old) result }
     {
-        answered(self.shard.shut(conn, text))
+        shard_answer(self.shard.shut(conn, text))
     }
 
     /// [`Shard::detach`].
     pub fn detach(&mut self, conn: ConnId) -> Result<Vec<SubId>, Failure<NodeFault>>
         ensures { IsAnswered (event_refusal self.old (Some (Detach conn))) (λ ended. LineStep self.old (Detach conn) (Detached ended.items) self.new) (self.new ≡ self.old) result }
     {
-        answered(self.shard.detach(conn))
+        shard_answer(self.shard.detach(conn))
     }
 
     /// [`Shard::take`].
     pub fn take(&mut self, conn: ConnId, count: usize) -> Result<Vec<Entry>, Failure<NodeFault>>
         ensures { IsAnswered (event_refusal self.old (Some (Take conn count))) (λ entries. LineStep self.old (Take conn count) (Taken entries.items) self.new) (self.new ≡ self.old) result }
     {
-        answered(self.shard.take(conn, count))
+        shard_answer(self.shard.take(conn, count))
     }
 
     /// [`Shard::end`]. Gives the turn that is finished.
@@ -195,7 +195,7 @@ impl<T: SubTable> Line<T> {
                 Ok(begun) => Ok(begun),
                 Err(fault) => {
                     self.waiting.push_front_reserved(fault.job);
-                    answered(Err(fault.cause))
+                    shard_answer(Err(fault.cause))
                 }
             },
         }
@@ -269,7 +269,7 @@ impl<T: SubTable> Line<T> {
         let turn = job.turn;
         let _names = job.queues.as_slice();
         match self.shard.candidate(index, copies) {
-            Err(fault) => answered(Err(fault)),
+            Err(fault) => shard_answer(Err(fault)),
             Ok(None) => Ok(Claimed::Nobody),
             Ok(Some(candidate)) => {
                 if !race.claim(shard, turn, index) {

@@ -126,7 +126,7 @@ impl<'a> Form<'a> {
     ghost use Rattle.route_frames.specs.FormViews.{form_view};
 
     /// The form of a message by its first field, those between, and its last.
-    fn marked(mark: &[u8], between: Names<'a>, size: &'a [u8]) -> Option<Form<'a>>
+    fn of_mark(mark: &[u8], between: Names<'a>, size: &'a [u8]) -> Option<Form<'a>>
         ensures { option_map form_view result ≡ marked_form mark.now (names_view between.entry) size.now }
     {
         if mark == NAMES_MARK {
@@ -166,7 +166,7 @@ impl<'a> Form<'a> {
                 names: Names::none(),
                 size,
             }),
-            Some(_) => Form::marked(first, between, size),
+            Some(_) => Form::of_mark(first, between, size),
         }
     }
 }

@@ -83,7 +83,7 @@ pub(crate) fn key<'a>(pattern: &'a [u8], queue: Option<&'a [u8]>) -> Result<KeyT
 }
 
 /// A key with its weight.
-pub(crate) fn weighted(key: KeyText<'_>, weight: u64) -> Result<WeightedText<'_>, RouteFault>
+pub(crate) fn weighted_text(key: KeyText<'_>, weight: u64) -> Result<WeightedText<'_>, RouteFault>
     ensures { Says weighted_view (ok_or (weighted_key (key_view key.entry) weight) BadArgs) result }
 {
     let weighs = match key.queue {
@@ -123,7 +123,7 @@ pub(crate) fn read_plus<'a>(
     let _from = node(common.from)?;
     let _to = node(common.to)?;
     let key = key(fields.pattern, fields.queue)?;
-    let weighted = weighted(key, weight)?;
+    let weighted = weighted_text(key, weight)?;
     Ok(NumberedText {
         from: common.from,
         to: common.to,

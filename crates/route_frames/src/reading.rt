@@ -116,7 +116,12 @@ fn message_of(
 }
 
 /// The frame of a line and what it says, with what the payload says.
-fn framed(from: NodeId, to: NodeId, numbers: Numbers, body: Body) -> Result<RouteFrame, RouteFault>
+fn numbered_frame(
+    from: NodeId,
+    to: NodeId,
+    numbers: Numbers,
+    body: Body,
+) -> Result<RouteFrame, RouteFault>
     ensures { result ≡ framed_by from to numbers body }
 {
     let frame = Numbered::new(from, numbers.inc, to, numbers.to_inc, numbers.number, body);
@@ -175,7 +180,7 @@ fn join_numbered(alloc: Global, line: NumberedLine, payload: Bytes) -> Result<Ro
             }
         },
     };
-    Ok(framed(from, to, numbers, body)?)
+    Ok(numbered_frame(from, to, numbers, body)?)
 }
 
 fn join(alloc: Global, line: RouteLine, payload: Bytes) -> Result<RouteFrame, Unjoined>
@@ -191,7 +196,7 @@ fn join(alloc: Global, line: RouteLine, payload: Bytes) -> Result<RouteFrame, Un
 }
 
 /// A frame, or why there is none, without what was given back.
-fn told(joined: Result<RouteFrame, Unjoined>) -> Result<RouteFrame, Failure<RouteFault>>
+fn joined_frame(joined: Result<RouteFrame, Unjoined>) -> Result<RouteFrame, Failure<RouteFault>>
     ensures { result ≡ failure_of joined }
 {
     match joined {
@@ -225,7 +230,7 @@ fn decode_numbered(
 {
     check_size(line.payload_size(), payload.as_slice())?;
     let line = RouteLine::Numbered(line.copy(alloc)?);
-    told(join(alloc, line, payload))
+    joined_frame(join(alloc, line, payload))
 }
 
 fn decode_greeting(
@@ -236,7 +241,7 @@ fn decode_greeting(
     ensures { MeansBy (λ frame. frame) true (joined_text text.entry payload) result }
 {
     let line = text.copy(alloc)?;
-    told(join(alloc, line, payload))
+    joined_frame(join(alloc, line, payload))
 }
 
 fn decode_line(

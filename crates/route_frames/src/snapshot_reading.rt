@@ -8,7 +8,7 @@ ghost use Rattle.route_frames.specs.SnapshotTexts.{pieces, plain_key, queue_key,
 
 use crate::common::spelt_number;
 use crate::faults::RouteFault;
-use crate::line_reading::{WEIGHT_DIGITS, key, weighted};
+use crate::line_reading::{WEIGHT_DIGITS, key, weighted_text};
 use crate::texts::WeightedText;
 use route_values::{SnapshotKeys, WeightedKey};
 use std::alloc::Global;
@@ -38,7 +38,7 @@ fn plain(pattern: &[u8]) -> Result<WeightedText<'_>, RouteFault>
     ensures { Says weighted_view (plain_key pattern.now) result }
 {
     let key = key(pattern, None)?;
-    weighted(key, 1)
+    weighted_text(key, 1)
 }
 
 #[tactic(auto, unfolding(crate::specs::SnapshotTexts::queue_key))]
@@ -51,7 +51,7 @@ fn with_queue<'a>(
 {
     let weight = spelt_number(weight, WEIGHT_DIGITS)?;
     let key = key(pattern, Some(queue))?;
-    weighted(key, weight)
+    weighted_text(key, weight)
 }
 
 /// The key of a line without its CR LF.

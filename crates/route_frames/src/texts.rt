@@ -67,7 +67,7 @@ pub(crate) enum LineText<'a> {
 }
 
 /// A name that was judged before: it lacks memory alone.
-fn copied<T>(read: Result<T, Failure<NameFault>>) -> Result<T, AllocError>
+fn name_copy<T>(read: Result<T, Failure<NameFault>>) -> Result<T, AllocError>
     ensures { IfOk result (λ name. read ≡ Ok name) }
 {
     match read {
@@ -81,7 +81,7 @@ fn copy_reply(alloc: Global, reply: Option<&[u8]>) -> Result<Option<Reply>, Allo
 {
     match reply {
         None => Ok(None),
-        Some(reply) => Ok(Some(copied(Subject::read(alloc, reply))?)),
+        Some(reply) => Ok(Some(name_copy(Subject::read(alloc, reply))?)),
     }
 }
 
@@ -91,7 +91,7 @@ fn copy_queues(alloc: Global, names: Names<'_>) -> Result<QueueNames, AllocError
     let mut copies = Vec::with_capacity(alloc, names.len())?;
     let mut rest = names;
     while let Some((name, others)) = rest.split_first() {
-        copies.push(copied(QueueName::read(alloc, name))?)?;
+        copies.push(name_copy(QueueName::read(alloc, name))?)?;
         rest = others;
     }
     QueueNames::from_names(alloc, copies)?.ok_or(AllocError)
@@ -101,10 +101,10 @@ impl KeyText<'_> {
     pub(crate) fn copy(self, alloc: Global) -> Result<Key, AllocError>
         ensures { IfOk result (λ key. key ≡ key_view self.entry) }
     {
-        let pattern = copied(Pattern::read(alloc, self.pattern))?;
+        let pattern = name_copy(Pattern::read(alloc, self.pattern))?;
         let queue = match self.queue {
             None => None,
-            Some(queue) => Some(copied(QueueName::read(alloc, queue))?),
+            Some(queue) => Some(name_copy(QueueName::read(alloc, queue))?),
         };
         Ok(Key { pattern, queue })
     }
@@ -133,7 +133,7 @@ impl BodyText<'_> {
                 names,
                 size,
             } => {
-                let subject = copied(Subject::read(alloc, subject))?;
+                let subject = name_copy(Subject::read(alloc, subject))?;
                 let reply = copy_reply(alloc, reply)?;
                 let queues = copy_queues(alloc, names)?;
                 Ok(LineBody::Msg {

@@ -74,7 +74,7 @@ fn optional_text<'a>(object: &'a Value, member: Member) -> Result<Option<&'a str
 }
 
 /// What was read as a name, or that the member is none.
-fn fitting<T>(read: Result<T, Failure<NameFault>>, member: Member) -> Result<T, Failure<Misfit>>
+fn member_name<T>(read: Result<T, Failure<NameFault>>, member: Member) -> Result<T, Failure<Misfit>>
     ensures { (cause : Option Cause) (value : T) → IsAnswered cause (λ x. x ≡ value) ⊤ read → Means (if is_some cause then None else Some value) result }
 {
     match read {
@@ -85,7 +85,7 @@ fn fitting<T>(read: Result<T, Failure<NameFault>>, member: Member) -> Result<T, 
 }
 
 /// The same of a member that may be absent, and is there.
-fn some_fitting<T>(
+fn some_member_name<T>(
     read: Result<T, Failure<NameFault>>,
     member: Member,
 ) -> Result<Option<T>, Failure<Misfit>>
@@ -128,7 +128,7 @@ pub(crate) fn sid(alloc: Global, object: &Value, member: Member) -> Result<Sid, 
     ensures { Means (name_at sid_fault member (view object.now)) result }
 {
     let text = text(object, member)?;
-    fitting(Sid::read(alloc, text.as_bytes()), member)
+    member_name(Sid::read(alloc, text.as_bytes()), member)
 }
 
 /// What a subscription asks for.
@@ -141,7 +141,7 @@ pub(crate) fn pattern(
     ensures { Means (name_at pattern_fault member (view object.now)) result }
 {
     let text = text(object, member)?;
-    fitting(Pattern::read(alloc, text.as_bytes()), member)
+    member_name(Pattern::read(alloc, text.as_bytes()), member)
 }
 
 /// What is published on.
@@ -154,7 +154,7 @@ pub(crate) fn subject(
     ensures { Means (name_at subject_fault member (view object.now)) result }
 {
     let text = text(object, member)?;
-    fitting(Subject::read(alloc, text.as_bytes()), member)
+    member_name(Subject::read(alloc, text.as_bytes()), member)
 }
 
 /// Where an answer is awaited, where the member is there.
@@ -168,7 +168,7 @@ pub(crate) fn optional_subject(
 {
     match optional_text(object, member)? {
         None => Ok(None),
-        Some(text) => some_fitting(Subject::read(alloc, text.as_bytes()), member),
+        Some(text) => some_member_name(Subject::read(alloc, text.as_bytes()), member),
     }
 }
 
@@ -183,6 +183,6 @@ pub(crate) fn optional_queue(
 {
     match optional_text(object, member)? {
         None => Ok(None),
-        Some(text) => some_fitting(QueueName::read(alloc, text.as_bytes()), member),
+        Some(text) => some_member_name(QueueName::read(alloc, text.as_bytes()), member),
     }
 }

@@ -76,7 +76,11 @@ fn candidates<'a>(
 }
 
 /// What is told of the member that is chosen.
-fn told(claim: &QueueClaim, sub: &Subscription, entry: &Entry) -> Result<Candidate, AllocError>
+fn chosen_candidate(
+    claim: &QueueClaim,
+    sub: &Subscription,
+    entry: &Entry,
+) -> Result<Candidate, AllocError>
     requires { entry.now ≡ entry_due claim.now.shard claim.now.job.now sub.now.key.queue sub.now }
     ensures { IfOk result (λ candidate. candidate ≡ candidate_told claim.now.copies claim.now.shard claim.now.job.now sub.now) }
 {
@@ -115,7 +119,7 @@ pub fn choose<T: SubTable>(
     let place = claim.job.turn.get() % count;
     let sub = subs[place as usize];
     let entry = due_entry(claim.alloc, claim.shard, claim.job, &lines, sub)?;
-    let candidate = told(claim, sub, &entry)?;
+    let candidate = chosen_candidate(claim, sub, &entry)?;
     conns.stage(sub.conn, entry)?;
     Ok(Some(candidate))
 }

@@ -24,7 +24,7 @@ use crate::connections::Conns;
 use crate::faults::ShardFault;
 use crate::openings::Openings;
 use crate::recipients::Recipients;
-use crate::walk::{Tally, is_last, named, place_all};
+use crate::walk::{Tally, is_last, place_all, sub_ids};
 use client_frames::{ErrText, ReplyFrame, reply_line};
 use interest::Delta;
 use outbox::{Entry, LAST_LINE_TEXT};
@@ -99,7 +99,7 @@ fn shut_with<T: SubTable>(
     ensures err { OnErr result ((conns.new ≡ conns.old) × (openings.new ≡ openings.old)) }
 {
     let serials = serials_of(alloc, openings, conn)?;
-    let ended = named(alloc, shard, &serials)?;
+    let ended = sub_ids(alloc, shard, &serials)?;
     conns.shut(conn, line);
     openings.close_all(&serials);
     Ok(ended)
@@ -384,7 +384,7 @@ impl<T: SubTable> Shard<T> {
             return Err(Failure::Refused(ShardFault::NoConn));
         }
         let serials = serials_of(self.alloc, &self.openings, conn)?;
-        let ended = named(self.alloc, self.shard, &serials)?;
+        let ended = sub_ids(self.alloc, self.shard, &serials)?;
         self.conns.detach(conn);
         self.openings.close_all(&serials);
         Ok(ended)

@@ -84,7 +84,7 @@ pub fn due_len(job: &Job, lines: &MessageLines, sub: &Subscription) -> usize
 }
 
 /// The names of the subscriptions of these serials.
-pub fn named(alloc: Global, shard: u64, serials: &[u64]) -> Result<Vec<SubId>, AllocError>
+pub fn sub_ids(alloc: Global, shard: u64, serials: &[u64]) -> Result<Vec<SubId>, AllocError>
     ensures { IfOk result (λ names. names.items ≡ ended_ids shard serials.now) }
 {
     let mut names = Vec::new(alloc);
@@ -397,6 +397,6 @@ fn stage<T: SubTable>(
         return Ok(Vec::new(tally.alloc));
     }
     tally.add_last_lines()?;
-    let ended = named(tally.alloc, tally.shard, &tally.ended)?;
+    let ended = sub_ids(tally.alloc, tally.shard, &tally.ended)?;
     Ok(ended)
 }

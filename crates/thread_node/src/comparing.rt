@@ -39,7 +39,7 @@ fn tell<N: NodeName>(
     if !all_in_order(passes.as_slice()) {
         return Ok(false);
     }
-    let mut told = all_told(alloc, passes)?;
+    let mut told = all_calls(alloc, passes)?;
     told.as_mut_slice()
         .sort_unstable_by_key(|call| (call.lock, call.place));
     Ok(are_owed(told.as_slice(), hub, worked))
@@ -53,7 +53,7 @@ fn all_in_order<N: NodeName>(passes: &[Pass<N>]) -> bool
 }
 
 /// The calls of all passes, one pass behind another.
-fn all_told<N: NodeName>(alloc: Global, passes: Vec<Pass<N>>) -> Result<Vec<Call>, Unfinished>
+fn all_calls<N: NodeName>(alloc: Global, passes: Vec<Pass<N>>) -> Result<Vec<Call>, Unfinished>
     ensures { IfOk result (λ calls. calls.items ≡ flat_map calls_of passes.items) }
 {
     let mut all = Vec::new(alloc);

@@ -10,7 +10,7 @@ use sub_table::SubTable;
 use subj::Turn;
 
 /// The number of the turn that was worked.
-fn worked(turned: Turned) -> Option<u64> {
+fn worked_turn(turned: Turned) -> Option<u64> {
     match turned {
         Turned::Worked(turn) => Some(turn.get()),
         Turned::Idle | Turned::Short => None,
@@ -30,7 +30,7 @@ fn work<T: SubTable, N: NodeName, G: Gate, R: Wait>(
         let Some(turned) = node.turn(rt, shard, gate) else {
             return;
         };
-        match worked(turned) {
+        match worked_turn(turned) {
             None => thread::yield_now(),
             Some(turn) if turn >= until => return,
             Some(_) => {}
