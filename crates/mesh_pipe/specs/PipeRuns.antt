@@ -3,8 +3,8 @@ use Rattle.std.specs.Prelude.{◌≡◌, ℕ, ◌+◌, ◌<◌, true, List, [], 
 use Rattle.std.specs.Io.KnownBytes.{Appends}
 use Rattle.client_conn.specs.Asks.{Asking, ConnState, over, fed}
 use Rattle.client_conn.specs.Shuts.{AsksToShut}
-use Rattle.mesh_pipe.specs.declared.pipe.PipeFault.{PipeFault}
-use Rattle.mesh_pipe.specs.declared.pipe.PipeFault.TheVariants.{Read, Write, OutOfMemory}
+use Rattle.mesh_pipe.specs.declared.faults.PipeFault.{PipeFault}
+use Rattle.mesh_pipe.specs.declared.faults.PipeFault.TheVariants.{Read, Write, OutOfMemory}
 use Rattle.mesh_pipe.specs.declared.pipe.Flow.{Flow}
 use Rattle.mesh_pipe.specs.declared.pipe.Flow.TheVariants.{Open, Closed}
 use Rattle.mesh_pipe.specs.declared.pipe_server.PipeServer.{PipeServer}

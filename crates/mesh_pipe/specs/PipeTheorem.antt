@@ -3,8 +3,8 @@ use Rattle.std.specs.Prelude.{◌≡◌, ℕ, ◌+◌, ◌-◌, ◌^◌, ◌⊎�
 use Rattle.std.specs.Io.KnownBytes.{Appends, Consumes, IsAtEnd}
 use Rattle.mesh_pipe.specs.declared.pipe.PipeEnd.{PipeEnd}
 use Rattle.mesh_pipe.specs.declared.pipe.PipeEnd.TheVariants.{Ended, Closed}
-use Rattle.mesh_pipe.specs.declared.pipe.PipeFault.{PipeFault}
-use Rattle.mesh_pipe.specs.declared.pipe.PipeFault.TheVariants.{Read, Write, OutOfMemory}
+use Rattle.mesh_pipe.specs.declared.faults.PipeFault.{PipeFault}
+use Rattle.mesh_pipe.specs.declared.faults.PipeFault.TheVariants.{Read, Write, OutOfMemory}
 use Rattle.mesh_pipe.specs.PipeText.{pipe_text, pipe_closes}
 
 -- a beginning of the text was written

@@ -5,8 +5,10 @@
 //! `pipe_server` answers each thing that the connection asks; `serving` makes the server's calls.
 #![tactic(auto)]
 
+mod faults;
 mod pipe;
 mod pipe_server;
 mod serving;
 
-pub use pipe::{PipeEnd, PipeFault, pipe_run};
+pub use faults::PipeFault;
+pub use pipe::{PipeEnd, pipe_run};

@@ -8,15 +8,13 @@ ghost use Rattle.mesh_pipe.specs.PipeText.{pipe_info};
 ghost use Rattle.mesh_pipe.specs.PipeStates.{IsNew};
 ghost use Rattle.mesh_pipe.specs.PipeRuns.{IsInStep, IsFlushed, CountsWrites, HasLooked, Works, AnswersAll};
 
+use crate::faults::PipeFault;
 use crate::pipe_server::{Outcome, PipeServer};
 use crate::serving::info;
 use client_conn::{Conn, ReadFault};
-use std::alloc::{AllocError, AllocFailed, Global};
-use std::error::Error;
-use std::fmt;
-use std::fmt::{Display, Formatter, Write};
+use std::alloc::{AllocError, Global};
 use subj::READ_BYTES;
-use wire_cut::{Sink, Source, WriteFailed};
+use wire_cut::{Sink, Source};
 
 /// Whether the connection goes on.
 #[derive(Clone, Copy, Debug, PartialEq, Eq)]
@@ -34,58 +32,6 @@ pub enum PipeEnd {
     Ended,
     /// A closing `-ERR` was written.
     Closed,
-}
-
-/// Why a pipe broke off.
-#[derive(Clone, Copy, Debug, PartialEq, Eq)]
-pub enum PipeFault {
-    /// The reader failed, or 2^64 - 1 reads did not come to its end.
-    Read,
-    /// The writer failed.
-    Write,
-    /// The allocator gave no memory.
-    OutOfMemory,
-}
-
-impl PipeFault {
-    /// What is told of it.
-    pub fn text(self) -> &'static str {
-        match self {
-            PipeFault::Read => "reading failed",
-            PipeFault::Write => "writing failed",
-            PipeFault::OutOfMemory => "out of memory",
-        }
-    }
-}
-
-impl Display for PipeFault {
-    fn fmt<W: Write>(&self, f: &mut Formatter<W>) -> fmt::Result {
-        f.write_str(self.text())
-    }
-}
-
-impl Error for PipeFault {}
-
-impl From<AllocError> for PipeFault {
-    ghost use Rattle.std.specs.Prelude.{◌≡◌};
-    ghost use Rattle.mesh_pipe.specs.declared.pipe.PipeFault.TheVariants.{OutOfMemory};
-
-    ghost from_gives = { λ _ fault. fault ≡ OutOfMemory };
-
-    fn from(_: AllocError) -> PipeFault {
-        PipeFault::OutOfMemory
-    }
-}
-
-impl From<WriteFailed> for PipeFault {
-    ghost use Rattle.std.specs.Prelude.{◌≡◌};
-    ghost use Rattle.mesh_pipe.specs.declared.pipe.PipeFault.TheVariants.{Write};
-
-    ghost from_gives = { λ _ fault. fault ≡ Write };
-
-    fn from(_: WriteFailed) -> PipeFault {
-        PipeFault::Write
-    }
 }
 
 /// Serves one client: reads its commands, and writes what a server sends. Each read is of at most

@@ -4,8 +4,8 @@ use Rattle.std.specs.Io.KnownBytes.{Appends}
 use Rattle.subj.specs.declared.names.NameFault.{NameFault}
 use Rattle.subj.specs.Matching.{subject_matches}
 use Rattle.subj.specs.Names.{pattern_fault, subject_fault, name_fault_number}
-use Rattle.mesh_script.specs.declared.matching.MatchFault.{MatchFault}
-use Rattle.mesh_script.specs.declared.matching.MatchFault.TheVariants.{BadPattern, BadSubject, Write, OutOfMemory}
+use Rattle.mesh_script.specs.declared.faults.MatchFault.{MatchFault}
+use Rattle.mesh_script.specs.declared.faults.MatchFault.TheVariants.{BadPattern, BadSubject, Write, OutOfMemory}
 use Rattle.mesh_script.specs.declared.faults.PlayFault.{PlayFault}
 use Rattle.mesh_script.specs.declared.faults.PlayFault.TheVariants as play
 use Rattle.mesh_script.specs.Lines.{refused_text}

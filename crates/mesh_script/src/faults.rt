@@ -2,6 +2,7 @@
 
 use script_form::ScriptError;
 use std::alloc::AllocError;
+use subj::NameFault;
 use thiserror::Error;
 use wire_cut::WriteFailed;
 
@@ -53,4 +54,46 @@ pub enum RunFault {
     /// The allocator gave no memory. What was written is a beginning of the text.
     #[error("out of memory")]
     OutOfMemory,
+}
+
+/// Why it was not told whether a pattern matches a subject.
+#[derive(Clone, Copy, Debug, PartialEq, Eq, Error)]
+pub enum MatchFault {
+    /// The pattern is none. Its refusal was written.
+    #[error("pattern refused: {0}")]
+    BadPattern(NameFault),
+    /// The subject is none. Its refusal was written.
+    #[error("subject refused: {0}")]
+    BadSubject(NameFault),
+    /// The writer failed.
+    #[error("writing failed")]
+    Write,
+    /// The allocator gave no memory.
+    #[error("out of memory")]
+    OutOfMemory,
+}
+
+impl From<AllocError> for MatchFault {
+    ghost use Rattle.std.specs.Prelude.{◌≡◌};
+    ghost use Rattle.mesh_script.specs.declared.faults.MatchFault.TheVariants.{OutOfMemory};
+
+    ghost from_gives = { λ _ fault. fault ≡ OutOfMemory };
+
+    fn from(_: AllocError) -> MatchFault {
+        MatchFault::OutOfMemory
+    }
+}
+
+impl From<PlayFault> for MatchFault {
+    ghost use Rattle.std.specs.Prelude.{◌≡◌};
+    ghost use Rattle.mesh_script.specs.Matching.{unmatched_by};
+
+    ghost from_gives = { λ fault match_fault. match_fault ≡ unmatched_by fault };
+
+    fn from(fault: PlayFault) -> MatchFault {
+        match fault {
+            PlayFault::Write => MatchFault::Write,
+            PlayFault::OutOfMemory => MatchFault::OutOfMemory,
+        }
+    }
 }

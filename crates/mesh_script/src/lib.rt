@@ -16,7 +16,7 @@ mod player;
 mod plays;
 mod running;
 
-pub use faults::{PlayFault, RunFault};
-pub use matching::{MatchFault, match_run};
+pub use faults::{MatchFault, PlayFault, RunFault};
+pub use matching::match_run;
 pub use plays::play;
 pub use running::script_run;

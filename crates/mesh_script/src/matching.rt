@@ -5,54 +5,11 @@ ghost use Rattle.subj.specs.Matching.{subject_matches};
 ghost use Rattle.subj.specs.Names.{pattern_fault, subject_fault};
 ghost use Rattle.mesh_script.specs.Matching.{Matches, CountsMatchWrites};
 
-use crate::faults::PlayFault;
+use crate::faults::MatchFault;
 use crate::output::{write_line, write_refusal};
 use std::alloc::{AllocError, Global};
-use subj::{Failure, NameFault, Pattern, Subject};
-use thiserror::Error;
+use subj::{Failure, Pattern, Subject};
 use wire_cut::Sink;
-
-/// Why it was not told whether a pattern matches a subject.
-#[derive(Clone, Copy, Debug, PartialEq, Eq, Error)]
-pub enum MatchFault {
-    /// The pattern is none. Its refusal was written.
-    #[error("pattern refused: {0}")]
-    BadPattern(NameFault),
-    /// The subject is none. Its refusal was written.
-    #[error("subject refused: {0}")]
-    BadSubject(NameFault),
-    /// The writer failed.
-    #[error("writing failed")]
-    Write,
-    /// The allocator gave no memory.
-    #[error("out of memory")]
-    OutOfMemory,
-}
-
-impl From<AllocError> for MatchFault {
-    ghost use Rattle.std.specs.Prelude.{◌≡◌};
-    ghost use Rattle.mesh_script.specs.declared.matching.MatchFault.TheVariants.{OutOfMemory};
-
-    ghost from_gives = { λ _ fault. fault ≡ OutOfMemory };
-
-    fn from(_: AllocError) -> MatchFault {
-        MatchFault::OutOfMemory
-    }
-}
-
-impl From<PlayFault> for MatchFault {
-    ghost use Rattle.std.specs.Prelude.{◌≡◌};
-    ghost use Rattle.mesh_script.specs.Matching.{unmatched_by};
-
-    ghost from_gives = { λ fault match_fault. match_fault ≡ unmatched_by fault };
-
-    fn from(fault: PlayFault) -> MatchFault {
-        match fault {
-            PlayFault::Write => MatchFault::Write,
-            PlayFault::OutOfMemory => MatchFault::OutOfMemory,
-        }
-    }
-}
 
 /// Whether the pattern matches the subject. Required: both are such.
 fn is_match(alloc: Global, pattern: &[u8], subject: &[u8]) -> Result<bool, AllocError>

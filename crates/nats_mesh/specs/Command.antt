@@ -4,7 +4,7 @@ use Rattle.nats_mesh.specs.declared.command.Command.{Command}
 use Rattle.nats_mesh.specs.declared.command.Command.TheVariants.{Pipe, Match, Script, Serve}
 use Rattle.mesh_pipe.specs.declared.pipe.PipeEnd.{PipeEnd}
 use Rattle.mesh_pipe.specs.declared.pipe.PipeEnd.TheVariants.{Ended, Closed}
-use Rattle.mesh_pipe.specs.declared.pipe.PipeFault.{PipeFault}
+use Rattle.mesh_pipe.specs.declared.faults.PipeFault.{PipeFault}
 
 -- by its word behind the program's name
 abbrev pub name_of : Command → List ℕ

@@ -2,7 +2,8 @@
 
 ghost use Rattle.std.specs.Io.{ReadsAtMost, WritesAtMost};
 
-use crate::stream::{Stream, StreamFault};
+use crate::faults::StreamFault;
+use crate::stream::Stream;
 use std::alloc::{AllocError, Global};
 
 /// A stream in memory: it is fed what the other end sends, and keeps what was written. One of its calls can

@@ -2,7 +2,8 @@
 
 ghost use Rattle.std.specs.Io.{ReadsAtMost, WritesAtMost};
 
-use crate::stream::{Stream, StreamFault};
+use crate::faults::StreamFault;
+use crate::stream::Stream;
 use mio::net::TcpStream;
 use std::io;
 use std::io::{Read, Write};

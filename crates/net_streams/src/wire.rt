@@ -4,7 +4,8 @@ ghost use Rattle.std.specs.Prelude.{◌≡◌, ◌+◌, ◌≤◌, None, length}
 ghost use Rattle.std.specs.Io.{ReadsAtMost};
 ghost use Rattle.wire_cut.specs.Flow.{CountsFailure};
 
-use crate::stream::{Stream, StreamFault};
+use crate::faults::StreamFault;
+use crate::stream::Stream;
 use wire_cut::{Count, ReadFailed, Source};
 
 /// A stream, and whether it has ended or failed. It is read as a source, of which a read that would have to

@@ -10,7 +10,7 @@ use std::alloc::AllocError;
 use std::sync::Wait;
 use sub_table::SubTable;
 use subj::Failure;
-use thread_node::{LockedShard, ThreadNode};
+use thread_node::LockedShard;
 
 /// How many frames are taken for another server at once.
 const FRAMES: usize = 64;

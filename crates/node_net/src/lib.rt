@@ -10,6 +10,7 @@ mod client_link;
 mod clients;
 mod closings;
 mod connection;
+mod faults;
 mod flushing;
 mod peers;
 mod redials;
@@ -20,7 +21,8 @@ mod server;
 mod stops;
 mod turning;
 
+pub use faults::AddFault;
 pub use net_streams::{MemStream, Stream, StreamFault};
 pub use running::{Sockets, WAKER};
-pub use server::{AddFault, Server, Side, shard_of_client};
+pub use server::{Server, Side, shard_of_client};
 pub use stops::Company;

@@ -4,9 +4,7 @@ use crate::runs::{Ran, Run, cost_of};
 use bytes::Bytes;
 use hub_core::HubFault;
 use node_threads::NodeName;
-use route_frames::{
-    Body, Numbered, RouteConnect, RouteFault, RouteFrame, RouteInfo, RouteLine, Unjoined,
-};
+use route_frames::{Body, Numbered, RouteConnect, RouteFrame, RouteInfo, RouteLine, Unjoined};
 use route_session::SessionId;
 use std::alloc::Global;
 use std::sync::Wait;

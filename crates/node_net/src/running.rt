@@ -4,7 +4,7 @@ use crate::redials::{Greeting, Redials};
 use crate::server::{Server, Side};
 use crate::stops::Company;
 use mio::net::{TcpListener, TcpStream};
-use mio::{Events, Interest, Poll, Registry, Token};
+use mio::{Events, Interest, Poll, Token};
 use node_threads::NodeName;
 use std::alloc::Global;
 use std::io;

@@ -8,6 +8,7 @@ use crate::client_link::ClientLink;
 use crate::clients::Clients;
 use crate::closings::Closing;
 use crate::connection::{Connection, Link};
+use crate::faults::AddFault;
 use crate::peers::Peers;
 use crate::route_link::{RouteLink, Stage};
 use client_frames::InfoData;
@@ -16,14 +17,13 @@ use node_threads::NodeName;
 use rand_core::SeedableRng;
 use rand_pcg::Pcg64;
 use route_frames::{RouteFrame, encode};
-use route_session::{SessionFault, SessionId};
-use shard_core::{Recipients, ShardFault};
+use route_session::SessionId;
+use shard_core::Recipients;
 use slab::Slab;
 use std::alloc::{AllocError, AllocFailed, Global};
 use std::sync::Wait;
 use sub_table::SubTable;
 use subj::{ConnId, Failure, Server as Life};
-use thiserror::Error;
 use thread_node::ThreadNode;
 
 /// Who is at the other end of a stream.
@@ -35,26 +35,6 @@ pub enum Side {
     Accepted,
     /// The server at this place of the cluster, which this one has dialed.
     Dialed(usize),
-}
-
-/// Why a stream is not taken. It is closed.
-#[derive(Clone, Copy, Debug, PartialEq, Eq, Error)]
-pub enum AddFault {
-    /// No client is taken any more: the numbers of connections have come to their limit.
-    #[error("no client is taken any more: {0}")]
-    Client(ShardFault),
-    /// The route is refused.
-    #[error("the route is refused: {0}")]
-    Route(SessionFault),
-    /// There was no memory.
-    #[error("out of memory")]
-    OutOfMemory,
-}
-
-impl From<AllocError> for AddFault {
-    fn from(_: AllocError) -> AddFault {
-        AddFault::OutOfMemory
-    }
 }
 
 /// The shard of a client: those of a server go to its shards in turn. The client is counted from 1, and so

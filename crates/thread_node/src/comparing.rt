@@ -4,7 +4,7 @@ ghost use Rattle.std.specs.Prelude.{◌≡◌, ◌++◌, true, All, IfOk, IfSome
 ghost use Rattle.thread_node.specs.Owed.{AreTold, IsInOrder, call_of_hub, call_of_shard, calls_of, owed, owed_by_hub, owed_by_shard, owed_by_shards, owed_one};
 
 use crate::asked::{is_of_hub, is_of_shard};
-use crate::finish::Unfinished;
+use crate::faults::Unfinished;
 use crate::hub_entries::HubEntry;
 use crate::passes::{Call, Pass, Told};
 use node_threads::{NodeName, ShardEntry, ShardTold};

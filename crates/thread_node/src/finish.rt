@@ -11,6 +11,7 @@ ghost use Rattle.thread_law.specs.Runs.{HubRun, IsLegal, ShardRun};
 ghost use Rattle.thread_node.specs.Reports.{AreClosed, IsKept, IsWritten, Tells};
 
 use crate::comparing::are_told;
+use crate::faults::Unfinished;
 use crate::handing::torn_shard;
 use crate::hub_entries::HubEntry;
 use crate::locked_shard::LockedShard;
@@ -19,11 +20,10 @@ use crate::passes::Pass;
 use claim_cells::ShardSeat;
 use job_lane::meet;
 use node_threads::{Line, NodeName, ShardEntry, Tape};
-use std::alloc::{AllocError, Global};
+use std::alloc::Global;
 use std::sync::{Arc, Mutex, Wait};
 use sub_table::SubTable;
 use subj::{Finished, Turn};
-use thiserror::Error;
 use thread_law::legal_runs_are_once;
 
 /// What a server has done.
@@ -39,28 +39,6 @@ pub struct Report {
     pub hub: Vec<HubEntry>,
     /// All that each shard did, in order, that of shard 1 first; nothing of each where nothing was written down.
     pub worked: Vec<Vec<ShardEntry>>,
-}
-
-/// Why a server gave no report.
-#[derive(Clone, Copy, Debug, PartialEq, Eq, Error)]
-pub enum Unfinished {
-    /// The allocator gave no memory, now or when a step was to be written down.
-    #[error("there was no memory to write all down, or to tell of it")]
-    OutOfMemory,
-    /// The value under the lock of this shard, from 1, or the hub's end of its lane, is another shard's, or the
-    /// deltas that the hub took of it are not those that it gave; 0 where the race is held by somebody else
-    /// still. No server comes to it: the locks' types cannot say so.
-    #[error("what stands under the lock of shard {0} is not its own (0: under none)")]
-    Torn(u64),
-    /// The passes do not tell each step once that a caller made under a lock, as it was asked and answered, and nothing else.
-    #[error("the passes do not tell each call once, as it was asked and answered")]
-    Untold,
-}
-
-impl From<AllocError> for Unfinished {
-    fn from(_error: AllocError) -> Unfinished {
-        Unfinished::OutOfMemory
-    }
 }
 
 /// What a tape says, or nothing where nothing was to be written down.

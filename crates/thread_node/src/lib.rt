@@ -9,6 +9,7 @@ mod asked;
 mod asking;
 mod calls;
 mod comparing;
+mod faults;
 mod finish;
 mod handing;
 mod hub_entries;
@@ -22,7 +23,8 @@ mod passes;
 mod rising;
 mod workers;
 
-pub use finish::{Report, Unfinished};
+pub use faults::Unfinished;
+pub use finish::Report;
 pub use hub_entries::{HubEntry, HubEvent, HubTold};
 pub use locked_hub::LockedHub;
 pub use locked_shard::LockedShard;

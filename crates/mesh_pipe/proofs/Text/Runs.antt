@@ -6,7 +6,7 @@ use Rattle.std.proofs.KnownBytes.{Appends-nil, Appends-trans}
 use Rattle.wire_cut.specs.Flow.{AppendsFront}
 use Rattle.client_conn.specs.Asks.{Asking, ConnState, fed}
 use Rattle.client_conn.specs.Shuts.{AsksToShut}
-use Rattle.mesh_pipe.specs.declared.pipe.PipeFault.{PipeFault}
+use Rattle.mesh_pipe.specs.declared.faults.PipeFault.{PipeFault}
 use Rattle.mesh_pipe.specs.declared.pipe.Flow.{Flow}
 use Rattle.mesh_pipe.specs.declared.pipe.Flow.TheVariants.{Open, Closed}
 use Rattle.mesh_pipe.specs.declared.pipe_server.PipeServer.{PipeServer}

@@ -10,8 +10,8 @@ use Rattle.client_conn.specs.Shuts.{AsksToShut}
 use Rattle.client_conn.proofs.Closing.{shuts_at_the_end, shut_behind}
 use Rattle.client_conn.proofs.Following.{fed_twice, settled_fed, settled_begun}
 use Rattle.mesh_pipe.specs.declared.pipe.PipeEnd.{PipeEnd}
-use Rattle.mesh_pipe.specs.declared.pipe.PipeFault.{PipeFault}
-use Rattle.mesh_pipe.specs.declared.pipe.PipeFault.TheVariants.{Read, Write, OutOfMemory}
+use Rattle.mesh_pipe.specs.declared.faults.PipeFault.{PipeFault}
+use Rattle.mesh_pipe.specs.declared.faults.PipeFault.TheVariants.{Read, Write, OutOfMemory}
 use Rattle.mesh_pipe.specs.declared.pipe_server.PipeServer.{PipeServer}
 use Rattle.mesh_pipe.specs.PipeText.{Served, Output, at_first, behind, asks_said, pipe_info, pipe_said, pipe_text, pipe_closes}
 use Rattle.mesh_pipe.specs.PipeStates.{IsNew, served}

@@ -1,6 +1,6 @@
 use Rattle.std.proofs.Common.{[], refl}
 use Rattle.std.proofs.KnownBytes.{Consumes-nil}
-use Rattle.mesh_pipe.specs.declared.pipe.PipeFault.TheVariants.{OutOfMemory}
+use Rattle.mesh_pipe.specs.declared.faults.PipeFault.TheVariants.{OutOfMemory}
 use Rattle.mesh_pipe.proofs.Text.Serves.{nothing_written, broke_off}
 use Rattle.mesh_pipe.proofs.pipe.pipe_run.Goals as goal
 

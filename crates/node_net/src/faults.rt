@@ -1,0 +1,26 @@
+//! Why a server takes no stream.
+
+use route_session::SessionFault;
+use shard_core::ShardFault;
+use std::alloc::AllocError;
+use thiserror::Error;
+
+/// Why a stream is not taken. It is closed.
+#[derive(Clone, Copy, Debug, PartialEq, Eq, Error)]
+pub enum AddFault {
+    /// No client is taken any more: the numbers of connections have come to their limit.
+    #[error("no client is taken any more: {0}")]
+    Client(ShardFault),
+    /// The route is refused.
+    #[error("the route is refused: {0}")]
+    Route(SessionFault),
+    /// There was no memory.
+    #[error("out of memory")]
+    OutOfMemory,
+}
+
+impl From<AllocError> for AddFault {
+    fn from(_: AllocError) -> AddFault {
+        AddFault::OutOfMemory
+    }
+}
