@@ -2,7 +2,7 @@
 
 ghost use Rattle.std.specs.Prelude.{◌≡◌, None, IfOk};
 ghost use Rattle.std.specs.Option.{option_copied};
-ghost use Rattle.subj.specs.Names.{sid_fault, subject_fault};
+ghost use Rattle.subj.specs.Names.{sid_fault};
 ghost use Rattle.line_fields.specs.Fields.{fields};
 ghost use Rattle.client_frames.specs.Arguments.{two_or_three};
 ghost use Rattle.client_frames.specs.Lines.{Means, line_meaning, operation_meaning, connection_of, publication_of, subscription_of, closing_of, maximum_of, reply_fault, queue_fault};
@@ -100,10 +100,9 @@ fn decode_pub(texts: &mut SharedTexts, text: &[u8]) -> Result<ClientLine, Failur
     if fault_of_reply(arguments.between).is_some() {
         return Ok(ClientLine::PubBad { size });
     }
-    if !texts.has_last_subject(arguments.first) && Subject::fault(arguments.first).is_some() {
+    let Some(subject) = texts.subject(arguments.first)? else {
         return Ok(ClientLine::PubBad { size });
-    }
-    let subject = texts.next_subject(arguments.first)?;
+    };
     let reply = read_reply(texts, arguments.between)?;
     Ok(ClientLine::Pub(PubHead {
         subject,
@@ -129,9 +128,8 @@ fn read_queue(alloc: Global, queue: Option<&[u8]>) -> Result<Option<QueueName>, 
     };
     match QueueName::read(alloc, queue) {
         Ok(queue) => Ok(Some(queue)),
-        Err(Failure::OutOfMemory) => Err(AllocError),
         // required: the bytes are a queue name
-        Err(Failure::Refused(_)) => unreachable!(),
+        Err(failure) => Err(failure.want_of_memory()),
     }
 }
 
@@ -142,9 +140,8 @@ fn read_sid(alloc: Global, text: &[u8]) -> Result<Sid, AllocError>
 {
     match Sid::read(alloc, text) {
         Ok(sid) => Ok(sid),
-        Err(Failure::OutOfMemory) => Err(AllocError),
         // required: the bytes are a subscription id
-        Err(Failure::Refused(_)) => unreachable!(),
+        Err(failure) => Err(failure.want_of_memory()),
     }
 }
 

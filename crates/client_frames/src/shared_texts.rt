@@ -1,7 +1,6 @@
 //! The memory of small texts.
 
-ghost use Rattle.std.specs.Bool.{OnTrue};
-ghost use Rattle.std.specs.Prelude.{◌≡◌, ⊤, None, IfOk};
+ghost use Rattle.std.specs.Prelude.{◌≡◌, ⊤, None, Some, is_some, if◌then◌else◌, IfOk, OnErr};
 ghost use Rattle.subj.specs.Names.{subject_fault};
 
 use bytes::{Bytes, BytesMut};
@@ -58,16 +57,6 @@ impl SharedTexts {
         self.block.freeze_to(text.len())
     }
 
-    /// Whether the bytes are the subject that was copied last.
-    pub(crate) fn has_last_subject(&self, text: &[u8]) -> bool
-        ensures { OnTrue result (subject_fault text.now ≡ None) }
-    {
-        match &self.last_subject {
-            None => false,
-            Some(last) => last.bytes() == text,
-        }
-    }
-
     /// A copy of bytes that are a subject.
     pub(crate) fn new_subject(&mut self, text: &[u8]) -> Result<Subject, AllocError>
         requires { subject_fault text.now ≡ None }
@@ -80,18 +69,22 @@ impl SharedTexts {
         }
     }
 
-    /// The same, and it is the one that was copied last.
-    pub(crate) fn next_subject(&mut self, text: &[u8]) -> Result<Subject, AllocError>
-        requires { subject_fault text.now ≡ None }
-        ensures { IfOk result (λ subject. subject ≡ text.now) }
+    /// A copy of bytes, where they are a subject. The one that was copied last by this call is neither judged nor copied
+    /// again. Want of memory comes only where they are one.
+    pub(crate) fn subject(&mut self, text: &[u8]) -> Result<Option<Subject>, AllocError>
+        ensures ok { IfOk result (λ subject. subject ≡ (if is_some (subject_fault text.now) then None else Some text.now)) }
+        ensures err { OnErr result (subject_fault text.now ≡ None) }
     {
         if let Some(last) = &self.last_subject {
             if last.bytes() == text {
-                return last.try_clone();
+                return Ok(Some(last.try_clone()?));
             }
+        }
+        if Subject::fault(text).is_some() {
+            return Ok(None);
         }
         let subject = self.new_subject(text)?;
         self.last_subject = Some(subject.try_clone()?);
-        Ok(subject)
+        Ok(Some(subject))
     }
 }

@@ -8,7 +8,7 @@ ghost use Rattle.mesh_script.specs.Matching.{Matches, CountsMatchWrites};
 use crate::faults::MatchFault;
 use crate::output::{write_line, write_refusal};
 use std::alloc::{AllocError, Global};
-use subj::{Failure, Pattern, Subject};
+use subj::{Pattern, Subject};
 use wire_cut::Sink;
 
 /// Whether the pattern matches the subject. Required: both are such.
@@ -20,14 +20,12 @@ fn is_match(alloc: Global, pattern: &[u8], subject: &[u8]) -> Result<bool, Alloc
     let pattern = match Pattern::read(alloc, pattern) {
         Ok(pattern) => pattern,
         // required: the bytes are a pattern
-        Err(Failure::Refused(_)) => unreachable!(),
-        Err(Failure::OutOfMemory) => return Err(AllocError),
+        Err(failure) => return Err(failure.want_of_memory()),
     };
     match Subject::read(alloc, subject) {
         Ok(subject) => Ok(pattern.matches(&subject)),
         // required: the bytes are a subject
-        Err(Failure::Refused(_)) => unreachable!(),
-        Err(Failure::OutOfMemory) => Err(AllocError),
+        Err(failure) => Err(failure.want_of_memory()),
     }
 }
 

@@ -17,3 +17,8 @@ IsAnswered cause done same (Err why) = IsRefused cause same why
 abbrev pub IsDecided : {R T : Type 0} → Option R → (T → Type 0) → Type 0 → Result T R → Type 0
 IsDecided cause done same (Ok x) = (cause ≡ None) × done x
 IsDecided cause done same (Err why) = (cause ≡ Some why) × same
+
+-- Nothing but want of memory kept a call from its answer.
+abbrev pub IsWantOfMemory : {R : Type 0} → Failure R → Type 0
+IsWantOfMemory (Refused why) = ⊥
+IsWantOfMemory OutOfMemory = Unit {0}

@@ -16,6 +16,21 @@ pub enum Failure<R> {
     OutOfMemory,
 }
 
+impl<R: Drop> Failure<R> {
+    ghost use Rattle.subj.specs.Answers.{IsWantOfMemory};
+
+    /// How a call failed that had no cause to be refused. Required: it was not refused.
+    pub fn want_of_memory(self) -> AllocError
+        requires { IsWantOfMemory self }
+    {
+        match self {
+            // required: the call was not refused
+            Failure::Refused(_) => unreachable!(),
+            Failure::OutOfMemory => AllocError,
+        }
+    }
+}
+
 impl<R: Display> Display for Failure<R> {
     fn fmt<W: Write>(&self, f: &mut Formatter<W>) -> fmt::Result {
         match self {
