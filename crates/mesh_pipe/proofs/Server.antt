@@ -7,3 +7,4 @@ pub mod Publishing
 pub mod Collecting
 pub mod Working
 pub mod Calls
+pub mod Unchanged

@@ -6,7 +6,8 @@ ghost use Rattle.mesh_pipe.specs.PipeStates.{outcome_by, served, IsNew, IsReady,
 ghost use Rattle.shard_core.specs.ShardEvents.{Unsubscribe, Reply, Shut};
 
 use crate::serving::{
-    PipeNode, collect, new_node, publish, reply, shut, subscribe, take, unsubscribe, work_off,
+    PipeNode, collect, new_node, publish, reply, shut, subscribe, take, take_any, unsubscribe,
+    work_off,
 };
 use client_conn::{Ask, Refusal};
 use client_frames::{ErrText, ReplyFrame};
@@ -131,7 +132,7 @@ impl PipeServer {
             Ok(()) => {
                 let shut = work_off(&mut self.node)?;
                 collect(&mut self.node)?;
-                take(&mut self.node, self.conn, &mut self.output)?;
+                take_any(&mut self.node, self.conn, &mut self.output)?;
                 Ok(outcome_of(shut))
             }
             Err(refusal) => Ok(Outcome::Answered(Err(refusal))),

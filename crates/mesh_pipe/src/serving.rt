@@ -7,14 +7,14 @@ ghost use Rattle.shard_core.specs.ShardEvents.{Subscribe, Unsubscribe, Reply, Sh
 ghost use Rattle.shard_core.specs.ShardSteps.{answer_fits, shard_refusal};
 ghost use Rattle.shard_core.specs.Shards.{is_known, is_open};
 ghost use Rattle.mesh_pipe.specs.PipeText.{pipe_info, at_first, at_rest};
-ghost use Rattle.mesh_pipe.specs.PipeServing.{refusal_of as refused, shard_in, waiting_in, all_entries, waiting_bytes, placing_refused, pipe_server, IsServing, Steps, IsPublished, IsOpened, AreFree, HasBegun, HasClaimed, HasEnded, HasClaimedAll, HasWorkedOff, queues_in, first_queues};
+ghost use Rattle.mesh_pipe.specs.PipeServing.{refusal_of as refused, line_in, shard_in, waiting_in, all_entries, waiting_bytes, placing_refused, pipe_server, IsServing, Steps, IsPublished, IsOpened, AreFree, HasBegun, HasClaimed, HasEnded, HasClaimedAll, HasWorkedOff, queues_in, first_queues};
 
 use claim_cells::CellsRace;
 use client_conn::Refusal;
 use client_frames::{ErrText, InfoData, ReplyFrame};
 use client_refusals::{refusal_of_hub, refusal_of_shard};
 use hub_core::queue_names_are_wanted;
-use node_core::{Node, NodeFault, counts_are_open};
+use node_core::{Line, Node, NodeFault, counts_are_open};
 use std::alloc::{AllocError, Global};
 use sub_trie::TrieTable;
 use subj::{ConnId, Failure, Incarnation, Key, NodeId, Pub, Server, Sid};
@@ -244,11 +244,26 @@ pub fn work_off(node: &mut PipeNode) -> Result<bool, AllocError>
     Ok(shut)
 }
 
-/// Has the hub count what was opened and closed.
+/// Its one shard, and the jobs that wait for it.
+fn only_line(node: &PipeNode) -> &Line<TrieTable>
+    requires { IsServing node.now }
+    ensures { result.now ≡ line_in node.now }
+{
+    match node.line(SHARD) {
+        Some(line) => line,
+        // required: the server has one shard
+        None => unreachable!(),
+    }
+}
+
+/// Has the hub count what was opened and closed, where anything was.
 pub fn collect(node: &mut PipeNode) -> Result<(), AllocError>
     requires { IsServing node.old }
     ensures { OnOk result (Steps node.old Collect node.new) }
 {
+    if only_line(node).deltas().is_empty() {
+        return Ok(());
+    }
     counts_are_open();
     match node.collect(SHARD) {
         Ok(_told) => Ok(()),
@@ -272,4 +287,18 @@ pub fn take(node: &mut PipeNode, conn: ConnId, out: &mut Vec<u8>) -> Result<(), 
         Err(Failure::Refused(_)) => unreachable!(),
         Err(Failure::OutOfMemory) => Err(AllocError),
     }
+}
+
+/// [`take`], where often nothing waits: that is seen at once.
+pub fn take_any(node: &mut PipeNode, conn: ConnId, out: &mut Vec<u8>) -> Result<(), AllocError>
+    requires serving { IsServing node.old }
+    requires conn { conn ≡ 1 }
+    requires known { is_known 1 (shard_in node.old).clients ≡ true }
+    ensures steps { OnOk result (Steps node.old (Take 1 all_entries) node.new) }
+    ensures text { OnOk result (out.new.items ≡ out.old.items ++ waiting_bytes (shard_in node.old)) }
+{
+    if only_line(node).has_nothing_for(conn) {
+        return Ok(());
+    }
+    take(node, conn, out)
 }

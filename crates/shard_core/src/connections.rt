@@ -193,6 +193,16 @@ impl Conns {
         }
     }
 
+    /// Whether nothing waits for the connection, as for one that is not there.
+    pub fn has_nothing_for(&self, conn: ConnId) -> bool
+        ensures { result ≡ (length (waits_for conn self.now.shown) == 0) }
+    {
+        match found(&self.conns, conn) {
+            None => true,
+            Some(conn) => conn.outbox.is_empty(),
+        }
+    }
+
     /// Whether the connection is there and not shut once all that was staged is shown.
     pub fn stays_open(&self, conn: ConnId) -> bool
         ensures { result ≡ opened conn self.now.next }

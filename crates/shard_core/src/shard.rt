@@ -1,6 +1,6 @@
 //! The shard.
 
-ghost use Rattle.std.specs.Prelude.{◌≡◌, ◌≤◌, [], false, ◌||◌, ◌/◌, ◌+◌, map, length, nat_le, true, None, option_map, option_to_list, not, IfOk, OnOk, OnErr};
+ghost use Rattle.std.specs.Prelude.{◌≡◌, ◌==◌, ◌≤◌, [], false, ◌||◌, ◌/◌, ◌+◌, length, nat_le, true, None, option_map, option_to_list, not, IfOk, OnOk, OnErr};
 ghost use Rattle.std.specs.Option.{option_copied};
 ghost use Rattle.subj.specs.Answers.{IsAnswered, IsDecided};
 ghost use Rattle.subj.specs.Keys.{cost_of};
@@ -12,7 +12,7 @@ ghost use Rattle.shard_core.specs.Boxes.{IsSettled, on_both};
 ghost use Rattle.shard_core.specs.Closings.{left_of, ended_ids};
 ghost use Rattle.shard_core.specs.Held.{DoesStep, IsLeft, Chooses, Stands, settled, serial_told, placed_chosen, ended_by_chosen};
 ghost use Rattle.shard_core.specs.Opened.{AreApart, AreRising, with_closings};
-ghost use Rattle.shard_core.specs.Shards.{new_shard, changed, client_at, fits, is_open as opened};
+ghost use Rattle.shard_core.specs.Shards.{new_shard, changed, client_at, fits, is_open as opened, waits_for};
 ghost use Rattle.shard_core.specs.ShardEvents.{Attach, Subscribe, Unsubscribe, Reply, Shut, Detach, Take, Begin, Claim, End, DropJob, Collect, Attached, Unsubscribed, Replied, WasShut, Detached, Taken, Finished, Dropped, Collected};
 ghost use Rattle.shard_core.specs.ShardSteps.{shard_refusal, called as call, ended_now, IsHanded};
 
@@ -427,6 +427,13 @@ impl<T: SubTable> Shard<T> {
         ensures { result ≡ opened conn self.now.state.clients }
     {
         self.conns.is_open(conn)
+    }
+
+    /// Whether nothing waits for the connection, as for one that is not there.
+    pub fn has_nothing_for(&self, conn: ConnId) -> bool
+        ensures { result ≡ (length (waits_for conn self.now.state.clients) == 0) }
+    {
+        self.conns.has_nothing_for(conn)
     }
 
     /// Whether the recipients that are told next are to be asked for soon ([`Recipients::is_urgent`]).

@@ -76,6 +76,10 @@ impl Driver {
         Ok(self.shard.detach(conn)?.len())
     }
 
+    pub fn has_nothing_for(&self, conn: ConnId) -> bool {
+        self.shard.has_nothing_for(conn)
+    }
+
     pub fn take(&mut self, conn: ConnId, count: usize) -> Result<Vec<Entry>, Fail> {
         Ok(self.shard.take(conn, count)?)
     }

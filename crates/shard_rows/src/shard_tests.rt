@@ -225,12 +225,15 @@ fn slow_consumer(rt: HostRuntime) -> Result<(), Fail> {
 fn connection_ends(rt: &impl Abort, shard: &mut Driver, alloc: Global) -> Result<(), Fail> {
     let conn = shard.attach()?;
     assert_eq!(rt; conn.get(), 2);
+    assert!(rt; shard.has_nothing_for(conn));
     open(shard, alloc, conn, b"", b"1")?;
     shard.reply(conn, &ReplyFrame::Ok)?;
+    assert!(rt; !shard.has_nothing_for(conn));
     assert_eq!(rt; shard.shut(conn)?, 1);
     let refused = Some(Failure::Refused(ShardFault::NoConn));
     assert_eq!(rt; shard.reply(conn, &ReplyFrame::Pong).err(), refused);
     assert_eq!(rt; shard.take(conn, 9)?.len(), 2);
+    assert!(rt; shard.has_nothing_for(conn));
     shard.detach(conn)?;
     assert_eq!(rt; shard.detach(conn).err(), refused);
     Ok(())

@@ -1,6 +1,7 @@
-//! Who a server is, and its step of an event whose parts are lent.
+//! Who a server is, its shards, and its step of an event whose parts are lent.
 
 ghost use Rattle.std.specs.Prelude.{◌≡◌};
+ghost use Rattle.std.specs.Option.{option_copied};
 ghost use Rattle.subj.specs.Answers.{IsAnswered};
 ghost use Rattle.hub_core.specs.Publishing.{next_id as id_of_next};
 ghost use Rattle.node_law.specs.Events.{Receive};
@@ -9,6 +10,7 @@ ghost use Rattle.node_core.specs.Lent.{asked_of};
 ghost use Rattle.node_core.specs.Outcome.{Does, did_of};
 ghost use Rattle.node_core.specs.Served.{refusal};
 ghost use Rattle.node_law.specs.Sound.{SoundNode};
+ghost use Rattle.node_law.specs.Steps.{shard_line};
 
 use super::Node;
 use crate::answers::Answer;
@@ -17,7 +19,7 @@ use crate::did::Did;
 use crate::refused::{Refused, as_refused};
 use claim_race::Race;
 use node_law::NodeFault;
-use node_parts::Received;
+use node_parts::{Line, Received, place_of_shard};
 use route_values::Numbered;
 use sub_table::SubTable;
 use subj::{Failure, PubId, Server};
@@ -29,6 +31,14 @@ impl<T: SubTable, R: Race> Node<T, R> {
         ensures sound { SoundNode self.now.server self.now.node }
     {
         self.side.hub().server()
+    }
+
+    /// The shard of this number with the jobs that wait for it, where there is such a shard.
+    pub fn line(&self, shard: u64) -> Option<&Line<T>>
+        ensures { option_copied result ≡ shard_line self.now.node shard }
+    {
+        let place = place_of_shard(self.lines.len(), shard)?;
+        Some(&self.lines[place])
     }
 
     /// What its next publication is called. Takes no memory.

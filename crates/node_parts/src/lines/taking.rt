@@ -1,8 +1,9 @@
 //! Taking bytes of what waits at a line.
 
-ghost use Rattle.std.specs.Prelude.{◌≡◌, Some};
+ghost use Rattle.std.specs.Prelude.{◌≡◌, ◌==◌, length, Some};
 ghost use Rattle.subj.specs.Answers.{IsAnswered};
 ghost use Rattle.shard_core.specs.ShardEvents.{Take};
+ghost use Rattle.shard_core.specs.Shards.{waits_for};
 ghost use Rattle.node_law.specs.Steps.{event_refusal};
 ghost use Rattle.node_parts.specs.Lines.{LineTakesBytes};
 
@@ -12,6 +13,13 @@ use sub_table::SubTable;
 use subj::{ConnId, Failure};
 
 impl<T: SubTable> Line<T> {
+    /// [`Shard::has_nothing_for`](shard_core::Shard::has_nothing_for).
+    pub fn has_nothing_for(&self, conn: ConnId) -> bool
+        ensures { result ≡ (length (waits_for conn self.now.shard.clients) == 0) }
+    {
+        self.shard.has_nothing_for(conn)
+    }
+
     /// [`Shard::take_bytes`](shard_core::Shard::take_bytes).
     pub fn take_bytes(
         &mut self,
