@@ -1,58 +1,50 @@
 #!/usr/bin/env python3
 """Proves and builds a program of the repository, and tells its progress on standard error, a line a crate.
 
-Only the crates that the program stands on are built, lowest first, as many side by side as processors and memory
-allow. Where one is refused, what the prover said of it is printed and the status is 1.
+The crates that the program stands on are proved in a folder of their own (`.build`), since only `rt all` proves crates side by
+side, and it takes all that a folder lists: as many at a time as processors and memory allow. What is proved goes back into
+`crates/NAME/out`, also where a run was stopped, so the next one goes on from there. Where a crate is refused, what the prover said of
+it is printed and the status is 1.
 Usage: tools/build.py PROGRAM
 """
-import math
 import os
 import re
+import shutil
 import signal
 import subprocess
 import sys
-import tempfile
 import time
 
 TOP = os.path.dirname(os.path.dirname(os.path.abspath(__file__)))
+ROOM = os.path.join(TOP, ".build")
 
 # Memory that the check of one crate may need, in kilobytes.
 MEMORY_OF_A_CHECK = 3_000_000
 
 
-def libraries_below():
-    """For each crate of the repository, those of its own libraries that it names in crates.txt."""
-    named = {}
-    with open(os.path.join(TOP, "crates.txt"), encoding="utf-8") as lines:
-        for line in lines:
-            head, colon, libraries = line.partition("#")[0].partition(":")
+def lines_of_crates():
+    """For each crate of the repository, its line in crates.txt."""
+    lines = {}
+    with open(os.path.join(TOP, "crates.txt"), encoding="utf-8") as file:
+        for line in file:
+            head, colon, _ = line.partition("#")[0].partition(":")
             if colon:
-                named[head.split()[0]] = libraries.split()
-    return {crate: [name for name in libraries if name in named] for crate, libraries in named.items()}
+                lines[head.split()[0]] = line
+    return lines
 
 
-def crates_needed(program):
-    """The program and all that it stands on, each with its own libraries, lowest first."""
-    below = libraries_below()
-    needed = {}
+def crates_needed(program, lines):
+    """The program and all crates of the repository that it stands on, lowest first."""
+    needed = []
 
     def need(crate):
-        for library in below[crate]:
-            if library not in needed:
+        for library in lines[crate].partition("#")[0].partition(":")[2].split():
+            if library in lines and library not in needed:
                 need(library)
-        needed[crate] = below[crate]
+        needed.append(crate)
 
     need(program)
     return needed
-
-
-def stored_words(program):
-    """The words that the program's stored run is given."""
-    path = os.path.join(TOP, "crates", program, "args")
-    if not os.path.exists(path):
-        return []
-    with open(path, encoding="utf-8") as file:
-        return file.read().split()
 
 
 def available_memory():
@@ -64,100 +56,105 @@ def available_memory():
         return 0
 
 
-def count_of_slots():
+def count_of_checks():
     """How many checks may run side by side."""
     return max(1, min(len(os.sched_getaffinity(0)), available_memory() // MEMORY_OF_A_CHECK))
 
 
-class Check:
-    """The check of one crate, which runs: a library is built behind it, and a program is linked."""
-
-    def __init__(self, crate, is_program, slots):
-        # A program is built by a run of it. On an empty input it ends with status 0: any other is that of a build that failed.
-        command = ["rt", "run", "--jobs", str(slots), "--", *stored_words(crate)] if is_program else ["rt", "lib", "--jobs", str(slots)]
-        self.crate = crate
-        self.slots = slots
-        self.start = time.monotonic()
-        self.log = tempfile.TemporaryFile()
-        self.process = subprocess.Popen(
-            command, cwd=os.path.join(TOP, "crates", crate), stdin=subprocess.DEVNULL,
-            stdout=self.log, stderr=subprocess.STDOUT, start_new_session=True)
-
-    def seconds(self):
-        return round(time.monotonic() - self.start)
-
-    def said(self):
-        self.log.seek(0)
-        return self.log.read().decode(errors="replace")
-
-    def stop(self):
-        if self.process.poll() is None:
-            os.killpg(self.process.pid, signal.SIGTERM)
-            self.process.wait()
+def move_proofs(source, target):
+    """Moves what was proved of each crate from one tree to the other, in place of what is there."""
+    crates = os.path.join(source, "crates")
+    for crate in os.listdir(crates) if os.path.isdir(crates) else []:
+        proofs, place = (os.path.join(tree, "crates", crate, "out") for tree in (source, target))
+        if os.path.isdir(proofs):
+            shutil.rmtree(place, ignore_errors=True)
+            os.rename(proofs, place)
 
 
-class Build:
-    """The crates that wait, those whose checks run, and those that are proved."""
+class Room:
+    """A tree of the needed crates alone, over the proofs that the repository has of them."""
 
-    def __init__(self, program):
-        self.program = program
-        self.waiting = crates_needed(program)
-        self.count = len(self.waiting)
-        self.slots = count_of_slots()
-        self.running = []
-        self.proved = set()
+    def __init__(self, needed, lines):
+        self.needed = needed
+        self.lines = lines
 
-    def begin_what_can(self):
-        """Starts the crates whose libraries are proved; each takes its part of the slots that are free."""
-        ready = [crate for crate, libraries in self.waiting.items() if self.proved.issuperset(libraries)]
-        free = self.slots - sum(check.slots for check in self.running)
-        starting = ready[:free]
-        for place, crate in enumerate(starting):
-            slots = math.ceil(free / (len(starting) - place))
-            free -= slots
-            del self.waiting[crate]
-            self.running.append(Check(crate, crate == self.program, slots))
+    def __enter__(self):
+        # what an earlier run has left, which was stopped
+        self.__exit__()
+        os.mkdir(ROOM)
+        with open(os.path.join(ROOM, "crates.txt"), "w", encoding="utf-8") as file:
+            file.writelines(self.lines[crate] for crate in self.needed)
+        for crate in self.needed:
+            source, target = (os.path.join(tree, "crates", crate) for tree in (TOP, ROOM))
+            shutil.copytree(source, target, ignore=shutil.ignore_patterns("out", "must-fail"))
+            if os.path.isdir(os.path.join(source, "out")):
+                os.rename(os.path.join(source, "out"), os.path.join(target, "out"))
+        return self
 
-    def end_what_has(self):
-        """Tells each check that has ended. The one that failed, where one did."""
-        for check in [check for check in self.running if check.process.poll() is not None]:
-            self.running.remove(check)
-            if check.process.returncode != 0:
-                return check
-            self.proved.add(check.crate)
-            print("[%d/%d] %s proved, %d s" % (len(self.proved), self.count, check.crate, check.seconds()),
-                  file=sys.stderr, flush=True)
-        return None
+    def __exit__(self, *_):
+        move_proofs(ROOM, TOP)
+        shutil.rmtree(ROOM, ignore_errors=True)
 
-    def run(self):
-        """The check that failed, where one did."""
+    def prove(self):
+        """Proves the crates, and tells each that is. What was said of those that are not, or None."""
+        command = ["rt", "all", "check", "--jobs", str(count_of_checks())]
+        checks = subprocess.Popen(command, cwd=ROOM, stdin=subprocess.DEVNULL, stdout=subprocess.PIPE,
+                                  stderr=subprocess.STDOUT, text=True, errors="replace", start_new_session=True)
         try:
-            while self.waiting or self.running:
-                self.begin_what_can()
-                time.sleep(0.1)
-                failed = self.end_what_has()
-                if failed is not None:
-                    return failed
-            return None
+            said = self.told_by(checks.stdout)
+            return None if checks.wait() == 0 else said
         finally:
-            for check in self.running:
-                check.stop()
+            if checks.poll() is None:
+                os.killpg(checks.pid, signal.SIGTERM)
+                checks.wait()
+
+    def told_by(self, output):
+        """What the checks say, but for the crates that are proved: each of these is told with the seconds since the start."""
+        start = time.monotonic()
+        said, crate, proved = [], [], 0
+        for line in output:
+            if line.startswith("== "):
+                said += crate
+                crate = []
+            crate.append(line)
+            if line.startswith("logic=proved"):
+                proved += 1
+                print("[%d/%d] %s proved, at %d s" % (proved, len(self.needed), crate[0].strip("= \n"), time.monotonic() - start),
+                      file=sys.stderr, flush=True)
+                crate = []
+        return "".join(said + crate)
+
+
+def stored_words(program):
+    """The words that the program's stored run is given."""
+    path = os.path.join(TOP, "crates", program, "args")
+    if not os.path.exists(path):
+        return []
+    with open(path, encoding="utf-8") as file:
+        return file.read().split()
 
 
 def build(program):
     """Proves and builds the program, unless it is as its sources are. Ends this process where it is refused."""
-    work = Build(program)
-    print("%s: %d crates are proved and built, which takes some minutes the first time" % (program, work.count),
+    lines = lines_of_crates()
+    needed = crates_needed(program, lines)
+    print("%s: %d crates are proved and built, which takes some minutes the first time" % (program, len(needed)),
           file=sys.stderr, flush=True)
-    failed = work.run()
-    if failed is not None:
-        print("%s%s: refused" % (failed.said(), failed.crate), file=sys.stderr)
-        sys.exit(1)
+    with Room(needed, lines) as room:
+        said = room.prove()
+    if said is not None:
+        sys.exit("%s%s: refused" % (said, program))
+    # A program is built by a run of it. On an empty input it ends with status 0: any other is that of a build that failed.
+    command = ["rt", "run", "--", *stored_words(program)]
+    run = subprocess.run(command, cwd=os.path.join(TOP, "crates", program), stdin=subprocess.DEVNULL, stdout=subprocess.PIPE,
+                         stderr=subprocess.STDOUT, text=True, errors="replace", check=False)
+    if run.returncode != 0:
+        sys.exit("%s%s: refused" % (run.stdout, program))
 
 
 if __name__ == "__main__":
     # A request to end stops the checks that run.
     signal.signal(signal.SIGTERM, lambda _number, _frame: sys.exit(1))
-    if len(sys.argv) != 2 or sys.argv[1] not in libraries_below():
+    if len(sys.argv) != 2 or sys.argv[1] not in lines_of_crates():
         sys.exit(__doc__)
     build(sys.argv[1])
