@@ -1,6 +1,6 @@
 //! The seats with which the hub and the shards step on the words of their race.
 
-ghost use Rattle.std.specs.Prelude.{◌≡◌, ◌+◌, ◌<◌, ◌≤◌, nat_lt};
+ghost use Rattle.std.specs.Prelude.{◌≡◌, ◌<◌, ◌≤◌, nat_lt};
 ghost use Rattle.subj.specs.Numbers.{next_turn};
 ghost use Rattle.claim_cells.specs.Rule.{newcomer};
 ghost use Rattle.claim_cells.specs.Steps.{part_of};

@@ -1,6 +1,6 @@
 //! Examples, for any race: who wins, the full window, and places that are used again.
 
-ghost use Rattle.std.specs.Prelude.{◌≡◌, ◌<◌, ◌∷◌, [], IfOk};
+ghost use Rattle.std.specs.Prelude.{◌<◌, IfOk};
 ghost use Rattle.subj.specs.declared.limits.TheConstants.{MAX_COUNTER};
 ghost use Rattle.claim_race.specs.Race.{IsIssued, IsNew};
 

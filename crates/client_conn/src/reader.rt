@@ -1,8 +1,7 @@
 //! Reading what a client's stream tells.
 
 ghost use Rattle.std.specs.Prelude.{◌≡◌, ◌≤◌, length, false, true, [], None, Some, IfOk, OnOk, OnErr};
-ghost use Rattle.wire_cut.specs.Cut.{expect_fault};
-ghost use Rattle.wire_cut.specs.Reading.{waits, found_before, found_next};
+ghost use Rattle.wire_cut.specs.Reading.{waits, found_before};
 ghost use Rattle.client_frames.specs.Streams.{client_grammar, command_told, refusal_told};
 ghost use Rattle.client_frames.specs.declared.awaited.Awaited.TheVariants as awaits;
 ghost use Rattle.std.specs.Io.KnownBytes.{Keeps};

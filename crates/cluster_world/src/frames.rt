@@ -1,6 +1,6 @@
 //! Frames that were sent, by their numbers, and what an event hands to a server.
 
-ghost use Rattle.std.specs.Prelude.{◌≡◌, map};
+ghost use Rattle.std.specs.Prelude.{◌≡◌};
 ghost use Rattle.std.specs.Option.{option_copied, option_map};
 ghost use Rattle.std.specs.List.{flat_map};
 ghost use Rattle.node_core.specs.Lent.{asked_of};

@@ -1,6 +1,6 @@
 //! A cluster as one value.
 
-ghost use Rattle.std.specs.Prelude.{◌≡◌, ◌+◌, None, Some, IfOk, OnErr, map, true};
+ghost use Rattle.std.specs.Prelude.{◌≡◌, ◌+◌, None, Some, IfOk, OnErr, map};
 ghost use Rattle.std.specs.List.{flat_map};
 ghost use Rattle.cluster_world.specs.Events.{Event as Asked, Start, Stop};
 ghost use Rattle.cluster_world.specs.Outcomes.{Refused};

@@ -1,6 +1,6 @@
 //! What peers are told of the server's own interest.
 
-ghost use Rattle.std.specs.Prelude.{◌≡◌, ◌≤◌, ◌<◌, ◌+◌, ◌++◌, true, map, length, slice_get, Some, IfOk, OnOk};
+ghost use Rattle.std.specs.Prelude.{◌≡◌, ◌≤◌, ◌<◌, ◌+◌, ◌++◌, map, length, IfOk, OnOk};
 ghost use Rattle.subj.specs.declared.limits.TheConstants.{MAX_COUNTER, ROUTE_FRAMES};
 ghost use Rattle.hub_core.specs.Telling.{is_told as told, is_slow as slow, slow_from, without_slow, frames_of_change, frames_behind, body_of as told_as};
 ghost use Rattle.hub_core.specs.Calls.{WereSeen, change_to};

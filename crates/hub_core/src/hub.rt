@@ -1,11 +1,11 @@
 //! The hub.
 
-ghost use Rattle.std.specs.Prelude.{◌≡◌, ◌≤◌, ◌<◌, nat_le, if◌then◌else◌, ⊤, Some, None, true, false, take, drop, length, slice_get, IfOk, OnOk, OnErr};
+ghost use Rattle.std.specs.Prelude.{◌≡◌, ◌<◌, nat_le, if◌then◌else◌, ⊤, Some, None, true, false, take, length, slice_get, IfOk, OnOk, OnErr};
 ghost use Rattle.std.specs.Option.{option_or};
 ghost use Rattle.subj.specs.Answers.{IsAnswered};
 ghost use Rattle.subj.specs.declared.limits.TheConstants.{MAX_COUNTER};
 ghost use Rattle.subj.specs.Servers.{is_peer};
-ghost use Rattle.hub_core.specs.State.{changed_at, seen_of as seen, known};
+ghost use Rattle.hub_core.specs.State.{seen_of as seen};
 ghost use Rattle.hub_core.specs.Events.{Receive, Up, Cut, TakeFrom, IsUp, WasCut, Taken};
 ghost use Rattle.hub_core.specs.Steps.{IsMeeting};
 ghost use Rattle.hub_core.specs.Hubs.{started, refusal, IsStep};
@@ -13,7 +13,7 @@ ghost use Rattle.hub_core.specs.declared.faults.HubFault.TheVariants.{Spent};
 ghost use Rattle.hub_core.specs.Publishing.{busy_fault};
 ghost use Rattle.hub_core.specs.Receiving.{receive_refusal, origin_fault as refused_of_origin, received, has_message};
 ghost use Rattle.hub_core.specs.Calls.{job_of, IsTaken, answer_of, IsPlanned, put_out};
-ghost use Rattle.hub_core.specs.Peers.{snapshot_to, outbox_of};
+ghost use Rattle.hub_core.specs.Peers.{snapshot_to};
 
 use crate::answers::Received;
 use crate::faults::HubFault;

@@ -1,7 +1,7 @@
 //! What a hub knows of its peers, and the frames that wait for them.
 
 ghost use Rattle.std.specs.Prelude.{◌≡◌, ◌≤◌, ◌<◌, ◌+◌, ◌++◌, ◌∷◌, [], true, false, take, drop, length, replicate, vec_len, vec_capacity, IfOk, OnErr};
-ghost use Rattle.std.specs.VecDeque.{deque_len, deque_capacity};
+ghost use Rattle.std.specs.VecDeque.{deque_capacity};
 ghost use Rattle.hub_core.specs.State.{known, unknown_peer};
 ghost use Rattle.subj.specs.declared.limits.TheConstants.{ROUTE_FRAMES, MAX_INCARNATION};
 

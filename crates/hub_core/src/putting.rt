@@ -1,6 +1,6 @@
 //! Frames are put into the outboxes of their peers.
 
-ghost use Rattle.std.specs.Prelude.{◌≡◌, ◌<◌, ◌≤◌, Some, length, slice_get};
+ghost use Rattle.std.specs.Prelude.{◌≡◌, ◌<◌, Some, length, slice_get};
 ghost use Rattle.subj.specs.Servers.{IsListed, place as place_of};
 ghost use Rattle.subj.specs.declared.limits.TheConstants.{ROUTE_FRAMES};
 ghost use Rattle.hub_core.specs.State.{Peer, changed_at};

@@ -1,7 +1,6 @@
 //! Which frames of peers are taken, and what they change.
 
-ghost use Rattle.std.specs.Prelude.{◌≡◌, ◌<◌, true, false, length, None, Some, if◌then◌else◌};
-ghost use Rattle.std.specs.Option.{option_map};
+ghost use Rattle.std.specs.Prelude.{◌≡◌, ◌<◌, true, false, None, Some, if◌then◌else◌};
 ghost use Rattle.subj.specs.Answers.{IsAnswered};
 ghost use Rattle.subj.specs.Servers.{is_peer, place as place_of};
 ghost use Rattle.interest.specs.Heard.{news_fault, heard_after, Changed};

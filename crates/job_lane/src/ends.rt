@@ -1,6 +1,6 @@
 //! The two ends of a lane.
 
-ghost use Rattle.std.specs.Prelude.{◌≡◌, ◌+◌, ◌<◌, ◌≤◌, true, false, [], ◌∷◌, ◌++◌, length, None, IfOk, IfSome, IfNone, OnOk, IfErr, MatchOption};
+ghost use Rattle.std.specs.Prelude.{◌≡◌, ◌+◌, ◌<◌, [], ◌++◌, length, None, IfOk, IfSome, IfNone, OnOk, IfErr, MatchOption};
 ghost use Rattle.job_lane.specs.Ends.{HadRoom, IsPopped, LackedRoom};
 ghost use Rattle.job_lane.specs.Runs.{jobs_of};
 ghost use Rattle.job_lane.specs.Turns.{AreNumbered, AreNumberedBehind};

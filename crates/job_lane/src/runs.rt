@@ -1,6 +1,6 @@
 //! Runs of jobs.
 
-ghost use Rattle.std.specs.Prelude.{◌≡◌, ◌<◌, ◌∷◌, [], true, false, length, IfOk, IfErr};
+ghost use Rattle.std.specs.Prelude.{◌≡◌, ◌<◌, ◌∷◌, true, false, length, IfOk, IfErr};
 ghost use Rattle.job_lane.specs.Runs.{GoesOn};
 
 use std::alloc::{AllocError, Global};

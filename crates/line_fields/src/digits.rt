@@ -1,6 +1,6 @@
 //! Numbers in lines.
 
-ghost use Rattle.std.specs.Prelude.{◌≡◌, ◌≤◌, ◌^◌, ◌<◌, IfSome};
+ghost use Rattle.std.specs.Prelude.{◌≡◌, ◌≤◌, ◌<◌};
 ghost use Rattle.line_fields.specs.Fields.{number_of};
 
 /// The most digits of a number in a line.

@@ -1,6 +1,6 @@
 //! The calls that are measured.
 
-ghost use Rattle.std.specs.Prelude.{◌≡◌, ◌<◌, ◌≤◌, All, OnOk};
+ghost use Rattle.std.specs.Prelude.{◌<◌, ◌≤◌, All, OnOk};
 
 use crate::match_subjects::{Drawn, connection, sid, subscription};
 use std::alloc::{AllocError, Global};

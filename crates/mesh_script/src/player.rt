@@ -1,6 +1,6 @@
 //! The events of a step are made in the cluster, and a line is put for each.
 
-ghost use Rattle.std.specs.Prelude.{◌≡◌, suc, length, IfOk, Some, [], ◌++◌};
+ghost use Rattle.std.specs.Prelude.{◌≡◌, IfOk, Some, []};
 ghost use Rattle.cluster_world.specs.InCode.{event_of, outcome_of};
 ghost use Rattle.mesh_script.specs.Asks.{once as asked_once, session_in as session_told, step_asks, joining, accepting, informing, connecting, next_frame as frame_after};
 ghost use Rattle.mesh_script.specs.Playing.{Makes, AsksOne, Finishes, asks_of};

@@ -1,6 +1,6 @@
 //! What the command line asks for, and how the program ends.
 
-ghost use Rattle.std.specs.Prelude.{◌≡◌, ◌≢◌, ◌↔◌, IsSome, IfSome, codes, is_ok};
+ghost use Rattle.std.specs.Prelude.{◌≡◌, ◌≢◌, ◌↔◌, IsSome, IfSome, is_ok};
 ghost use Rattle.clap.specs.Matches.{subcommand_name_of};
 ghost use Rattle.nats_mesh.specs.Command.{name_of, exit_status, status_of_end};
 

@@ -1,8 +1,6 @@
 //! A stream, with what its calls have come to.
 
-ghost use Rattle.std.specs.Prelude.{◌≡◌, ◌+◌, ◌≤◌, None, length};
-ghost use Rattle.std.specs.Io.{ReadsAtMost};
-ghost use Rattle.wire_cut.specs.Flow.{CountsFailure};
+ghost use Rattle.std.specs.Prelude.{None};
 
 use crate::faults::StreamFault;
 use crate::stream::Stream;

@@ -1,12 +1,11 @@
 //! A server as one value.
 
-ghost use Rattle.std.specs.Prelude.{◌≡◌, ◌≤◌, Some, None, true, false, option_to_list, IfOk};
-ghost use Rattle.std.specs.Option.{option_map};
+ghost use Rattle.std.specs.Prelude.{◌≡◌, ◌≤◌, Some, false, option_to_list, IfOk};
 ghost use Rattle.subj.specs.Answers.{IsAnswered, IsDecided};
 ghost use Rattle.subj.specs.declared.limits.TheConstants.{MAX_SHARDS};
 ghost use Rattle.shard_core.specs.Answers.{answer_of};
-ghost use Rattle.shard_core.specs.ShardEvents.{Attached, Unsubscribed, Replied, WasShut, Detached, Taken, Finished, Dropped};
-ghost use Rattle.node_law.specs.Events.{Own, OfConn, AtShard, Publish, Collect, Dial, Accept, CutSession, TakeFrames, Receive, OnInfo, OnConnect};
+ghost use Rattle.shard_core.specs.ShardEvents.{Attached, Unsubscribed, Replied, WasShut, Detached, Taken, Finished};
+ghost use Rattle.node_law.specs.Events.{Own, OfConn, AtShard, Dial, Accept, CutSession, TakeFrames, OnInfo, OnConnect};
 ghost use Rattle.node_law.specs.declared.events.ConnEvent.TheVariants.{Subscribe, Unsubscribe, Reply, Shut, Detach, Take};
 ghost use Rattle.node_law.specs.declared.events.ShardWork.TheVariants.{Attach, Begin, Claim, End, DropJob};
 ghost use Rattle.node_core.specs.Served.{started, of_session_answer, of_session_decision, of_hub_answer, refusal, ConnStep, WorkStep, BeginStep, DialStep, AcceptStep, CutStep, FramesStep, DropStep, ClaimStep, InfoStep, ConnectStep};

@@ -1,11 +1,11 @@
 //! A shard, and the jobs that wait for it.
 
-ghost use Rattle.std.specs.Prelude.{◌≡◌, ◌≤◌, ◌<◌, false, length, Some, None, option_to_list, OnOk, OnErr, IfOk};
+ghost use Rattle.std.specs.Prelude.{◌≡◌, ◌≤◌, ◌<◌, false, length, Some, None, option_to_list, IfOk};
 ghost use Rattle.subj.specs.Answers.{IsAnswered, IsDecided};
 ghost use Rattle.subj.specs.declared.limits.TheConstants.{MAX_SHARDS, WINDOW};
 ghost use Rattle.shard_core.specs.Answers.{answer_of};
 ghost use Rattle.shard_core.specs.Lines.{first_of};
-ghost use Rattle.shard_core.specs.ShardEvents.{Attach, Subscribe, Unsubscribe, Reply, Shut, Detach, Take, Claim, End, Collect, Attached, Unsubscribed, Replied, WasShut, Detached, Taken, Finished, Collected};
+ghost use Rattle.shard_core.specs.ShardEvents.{Attach, Subscribe, Unsubscribe, Reply, Shut, Detach, Take, Claim, End, Collect, Attached, Unsubscribed, Replied, WasShut, Detached, Taken, Collected};
 ghost use Rattle.node_parts.specs.Lines.{LineStep, LineBegins, LineEnds, LineDrops, LineClaims, MayClaim, WaitsNext, of_answer, of_decision};
 ghost use Rattle.node_law.specs.State.{new_line};
 ghost use Rattle.node_law.specs.Steps.{begin_of, drop_of, event_refusal, no_job as no_job_of, queued};

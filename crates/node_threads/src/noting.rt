@@ -1,6 +1,6 @@
 //! The steps of a shard's work, written down.
 
-ghost use Rattle.std.specs.Prelude.{◌≡◌, ◌∷◌, [], cond, Some, None};
+ghost use Rattle.std.specs.Prelude.{◌∷◌, [], cond, Some, None};
 ghost use Rattle.node_threads.specs.Tapes.{Grows, begin_entry, claim_entry, drop_entry, end_entry};
 
 use crate::shard_entries::{ShardEntry, ShardEvent, ShardTold};

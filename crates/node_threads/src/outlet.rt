@@ -1,6 +1,6 @@
 //! The jobs of a hub on their way to the lanes of its shards.
 
-ghost use Rattle.std.specs.Prelude.{◌≡◌, ◌+◌, ◌<◌, ◌∷◌, ◌++◌, [], true, false, All, length, map, IfOk, OnOk, Some, None};
+ghost use Rattle.std.specs.Prelude.{◌≡◌, ◌+◌, ◌<◌, ◌∷◌, ◌++◌, [], true, false, All, length, map, OnOk, Some, None};
 ghost use Rattle.job_lane.specs.Turns.{AreNumbered};
 ghost use Rattle.node_threads.specs.Outlets.{AreFirst, owed};
 

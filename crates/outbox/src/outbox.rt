@@ -1,8 +1,8 @@
 //! The outbox of a client.
 
-ghost use Rattle.std.specs.Prelude.{◌≡◌, ℕ, ◌+◌, ◌-◌, ◌≤◌, ◌<◌, ◌++◌, ◌==◌, vec_len, vec_capacity, length, take, drop, [], true, false, IfOk, OnOk, OnErr, IsTrue, Some, None, ◌^◌};
+ghost use Rattle.std.specs.Prelude.{◌≡◌, ◌+◌, ◌-◌, ◌≤◌, ◌<◌, ◌++◌, ◌==◌, vec_capacity, length, take, [], true, false, IfOk, OnOk, OnErr, IsTrue, Some, None, ◌^◌};
 ghost use Rattle.outbox.specs.Bytes.{bytes_of};
-ghost use Rattle.outbox.specs.Views.{Waiting, Backlog, empty_outbox, size_of, bytes_of_all, has_room, reply_entry, message_entry, with_entry, with_last, without_first, on_both};
+ghost use Rattle.outbox.specs.Views.{Waiting, empty_outbox, bytes_of_all, has_room, reply_entry, message_entry, with_entry, with_last, without_first, on_both};
 
 use crate::entries::{Entry, Mode, Tag};
 use crate::entry_queue::EntryQueue;

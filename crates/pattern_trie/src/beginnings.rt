@@ -1,6 +1,6 @@
 //! The nodes of all beginnings of a pattern.
 
-ghost use Rattle.std.specs.Prelude.{◌≡◌, ℕ, ◌≤◌, length, OnOk, OnErr};
+ghost use Rattle.std.specs.Prelude.{◌≤◌, length, OnOk, OnErr};
 ghost use Rattle.pattern_trie.specs.Nodes.{IsSame, EntersEach, LeavesEach, CanLeaveEach};
 ghost use Rattle.pattern_trie.specs.Beginnings.{is_beginning, is_before_dot_of, goes_on, with_behind};
 

@@ -1,7 +1,7 @@
 //! What is held under patterns, found by the subjects that they match.
 #![tactic(auto)]
 
-ghost use Rattle.std.specs.Prelude.{◌≡◌, ℕ, List, [], ◌∷◌, ◌++◌, OnOk, OnErr};
+ghost use Rattle.std.specs.Prelude.{◌≡◌, List, [], ◌∷◌, ◌++◌, OnOk, OnErr};
 ghost use Rattle.std.specs.List.Sorted.{IsPermutation};
 ghost use Rattle.pattern_trie.specs.Matchers.{matched};
 ghost use Rattle.pattern_trie.specs.Starts.{node_count};

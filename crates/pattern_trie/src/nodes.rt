@@ -1,9 +1,9 @@
 //! The nodes of a trie, each by the bytes of the beginning that it stands for.
 
-ghost use Rattle.std.specs.Prelude.{◌≡◌, ℕ, ◌+◌, ◌-◌, ◌<◌, ◌∷◌, [], ◌++◌, length, IfOk, OnOk, OnErr, is_some, position, remove, if◌then◌else◌};
+ghost use Rattle.std.specs.Prelude.{◌≡◌, ◌+◌, ◌-◌, ◌<◌, ◌∷◌, [], ◌++◌, length, OnOk, OnErr, position, remove};
 ghost use Rattle.std.specs.List.{list_any};
 ghost use Rattle.pattern_trie.specs.Classes.{is_in};
-ghost use Rattle.pattern_trie.specs.Nodes.{below_at, values_at, node_at, Enters, Leaves, IsSame, Values, without_value};
+ghost use Rattle.pattern_trie.specs.Nodes.{below_at, values_at, Enters, Leaves, IsSame, Values, without_value};
 
 use crate::marks::Marks;
 use crate::node::Node;

@@ -1,7 +1,6 @@
 //! How the texts of nodes are hashed.
 
 ghost use Rattle.std.specs.Prelude.{◌≡◌};
-ghost use Rattle.std.specs.Hash.FoldHasher as folding;
 ghost use Rattle.pattern_trie.specs.Hashing as hashing;
 
 use std::hash::{FoldHasher, Hasher};

@@ -1,13 +1,12 @@
 //! Writing the frames of a route.
 
-ghost use Rattle.std.specs.Prelude.{◌≡◌, ◌+◌, ◌≤◌, ◌∷◌, ◌++◌, length, decimal, is_ok, vec_len, vec_capacity, if◌then◌else◌, IfOk, OnOk, string_bytes, map};
+ghost use Rattle.std.specs.Prelude.{◌≡◌, ◌+◌, ◌≤◌, ◌∷◌, ◌++◌, length, decimal, is_ok, if◌then◌else◌, IfOk, OnOk};
 ghost use Rattle.serde_json.specs.View.{view};
-ghost use Rattle.serde_json.specs.Written.{compact_text};
 ghost use Rattle.route_values.specs.declared.frames.RouteFrame.TheVariants.{Info, Connect};
 ghost use Rattle.route_values.specs.declared.frames.RouteFrame.TheVariants as route;
 ghost use Rattle.route_values.specs.declared.bodies.Body.TheVariants.{Plus, Minus, Snapshot, Msg};
 ghost use Rattle.route_values.specs.Snapshots.{snapshot_text as text_of_snapshot, line_end};
-ghost use Rattle.route_frames.specs.Canonical.{info_json, connect_json, spaced, operation_word, common_of, member_fields, form_fields, body_fields, numbered_line, canonical_line, frame_bytes, body_payload, payload_bytes};
+ghost use Rattle.route_frames.specs.Canonical.{info_json, connect_json, spaced, operation_word, common_of, form_fields, body_fields, numbered_line, canonical_line, frame_bytes};
 ghost use Rattle.std.specs.Option.{option_copied};
 
 use crate::arguments::{NAMES_MARK, REPLY_MARK};

@@ -9,7 +9,7 @@ ghost use Rattle.line_fields.specs.Fields.{fields};
 ghost use Rattle.route_frames.specs.declared.faults.RouteFault.TheVariants.{BadArgs};
 ghost use Rattle.route_frames.specs.Meaning.{Says, Checks};
 ghost use Rattle.route_frames.specs.CommonViews.{common_view};
-ghost use Rattle.route_frames.specs.NumberedLines.{account_of, pattern_of, subject_of, queue_of, optional as optionally, key_of, are_names, queue_names_in, is_queue_name, weight_digits, plus_line, minus_line, snapshot_line, message_line, message_fields_in};
+ghost use Rattle.route_frames.specs.NumberedLines.{account_of, pattern_of, subject_of, queue_of, optional as optionally, key_of, queue_names_in, is_queue_name, weight_digits, plus_line, minus_line, snapshot_line, message_line, message_fields_in};
 ghost use Rattle.route_frames.specs.FormViews.{names_view, message_view};
 ghost use Rattle.route_frames.specs.TextViews.{key_view, weighted_view, numbered_view};
 

@@ -2,9 +2,8 @@
 
 ghost use Rattle.std.specs.Prelude.{◌≡◌, ◌+◌, ◌^◌, ◌<◌, ◌≤◌, ◌++◌, true, [], length, Some, IfOk, IsOk, is_ok, vec_len, vec_capacity, if◌then◌else◌};
 ghost use Rattle.subj.specs.Keys.{cost_of, queue_bytes};
-ghost use Rattle.subj.specs.declared.limits.TheConstants.{SUBSCRIPTION_BYTES};
 ghost use Rattle.route_values.specs.ValidKeys.{IsKey, IsWeighted, AreWeighted, AreSnapshotKeys};
-ghost use Rattle.route_values.specs.Snapshots.{is_weight as weighs, weighted_key, queue_fields, key_line, is_before_first as before_first, are_rising as rising, is_short as short, are_snapshot_keys, snapshot_of, total_cost, IsKept, snapshot_text};
+ghost use Rattle.route_values.specs.Snapshots.{is_weight as weighs, weighted_key, queue_fields, key_line, is_before_first as before_first, are_rising as rising, is_short as short, are_snapshot_keys, snapshot_of, IsKept, snapshot_text};
 
 use itoa::Buffer;
 use line_fields::{CR_LF, append_reserved};

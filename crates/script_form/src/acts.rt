@@ -1,6 +1,5 @@
 //! Reading steps.
 
-ghost use Rattle.std.specs.Prelude.{◌≡◌};
 ghost use Rattle.serde_json.specs.View.{view};
 ghost use Rattle.script_form.specs.Members.{Means, Says};
 ghost use Rattle.script_form.specs.Acts.{start_in, attach_in, key_in, sub_in, unsub_in, publish_in, claim_in, take_entries_in, take_frames_in, take_in, act_in, verb_in, step_in, shard, peer, session, frame, conn};

@@ -1,6 +1,6 @@
 //! Bytes that were read and not yet used.
 
-ghost use Rattle.std.specs.Prelude.{◌≡◌, ◌+◌, ◌≤◌, vec_len, length};
+ghost use Rattle.std.specs.Prelude.{◌+◌, ◌≤◌, vec_len};
 
 use std::alloc::{AllocError, Global};
 use std::io;

@@ -6,7 +6,7 @@ ghost use Rattle.outbox.specs.Views.{with_entry, with_last};
 ghost use Rattle.shard_core.specs.Boxes.{IsSettled};
 ghost use Rattle.shard_core.specs.Closings.{ended_ids};
 ghost use Rattle.shard_core.specs.Opened.{AreRising, AreApart};
-ghost use Rattle.shard_core.specs.Owed.{is_due, is_permitted, due_entry as entry_due, put_one, walk, walked, reaches, slow_consumer};
+ghost use Rattle.shard_core.specs.Owed.{is_due, is_permitted, due_entry as entry_due, put_one, walk, reaches, slow_consumer};
 ghost use Rattle.shard_core.specs.Shards.{State, is_open as opened, changed, client_at, fits};
 ghost use Rattle.shard_core.specs.Puts.{put_line};
 ghost use Rattle.shard_core.specs.Tallies.{behind, is_placed, Follows, HasPlaced, IsStaged, none_tallied, with_given, with_shut, with_lines, put_if_due as put_matching};

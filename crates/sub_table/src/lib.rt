@@ -1,7 +1,7 @@
 //! The open subscriptions of a shard: what any table of them keeps, and the plain list.
 #![tactic(auto)]
 
-ghost use Rattle.std.specs.Prelude.{◌≡◌, ◌<◌, ◌≤◌, ◌+◌, nat_le, [], ◌∷◌, ◌++◌, length, map, filter, position, IfOk, OnOk, OnErr, All};
+ghost use Rattle.std.specs.Prelude.{◌≡◌, ◌<◌, ◌+◌, nat_le, [], ◌∷◌, ◌++◌, length, map, filter, position, IfOk, OnOk, OnErr, All};
 ghost use Rattle.std.specs.List.{find as find_in};
 ghost use Rattle.std.specs.Option.{option_copied};
 ghost use Rattle.sub_table.specs.Subscriptions.{total_cost, gets, is_of_another, has_serial, without_serial, serial_called, serials_of, with_delivered, with_max};

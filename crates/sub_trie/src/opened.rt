@@ -1,6 +1,6 @@
 //! The open subscriptions by their serials, and a trie of these.
 
-ghost use Rattle.std.specs.Prelude.{◌≡◌, ◌<◌, ◌≤◌, ◌+◌, nat_le, true, [], ◌∷◌, ◌++◌, length, map, filter, IfOk, OnOk, OnErr, All};
+ghost use Rattle.std.specs.Prelude.{◌≡◌, ◌<◌, ◌+◌, nat_le, true, [], ◌∷◌, ◌++◌, length, map, filter, IfOk, OnOk, OnErr, All};
 ghost use Rattle.std.specs.List.{find as find_in};
 ghost use Rattle.std.specs.Option.{option_copied};
 ghost use Rattle.std.proofs.Props.{props};

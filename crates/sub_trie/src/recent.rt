@@ -1,6 +1,6 @@
 //! What recent subjects matched.
 
-ghost use Rattle.std.specs.Prelude.{◌≡◌, ◌<◌, ◌≤◌, [], List, true, OnOk, IfOk, IfSome, All};
+ghost use Rattle.std.specs.Prelude.{◌≡◌, ◌<◌, ◌≤◌, List, IfOk, IfSome, All};
 ghost use Rattle.sub_table.specs.declared.Subscription.{Subscription};
 ghost use Rattle.sub_trie.specs.declared.recent.TheConstants.{PLACES, WAYS};
 ghost use Rattle.sub_trie.specs.Recalls.{AreRight, serials_for};

@@ -1,8 +1,7 @@
 //! The table.
 
-ghost use Rattle.std.specs.Prelude.{◌≡◌, ℕ, map, filter};
+ghost use Rattle.std.specs.Prelude.{◌≡◌, ℕ};
 ghost use Rattle.std.specs.Bool.{nat_eq};
-ghost use Rattle.arrayvec.specs.ArrayVec.{ArrayVec as Items};
 ghost use Rattle.sub_table.specs.Subscriptions.{serials_of, without_serial};
 ghost use Rattle.pattern_trie.specs.Starts.{node_count};
 ghost use Rattle.sub_trie.specs.Groups.{list_at, AreCalled, without_each};

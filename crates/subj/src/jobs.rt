@@ -1,6 +1,6 @@
 //! A publication on its way through a server.
 
-ghost use Rattle.std.specs.Prelude.{◌≡◌, ◌≤◌, ◌∷◌, [], length, true, All, IfOk, OnErr};
+ghost use Rattle.std.specs.Prelude.{◌≡◌, [], true, All, IfOk, OnErr};
 ghost use Rattle.subj.specs.QueueNames.{IsQueueName, are_rising as rising, is_before_first as before_first, are_queue_names, queue_names_of};
 
 use crate::identities::{ConnId, PubId};

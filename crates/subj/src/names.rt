@@ -1,6 +1,6 @@
 //! What the bytes of a name must be, tested without memory.
 
-ghost use Rattle.std.specs.Prelude.{◌≡◌, ℕ, ◌+◌, ◌<◌, ◌∷◌, length, position, IfSome};
+ghost use Rattle.std.specs.Prelude.{◌≡◌, ◌+◌, ◌<◌, ◌∷◌, length, position, IfSome};
 ghost use Rattle.std.specs.Option.{option_copied};
 ghost use Rattle.subj.specs.Names.{name_fault_number, tokens, tokens_behind, is_dot, is_forbidden, is_one_wildcard as one_wildcard, is_rest_wildcard as rest_wildcard, has_forbidden as some_forbidden, forbidden_fault};
 

@@ -42,7 +42,7 @@ pub struct Cutter {
 }
 
 impl Model for Cutter {
-    ghost use Rattle.std.specs.Prelude.{◌≤◌, ◌<◌, ◌^◌, List, ℕ};
+    ghost use Rattle.std.specs.Prelude.{◌≤◌, ◌<◌, ◌^◌};
     ghost use Rattle.wire_cut.specs.Cut.{CutterState};
     ghost use Rattle.wire_cut.specs.Search.{IsCutter};
 

@@ -1,5 +1,5 @@
 //! The readers and writers of std as sources and sinks.
-ghost use Rattle.std.specs.Prelude.{◌≡◌, ℕ};
+ghost use Rattle.std.specs.Prelude.{◌≡◌};
 
 use crate::count::Count;
 use crate::sink::{Sink, WriteFailed};

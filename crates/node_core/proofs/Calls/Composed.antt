@@ -57,11 +57,6 @@ write_same [] n a e = refl
 write_same (x ∷ xs) zero a e = ap (λ t. t ∷ xs) (sym (same_Some x a e))
 write_same (x ∷ xs) (suc n) a e = ap (λ t. x ∷ t) (write_same xs n a e)
 
-beyond : {A : Type 0} (xs : List A) (n : ℕ) → length xs ≤ n → slice_get xs n ≡ None
-beyond [] n lt = refl
-beyond (x ∷ xs) zero lt = absurd (omega arith)
-beyond (x ∷ xs) (suc n) lt = beyond xs n (omega arith)
-
 -- ---- which line it is
 
 record IsPlace (server : Server) (a : Node) (conn place : ℕ) (line : Line) : Type 0 where

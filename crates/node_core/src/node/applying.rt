@@ -6,7 +6,7 @@ ghost use Rattle.node_law.specs.Events.{Own, OfConn, AtShard, OnInfo, OnConnect}
 ghost use Rattle.node_law.specs.declared.events.ConnEvent.TheVariants.{Subscribe};
 ghost use Rattle.node_core.specs.InCode.{answer_of, answered, event_of, own_event_of};
 ghost use Rattle.node_core.specs.Outcome.{Answers, told_of_claim};
-ghost use Rattle.node_core.specs.Served.{ConnStep, refusal};
+ghost use Rattle.node_core.specs.Served.{refusal};
 
 use super::Node;
 use crate::answers::Answer;
