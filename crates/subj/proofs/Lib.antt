@@ -5,4 +5,3 @@ mod Padded
 mod Fits
 mod Apart
 pub mod NameBytes
-pub mod WantOfMemory
