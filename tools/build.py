@@ -109,17 +109,20 @@ class Room:
                 checks.wait()
 
     def told_by(self, output):
-        """What the checks say, but for the crates that are proved: each of these is told with the seconds since the start."""
+        """What the checks say, but for the crates that are proved: each of these is told with the seconds since the start.
+
+        A crate that was proved before has its line with its name in the output, and nothing else.
+        """
         start = time.monotonic()
-        said, crate, proved = [], [], 0
+        said, crate, ended = [], [], 0
         for line in output:
             if line.startswith("== "):
                 said += crate
                 crate = []
+                ended += 1
             crate.append(line)
             if line.startswith("logic=proved"):
-                proved += 1
-                print("[%d/%d] %s proved, at %d s" % (proved, len(self.needed), crate[0].strip("= \n"), time.monotonic() - start),
+                print("[%d/%d] %s proved, at %d s" % (ended, len(self.needed), crate[0].strip("= \n"), time.monotonic() - start),
                       file=sys.stderr, flush=True)
                 crate = []
         return "".join(said + crate)
