@@ -2,11 +2,11 @@
 use Rattle.std.proofs.Common.{◌≡◌, ℕ, Bool, true, false, not, ◌&&◌, List, [], ◌∷◌, ◌++◌, length, Option, Result, Ok, Err, ◌<◌, ◌⊎◌, ⊎_elim, refl, ap, sym, ◌∙◌, subst, append-nil}
 use Rattle.std.specs.Prelude.{if◌then◌else◌, OnErr, slice_get}
 use Rattle.wire_cut.specs.Cut.{first_cr_lf}
-use Rattle.wire_cut.specs.Reading.{End, waits, closed, reading_of, reading_within, with_items}
+use Rattle.wire_cut.specs.Reading.{End, waits, closed, reading_within, with_items}
 use Rattle.client_frames.specs.declared.awaited.Awaited.{Awaited}
 use Rattle.client_frames.specs.declared.awaited.Awaited.TheVariants as awaits
 use Rattle.client_frames.specs.declared.client_line.Options.{Options}
-use Rattle.client_frames.specs.Streams.{StreamItem, client_grammar}
+use Rattle.client_frames.specs.Streams.{StreamItem}
 use Rattle.client_conn.specs.declared.ask.Ask.{Ask}
 use Rattle.client_conn.specs.declared.ask.Refusal.TheVariants.{Other}
 use Rattle.client_conn.specs.declared.faults.ReadFault.{ReadFault}
@@ -14,10 +14,10 @@ use Rattle.client_conn.specs.declared.faults.ReadFault.TheVariants.{Closed}
 use Rattle.client_conn.specs.declared.reader.ItemReader.{ItemReader}
 use Rattle.client_conn.specs.declared.reader.Looked.{Looked}
 use Rattle.client_conn.specs.declared.reader.Looked.TheVariants.{Announced, Told}
-use Rattle.client_conn.specs.Items.{OpenState, first_options, options_behind, options_after, item_asks, items_asks, asked_by}
-use Rattle.client_conn.specs.Asks.{Asking, listens, over, behind, asking_of, Answer, answered, fed, no_asks, is_finished}
+use Rattle.client_conn.specs.Items.{OpenState, first_options, options_behind, item_asks, items_asks, asked_by}
+use Rattle.client_conn.specs.Asks.{Asking, listens, over, asked_before, asking_of, Answer, answered, fed, no_asks}
 use Rattle.client_conn.specs.Feeding.{HasRead, ClosedWhere, AnswersClosed}
-use Rattle.client_conn.specs.Streams.{end_of, reading_at, longer, left_of, asking_at, HasTaken, HasNone, HasFilled, HasLooked}
+use Rattle.client_conn.specs.Streams.{end_of, reading_at, left_of, asking_at, HasTaken, HasNone, HasFilled, HasLooked}
 use Rattle.client_conn.proofs.Telling.{told_before, fed_standing}
 use Rattle.client_conn.proofs.Closing.{finished_is}
 use Rattle.client_conn.proofs.Looking.{takes, passes, lessens_at_a_line, lessens_at_an_item}
@@ -30,7 +30,7 @@ new_asks ask = refl
 -- an item was taken, and what it asks for stands
 taken_asks : (o : Options) (old new : End Awaited) (told : StreamItem) → reading_at old ≡ with_items (told ∷ []) (reading_at new) → asking_at (asked_by told o) new ≡ asking_of o (reading_at old)
 taken_asks o old new told front =
-    ap (λ l. behind l (asking_of (options_behind told o) (reading_at new))) (sym (append-nil (item_asks o told)))
+    ap (λ l. asked_before l (asking_of (options_behind told o) (reading_at new))) (sym (append-nil (item_asks o told)))
     ∙ sym (told_before o (told ∷ []) (reading_at new))
     ∙ ap (asking_of o) (sym front)
 
@@ -43,10 +43,10 @@ pub put_asks : (before stand : OpenState) (old new : End Awaited) → no_asks be
 put_asks before stand old new empty taken =
     ap (λ s. asking_at s new) taken.stands
     ∙ taken_asks before.options old new taken.told taken.front
-    ∙ ap (λ l. behind l (asking_of before.options (reading_at old))) (sym (no_length before.asks empty))
+    ∙ ap (λ l. asked_before l (asking_of before.options (reading_at old))) (sym (no_length before.asks empty))
 
 pub same_asks : (before stand : OpenState) (old new : End Awaited) → stand ≡ before → reading_at new ≡ reading_at old → asking_at stand new ≡ asking_at before old
-same_asks before stand old new is same = ap (λ s. asking_at s new) is ∙ ap (λ r. behind before.asks (asking_of before.options r)) same
+same_asks before stand old new is same = ap (λ s. asking_at s new) is ∙ ap (λ r. asked_before before.asks (asking_of before.options r)) same
 
 -- a look that finds anything leaves as much to be asked
 pub goes_on : (looked : Looked) (before stand : OpenState) (old new : End Awaited) → (looked ≡ Announced) ⊎ (looked ≡ Told) → no_asks before.asks ≡ true → HasLooked looked before stand old new → asking_at stand new ≡ asking_at before old

@@ -1,10 +1,10 @@
 -- A stream that has ended asked for something at its end, so a connection knows when all is asked and answered.
-use Rattle.std.proofs.Common.{append_assoc, ◌≡◌, ℕ, zero, suc, Bool, true, false, ◌&&◌, List, [], ◌∷◌, ◌++◌, length, Option, Some, None, Ok, Err, refl, ap, sym, ◌∙◌, subst}
+use Rattle.std.proofs.Common.{append_assoc, ◌≡◌, ℕ, zero, suc, Bool, true, false, ◌&&◌, List, [], ◌∷◌, ◌++◌, Option, Some, None, Ok, Err, refl, ap, sym, ◌∙◌, subst}
 use Rattle.std.specs.Prelude.{if◌then◌else◌}
 use Rattle.wire_cut.specs.Cut.{Answer, bytes_of}
 use Rattle.wire_cut.specs.declared.faults.CutFault.{CutFault}
 use Rattle.wire_cut.specs.declared.faults.CutFault.TheVariants.{LineTooLong, PayloadTooLong, NoCrLfAfterPayload}
-use Rattle.wire_cut.specs.Reading.{End, waits, closed, Reading, reading_of, reading_within, reading_after, Told, going_on, ending, Found, nothing, something, the_end, found, found_by, found_before, found_next, size_fault, cut_awaited}
+use Rattle.wire_cut.specs.Reading.{End, waits, closed, Reading, reading_of, reading_within, reading_after, Told, going_on, ending, Found, nothing, something, the_end, found, found_by, found_before, found_next, cut_awaited}
 use Rattle.client_frames.specs.declared.awaited.Awaited.{Awaited}
 use Rattle.client_frames.specs.declared.awaited.Awaited.TheVariants as awaits
 use Rattle.client_frames.specs.declared.client_line.ClientLine.{ClientLine}
@@ -19,10 +19,10 @@ use Rattle.client_frames.specs.Streams.{StreamItem, refused, unreadable, client_
 use Rattle.client_conn.specs.declared.ask.Ask.{Ask}
 use Rattle.client_conn.specs.declared.ask.Ask.TheVariants.{Reply, Shut}
 use Rattle.client_conn.specs.declared.reader.ItemReader.{ItemReader}
-use Rattle.client_conn.specs.Items.{OpenState, options_after, item_asks, items_asks, refusing}
+use Rattle.client_conn.specs.Items.{OpenState, options_after, items_asks, refusing}
 use Rattle.client_conn.specs.Asks.{over, listens, asking_of, onward_of, read_onward, is_over, no_asks, is_finished}
 use Rattle.client_conn.specs.Shuts.{AsksToShut}
-use Rattle.client_conn.specs.Streams.{end_of, reading_at, asking_at}
+use Rattle.client_conn.specs.Streams.{end_of, asking_at}
 use Rattle.client_conn.proofs.Telling.{items_asks-append}
 
 refusing_shuts : (text : ErrText) (rest : List Ask) → text_closes text ≡ true → AsksToShut (refusing text ++ rest)

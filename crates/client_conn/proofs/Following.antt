@@ -6,7 +6,7 @@ use Rattle.client_frames.specs.declared.info.InfoData.{InfoData}
 use Rattle.client_frames.specs.Streams.{client_grammar}
 use Rattle.client_conn.specs.declared.ask.Ask.{Ask}
 use Rattle.client_conn.specs.declared.ask.Refusal.TheVariants.{Busy, TooManySubscriptions, NumbersSpent, TooManyQueueGroups, Other}
-use Rattle.client_conn.specs.Asks.{Asking, Answer, Onward, listens, over, behind, asking_of, read_onward, nothing_more, fed, answered, answered_of, answered_first, answered_all, begun}
+use Rattle.client_conn.specs.Asks.{Asking, Answer, Onward, listens, over, asked_before, asking_of, read_onward, fed, answered, answered_of, answered_first, answered_all, begun}
 use Rattle.client_conn.specs.Laws.{Happening, more_bytes, an_answer, after_all, after, bytes_in, answers_in, EachAnswersAnAsk, FollowsBytesAndAnswers, AsksForStreamCommands}
 use Rattle.client_conn.proofs.Telling.{fed_reading, fed_behind}
 
@@ -19,7 +19,7 @@ read_twice (listens options awaited unread) first second =
 read_twice over first second = refl
 
 pub fed_twice : (s : Asking) (first second : List ℕ) → fed second (fed first s) ≡ fed (first ++ second) s
-fed_twice s first second = fed_behind s.asks (read_onward s.onward first) second ∙ ap (behind s.asks) (read_twice s.onward first second)
+fed_twice s first second = fed_behind s.asks (read_onward s.onward first) second ∙ ap (asked_before s.asks) (read_twice s.onward first second)
 
 -- ---- an answer before bytes, and behind them
 

@@ -1,5 +1,5 @@
 -- What a look at a client's stream finds.
-use Rattle.std.proofs.Common.{◌≡◌, ℕ, suc, ◌+◌, ◌<◌, ◌≤◌, Bool, true, false, nat_le, List, [], ◌∷◌, ◌++◌, length, drop, Option, Some, None, Result, Ok, Err, refl, ap, sym, ◌∙◌, subst, arith, append-nil, length-drop}
+use Rattle.std.proofs.Common.{◌≡◌, ℕ, suc, ◌+◌, ◌<◌, ◌≤◌, Bool, true, false, List, [], ◌∷◌, length, drop, Option, Some, None, Result, Ok, Err, refl, ap, sym, ◌∙◌, subst, arith, append-nil, length-drop}
 use Rattle.std.specs.Prelude.{if◌then◌else◌}
 use Rattle.subj.specs.Messages.{Content}
 use Rattle.subj.specs.declared.failures.Failure.{Failure}
@@ -7,7 +7,7 @@ use Rattle.subj.specs.declared.failures.Failure.TheVariants.{Refused}
 use Rattle.subj.specs.declared.limits.TheConstants.{MAX_PAYLOAD}
 use Rattle.wire_cut.specs.Cut.{Answer, CutterState, StreamPiece, line, payload, bytes_of, cut_of, after_answer, after_next, after_expect, after_refusal, expect_fault, IsWithinUnread}
 use Rattle.wire_cut.specs.declared.faults.CutFault.{CutFault}
-use Rattle.wire_cut.specs.Reading.{End, waits, closed, Reading, reading_of, waiting, with_items, ended_by, Told, going_on, ending, Found, nothing, something, the_end, found, found_by, found_before, found_next, size_fault, looked_at, StandsAt}
+use Rattle.wire_cut.specs.Reading.{End, waits, closed, Reading, reading_of, with_items, ended_by, Told, going_on, ending, Found, nothing, something, the_end, found, found_by, found_before, found_next, size_fault, looked_at, StandsAt}
 use Rattle.wire_cut.proofs.CutLemmas.{cut_of-piece_length}
 use Rattle.wire_cut.proofs.ReadingLemmas.{cuts_alike, reads_by_looks, waits_for_more}
 use Rattle.client_frames.specs.declared.awaited.Awaited.{Awaited}
@@ -26,7 +26,7 @@ use Rattle.client_conn.specs.declared.reader.ItemReader.{ItemReader}
 use Rattle.client_conn.specs.declared.reader.Looked.{Looked}
 use Rattle.client_conn.specs.declared.reader.Looked.TheVariants.{Waits, Announced, Told as told_item}
 use Rattle.client_conn.specs.Items.{OpenState, publication_of, confirmed, message_of, refusing, asked_by}
-use Rattle.client_conn.specs.Streams.{end_of, reading_at, left_of, IsInStep, IsBehindLine, FoundAlone, TellsFound, Moves, HasMoved, HasLooked, HasLookedAt, HasTaken, HasNone}
+use Rattle.client_conn.specs.Streams.{end_of, reading_at, left_of, IsInStep, IsBehindLine, FoundAlone, TellsFound, Moves, HasMoved, HasLooked, HasTaken, HasNone}
 
 -- ---- what a look finds, as what is told
 

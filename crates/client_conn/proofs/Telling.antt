@@ -7,7 +7,7 @@ use Rattle.client_frames.specs.declared.client_line.Options.{Options}
 use Rattle.client_frames.specs.Streams.{StreamItem, client_grammar}
 use Rattle.client_conn.specs.declared.ask.Ask.{Ask}
 use Rattle.client_conn.specs.Items.{OpenState, options_behind, options_after, item_asks, items_asks}
-use Rattle.client_conn.specs.Asks.{Asking, Onward, listens, over, behind, onward_of, asking_of, read_onward, nothing_more, fed}
+use Rattle.client_conn.specs.Asks.{Asking, Onward, asked_before, onward_of, asking_of, read_onward, fed}
 use Rattle.client_conn.specs.Streams.{reading_at, longer, asking_at}
 
 -- ---- items that are put together
@@ -27,12 +27,12 @@ asking-is a b c d first second =
     ap (λ l. let s : Asking = record { asks = l; onward = c } in s) first ∙ ap (λ l. let s : Asking = record { asks = b; onward = l } in s) second
 
 -- what is told first is asked first
-pub told_before : (o : Options) (items : List StreamItem) (r : Reading Awaited StreamItem) → asking_of o (with_items items r) ≡ behind (items_asks o items) (asking_of (options_after items o) r)
+pub told_before : (o : Options) (items : List StreamItem) (r : Reading Awaited StreamItem) → asking_of o (with_items items r) ≡ asked_before (items_asks o items) (asking_of (options_after items o) r)
 told_before o items r =
     asking-is _ _ _ _ (items_asks-append o items r.items) (ap (λ p. onward_of p r.end) (options_after-append o items r.items))
 
-pub behind-behind : (front rest : List Ask) (s : Asking) → behind front (behind rest s) ≡ behind (front ++ rest) s
-behind-behind front rest s = ap (λ l. let t : Asking = record s { asks = l } in t) (sym (append_assoc front rest s.asks))
+pub asked_before_twice : (front rest : List Ask) (s : Asking) → asked_before front (asked_before rest s) ≡ asked_before (front ++ rest) s
+asked_before_twice front rest s = ap (λ l. let t : Asking = record s { asks = l } in t) (sym (append_assoc front rest s.asks))
 
 -- ---- bytes that are added
 
@@ -43,12 +43,12 @@ resumed_asks o closed bytes = refl
 pub fed_reading : (o : Options) (awaited : Awaited) (bytes more : List ℕ) → fed more (asking_of o (reading_of client_grammar awaited bytes)) ≡ asking_of o (reading_of client_grammar awaited (bytes ++ more))
 fed_reading o awaited bytes more =
     let r = reading_of client_grammar awaited bytes in
-    ap (behind (items_asks o r.items)) (sym (resumed_asks (options_after r.items o) r.end more))
+    ap (asked_before (items_asks o r.items)) (sym (resumed_asks (options_after r.items o) r.end more))
     ∙ sym (told_before o r.items (resumed client_grammar r.end more))
     ∙ ap (asking_of o) (reads_on client_grammar awaited bytes more)
 
-pub fed_behind : (open_asks : List Ask) (s : Asking) (bytes : List ℕ) → fed bytes (behind open_asks s) ≡ behind open_asks (fed bytes s)
-fed_behind open_asks s bytes = sym (behind-behind open_asks s.asks (read_onward s.onward bytes))
+pub fed_behind : (open_asks : List Ask) (s : Asking) (bytes : List ℕ) → fed bytes (asked_before open_asks s) ≡ asked_before open_asks (fed bytes s)
+fed_behind open_asks s bytes = sym (asked_before_twice open_asks s.asks (read_onward s.onward bytes))
 
 fed_end : (o : Options) (end : End Awaited) (bytes : List ℕ) → fed bytes (asking_of o (reading_at end)) ≡ asking_of o (reading_at (longer bytes end))
 fed_end o (waits awaited unread) bytes = fed_reading o awaited unread bytes
@@ -56,4 +56,4 @@ fed_end o closed bytes = refl
 
 -- a reader that has more bytes
 pub fed_standing : (stand : OpenState) (end : End Awaited) (bytes : List ℕ) → fed bytes (asking_at stand end) ≡ asking_at stand (longer bytes end)
-fed_standing stand end bytes = fed_behind stand.asks (asking_of stand.options (reading_at end)) bytes ∙ ap (behind stand.asks) (fed_end stand.options end bytes)
+fed_standing stand end bytes = fed_behind stand.asks (asking_of stand.options (reading_at end)) bytes ∙ ap (asked_before stand.asks) (fed_end stand.options end bytes)

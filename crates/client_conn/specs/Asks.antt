@@ -28,8 +28,8 @@ pub record Asking : Type 0 where
   pub onward : Onward
 
 -- these are asked before
-abbrev pub behind : List Ask → Asking → Asking
-behind asks s = record s { asks = asks ++ s.asks }
+abbrev pub asked_before : List Ask → Asking → Asking
+asked_before asks s = record s { asks = asks ++ s.asks }
 
 abbrev pub nothing_more : Asking
 nothing_more = record { asks = []; onward = over }
@@ -50,7 +50,7 @@ read_onward over bytes = nothing_more
 
 -- more bytes came
 abbrev pub fed : List ℕ → Asking → Asking
-fed bytes s = behind s.asks (read_onward s.onward bytes)
+fed bytes s = asked_before s.asks (read_onward s.onward bytes)
 
 -- ---- answers
 

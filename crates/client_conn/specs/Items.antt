@@ -1,7 +1,7 @@
 -- What one client's stream asks of a server, item by item, where each ask is done.
 -- NATS documentation, "Client Protocol": what each operation asks for, and that `+OK` answers a well-formed one in verbose mode.
 -- The order of the asks, and which refusal ends a connection, are this project's profile.
-use Rattle.std.specs.Prelude.{ℕ, Bool, true, List, [], ◌∷◌, ◌++◌, if◌then◌else◌}
+use Rattle.std.specs.Prelude.{ℕ, true, List, [], ◌∷◌, ◌++◌, if◌then◌else◌}
 use Rattle.subj.specs.Messages.{Content}
 use Rattle.subj.specs.declared.messages.Pub.{Pub}
 use Rattle.client_frames.specs.declared.client_line.Options.{Options}

@@ -1,5 +1,5 @@
 -- A client's stream, read item by item.
-use Rattle.std.specs.Prelude.{◌≡◌, ℕ, suc, ◌<◌, ◌≤◌, true, false, List, [], ◌∷◌, ◌++◌, length, Option, Some, None, if◌then◌else◌}
+use Rattle.std.specs.Prelude.{◌≡◌, ℕ, suc, ◌<◌, ◌≤◌, true, false, List, [], ◌∷◌, ◌++◌, length, Option, None, if◌then◌else◌}
 use Rattle.std.specs.Io.KnownBytes.{Consumes, IsAtEnd}
 use Rattle.subj.specs.Messages.{Content}
 use Rattle.wire_cut.specs.Reading.{End, waits, closed, Reading, reading_of, with_items, ended_by, StandsAt, Found, nothing, something, the_end, found}
@@ -11,7 +11,7 @@ use Rattle.client_conn.specs.declared.reader.ItemReader.{ItemReader}
 use Rattle.client_conn.specs.declared.reader.Looked.{Looked}
 use Rattle.client_conn.specs.declared.reader.Looked.TheVariants.{Waits, Announced, Told}
 use Rattle.client_conn.specs.Items.{OpenState, message_of, asked_by}
-use Rattle.client_conn.specs.Asks.{Asking, behind, asking_of}
+use Rattle.client_conn.specs.Asks.{Asking, asked_before, asking_of}
 
 -- how far a reader has read
 abbrev pub end_of : ItemReader → End Awaited
@@ -50,7 +50,7 @@ AwaitsLostPayload awaited = (size : ℕ) × (awaited ≡ awaits.LostPayload size
 
 -- what stands to be asked: these, and then what the rest of the stream asks for
 abbrev pub asking_at : OpenState → End Awaited → Asking
-asking_at stand end = behind stand.asks (asking_of stand.options (reading_at end))
+asking_at stand end = asked_before stand.asks (asking_of stand.options (reading_at end))
 
 -- the reader has n bytes more
 pub record HasFilled (old new : End Awaited) (before after : Option (List ℕ)) (asked n : ℕ) : Type 0 where
@@ -66,7 +66,7 @@ pub record HasFilled (old new : End Awaited) (before after : Option (List ℕ)) 
 -- this alone was found, and the reader stands behind it
 abbrev pub FoundAlone : StreamItem → Found Awaited StreamItem → End Awaited → Type 0
 FoundAlone told nothing new = ⊥
-FoundAlone told (something items next behind) new = (items ≡ told ∷ []) × (new ≡ waits next behind)
+FoundAlone told (something items next asked_before) new = (items ≡ told ∷ []) × (new ≡ waits next asked_before)
 FoundAlone told (the_end items) new = (items ≡ told ∷ []) × (new ≡ closed)
 
 -- what a look has found, what stands to be asked then, and where the reader stands

@@ -17,7 +17,7 @@ use Rattle.cluster_world.specs.Events as asked
 use Rattle.cluster_world.specs.Outcomes as told
 use Rattle.cluster_world.specs.Play.{placements_put}
 use Rattle.cluster_world.specs.State as state
-use Rattle.cluster_world.specs.State.{Cluster, Placement, server_at}
+use Rattle.cluster_world.specs.State.{Placement}
 
 -- ---- events and outcomes
 

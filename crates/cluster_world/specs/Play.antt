@@ -1,5 +1,5 @@
 -- The exact cluster as a program on lists: with a race that forgets nothing, each event has one outcome and one next world.
-use Rattle.std.specs.Prelude.{◌≡◌, ℕ, suc, ◌+◌, ◌-◌, ◌<◌, Bool, true, false, List, [], ◌∷◌, ◌++◌, map, slice_set, Option, Some, None, is_none, slice_get}
+use Rattle.std.specs.Prelude.{◌≡◌, ℕ, suc, ◌+◌, ◌-◌, ◌<◌, Bool, true, false, List, [], ◌∷◌, ◌++◌, slice_set, Option, Some, None, is_none, slice_get}
 use Rattle.claim_race.specs.Race.{RaceState, Win, winner}
 use Rattle.sub_table.specs.declared.Subscription.{Subscription}
 use Rattle.subj.specs.declared.jobs.Job.{Job}
@@ -10,7 +10,7 @@ use Rattle.shard_core.specs.declared.calls.Placed.{Placed}
 use Rattle.shard_core.specs.ShardEvents as of_shard
 use Rattle.shard_core.specs.Owed.{candidate_of}
 use Rattle.shard_core.specs.Puts.{put_by}
-use Rattle.node_law.specs.State.{Line, Node, new_node}
+use Rattle.node_law.specs.State.{Line, Node}
 use Rattle.node_law.specs.Answers.{Answer, Nothing, node_answer}
 use Rattle.node_law.specs.declared.events.ShardWork.{ShardWork}
 use Rattle.node_law.specs.declared.events.ShardWork.TheVariants.{Attach, Begin, Claim, End, DropJob}
@@ -22,7 +22,7 @@ use Rattle.cluster_world.specs.Events.{Event, Start, Stop, At, event_for}
 use Rattle.cluster_world.specs.Events as of_world
 use Rattle.cluster_world.specs.Outcomes.{Outcome, Refused, Done}
 use Rattle.cluster_world.specs.Refusals.{world_refusal}
-use Rattle.cluster_world.specs.Changes.{placement_of, looked_at, AreGained}
+use Rattle.cluster_world.specs.Changes.{placement_of, AreGained}
 use Rattle.cluster_world.specs.Steps.{acted, started, stopped}
 
 -- ---- a race that forgets nothing

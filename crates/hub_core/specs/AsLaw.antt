@@ -16,7 +16,7 @@ use Rattle.interest.specs.declared.changes.Change.{Change}
 use Rattle.interest.specs.declared.changes.Change.TheVariants.{Up, Gone}
 use Rattle.interest.specs.declared.changes.Delta.{Delta}
 use Rattle.interest.specs.Counts.{IsInterest}
-use Rattle.interest.specs.Views.{View, told, followed}
+use Rattle.interest.specs.Views.{View, told_view, followed}
 use Rattle.route_values.specs.declared.bodies.Body.{Body}
 use Rattle.route_values.specs.declared.bodies.Body.TheVariants.{Plus, Minus, Snapshot, Msg}
 use Rattle.route_values.specs.Frames.{Frame}
@@ -75,7 +75,7 @@ peer_of peer = record { seen = peer.seen; mark = peer.mark; heard = peer.heard.m
 
 -- of the counts the view that they are told as
 abbrev pub hub_of : State → law.Hub
-hub_of hub = record { published = hub.published; changed = hub.changed; interest = view_of (told hub.counts); peers = map peer_of hub.peers }
+hub_of hub = record { published = hub.published; changed = hub.changed; interest = view_of (told_view hub.counts); peers = map peer_of hub.peers }
 
 -- ---- the law's parameters: how many queue names, and how a change acts on a view
 

@@ -1,7 +1,7 @@
 -- Peers come up and are cut, and frames are taken from their outboxes (profile).
 use Rattle.std.specs.Prelude.{ℕ, true, false, List, [], ◌∷◌, take, drop, Option, Some, None, slice_get, if◌then◌else◌}
 use Rattle.subj.specs.Servers.{Server, name_of, own_name, is_peer}
-use Rattle.interest.specs.Views.{told}
+use Rattle.interest.specs.Views.{told_view}
 use Rattle.route_values.specs.declared.bodies.Body.TheVariants.{Snapshot}
 use Rattle.route_values.specs.Frames.{Frame}
 use Rattle.hub_core.specs.declared.faults.HubFault.{HubFault}
@@ -10,7 +10,7 @@ use Rattle.hub_core.specs.State.{State, Peer, known, changed_at}
 
 -- all interest of the counts, at the number of the last change, to an incarnation of the peer at place q
 abbrev pub snapshot_to : Server → State → ℕ → ℕ → Frame
-snapshot_to server hub q inc = record { from = own_name server; inc = server.inc; to = name_of server q; to_inc = inc; number = hub.changed; body = Snapshot (told hub.counts) }
+snapshot_to server hub q inc = record { from = own_name server; inc = server.inc; to = name_of server q; to_inc = inc; number = hub.changed; body = Snapshot (told_view hub.counts) }
 
 -- a session with an incarnation of the peer is kept: it is up, and a snapshot is all that waits
 abbrev pub up : Server → State → ℕ → ℕ → State

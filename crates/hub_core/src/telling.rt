@@ -4,7 +4,7 @@ ghost use Rattle.std.specs.Prelude.{◌≡◌, ◌<◌, true, length, Some, IfOk
 ghost use Rattle.subj.specs.Servers.{own_name, name_of};
 ghost use Rattle.route_values.specs.Frames.{is_number};
 ghost use Rattle.interest.specs.Counts.{told_weight};
-ghost use Rattle.interest.specs.Views.{told};
+ghost use Rattle.interest.specs.Views.{told_view};
 ghost use Rattle.route_values.specs.Snapshots.{weighted_key};
 
 use interest::{Local, counts_can_be_told};
@@ -41,7 +41,7 @@ pub(crate) fn frame_to(
 
 /// All that is counted, as peers are told it.
 pub(crate) fn snapshot_of(alloc: Global, counts: &Local) -> Result<SnapshotKeys, AllocError>
-    ensures { IfOk result (λ keys. keys ≡ told counts.now) }
+    ensures { IfOk result (λ keys. keys ≡ told_view counts.now) }
 {
     counts_can_be_told();
     let mut keys = Vec::new(alloc);

@@ -10,7 +10,7 @@ use Rattle.interest.specs.declared.changes.Change.{Change}
 use Rattle.interest.specs.declared.changes.Delta.{Delta}
 use Rattle.interest.specs.Counts.{Counts, count_of, counts_after, change_of, delta_fault, IsInterest}
 use Rattle.interest.specs.Told.{counts_told, changes_told, AreTaken}
-use Rattle.interest.specs.Views.{told, followed_if, view_after, view_at}
+use Rattle.interest.specs.Views.{told_view, followed_if, view_after, view_at}
 use Rattle.interest.specs.Heard.{News, Changed, Whole, nothing_heard, heard_all}
 
 -- counts within their limits stay so
@@ -19,11 +19,11 @@ StaysWithin = (counts : Counts) (delta : Delta) → IsInterest counts → delta_
 
 -- what peers are told of a delta makes of the view that they were told the view that the counts are told as then
 abbrev pub StepsAgree : Type 0
-StepsAgree = (counts : Counts) (delta : Delta) → IsInterest counts → delta_fault counts delta ≡ None → told (counts_after counts delta) ≡ followed_if (change_of counts delta) (told counts)
+StepsAgree = (counts : Counts) (delta : Delta) → IsInterest counts → delta_fault counts delta ≡ None → told_view (counts_after counts delta) ≡ followed_if (change_of counts delta) (told_view counts)
 
 -- so of all deltas from the start
 abbrev pub RunsAgree : Type 0
-RunsAgree = (deltas : List Delta) → AreTaken [] deltas → told (counts_told [] deltas) ≡ view_after (changes_told [] deltas) []
+RunsAgree = (deltas : List Delta) → AreTaken [] deltas → told_view (counts_told [] deltas) ≡ view_after (changes_told [] deltas) []
 
 -- ---- what counting gives, by the numbers of keys
 
@@ -55,7 +55,7 @@ pub record IsCounting : Type 0 where
 
 -- ---- counts within their limits can be told: the keys with what they weigh are those of a snapshot, and each can be told alone
 abbrev pub CanBeTold : Type 0
-CanBeTold = (counts : Counts) → IsInterest counts → (snapshot_of (told counts) ≡ Some (told counts)) × AllByRecursion (λ (weighted : Weighted). weighted_key weighted.0 weighted.1 ≡ Some weighted) (told counts)
+CanBeTold = (counts : Counts) → IsInterest counts → (snapshot_of (told_view counts) ≡ Some (told_view counts)) × AllByRecursion (λ (weighted : Weighted). weighted_key weighted.0 weighted.1 ≡ Some weighted) (told_view counts)
 
 -- ---- what a view was told
 

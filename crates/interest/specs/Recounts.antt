@@ -34,9 +34,9 @@ abbrev pub below : Key → Counts → Counts
 below key [] = []
 below key (entry ∷ entries) = if is_lt (key_cmp entry.0 key) then entry ∷ below key entries else []
 
-abbrev pub behind : Key → Counts → Counts
-behind key [] = []
-behind key (entry ∷ entries) = if is_lt (key_cmp entry.0 key) then behind key entries else entry ∷ entries
+abbrev pub from_key : Key → Counts → Counts
+from_key key [] = []
+from_key key (entry ∷ entries) = if is_lt (key_cmp entry.0 key) then from_key key entries else entry ∷ entries
 
 abbrev pub without_first : Key → Counts → Counts
 without_first key [] = []

@@ -17,8 +17,8 @@ abbrev pub View : Type 0
 View = List Weighted
 
 -- what counts are told as: with each key what it weighs to a peer
-abbrev pub told : Counts → View
-told counts = map (λ entry. (entry.0, told_weight entry.0 entry.1)) counts
+abbrev pub told_view : Counts → View
+told_view counts = map (λ entry. (entry.0, told_weight entry.0 entry.1)) counts
 
 -- ---- changes
 

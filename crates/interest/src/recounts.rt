@@ -4,7 +4,7 @@ ghost use Rattle.std.specs.Prelude.{◌≡◌, ◌≤◌, ◌+◌, ◌++◌, [],
 ghost use Rattle.std.specs.List.Sorted.{IsStrictlySortedBy};
 ghost use Rattle.std.specs.Map.{keys_of};
 ghost use Rattle.subj.specs.Keys.{key_cmp};
-ghost use Rattle.interest.specs.Recounts.{is_first_below, is_first_at, below, behind, without_first, one_if, with_numbers};
+ghost use Rattle.interest.specs.Recounts.{is_first_below, is_first_at, below, from_key, without_first, one_if, with_numbers};
 
 use crate::ordered::OrderedKey;
 use std::cmp::Ordering;
@@ -71,7 +71,7 @@ fn pop_below(entries: &mut VecDeque<Entry>, key: &Key) -> Option<Entry>
 fn move_below(entries: &mut VecDeque<Entry>, key: &Key, done: &mut Vec<Entry>)
     requires { vec_len done.old + length entries.old.items ≤ vec_capacity done.old }
     ensures done { done.new.items ≡ done.old.items ++ below key.now entries.old.items }
-    ensures left { entries.new.items ≡ behind key.now entries.old.items }
+    ensures left { entries.new.items ≡ from_key key.now entries.old.items }
     ensures len { vec_len done.new + length entries.new.items ≡ vec_len done.old + length entries.old.items }
     ensures capacity { vec_capacity done.new ≡ vec_capacity done.old }
 {
@@ -96,7 +96,7 @@ fn drop_first(entries: &mut VecDeque<Entry>, key: &Key)
 fn put_number(entries: &mut VecDeque<Entry>, key: Key, number: u64, done: &mut Vec<Entry>)
     requires { vec_len done.old + length entries.old.items + 1 ≤ vec_capacity done.old }
     ensures done { done.new.items ≡ done.old.items ++ (below key entries.old.items ++ one_if key number) }
-    ensures left { entries.new.items ≡ without_first key (behind key entries.old.items) }
+    ensures left { entries.new.items ≡ without_first key (from_key key entries.old.items) }
     ensures room { vec_len done.new + length entries.new.items ≤ vec_len done.old + length entries.old.items + 1 }
     ensures capacity { vec_capacity done.new ≡ vec_capacity done.old }
 {

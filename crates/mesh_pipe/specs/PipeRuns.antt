@@ -8,7 +8,7 @@ use Rattle.mesh_pipe.specs.declared.faults.PipeFault.TheVariants.{Read, Write, O
 use Rattle.mesh_pipe.specs.declared.pipe.Flow.{Flow}
 use Rattle.mesh_pipe.specs.declared.pipe.Flow.TheVariants.{Open, Closed}
 use Rattle.mesh_pipe.specs.declared.pipe_server.PipeServer.{PipeServer}
-use Rattle.mesh_pipe.specs.PipeText.{Served, Output, no_output, behind, asks_said}
+use Rattle.mesh_pipe.specs.PipeText.{Served, Output, no_output, text_before, asks_said}
 use Rattle.mesh_pipe.specs.PipeStates.{IsReady, served, asks_of}
 
 -- ---- where a pipe stands in its stream
@@ -27,7 +27,7 @@ Waits at = said_from at [] ≡ no_output at.served
 
 -- this is said, and then what is said from there, whatever comes behind
 pub record GoesOn (from : PipeState) (said : List ℕ) (to : PipeState) : Type 0 where
-  pub whatever_follows : (more : List ℕ) → said_from from more ≡ behind said (said_from to more)
+  pub whatever_follows : (more : List ℕ) → said_from from more ≡ text_before said (said_from to more)
 
 -- this is said, and nothing behind it
 pub record Ends (from : PipeState) (said : List ℕ) : Type 0 where

@@ -8,7 +8,7 @@ use Rattle.client_conn.specs.declared.ask.Refusal.TheVariants.{Busy, TooManySubs
 use Rattle.mesh_pipe.specs.declared.pipe_server.Outcome.{Outcome}
 use Rattle.mesh_pipe.specs.declared.pipe_server.Outcome.TheVariants.{Answered, Closed}
 use Rattle.mesh_pipe.specs.declared.pipe_server.PipeServer.{PipeServer}
-use Rattle.mesh_pipe.specs.PipeText.{Served, Output, at_first, at_rest, served_by, told}
+use Rattle.mesh_pipe.specs.PipeText.{Served, Output, at_first, at_rest, served_by, error_told}
 use Rattle.mesh_pipe.specs.PipeServing.{IsServing, shard_in, waiting_in}
 
 -- what the answers depend on
@@ -44,9 +44,9 @@ outcome_by false = Answered (Ok tt)
 -- the client is to be told of a refusal
 abbrev pub IsTold : Refusal → Served → Output → Type 0
 IsTold Busy s said = ⊥
-IsTold TooManySubscriptions s said = said ≡ told text.TooManySubscriptions s
-IsTold NumbersSpent s said = said ≡ told text.NumbersSpent s
-IsTold TooManyQueueGroups s said = said ≡ told text.TooManyQueueGroups s
+IsTold TooManySubscriptions s said = said ≡ error_told text.TooManySubscriptions s
+IsTold NumbersSpent s said = said ≡ error_told text.NumbersSpent s
+IsTold TooManyQueueGroups s said = said ≡ error_told text.TooManyQueueGroups s
 IsTold Other s said = ⊥
 
 abbrev pub HasServed : Outcome → Output → PipeServer → PipeServer → Type 0

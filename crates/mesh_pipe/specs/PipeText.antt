@@ -52,13 +52,13 @@ pub record Output : Type 0 where
 abbrev pub no_output : Served → Output
 no_output s = record { text = []; served = s; closed = false }
 
--- the text behind another
-abbrev pub behind : List ℕ → Output → Output
-behind text said = record said { text = text ++ said.text }
+-- what is said, with this text before it
+abbrev pub text_before : List ℕ → Output → Output
+text_before text said = record said { text = text ++ said.text }
 
 -- nothing comes behind what closes
 abbrev pub and_then : Output → (Served → Output) → Output
-and_then first rest = if first.closed then first else behind first.text (rest first.served)
+and_then first rest = if first.closed then first else text_before first.text (rest first.served)
 
 abbrev pub served_by : State → Served
 served_by t = record { subs = t.subs; opened = t.opened; jobs = t.finished }
@@ -72,15 +72,15 @@ abbrev pub after_event : Event → Served → Output
 after_event event s = output_of (shard_after (at_rest s) event)
 
 -- the client is told of a refusal
-abbrev pub told : ErrText → Served → Output
-told text s = after_event (Reply 1 (reply.Err text)) s
+abbrev pub error_told : ErrText → Served → Output
+error_told text s = after_event (Reply 1 (reply.Err text)) s
 
 -- ---- a subscription is opened, or the client is told why not
 
 -- the two causes for which the shard of one open connection refuses a subscription; the others have no text
 abbrev pub opening_refused : ShardFault → Served → Output
-opening_refused TooManySubs s = told TooManySubscriptions s
-opening_refused Spent s = told NumbersSpent s
+opening_refused TooManySubs s = error_told TooManySubscriptions s
+opening_refused Spent s = error_told NumbersSpent s
 opening_refused fault s = no_output s
 
 abbrev pub opened_or_not : Key → List ℕ → Served → Option ShardFault → Output
@@ -117,8 +117,8 @@ worked_off job t = shard_after (claimed_first (length job.queues) (shard_after t
 -- numbers are asked for first, and then whether the job has places for all queue names (profile)
 abbrev pub placing : Pub → Served → Output
 placing p s =
-    if nat_le MAX_COUNTER s.jobs then told NumbersSpent s
-    else (if nat_lt MAX_QUEUE_NAMES (length (names_wanted p.message.subject s.subs)) then told TooManyQueueGroups s
+    if nat_le MAX_COUNTER s.jobs then error_told NumbersSpent s
+    else (if nat_lt MAX_QUEUE_NAMES (length (names_wanted p.message.subject s.subs)) then error_told TooManyQueueGroups s
     else output_of (worked_off (job_of p s) (at_rest s)))
 
 -- ---- all that a client's connection asks

@@ -1,9 +1,7 @@
 -- What comes of asking the exact cluster, part by part.
-use Rattle.std.proofs.Common.{◌≡◌, ℕ, suc, ◌+◌, List, [], ◌∷◌, ◌++◌, length, Option, Some, None, refl, ap, sym, ◌∙◌, subst, arith}
-use Rattle.std.specs.Prelude.{slice_get}
+use Rattle.std.proofs.Common.{◌≡◌, suc, ◌+◌, List, [], ◌∷◌, ◌++◌, length, Option, Some, None, refl, ap, subst, arith}
 use Rattle.cluster_world.specs.declared.faults.WorldFault.{WorldFault}
-use Rattle.cluster_world.specs.Events.{Event, Start, Stop, Receive, OnInfo, OnConnect, At, event_for}
-use Rattle.cluster_world.specs.Headline.{IsCluster}
+use Rattle.cluster_world.specs.Events.{Event, Start, Stop, Receive, OnInfo, OnConnect, At}
 use Rattle.cluster_world.specs.Outcomes.{Outcome}
 use Rattle.cluster_world.specs.Play.{next, outcome}
 use Rattle.cluster_world.specs.Refusals.{world_refusal}

@@ -1,8 +1,8 @@
 -- Events that are made in turn.
-use Rattle.std.proofs.Common.{◌≡◌, ℕ, suc, ◌+◌, List, [], ◌∷◌, ◌++◌, length, Option, Some, None, Result, Ok, Err, true, false, refl, ap, sym, ◌∙◌, subst, append-nil, append_assoc, arith}
+use Rattle.std.proofs.Common.{◌≡◌, ℕ, suc, ◌+◌, List, [], ◌∷◌, ◌++◌, Option, Result, Ok, Err, true, false, refl, ap, sym, ◌∙◌, subst, append-nil, arith}
 use Rattle.std.specs.Prelude.{codes, decimal, IsErr}
 use Rattle.cluster_world.specs.Events.{Event}
-use Rattle.cluster_world.specs.Outcomes.{Outcome, Refused, Done}
+use Rattle.cluster_world.specs.Outcomes.{Outcome}
 use Rattle.cluster_world.specs.State.{World}
 use Rattle.cluster_world.specs.Steps.{WorldStep}
 use Rattle.cluster_world.specs.Written.{outcome_text, outcome_lines}

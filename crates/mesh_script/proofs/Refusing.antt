@@ -1,5 +1,5 @@
 -- Where an outcome is a refusal, and where it is none.
-use Rattle.std.proofs.Common.{◌≡◌, true, false, true≢false, Option, Some, None, refl, sym, ◌∙◌}
+use Rattle.std.proofs.Common.{◌≡◌, true, false, true≢false, refl, sym}
 use Rattle.std.specs.Prelude.{is_some}
 use Rattle.cluster_world.specs.declared.outcomes.Outcome.{Outcome}
 use Rattle.cluster_world.specs.declared.outcomes.Outcome.TheVariants.{Refused, Done}

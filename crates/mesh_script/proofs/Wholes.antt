@@ -1,11 +1,11 @@
 -- Whole scripts.
-use Rattle.std.proofs.Common.{◌≡◌, ℕ, ◌+◌, Bool, true, ◌&&◌, List, [], ◌++◌, length, Option, Result, refl, ap, sym, ◌∙◌, subst, arith}
+use Rattle.std.proofs.Common.{◌≡◌, ℕ, ◌+◌, true, ◌&&◌, List, [], ◌++◌, length, Option, Result, refl, ap, sym, subst, arith}
 use Rattle.std.specs.Prelude.{IsErr, nat_le, nat_lt}
 use Rattle.list_laws.proofs.Tests.{and_true}
 use Rattle.subj.specs.Servers.{are_apart}
 use Rattle.subj.specs.declared.limits.TheConstants.{MAX_NODES, MAX_SHARDS}
 use Rattle.cluster_world.specs.Headline.{IsCluster}
-use Rattle.cluster_world.specs.State.{Cluster, World, new_world}
+use Rattle.cluster_world.specs.State.{Cluster, new_world}
 use Rattle.cluster_world.specs.Written.{outcome_lines, last_lines, run_lines}
 use Rattle.script_form.specs.Form.{Script, is_cluster}
 use Rattle.mesh_script.specs.declared.faults.PlayFault.{PlayFault}
@@ -13,7 +13,6 @@ use Rattle.mesh_script.specs.Asks.{NoMore, steps_ask}
 use Rattle.mesh_script.specs.Lines.{lines_text}
 use Rattle.mesh_script.specs.Played.{IsPlayed, Plays, Writes, cluster_of}
 use Rattle.mesh_script.specs.Playing.{PlayState, Moves, BreaksOff, Finishes, GoesOn, ArePlayedSafely, first_standing}
-use Rattle.mesh_script.specs.Told.{Told}
 use Rattle.mesh_script.proofs.Asking.{told_counts}
 use Rattle.mesh_script.proofs.Names.{apart_names}
 use Rattle.mesh_script.proofs.Putting.{starts_same, starts_longer, starts_of_puts, write_failed, writes_behind}

@@ -19,9 +19,9 @@ is_short (Err (Fault why)) = false
 is_short (Err OutOfMemory) = true
 
 -- what is told of an answer
-abbrev pub told : Result Did Refused → Result Outcome Refused
-told (Ok did) = Ok (did_of did)
-told (Err why) = Err why
+abbrev pub outcome_told : Result Did Refused → Result Outcome Refused
+outcome_told (Ok did) = Ok (did_of did)
+outcome_told (Err why) = Err why
 
 -- what follows an answer: after one that met want of memory this, and else that
 abbrev pub Follows : Bool → Type 0 → Type 0 → Type 0

@@ -1,32 +1,25 @@
 -- A server as one value with who it is, and how its calls go.
-use Rattle.std.specs.Prelude.{◌≡◌, ℕ, ◌≤◌, ◌<◌, ◌-◌, ◌%◌, ◌+◌, Bool, true, false, ◌||◌, nat_eq, nat_lt, List, length, map, replicate, slice_get, Option, Some, None, Result, Ok, Err, option_to_list, if◌then◌else◌}
-use Rattle.std.specs.Option.{option_map, option_or}
+use Rattle.std.specs.Prelude.{◌≡◌, ℕ, ◌≤◌, ◌+◌, Bool, false, List, map, Option, Some, None, Result, Ok, Err}
+use Rattle.std.specs.Option.{option_map}
 use Rattle.subj.specs.Servers.{Server, IsListed, place}
 use Rattle.subj.specs.declared.failures.Failure.{Failure}
 use Rattle.subj.specs.declared.failures.Failure.TheVariants.{Refused, OutOfMemory}
 use Rattle.subj.specs.declared.jobs.Job.{Job}
-use Rattle.subj.specs.declared.limits.TheConstants.{MAX_COUNTER, MAX_SHARDS, WINDOW}
-use Rattle.claim_race.specs.Race.{RaceState, IsIssued, IsInTurn, busy_of, next_of}
+use Rattle.subj.specs.declared.limits.TheConstants.{MAX_SHARDS}
+use Rattle.claim_race.specs.Race.{RaceState}
 use Rattle.hub_core.specs.Peers.{first_frames}
 use Rattle.hub_core.specs.Publishing.{Publication}
-use Rattle.hub_core.specs.Receiving.{routed_job}
 use Rattle.hub_core.specs.declared.faults.HubFault.{HubFault}
 use Rattle.route_values.specs.Frames.{Frame}
 use Rattle.route_values.specs.Records.{Info, Connect}
-use Rattle.route_values.specs.declared.bodies.Body.{Body}
-use Rattle.route_values.specs.declared.bodies.Body.TheVariants.{Plus, Minus, Snapshot, Msg}
-use Rattle.route_session.specs.State.{no_sessions, peer_of_session, session_at, number_kept}
+use Rattle.route_session.specs.State.{peer_of_session, session_at, number_kept}
 use Rattle.route_session.specs.Steps.{own_info, own_connect, serial_of, dropped}
 use Rattle.route_session.specs.declared.faults.SessionFault.{SessionFault}
 use Rattle.shard_core.specs.Answers.{IsTold}
 use Rattle.shard_core.specs.Lines.{first_of}
-use Rattle.shard_core.specs.Held.{copy_of}
-use Rattle.shard_core.specs.Owed.{candidate_of}
 use Rattle.shard_core.specs.declared.calls.Begun.{Begun}
-use Rattle.shard_core.specs.declared.calls.Placed.{Placed}
 use Rattle.shard_core.specs.ShardEvents as of_shard
 use Rattle.shard_core.specs.ShardSteps.{shard_answer}
-use Rattle.shard_core.specs.declared.faults.ShardFault.{ShardFault}
 use Rattle.node_law.specs.declared.faults.NodeFault.{NodeFault}
 use Rattle.node_law.specs.declared.faults.NodeFault.TheVariants.{Shard, Session, Hub}
 use Rattle.node_parts.specs.declared.lines.Claimed.{Claimed}
@@ -38,9 +31,9 @@ use Rattle.node_law.specs.Events.{NodeEvent, Own, OfConn, AtShard, Publish, Coll
 use Rattle.node_law.specs.declared.events.ConnEvent.{ConnEvent}
 use Rattle.node_law.specs.declared.events.ShardWork.{ShardWork}
 use Rattle.node_law.specs.declared.events.ShardWork.TheVariants.{Begin, Claim, DropJob}
-use Rattle.node_law.specs.Sound.{SoundNode, tried_of}
+use Rattle.node_law.specs.Sound.{SoundNode}
 use Rattle.node_law.specs.State.{Line, Node, new_node}
-use Rattle.node_law.specs.Steps.{conn_line, shard_line, conn_event, work_event, line_after, line_after_if, node_refusal, NodeStep, ClaimRace, queued}
+use Rattle.node_law.specs.Steps.{conn_line, shard_line, conn_event, work_event, node_refusal, NodeStep}
 pub use Rattle.node_parts.specs.Lines.{LineStep, LineBegins, LineEnds, dropped_job, LineDrops, is_won, IsClaimTold, LineClaims, MayClaim, WaitsNext, failure_of_shard, of_answer, of_decision}
 pub use Rattle.node_parts.specs.Jobs.{MayIssue, AreGiven, IsReceived, MayRoute, AreRouted}
 pub use Rattle.node_parts.specs.Places.{place_of_conn, place_of_shard}

@@ -1,13 +1,8 @@
 -- Calls on the hub and on the sessions, as events of both.
-use Rattle.std.proofs.Common.{◌≡◌, ℕ, List, [], ◌∷◌, ◌++◌, Option, Some, None, Result, Ok, Err, refl, sym, ap, ◌∙◌, subst, append_assoc}
-use Rattle.subj.specs.Answers.{IsAnswered, IsDecided}
-use Rattle.subj.specs.Servers.{Server}
-use Rattle.subj.specs.declared.failures.Failure.{Failure}
-use Rattle.subj.specs.declared.failures.Failure.TheVariants.{Refused, OutOfMemory}
+use Rattle.std.proofs.Common.{◌≡◌, ℕ, List, [], None, sym, ap, ◌∙◌}
 use Rattle.hub_core.specs.Events as of_hub
 use Rattle.hub_core.specs.Hubs as hubs
 use Rattle.hub_core.specs.Hubs.{Hub}
-use Rattle.hub_core.specs.Steps.{hub_refusal, hub_answer, hub_after}
 use Rattle.hub_core.specs.Telling.{collect_frames, slow_peers}
 use Rattle.interest.specs.declared.changes.Change.{Change}
 use Rattle.interest.specs.declared.changes.Delta.{Delta}
@@ -15,8 +10,7 @@ use Rattle.route_session.specs.Calls as calls
 use Rattle.route_session.specs.Events as of_sessions
 use Rattle.route_session.specs.State as sessions
 use Rattle.route_session.specs.Steps.{session_refusal, session_answer, session_after, all_dropped}
-use Rattle.route_session.specs.declared.faults.SessionFault.{SessionFault}
-use Rattle.node_parts.specs.Sides.{Side, Event, ByHub, BySessions, Answer, OfHub, OfSessions, IsAsked, IsAskedHub, IsAskedSessions, IsDone, sessions_with, hub_with, side_after}
+use Rattle.node_parts.specs.Sides.{Side, Event, ByHub, BySessions, Answer, OfHub, OfSessions, IsAsked, IsAskedSessions, IsDone, hub_with}
 
 -- the hub with the sessions
 abbrev pub side_of : Hub → calls.Served → Side

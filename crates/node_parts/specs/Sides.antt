@@ -2,7 +2,6 @@
 use Rattle.std.specs.Prelude.{◌≡◌, ℕ, nat_lt, List, [], ◌∷◌, ◌++◌, None, if◌then◌else◌}
 use Rattle.subj.specs.Servers.{Server, place}
 use Rattle.subj.specs.declared.jobs.Job.{Job}
-use Rattle.route_values.specs.Frames.{Frame}
 use Rattle.hub_core.specs.Events as of_hub
 use Rattle.hub_core.specs.State as hub
 use Rattle.hub_core.specs.State.{new_hub, peer_of, seen_of}

@@ -1,10 +1,9 @@
 -- What a hub at work does, event by event.
-use Rattle.std.proofs.Common.{◌≡◌, ℕ, suc, ◌+◌, ◌<◌, ◌≤◌, Bool, true, false, true≢false, List, [], ◌∷◌, ◌++◌, length, Option, Some, None, Result, Ok, Err, refl, sym, ap, ◌∙◌, subst, append_assoc, append-nil, length-append, arith}
+use Rattle.std.proofs.Common.{◌≡◌, ℕ, ◌+◌, List, [], ◌∷◌, ◌++◌, Option, Some, None, Result, Ok, Err, refl, sym, ap, ◌∙◌, subst, append-nil}
 use Rattle.subj.specs.Answers.{IsAnswered, IsDecided}
 use Rattle.subj.specs.Servers.{IsListed}
 use Rattle.subj.specs.declared.failures.Failure.{Failure}
 use Rattle.subj.specs.declared.failures.Failure.TheVariants.{Refused, OutOfMemory}
-use Rattle.subj.specs.declared.jobs.Job.{Job}
 use Rattle.interest.specs.declared.changes.Delta.{Delta}
 use Rattle.hub_core.specs.Events as of_hub
 use Rattle.hub_core.specs.Peers.{cut}
@@ -12,7 +11,7 @@ use Rattle.hub_core.specs.State as hub
 use Rattle.node_law.specs.Steps.{cut_if}
 use Rattle.route_session.specs.Events as of_sessions
 use Rattle.route_session.specs.State.{peer_of_session}
-use Rattle.node_parts.specs.Sides.{Side, new_side, Event, ByHub, BySessions, Answer, IsDone, Done, Leads, side_after, side_answer, job_in, jobs_of}
+use Rattle.node_parts.specs.Sides.{Side, new_side, Event, ByHub, BySessions, Answer, IsDone, Done, Leads, side_after, side_answer, job_in}
 use Rattle.node_threads.specs.AtHub.{AtHub, hub_at, HasDone, Does, IsAtHub}
 
 server_stays : (s : Side) (e : Event) → (side_after s e).server ≡ s.server

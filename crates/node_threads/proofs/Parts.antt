@@ -1,16 +1,14 @@
 -- A step of a server moves its hub and its sessions by their own step.
-use Rattle.std.proofs.Common.{◌≡◌, ℕ, Bool, Option, Some, None, refl, sym, ap, ◌∙◌}
+use Rattle.std.proofs.Common.{◌≡◌, Option, Some, None, refl, sym, ap}
 use Rattle.std.proofs.lemmas.Option.{none-some}
-use Rattle.subj.specs.Servers.{Server}
-use Rattle.claim_race.specs.Race.{RaceState}
 use Rattle.hub_core.specs.Telling.{collect_refusal}
 use Rattle.hub_core.specs.State as hub
 use Rattle.hub_core.proofs.Steps.Rooms.{map_none}
 use Rattle.node_law.specs.declared.faults.NodeFault.TheVariants.{NoShard, Hub, Session}
-use Rattle.node_law.specs.Events.{NodeEvent, Own, OfConn, AtShard, Publish, Collect, Dial, Accept, CutSession, TakeFrames, Receive, OnInfo, OnConnect}
-use Rattle.node_law.specs.State.{Node, Line}
-use Rattle.node_law.specs.Steps.{NodeStep, collect_refusal_at, shard_line, deltas_at}
-use Rattle.node_threads.specs.Parts.{side_at, part_of, HasDonePart, SidesAreParts}
+use Rattle.node_law.specs.Events.{Own, OfConn, AtShard, Publish, Collect, Dial, Accept, CutSession, TakeFrames, Receive, OnInfo, OnConnect}
+use Rattle.node_law.specs.State.{Line}
+use Rattle.node_law.specs.Steps.{collect_refusal_at, shard_line, deltas_at}
+use Rattle.node_threads.specs.Parts.{side_at, SidesAreParts}
 
 of_line : (h : hub.State) (o : Option Line) → collect_refusal_at h o ≡ None → collect_refusal h (deltas_at o) ≡ None
 of_line h None e = absurd (none-some NoShard (sym e))

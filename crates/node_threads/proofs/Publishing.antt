@@ -1,21 +1,19 @@
 -- The next turn is issued.
-use Rattle.std.proofs.Common.{◌≡◌, ℕ, zero, suc, ◌+◌, ◌-◌, ◌<◌, ◌≤◌, Bool, true, false, nat_eq, nat_le, nat_lt, ◌||◌, cond, List, [], ◌∷◌, ◌++◌, length, get_or, Option, Some, None, Result, Ok, Err, refl, sym, ap, ◌∙◌, subst, length-append, arith}
+use Rattle.std.proofs.Common.{◌≡◌, ℕ, zero, suc, ◌+◌, ◌-◌, ◌<◌, true, false, nat_eq, nat_le, nat_lt, ◌||◌, cond, List, [], ◌∷◌, ◌++◌, length, get_or, Some, None, Ok, refl, sym, ap, ◌∙◌, subst, length-append, arith}
 use Rattle.std.specs.Prelude.{slice_get, unwrap_or, if◌then◌else◌}
 use Rattle.std.proofs.lemmas.Bool.Decides.{nat_tests}
 use Rattle.std.proofs.lemmas.Option.{slice_get-get_or}
-use mathlib.Core.Option.{some}
-use lib.ListN.{get_elem?}
 use Rattle.list_laws.proofs.Lists.{each_append, each_one}
 use Rattle.list_laws.proofs.Tests.{no_cause, or_false, le_false}
 use Rattle.subj.specs.Numbers.{finished_turn}
 use Rattle.subj.specs.QueueNames.{are_queue_names}
 use Rattle.subj.specs.Servers.{IsListed}
 use Rattle.subj.specs.declared.jobs.Job.{Job}
-use Rattle.subj.specs.declared.limits.TheConstants.{MAX_COUNTER, MAX_QUEUE_NAMES, MAX_SHARDS, WINDOW}
+use Rattle.subj.specs.declared.limits.TheConstants.{MAX_COUNTER, MAX_QUEUE_NAMES}
 use Rattle.claim_cells.specs.declared.parts.HubPart.{HubPart}
 use Rattle.claim_cells.specs.Rule.{At, Has}
-use Rattle.claim_cells.specs.Steps.{with_loads, issued_one, loads_from}
-use Rattle.claim_cells.specs.Calls.{AreLoads, ShowsRoom, IsIssuedOrBusy, IsLooked}
+use Rattle.claim_cells.specs.Steps.{loads_from}
+use Rattle.claim_cells.specs.Calls.{AreLoads, ShowsRoom, IsIssuedOrBusy}
 use Rattle.hub_core.specs.Events as of_hub
 use Rattle.hub_core.specs.Chosen.{IsPlanOf}
 use Rattle.hub_core.specs.Calls.{put_out}
@@ -24,7 +22,7 @@ use Rattle.hub_core.specs.declared.faults.HubFault.TheVariants.{Spent, TooManyQu
 use Rattle.hub_core.proofs.Steps.Rooms.{or_none, has_room}
 use Rattle.route_values.specs.Frames.{Frame}
 use Rattle.node_parts.specs.Sides.{Side, Event, ByHub, Answer, OfHub, IsDone, job_in}
-use Rattle.node_threads.specs.AtHub.{AtHub, hub_at, HasDone, Issues, IsAtHub}
+use Rattle.node_threads.specs.AtHub.{AtHub, hub_at, Issues, IsAtHub}
 use Rattle.node_threads.proofs.HubCalls.{done_more, same_server}
 
 -- ---- loads

@@ -1,22 +1,20 @@
 -- A hub at work: what it keeps of its lanes and of the race.
-use Rattle.std.specs.Prelude.{◌≡◌, ◌⊎◌, ℕ, ◌+◌, ◌<◌, ◌≤◌, Bool, true, false, List, [], ◌∷◌, ◌++◌, length, Option, Some, None, Result, Ok, Err}
+use Rattle.std.specs.Prelude.{◌≡◌, ◌⊎◌, ℕ, ◌+◌, ◌≤◌, Bool, true, false, List, [], ◌∷◌, ◌++◌, length, Result, Ok, Err}
 use Rattle.list_laws.specs.Lists.{Each}
 use Rattle.subj.specs.Answers.{IsAnswered}
 use Rattle.subj.specs.QueueNames.{are_queue_names}
-use Rattle.subj.specs.Servers.{Server, IsListed, IsServer}
+use Rattle.subj.specs.Servers.{IsListed}
 use Rattle.subj.specs.declared.failures.Failure.{Failure}
-use Rattle.subj.specs.declared.failures.Failure.TheVariants.{Refused, OutOfMemory}
+use Rattle.subj.specs.declared.failures.Failure.TheVariants.{Refused}
 use Rattle.subj.specs.declared.jobs.Job.{Job}
 use Rattle.subj.specs.declared.limits.TheConstants.{MAX_SHARDS}
 use Rattle.route_values.specs.Frames.{Frame}
 use Rattle.claim_cells.specs.declared.parts.HubPart.{HubPart}
 use Rattle.claim_cells.specs.Calls.{AreLoads, IsLooked}
-use Rattle.claim_cells.specs.Rule.{fresh_hub}
 use Rattle.hub_core.specs.Events as of_hub
 use Rattle.hub_core.specs.Publishing.{Publication, publish_refusal, own_job, frames_of}
 use Rattle.hub_core.specs.declared.faults.HubFault.{HubFault}
 use Rattle.hub_core.specs.declared.faults.HubFault.TheVariants.{Busy}
-use Rattle.job_lane.specs.Turns.{AreNumbered}
 use Rattle.node_parts.specs.declared.told.Issued.{Issued}
 use Rattle.node_parts.specs.declared.told.Received.{Received}
 use Rattle.node_parts.specs.declared.told.Received.TheVariants.{Routed, Heard}

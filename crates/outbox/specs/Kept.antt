@@ -1,6 +1,5 @@
 -- How entries are kept: small ones as bytes one behind another, larger ones and last lines as they came.
-use Rattle.std.specs.Prelude.{◌≡◌, ℕ, ◌+◌, ◌≤◌, Bool, true, false, List, [], ◌∷◌, ◌++◌, length, take, drop, Option, Some, None}
-use Rattle.outbox.specs.Bytes.{bytes_of}
+use Rattle.std.specs.Prelude.{ℕ, ◌+◌, Bool, true, false, List, [], ◌∷◌, take, drop}
 use Rattle.outbox.specs.Views.{Written}
 use Rattle.outbox.specs.declared.kept.Kept.{Kept}
 use Rattle.outbox.specs.declared.kept.Kept.TheVariants.{Copied, Whole}

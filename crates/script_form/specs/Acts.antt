@@ -1,5 +1,5 @@
 -- What a step of a script says: who does what (profile). Names and numbers may be of what is not there: that is the event's refusal.
-use Rattle.std.specs.Prelude.{ℕ, true, List, Option, Some, None, is_some, unwrap_or, if◌then◌else◌}
+use Rattle.std.specs.Prelude.{ℕ, true, List, Option, Some, is_some, unwrap_or, if◌then◌else◌}
 use Rattle.serde_json.specs.Data.{Data}
 use Rattle.serde_json.specs.Find.{get}
 use Rattle.subj.specs.declared.keys.Key.{Key}

@@ -1,6 +1,5 @@
 -- The form of a script (profile): a JSON object with `nodes`, `shards` and `steps`.
-use Rattle.std.specs.Prelude.{◌≡◌, ℕ, ◌<◌, ◌≤◌, Bool, nat_lt, List, [], ◌∷◌, ◌++◌, length, map, sum, Option, Some, None, Result, Ok, Err, is_some, if◌then◌else◌}
-use Rattle.std.specs.Option.{ok_or}
+use Rattle.std.specs.Prelude.{◌≡◌, ℕ, ◌<◌, ◌≤◌, Bool, nat_lt, List, [], ◌∷◌, length, map, sum, Option, Some, None, Result, Ok, Err, if◌then◌else◌}
 use Rattle.serde_json.specs.Data.{Data, Items, no_items, item}
 use Rattle.serde_json.specs.Find.{as_array}
 use Rattle.serde_json.specs.View.{view}
@@ -14,7 +13,6 @@ use Rattle.script_form.specs.declared.faults.ScriptFault.{ScriptFault}
 use Rattle.script_form.specs.declared.faults.ScriptFault.TheVariants.{NotJson, BadShape, TooLong}
 use Rattle.script_form.specs.declared.faults.ScriptError.{ScriptError}
 use Rattle.script_form.specs.declared.steps.Step.{Step}
-use Rattle.script_form.specs.declared.member.Member.{Member}
 use Rattle.script_form.specs.declared.member.Member.TheVariants as key
 use Rattle.script_form.specs.Members.{◌>>=◌, member, whole, node}
 use Rattle.script_form.specs.Acts.{step_in, events_of}

@@ -100,11 +100,11 @@ ClosesByCause = (s : State) (e : Event) → AreHeld s → shard_refusal s e ≡ 
 -- ---- and why a connection goes or is shut: at its Detach and its Shut, and for want of room
 
 -- what waits for a connection, and behind it the messages that a Begin gives to it
-abbrev pub behind : List Written → Backlog → Backlog
-behind entries backlog = record backlog { entries = backlog.entries ++ entries }
+abbrev pub with_entries : List Written → Backlog → Backlog
+with_entries entries backlog = record backlog { entries = backlog.entries ++ entries }
 
 abbrev pub with_given : State → Job → List Subscription → ℕ → Option Client
-with_given s job given conn = option_map (with_outbox (behind (entries_for conn (map (placed_for s.shard job None) given)))) (client_at conn s.clients)
+with_given s job given conn = option_map (with_outbox (with_entries (entries_for conn (map (placed_for s.shard job None) given)))) (client_at conn s.clients)
 
 -- there is no room for the answer that is handed in; or, behind what a Begin gives to the connection, for one more message that
 -- it owes there

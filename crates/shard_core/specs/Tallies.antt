@@ -68,8 +68,8 @@ walk_matching s job [] w = w
 walk_matching s job (sub ∷ subs) w = walk_matching s job subs (put_if_due s job w sub)
 
 -- the subscriptions that a look at the references gives
-abbrev pub behind : List (Bor Subscription) → List Subscription
-behind subs = map (λ sub. sub.now) subs
+abbrev pub lent_subs : List (Bor Subscription) → List Subscription
+lent_subs subs = map (λ sub. sub.now) subs
 
 -- a shard of these parts placed the job
 pub record HasPlaced (copies : Bool) (s : State) (job : Job) (openings : Opened) (begun : Begun) (conns' : Clients) (openings' : Opened) : Type 0 where

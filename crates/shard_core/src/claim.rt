@@ -8,7 +8,7 @@ ghost use Rattle.shard_core.specs.Held.{ClaimsAreWhole, HasChosen, candidate_tol
 ghost use Rattle.subj.specs.QueueNames.{is_named as named};
 ghost use Rattle.shard_core.specs.Owed.{due_entry as entry_due};
 ghost use Rattle.shard_core.specs.Shards.{client_at, fits};
-ghost use Rattle.shard_core.specs.Tallies.{behind};
+ghost use Rattle.shard_core.specs.Tallies.{lent_subs};
 
 use crate::calls::{Candidate, Placed};
 use crate::connections::Conns;
@@ -64,7 +64,7 @@ fn candidates<'a>(
     matching: &[&'a Subscription],
 ) -> Result<Vec<&'a Subscription>, AllocError>
     requires { lines.now ≡ line_parts claim.now.job.now.message }
-    ensures { IfOk result (λ subs. behind subs.items ≡ filter (is_member claim.now.shard conns.now.next claim.now.job.now claim.now.name.now) (behind matching.now)) }
+    ensures { IfOk result (λ subs. lent_subs subs.items ≡ filter (is_member claim.now.shard conns.now.next claim.now.job.now claim.now.name.now) (lent_subs matching.now)) }
 {
     let mut subs = Vec::new(claim.alloc);
     for sub in matching {

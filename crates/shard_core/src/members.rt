@@ -4,7 +4,7 @@ ghost use Rattle.std.specs.Prelude.{◌≡◌, ◌++◌, List, filter, OnOk, IfS
 ghost use Rattle.sub_table.specs.Subscriptions.{gets};
 ghost use Rattle.sub_table.specs.declared.Subscription.{Subscription as Opened};
 ghost use Rattle.shard_core.specs.Members.{mark_of as mark, members_of, AreNoted};
-ghost use Rattle.shard_core.specs.Tallies.{behind};
+ghost use Rattle.shard_core.specs.Tallies.{lent_subs};
 
 use std::alloc::{AllocError, Global};
 use sub_table::Subscription;
@@ -35,7 +35,7 @@ pub struct Member {
 
 /// Puts the members among those that match behind what is there.
 fn push_members(matching: &[&Subscription], members: &mut Vec<Member>) -> Result<(), AllocError>
-    ensures { OnOk result (members.new.items ≡ members.old.items ++ members_of (behind matching.now)) }
+    ensures { OnOk result (members.new.items ≡ members.old.items ++ members_of (lent_subs matching.now)) }
 {
     for sub in matching {
         if let Some(name) = &sub.key.queue {
@@ -90,7 +90,7 @@ impl Members {
 
     /// Notes the members among those that match the subject. Want of memory leaves none noted.
     pub fn note(&mut self, subject: &Subject, matching: &[&Subscription]) -> Result<(), AllocError>
-        ensures { (subs : List Opened) → behind matching.now ≡ filter (gets subject.now) subs → AreNoted subs self.new }
+        ensures { (subs : List Opened) → lent_subs matching.now ≡ filter (gets subject.now) subs → AreNoted subs self.new }
     {
         self.noted = false;
         self.subject.clear();

@@ -4,7 +4,7 @@ ghost use Rattle.std.specs.Prelude.{◌≡◌, ◌+◌, ◌≤◌, [], ◌∷◌
 ghost use Rattle.std.specs.Option.{option_copied};
 ghost use Rattle.sub_table.specs.Subscriptions.{gets, with_max};
 ghost use Rattle.shard_core.specs.Members.{found_at as at_mark, found_of, is_in_group_of};
-ghost use Rattle.shard_core.specs.Tallies.{behind};
+ghost use Rattle.shard_core.specs.Tallies.{lent_subs};
 ghost use Rattle.shard_core.specs.Closings.{left_of};
 ghost use Rattle.shard_core.specs.Opened.{AreRising, AreApart, IsNext, CanCount, CanCountEach, none_opened, with_opening, with_counts, with_closings, all_told};
 
@@ -173,7 +173,7 @@ impl<T: SubTable> Openings<T> {
         subject: &Subject,
         name: &QueueName,
     ) -> Result<Vec<&Subscription>, AllocError>
-        ensures all { IfOk result (λ subs. filter (is_in_group_of name.now) (behind subs.items) ≡ filter (is_in_group_of name.now) (filter (gets subject.now) self.now.subs)) }
+        ensures all { IfOk result (λ subs. filter (is_in_group_of name.now) (lent_subs subs.items) ≡ filter (is_in_group_of name.now) (filter (gets subject.now) self.now.subs)) }
         ensures rising { AreRising self.now.subs }
     {
         match self.members.of(subject) {
@@ -187,7 +187,7 @@ impl<T: SubTable> Openings<T> {
 
     /// The open ones among the members of this mark, in order.
     fn found(&self, members: &[Member], mark: u64) -> Result<Vec<&Subscription>, AllocError>
-        ensures { IfOk result (λ subs. behind subs.items ≡ found_of self.now.subs mark members.now) }
+        ensures { IfOk result (λ subs. lent_subs subs.items ≡ found_of self.now.subs mark members.now) }
     {
         let mut subs = Vec::new(self.alloc);
         for member in members {

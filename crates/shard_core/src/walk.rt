@@ -9,7 +9,7 @@ ghost use Rattle.shard_core.specs.Opened.{AreRising, AreApart};
 ghost use Rattle.shard_core.specs.Owed.{is_due, is_permitted, due_entry as entry_due, put_one, walk, reaches, slow_consumer};
 ghost use Rattle.shard_core.specs.Shards.{State, is_open as opened, changed, client_at, fits};
 ghost use Rattle.shard_core.specs.Puts.{put_line};
-ghost use Rattle.shard_core.specs.Tallies.{behind, is_placed, Follows, HasPlaced, IsStaged, none_tallied, with_given, with_shut, with_lines, put_if_due as put_matching};
+ghost use Rattle.shard_core.specs.Tallies.{lent_subs, is_placed, Follows, HasPlaced, IsStaged, none_tallied, with_given, with_shut, with_lines, put_if_due as put_matching};
 
 use crate::calls::{Begun, Placed};
 use crate::connections::Conns;
@@ -38,7 +38,7 @@ fn is_due(job: &Job, sub: &Subscription) -> bool
 
 /// Whether Begin places the job for any of those that match.
 fn any_due(job: &Job, matching: &[&Subscription]) -> bool
-    ensures { result ≡ false → filter (is_placed job.now) (behind matching.now) ≡ [] }
+    ensures { result ≡ false → filter (is_placed job.now) (lent_subs matching.now) ≡ [] }
 {
     for sub in matching {
         if is_due(job, sub) {

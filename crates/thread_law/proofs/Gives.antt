@@ -1,10 +1,10 @@
 -- What a shard puts for the jobs that it works: for a subscription those of later jobs come later, and for a queue name of a job one at most.
-use Rattle.std.proofs.Common.{◌≡◌, ◌≢◌, ◌⊎◌, ℕ, zero, suc, ◌+◌, ◌<◌, ◌≤◌, Bool, true, false, true≢false, ◌&&◌, cond, nat_eq, nat_lt, List, [], ◌∷◌, ◌++◌, map, filter, length, Option, Some, None, Ok, is_some, not, refl, sym, ap, ◌∙◌, subst, inl, inr, ⊎_elim, arith}
+use Rattle.std.proofs.Common.{◌≡◌, ◌≢◌, ◌⊎◌, ℕ, ◌+◌, ◌<◌, ◌≤◌, Bool, true, false, true≢false, ◌&&◌, cond, nat_eq, nat_lt, List, [], ◌∷◌, ◌++◌, map, filter, length, Option, Some, None, Ok, is_some, not, refl, sym, ap, ◌∙◌, subst, inl, ⊎_elim, arith}
 use Rattle.std.specs.Prelude.{slice_get, is_none, option_to_list, if◌then◌else◌}
 use Rattle.std.specs.Option.{option_or}
 use Rattle.std.proofs.lemmas.Option.{none-some, same_Some}
-use Rattle.list_laws.specs.Lists.{In, Each, Pairs, NoRepeat, SubList}
-use Rattle.list_laws.proofs.Lists.{each_append, each_one, pairs_append, pairs_map, pairs_weaker, in_append, in_left, in_right, in_map}
+use Rattle.list_laws.specs.Lists.{In, Each, Pairs, NoRepeat}
+use Rattle.list_laws.proofs.Lists.{each_append, each_one, pairs_append, pairs_map, pairs_weaker, in_left, in_right, in_map}
 use Rattle.list_laws.proofs.Changes.{append_nil, in_filter, in_sub, map_append, map_map, pairs_filter, pairs_map_back, pairs_sub}
 use Rattle.list_laws.proofs.Tests.{and_true, eq_true, eq_false, no_cause, no_end}
 use Rattle.subj.specs.declared.jobs.Job.{Job}

@@ -1,11 +1,9 @@
 -- A legal run does each thing once.
-use Rattle.std.proofs.Common.{◌≡◌, ◌≢◌, ◌⊎◌, ℕ, zero, suc, ◌+◌, ◌<◌, ◌≤◌, true, List, [], ◌∷◌, ◌++◌, map, Option, Some, None, refl, sym, ap, ◌∙◌, subst, inl, inr, ⊎_elim, arith}
+use Rattle.std.proofs.Common.{◌≡◌, ◌⊎◌, ℕ, zero, suc, ◌+◌, ◌<◌, true, List, map, Option, Some, None, refl, sym, ap, ◌∙◌, subst, inl, inr, ⊎_elim, arith}
 use Rattle.std.specs.Prelude.{slice_get, option_to_list}
-use native.Mathlib.Decide.{dec_le}
 use Rattle.list_laws.specs.Lists.{In, Each, Pairs, NoRepeat}
 use Rattle.list_laws.proofs.Lists.{in_left, pairs_cases, pairs_weaker}
-use Rattle.claim_cells.specs.Rule.{At, Has}
-use Rattle.subj.specs.QueueNames.{are_queue_names}
+use Rattle.claim_cells.specs.Rule.{At}
 use Rattle.subj.specs.declared.identities.PubId.{PubId}
 use Rattle.subj.specs.declared.identities.SubId.{SubId}
 use Rattle.subj.specs.declared.jobs.Job.{Job}
@@ -23,7 +21,7 @@ use Rattle.thread_law.proofs.Gives.{Gave, Given, Later, Other, gave_by, given_ru
 use Rattle.thread_law.proofs.Names.{names_apart}
 use Rattle.thread_law.proofs.Places.{at_in, at_map, at_same, at_unmap, in_at, pairs_at}
 use Rattle.thread_law.proofs.Publications.{Follows, past_run}
-use Rattle.thread_law.proofs.Sources.{Apart, From, from_one, one_source}
+use Rattle.thread_law.proofs.Sources.{Apart, from_one, one_source}
 
 three_ways : (i j : ℕ) → (i < j) ⊎ ((i ≡ j) ⊎ (j < i))
 three_ways zero zero = inr (inl refl)

@@ -1,5 +1,5 @@
 -- Places of a list.
-use Rattle.std.proofs.Common.{◌≡◌, ℕ, zero, suc, ◌+◌, ◌<◌, List, [], ◌∷◌, ◌++◌, map, refl, sym, ap, ◌∙◌, subst, arith, inl, inr, ⊎_elim}
+use Rattle.std.proofs.Common.{◌≡◌, ℕ, zero, suc, ◌<◌, List, [], ◌∷◌, map, refl, sym, ap, ◌∙◌, subst, arith, inl, inr, ⊎_elim}
 use mathlib.Core.Option.{some, some-ne-none, some-injective}
 use Rattle.list_laws.specs.Lists.{In, Pairs}
 use Rattle.claim_cells.specs.Rule.{At, Has}

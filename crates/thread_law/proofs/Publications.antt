@@ -1,17 +1,17 @@
 -- The publications of one incarnation are given to the shards in rising number.
-use Rattle.std.proofs.Common.{◌≡◌, ◌≢◌, ◌⊎◌, ℕ, zero, suc, ◌+◌, ◌<◌, ◌≤◌, Bool, true, false, cond, nat_lt, nat_le, List, [], ◌∷◌, ◌++◌, map, drop, Option, Some, None, refl, sym, ap, ◌∙◌, subst, inl, inr, ⊎_elim, arith}
+use Rattle.std.proofs.Common.{◌≡◌, ◌≢◌, ◌⊎◌, ℕ, zero, suc, ◌+◌, ◌<◌, ◌≤◌, Bool, true, false, cond, nat_lt, nat_le, List, [], ◌∷◌, ◌++◌, map, drop, Option, Some, None, refl, sym, ap, ◌∙◌, subst, ⊎_elim, arith}
 use Rattle.std.specs.Prelude.{slice_get, if◌then◌else◌}
 use Rattle.std.specs.Option.{option_or}
 use Rattle.std.proofs.lemmas.Option.{none-some, same_Some}
 use Rattle.list_laws.specs.Lists.{In, Each, Pairs}
-use Rattle.list_laws.proofs.Lists.{each_append, each_one, pairs_append, read_set, read_map, in_append}
+use Rattle.list_laws.proofs.Lists.{each_append, each_one, pairs_append, read_set, read_map}
 use Rattle.list_laws.proofs.Changes.{append_nil, get_set_here}
 use Rattle.list_laws.proofs.Tests.{no_cause, le_false, lt_true, lt_false}
 use Rattle.subj.specs.Messages.{Content}
 use Rattle.subj.specs.Servers.{Server, IsListed, own_name, place}
 use Rattle.subj.specs.declared.jobs.Job.{Job}
 use Rattle.subj.specs.declared.limits.TheConstants.{MAX_COUNTER}
-use Rattle.interest.specs.Heard.{Heard, nothing_heard}
+use Rattle.interest.specs.Heard.{nothing_heard}
 use Rattle.route_values.specs.Frames.{Frame}
 use Rattle.route_values.specs.declared.bodies.Body.{Body}
 use Rattle.route_values.specs.declared.bodies.Body.TheVariants.{Plus, Minus, Snapshot, Msg}
@@ -30,7 +30,7 @@ use Rattle.node_law.specs.Steps.{cut_if}
 use Rattle.route_session.specs.Events as of_sessions
 use Rattle.route_session.specs.State as sessions
 use Rattle.route_session.specs.State.{peer_of_session}
-use Rattle.node_parts.specs.Sides.{Side, new_side, Event, ByHub, BySessions, OfHub, IsAsked, IsFree, IsDone, Done, Leads, side_after, side_answer, sessions_with, job_in, jobs_of}
+use Rattle.node_parts.specs.Sides.{Side, new_side, Event, ByHub, BySessions, OfHub, IsAsked, IsFree, Done, Leads, side_after, side_answer, sessions_with, job_in, jobs_of}
 use Rattle.thread_law.specs.Once.{Precedes}
 
 -- ---- a peer goes on: a later incarnation is seen, or of the same one no lower mark

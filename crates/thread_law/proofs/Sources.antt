@@ -1,8 +1,8 @@
 -- Each job that was given is of one publish or of one frame of a peer.
-use Rattle.std.proofs.Common.{◌≡◌, ◌≢◌, ℕ, zero, suc, ◌<◌, List, [], ◌∷◌, ◌++◌, Some, refl, sym, ap, ◌∙◌, subst, inl, inr, ⊎_elim, arith}
+use Rattle.std.proofs.Common.{◌≡◌, ℕ, zero, suc, List, [], ◌∷◌, ◌++◌, refl, sym, ap, ◌∙◌, subst, inl, ⊎_elim}
 use mathlib.Core.Option.{some-ne-none, some-injective}
 use Rattle.list_laws.specs.Lists.{In, Pairs}
-use Rattle.list_laws.proofs.Lists.{in_append, in_left, in_right, pairs_weaker}
+use Rattle.list_laws.proofs.Lists.{in_append, in_left, in_right}
 use Rattle.claim_cells.specs.Rule.{At}
 use Rattle.subj.specs.Servers.{Server}
 use Rattle.subj.specs.declared.jobs.Job.{Job}
@@ -11,9 +11,8 @@ use Rattle.route_values.specs.declared.bodies.Body.{Body}
 use Rattle.route_values.specs.declared.bodies.Body.TheVariants.{Plus, Minus, Snapshot, Msg}
 use Rattle.hub_core.specs.Events as of_hub
 use Rattle.hub_core.specs.Steps.{received_answer}
-use Rattle.node_parts.specs.Sides.{Side, new_side, Event, ByHub, BySessions, OfHub, IsDone, Done, Leads, side_after, side_answer, job_in, jobs_of}
-use Rattle.thread_law.specs.Once.{Brings, Precedes}
-use Rattle.thread_law.proofs.Places.{at_in}
+use Rattle.node_parts.specs.Sides.{Side, new_side, Event, ByHub, BySessions, OfHub, Done, Leads, side_after, side_answer, job_in, jobs_of}
+use Rattle.thread_law.specs.Once.{Brings}
 
 -- ---- where it came from
 

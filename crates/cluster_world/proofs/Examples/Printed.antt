@@ -1,5 +1,5 @@
 -- What is written of the scripts, and that they are runs.
-use Rattle.std.proofs.Common.{◌≡◌, ◌≢◌, ℕ, Bool, true, true≢false, ◌&&◌, nat_lt, List, [], ◌∷◌, codes, refl, sym, arith}
+use Rattle.std.proofs.Common.{◌≢◌, ℕ, true, true≢false, List, [], ◌∷◌, codes, refl, sym, arith}
 use Rattle.std.proofs.lemmas.List.Elements.{All-nil, All-cons}
 use Rattle.std.proofs.lemmas.List.Kept.{AllPairs-cons}
 use Rattle.std.proofs.lemmas.Slice.Eq.{bytes_eq-Decides}
@@ -7,13 +7,10 @@ use Rattle.std.specs.Fmt.{digits}
 use Rattle.interest.specs.Counts.{counts_after, delta_fault, change_of}
 use Rattle.claim_race.specs.Race.{winner, busy_of}
 use Rattle.route_values.specs.Snapshots.{key_line}
-use Rattle.list_laws.specs.Lists.{Each}
-use Rattle.list_laws.proofs.Lists.{each_cons}
-use Rattle.list_laws.proofs.Tests.{lt_true, and_true}
 use Rattle.subj.specs.Servers.{AreApart}
 use Rattle.cluster_world.specs.Headline.{IsCluster}
 use Rattle.cluster_world.specs.State.{Cluster, new_world}
-use Rattle.cluster_world.specs.Events.{Event, Start, Stop, Receive, OnInfo, OnConnect, At}
+use Rattle.cluster_world.specs.Events.{Event, Start, Stop}
 use Rattle.cluster_world.specs.Steps.{Answers}
 use Rattle.cluster_world.specs.Play.{answered, played}
 use Rattle.cluster_world.specs.Scripts.{pair, alone, a_restart, two_shards, a_full_window, a_lower_incarnation}

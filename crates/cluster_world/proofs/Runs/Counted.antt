@@ -7,7 +7,7 @@ use Rattle.std.proofs.lemmas.Option.{none-some, same_Some, slice_get_within}
 use Rattle.std.proofs.lemmas.Slice.Eq.{bytes_eq-Decides}
 use Rattle.list_laws.specs.Lists.{In, Each}
 use Rattle.list_laws.proofs.Lists.{in_append, in_left, in_right, read_set, read_replicate}
-use Rattle.list_laws.proofs.Tests.{eq_true, true_eq, and_true, same_bytes, no_cause}
+use Rattle.list_laws.proofs.Tests.{eq_true, true_eq, and_true, same_bytes}
 use Rattle.list_laws.proofs.Changes.{append_nil, map_append, filter_append}
 use Rattle.claim_race.specs.Race.{RaceState}
 use Rattle.hub_core.proofs.Choices.Places.{named}
@@ -18,12 +18,11 @@ use Rattle.node_law.specs.Events.{NodeEvent}
 use Rattle.node_law.specs.State.{Node}
 use Rattle.node_law.specs.Steps.{node_after, cut_if}
 use Rattle.cluster_world.specs.declared.faults.WorldFault.{WorldFault}
-use Rattle.cluster_world.specs.declared.faults.WorldFault.TheVariants as fault
 use Rattle.cluster_world.specs.Changes.{publication, publications_of}
 use Rattle.cluster_world.specs.Events.{Event, Start, Stop, Receive, OnInfo, OnConnect, At, event_for}
 use Rattle.cluster_world.specs.Headline.{IsCluster}
 use Rattle.cluster_world.specs.Outcomes.{Outcome}
-use Rattle.cluster_world.specs.Refusals.{world_refusal, start_refusal, is_used}
+use Rattle.cluster_world.specs.Refusals.{world_refusal, start_refusal}
 use Rattle.cluster_world.specs.Sources.{is_by, numbers_by, AreCounted, PublicationsAreCounted}
 use Rattle.cluster_world.specs.State.{Cluster, Publication, Running, World, new_world, server_at}
 use Rattle.cluster_world.specs.Steps.{Acts, Starts, Happens, Decided, WorldStep, Run}

@@ -22,7 +22,7 @@ use Rattle.hub_core.specs.AsLaw.{change_of}
 use Rattle.interest.specs.declared.changes.Change.{Change}
 use Rattle.shard_core.specs.AsLaw as of_shard
 use Rattle.shard_core.specs.ShardSteps.{called}
-use Rattle.node_law.specs.AsLaw.{Shown, IsOpenAt, NodeFollows, StaysSound, IsStarted, MessagesAreGiven, part_of, node_of, jobs_by, changes_by}
+use Rattle.node_law.specs.AsLaw.{Shown, IsOpenAt, NodeFollows, StaysSound, IsStarted, MessagesAreGiven, node_of, jobs_by, changes_by}
 use Rattle.node_law.specs.AsLaw as node
 use Rattle.node_law.specs.declared.events.ConnEvent.{ConnEvent}
 use Rattle.node_law.specs.declared.events.ConnEvent.TheVariants.{Subscribe, Unsubscribe, Reply, Shut, Detach, Take}

@@ -1,5 +1,5 @@
 -- Who publishes without echo gets the message on none of its own subscriptions.
-use Rattle.std.proofs.Common.{◌≡◌, ◌≢◌, ℕ, zero, suc, Bool, true, false, true≢false, cond, nat_eq, not, ◌&&◌, ◌||◌, ◌-◌, List, [], ◌∷◌, ◌++◌, map, Option, Some, None, refl, sym, ap, ◌∙◌, subst, inl, inr, ⊎_elim, arith}
+use Rattle.std.proofs.Common.{◌≡◌, ◌≢◌, ℕ, suc, Bool, true, false, true≢false, cond, nat_eq, not, ◌&&◌, ◌||◌, ◌-◌, List, [], ◌∷◌, ◌++◌, map, Option, Some, None, refl, sym, ap, ◌∙◌, subst, inl, inr, ⊎_elim, arith}
 use Rattle.std.specs.Prelude.{slice_get, filter}
 use Rattle.std.proofs.lemmas.Option.{none-some, same_Some, slice_get_within}
 use Rattle.list_laws.specs.Lists.{In, Each}
@@ -18,7 +18,6 @@ use Rattle.shard_core.specs.Puts.{put_by, put_by_walk, put_by_claim, put_line}
 use Rattle.shard_core.specs.ShardSteps.{answer_fits}
 use Rattle.shard_core.specs.Shards.{State, client_at, fits}
 use Rattle.shard_core.proofs.Steps.LawEvents.{walk_gives}
-use Rattle.client_frames.specs.ErrTexts.{err_line}
 use Rattle.client_frames.specs.Frames.{reply_line}
 use Rattle.node_law.specs.declared.events.ConnEvent.{ConnEvent}
 use Rattle.node_law.specs.declared.events.ConnEvent.TheVariants.{Subscribe, Unsubscribe, Reply, Shut, Detach, Take}
@@ -28,13 +27,13 @@ use Rattle.node_law.specs.Events as of_node
 use Rattle.node_law.specs.Events.{NodeEvent, Own, OfConn, AtShard}
 use Rattle.node_law.specs.OneServer.{jobs_of}
 use Rattle.node_law.specs.State.{Line, Node}
-use Rattle.node_law.specs.Steps.{conn_line, shard_line, conn_place, conn_event, begin_of, drop_of, work_event}
+use Rattle.node_law.specs.Steps.{conn_line, shard_line, conn_event, begin_of, drop_of, work_event}
 use Rattle.node_law.proofs.Moves.LineEvents.{found}
 use Rattle.node_law.proofs.Claims.OneJob.{Known, run_known}
 use Rattle.node_law.proofs.Runs.Sound.{run_sound}
 use Rattle.cluster_world.specs.declared.faults.WorldFault.{WorldFault}
 use Rattle.cluster_world.specs.Changes.{placement_of, publications_of}
-use Rattle.cluster_world.specs.Echo.{EchoIsKept, EchoesAreKept}
+use Rattle.cluster_world.specs.Echo.{EchoesAreKept}
 use Rattle.cluster_world.specs.Events.{Event, Start, Stop, Receive, OnInfo, OnConnect, At, event_for}
 use Rattle.cluster_world.specs.Headline.{IsCluster, Names}
 use Rattle.cluster_world.specs.Outcomes.{Outcome}

@@ -16,7 +16,7 @@ use Rattle.interest.specs.declared.changes.Delta.{Delta}
 use Rattle.interest.specs.declared.faults.InterestFault.{InterestFault}
 use Rattle.interest.specs.Counts.{Counts, counts_after, delta_fault}
 use Rattle.interest.specs.Told.{counts_told, changes_told, are_refused, AreTaken}
-use Rattle.interest.specs.Views.{View, told, followed, view_after}
+use Rattle.interest.specs.Views.{View, told_view, followed, view_after}
 use Rattle.interest.proofs.Counting.Agreement.{run, run_within}
 use Rattle.route_values.specs.Frames.{Frame}
 use Rattle.hub_core.specs.declared.faults.HubFault.TheVariants.{BadInterest, Spent}
@@ -108,5 +108,5 @@ announces_in_law c server hub deltas is size within cause = record {
   taken : AreTaken hub.counts deltas
   taken = are_taken deltas hub.counts (no_cause (are_refused hub.counts deltas) BadInterest (if nat_lt MAX_COUNTER (hub.changed + count_of_changes hub deltas) then Some Spent else None) cause).0
 
-  interest_is : view_of (told (counts_told hub.counts deltas)) ≡ law_after follow (map change_of (changes_told hub.counts deltas)) (length (map change_of (changes_told hub.counts deltas))) (view_of (told hub.counts))
-  interest_is = ap view_of (run deltas hub.counts within taken) ∙ sym (after_all (changes_told hub.counts deltas) (told hub.counts))
+  interest_is : view_of (told_view (counts_told hub.counts deltas)) ≡ law_after follow (map change_of (changes_told hub.counts deltas)) (length (map change_of (changes_told hub.counts deltas))) (view_of (told_view hub.counts))
+  interest_is = ap view_of (run deltas hub.counts within taken) ∙ sym (after_all (changes_told hub.counts deltas) (told_view hub.counts))

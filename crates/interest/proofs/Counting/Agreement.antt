@@ -18,7 +18,7 @@ use Rattle.interest.specs.declared.changes.Delta.{Delta}
 use Rattle.interest.specs.Counts.{Counts, count_of, count_after, with_count, counts_after, change_between, change_of, delta_fault, is_full, is_plain, too_many_if, told_weight, IsInterest}
 use Rattle.interest.specs.Places.{IsPlaceOf, IsGapFor}
 use Rattle.interest.specs.Told.{counts_told, changes_told, AreTaken}
-use Rattle.interest.specs.Views.{View, told, followed_if, view_after}
+use Rattle.interest.specs.Views.{View, told_view, followed_if, view_after}
 use Rattle.interest.specs.Laws.{StaysWithin, StepsAgree, RunsAgree}
 use Rattle.interest.proofs.Counting.Deltas.{opening_of_known, opening_of_unknown, closing_of_unknown}
 use Rattle.interest.proofs.Counting.Entries.{nothing, added, changed, removed, counted_at, count_at, no_count}
@@ -27,20 +27,20 @@ use Rattle.interest.proofs.Counting.Ties.{tied_plain, tied_weight, placed, absen
 
 -- ---- what counts are told as, where one key changes
 
-told_removed : (counts : Counts) (key : Key) → told (remove_entry (is_at (key_cmp key)) counts) ≡ remove_entry (is_at (key_cmp key)) (told counts)
+told_removed : (counts : Counts) (key : Key) → told_view (remove_entry (is_at (key_cmp key)) counts) ≡ remove_entry (is_at (key_cmp key)) (told_view counts)
 told_removed [] key = refl
-told_removed (e ∷ es) key = elim (is_at (key_cmp key) e.0) as (λ b. told (cond b es (e ∷ remove_entry (is_at (key_cmp key)) es)) ≡ cond b (told es) ((e.0, told_weight e.0 e.1) ∷ remove_entry (is_at (key_cmp key)) (told es))) [
+told_removed (e ∷ es) key = elim (is_at (key_cmp key) e.0) as (λ b. told_view (cond b es (e ∷ remove_entry (is_at (key_cmp key)) es)) ≡ cond b (told_view es) ((e.0, told_weight e.0 e.1) ∷ remove_entry (is_at (key_cmp key)) (told_view es))) [
   | true ↦ refl
   | false ↦ ap (λ t. (e.0, told_weight e.0 e.1) ∷ t) (told_removed es key)
 ]
 
-told_inserted : (counts : Counts) (key : Key) (n : ℕ) → told (insert_entry key_cmp counts key n) ≡ insert_entry key_cmp (told counts) key (told_weight key n)
+told_inserted : (counts : Counts) (key : Key) (n : ℕ) → told_view (insert_entry key_cmp counts key n) ≡ insert_entry key_cmp (told_view counts) key (told_weight key n)
 told_inserted [] key n = refl
 told_inserted (e ∷ es) key n = elim (key_cmp key e.0) as (λ r. key_cmp key e.0 ≡ r
-    → told (match_ordering r ((key, n) ∷ e ∷ es) ((e.0, n) ∷ es) (e ∷ insert_entry key_cmp es key n))
-    ≡ match_ordering r ((key, told_weight key n) ∷ (e.0, told_weight e.0 e.1) ∷ told es) ((e.0, told_weight key n) ∷ told es) ((e.0, told_weight e.0 e.1) ∷ insert_entry key_cmp (told es) key (told_weight key n))) [
+    → told_view (match_ordering r ((key, n) ∷ e ∷ es) ((e.0, n) ∷ es) (e ∷ insert_entry key_cmp es key n))
+    ≡ match_ordering r ((key, told_weight key n) ∷ (e.0, told_weight e.0 e.1) ∷ told_view es) ((e.0, told_weight key n) ∷ told_view es) ((e.0, told_weight e.0 e.1) ∷ insert_entry key_cmp (told_view es) key (told_weight key n))) [
       | Less ↦ λ is. refl
-      | Equal ↦ λ is. ap (λ w. (e.0, w) ∷ told es) (sym (tied_weight key e.0 n is))
+      | Equal ↦ λ is. ap (λ w. (e.0, w) ∷ told_view es) (sym (tied_weight key e.0 n is))
       | Greater ↦ λ is. ap (λ t. (e.0, told_weight e.0 e.1) ∷ t) (told_inserted es key n)
     ] refl
 
@@ -52,22 +52,22 @@ none_counts : (o : Option ℕ) → o ≡ None → 1 ≤ unwrap_or o 0 → ⊥
 none_counts None is some = absurd (omega arith)
 none_counts (Some n) is some = none-some n (sym is)
 
-told_recounted : (counts : Counts) (key : Key) (n : ℕ) → IsStrictlySortedBy key_cmp (keys_of counts) → is_plain key ≡ true → 1 ≤ count_of counts key → told (insert_entry key_cmp counts key n) ≡ told counts
+told_recounted : (counts : Counts) (key : Key) (n : ℕ) → IsStrictlySortedBy key_cmp (keys_of counts) → is_plain key ≡ true → 1 ≤ count_of counts key → told_view (insert_entry key_cmp counts key n) ≡ told_view counts
 told_recounted [] key n sorted plain some = absurd (omega arith)
 told_recounted (e ∷ es) key n sorted plain some = elim (key_cmp key e.0) as (λ r. key_cmp key e.0 ≡ r
-    → told (match_ordering r ((key, n) ∷ e ∷ es) ((e.0, n) ∷ es) (e ∷ insert_entry key_cmp es key n)) ≡ told (e ∷ es)) [
+    → told_view (match_ordering r ((key, n) ∷ e ∷ es) ((e.0, n) ∷ es) (e ∷ insert_entry key_cmp es key n)) ≡ told_view (e ∷ es)) [
       | Less ↦ λ is. absurd (none_counts (lookup (is_at (key_cmp key)) (e ∷ es)) (absent_below key_order_total key e es sorted is) some)
-      | Equal ↦ λ is. ap (λ w. (e.0, w) ∷ told es) (plain_alike key e.0 n e.1 is plain)
+      | Equal ↦ λ is. ap (λ w. (e.0, w) ∷ told_view es) (plain_alike key e.0 n e.1 is plain)
       | Greater ↦ λ is. ap (λ t. (e.0, told_weight e.0 e.1) ∷ t) (told_recounted es key n (sorted_tail key_cmp e.0 (keys_of es) sorted) plain
           (subst (λ r. 1 ≤ unwrap_or (cond (is_eq r) (Some e.1) (lookup (is_at (key_cmp key)) es)) 0) is some))
     ] refl
 
 -- ---- one delta
 
-told_with : (counts : Counts) (key : Key) (n m : ℕ) → IsStrictlySortedBy key_cmp (keys_of counts) → count_of counts key ≡ n → told (with_count counts key m) ≡ followed_if (change_between key n m) (told counts)
+told_with : (counts : Counts) (key : Key) (n m : ℕ) → IsStrictlySortedBy key_cmp (keys_of counts) → count_of counts key ≡ n → told_view (with_count counts key m) ≡ followed_if (change_between key n m) (told_view counts)
 told_with counts key n m sorted is =
-    elim (nat_eq m 0) as (λ b. told (cond b (remove_entry (is_at (key_cmp key)) counts) (insert_entry key_cmp counts key m))
-    ≡ followed_if (cond b (Some (Gone key)) (cond (is_plain key && nat_lt 0 n) None (Some (Up (key, told_weight key m))))) (told counts)) [
+    elim (nat_eq m 0) as (λ b. told_view (cond b (remove_entry (is_at (key_cmp key)) counts) (insert_entry key_cmp counts key m))
+    ≡ followed_if (cond b (Some (Gone key)) (cond (is_plain key && nat_lt 0 n) None (Some (Up (key, told_weight key m))))) (told_view counts)) [
       | true ↦ told_removed counts key
       | false ↦ kept (is_plain key && nat_lt 0 n) refl
     ]
@@ -76,7 +76,7 @@ told_with counts key n m sorted is =
     both true k h = (refl, grind (arith, nat_tests, h))
     both false k h = cc
 
-    kept : (b : Bool) → (is_plain key && nat_lt 0 n) ≡ b → told (insert_entry key_cmp counts key m) ≡ followed_if (cond b None (Some (Up (key, told_weight key m)))) (told counts)
+    kept : (b : Bool) → (is_plain key && nat_lt 0 n) ≡ b → told_view (insert_entry key_cmp counts key m) ≡ followed_if (cond b None (Some (Up (key, told_weight key m)))) (told_view counts)
     kept true h = let p = both (is_plain key) n h in told_recounted counts key m sorted p.0 (subst (λ k. 1 ≤ k) (sym is) p.1)
     kept false h = told_inserted counts key m
 
@@ -152,12 +152,12 @@ pub run_within : (deltas : List Delta) (counts : Counts) → IsInterest counts �
 run_within [] counts is taken = is
 run_within (delta ∷ deltas) counts is taken = run_within deltas (counts_after counts delta) (stays_within counts delta is taken.0) taken.1
 
-pub run : (deltas : List Delta) (counts : Counts) → IsInterest counts → AreTaken counts deltas → told (counts_told counts deltas) ≡ view_after (changes_told counts deltas) (told counts)
+pub run : (deltas : List Delta) (counts : Counts) → IsInterest counts → AreTaken counts deltas → told_view (counts_told counts deltas) ≡ view_after (changes_told counts deltas) (told_view counts)
 run [] counts is taken = refl
 run (delta ∷ deltas) counts is taken =
     run deltas (counts_after counts delta) (stays_within counts delta is taken.0) taken.1
     ∙ ap (view_after (changes_told (counts_after counts delta) deltas)) (steps_agree counts delta is taken.0)
-    ∙ sym (after_more (change_of counts delta) (changes_told (counts_after counts delta) deltas) (told counts))
+    ∙ sym (after_more (change_of counts delta) (changes_told (counts_after counts delta) deltas) (told_view counts))
 
 pub runs_agree : RunsAgree
 runs_agree deltas taken = run deltas [] nothing taken

@@ -15,7 +15,7 @@ use Rattle.std.proofs.lemmas.Map.Keys.{sorted_head, sorted_tail}
 use Rattle.subj.specs.declared.keys.Key.{Key}
 use Rattle.subj.specs.Keys.{key_cmp}
 use Rattle.interest.specs.Counts.{Counts, with_count}
-use Rattle.interest.specs.Recounts.{with_numbers, is_first_below, below, behind, without_first, one_if}
+use Rattle.interest.specs.Recounts.{with_numbers, is_first_below, below, from_key, without_first, one_if}
 use Rattle.interest.specs.KeyOrder.{key_order_total}
 use Rattle.interest.proofs.Counting.Ties.{same_key}
 
@@ -84,13 +84,13 @@ module _ (key : Key) (n : ℕ) (numbers : Counts) (rising : IsStrictlySortedBy k
         | false ↦ ap (λ r. match_ordering r ((key, n) ∷ e ∷ es) ((e.0, n) ∷ es) (e ∷ insert_entry key_cmp es key n)) less
       ]
 
-  pub one_taken : (counts : Counts) → IsStrictlySortedBy key_cmp (keys_of counts) → with_numbers (with_count counts key n) numbers ≡ below key counts ++ (one_if key n ++ with_numbers (without_first key (behind key counts)) numbers)
+  pub one_taken : (counts : Counts) → IsStrictlySortedBy key_cmp (keys_of counts) → with_numbers (with_count counts key n) numbers ≡ below key counts ++ (one_if key n ++ with_numbers (without_first key (from_key key counts)) numbers)
   one_taken [] sorted = at_end
   one_taken (e ∷ es) sorted = go (one_taken es (sorted_tail key_cmp e.0 (keys_of es) sorted)) (key_cmp e.0 key) refl
     where
-      go : with_numbers (with_count es key n) numbers ≡ below key es ++ (one_if key n ++ with_numbers (without_first key (behind key es)) numbers)
+      go : with_numbers (with_count es key n) numbers ≡ below key es ++ (one_if key n ++ with_numbers (without_first key (from_key key es)) numbers)
           → (r : Ordering) → key_cmp e.0 key ≡ r → with_numbers (with_count (e ∷ es) key n) numbers
-          ≡ cond (is_lt r) (e ∷ below key es) [] ++ (one_if key n ++ with_numbers (without_first key (cond (is_lt r) (behind key es) (e ∷ es))) numbers)
+          ≡ cond (is_lt r) (e ∷ below key es) [] ++ (one_if key n ++ with_numbers (without_first key (cond (is_lt r) (from_key key es) (e ∷ es))) numbers)
       go rest Less is = ap (λ (c : Counts). with_numbers c numbers) (with_count_behind e es key n is)
           ∙ numbers_behind e numbers (with_count es key n) (all_above e.0 key (keys_of numbers) is above)
           ∙ ap (λ (l : Counts). e ∷ l) rest
@@ -99,21 +99,21 @@ module _ (key : Key) (n : ℕ) (numbers : Counts) (rising : IsStrictlySortedBy k
 
 -- ---- the first entry, where it is below the key
 
-pub one_below : (key : Key) (e : Key × ℕ) (es old : Counts) → old ≡ e ∷ es → is_first_below key old ≡ true → (below key old ≡ e ∷ below key es) × (behind key old ≡ behind key es)
+pub one_below : (key : Key) (e : Key × ℕ) (es old : Counts) → old ≡ e ∷ es → is_first_below key old ≡ true → (below key old ≡ e ∷ below key es) × (from_key key old ≡ from_key key es)
 one_below key e es old are is =
     let first : is_lt (key_cmp e.0 key) ≡ true = ap (is_first_below key) (sym are) ∙ is in
-    (ap (below key) are ∙ ap (λ b. cond b (e ∷ below key es) []) first, ap (behind key) are ∙ ap (λ b. cond b (behind key es) (e ∷ es)) first)
+    (ap (below key) are ∙ ap (λ b. cond b (e ∷ below key es) []) first, ap (from_key key) are ∙ ap (λ b. cond b (from_key key es) (e ∷ es)) first)
 
-pub none_below : (key : Key) (es : Counts) → is_first_below key es ≡ false → (below key es ≡ []) × (behind key es ≡ es)
+pub none_below : (key : Key) (es : Counts) → is_first_below key es ≡ false → (below key es ≡ []) × (from_key key es ≡ es)
 none_below key [] is = (refl, refl)
-none_below key (e ∷ es) is = (ap (λ b. cond b (e ∷ below key es) []) is, ap (λ b. cond b (behind key es) (e ∷ es)) is)
+none_below key (e ∷ es) is = (ap (λ b. cond b (e ∷ below key es) []) is, ap (λ b. cond b (from_key key es) (e ∷ es)) is)
 
 -- ---- what is left rises
 
-pub behind_rises : (key : Key) (es : Counts) → IsStrictlySortedBy key_cmp (keys_of es) → IsStrictlySortedBy key_cmp (keys_of (behind key es))
-behind_rises key [] sorted = sorted
-behind_rises key (e ∷ es) sorted = elim (is_lt (key_cmp e.0 key)) as (λ b. IsStrictlySortedBy key_cmp (keys_of (cond b (behind key es) (e ∷ es)))) [
-  | true ↦ behind_rises key es (sorted_tail key_cmp e.0 (keys_of es) sorted)
+pub from_key_rises : (key : Key) (es : Counts) → IsStrictlySortedBy key_cmp (keys_of es) → IsStrictlySortedBy key_cmp (keys_of (from_key key es))
+from_key_rises key [] sorted = sorted
+from_key_rises key (e ∷ es) sorted = elim (is_lt (key_cmp e.0 key)) as (λ b. IsStrictlySortedBy key_cmp (keys_of (cond b (from_key key es) (e ∷ es)))) [
+  | true ↦ from_key_rises key es (sorted_tail key_cmp e.0 (keys_of es) sorted)
   | false ↦ sorted
 ]
 
@@ -135,10 +135,10 @@ without_fewer key (e ∷ es) = elim (is_eq (key_cmp e.0 key)) as (λ b. length (
 
 -- ---- one number more
 
-module _ (numbers rest done left : Counts) (x : Key × ℕ) (are : numbers ≡ x ∷ rest) (rising : IsStrictlySortedBy key_cmp (keys_of numbers)) (done_after left_after : Counts) (left_is : left_after ≡ without_first x.0 (behind x.0 left)) where
+module _ (numbers rest done left : Counts) (x : Key × ℕ) (are : numbers ≡ x ∷ rest) (rising : IsStrictlySortedBy key_cmp (keys_of numbers)) (done_after left_after : Counts) (left_is : left_after ≡ without_first x.0 (from_key x.0 left)) where
   pub put_next : done_after ≡ done ++ (below x.0 left ++ one_if x.0 x.1) → IsStrictlySortedBy key_cmp (keys_of left) → done_after ++ with_numbers left_after rest ≡ done ++ with_numbers left numbers
   put_next done_is sorted =
-      let last : Counts = with_numbers (without_first x.0 (behind x.0 left)) rest in
+      let last : Counts = with_numbers (without_first x.0 (from_key x.0 left)) rest in
       (λ j. done_is j ++ with_numbers (left_is j) rest)
       ∙ append_assoc done (below x.0 left ++ one_if x.0 x.1) last
       ∙ ap (λ (l : Counts). done ++ l) (append_assoc (below x.0 left) (one_if x.0 x.1) last)
@@ -146,7 +146,7 @@ module _ (numbers rest done left : Counts) (x : Key × ℕ) (are : numbers ≡ x
       ∙ ap (λ (l : Counts). done ++ with_numbers left l) (sym are)
 
   pub put_rises : IsStrictlySortedBy key_cmp (keys_of left) → IsStrictlySortedBy key_cmp (keys_of left_after)
-  put_rises sorted = subst (λ (l : Counts). IsStrictlySortedBy key_cmp (keys_of l)) (sym left_is) (without_rises x.0 (behind x.0 left) (behind_rises x.0 left sorted))
+  put_rises sorted = subst (λ (l : Counts). IsStrictlySortedBy key_cmp (keys_of l)) (sym left_is) (without_rises x.0 (from_key x.0 left) (from_key_rises x.0 left sorted))
 
   pub rest_rises : IsStrictlySortedBy key_cmp (keys_of rest)
   rest_rises = sorted_tail key_cmp x.0 (keys_of rest) (subst (λ (l : Counts). IsStrictlySortedBy key_cmp (keys_of l)) are rising)

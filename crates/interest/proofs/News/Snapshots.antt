@@ -16,7 +16,7 @@ use Rattle.subj.specs.declared.limits.TheConstants.{MAX_WEIGHT, MAX_SNAPSHOT}
 use Rattle.subj.specs.Keys.{key_cmp, cost_of, queue_bytes}
 use Rattle.route_values.specs.Snapshots.{Weighted, weighted_key, queue_fields, key_line, snapshot_text, is_before_first, are_rising}
 use Rattle.interest.specs.Counts.{Counts, told_weight, total_cost, IsInterest}
-use Rattle.interest.specs.Views.{told}
+use Rattle.interest.specs.Views.{told_view}
 use Rattle.interest.specs.Laws.{CanBeTold}
 
 abbrev Fits : ℕ → Type 0
@@ -51,32 +51,32 @@ weighted key count fits = ap (λ b. cond b (Some (key, told_weight key count)) N
 
 -- ---- all of them
 
-text_short : (counts : Counts) → All Fits (values_of counts) → length (snapshot_text (told counts)) ≤ total_cost counts
+text_short : (counts : Counts) → All Fits (values_of counts) → length (snapshot_text (told_view counts)) ≤ total_cost counts
 text_short [] all = omega arith
 text_short (e ∷ es) all =
     let line = line_short e.0 e.1 (All-head Fits e.1 (values_of es) all) in
     let rest = text_short es (All-tail Fits e.1 (values_of es) all) in
-    let whole = length-append (key_line (e.0, told_weight e.0 e.1)) (snapshot_text (told es)) in
+    let whole = length-append (key_line (e.0, told_weight e.0 e.1)) (snapshot_text (told_view es)) in
     let cost = sum_by-cons (λ (entry : Key × ℕ). cost_of entry.0) e es in
     omega arith
 
-rise : (counts : Counts) → IsStrictlySortedBy key_cmp (keys_of counts) → are_rising (told counts) ≡ true
+rise : (counts : Counts) → IsStrictlySortedBy key_cmp (keys_of counts) → are_rising (told_view counts) ≡ true
 rise [] sorted = refl
 rise (e ∷ es) sorted = (λ i. first es (sorted_head key_cmp e.0 (keys_of es) sorted) i && rise es (sorted_tail key_cmp e.0 (keys_of es) sorted) i)
   where
-    first : (fs : Counts) → AllByRecursion (λ y. key_cmp e.0 y ≡ Less) (keys_of fs) → is_before_first (e.0, told_weight e.0 e.1) (told fs) ≡ true
+    first : (fs : Counts) → AllByRecursion (λ y. key_cmp e.0 y ≡ Less) (keys_of fs) → is_before_first (e.0, told_weight e.0 e.1) (told_view fs) ≡ true
     first [] all = refl
     first (f ∷ fs) all = ap is_lt all.0
 
-each_weighted : (counts : Counts) → All Fits (values_of counts) → AllByRecursion (λ (w : Weighted). weighted_key w.0 w.1 ≡ Some w) (told counts)
+each_weighted : (counts : Counts) → All Fits (values_of counts) → AllByRecursion (λ (w : Weighted). weighted_key w.0 w.1 ≡ Some w) (told_view counts)
 each_weighted [] all = tt
 each_weighted (e ∷ es) all = (weighted e.0 e.1 (All-head Fits e.1 (values_of es) all), each_weighted es (All-tail Fits e.1 (values_of es) all))
 
-short : (counts : Counts) → IsInterest counts → nat_le (length (snapshot_text (told counts))) MAX_SNAPSHOT ≡ true
-short counts is = within (length (snapshot_text (told counts))) MAX_SNAPSHOT (let text = text_short counts is.counted in let small = is.small in omega arith)
+short : (counts : Counts) → IsInterest counts → nat_le (length (snapshot_text (told_view counts))) MAX_SNAPSHOT ≡ true
+short counts is = within (length (snapshot_text (told_view counts))) MAX_SNAPSHOT (let text = text_short counts is.counted in let small = is.small in omega arith)
   where
     within : (n m : ℕ) → n ≤ m → nat_le n m ≡ true
     within n m fits = grind (arith, nat_tests)
 
 pub can_be_told : CanBeTold
-can_be_told counts is = ((λ i. cond (short counts is i && rise counts is.rising i) (Some (told counts)) None), each_weighted counts is.counted)
+can_be_told counts is = ((λ i. cond (short counts is i && rise counts is.rising i) (Some (told_view counts)) None), each_weighted counts is.counted)

@@ -1,9 +1,9 @@
 -- A collect where nothing was opened or closed, and a take where nothing waits, change nothing.
-use Rattle.std.proofs.Common.{◌≡◌, ℕ, Bool, true, false, cond, List, [], ◌∷◌, ◌++◌, length, Option, Some, sym, ap, ◌∙◌, refl, arith, append-nil}
+use Rattle.std.proofs.Common.{◌≡◌, ℕ, Bool, true, false, cond, List, [], ◌∷◌, ◌++◌, length, Some, sym, ap, ◌∙◌, refl, arith, append-nil}
 use Rattle.std.specs.Prelude.{◌==◌, drop, take}
 use Rattle.std.proofs.Math.Seq.{drop-nil, take-nil}
 use Rattle.std.proofs.lemmas.Bool.{eqb-true}
-use Rattle.outbox.specs.Views.{Backlog, Written, bytes_of_all, without_first}
+use Rattle.outbox.specs.Views.{Written, bytes_of_all, without_first}
 use Rattle.shard_core.specs.ShardEvents as of_shard
 use Rattle.shard_core.specs.Shards.{Client, client_at, changed, entries_of, has_number, waits_for, with_outbox}
 use Rattle.node_core.specs.Served.{Served}

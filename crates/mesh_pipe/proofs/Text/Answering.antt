@@ -24,7 +24,7 @@ use Rattle.node_core.specs.Served as of_node
 use Rattle.mesh_pipe.specs.declared.pipe_server.Outcome.{Outcome}
 use Rattle.mesh_pipe.specs.declared.pipe_server.Outcome.TheVariants.{Answered, Closed}
 use Rattle.mesh_pipe.specs.declared.pipe_server.PipeServer.{PipeServer}
-use Rattle.mesh_pipe.specs.PipeText.{Served, Output, at_rest, served_by, output_of, told, after_event, opening, opened_or_not, opening_refused, job_of, names_wanted, worked_off, placing}
+use Rattle.mesh_pipe.specs.PipeText.{Served, Output, at_rest, served_by, output_of, error_told, after_event, opening, opened_or_not, opening_refused, job_of, names_wanted, worked_off, placing}
 use Rattle.mesh_pipe.specs.PipeServing.{IsServing, Steps, HasIssued, HasWorkedOff, shard_in, waiting_in, all_entries, waiting_bytes, placing_refused, has_any}
 use Rattle.client_refusals.specs.Refusals.{refusal_of_shard}
 use Rattle.mesh_pipe.specs.PipeStates.{served, outcome_by, IsReady, HasServed, IsTold}
@@ -150,14 +150,14 @@ opening_told old key sid fault ready why =
 
 -- ---- a publication
 
-placing_done : (s : Served) (p : Pub) (spent many : Bool) (said : Output) → cond spent (Some refusal.NumbersSpent) (cond many (Some refusal.TooManyQueueGroups) None) ≡ None → cond spent (told text.NumbersSpent s) (cond many (told text.TooManyQueueGroups s) said) ≡ said
+placing_done : (s : Served) (p : Pub) (spent many : Bool) (said : Output) → cond spent (Some refusal.NumbersSpent) (cond many (Some refusal.TooManyQueueGroups) None) ≡ None → cond spent (error_told text.NumbersSpent s) (cond many (error_told text.TooManyQueueGroups s) said) ≡ said
 placing_done s p true many said e = absurd (none-some refusal.NumbersSpent (sym e))
 placing_done s p false true said e = absurd (none-some refusal.TooManyQueueGroups (sym e))
 placing_done s p false false said e = refl
 
-told_of_placing : (s : Served) (spent many : Bool) (said : Output) (why : Refusal) → cond spent (Some refusal.NumbersSpent) (cond many (Some refusal.TooManyQueueGroups) None) ≡ Some why → IsTold why s (cond spent (told text.NumbersSpent s) (cond many (told text.TooManyQueueGroups s) said))
-told_of_placing s true many said why e = subst (λ (r : Refusal). IsTold r s (told text.NumbersSpent s)) (same_Some refusal.NumbersSpent why e) refl
-told_of_placing s false true said why e = subst (λ (r : Refusal). IsTold r s (told text.TooManyQueueGroups s)) (same_Some refusal.TooManyQueueGroups why e) refl
+told_of_placing : (s : Served) (spent many : Bool) (said : Output) (why : Refusal) → cond spent (Some refusal.NumbersSpent) (cond many (Some refusal.TooManyQueueGroups) None) ≡ Some why → IsTold why s (cond spent (error_told text.NumbersSpent s) (cond many (error_told text.TooManyQueueGroups s) said))
+told_of_placing s true many said why e = subst (λ (r : Refusal). IsTold r s (error_told text.NumbersSpent s)) (same_Some refusal.NumbersSpent why e) refl
+told_of_placing s false true said why e = subst (λ (r : Refusal). IsTold r s (error_told text.TooManyQueueGroups s)) (same_Some refusal.TooManyQueueGroups why e) refl
 told_of_placing s false false said why e = absurd (none-some why e)
 
 pub placing_told : (old : PipeServer) (p : Pub) (why : Refusal) → placing_refused p (shard_in old.node) ≡ Some why → HasServed (Answered (Err why)) (placing p (served old)) old old

@@ -17,21 +17,21 @@ use Rattle.client_conn.proofs.Following.{in_any_order}
 use Rattle.outbox.specs.Views.{reply_entry}
 use Rattle.mesh_pipe.specs.declared.pipe_server.Outcome.TheVariants.{Answered, Closed}
 use Rattle.mesh_pipe.specs.declared.pipe_server.PipeServer.{PipeServer}
-use Rattle.mesh_pipe.specs.PipeText.{Served, Output, at_rest, no_output, behind, and_then, ask_said, asks_said, told}
+use Rattle.mesh_pipe.specs.PipeText.{Served, Output, at_rest, no_output, text_before, and_then, ask_said, asks_said, error_told}
 use Rattle.mesh_pipe.specs.PipeStates.{served, asks_of, HasServed, MayBeTold}
 use Rattle.mesh_pipe.specs.PipeRuns.{PipeState, said_from, state_of, left_of, Waits, GoesOn, Ends, IsInStep, HasWorked, HasClosed}
 use Rattle.mesh_pipe.proofs.Server.Outputs.{alone_at_rest, behind_shut, output_closed}
 
 -- ---- one after the other
 
-pub behind-behind : (front text : List ℕ) (said : Output) → behind front (behind text said) ≡ behind (front ++ text) said
-behind-behind front text said = ap (λ t. let r : Output = record said { text = t } in r) (sym (append_assoc front text said.text))
+pub text_before_twice : (front text : List ℕ) (said : Output) → text_before front (text_before text said) ≡ text_before (front ++ text) said
+text_before_twice front text said = ap (λ t. let r : Output = record said { text = t } in r) (sym (append_assoc front text said.text))
 
-then_open : (first : Output) (rest : Served → Output) → first.closed ≡ false → and_then first rest ≡ behind first.text (rest first.served)
-then_open first rest is = ap (λ b. cond b first (behind first.text (rest first.served))) is
+then_open : (first : Output) (rest : Served → Output) → first.closed ≡ false → and_then first rest ≡ text_before first.text (rest first.served)
+then_open first rest is = ap (λ b. cond b first (text_before first.text (rest first.served))) is
 
 then_closed : (first : Output) (rest : Served → Output) → first.closed ≡ true → and_then first rest ≡ first
-then_closed first rest is = ap (λ b. cond b first (behind first.text (rest first.served))) is
+then_closed first rest is = ap (λ b. cond b first (text_before first.text (rest first.served))) is
 
 said_first : (a : Ask) (asks : List Ask) (s : Served) → asks_said (a ∷ asks) s ≡ and_then (ask_said a s) (asks_said asks)
 unfolding asks_said
@@ -46,7 +46,7 @@ goes_nowhere at = record { whatever_follows = λ more. refl }
 
 pub goes_further : (from mid to : PipeState) (front text : List ℕ) → GoesOn from front mid → GoesOn mid text to → GoesOn from (front ++ text) to
 goes_further from mid to front text first second = record {
-  whatever_follows = λ more. first.whatever_follows more ∙ ap (behind front) (second.whatever_follows more) ∙ behind-behind front text (said_from to more);
+  whatever_follows = λ more. first.whatever_follows more ∙ ap (text_before front) (second.whatever_follows more) ∙ text_before_twice front text (said_from to more);
 }
 
 pub ends_further : (from mid : PipeState) (front text : List ℕ) → GoesOn from front mid → Ends mid text → Ends from (front ++ text)
@@ -90,7 +90,7 @@ ends_by_ask a rest onward s closes =
     record { text = λ more. ap (λ (r : Output). r.text) (all more); closed = λ more. ap (λ (r : Output). r.closed) (all more) ∙ closes }
 
 -- a refusal is told in its place
-goes_by_telling : (a : Ask) (rest : List Ask) (onward : Onward) (s : Served) (why : ErrText) → ask_said a s ≡ told why s → GoesOn (at_ask a rest onward s) [] (behind_ask (ask.Reply (reply.Err why) ∷ rest) onward s)
+goes_by_telling : (a : Ask) (rest : List Ask) (onward : Onward) (s : Served) (why : ErrText) → ask_said a s ≡ error_told why s → GoesOn (at_ask a rest onward s) [] (behind_ask (ask.Reply (reply.Err why) ∷ rest) onward s)
 goes_by_telling a rest onward s why is = record {
   whatever_follows = λ more. let others = rest ++ (read_onward onward more).asks in said_first a others s ∙ ap (λ (r : Output). and_then r (asks_said others)) is ∙ sym (said_first (ask.Reply (reply.Err why)) others s);
 }
@@ -150,7 +150,7 @@ settled_behind answer a rest onward settled = in_any_order answer (record { asks
 abbrev conn_at : Ask → List Ask → Onward → Bool → ConnState
 conn_at a rest onward given = record { asking = record { asks = a ∷ rest; onward = onward }; given = given }
 
-telling_goes : (a : Ask) (rest : List Ask) (onward : Onward) (given : Bool) (server : PipeServer) (refusal : Refusal) (why : ErrText) → IsInStep (conn_at a rest onward given) server → asks_of a ≡ 2 → ask_said a (served server) ≡ told why (served server)
+telling_goes : (a : Ask) (rest : List Ask) (onward : Onward) (given : Bool) (server : PipeServer) (refusal : Refusal) (why : ErrText) → IsInStep (conn_at a rest onward given) server → asks_of a ≡ 2 → ask_said a (served server) ≡ error_told why (served server)
     → fed [] (answered_first (Err refusal) (a ∷ rest) onward) ≡ answered_first (Err refusal) (a ∷ rest) onward
     → answered_first (Err refusal) (a ∷ rest) onward ≡ record { asks = ask.Reply (reply.Err why) ∷ rest; onward = onward }
     → Goes (conn_at a rest onward given) server (record { asks = ask.Reply (reply.Err why) ∷ rest; onward = onward }) server

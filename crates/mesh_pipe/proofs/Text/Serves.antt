@@ -13,20 +13,20 @@ use Rattle.mesh_pipe.specs.declared.pipe.PipeEnd.{PipeEnd}
 use Rattle.mesh_pipe.specs.declared.faults.PipeFault.{PipeFault}
 use Rattle.mesh_pipe.specs.declared.faults.PipeFault.TheVariants.{Read, Write, OutOfMemory}
 use Rattle.mesh_pipe.specs.declared.pipe_server.PipeServer.{PipeServer}
-use Rattle.mesh_pipe.specs.PipeText.{Served, Output, at_first, behind, asks_said, pipe_info, pipe_said, pipe_text, pipe_closes}
+use Rattle.mesh_pipe.specs.PipeText.{Served, Output, at_first, text_before, asks_said, pipe_info, pipe_said, pipe_text, pipe_closes}
 use Rattle.mesh_pipe.specs.PipeStates.{IsNew, served}
 use Rattle.mesh_pipe.specs.PipeRuns.{PipeState, said_from, state_of, Waits, GoesOn, IsInStep, HasAnswered, HasFinished, HasFronted, CountsWrites}
 use Rattle.mesh_pipe.specs.PipeTheorem.{AppendsBeginning, WritesText, Pipes, CountsReads, CountsFailedWrites}
-use Rattle.mesh_pipe.proofs.Text.Said.{waits_there, behind-behind}
+use Rattle.mesh_pipe.proofs.Text.Said.{waits_there, text_before_twice}
 
 -- ---- what was read tells this text, and then what is said from there
 
 pub record Tells (read text : List ℕ) (at : PipeState) : Type 0 where
-  pub whatever_follows : (more : List ℕ) → pipe_said (read ++ more) ≡ behind text (said_from at more)
+  pub whatever_follows : (more : List ℕ) → pipe_said (read ++ more) ≡ text_before text (said_from at more)
 
 tells_further : (read text said : List ℕ) (at to : PipeState) → Tells read text at → GoesOn at said to → Tells read (text ++ said) to
 tells_further read text said at to tells goes = record {
-  whatever_follows = λ more. tells.whatever_follows more ∙ ap (behind text) (goes.whatever_follows more) ∙ behind-behind text said (said_from to more);
+  whatever_follows = λ more. tells.whatever_follows more ∙ ap (text_before text) (goes.whatever_follows more) ∙ text_before_twice text said (said_from to more);
 }
 
 abbrev fed_at : PipeState → List ℕ → PipeState
@@ -35,10 +35,10 @@ fed_at at bytes = record at { asking = fed bytes at.asking }
 tells_fed : (read text bytes : List ℕ) (at : PipeState) → Tells read text at → Tells (read ++ bytes) text (fed_at at bytes)
 tells_fed read text bytes at tells = record {
   whatever_follows = λ more. ap pipe_said (append_assoc read bytes more) ∙ tells.whatever_follows (bytes ++ more)
-      ∙ ap (λ (s : Asking). behind text (asks_said s.asks at.served)) (sym (fed_twice at.asking bytes more));
+      ∙ ap (λ (s : Asking). text_before text (asks_said s.asks at.served)) (sym (fed_twice at.asking bytes more));
 }
 
-tells_all : (read text : List ℕ) (at : PipeState) → Tells read text at → pipe_said read ≡ behind text (said_from at [])
+tells_all : (read text : List ℕ) (at : PipeState) → Tells read text at → pipe_said read ≡ text_before text (said_from at [])
 tells_all read text at tells = sym (ap pipe_said (append-nil read)) ∙ tells.whatever_follows []
 
 tells_text : (read text : List ℕ) (at : PipeState) → Tells read text at → pipe_text read ≡ text ++ (said_from at []).text

@@ -1,10 +1,9 @@
 -- A frame of a peer at a server: of a message each shard gets its job.
-use Rattle.std.proofs.Common.{◌≡◌, ℕ, true, false, true≢false, not, nat_eq, nat_lt, nat_le, List, length, replicate, take, Option, Some, None, refl, sym, ap, ◌∙◌, subst}
+use Rattle.std.proofs.Common.{◌≡◌, ℕ, false, not, nat_eq, nat_lt, nat_le, List, length, replicate, take, Option, Some, None, refl, sym, ap, ◌∙◌, subst}
 use Rattle.std.specs.Prelude.{if◌then◌else◌}
 use Rattle.std.specs.Option.{option_map, option_or}
 use Rattle.std.specs.Str.{bytes_eq}
 use Rattle.std.proofs.lemmas.List.{length-replicate}
-use Rattle.std.proofs.lemmas.Option.{none-some, same_Some}
 use Rattle.list_laws.proofs.Tests.{no_cause, le_false}
 use Rattle.subj.specs.Messages.{Content}
 use Rattle.subj.specs.Servers.{Server, own_name}
@@ -20,14 +19,13 @@ use Rattle.hub_core.specs.Events as of_hub
 use Rattle.hub_core.specs.Steps.{received_answer}
 use Rattle.hub_core.specs.declared.faults.HubFault.TheVariants as fault
 use Rattle.hub_core.specs.Publishing.{busy_fault}
-use Rattle.hub_core.specs.Calls.{job_of}
 use Rattle.hub_core.specs.Receiving.{has_message, body_fault, origin_fault, receive_refusal, routed_job}
 use Rattle.hub_core.proofs.Steps.Receives.{from_peer}
 use Rattle.hub_core.proofs.Steps.Rooms.{or_none}
 use Rattle.node_law.specs.declared.faults.NodeFault.TheVariants as node_fault
 use Rattle.node_parts.specs.Sides.{Side, ByHub, side_after}
 use Rattle.node_parts.specs.declared.told.Received.{Received}
-use Rattle.node_parts.specs.declared.told.Received.TheVariants.{Routed, Heard}
+use Rattle.node_parts.specs.declared.told.Received.TheVariants.{Routed}
 use Rattle.node_law.specs.Answers.{told_of_hub}
 use Rattle.node_law.specs.Events.{Receive}
 use Rattle.node_law.specs.State.{Line, Node, finished_turns}

@@ -1,5 +1,5 @@
 -- A list of events, gone through one by one.
-use Rattle.std.proofs.Common.{◌≡◌, ◌<◌, ◌≤◌, ◌+◌, ℕ, Bool, true, false, List, [], ◌∷◌, ◌++◌, length, get_or, drop, map, Result, Ok, Err, refl, sym, ap, ◌∙◌, subst}
+use Rattle.std.proofs.Common.{◌≡◌, ◌<◌, ◌≤◌, ◌+◌, ℕ, true, false, List, [], ◌∷◌, ◌++◌, length, get_or, drop, map, Result, Ok, Err, refl, sym, ap, ◌∙◌, subst}
 use Rattle.std.proofs.lemmas.List.{at_drop_more, drop_all}
 use Rattle.list_laws.proofs.Changes.{append_assoc, append_nil, map_append}
 use Rattle.subj.specs.Answers.{IsAnswered}
@@ -10,7 +10,7 @@ use Rattle.node_core.specs.declared.refused.Refused.{Refused}
 use Rattle.node_core.specs.declared.refused.Refused.TheVariants.{Fault, OutOfMemory}
 use Rattle.node_law.specs.Events.{NodeEvent}
 use Rattle.node_core.specs.InCode.{answered, event_of}
-use Rattle.node_core.specs.OneRun.{GoesOn, IsRun, Follows, OneServerKeeps, done_with, is_short, told}
+use Rattle.node_core.specs.OneRun.{GoesOn, IsRun, Follows, OneServerKeeps, done_with, is_short, outcome_told}
 use Rattle.node_core.specs.Outcome.{Outcome, Does, did_of}
 use Rattle.node_law.specs.Runs.{Done, Ran}
 use Rattle.node_core.specs.Served.{Served, refusal}
@@ -43,11 +43,11 @@ all_made start all rs here rest none begun =
 
 -- ---- the answers as told
 
-pub as_told : (here : Served) (e : NodeEvent) (r : Result Did Refused) (next : Served) → IsAnswered (refusal here e) (λ did. Does here e (did_of did) next) (next ≡ here) (answered r) → IsStepped here e (told r) next
+pub as_told : (here : Served) (e : NodeEvent) (r : Result Did Refused) (next : Served) → IsAnswered (refusal here e) (λ did. Does here e (did_of did) next) (next ≡ here) (answered r) → IsStepped here e (outcome_told r) next
 as_told here e (Ok did) next a = a
 as_told here e (Err why) next a = a
 
-pub short_told : (r : Result Did Refused) → is_short (told r) ≡ is_short r
+pub short_told : (r : Result Did Refused) → is_short (outcome_told r) ≡ is_short r
 short_told (Ok did) = refl
 short_told (Err (Fault why)) = refl
 short_told (Err OutOfMemory) = refl
@@ -57,21 +57,21 @@ short_told (Err OutOfMemory) = refl
 next_event : (events : List code.NodeEvent) (i : ℕ) (e : code.NodeEvent) → i < length events → e ≡ get_or events i e → map event_of (drop i events) ≡ event_of e ∷ map event_of (drop (i + 1) events)
 next_event events i e within is = at_drop_more (map event_of) events i e within ∙ ap (λ x. event_of x ∷ map event_of (drop (i + 1) events)) (sym is)
 
-one_answer : (answers more : List (Result Did Refused)) (r : Result Did Refused) → more ≡ answers ++ r ∷ [] → map told answers ++ told r ∷ [] ≡ map told more
-one_answer answers more r is = sym (ap (map told) is ∙ map_append told answers (r ∷ []))
+one_answer : (answers more : List (Result Did Refused)) (r : Result Did Refused) → more ≡ answers ++ r ∷ [] → map outcome_told answers ++ outcome_told r ∷ [] ≡ map outcome_told more
+one_answer answers more r is = sym (ap (map outcome_told) is ∙ map_append outcome_told answers (r ∷ []))
 
-pub goes_one_on : (start here next : Served) (events : List code.NodeEvent) (i : ℕ) (e : code.NodeEvent) (answers more : List (Result Did Refused)) (r : Result Did Refused) → i < length events → e ≡ get_or events i e → more ≡ answers ++ r ∷ [] → IsBegun start (map event_of events) (map told answers) here (map event_of (drop i events)) → IsAnswered (refusal here (event_of e)) (λ did. Does here (event_of e) (did_of did) next) (next ≡ here) (answered r) → is_short r ≡ false → IsBegun start (map event_of events) (map told more) next (map event_of (drop (i + 1) events))
+pub goes_one_on : (start here next : Served) (events : List code.NodeEvent) (i : ℕ) (e : code.NodeEvent) (answers more : List (Result Did Refused)) (r : Result Did Refused) → i < length events → e ≡ get_or events i e → more ≡ answers ++ r ∷ [] → IsBegun start (map event_of events) (map outcome_told answers) here (map event_of (drop i events)) → IsAnswered (refusal here (event_of e)) (λ did. Does here (event_of e) (did_of did) next) (next ≡ here) (answered r) → is_short r ≡ false → IsBegun start (map event_of events) (map outcome_told more) next (map event_of (drop (i + 1) events))
 goes_one_on start here next events i e answers more r within is put begun step long =
     subst (λ l. IsBegun start (map event_of events) l next (map event_of (drop (i + 1) events))) (one_answer answers more r put)
-    (one_more start (map event_of events) (map told answers) here (event_of e) (map event_of (drop (i + 1) events)) (told r) next (subst (IsBegun start (map event_of events) (map told answers) here) (next_event events i e within is) begun) (as_told here (event_of e) r next step) (short_told r ∙ long))
+    (one_more start (map event_of events) (map outcome_told answers) here (event_of e) (map event_of (drop (i + 1) events)) (outcome_told r) next (subst (IsBegun start (map event_of events) (map outcome_told answers) here) (next_event events i e within is) begun) (as_told here (event_of e) r next step) (short_told r ∙ long))
 
-pub ends_here : (start here next : Served) (events : List code.NodeEvent) (i : ℕ) (e : code.NodeEvent) (answers more : List (Result Did Refused)) (r : Result Did Refused) → i < length events → e ≡ get_or events i e → more ≡ answers ++ r ∷ [] → IsBegun start (map event_of events) (map told answers) here (map event_of (drop i events)) → IsAnswered (refusal here (event_of e)) (λ did. Does here (event_of e) (did_of did) next) (next ≡ here) (answered r) → is_short r ≡ true → IsRun start (map event_of events) (map told more) next
+pub ends_here : (start here next : Served) (events : List code.NodeEvent) (i : ℕ) (e : code.NodeEvent) (answers more : List (Result Did Refused)) (r : Result Did Refused) → i < length events → e ≡ get_or events i e → more ≡ answers ++ r ∷ [] → IsBegun start (map event_of events) (map outcome_told answers) here (map event_of (drop i events)) → IsAnswered (refusal here (event_of e)) (λ did. Does here (event_of e) (did_of did) next) (next ≡ here) (answered r) → is_short r ≡ true → IsRun start (map event_of events) (map outcome_told more) next
 ends_here start here next events i e answers more r within is put begun step short =
     subst (λ l. IsRun start (map event_of events) l next) (one_answer answers more r put)
-    (the_last start (map event_of events) (map told answers) here (event_of e) (map event_of (drop (i + 1) events)) (told r) next (subst (IsBegun start (map event_of events) (map told answers) here) (next_event events i e within is) begun) (as_told here (event_of e) r next step) (short_told r ∙ short))
+    (the_last start (map event_of events) (map outcome_told answers) here (event_of e) (map event_of (drop (i + 1) events)) (outcome_told r) next (subst (IsBegun start (map event_of events) (map outcome_told answers) here) (next_event events i e within is) begun) (as_told here (event_of e) r next step) (short_told r ∙ short))
 
-pub all_gone : (start here : Served) (events : List code.NodeEvent) (i : ℕ) (answers : List (Result Did Refused)) → length events ≤ i → IsBegun start (map event_of events) (map told answers) here (map event_of (drop i events)) → IsRun start (map event_of events) (map told answers) here
-all_gone start here events i answers past begun = all_made start (map event_of events) (map told answers) here (map event_of (drop i events)) (ap (map event_of) (drop_all i events past)) begun
+pub all_gone : (start here : Served) (events : List code.NodeEvent) (i : ℕ) (answers : List (Result Did Refused)) → length events ≤ i → IsBegun start (map event_of events) (map outcome_told answers) here (map event_of (drop i events)) → IsRun start (map event_of events) (map outcome_told answers) here
+all_gone start here events i answers past begun = all_made start (map event_of events) (map outcome_told answers) here (map event_of (drop i events)) (ap (map event_of) (drop_all i events past)) begun
 
 -- ---- what it did since its start
 

@@ -2,7 +2,7 @@
 
 ghost use Rattle.std.specs.Prelude.{◌≡◌, List, map, IfOk, OnErr};
 ghost use Rattle.node_core.specs.InCode.{event_of};
-ghost use Rattle.node_core.specs.OneRun.{GoesOn, IsRun, done_with, is_short, told};
+ghost use Rattle.node_core.specs.OneRun.{GoesOn, IsRun, done_with, is_short, outcome_told};
 ghost use Rattle.node_law.specs.Runs.{Done, Ran};
 
 use super::Node;
@@ -30,8 +30,8 @@ impl<T: SubTable, R: Race> Node<T, R> {
     /// Whatever the server had done since its start, it keeps the promises of one server of all of it together: see
     /// [`one_server_keeps`].
     pub fn run(&mut self, events: &[NodeEvent]) -> Result<Vec<Result<Did, Refused>>, AllocError>
-        ensures run { IfOk result (λ answers. IsRun self.old (map event_of events.now) (map told answers.items) self.new) }
-        ensures promises { IfOk result (λ answers. (h : List Done) → Ran self.old.server h self.old.node → GoesOn (done_with (map event_of events.now) (map told answers.items)) h self.new) }
+        ensures run { IfOk result (λ answers. IsRun self.old (map event_of events.now) (map outcome_told answers.items) self.new) }
+        ensures promises { IfOk result (λ answers. (h : List Done) → Ran self.old.server h self.old.node → GoesOn (done_with (map event_of events.now) (map outcome_told answers.items)) h self.new) }
         ensures short { OnErr result (self.new ≡ self.old) }
     {
         one_server_keeps();

@@ -15,7 +15,7 @@ use Rattle.shard_core.specs.AsLaw.{given_by, given_by_claim}
 use Rattle.shard_core.proofs.Steps.LawEvents.{walk_gives}
 use Rattle.node_law.specs.State.{Line, Node}
 use Rattle.node_law.specs.Events as of_node
-use Rattle.node_law.specs.Events.{OwnEvent, NodeEvent, Own, Receive, OnInfo, OnConnect}
+use Rattle.node_law.specs.Events.{NodeEvent, Own, Receive, OnInfo, OnConnect}
 use Rattle.node_law.specs.Steps.{conn_place, conn_line, shard_line, conn_event, work_event}
 use Rattle.node_law.specs.Sound.{SoundNode}
 use Rattle.node_law.specs.AsLaw.{part_if, part_at, part_of, given_at}

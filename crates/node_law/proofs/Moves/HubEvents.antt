@@ -35,7 +35,7 @@ use Rattle.hub_core.proofs.Steps.Publishes.{publishes_in_law}
 use Rattle.hub_core.proofs.Steps.Receives.{receives_in_law, meets_in_law}
 use Rattle.hub_core.proofs.Steps.Announces.{announces_in_law}
 use Rattle.route_session.specs.State as sessions
-use Rattle.route_session.specs.State.{Session, session_at, kept_for}
+use Rattle.route_session.specs.State.{Session, kept_for}
 use Rattle.route_session.specs.Steps.{against, info_offer, connect_offer, info_fault, info_refusal, connect_fault, connect_refusal}
 use Rattle.route_session.specs.declared.faults.SessionFault.TheVariants.{WrongName, OldIncarnation, UnknownSession}
 use Rattle.shard_core.specs.AsLaw.{job_of}

@@ -18,7 +18,6 @@ use Rattle.hub_core.proofs.Steps.Rooms.{map_none}
 use Rattle.shard_core.specs.Causes.{AreHeld, HasOwnNumbers}
 use Rattle.shard_core.specs.Limits.{HasLimits}
 use Rattle.shard_core.specs.Shards as shards
-use Rattle.shard_core.specs.Shards.{Client, new_shard}
 use Rattle.shard_core.specs.ShardEvents as of_shard
 use Rattle.shard_core.specs.ShardSteps.{shard_refusal, shard_after}
 use Rattle.shard_core.proofs.Closings.Causes.{keeps}

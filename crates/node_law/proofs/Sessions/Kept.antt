@@ -9,7 +9,7 @@ use Rattle.list_laws.proofs.Tests.{eq_true, eq_false, true_eq, false_eq, lt_true
 use Rattle.list_laws.proofs.Changes.{get_set_here, get_set_there, in_mapped, in_filter, filter_in, pairs_filter}
 use Rattle.interest.specs.Heard.{nothing_heard}
 use Rattle.hub_core.specs.State as hub
-use Rattle.hub_core.specs.State.{Peer, known, changed_in, changed_at, seen_of}
+use Rattle.hub_core.specs.State.{Peer, known, changed_in, changed_at}
 use Rattle.route_session.specs.Best.{Offer}
 use Rattle.route_session.specs.State as sessions
 use Rattle.route_session.specs.State.{Session, session_at, is_of_peer, peer_of_session}

@@ -15,7 +15,7 @@ use Rattle.route_values.specs.Records.{Info, Connect}
 use Rattle.route_values.specs.declared.bodies.Body.{Body}
 use Rattle.route_values.specs.declared.bodies.Body.TheVariants.{Plus, Minus, Snapshot, Msg}
 use Rattle.hub_core.specs.State as hub
-use Rattle.hub_core.specs.State.{Peer, unknown_peer, peer_at, peer_of, seen_of, known, changed_in}
+use Rattle.hub_core.specs.State.{Peer, unknown_peer, peer_of, seen_of, known, changed_in}
 use Rattle.hub_core.specs.Publishing.{frames_of, with_frames}
 use Rattle.hub_core.specs.Receiving.{body_fault, origin_fault, receive_refusal, told_by}
 use Rattle.hub_core.specs.Telling.{count_of_changes, has_room_for, is_slow, slow_from, collect_frames, without_slow}

@@ -16,7 +16,7 @@ use Rattle.route_values.specs.declared.frames.RouteFrame.{RouteFrame}
 use Rattle.route_frames.specs.declared.faults.RouteFault.{RouteFault}
 use Rattle.route_frames.specs.declared.faults.RouteFault.TheVariants.{BadArgs}
 use Rattle.route_frames.specs.Meaning.{Meaning, Means, MeansBy, ◌>>=◌}
-use Rattle.route_frames.specs.Decoding.{size_meaning, frame_meaning, sized, joined, takes_memory, is_snapshot_body, is_snapshot_line, is_snapshot_behind, body_has_payload, line_has_payload, Joins, failure_of}
+use Rattle.route_frames.specs.Decoding.{size_meaning, frame_meaning, sized, joined, takes_memory, is_snapshot_body, is_snapshot_behind, body_has_payload, line_has_payload, Joins, failure_of}
 use Rattle.route_frames.specs.Operations.{is_json_line}
 use Rattle.route_frames.specs.declared.lines.Unjoined.{Unjoined}
 use Rattle.route_frames.specs.declared.lines.Unjoined.TheVariants as back

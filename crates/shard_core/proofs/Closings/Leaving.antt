@@ -16,7 +16,7 @@ use Rattle.shard_core.specs.Owed.{Walk, walk, walked, first_step, put_one, give,
 use Rattle.shard_core.specs.Puts.{entries_for}
 use Rattle.shard_core.specs.ShardEvents.{Event, Attach, Subscribe, Unsubscribe, Reply, Shut, Detach, Take, Begin, Claim, End, DropJob, Collect}
 use Rattle.shard_core.specs.ShardSteps.{called, new_client, new_sub, subscribed, ended_now, unsubscribed, answer_fits, was_shut, done_with, shard_refusal, shard_after, shut_by}
-use Rattle.shard_core.specs.Causes.{Leaves, behind, with_given, IsDetached, ConnectionsLeave, GivesAll, RoomDecides}
+use Rattle.shard_core.specs.Causes.{Leaves, with_entries, with_given, IsDetached, ConnectionsLeave, GivesAll, RoomDecides}
 use Rattle.shard_core.proofs.Steps.LawEvents.{walk_gives}
 use Rattle.shard_core.proofs.Clients.Outboxes.{changed_here, changed_there, gone, stays, entries_append, entries_here, entries_there, stays_open, stays_shut, shuts}
 
@@ -108,11 +108,11 @@ record Fills (s : State) (job : Job) (due : List Subscription) (w : Walk) : Type
   same : (k : ℕ) → is_open k w.clients ≡ true → client_at k w.clients ≡ with_given s job w.given k
   lack : (k : ℕ) → In k w.shut → (is_open k w.clients ≡ false) × Lacks s job due w.given k
 
-nothing_behind : (x : Option Client) → x ≡ option_map (with_outbox (behind [])) x
+nothing_behind : (x : Option Client) → x ≡ option_map (with_outbox (with_entries [])) x
 nothing_behind None = refl
 nothing_behind (Some x) = λ i. Some (record x { outbox = record x.outbox { entries = sym (append_nil x.outbox.entries) i } })
 
-one_behind : (entries : List Written) (entry : Written) (x : Option Client) → option_map (with_outbox (with_entry entry)) (option_map (with_outbox (behind entries)) x) ≡ option_map (with_outbox (behind (entries ++ entry ∷ []))) x
+one_behind : (entries : List Written) (entry : Written) (x : Option Client) → option_map (with_outbox (with_entry entry)) (option_map (with_outbox (with_entries entries)) x) ≡ option_map (with_outbox (with_entries (entries ++ entry ∷ []))) x
 one_behind entries entry None = refl
 one_behind entries entry (Some x) = λ i. Some (record x { outbox = record x.outbox { entries = append_assoc x.outbox.entries entries (entry ∷ []) i } })
 
@@ -122,10 +122,10 @@ entries_more s job k given u = ap (entries_for k) (map_append (placed_for s.shar
 given_here : (s : State) (job : Job) (given : List Subscription) (u : Subscription) → option_map (with_outbox (with_entry (due_entry s.shard job None u))) (with_given s job given u.conn) ≡ with_given s job (given ++ u ∷ []) u.conn
 given_here s job given u =
     one_behind (entries_for u.conn (map (placed_for s.shard job None) given)) (due_entry s.shard job None u) (client_at u.conn s.clients)
-    ∙ ap (λ t. option_map (with_outbox (behind t)) (client_at u.conn s.clients)) (sym (entries_more s job u.conn given u ∙ ap (λ t. entries_for u.conn (map (placed_for s.shard job None) given) ++ t) (entries_here u.conn (due_entry s.shard job None u))))
+    ∙ ap (λ t. option_map (with_outbox (with_entries t)) (client_at u.conn s.clients)) (sym (entries_more s job u.conn given u ∙ ap (λ t. entries_for u.conn (map (placed_for s.shard job None) given) ++ t) (entries_here u.conn (due_entry s.shard job None u))))
 
 given_there : (s : State) (job : Job) (given : List Subscription) (u : Subscription) (k : ℕ) → k ≢ u.conn → with_given s job given k ≡ with_given s job (given ++ u ∷ []) k
-given_there s job given u k apart = ap (λ t. option_map (with_outbox (behind t)) (client_at k s.clients)) (sym (entries_more s job k given u ∙ ap (λ t. entries_for k (map (placed_for s.shard job None) given) ++ t) (entries_there k u.conn (due_entry s.shard job None u) apart) ∙ append_nil (entries_for k (map (placed_for s.shard job None) given))))
+given_there s job given u k apart = ap (λ t. option_map (with_outbox (with_entries t)) (client_at k s.clients)) (sym (entries_more s job k given u ∙ ap (λ t. entries_for k (map (placed_for s.shard job None) given) ++ t) (entries_there k u.conn (due_entry s.shard job None u) apart) ∙ append_nil (entries_for k (map (placed_for s.shard job None) given))))
 
 give_fills : (s : State) (job : Job) (due : List Subscription) (u : Subscription) (w : Walk) → is_open u.conn w.clients ≡ true → Fills s job due w → Fills s job due (give (due_entry s.shard job None u) u w)
 give_fills s job due u w opened h = record {

@@ -25,7 +25,7 @@ use Rattle.shard_core.specs.Opened.{Opened, AreRising, part_of, with_counts, wit
 use Rattle.shard_core.specs.Boxes.{Clients}
 use Rattle.shard_core.specs.declared.calls.Candidate.{Candidate}
 use Rattle.subj.specs.declared.limits.TheConstants.{MAX_QUEUE_NAMES}
-use Rattle.shard_core.specs.Tallies.{behind}
+use Rattle.shard_core.specs.Tallies.{lent_subs}
 use Rattle.shard_core.specs.Claims.{is_member}
 use Rattle.shard_core.specs.Held.{Held, IsWhole, ClaimsAreWhole, settled, ended_by_chosen, HasChosen, Chooses, IsSound, IsPossible, ArePossible, AreNumbered, shard_with, staged_for, staged_in, candidate_told, told_of, serial_told, with_serial, most_counts, each_turn, placed_chosen}
 use Rattle.shard_core.proofs.Steps.Kept.{sound, more_possible, numbered_changed, possible_left, possible_counted}
@@ -68,13 +68,13 @@ empty_of : {A : Type 0} (xs : List A) → length xs ≡ 0 → xs ≡ []
 empty_of [] e = refl
 empty_of (x ∷ xs) e = absurd (omega arith)
 
-module _ (copies : Bool) (shard : ℕ) (shown next : List Client) (job : Job) (name : List ℕ) (subs : List Subscription) (looks : List Subscription) (items : List (Bor Subscription)) (settled : next ≡ shown) (matching : looks ≡ filter (gets job.message.subject) subs) (members : behind items ≡ filter (is_member shard next job name) looks) where
-  candidates : behind items ≡ filter (is_candidate (shard_with shard shown subs) job name) subs
+module _ (copies : Bool) (shard : ℕ) (shown next : List Client) (job : Job) (name : List ℕ) (subs : List Subscription) (looks : List Subscription) (items : List (Bor Subscription)) (settled : next ≡ shown) (matching : looks ≡ filter (gets job.message.subject) subs) (members : lent_subs items ≡ filter (is_member shard next job name) looks) where
+  candidates : lent_subs items ≡ filter (is_candidate (shard_with shard shown subs) job name) subs
   candidates = members ∙ ap (λ (l : List Client). filter (is_member shard l job name) looks) settled ∙ ap (filter (is_member shard shown job name)) matching ∙ members_are shard shown job name subs subs
 
   pub nobody_chosen : length items ≡ 0 → HasChosen copies (shard_with shard shown subs) job name None next
   nobody_chosen none =
-      let e : candidate_named (shard_with shard shown subs) job (Some name) ≡ None = ap (chosen job.turn) (sym candidates ∙ ap behind (empty_of items none)) in
+      let e : candidate_named (shard_with shard shown subs) job (Some name) ≡ None = ap (chosen job.turn) (sym candidates ∙ ap lent_subs (empty_of items none)) in
       record { told = sym (ap (option_map (candidate_told copies shard job)) e); chosen = sym e; staged = settled ∙ sym (ap (λ o. staged_for o (Some job) shard shown) e) }
 
   -- the one at the place of the turn
@@ -89,8 +89,8 @@ module _ (copies : Bool) (shard : ℕ) (shown next : List Client) (job : Job) (n
 
     pub one_chosen : (entry : Written) (candidate : Candidate) (after : List Client) → candidate ≡ candidate_told copies shard job b.now → AreRising subs → i ≡ job.turn % length items → entry ≡ due_entry shard job b.now.key.queue b.now → after ≡ changed (with_entry entry) b.now.conn next → HasChosen copies (shard_with shard shown subs) job name (Some candidate) after
     one_chosen entry candidate after is rising place due put =
-        let size : length (behind items) ≡ length items = length-map items (λ (x : Bor Subscription). x.now) in
-        let here : slice_get (behind items) (job.turn % length (behind items)) ≡ Some b.now = ap (λ n. slice_get (behind items) (job.turn % n)) size ∙ ap (slice_get (behind items)) (sym place) ∙ slice_get-map (λ (x : Bor Subscription). x.now) items i ∙ ap (option_map (λ (x : Bor Subscription). x.now)) at in
+        let size : length (lent_subs items) ≡ length items = length-map items (λ (x : Bor Subscription). x.now) in
+        let here : slice_get (lent_subs items) (job.turn % length (lent_subs items)) ≡ Some b.now = ap (λ n. slice_get (lent_subs items) (job.turn % n)) size ∙ ap (slice_get (lent_subs items)) (sym place) ∙ slice_get-map (λ (x : Bor Subscription). x.now) items i ∙ ap (option_map (λ (x : Bor Subscription). x.now)) at in
         let e : candidate_named (shard_with shard shown subs) job (Some name) ≡ Some b.now = ap (chosen job.turn) (sym candidates) ∙ here in
         let is_open : In b.now subs = (in_filter (is_candidate (shard_with shard shown subs) job name) subs b.now (subst (In b.now) candidates (in_mapped (λ (x : Bor Subscription). x.now) items b (in_read items i b at)))).0 in
         record {

@@ -20,7 +20,7 @@ use Rattle.shard_core.specs.Closings.{serials_of, ended_ids}
 use Rattle.sub_table.specs.Subscriptions.{serial_of}
 use Rattle.shard_core.specs.Owed.{Walk, walk, walked, first_step, put_one, give, shut_slow, slow_consumer, due_entry, placed_for, is_plain, is_permitted, is_due}
 use Rattle.shard_core.specs.Held.{shard_with}
-use Rattle.shard_core.specs.Tallies.{Tallied, none_tallied, with_given, with_shut, tally_of, IsTallied, IsStaged, with_lines, HasPlaced, Follows, is_placed, put_if_due, walk_matching, behind}
+use Rattle.shard_core.specs.Tallies.{Tallied, none_tallied, with_given, with_shut, tally_of, IsTallied, IsStaged, with_lines, HasPlaced, Follows, is_placed, put_if_due, walk_matching, lent_subs}
 
 if_true : {A : Type 0} (b : Bool) (x y : A) → b ≡ true → (if b then x else y) ≡ x
 if_true b x y e = ap (λ v. if v then x else y) e
@@ -92,10 +92,10 @@ put_as_due subs job sub next after t t2 due step copies s w of is = subst (λ v.
 -- ---- all of them
 
 -- what holds of all holds of each that matches
-pub holds_of_each : (P : Subscription → Type 0) (q : Subscription → Bool) (looks : List (Bor Subscription)) (subs : List Subscription) (i : ℕ) (d : Bor Subscription) → behind looks ≡ filter q subs → All P subs → i < length looks → P (get_or looks i d).now
+pub holds_of_each : (P : Subscription → Type 0) (q : Subscription → Bool) (looks : List (Bor Subscription)) (subs : List Subscription) (i : ℕ) (d : Bor Subscription) → lent_subs looks ≡ filter q subs → All P subs → i < length looks → P (get_or looks i d).now
 holds_of_each P q looks subs i d is all within =
-    let each : All P (behind looks) = subst (All P) (sym is) (All-filter q P subs all) in
-    subst P (get_or-map (λ (x : Bor Subscription). x.now) looks i d d.now within) (All-get_or P (behind looks) i d.now (omega (arith, length-map looks (λ (x : Bor Subscription). x.now))) each)
+    let each : All P (lent_subs looks) = subst (All P) (sym is) (All-filter q P subs all) in
+    subst P (get_or-map (λ (x : Bor Subscription). x.now) looks i d d.now within) (All-get_or P (lent_subs looks) i d.now (omega (arith, length-map looks (λ (x : Bor Subscription). x.now))) each)
 
 walk_more : (s : State) (job : Job) (subs : List Subscription) (sub : Subscription) (w : Walk) → walk_matching s job (subs ++ sub ∷ []) w ≡ put_if_due s job (walk_matching s job subs w) sub
 walk_more s job [] sub w = refl
@@ -103,12 +103,12 @@ walk_more s job (u ∷ subs) sub w = walk_more s job subs sub (put_if_due s job 
 
 -- as far as a walk has come, and one step more
 pub walk_on : (subs : List Subscription) (job : Job) (matching : List (Bor Subscription)) (i : ℕ) (d : Bor Subscription) (first next after : List Client) (t0 t t2 : Tallied) → i < length matching
-    → Follows subs job (λ s w. walk_matching s job (behind (take i matching)) w) first t0 next t → Follows subs job (λ s w. put_if_due s job w (get_or matching i d).now) next t after t2
-    → Follows subs job (λ s w. walk_matching s job (behind (take (i + 1) matching)) w) first t0 after t2
+    → Follows subs job (λ s w. walk_matching s job (lent_subs (take i matching)) w) first t0 next t → Follows subs job (λ s w. put_if_due s job w (get_or matching i d).now) next t after t2
+    → Follows subs job (λ s w. walk_matching s job (lent_subs (take (i + 1) matching)) w) first t0 after t2
 walk_on subs job matching i d first next after t0 t t2 within so_far step copies s w of is =
-    let more : behind (take (i + 1) matching) ≡ behind (take i matching) ++ (get_or matching i d).now ∷ [] = ap behind (take_more matching i d within) ∙ map-append (λ (x : Bor Subscription). x.now) (take i matching) (get_or matching i d ∷ []) in
-    subst (λ v. IsTallied copies s job v after t2) (sym (ap (λ l. walk_matching s job l w) more ∙ walk_more s job (behind (take i matching)) (get_or matching i d).now w))
-    (step copies s (walk_matching s job (behind (take i matching)) w) of (so_far copies s w of is))
+    let more : lent_subs (take (i + 1) matching) ≡ lent_subs (take i matching) ++ (get_or matching i d).now ∷ [] = ap lent_subs (take_more matching i d within) ∙ map-append (λ (x : Bor Subscription). x.now) (take i matching) (get_or matching i d ∷ []) in
+    subst (λ v. IsTallied copies s job v after t2) (sym (ap (λ l. walk_matching s job l w) more ∙ walk_more s job (lent_subs (take i matching)) (get_or matching i d).now w))
+    (step copies s (walk_matching s job (lent_subs (take i matching)) w) of (so_far copies s w of is))
 
 -- the walk over what matches is the walk over what is due
 pub walk_of_matching : (s : State) (job : Job) (subs : List Subscription) (w : Walk) → walk_matching s job (filter (gets job.message.subject) subs) w ≡ walk s job (filter (is_due job) subs) w
@@ -130,11 +130,11 @@ nothing_put s job (sub ∷ subs) w none = by (is_placed job sub) refl none (noth
   by true e some more = absurd (cc)
   by false e rest more = ap (walk_matching s job subs) (if_false (is_placed job sub) _ _ e) ∙ more w rest
 
-pub walk_of_none : (subs : List Subscription) (job : Job) (looks : List (Bor Subscription)) (next : List Client) (t : Tallied) → filter (is_placed job) (behind looks) ≡ [] → Follows subs job (λ s w. walk_matching s job (behind looks) w) next t next t
-walk_of_none subs job looks next t none copies s w of is = subst (λ v. IsTallied copies s job v next t) (sym (nothing_put s job (behind looks) w none)) is
+pub walk_of_none : (subs : List Subscription) (job : Job) (looks : List (Bor Subscription)) (next : List Client) (t : Tallied) → filter (is_placed job) (lent_subs looks) ≡ [] → Follows subs job (λ s w. walk_matching s job (lent_subs looks) w) next t next t
+walk_of_none subs job looks next t none copies s w of is = subst (λ v. IsTallied copies s job v next t) (sym (nothing_put s job (lent_subs looks) w none)) is
 
-pub walk_whole : (subs : List Subscription) (job : Job) (looks : List (Bor Subscription)) (first next : List Client) (t0 t : Tallied) → behind looks ≡ filter (gets job.message.subject) subs
-    → Follows subs job (λ s w. walk_matching s job (behind looks) w) first t0 next t → Follows subs job (λ s w. walk s job (filter (is_due job) s.subs) w) first t0 next t
+pub walk_whole : (subs : List Subscription) (job : Job) (looks : List (Bor Subscription)) (first next : List Client) (t0 t : Tallied) → lent_subs looks ≡ filter (gets job.message.subject) subs
+    → Follows subs job (λ s w. walk_matching s job (lent_subs looks) w) first t0 next t → Follows subs job (λ s w. walk s job (filter (is_due job) s.subs) w) first t0 next t
 walk_whole subs job looks first next t0 t matching walked copies s w of is =
     subst (λ v. IsTallied copies s job v next t) (ap (λ l. walk_matching s job l w) matching ∙ walk_of_matching s job subs w ∙ ap (λ l. walk s job (filter (is_due job) l) w) (sym of)) (walked copies s w of is)
 

@@ -1,7 +1,7 @@
-use Rattle.std.proofs.Common.{rules, ◌≡◌, ◌+◌, ◌++◌, ◌∷◌, [], ℕ, List, length, length-append, sym, ap, ◌∙◌, subst, arith}
+use Rattle.std.proofs.Common.{rules, ◌≡◌, ◌+◌, ◌++◌, ◌∷◌, [], length, length-append, sym, ap, ◌∙◌, subst, arith}
 use Rattle.subj.specs.declared.jobs.Job.{Job}
 use Rattle.job_lane.specs.Turns.{AreNumberedBehind}
-use Rattle.job_lane.proofs.Numbering.{behind_none, behind_snoc}
+use Rattle.job_lane.proofs.Numbering.{behind_snoc}
 use Rattle.mesh_bench.proofs.lane_run.next_jobs.Goals as goal
 
 pub loop-made-preserved : goal.loop-made-preserved

@@ -1,4 +1,4 @@
-use Rattle.std.proofs.Common.{◌+◌, ◌≡◌, drop, ap, sym, ◌∙◌, subst}
+use Rattle.std.proofs.Common.{◌+◌, drop, ap, sym, ◌∙◌, subst}
 use Rattle.std.proofs.lemmas.List.{at_drop_more}
 use Rattle.script_form.specs.declared.steps.Step.{Step}
 use Rattle.mesh_script.specs.Asks.{NoMore, and_then, step_asks, steps_ask}

@@ -1,4 +1,4 @@
-use Rattle.std.proofs.Common.{◌≡◌, false, map, take, drop, length, All}
+use Rattle.std.proofs.Common.{◌≡◌, false, map, take, All}
 use Rattle.node_threads.proofs.outlet.begin_each.Given as goal
 
 abbrev pub invariant-loop-line : goal.invariant-loop-line

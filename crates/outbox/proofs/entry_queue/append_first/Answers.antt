@@ -1,8 +1,8 @@
-use Rattle.std.proofs.Common.{◌≡◌, ℕ, ◌+◌, ◌-◌, ◌≤◌, ◌<◌, ◌++◌, ◌∷◌, [], List, take, drop, length, get_or, sym, ap, ◌∙◌, arith, length-drop, append_assoc}
+use Rattle.std.proofs.Common.{◌≡◌, ℕ, ◌+◌, ◌-◌, ◌<◌, ◌++◌, List, take, drop, length, get_or, sym, ap, ◌∙◌, arith, length-drop, append_assoc}
 use Rattle.std.proofs.lemmas.List.{take_all}
 use Rattle.outbox.specs.Views.{Written, bytes_of_all}
 use Rattle.outbox.specs.declared.kept.Kept.{Kept}
-use Rattle.outbox.specs.Kept.{copied_of, copied_len, seen_at, seen}
+use Rattle.outbox.specs.Kept.{copied_len, seen_at, seen}
 use Rattle.outbox.proofs.Seen.{copied_parts, copied_within, copied_next, bytes_next}
 use Rattle.outbox.proofs.entry_queue.append_first.Goals as goal
 

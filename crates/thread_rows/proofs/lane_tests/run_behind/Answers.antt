@@ -1,4 +1,4 @@
-use Rattle.std.proofs.Common.{rules, ◌≡◌, ◌+◌, ◌++◌, ◌∷◌, [], ℕ, List, length, length-append, sym, ap, ◌∙◌, subst, arith}
+use Rattle.std.proofs.Common.{rules, ◌≡◌, ◌+◌, ◌++◌, ◌∷◌, [], length, length-append, sym, ap, ◌∙◌, subst, arith}
 use Rattle.subj.specs.declared.jobs.Job.{Job}
 use Rattle.job_lane.specs.Turns.{AreNumberedBehind}
 use Rattle.job_lane.proofs.Numbering.{behind_snoc}

@@ -1,4 +1,4 @@
-use Rattle.std.proofs.Common.{rules, ◌≡◌, ◌≤◌, ◌<◌, ◌+◌, ℕ, ◌*◌, List, Option, Some, None, refl, ap, ◌∙◌, arith, length, get_or}
+use Rattle.std.proofs.Common.{rules, ◌≡◌, ℕ, ◌*◌, Some, None, refl, ap, ◌∙◌}
 use Rattle.std.specs.Prelude.{replicate}
 use Rattle.claim_race.specs.declared.plain_race.Progress.{Progress}
 use Rattle.subj.specs.declared.limits.TheConstants.{WINDOW, MAX_QUEUE_NAMES}

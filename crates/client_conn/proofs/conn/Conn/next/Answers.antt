@@ -1,4 +1,4 @@
-use Rattle.std.proofs.Common.{refl, sym, ap, ◌∙◌}
+use Rattle.std.proofs.Common.{refl, sym, ◌∙◌}
 use Rattle.client_conn.specs.Streams.{end_of}
 use Rattle.client_conn.proofs.Answering.{first_asked}
 use Rattle.client_conn.proofs.conn.Conn.next.Goals as goal

@@ -1,4 +1,4 @@
-use Rattle.std.proofs.Common.{[], sym, ap, subst, ◌∙◌}
+use Rattle.std.proofs.Common.{sym, ap, subst}
 use Rattle.wire_cut.specs.Reading.{found_before}
 use Rattle.client_frames.specs.Streams.{client_grammar, command_told}
 use Rattle.client_frames.specs.declared.awaited.Awaited.TheVariants as awaits

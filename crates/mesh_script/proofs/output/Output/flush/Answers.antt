@@ -1,4 +1,4 @@
-use Rattle.std.proofs.Common.{[], ap, subst}
+use Rattle.std.proofs.Common.{[]}
 use Rattle.mesh_script.proofs.Putting.{puts_failed, starts_longer, starts_with_front, starts_same}
 use Rattle.mesh_script.proofs.output.Output.flush.Goals as goal
 

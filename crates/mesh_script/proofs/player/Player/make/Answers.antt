@@ -1,6 +1,3 @@
-use Rattle.std.proofs.Common.{ap, ◌∙◌, subst}
-use Rattle.mesh_script.specs.Asks.{act_asks}
-use Rattle.mesh_script.specs.Playing.{Makes}
 use Rattle.mesh_script.proofs.Moving.{makes_failed, breaks_unmoved}
 use Rattle.mesh_script.proofs.player.Player.make.Goals as goal
 

@@ -1,4 +1,4 @@
-use Rattle.mesh_script.specs.Asks.{once, NoMore}
+use Rattle.mesh_script.specs.Asks.{once}
 use Rattle.cluster_world.specs.InCode.{event_of}
 use Rattle.mesh_script.proofs.Moving.{makes_failed, breaks_first}
 use Rattle.mesh_script.proofs.player.Player.once.Goals as goal

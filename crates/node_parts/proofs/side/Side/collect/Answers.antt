@@ -1,4 +1,4 @@
-use Rattle.std.proofs.Common.{◌≡◌, None, sym, ap, ◌∙◌, subst}
+use Rattle.std.proofs.Common.{◌≡◌, None, subst}
 use Rattle.hub_core.specs.Events as of_hub
 use Rattle.hub_core.specs.Steps.{hub_refusal}
 use Rattle.hub_core.specs.Telling.{collect_frames}

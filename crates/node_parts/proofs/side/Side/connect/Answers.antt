@@ -1,6 +1,4 @@
 use Rattle.std.proofs.Common.{◌≡◌, ◌≤◌, Some, None, refl, sym, ap, ◌∙◌, subst}
-use Rattle.hub_core.specs.Events as of_hub
-use Rattle.hub_core.specs.Hubs as hubs
 use Rattle.hub_core.specs.Peers.{up}
 use Rattle.hub_core.specs.State.{seen_of, peer_of}
 use Rattle.hub_core.specs.Steps.{IsMeeting}

@@ -1,13 +1,11 @@
-use Rattle.std.proofs.Common.{◌≡◌, [], None, refl, sym, ap, ◌∙◌, subst}
-use Rattle.subj.specs.Servers.{Server, IsListed, place, is_peer}
+use Rattle.std.proofs.Common.{[], sym, ap, ◌∙◌, subst}
+use Rattle.subj.specs.Servers.{Server, IsListed}
 use Rattle.hub_core.specs.Calls.{IsTaken}
 use Rattle.hub_core.specs.Events as of_hub
 use Rattle.hub_core.specs.Hubs as hubs
 use Rattle.hub_core.specs.State.{seen_of, peer_of}
-use Rattle.hub_core.specs.Steps.{hub_refusal}
-use Rattle.node_parts.specs.Sides.{Side, ByHub, OfHub, IsDone, side_after}
-use Rattle.node_parts.proofs.Sides.{side_of}
-use Rattle.node_parts.proofs.Receiving.{heard_answer, received_side, of_a_peer}
+use Rattle.node_parts.specs.Sides.{Side, ByHub, side_after}
+use Rattle.node_parts.proofs.Receiving.{received_side, of_a_peer}
 use Rattle.node_parts.proofs.side.Side.take_message.Goals as goal
 
 pub end_old_session-requires : goal.end_old_session-requires

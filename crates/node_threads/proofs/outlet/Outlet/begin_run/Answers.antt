@@ -1,5 +1,4 @@
-use Rattle.std.proofs.Common.{◌≡◌, List, [], None, Some, sym, ap, ◌∙◌, subst}
-use Rattle.subj.specs.declared.jobs.Job.{Job}
+use Rattle.std.proofs.Common.{◌≡◌, [], None, Some, sym, ap, ◌∙◌, subst}
 use Rattle.node_threads.specs.Outlets.{Outlet, IsOutlet, handed}
 use Rattle.node_threads.proofs.Outlets.{begun, alike, none_of}
 use Rattle.node_threads.proofs.outlet.Outlet.begin_run.Goals as goal

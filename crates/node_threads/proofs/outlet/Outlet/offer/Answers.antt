@@ -1,7 +1,5 @@
-use Rattle.std.proofs.Common.{◌≡◌, ◌++◌, map, All, true, Some, None, List, sym, ap, ◌∙◌, subst}
-use Rattle.subj.specs.declared.jobs.Job.{Job}
-use Rattle.job_lane.specs.Turns.{AreNumbered}
-use Rattle.node_threads.specs.Outlets.{Line, Outlet, IsOutlet, owed, handed_to, handed}
+use Rattle.std.proofs.Common.{◌≡◌, All, true, Some, None, sym, ap, ◌∙◌, subst}
+use Rattle.node_threads.specs.Outlets.{Line, Outlet, IsOutlet, owed, handed}
 use Rattle.node_threads.proofs.Outlets.{owed_numbered, with_unsent, all_took, alike}
 use Rattle.node_threads.proofs.outlet.Outlet.offer.Goals as goal
 

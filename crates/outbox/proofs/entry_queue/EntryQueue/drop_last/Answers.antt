@@ -1,7 +1,6 @@
-use Rattle.std.proofs.Common.{◌≡◌, ℕ, ◌+◌, ◌-◌, ◌≤◌, ◌++◌, ◌∷◌, [], List, length, take, refl, ap, sym, subst, ◌∙◌, arith, length-append, length-take-le}
+use Rattle.std.proofs.Common.{◌≡◌, ℕ, ◌+◌, ◌-◌, ◌∷◌, [], List, length, take, ap, sym, ◌∙◌, arith, length-take-le}
 use Rattle.outbox.specs.declared.kept.Kept.{Kept}
 use Rattle.outbox.specs.Kept.{copied_of, copied_len, seen, Queued}
-use Rattle.outbox.specs.Views.{Written}
 use Rattle.outbox.proofs.Seen.{copied_behind, queued_same, seen_but_last}
 use Rattle.outbox.proofs.entry_queue.EntryQueue.drop_last.Goals as goal
 

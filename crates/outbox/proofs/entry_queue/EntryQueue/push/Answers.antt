@@ -1,4 +1,4 @@
-use Rattle.std.proofs.Common.{◌≡◌, ◌+◌, ◌++◌, ◌∷◌, [], length, ap, sym, ◌∙◌, arith, length-append}
+use Rattle.std.proofs.Common.{◌≡◌, ◌+◌, length, ap, ◌∙◌, arith, length-append}
 use Rattle.outbox.specs.Kept.{copied_of}
 use Rattle.outbox.proofs.Seen.{copied_copied}
 use Rattle.outbox.proofs.entry_queue.EntryQueue.push.Goals as goal

@@ -1,4 +1,4 @@
-use Rattle.std.proofs.Common.{◌≡◌, ℕ, ◌+◌, ◌-◌, ◌<◌, ◌≤◌, List, length, take, refl, ap, sym, ◌∙◌, arith, length-take-le}
+use Rattle.std.proofs.Common.{◌≡◌, ◌-◌, ◌≤◌, List, length, take, refl, ap, sym, ◌∙◌, arith, length-take-le}
 use Rattle.std.proofs.lemmas.List.{take-take, take_all}
 use Rattle.outbox.specs.Kept.{Queued}
 use Rattle.outbox.specs.Views.{Written}
