@@ -10,9 +10,10 @@ use crate::serving::{
     work_off,
 };
 use client_conn::{Ask, Refusal};
-use client_frames::{ErrText, ReplyFrame};
+use client_frames::{ErrText, ReplyFrame, reply_line};
+use line_fields::{CR_LF, append_reserved};
 use std::alloc::{AllocError, Global};
-use subj::{ConnId, Key, Pub, Sid};
+use subj::{ConnId, Key, OUTBOX_BYTES, Pub, Sid};
 
 /// What an ask came to.
 #[derive(Clone, Copy, Debug, PartialEq, Eq)]
@@ -81,8 +82,25 @@ impl PipeServer {
         }
     }
 
-    /// Puts a line. Tells whether the client was shut instead.
+    /// Says a line. One that an empty outbox has room for is said at once: nothing waits that it would stand behind. Tells
+    /// whether the client was shut instead.
     fn reply(&mut self, frame: &ReplyFrame) -> Result<bool, AllocError>
+        requires { IsReady self.old }
+        ensures { IfOk result (λ shut. HasServed (outcome_by shut) (after_event (Reply 1 frame.now) (served self.old)) self.old self.new) }
+    {
+        let line = reply_line(self.alloc, frame)?;
+        let len = line.len() + CR_LF.len();
+        if len > OUTBOX_BYTES {
+            return self.put_reply(frame);
+        }
+        self.output.reserve(len)?;
+        append_reserved(&mut self.output, &line);
+        append_reserved(&mut self.output, CR_LF);
+        Ok(false)
+    }
+
+    /// Puts a line, and takes it. Tells whether the client was shut instead.
+    fn put_reply(&mut self, frame: &ReplyFrame) -> Result<bool, AllocError>
         requires { IsReady self.old }
         ensures { IfOk result (λ shut. HasServed (outcome_by shut) (after_event (Reply 1 frame.now) (served self.old)) self.old self.new) }
     {
