@@ -34,14 +34,14 @@ impl Model for OpenAsks {
     ghost view = { λ s. record { asks = option_to_list s.confirmation ++ option_to_list s.own; options = s.options } };
 }
 
-/// `+OK` in verbose mode, which comes before what a command asks for itself.
-fn confirmation_by(options: Options) -> Option<Ask>
-    ensures { (own : List Ask) → option_to_list result ++ own ≡ confirmed options own }
+/// Asks for `+OK` in verbose mode, before what a command asks for itself.
+fn confirm(confirmation: &mut Option<Ask>, options: Options)
+    ensures { (own : List Ask) → option_to_list confirmation.new ++ own ≡ confirmed options own }
 {
     if options.verbose {
-        Some(Ask::Reply(ReplyFrame::Ok))
+        *confirmation = Some(Ask::Reply(ReplyFrame::Ok));
     } else {
-        None
+        *confirmation = None;
     }
 }
 
@@ -67,7 +67,7 @@ impl OpenAsks {
         match command {
             ClientLine::Connect(chosen) => {
                 self.options = chosen;
-                self.confirmation = confirmation_by(self.options);
+                confirm(&mut self.confirmation, self.options);
                 self.own = None;
             }
             ClientLine::Sub {
@@ -76,11 +76,11 @@ impl OpenAsks {
                 sid,
             } => {
                 let key = Key { pattern, queue };
-                self.confirmation = confirmation_by(self.options);
+                confirm(&mut self.confirmation, self.options);
                 self.own = Some(Ask::Subscribe { key, sid });
             }
             ClientLine::Unsub { sid, max } => {
-                self.confirmation = confirmation_by(self.options);
+                confirm(&mut self.confirmation, self.options);
                 self.own = Some(Ask::Unsubscribe { sid, max });
             }
             ClientLine::Ping => self.ask_alone(Ask::Reply(ReplyFrame::Pong)),
@@ -96,7 +96,7 @@ impl OpenAsks {
             message,
             echo: self.options.echo,
         };
-        self.confirmation = confirmation_by(self.options);
+        confirm(&mut self.confirmation, self.options);
         self.own = Some(Ask::Publish(publication));
     }
 

@@ -2,9 +2,10 @@
 //! writes what the server answers, as a function of the bytes alone.
 //!
 //! In reading order: `pipe` is the loop and what its contract says of all bytes that were written;
-//! `pipe_server` answers each thing that the connection asks; `serving` makes the server's calls.
+//! `pipe_server` answers each thing that the connection asks, by a `confirmation` most often; `serving` makes the server's calls.
 #![tactic(auto)]
 
+mod confirmation;
 mod faults;
 mod pipe;
 mod pipe_server;

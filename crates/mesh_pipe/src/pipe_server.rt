@@ -5,6 +5,7 @@ ghost use Rattle.mesh_pipe.specs.PipeText.{after_event, opening, placing, ask_sa
 ghost use Rattle.mesh_pipe.specs.PipeStates.{outcome_by, served, IsNew, IsReady, HasServed, MayBeTold};
 ghost use Rattle.shard_core.specs.ShardEvents.{Unsubscribe, Reply, Shut};
 
+use crate::confirmation::Confirmation;
 use crate::serving::{
     PipeNode, collect, new_node, publish, reply, shut, subscribe, take, take_any, unsubscribe,
     work_off,
@@ -30,6 +31,7 @@ pub struct PipeServer {
     alloc: Global,
     node: PipeNode,
     conn: ConnId,
+    confirmation: Confirmation,
     output: Vec<u8>,
 }
 
@@ -42,6 +44,7 @@ impl PipeServer {
             alloc,
             node: new_node(alloc)?,
             conn: ConnId::new(1),
+            confirmation: Confirmation::new(alloc)?,
             output: Vec::new(alloc),
         })
     }
@@ -88,6 +91,10 @@ impl PipeServer {
         requires { IsReady self.old }
         ensures { IfOk result (λ shut. HasServed (outcome_by shut) (after_event (Reply 1 frame.now) (served self.old)) self.old self.new) }
     {
+        if let ReplyFrame::Ok = frame {
+            self.output.extend_from_slice(self.confirmation.text())?;
+            return Ok(false);
+        }
         let line = reply_line(self.alloc, frame)?;
         let len = line.len() + CR_LF.len();
         if len > OUTBOX_BYTES {
