@@ -6,6 +6,7 @@ use Rattle.std.specs.List.{prefix_len, position_or_len}
 use Rattle.std.proofs.lemmas.Bool.Decides.{nat_tests}
 use Rattle.std.proofs.lemmas.List.{length-map, get_or-map}
 use Rattle.std.proofs.lemmas.List.Sums.{fails_before_first}
+use Rattle.list_laws.proofs.Positions.{not_below}
 use Rattle.subj.specs.declared.limits.TheConstants.{WINDOW}
 use Rattle.subj.specs.declared.turns.Busy.{Busy}
 use Rattle.claim_race.specs.declared.plain_race.Progress.{Progress}
@@ -31,9 +32,6 @@ pub some_busy : (issued : ℕ) (progress : List Progress) (place : ℕ) (shard :
     → busy_of issued (finished_in progress) ≡ Some (record { shard = place + 1; finished = shard.finished })
 some_busy issued progress place shard some below is = busy_is issued progress ∙ ap (option_map (busy_at (finished_in progress))) some
     ∙ ap (λ (n : ℕ). let busy : Option Busy = Some (record { shard = place + 1; finished = n }) in busy) (get_or-map (λ (shard : Progress). shard.finished) progress place shard 0 below ∙ ap (λ (shard : Progress). shard.finished) (sym is))
-
-not_below : (a b : ℕ) → cond (nat_lt a b) (Some a) None ≡ None → b ≤ a
-not_below a b e = grind (arith, nat_tests)
 
 not_behind : (issued finished : ℕ) → is_behind issued finished ≡ false → issued + 1 ≤ finished + WINDOW
 not_behind issued finished is = grind (arith, nat_tests)

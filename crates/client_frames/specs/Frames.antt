@@ -1,12 +1,13 @@
 -- What a server sends to its clients.
 use Rattle.std.specs.Prelude.{List, ℕ, ◌++◌, codes}
+use Rattle.line_fields.specs.LineEnd.{line_end}
 use Rattle.client_frames.specs.declared.server_frames.ReplyFrame.{ReplyFrame}
 use Rattle.client_frames.specs.declared.server_frames.ReplyFrame.TheVariants.{Info, Pong, Ok, Err}
 use Rattle.client_frames.specs.declared.server_frames.ServerFrame.{ServerFrame}
 use Rattle.client_frames.specs.declared.server_frames.ServerFrame.TheVariants.{Reply, Msg}
 use Rattle.client_frames.specs.Info.{info_json}
 use Rattle.client_frames.specs.ErrTexts.{err_line}
-use Rattle.client_frames.specs.Messages.{line_end, no_headers, due_bytes}
+use Rattle.client_frames.specs.Messages.{no_headers, due_bytes}
 
 -- NATS documentation, "Client Protocol": the lines that answer a client
 abbrev pub reply_line : ReplyFrame → List ℕ

@@ -3,7 +3,7 @@
 use Rattle.std.specs.Prelude.{◌≡◌, ℕ, Bool, true, false, IsTrue, List, [], ◌∷◌, length, drop, Option, Some, None, Result, Ok, Err, is_some, if◌then◌else◌}
 use Rattle.std.specs.Option.{option_or}
 use Rattle.subj.specs.Names.{subject_fault, pattern_fault, queue_name_fault, sid_fault}
-use Rattle.subj.specs.declared.names.NameFault.{NameFault}
+use Rattle.subj.specs.declared.faults.NameFault.{NameFault}
 use Rattle.subj.specs.declared.failures.Failure.{Failure}
 use Rattle.subj.specs.declared.failures.Failure.TheVariants.{Refused, OutOfMemory}
 use Rattle.line_fields.specs.Fields.{line_fields}

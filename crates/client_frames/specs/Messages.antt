@@ -1,10 +1,7 @@
 -- Message bytes: what a subscriber is due of a publication.
-use Rattle.std.specs.Prelude.{ℕ, List, [], ◌∷◌, ◌++◌, length, codes, decimal, Option, Some, None}
+use Rattle.std.specs.Prelude.{ℕ, List, [], ◌++◌, length, codes, decimal, Option, Some, None}
+use Rattle.line_fields.specs.LineEnd.{line_end}
 use Rattle.subj.specs.Messages.{Content}
-
--- CR LF, which ends each line
-abbrev pub line_end : List ℕ
-line_end = 13 ∷ 10 ∷ []
 
 -- What a connection has said of headers: none can, so far, and each is due the form without them.
 pub data HeaderOption : Type 0 where

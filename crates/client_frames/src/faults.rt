@@ -19,7 +19,7 @@ pub enum LineFault {
     #[error("the options are not a JSON object of the members that are known")]
     BadJson = 22,
     /// The pattern of a `SUB` is none, or the subject or the reply of a `PUB`.
-    #[error("the subject is not valid")]
+    #[error("the subject is not valid: tokens with dots between them, none of them empty, and wildcards in a pattern alone")]
     BadSubject = 23,
 }
 

@@ -7,7 +7,7 @@ use Rattle.subj.specs.declared.jobs.Job.{Job}
 use Rattle.subj.specs.declared.limits.TheConstants.{MAX_COUNTER, MAX_QUEUE_NAMES}
 use Rattle.subj.specs.declared.messages.Pub.{Pub}
 use Rattle.subj.specs.Messages.{Content}
-use Rattle.subj.specs.Names.{is_empty}
+use Rattle.list_laws.specs.Lists.{is_empty}
 use Rattle.subj.specs.Servers.{Server, name_of, own_name}
 use Rattle.claim_race.specs.Race.{busy_of}
 use Rattle.interest.specs.Matches.{has_plain_match}

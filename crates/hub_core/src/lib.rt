@@ -2,8 +2,9 @@
 //! a view of each peer's interest, and tells which frames of peers it takes.
 //!
 //! In reading order: `hub` has the state; `publishing` with `choice` is what a publish owes, `receiving` what a frame of a peer does,
-//! `collects` with `collecting` what peers are told of interest, and `telling` the snapshot for one that comes up. `peers` keeps what is
-//! known of each, and `putting` puts frames for them. `window` and `refusals` say why a call is refused.
+//! `collects` with `collecting` what peers are told of interest, and `telling` the snapshot for one that comes up (`up`). `peers` keeps
+//! what is known of each, and `putting` puts frames for them. `window` and `refusals` say why a call is refused (`faults`), and `answers`
+//! what it gives, by the numbers of `ids`. `laws` and `examples` are what holds of all this.
 #![tactic(auto)]
 
 mod answers;

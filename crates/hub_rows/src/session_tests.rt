@@ -10,7 +10,7 @@ use std::test::Fail;
 use subj::Failure;
 
 #[test]
-fn refusals_have_numbers(rt: HostRuntime) {
+fn refusals_of_sessions_have_numbers(rt: HostRuntime) {
     let table = [
         (SessionFault::WrongName, 70),
         (SessionFault::OldIncarnation, 71),

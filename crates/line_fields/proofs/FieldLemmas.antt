@@ -1,22 +1,21 @@
 -- Cutting the first field off a text.
-use Rattle.std.proofs.Common.{◌++◌, take-append-drop, ◌≡◌, ℕ, suc, ◌+◌, ◌≤◌, ◌<◌, Bool, true, false, not, cond, List, [], ◌∷◌, length, take, drop, refl, ap, sym, ◌∙◌, arith, subst, take_all, Some, None}
-use Rattle.std.specs.Prelude.{filter, position, nat_lt}
+use Rattle.std.proofs.Common.{◌++◌, take-append-drop, ◌≡◌, ℕ, suc, ◌+◌, ◌<◌, Bool, true, false, not, cond, List, [], ◌∷◌, length, take, drop, refl, ap, sym, ◌∙◌, arith, subst, take_all, Some, None}
+use Rattle.std.specs.Prelude.{filter, position}
 use Rattle.std.specs.List.{slice_split, onto_first, position_or_len}
-use Rattle.std.proofs.lemmas.Bool.Decides.{nat_tests}
 use Rattle.std.proofs.Math.Numerals.{one-add}
 use Rattle.std.proofs.lemmas.List.{drop_all, append-nil}
-use Rattle.line_fields.specs.Fields.{is_empty, is_blank, is_field_byte, fields, begins_with_field}
+use Rattle.list_laws.proofs.Positions.{not_below, below}
+use Rattle.list_laws.specs.Lists.{is_empty}
+use Rattle.line_fields.specs.Fields.{is_blank, is_field_byte, fields, begins_with_field}
 
 -- ---- where the first passes
 
-pub not_below : (a b : ℕ) → cond (nat_lt a b) (Some a) None ≡ None → b ≤ a
-not_below a b e = grind (arith, nat_tests)
-
-below : (a b i : ℕ) → cond (nat_lt a b) (Some a) None ≡ Some i → (i < b) × (a ≡ i)
-below a b i e = grind (arith, nat_tests)
-
 pub position-below : (p : ℕ → Bool) (xs : List ℕ) (i : ℕ) → position p xs ≡ Some i → (i < length xs) × (position_or_len p xs ≡ i)
-position-below p xs i e = below (position_or_len p xs) (length xs) i e
+position-below p xs i e =
+    let at = below (position_or_len p xs) (length xs) i e in
+    let within = at.0 in
+    let same = at.1 in
+    (omega (arith, within, same), same)
 
 -- ---- the pieces that are fields
 

@@ -5,7 +5,8 @@ use Rattle.std.specs.List.{slice_split, onto_first, position_or_len, list_all, l
 use Rattle.std.proofs.Math.Numerals.{one-add}
 use Rattle.std.proofs.lemmas.List.{drop_all}
 use Rattle.std.proofs.lemmas.Bool.Decides.{nat_tests}
-use Rattle.line_fields.specs.Fields.{is_empty, is_blank, is_field_byte, fields, begins_with_blank, line_fields}
+use Rattle.list_laws.specs.Lists.{is_empty}
+use Rattle.line_fields.specs.Fields.{is_blank, is_field_byte, fields, begins_with_blank, line_fields}
 use Rattle.line_fields.specs.Spelling.{AreBlanks, IsGap, IsField, Begins, ComesNext, FieldsFollow}
 use Rattle.line_fields.proofs.FieldLemmas.{kept, BeginsField, starts, skip, in_front}
 

@@ -4,10 +4,7 @@ use Rattle.std.specs.Borrow.{Bor}
 use Rattle.std.specs.List.{slice_split}
 use Rattle.std.specs.Str.{all_ascii_digits, bytes_eq, str_to_ascii_lowercase}
 use Rattle.std.specs.Str.Parse.{digits_value}
-
-abbrev pub is_empty : {A : Type 0} → List A → Bool
-is_empty [] = true
-is_empty (x ∷ xs) = false
+use Rattle.list_laws.specs.Lists.{is_empty}
 
 -- NATS documentation, "Client Protocol": fields are separated by spaces or tabs
 abbrev pub is_blank : ℕ → Bool

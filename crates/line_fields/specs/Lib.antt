@@ -1,3 +1,5 @@
+-- what ends a line
+pub mod LineEnd
 -- a line as a list of fields
 pub mod Fields
 -- how a line is put together from its fields

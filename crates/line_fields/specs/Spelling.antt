@@ -1,7 +1,8 @@
 -- How a line is put together from its fields.
 use Rattle.std.specs.Prelude.{◌≡◌, ℕ, true, false, List, [], ◌∷◌, ◌++◌}
 use Rattle.std.specs.List.{list_all, list_any}
-use Rattle.line_fields.specs.Fields.{is_empty, is_blank, line_fields}
+use Rattle.list_laws.specs.Lists.{is_empty}
+use Rattle.line_fields.specs.Fields.{is_blank, line_fields}
 
 abbrev pub AreBlanks : List ℕ → Type 0
 AreBlanks bytes = list_all is_blank bytes ≡ true

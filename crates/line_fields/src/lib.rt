@@ -1,4 +1,7 @@
 //! The fields of a line, as clients and routes write them, and what lines are written with.
+//!
+//! In reading order: `splitting` has the fields of a line, `digits` the numbers in them, and `laws` what holds of both; `appending` is what
+//! lines are written with.
 #![tactic(auto)]
 
 mod appending;

@@ -1,3 +1,4 @@
 pub mod Lists
 pub mod Changes
 pub mod Tests
+pub mod Positions

@@ -1,5 +1,10 @@
 -- Words for lists: the oldest entry of a history stands first.
-use Rattle.std.specs.Prelude.{◌≡◌, ◌⊎◌, ℕ, List, [], ◌∷◌, slice_get, Some}
+use Rattle.std.specs.Prelude.{◌≡◌, ◌⊎◌, ℕ, Bool, true, false, List, [], ◌∷◌, slice_get, Some}
+
+-- There is no entry.
+abbrev pub is_empty : {A : Type 0} → List A → Bool
+is_empty [] = true
+is_empty (x ∷ xs) = false
 
 -- It is an entry of the list.
 abbrev pub In : {A : Type 0} → A → List A → Type 0

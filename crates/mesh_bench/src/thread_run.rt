@@ -160,6 +160,7 @@ fn publish_all<N: NodeName, R: Wait>(
             thread::yield_now();
         }
     }
+    // `forever` ends by a return alone
     unreachable!()
 }
 
@@ -184,6 +185,7 @@ fn work_all<N: NodeName, R: Wait>(
             thread::yield_now();
         }
     }
+    // `forever` ends by a return alone
     unreachable!()
 }
 

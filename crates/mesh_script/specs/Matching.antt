@@ -1,9 +1,10 @@
 -- What is written of a pattern and a subject (profile).
 use Rattle.std.specs.Prelude.{◌≡◌, ℕ, ◌+◌, Bool, true, false, List, ◌++◌, codes, Option, Some, None, Result, Ok, Err}
 use Rattle.std.specs.Io.KnownBytes.{Appends}
-use Rattle.subj.specs.declared.names.NameFault.{NameFault}
+use Rattle.subj.specs.declared.faults.NameFault.{NameFault}
 use Rattle.subj.specs.Matching.{subject_matches}
-use Rattle.subj.specs.Names.{pattern_fault, subject_fault, name_fault_number}
+use Rattle.subj.specs.Faults.{name_fault_number}
+use Rattle.subj.specs.Names.{pattern_fault, subject_fault}
 use Rattle.mesh_script.specs.declared.faults.MatchFault.{MatchFault}
 use Rattle.mesh_script.specs.declared.faults.MatchFault.TheVariants.{BadPattern, BadSubject, Write, OutOfMemory}
 use Rattle.mesh_script.specs.declared.faults.PlayFault.{PlayFault}

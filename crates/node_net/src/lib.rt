@@ -1,8 +1,9 @@
 //! The connections of a server: streams in, streams out, and between them the calls of the server.
 //!
-//! In reading order: `client_link` and `route_link`
-//! make calls of what was read; `connection` has one of them with its stream; `server` has all connections;
-//! `turning` and `flushing` are a turn of its loop, and `running` is the loop.
+//! In reading order: `client_link` and `route_link` make calls of what was read (`calls`), and tell what they have come to (`runs`);
+//! `connection` has one of them with its stream; `server` has all connections, and finds those of clients (`clients`) and of other servers
+//! (`peers`); `turning` and `flushing` are a turn of its loop, and `running` is the loop. `closings`, `redials` and `stops` say when
+//! connections are closed, other servers dialed again, and the loop ended; `faults` why no stream is taken.
 #![tactic(auto)]
 
 mod calls;

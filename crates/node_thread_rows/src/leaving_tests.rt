@@ -48,6 +48,7 @@ fn publish_in_time<N: NodeName, R: Wait>(
             Err(_) => return false,
         }
     }
+    // `forever` ends by a return alone
     unreachable!()
 }
 

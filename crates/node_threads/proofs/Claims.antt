@@ -19,7 +19,8 @@ use Rattle.shard_core.specs.ShardEvents.{Claim, End}
 use Rattle.shard_core.specs.ShardSteps.{shard_refusal, shard_after, done_with, claim_refusal, end_refusal}
 use Rattle.shard_core.specs.Shards.{State}
 use Rattle.shard_core.specs.declared.faults.ShardFault.TheVariants.{BadIndex, NotAllTried}
-use Rattle.node_threads.specs.AtWork.{AtWork, Makes, IsAtWork, HasDone, tried_of, one_if}
+use Rattle.node_law.specs.Sound.{tried_of}
+use Rattle.node_threads.specs.AtWork.{AtWork, Makes, IsAtWork, HasDone, one_if}
 use Rattle.node_threads.specs.Steps.{claimed_in, pair_of}
 use Rattle.node_threads.specs.Turns.{is_work, HasEnded, MayClaim, ClaimsOne, HasTried, IsTrying}
 use Rattle.node_threads.proofs.Working.{step_of, led, done_join}

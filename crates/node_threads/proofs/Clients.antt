@@ -12,7 +12,8 @@ use Rattle.shard_core.specs.ShardEvents.{Event, Attach, Subscribe, Unsubscribe, 
 use Rattle.shard_core.specs.ShardSteps.{IsAsked, called, new_sub, subscribed, ended_now, unsubscribed, answer_fits, shard_refusal, shard_answer, shard_after}
 use Rattle.shard_core.specs.Shards.{State, waits_for}
 use Rattle.shard_core.specs.declared.faults.ShardFault.{ShardFault}
-use Rattle.node_threads.specs.AtWork.{AtWork, Makes, Does, TakesBytes, IsAtWork, HasDone, at_start, tried_of, one_if}
+use Rattle.node_law.specs.Sound.{tried_of}
+use Rattle.node_threads.specs.AtWork.{AtWork, Makes, Does, TakesBytes, IsAtWork, HasDone, at_start, one_if}
 use Rattle.node_threads.specs.Steps.{job_in, claimed_in}
 use Rattle.node_threads.proofs.Joining.{makes_join}
 

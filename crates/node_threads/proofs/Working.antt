@@ -17,7 +17,8 @@ use Rattle.subj.specs.declared.failures.Failure.{Failure}
 use Rattle.subj.specs.declared.failures.Failure.TheVariants.{Refused, OutOfMemory}
 use Rattle.shard_core.specs.declared.faults.ShardFault.{ShardFault}
 use Rattle.shard_core.specs.declared.faults.ShardFault.TheVariants.{JobInHand, WrongTurn}
-use Rattle.node_threads.specs.AtWork.{AtWork, Makes, IsAtWork, HasDone, at_start, tried_of, one_if, seen_as}
+use Rattle.node_law.specs.Sound.{tried_of}
+use Rattle.node_threads.specs.AtWork.{AtWork, Makes, IsAtWork, HasDone, at_start, one_if, seen_as}
 use Rattle.node_threads.specs.Steps.{Done, Leads}
 use Rattle.node_threads.specs.Turns.{is_work, HasWorked}
 use Rattle.node_threads.proofs.Joining.{makes_join}

@@ -9,6 +9,7 @@ use Rattle.shard_core.specs.ShardEvents.{Event, Answer, Take, Taken}
 use Rattle.shard_core.specs.ShardSteps.{shard_answer, shard_after}
 use Rattle.shard_core.specs.Shards.{State, new_shard}
 use Rattle.node_threads.specs.Steps.{Done, Leads, jobs_of, claims_of}
+use Rattle.node_law.specs.Sound.{tried_of}
 
 -- the shard; what its seat at the race knows; the jobs that it popped from its lane, in order; and the last one of these,
 -- where it is not begun yet
@@ -55,11 +56,6 @@ pub record TakesBytes (old : AtWork) (conn count taken : ℕ) (before bytes : Li
   pub bytes_are : bytes ≡ before ++ bytes_of_all entries
 
 -- ---- what its fields keep
-
--- the least index of the job in hand that was not tried
-abbrev pub tried_of : Option Job → ℕ → ℕ
-tried_of None next = 0
-tried_of (Some job) next = next
 
 abbrev pub one_if : Option Job → ℕ
 one_if None = 0

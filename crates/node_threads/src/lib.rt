@@ -2,8 +2,9 @@
 //! the shards by lanes, and the shards race for claims. The locks themselves are those of `thread_node`.
 //!
 //! In reading order: `names` ties the parts of one server; `line` is the hub's end of a lane, and `outlet` has all of them;
-//! `hub_state` and `shard_state` stand under the locks; `turning` is a turn of a shard, with `gates` that may hold it; `dropping` and
-//! `ending` are how jobs and servers end.
+//! `hub_state` and `shard_state` stand under the locks; `turning` is a turn of a shard, with `gates` that may hold it, and comes to what
+//! `turned` says; `dropping` and `ending` are how jobs and servers end. A `tape` is what is kept in writing, of a shard by `noting`, in
+//! `shard_entries`. `laws` says that all this is the server's own step.
 #![tactic(auto)]
 
 mod dropping;

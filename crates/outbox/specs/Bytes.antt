@@ -1,9 +1,6 @@
 -- The bytes of an entry.
-use Rattle.std.specs.Prelude.{ℕ, List, [], ◌∷◌, ◌++◌, Option, Some, None}
-
--- NATS documentation, "Client Protocol": CR LF ends each line and each payload
-abbrev pub line_end : List ℕ
-line_end = 13 ∷ 10 ∷ []
+use Rattle.std.specs.Prelude.{ℕ, List, [], ◌++◌, Option, Some, None}
+pub use Rattle.line_fields.specs.LineEnd.{line_end}
 
 abbrev pub payload_bytes : Option (List ℕ) → List ℕ
 payload_bytes None = []

@@ -10,7 +10,7 @@ use Rattle.std.specs.Cmp.Lexicographic.{bytes_decides}
 use Rattle.std.proofs.lemmas.Bool.{cases_Bool, cond-false}
 use Rattle.std.proofs.lemmas.Bool.Decides.{nat_tests}
 use Rattle.std.proofs.lemmas.List.{append_assoc, append-nil}
-use Rattle.subj.specs.Names.{is_empty}
+use Rattle.list_laws.specs.Lists.{is_empty}
 use Rattle.pattern_trie.specs.Nodes.{Nodes, has_mark, below_at, count_of, one_if}
 use Rattle.pattern_trie.specs.Beginnings.{is_beginning, is_before_dot, with_behind}
 use Rattle.pattern_trie.specs.Held.{Held, Holds, count_below, values_for}

@@ -7,7 +7,7 @@ use Rattle.std.specs.declared.hash.BuildHasherDefault.{BuildHasherDefault}
 use Rattle.std.specs.declared.vec.Vec.{Vec}
 use Rattle.std.specs.declared.alloc.Global.{Global}
 use Rattle.pattern_trie.specs.declared.node.Node.{Node}
-use Rattle.subj.specs.Names.{is_empty}
+use Rattle.list_laws.specs.Lists.{is_empty}
 use Rattle.pattern_trie.specs.declared.marks.Marks.{Marks}
 use Rattle.pattern_trie.specs.Classes.{is_in}
 

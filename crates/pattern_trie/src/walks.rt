@@ -2,7 +2,8 @@
 
 ghost use Rattle.std.specs.Prelude.{◌≡◌, false, ◌++◌, List, OnOk, IfSome, IfNone};
 ghost use Rattle.std.specs.Option.{option_copied};
-ghost use Rattle.subj.specs.Names.{is_empty, tokens_behind};
+ghost use Rattle.list_laws.specs.Lists.{is_empty};
+ghost use Rattle.subj.specs.Names.{tokens_behind};
 ghost use Rattle.pattern_trie.specs.Nodes.{below_at, values_at, has_mark, AreKnown};
 ghost use Rattle.pattern_trie.specs.Held.{Held, Holds};
 ghost use Rattle.pattern_trie.specs.Matchers.{dotted, gathered, matchers};

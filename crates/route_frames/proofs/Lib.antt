@@ -1,3 +1,4 @@
+pub mod Operations
 pub mod Cuts
 pub mod Canonical
 pub mod Meaning

@@ -11,6 +11,9 @@ use Rattle.route_values.specs.declared.frames.RouteFrame.TheVariants as frame
 use Rattle.route_values.specs.Records.{Info, Connect}
 use Rattle.route_values.specs.Frames.{Frame}
 use Rattle.route_values.specs.Snapshots.{line_end, snapshot_text}
+use Rattle.route_frames.specs.declared.operation.Operation.{Operation}
+use Rattle.route_frames.specs.declared.operation.Operation.TheVariants as operation
+use Rattle.route_frames.specs.Operations.{word_of}
 
 -- ---- INFO and CONNECT
 
@@ -35,11 +38,14 @@ connect_json connect = object (
 abbrev pub spaced : List (List ℕ) → List ℕ
 spaced fields = flat_map (λ field. 32 ∷ field) fields
 
+abbrev pub operation_for : Body → Operation
+operation_for (Plus key) = operation.Plus
+operation_for (Minus key) = operation.Minus
+operation_for (Snapshot keys) = operation.Snapshot
+operation_for (Msg message queues) = operation.Msg
+
 abbrev pub operation_word : Body → List ℕ
-operation_word (Plus key) = codes "RS+"
-operation_word (Minus key) = codes "RS-"
-operation_word (Snapshot keys) = codes "RSS"
-operation_word (Msg message queues) = codes "RMSG"
+operation_word body = word_of (operation_for body)
 
 abbrev pub common_of : Frame → List (List ℕ)
 common_of frame = frame.from ∷ decimal frame.inc ∷ frame.to ∷ decimal frame.to_inc ∷ decimal frame.number ∷ []

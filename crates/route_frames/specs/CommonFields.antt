@@ -2,7 +2,7 @@
 use Rattle.std.specs.Prelude.{ℕ, ◌&&◌, nat_le, List, [], ◌∷◌, Option, Some, None, Ok, Err, is_some, if◌then◌else◌}
 use Rattle.std.specs.Option.{ok_or}
 use Rattle.subj.specs.declared.limits.TheConstants.{MAX_COUNTER}
-use Rattle.subj.specs.Names.{node_name_fault}
+use Rattle.subj.specs.declared.faults.NameFault.{NameFault}
 use Rattle.subj.specs.Numbers.{incarnation_of}
 use Rattle.line_fields.specs.Fields.{number_of}
 use Rattle.route_frames.specs.declared.faults.RouteFault.TheVariants.{BadArgs, BadNumber}
@@ -50,7 +50,7 @@ numbers_in_range least numbers = do
   number ← within least MAX_COUNTER numbers.number
   Ok (record { inc = inc; to_inc = to_inc; number = number })
 
--- ---- their names
+-- ---- names: fields that have no fault
 
-abbrev pub node_of : List ℕ → Meaning (List ℕ)
-node_of field = if is_some (node_name_fault field) then Err BadArgs else Ok field
+abbrev pub name_of : (List ℕ → Option NameFault) → List ℕ → Meaning (List ℕ)
+name_of fault field = if is_some (fault field) then Err BadArgs else Ok field

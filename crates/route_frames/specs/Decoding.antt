@@ -1,7 +1,7 @@
 -- Route spelling as a computed meaning: what a line and the payload behind it say, or why they are refused (profile).
 use Rattle.std.specs.Prelude.{◌≡◌, ℕ, Bool, true, false, ◌&&◌, ◌||◌, is_ok, List, length, nat_eq, Option, Some, None, Result, Ok, Err, if◌then◌else◌}
 use Rattle.std.specs.Option.{ok_or}
-use Rattle.line_fields.specs.Fields.{is_empty}
+use Rattle.list_laws.specs.Lists.{is_empty}
 use Rattle.subj.specs.Messages.{content_of}
 use Rattle.route_values.specs.declared.bodies.Body.{Body}
 use Rattle.route_values.specs.declared.bodies.Body.TheVariants.{Plus, Minus, Snapshot, Msg}
@@ -21,9 +21,8 @@ use Rattle.route_frames.specs.declared.lines.RouteLine.TheVariants as line
 use Rattle.route_frames.specs.declared.lines.Unjoined.{Unjoined}
 use Rattle.route_frames.specs.declared.lines.Unjoined.TheVariants.{Refused, OutOfMemory}
 use Rattle.route_frames.specs.Meaning.{Meaning, ◌>>=◌}
-use Rattle.route_frames.specs.Announced.{announced_size}
+use Rattle.route_frames.specs.Lines.{announced_size, line_meaning}
 use Rattle.route_frames.specs.Operations.{is_json_line}
-use Rattle.route_frames.specs.Lines.{line_meaning}
 use Rattle.route_frames.specs.SnapshotTexts.{snapshot_in}
 
 -- how many bytes of payload follow a line, where any do

@@ -13,7 +13,8 @@ use Rattle.route_frames.specs.declared.greetings.Dial.{Dial}
 use Rattle.route_frames.specs.declared.greetings.Whole.{Whole}
 use Rattle.route_frames.specs.declared.greetings.Whole.TheVariants.{Other, Negative, Number}
 use Rattle.route_frames.specs.Meaning.{Meaning, ◌>>=◌}
-use Rattle.route_frames.specs.CommonFields.{node_of}
+use Rattle.route_frames.specs.CommonFields.{name_of}
+use Rattle.subj.specs.Names.{node_name_fault}
 
 -- ---- a JSON object
 
@@ -59,7 +60,7 @@ incarnation_in whole = do
 unfoldable pub node_at : List ℕ → Data → Meaning (List ℕ)
 node_at key json = do
   name ← ok_or (option_and_then as_str (get key json)) BadArgs
-  node_of name
+  name_of node_name_fault name
 
 -- ---- INFO and CONNECT
 

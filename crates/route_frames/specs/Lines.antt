@@ -1,4 +1,4 @@
--- What the line of a route means: what its frame says so far, or why it is refused.
+-- What the line of a route means: what its frame says so far, or why it is refused; and the payload that it announces.
 -- NATS documentation, "Cluster Protocol": the operations. The common fields and the refusals are this project's profile.
 use Rattle.std.specs.Prelude.{ℕ, List, [], ◌∷◌, length, drop, Option, Some, None, Ok, Err}
 use Rattle.std.specs.Option.{ok_or}
@@ -14,6 +14,8 @@ use Rattle.route_frames.specs.Operations.{operation_of}
 use Rattle.route_frames.specs.CommonFields.{CommonFields, common_fields}
 use Rattle.route_frames.specs.NumberedLines.{plus_line, minus_line, snapshot_line, message_line}
 use Rattle.route_frames.specs.Greetings.{info_of, connect_text_of}
+use Rattle.route_frames.specs.declared.lines.LineBody.{LineBody}
+use Rattle.route_frames.specs.declared.lines.LineBody.TheVariants.{Plus, Minus, Snapshot, Msg}
 
 -- the line of a numbered frame, by what stands behind its common fields
 abbrev pub numbered : (CommonFields → List (List ℕ) → Meaning NumberedLine) → List (List ℕ) → Meaning RouteLine
@@ -39,3 +41,16 @@ fields_meaning line (field ∷ fields) = operation_meaning (operation_of field) 
 -- what a line means, which has no CR LF
 abbrev pub line_meaning : List ℕ → Meaning RouteLine
 line_meaning line = fields_meaning line (line_fields line)
+
+-- ---- how many bytes of payload a line announces, where any follow
+
+abbrev pub body_size : LineBody → Option ℕ
+body_size (Plus key) = None
+body_size (Minus key) = None
+body_size (Snapshot size) = Some size
+body_size (Msg subject reply queues size) = Some size
+
+abbrev pub announced_size : RouteLine → Option ℕ
+announced_size (Info info) = None
+announced_size (Connect connect) = None
+announced_size (Numbered line) = body_size line.body

@@ -5,7 +5,7 @@ use Rattle.std.specs.Option.{ok_or}
 use Rattle.std.specs.Str.{bytes_eq}
 use Rattle.subj.specs.declared.keys.Key.{Key}
 use Rattle.subj.specs.declared.limits.TheConstants.{MAX_QUEUE_NAMES, MAX_WEIGHT, MAX_SNAPSHOT, MAX_PAYLOAD}
-use Rattle.subj.specs.Names.{pattern_fault, subject_fault, queue_name_fault}
+use Rattle.subj.specs.Names.{pattern_fault, subject_fault, queue_name_fault, node_name_fault}
 use Rattle.subj.specs.QueueNames.{queue_names_of}
 use Rattle.route_values.specs.Snapshots.{weighted_key}
 use Rattle.route_frames.specs.declared.faults.RouteFault.TheVariants.{BadArgs, TooManyQueues}
@@ -13,7 +13,7 @@ use Rattle.route_frames.specs.declared.line_reading.TheConstants.{WEIGHT_DIGITS,
 use Rattle.route_frames.specs.declared.lines.LineBody.TheVariants.{Plus, Minus, Snapshot, Msg}
 use Rattle.route_frames.specs.declared.lines.NumberedLine.{NumberedLine}
 use Rattle.route_frames.specs.Meaning.{Meaning, ◌>>=◌}
-use Rattle.route_frames.specs.CommonFields.{CommonFields, digits_of, within, node_of, numbers_of, numbers_in_range}
+use Rattle.route_frames.specs.CommonFields.{CommonFields, digits_of, within, numbers_of, numbers_in_range, name_of}
 use Rattle.route_frames.specs.Arguments.{MessageFields, plus_fields, minus_fields, snapshot_field, message_fields}
 
 -- ---- fields that are no numbers
@@ -22,17 +22,8 @@ use Rattle.route_frames.specs.Arguments.{MessageFields, plus_fields, minus_field
 abbrev pub account_of : List ℕ → Meaning (Unit {0})
 account_of field = if bytes_eq field (codes "$G") then Ok tt else Err BadArgs
 
-abbrev pub pattern_of : List ℕ → Meaning (List ℕ)
-pattern_of field = if is_some (pattern_fault field) then Err BadArgs else Ok field
-
-abbrev pub subject_of : List ℕ → Meaning (List ℕ)
-subject_of field = if is_some (subject_fault field) then Err BadArgs else Ok field
-
 abbrev pub is_queue_name : List ℕ → Bool
 is_queue_name field = not (is_some (queue_name_fault field))
-
-abbrev pub queue_of : List ℕ → Meaning (List ℕ)
-queue_of field = if is_some (queue_name_fault field) then Err BadArgs else Ok field
 
 abbrev pub optional : (List ℕ → Meaning (List ℕ)) → Option (List ℕ) → Meaning (Option (List ℕ))
 optional read None = Ok None
@@ -42,15 +33,15 @@ optional read (Some field) = do
 
 unfoldable pub key_of : List ℕ → Option (List ℕ) → Meaning Key
 key_of pattern queue = do
-  pattern ← pattern_of pattern
-  queue ← optional queue_of queue
+  pattern ← name_of pattern_fault pattern
+  queue ← optional (name_of queue_name_fault) queue
   Ok (record { pattern = pattern; queue = queue })
 
 -- each a queue name
 abbrev pub are_names : List (List ℕ) → Meaning (List (List ℕ))
 are_names [] = Ok []
 are_names (field ∷ fields) = do
-  name ← queue_of field
+  name ← name_of queue_name_fault field
   others ← are_names fields
   Ok (name ∷ others)
 
@@ -74,8 +65,8 @@ plus_line common fields = do
   numbers ← numbers_in_range 1 digits
   weight ← within 1 MAX_WEIGHT weight
   account ← account_of fields.account
-  from ← node_of common.from
-  to ← node_of common.to
+  from ← name_of node_name_fault common.from
+  to ← name_of node_name_fault common.to
   key ← key_of fields.pattern fields.queue
   weighted ← ok_or (weighted_key key weight) BadArgs
   Ok (record { from = from; to = to; numbers = numbers; body = Plus weighted })
@@ -88,8 +79,8 @@ minus_line common fields = do
   digits ← numbers_of common
   numbers ← numbers_in_range 1 digits
   account ← account_of fields.account
-  from ← node_of common.from
-  to ← node_of common.to
+  from ← name_of node_name_fault common.from
+  to ← name_of node_name_fault common.to
   key ← key_of fields.pattern fields.queue
   Ok (record { from = from; to = to; numbers = numbers; body = Minus key })
 
@@ -102,8 +93,8 @@ snapshot_line common fields = do
   size ← digits_of SIZE_DIGITS field
   numbers ← numbers_in_range 0 digits
   size ← within 0 MAX_SNAPSHOT size
-  from ← node_of common.from
-  to ← node_of common.to
+  from ← name_of node_name_fault common.from
+  to ← name_of node_name_fault common.to
   Ok (record { from = from; to = to; numbers = numbers; body = Snapshot size })
 
 -- ---- RMSG
@@ -124,9 +115,9 @@ message_line common fields = do
   numbers ← numbers_in_range 1 digits
   size ← within 0 MAX_PAYLOAD size
   account ← account_of fields.account
-  from ← node_of common.from
-  to ← node_of common.to
-  subject ← subject_of fields.subject
-  reply ← optional subject_of fields.form.reply
+  from ← name_of node_name_fault common.from
+  to ← name_of node_name_fault common.to
+  subject ← name_of subject_fault fields.subject
+  reply ← optional (name_of subject_fault) fields.form.reply
   queues ← queue_names_in fields.form.names
   Ok (record { from = from; to = to; numbers = numbers; body = Msg subject reply queues size })

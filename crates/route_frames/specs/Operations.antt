@@ -4,15 +4,26 @@ use Rattle.line_fields.specs.Fields.{is_word, line_fields}
 use Rattle.route_frames.specs.declared.operation.Operation.{Operation}
 use Rattle.route_frames.specs.declared.operation.Operation.TheVariants.{Info, Connect, Plus, Minus, Snapshot, Msg}
 
--- NATS documentation, "Cluster Protocol": the operations; `RSS` is this project's own
+-- NATS documentation, "Cluster Protocol"; `RSS` is this project's own
+abbrev pub word_of : Operation → List ℕ
+word_of Info = codes "INFO"
+word_of Connect = codes "CONNECT"
+word_of Plus = codes "RS+"
+word_of Minus = codes "RS-"
+word_of Snapshot = codes "RSS"
+word_of Msg = codes "RMSG"
+
+-- all of them; no two have one word
+abbrev pub operations : List Operation
+operations = Msg ∷ Plus ∷ Minus ∷ Snapshot ∷ Info ∷ Connect ∷ []
+
+-- the first of these whose word the field is, whatever the case of its letters
+abbrev pub operation_among : List Operation → List ℕ → Option Operation
+operation_among [] field = None
+operation_among (operation ∷ others) field = if is_word (word_of operation) field then Some operation else operation_among others field
+
 abbrev pub operation_of : List ℕ → Option Operation
-operation_of field =
-    if is_word (codes "RMSG") field then Some Msg
-    else (if is_word (codes "RS+") field then Some Plus
-    else (if is_word (codes "RS-") field then Some Minus
-    else (if is_word (codes "RSS") field then Some Snapshot
-    else (if is_word (codes "INFO") field then Some Info
-    else (if is_word (codes "CONNECT") field then Some Connect else None)))))
+operation_of field = operation_among operations field
 
 -- the text behind INFO and CONNECT is JSON, which can't be judged without memory
 abbrev pub has_json : Option Operation → Bool

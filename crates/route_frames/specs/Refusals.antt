@@ -7,7 +7,7 @@ use Rattle.route_values.specs.declared.frames.RouteFrame.{RouteFrame}
 use Rattle.route_frames.specs.declared.faults.RouteFault.{RouteFault}
 use Rattle.route_frames.specs.declared.faults.RouteFault.TheVariants.{BadArgs}
 use Rattle.route_frames.specs.declared.lines.RouteLine.{RouteLine}
-use Rattle.route_frames.specs.Announced.{announced_size}
+use Rattle.route_frames.specs.Lines.{announced_size}
 use Rattle.route_frames.specs.Spelling.{SpellsLine, Spells}
 use Rattle.route_frames.specs.Causes.{line_cause}
 use Rattle.route_frames.specs.Operations.{is_json_line}

@@ -18,6 +18,8 @@ use Rattle.route_values.specs.Snapshots.{Weighted, line_end}
 use Rattle.route_values.specs.Valid.{IsRouteFrame}
 use Rattle.route_frames.specs.declared.common.TheConstants.{INCARNATION_DIGITS, NUMBER_DIGITS}
 use Rattle.route_frames.specs.declared.line_reading.TheConstants.{WEIGHT_DIGITS, SIZE_DIGITS}
+use Rattle.route_frames.specs.declared.operation.Operation.TheVariants as operation
+use Rattle.route_frames.specs.Operations.{word_of}
 use Rattle.route_frames.specs.Greetings.{json_of}
 use Rattle.route_frames.specs.Canonical.{counted, operation_word, form_fields}
 
@@ -76,8 +78,8 @@ pub record HasConnect (connect : Connect) (json : Data) : Type 0 where
 -- ---- lines: an operation in letters of any case, and what stands behind it
 
 abbrev pub frame_word : RouteFrame → List ℕ
-frame_word (route.Info info) = codes "INFO"
-frame_word (route.Connect connect) = codes "CONNECT"
+frame_word (route.Info info) = word_of operation.Info
+frame_word (route.Connect connect) = word_of operation.Connect
 frame_word (route.Numbered frame) = operation_word frame.body
 
 abbrev pub SpellsText : RouteFrame → Option ℕ → List ℕ → Type 0

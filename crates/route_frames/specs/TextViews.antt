@@ -1,17 +1,15 @@
--- A line that was judged, without where it lies in memory.
+-- What was split and judged of a line, without where it lies in memory.
 use Rattle.std.specs.Option.{option_copied}
-use Rattle.std.specs.Prelude.{◌≡◌, ℕ, Bool, true, false, List, Option, Result, Ok, Err}
+use Rattle.std.specs.Prelude.{◌≡◌, ℕ, Bool, true, false, List, Option, Result, Ok, Err, take}
 use Rattle.route_frames.specs.declared.faults.RouteFault.{RouteFault}
 use Rattle.route_frames.specs.Meaning.{Meaning, ◌>>=◌}
 use Rattle.route_frames.specs.Greetings.{info_of, connect_text_of}
 use Rattle.route_frames.specs.Operations.{is_json_line}
-use Rattle.route_frames.specs.Announced.{announced_size}
-use Rattle.route_frames.specs.Lines.{line_meaning}
+use Rattle.route_frames.specs.Lines.{announced_size, line_meaning}
 use Rattle.route_values.specs.declared.frames.RouteFrame.{RouteFrame}
 use Rattle.route_frames.specs.Decoding.{joined}
 use Rattle.subj.specs.declared.keys.Key.{Key}
 use Rattle.route_values.specs.Snapshots.{Weighted}
-use Rattle.route_frames.specs.FormViews.{names_view}
 use Rattle.route_frames.specs.declared.lines.LineBody.{LineBody}
 use Rattle.route_frames.specs.declared.lines.LineBody.TheVariants as body
 use Rattle.route_frames.specs.declared.lines.NumberedLine.{NumberedLine}
@@ -24,6 +22,29 @@ use Rattle.route_frames.specs.declared.texts.BodyText.TheVariants.{Plus, Minus, 
 use Rattle.route_frames.specs.declared.texts.NumberedText.{NumberedText}
 use Rattle.route_frames.specs.declared.texts.LineText.{LineText}
 use Rattle.route_frames.specs.declared.texts.LineText.TheVariants.{Info, Connect, Numbered}
+use Rattle.route_frames.specs.declared.common.Common.{Common}
+use Rattle.route_frames.specs.CommonFields.{CommonFields}
+use Rattle.line_fields.specs.Fields.{fields}
+use Rattle.route_frames.specs.declared.arguments.Form.{Form}
+use Rattle.route_frames.specs.declared.arguments.MessageFields.{MessageFields}
+use Rattle.route_frames.specs.declared.names.Names.{Names}
+use Rattle.route_frames.specs.Arguments as arguments
+
+-- ---- fields
+
+abbrev pub common_view : Common → CommonFields
+common_view common = record { from = common.from.now; inc = common.inc.now; to = common.to.now; to_inc = common.to_inc.now; number = common.number.now }
+
+abbrev pub names_view : Names → List (List ℕ)
+names_view names = take names.count (fields names.text.now)
+
+abbrev pub form_view : Form → arguments.Form
+form_view form = record { reply = option_copied form.reply; names = names_view form.names; size = form.size.now }
+
+abbrev pub message_view : MessageFields → arguments.MessageFields
+message_view message = record { account = message.account.now; subject = message.subject.now; form = form_view message.form }
+
+-- ---- what they say
 
 abbrev pub key_view : KeyText → Key
 key_view key = record { pattern = key.pattern.now; queue = option_copied key.queue }
@@ -44,6 +65,8 @@ numbered_view numbered = record {
   numbers = record { inc = numbered.numbers.inc; to_inc = numbered.numbers.to_inc; number = numbered.numbers.number };
   body = body_view numbered.body;
 }
+
+-- ---- the line
 
 abbrev pub is_json : LineText → Bool
 is_json (Info text) = true

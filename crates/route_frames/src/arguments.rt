@@ -4,7 +4,7 @@ ghost use Rattle.std.specs.Prelude.{◌≡◌, None, Some, MatchOption, option_m
 ghost use Rattle.std.specs.Option.{option_copied};
 ghost use Rattle.line_fields.specs.Fields.{fields as fields_of};
 ghost use Rattle.route_frames.specs.Arguments.{plus_fields, minus_fields, snapshot_field, form_of, marked as marked_form, message_fields, split_last as last_split_off};
-ghost use Rattle.route_frames.specs.FormViews.{names_view};
+ghost use Rattle.route_frames.specs.TextViews.{names_view};
 
 use crate::names::Names;
 use line_fields::split_field;
@@ -123,7 +123,7 @@ pub(crate) struct Form<'a> {
 }
 
 impl<'a> Form<'a> {
-    ghost use Rattle.route_frames.specs.FormViews.{form_view};
+    ghost use Rattle.route_frames.specs.TextViews.{form_view};
 
     /// The form of a message by its first field, those between, and its last.
     fn of_mark(mark: &[u8], between: Names<'a>, size: &'a [u8]) -> Option<Form<'a>>
@@ -180,7 +180,7 @@ pub(crate) struct MessageFields<'a> {
 }
 
 impl<'a> MessageFields<'a> {
-    ghost use Rattle.route_frames.specs.FormViews.{message_view};
+    ghost use Rattle.route_frames.specs.TextViews.{message_view};
 
     /// The fields of a text, where their number is that of one of the forms.
     pub(crate) fn read(text: &'a [u8]) -> Option<MessageFields<'a>>

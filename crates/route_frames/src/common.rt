@@ -3,7 +3,8 @@
 ghost use Rattle.std.specs.Prelude.{◌≡◌, ◌≤◌, None, Some, MatchOption, IfOk};
 ghost use Rattle.std.specs.Option.{ok_or};
 ghost use Rattle.line_fields.specs.Fields.{fields};
-ghost use Rattle.route_frames.specs.CommonFields.{CommonFields, common_fields, digits_of, within as in_range, node_of, numbers_of, numbers_in_range};
+ghost use Rattle.subj.specs.Names.{node_name_fault};
+ghost use Rattle.route_frames.specs.CommonFields.{CommonFields, common_fields, digits_of, within as in_range, name_of, numbers_of, numbers_in_range};
 
 use crate::faults::RouteFault;
 use line_fields::{MAX_DIGITS, read_digits, split_field};
@@ -39,7 +40,7 @@ pub(crate) fn within(least: u64, most: u64, number: u64) -> Result<u64, RouteFau
 
 /// The server's name that a field is.
 pub(crate) fn node(field: &[u8]) -> Result<NodeId, RouteFault>
-    ensures means { result ≡ node_of field.now }
+    ensures means { result ≡ name_of node_name_fault field.now }
     ensures same { IfOk result (λ node. node ≡ field.now) }
 {
     match NodeId::read(field) {
@@ -94,7 +95,7 @@ pub(crate) struct Common<'a> {
 }
 
 impl<'a> Common<'a> {
-    ghost use Rattle.route_frames.specs.CommonViews.{common_view};
+    ghost use Rattle.route_frames.specs.TextViews.{common_view};
 
     /// The first five fields of a text, and what stands behind them, where there are so many.
     pub(crate) fn read(text: &'a [u8]) -> Option<(Common<'a>, &'a [u8])>

@@ -5,7 +5,7 @@ ghost use Rattle.serde_json.specs.View.{view};
 ghost use Rattle.route_values.specs.declared.frames.RouteFrame.TheVariants.{Info, Connect};
 ghost use Rattle.route_values.specs.declared.frames.RouteFrame.TheVariants as route;
 ghost use Rattle.route_values.specs.declared.bodies.Body.TheVariants.{Plus, Minus, Snapshot, Msg};
-ghost use Rattle.route_values.specs.Snapshots.{snapshot_text as text_of_snapshot, line_end};
+ghost use Rattle.route_values.specs.Snapshots.{snapshot_text, line_end};
 ghost use Rattle.route_frames.specs.Canonical.{info_json, connect_json, spaced, operation_word, common_of, form_fields, body_fields, numbered_line, canonical_line, frame_bytes};
 ghost use Rattle.std.specs.Option.{option_copied};
 
@@ -164,16 +164,6 @@ fn put_message(line: &mut Vec<u8>, message: &Message, queues: &QueueNames) -> Re
     put_number(line, message.payload().len() as u64)
 }
 
-/// The text of a snapshot.
-fn snapshot_text(alloc: Global, keys: &SnapshotKeys) -> Result<Vec<u8>, AllocError>
-    ensures same { IfOk result (λ text. text.items ≡ text_of_snapshot keys.now) }
-    ensures short { IfOk result (λ text. length text.items ≤ MAX_SNAPSHOT) }
-{
-    let mut text = Vec::with_capacity(alloc, keys.text_len())?;
-    keys.append_text(&mut text)?;
-    Ok(text)
-}
-
 /// Appends a line and its CR LF.
 fn append_line(line: &[u8], out: &mut Vec<u8>) -> Result<(), AllocError>
     ensures { out.new.items ≡ (if is_ok result then out.old.items ++ (line.now ++ line_end) else out.old.items) }
@@ -193,6 +183,19 @@ fn append_frame(line: &[u8], payload: &[u8], out: &mut Vec<u8>) -> Result<(), Al
     append_reserved(out, line);
     append_reserved(out, CR_LF);
     append_reserved(out, payload);
+    append_reserved(out, CR_LF);
+    Ok(())
+}
+
+/// Appends a line and the text of a snapshot, each with its CR LF.
+fn append_snapshot(line: &[u8], keys: &SnapshotKeys, out: &mut Vec<u8>) -> Result<(), AllocError>
+    ensures { out.new.items ≡ (if is_ok result then out.old.items ++ (line.now ++ (line_end ++ (snapshot_text keys.now ++ line_end))) else out.old.items) }
+{
+    out.reserve(line.len() + CR_LF.len() + keys.text_len() + CR_LF.len())?;
+    append_reserved(out, line);
+    append_reserved(out, CR_LF);
+    let appended = keys.append_text(out);
+    prove!(appended.is_ok());
     append_reserved(out, CR_LF);
     Ok(())
 }
@@ -235,9 +238,8 @@ fn encode_numbered(frame: &Numbered, out: &mut Vec<u8>) -> Result<(), AllocError
             append_line(&line, out)
         }
         Body::Snapshot(keys) => {
-            let text = snapshot_text(alloc, keys)?;
-            put_number(&mut line, text.len() as u64)?;
-            append_frame(&line, &text, out)
+            put_number(&mut line, keys.text_len() as u64)?;
+            append_snapshot(&line, keys, out)
         }
         Body::Msg { message, queues } => {
             put_message(&mut line, message, queues)?;

@@ -1,9 +1,7 @@
 //! Laws of the definitions, each the contract of a call that does nothing.
 
-ghost use Rattle.route_frames.specs.CutAgain.{AreLines, ArePayloads, IsCutAgain, IsPayloadCutAgain};
+ghost use Rattle.route_frames.specs.Laws.{AreLines, ArePayloads, IsCutAgain, IsPayloadCutAgain, IsAnnouncedAgain, IsReadAgain, CanonicalIsSpelt, BeginsNoOther, SpeltIsRead, ReadIsSpelt, AnnouncedIsTold, ToldIsAnnounced, SpellsOneFrame, AnnouncesOneSize};
 ghost use Rattle.route_frames.specs.InStream.{AreReadInAnyParts};
-ghost use Rattle.route_frames.specs.ReadAgain.{IsAnnouncedAgain, IsReadAgain, CanonicalIsSpelt, BeginsNoOther};
-ghost use Rattle.route_frames.specs.Readings.{SpeltIsRead, ReadIsSpelt, AnnouncedIsTold, ToldIsAnnounced, SpellsOneFrame, AnnouncesOneSize};
 
 /// What is written of a frame is read as that frame again, whatever follows it: its line is within
 /// [`ROUTE_LINE`](subj::ROUTE_LINE), holds no CR LF and is cut at its own, it tells the size of the

@@ -2,23 +2,25 @@
 
 ghost use Rattle.std.specs.Prelude.{◌≡◌};
 ghost use Rattle.std.specs.List.{list_all};
+ghost use Rattle.subj.specs.Names.{pattern_fault, subject_fault, queue_name_fault};
 ghost use Rattle.subj.specs.QueueNames.{is_before_first as before_first, are_rising as rising};
 ghost use Rattle.route_values.specs.Snapshots.{weighted_key};
 ghost use Rattle.std.specs.Option.{option_copied, ok_or};
 ghost use Rattle.line_fields.specs.Fields.{fields};
 ghost use Rattle.route_frames.specs.declared.faults.RouteFault.TheVariants.{BadArgs};
 ghost use Rattle.route_frames.specs.Meaning.{Says, Checks};
-ghost use Rattle.route_frames.specs.CommonViews.{common_view};
-ghost use Rattle.route_frames.specs.NumberedLines.{account_of, pattern_of, subject_of, queue_of, optional as optionally, key_of, queue_names_in, is_queue_name, weight_digits, plus_line, minus_line, snapshot_line, message_line, message_fields_in};
-ghost use Rattle.route_frames.specs.FormViews.{names_view, message_view};
-ghost use Rattle.route_frames.specs.TextViews.{key_view, weighted_view, numbered_view};
+ghost use Rattle.route_frames.specs.CommonFields.{name_of};
+ghost use Rattle.route_frames.specs.TextViews.{common_view, names_view, message_view, key_view, weighted_view, numbered_view};
+ghost use Rattle.route_frames.specs.NumberedLines.{account_of, optional as optionally, key_of, queue_names_in, is_queue_name, weight_digits, plus_line, minus_line, snapshot_line, message_line, message_fields_in};
 
 use crate::arguments::{MessageFields, MinusFields, PlusFields, size_alone};
 use crate::common::{ACCOUNT, Common, node, spelt_number, within};
 use crate::faults::RouteFault;
 use crate::names::Names;
 use crate::texts::{BodyText, KeyText, NumberedText, WeightedText};
-use subj::{MAX_PAYLOAD, MAX_QUEUE_NAMES, MAX_SNAPSHOT, MAX_WEIGHT, Pattern, QueueName, Subject};
+use subj::{
+    MAX_PAYLOAD, MAX_QUEUE_NAMES, MAX_SNAPSHOT, MAX_WEIGHT, NameFault, Pattern, QueueName, Subject,
+};
 
 /// The most digits of a weight. (Profile.)
 pub(crate) const WEIGHT_DIGITS: usize = 5;
@@ -36,40 +38,32 @@ fn account(field: &[u8]) -> Result<(), RouteFault>
     }
 }
 
-fn check_pattern(field: &[u8]) -> Result<(), RouteFault>
-    ensures { Checks field.now (pattern_of field.now) result }
+/// A field that has to be a name, which has this fault as one, or none.
+fn name(field: &[u8], fault: Option<NameFault>) -> Result<&[u8], RouteFault>
+    ensures { Says (λ name. name.now) (name_of (λ field. fault) field.now) result }
 {
-    if Pattern::fault(field).is_some() {
+    if fault.is_some() {
         return Err(RouteFault::BadArgs);
     }
-    Ok(())
+    Ok(field)
 }
 
-fn check_subject(field: &[u8]) -> Result<(), RouteFault>
-    ensures { Checks field.now (subject_of field.now) result }
-{
-    if Subject::fault(field).is_some() {
-        return Err(RouteFault::BadArgs);
-    }
-    Ok(())
-}
-
-fn check_queue(field: Option<&[u8]>) -> Result<(), RouteFault>
-    ensures { Checks (option_copied field.entry) (optionally queue_of (option_copied field.entry)) result }
+fn queue_name(field: Option<&[u8]>) -> Result<Option<&[u8]>, RouteFault>
+    ensures { Says option_copied (optionally (name_of queue_name_fault) (option_copied field.entry)) result }
 {
     match field {
-        Some(field) if QueueName::fault(field).is_some() => Err(RouteFault::BadArgs),
-        _ => Ok(()),
+        None => Ok(None),
+        Some(field) => Ok(Some(name(field, QueueName::fault(field))?)),
     }
 }
 
-fn check_reply(field: Option<&[u8]>) -> Result<(), RouteFault>
-    ensures { Checks (option_copied field.entry) (optionally subject_of (option_copied field.entry)) result }
+fn reply_name(field: Option<&[u8]>) -> Result<Option<&[u8]>, RouteFault>
+    ensures { Says option_copied (optionally (name_of subject_fault) (option_copied field.entry)) result }
 {
-    let Some(field) = field else {
-        return Ok(());
-    };
-    check_subject(field)
+    match field {
+        None => Ok(None),
+        Some(field) => Ok(Some(name(field, Subject::fault(field))?)),
+    }
 }
 
 /// The key of a pattern and a queue name.
@@ -77,8 +71,8 @@ fn check_reply(field: Option<&[u8]>) -> Result<(), RouteFault>
 pub(crate) fn key<'a>(pattern: &'a [u8], queue: Option<&'a [u8]>) -> Result<KeyText<'a>, RouteFault>
     ensures { Says key_view (key_of pattern.now (option_copied queue.entry)) result }
 {
-    check_pattern(pattern)?;
-    check_queue(queue)?;
+    let pattern = name(pattern, Pattern::fault(pattern))?;
+    let queue = queue_name(queue)?;
     Ok(KeyText { pattern, queue })
 }
 
@@ -255,16 +249,16 @@ pub(crate) fn read_message<'a>(
     account(message.account)?;
     let _from = node(common.from)?;
     let _to = node(common.to)?;
-    check_subject(message.subject)?;
-    check_reply(message.form.reply)?;
+    let subject = name(message.subject, Subject::fault(message.subject))?;
+    let reply = reply_name(message.form.reply)?;
     check_names(message.form.names)?;
     Ok(NumberedText {
         from: common.from,
         to: common.to,
         numbers: digits,
         body: BodyText::Msg {
-            subject: message.subject,
-            reply: message.form.reply,
+            subject,
+            reply,
             names: message.form.names,
             size,
         },

@@ -1,7 +1,7 @@
 //! What a line of a route says alone.
 
 ghost use Rattle.std.specs.Prelude.{◌≡◌};
-ghost use Rattle.route_frames.specs.Announced.{announced_size};
+ghost use Rattle.route_frames.specs.Lines.{announced_size};
 
 use crate::common::Numbers;
 use crate::faults::RouteFault;
@@ -53,8 +53,8 @@ pub enum Unjoined {
     /// The payload is not what the line announces.
     #[error("the payload is refused: {0}")]
     Refused(RouteFault),
-    /// The allocator gave no memory for the keys of a snapshot. Both are here as they were, so that
-    /// they can be joined later.
+    /// The allocator gave no memory for the keys of a snapshot, or for a message, which shares the
+    /// payload. Nothing is lost: both are here as they were, so that they can be joined later.
     #[error("out of memory")]
     OutOfMemory { line: RouteLine, payload: Bytes },
 }

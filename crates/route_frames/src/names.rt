@@ -1,7 +1,7 @@
 //! Fields that may be queue names, as they stand in a line.
 
 ghost use Rattle.std.specs.Prelude.{◌≡◌, ◌∷◌, [], length, MatchOption};
-ghost use Rattle.route_frames.specs.FormViews.{names_view};
+ghost use Rattle.route_frames.specs.TextViews.{names_view};
 
 use line_fields::split_field;
 

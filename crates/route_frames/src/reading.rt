@@ -9,11 +9,10 @@ ghost use Rattle.route_frames.specs.declared.operation.Operation.TheVariants as 
 ghost use Rattle.route_frames.specs.declared.lines.RouteLine.TheVariants as route_line;
 ghost use Rattle.route_frames.specs.Meaning.{Means, MeansBy, Says};
 ghost use Rattle.route_frames.specs.TextViews.{body_view, numbered_view, joined_text, Judges};
-ghost use Rattle.route_frames.specs.Announced.{body_size};
+ghost use Rattle.route_frames.specs.Lines.{body_size, numbered, line_meaning};
 ghost use Rattle.route_frames.specs.Operations.{is_json_line};
-ghost use Rattle.route_frames.specs.Decoding.{size_meaning, sized, framed as framed_by, frame_behind, joined, body_has_payload, frame_meaning, takes_memory, JoinsBy, Joins, failure_of};
+ghost use Rattle.route_frames.specs.Decoding.{size_meaning, sized, framed as framed_by, frame_behind, joined, body_has_payload, line_has_payload, frame_meaning, takes_memory, JoinsBy, Joins, failure_of};
 ghost use Rattle.route_frames.specs.NumberedLines.{plus_line, minus_line, snapshot_line, message_line};
-ghost use Rattle.route_frames.specs.Lines.{numbered, line_meaning};
 ghost use Rattle.route_frames.specs.Refusals.{IsSizeOf, IsReadOf, IsFrameOf};
 
 use crate::common::{Common, Numbers};
@@ -183,11 +182,10 @@ fn join_numbered(alloc: Global, line: NumberedLine, payload: Bytes) -> Result<Ro
     Ok(numbered_frame(from, to, numbers, body)?)
 }
 
+/// The frame of a line and a payload of the size that it announces.
 fn join(alloc: Global, line: RouteLine, payload: Bytes) -> Result<RouteFrame, Unjoined>
-    ensures { Joins line payload result }
+    ensures { JoinsBy (line_has_payload line) (frame_behind line payload) line payload result }
 {
-    let size = line.payload_size();
-    check_size(size, payload.as_slice())?;
     match line {
         RouteLine::Info(info) => Ok(RouteFrame::Info(info)),
         RouteLine::Connect(connect) => Ok(RouteFrame::Connect(connect)),
@@ -206,20 +204,6 @@ fn joined_frame(joined: Result<RouteFrame, Unjoined>) -> Result<RouteFrame, Fail
     }
 }
 
-fn read_line(alloc: Global, line: &[u8]) -> Result<RouteLine, Failure<RouteFault>>
-    ensures { Means (is_json_line line.now) (line_meaning line.now) result }
-{
-    let text = read_text(line)?;
-    text.copy(alloc)
-}
-
-fn read_size(alloc: Global, line: &[u8]) -> Result<Option<u64>, Failure<RouteFault>>
-    ensures { Means (is_json_line line.now) (size_meaning line.now) result }
-{
-    let text = read_text(line)?;
-    text.payload_size(alloc)
-}
-
 /// The frame of a numbered line. The size of the payload is judged before the parts are copied.
 fn decode_numbered(
     alloc: Global,
@@ -230,7 +214,7 @@ fn decode_numbered(
 {
     check_size(line.payload_size(), payload.as_slice())?;
     let line = RouteLine::Numbered(line.copy(alloc)?);
-    joined_frame(join(alloc, line, payload))
+    joined_frame(line.into_frame(alloc, payload))
 }
 
 fn decode_greeting(
@@ -241,21 +225,7 @@ fn decode_greeting(
     ensures { MeansBy (λ frame. frame) true (joined_text text.entry payload) result }
 {
     let line = text.copy(alloc)?;
-    joined_frame(join(alloc, line, payload))
-}
-
-fn decode_line(
-    alloc: Global,
-    line: &[u8],
-    payload: Bytes,
-) -> Result<RouteFrame, Failure<RouteFault>>
-    ensures { Means (takes_memory line.now payload) (frame_meaning line.now payload) result }
-{
-    let text = read_text(line)?;
-    match text {
-        LineText::Numbered(line) => decode_numbered(alloc, line, payload),
-        LineText::Info(_) | LineText::Connect(_) => decode_greeting(alloc, text, payload),
-    }
+    joined_frame(line.into_frame(alloc, payload))
 }
 
 impl RouteLine {
@@ -278,7 +248,8 @@ impl RouteLine {
         ensures spelt { IsReadOf line.now result }
         ensures means { Means (is_json_line line.now) (line_meaning line.now) result }
     {
-        read_line(alloc, line)
+        let text = read_text(line)?;
+        text.copy(alloc)
     }
 
     /// The frame of the line and the payload behind it, which has no CR LF and is shared, not copied.
@@ -291,6 +262,8 @@ impl RouteLine {
         ensures spelt { (line : List ℕ) → line_meaning line ≡ Ok self → IsFrameOf line payload (failure_of result) }
         ensures means { Joins self payload result }
     {
+        let size = self.payload_size();
+        check_size(size, payload.as_slice())?;
         join(alloc, self, payload)
     }
 }
@@ -301,7 +274,8 @@ pub fn payload_size(alloc: Global, line: &[u8]) -> Result<Option<u64>, Failure<R
     ensures spelt { IsSizeOf line.now result }
     ensures means { Means (is_json_line line.now) (size_meaning line.now) result }
 {
-    read_size(alloc, line)
+    let text = read_text(line)?;
+    text.payload_size(alloc)
 }
 
 /// The frame that a line and the payload behind it spell; neither has its CR LF. Refused by what
@@ -313,5 +287,9 @@ pub fn decode(alloc: Global, line: &[u8], payload: Bytes) -> Result<RouteFrame, 
     ensures spelt { IsFrameOf line.now payload result }
     ensures means { Means (takes_memory line.now payload) (frame_meaning line.now payload) result }
 {
-    decode_line(alloc, line, payload)
+    let text = read_text(line)?;
+    match text {
+        LineText::Numbered(line) => decode_numbered(alloc, line, payload),
+        LineText::Info(_) | LineText::Connect(_) => decode_greeting(alloc, text, payload),
+    }
 }

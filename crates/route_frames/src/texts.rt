@@ -3,10 +3,9 @@
 
 ghost use Rattle.std.specs.Prelude.{◌≡◌, Ok, IfOk};
 ghost use Rattle.std.specs.Option.{option_copied};
-ghost use Rattle.route_frames.specs.FormViews.{names_view};
-ghost use Rattle.route_frames.specs.TextViews.{key_view, weighted_view, body_view, numbered_view, is_json, text_meaning, size_in};
+ghost use Rattle.route_frames.specs.TextViews.{names_view, key_view, weighted_view, body_view, numbered_view, is_json, text_meaning, size_in};
 ghost use Rattle.route_frames.specs.Meaning.{Means};
-ghost use Rattle.route_frames.specs.Announced.{body_size};
+ghost use Rattle.route_frames.specs.Lines.{body_size};
 
 use crate::common::{Digits, Numbers};
 use crate::faults::RouteFault;

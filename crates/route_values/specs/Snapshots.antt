@@ -4,6 +4,7 @@ use Rattle.std.specs.List.{flat_map}
 use Rattle.std.specs.List.Sorted.{IsStrictlySortedBy}
 use Rattle.std.specs.Map.{keys_of}
 use Rattle.std.specs.Ordering.{is_lt}
+pub use Rattle.line_fields.specs.LineEnd.{line_end}
 use Rattle.subj.specs.declared.limits.TheConstants.{MAX_WEIGHT, MAX_KEYS, MAX_SNAPSHOT, SUBSCRIPTION_BYTES}
 use Rattle.subj.specs.declared.keys.Key.{Key}
 use Rattle.subj.specs.Keys.{key_cmp, cost_of}
@@ -19,9 +20,6 @@ abbrev pub weighted_key : Key → ℕ → Option Weighted
 weighted_key key weight = if is_weight key weight then Some (key, weight) else None
 
 -- profile: a key is a line, its pattern, or its pattern, its queue name and its weight with one space between them, ended by CR LF
-abbrev pub line_end : List ℕ
-line_end = 13 ∷ 10 ∷ []
-
 abbrev pub queue_fields : Option (List ℕ) → ℕ → List ℕ
 queue_fields None weight = []
 queue_fields (Some queue) weight = codes " " ++ (queue ++ (codes " " ++ decimal weight))

@@ -1,4 +1,7 @@
 //! What the frames of routes hold, as values that hold only what can be spelt.
+//!
+//! In reading order: `info` and `connect` are how two servers greet one another; `bodies` is what a numbered frame says, with `snapshots`
+//! of interest, and `frames` has all frames. `valid` says what holds of each value.
 #![tactic(auto)]
 
 mod bodies;

@@ -2,7 +2,7 @@
 use Rattle.std.proofs.Common.{◌≡◌, ℕ, List, Option, Some, Result}
 use Rattle.serde_json.specs.Data.{Data}
 use Rattle.subj.specs.declared.failures.Failure.{Failure}
-use Rattle.subj.specs.declared.names.NameFault.{NameFault}
+use Rattle.subj.specs.declared.faults.NameFault.{NameFault}
 use Rattle.script_form.specs.declared.member.Member.{Member}
 use Rattle.script_form.specs.Members.{member, optional, text, valid, valid_where_there, name_at, optional_name_at, Means}
 

@@ -7,7 +7,7 @@ ghost use Rattle.script_form.specs.Faults.{script_fault_number};
 use crate::member::Member;
 use std::fmt;
 use std::fmt::{Display, Formatter, Write};
-use subj::Failure;
+use subj::{Failure, JOIN_EVENTS, SCRIPT_BYTES, SCRIPT_EVENTS};
 use thiserror::Error;
 
 /// Why bytes are no script. The first cause that holds is told. (Profile.)
@@ -21,7 +21,7 @@ pub enum ScriptFault {
     BadShape = 91,
     /// There are more than [`subj::SCRIPT_BYTES`] bytes, or more than [`subj::SCRIPT_EVENTS`] events, of which a
     /// join counts as [`subj::JOIN_EVENTS`].
-    #[error("the script is too long")]
+    #[error("the script is too long: at most {bytes} bytes, and {events} events, of which a join counts as {join}", bytes = SCRIPT_BYTES, events = SCRIPT_EVENTS, join = JOIN_EVENTS)]
     TooLong = 92,
 }
 

@@ -2,6 +2,9 @@
 //!
 //! A script is JSON that names the servers of a cluster and says step by step what is done in it. [`Script::read`] reads just
 //! those bytes that are one, and tells of all others the first cause for which they are none.
+//!
+//! In reading order: `steps` is what a script says, `verbs` and `member` the words that it is said with; `members` reads members of a JSON
+//! object, `acts` a step, and `reading` the whole. `faults` has the causes, and where they hold.
 #![tactic(auto)]
 
 mod acts;

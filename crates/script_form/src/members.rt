@@ -3,7 +3,7 @@
 ghost use Rattle.std.specs.Prelude.{◌≡◌, Option, Some, None, is_some, option_map, ⊤, if◌then◌else◌};
 ghost use Rattle.std.specs.Option.{option_copied};
 ghost use Rattle.serde_json.specs.View.{view};
-ghost use Rattle.subj.specs.declared.names.NameFault.{NameFault as Cause};
+ghost use Rattle.subj.specs.declared.faults.NameFault.{NameFault as Cause};
 ghost use Rattle.subj.specs.Answers.{IsAnswered};
 ghost use Rattle.subj.specs.Names.{node_name_fault, pattern_fault, subject_fault, queue_name_fault, sid_fault};
 ghost use Rattle.script_form.specs.Members.{Means, Says, SaysBy, member as there, optional, whole, text as is_text, truth as is_truth, node as is_node, name_at, optional_name_at};

@@ -1,6 +1,7 @@
 //! What a server sends.
 
 use memchr::memchr;
+use thiserror::Error;
 
 /// The most digits that the number of a subscription or the size of a payload has here.
 const DIGITS: usize = 9;
@@ -29,11 +30,13 @@ pub enum Frame<'a> {
 }
 
 /// Why there is no next frame.
-#[derive(Clone, Copy)]
+#[derive(Clone, Copy, Debug, Error)]
 pub enum Stop {
     /// More bytes are needed.
+    #[error("more bytes are needed")]
     Unfinished,
     /// These bytes are no frame.
+    #[error("these bytes are no frame")]
     Malformed,
 }
 

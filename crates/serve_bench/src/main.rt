@@ -1,6 +1,10 @@
 //! Loads servers that speak the client protocol of NATS: `serve_bench CASE --port PORT` makes publishers and
 //! subscribers, each with a connection and a thread of its own, and tells in one line of JSON how fast messages came
 //! and which of them were lost, doubled or out of order.
+//!
+//! In reading order: `command` and `given` are what is asked for, and `plan` the cases; `connection` is a client's, which reads (`window`,
+//! `frames`) and writes (`batch`). In `flowing` go messages from each `publisher` to each `receiver`, who wait for one another (`meeting`,
+//! `holding`, `progress`) and count (`tally`); in `trips` requests and replies. `figures` tells what came of it.
 #![tactic(auto)]
 
 mod batch;

@@ -134,15 +134,19 @@ pub record RoomDecides : Type 0 where
   pub leave : (s : State) (e : Event) → shard_refusal s e ≡ None → ConnectionsLeave s e
   pub all : (s : State) (job : Job) → GivesAll s job
 
--- ---- the numbers of connections tell their shard: those of shard s of K are s, s + K, s + 2K, .. (profile)
+-- ---- the numbers of connections tell their shard: those of shard s of K are s, s + K, s + 2K, .., in order of attaching (profile)
 
 pub record IsOwn (s : State) (number : ℕ) : Type 0 where
   pub some : 1 ≤ number
   pub place : (number - 1) % s.shards ≡ s.shard - 1
 
+-- each later connection has a greater number, and the next one a number above all of them
 pub record HasOwnNumbers (s : State) : Type 0 where
+  pub shards : 1 ≤ s.shards
   pub next : IsOwn s s.next_conn
   pub all : Each (λ client. IsOwn s client.number) s.clients
+  pub rising : Pairs (λ (older newer : Client). older.number < newer.number) s.clients
+  pub below : Each (λ client. client.number < s.next_conn) s.clients
 
 pub record NumbersTellShards : Type 0 where
   pub start : (shard shards : ℕ) → 1 ≤ shard → shard ≤ shards → HasOwnNumbers (new_shard shard shards)

@@ -1,11 +1,10 @@
 -- Subscriptions that close, and what each opening and closing leaves for the hub.
-use Rattle.std.specs.Prelude.{ℕ, Bool, true, false, not, ◌&&◌, nat_eq, List, ◌++◌, map, filter}
+use Rattle.std.specs.Prelude.{ℕ, Bool, false, not, ◌&&◌, nat_eq, List, ◌++◌, map, filter}
 use Rattle.std.specs.List.{flat_map, list_any}
 use Rattle.interest.specs.declared.changes.Delta.{Delta}
 use Rattle.sub_table.specs.Subscriptions.{is_of, has_serial, serial_of}
 use Rattle.sub_table.specs.declared.Subscription.{Subscription}
 use Rattle.subj.specs.declared.identities.SubId.{SubId}
-use Rattle.subj.specs.declared.keys.Key.{Key}
 use Rattle.shard_core.specs.Shards.{State}
 
 abbrev pub id_of : ℕ → ℕ → SubId
@@ -22,10 +21,7 @@ is_left ended sub = not (list_any (nat_eq sub.serial) ended)
 abbrev pub left_of : ℕ → List ℕ → List Subscription → List ℕ
 left_of conn ended subs = serials_of (filter (λ sub. is_of conn sub && is_left ended sub) subs)
 
--- each opening and each closing leaves a delta, in order (profile)
-abbrev pub opening : Key → Delta
-opening key = record { key = key; up = true }
-
+-- each closing leaves a delta, as each opening does, in order (profile)
 abbrev pub closing : Subscription → Delta
 closing sub = record { key = sub.key; up = false }
 

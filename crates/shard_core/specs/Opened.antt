@@ -4,7 +4,8 @@ use Rattle.interest.specs.declared.changes.Delta.{Delta}
 use Rattle.list_laws.specs.Lists.{Each, Pairs}
 use Rattle.sub_table.specs.declared.Subscription.{Subscription}
 use Rattle.shard_core.specs.Shards.{State}
-use Rattle.shard_core.specs.Closings.{serials_of, is_left, opening, closings_of}
+use Rattle.interest.specs.Laws.{opening}
+use Rattle.shard_core.specs.Closings.{serials_of, is_left, closings_of}
 use Rattle.shard_core.specs.Owed.{counted}
 use Rattle.shard_core.specs.Members.{AreNoted}
 use Rattle.shard_core.specs.declared.members.Members.{Members}

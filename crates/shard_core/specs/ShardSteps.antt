@@ -14,7 +14,8 @@ use Rattle.subj.specs.declared.limits.TheConstants.{MAX_COUNTER, MAX_SERIAL, SUB
 use Rattle.shard_core.specs.declared.faults.ShardFault.{ShardFault}
 use Rattle.shard_core.specs.declared.faults.ShardFault.TheVariants.{NoConn, JobInHand, NoJob, WrongTurn, TooManySubs, BadIndex, NotAllTried, Spent}
 use Rattle.shard_core.specs.Shards.{State, Client, is_open, is_known, client_at, changed, detached, fits, waits_for}
-use Rattle.shard_core.specs.Closings.{id_of, left_of, opening, without, ended_ids}
+use Rattle.interest.specs.Laws.{opening}
+use Rattle.shard_core.specs.Closings.{id_of, left_of, without, ended_ids}
 use Rattle.shard_core.specs.Owed.{Walk, walked, begun, slow_consumer, candidate_of, claimed, placed_for, ended_by}
 use Rattle.shard_core.specs.ShardEvents.{Event, Attach, Subscribe, Unsubscribe, Reply, Shut, Detach, Take, Begin, Claim, End, DropJob, Collect, Answer, Attached, Opened, AlreadyOpen, Unsubscribed, Replied, WasShut, Detached, Taken, Began, Nobody, Lost, Won, Finished, Dropped, Collected}
 

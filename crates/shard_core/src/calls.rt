@@ -3,6 +3,7 @@
 use crate::faults::ShardFault;
 use outbox::Entry;
 use subj::{ConnId, Failure, Job, SubId};
+use thiserror::Error;
 
 /// What a subscribe did.
 #[derive(Clone, Copy, Debug, PartialEq, Eq)]
@@ -53,7 +54,8 @@ pub struct Candidate {
 }
 
 /// A job that was not begun, as it was handed in.
-#[derive(Debug, Drop)]
+#[derive(Debug, Drop, Error)]
+#[error("the job was not begun: {cause}")]
 pub struct BeginFault {
     pub job: Job,
     pub cause: Failure<ShardFault>,

@@ -61,7 +61,8 @@ pub fn room_decides()
     ensures { RoomDecides }
 {}
 
-/// The connections of shard s of K have the numbers s, s + K, s + 2K, .. alone, so that a number tells its shard.
+/// The connections of shard s of K have the numbers s, s + K, s + 2K, .. alone, so that a number tells its shard. They rise in
+/// order of attaching, each below the number of the next connection.
 pub fn numbers_tell_shards()
     ensures { NumbersTellShards }
 {}

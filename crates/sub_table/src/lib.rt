@@ -73,9 +73,10 @@ pub trait SubTable: Sized + Drop {
         ensures { IfOk result (λ subs. map (λ sub. sub.now) subs.items ≡ filter (gets subject.now) (contents self.now)) };
 
     /// Puts the serials of a connection's subscriptions behind those that are there, in order of
-    /// opening.
+    /// opening. Want of memory leaves the list as it was.
     fn serials_of(&self, conn: ConnId, serials: &mut Vec<u64>) -> Result<(), AllocError>
-        ensures { OnOk result (serials.new.items ≡ serials.old.items ++ serials_of conn (contents self.now)) };
+        ensures ok { OnOk result (serials.new.items ≡ serials.old.items ++ serials_of conn (contents self.now)) }
+        ensures err { OnErr result (serials.new.items ≡ serials.old.items) };
 
     /// Notes how many messages the one of this serial got. Takes no memory.
     fn set_count(&mut self, serial: u64, delivered: u64)
@@ -167,9 +168,11 @@ impl SubTable for ListTable {
     }
 
     fn serials_of(&self, conn: ConnId, serials: &mut Vec<u64>) -> Result<(), AllocError> {
+        let before = serials.len();
         for sub in &self.subs {
-            if sub.conn == conn {
-                serials.push(sub.serial)?;
+            if sub.conn == conn && serials.push(sub.serial).is_err() {
+                serials.truncate(before);
+                return Err(AllocError);
             }
         }
         Ok(())

@@ -91,13 +91,14 @@ pub(crate) fn first_serial<K: Eq + Hash + Drop>(
     }
 }
 
-/// Puts the serials under the key behind those that are there.
+/// Puts the serials under the key behind those that are there. Want of memory leaves the list as it was.
 pub(crate) fn copy_serials<K: Eq + Hash + Drop>(
     groups: &HashMap<K, Vec<u64>>,
     key: &K,
     serials: &mut Vec<u64>,
 ) -> Result<(), AllocError>
-    ensures { OnOk result (serials.new.items ≡ serials.old.items ++ list_at K.eq groups.now key.now) }
+    ensures ok { OnOk result (serials.new.items ≡ serials.old.items ++ list_at K.eq groups.now key.now) }
+    ensures err { OnErr result (serials.new.items ≡ serials.old.items) }
 {
     match groups.get(key) {
         Some(list) => serials.extend_from_slice(list),

@@ -4,7 +4,7 @@ use Rattle.std.specs.Prelude.{nat_lt}
 use Rattle.std.specs.Option.{option_or}
 use Rattle.std.proofs.lemmas.Bool.Decides.{nat_tests}
 use Rattle.subj.specs.declared.limits.TheConstants.{MAX_SUBJECT, MAX_QUEUE_NAME, MAX_SID, MAX_NODE_NAME}
-use Rattle.subj.specs.declared.names.NameFault.{NameFault}
+use Rattle.subj.specs.declared.faults.NameFault.{NameFault}
 use Rattle.subj.specs.Names.{text_fault, has_forbidden, has_no_name_byte, tokens, pattern_fault, subject_fault, queue_name_fault, sid_fault, node_name_fault, pattern_token_fault, subject_token_fault}
 
 first_none : (a b : Option NameFault) → option_or a b ≡ None → a ≡ None

@@ -5,3 +5,4 @@ mod Padded
 mod Fits
 mod Apart
 pub mod NameBytes
+pub mod Rising

@@ -1,6 +1,7 @@
 -- Where one of a pattern and a subject has tokens left and the other has none.
 use Rattle.std.proofs.Common.{◌≡◌, ℕ, false, List, [], ◌∷◌, refl}
-use Rattle.subj.specs.Names.{tokens, is_empty}
+use Rattle.list_laws.specs.Lists.{is_empty}
+use Rattle.subj.specs.Names.{tokens}
 use Rattle.subj.specs.Matching.{tokens_match}
 use Rattle.subj.proofs.Tokens.{tokens_are_some}
 

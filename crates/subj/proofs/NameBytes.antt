@@ -6,7 +6,7 @@ use Rattle.std.proofs.lemmas.Str.{IsUtf8-from_ascii}
 use Rattle.std.proofs.lemmas.Str.Ascii.{IsAscii-nil, IsAscii-cons}
 use Rattle.std.proofs.lemmas.Bool.Decides.{nat_tests}
 use Rattle.subj.specs.declared.limits.TheConstants.{MAX_NODE_NAME}
-use Rattle.subj.specs.declared.names.NameFault.TheVariants.{BadByte, TooLong}
+use Rattle.subj.specs.declared.faults.NameFault.TheVariants.{BadByte, TooLong}
 use Rattle.subj.specs.Names.{is_node_name_byte, has_no_name_byte, node_name_fault}
 
 byte : (b : ℕ) (rest : Bool) → (not (is_node_name_byte b) || rest) ≡ false → (b < 128) × (rest ≡ false)

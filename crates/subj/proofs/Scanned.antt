@@ -4,7 +4,8 @@ use Rattle.std.specs.Prelude.{◌&&◌, ◌||◌, nat_eq}
 use Rattle.std.specs.List.{onto_first}
 use Rattle.subj.specs.declared.scans.Scan.{Scan}
 use Rattle.subj.specs.declared.scans.TokenKind.TheVariants.{One, Rest, Literal}
-use Rattle.subj.specs.Names.{tokens, is_dot, is_empty, is_wild, is_one_wildcard, is_rest_wildcard, is_forbidden, has_forbidden, has_empty_token, has_wild_token, has_wild_before_last}
+use Rattle.list_laws.specs.Lists.{is_empty}
+use Rattle.subj.specs.Names.{tokens, is_dot, is_wild, is_one_wildcard, is_rest_wildcard, is_forbidden, has_forbidden, has_empty_token, has_wild_token, has_wild_before_last}
 use Rattle.subj.specs.Scans.{kind_of, scan_tokens, scan_of, kind_before, kind_is_empty, kind_is_rest, kind_is_wild, some_empty, some_wild, some_early, scan_before, scan_onto}
 use Rattle.std.proofs.Common.{arith}
 use Rattle.std.proofs.lemmas.Bool.Decides.{nat_tests}

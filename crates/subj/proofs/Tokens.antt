@@ -1,17 +1,12 @@
 -- Cutting the first token off a text.
-use Rattle.std.proofs.Common.{◌≡◌, ℕ, ◌+◌, ◌<◌, ◌≤◌, Bool, true, false, not, cond, List, [], ◌∷◌, length, take, drop, Some, None, refl, ap, sym, ◌∙◌, ◌-◌, arith, length-drop}
-use Rattle.std.specs.Prelude.{nat_lt, position}
+use Rattle.std.proofs.Common.{◌≡◌, ℕ, ◌+◌, ◌≤◌, Bool, true, false, not, cond, List, [], ◌∷◌, length, take, drop, Some, None, refl, ap, sym, ◌∙◌, ◌-◌, arith, length-drop}
+use Rattle.std.specs.Prelude.{position}
 use Rattle.std.specs.List.{slice_split, onto_first, position_or_len}
-use Rattle.std.proofs.lemmas.Bool.Decides.{nat_tests}
 use Rattle.std.proofs.lemmas.List.{take_all}
 use Rattle.std.proofs.lemmas.List.Splits.{slice_split_first}
-use Rattle.subj.specs.Names.{tokens, is_dot, is_empty}
-
-not_below : (a b : ℕ) → cond (nat_lt a b) (Some a) None ≡ None → b ≤ a
-not_below a b e = grind (arith, nat_tests)
-
-below : (a b i : ℕ) → cond (nat_lt a b) (Some a) None ≡ Some i → (a < b) × (a ≡ i)
-below a b i e = grind (arith, nat_tests)
+use Rattle.list_laws.proofs.Positions.{not_below, below}
+use Rattle.list_laws.specs.Lists.{is_empty}
+use Rattle.subj.specs.Names.{tokens, is_dot}
 
 -- a text without an element that passes is one piece
 one_piece : {X : Type 0} (p : X → Bool) (xs : List X) → length xs ≤ position_or_len p xs → slice_split p xs ≡ xs ∷ []

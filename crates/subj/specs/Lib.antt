@@ -2,6 +2,8 @@
 pub mod Answers
 -- valid names, and the first cause for which bytes are not one
 pub mod Names
+-- the numbers of the refusals
+pub mod Faults
 -- what one pass over a text sees of its tokens
 pub mod Scans
 -- subject matching

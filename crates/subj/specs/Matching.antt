@@ -1,7 +1,8 @@
 -- Subject matching.
 use Rattle.std.specs.Prelude.{ℕ, Bool, true, false, ◌&&◌, ◌||◌, List, [], ◌∷◌}
 use Rattle.std.specs.Str.{bytes_eq}
-use Rattle.subj.specs.Names.{tokens, is_empty, is_one_wildcard, is_rest_wildcard}
+use Rattle.list_laws.specs.Lists.{is_empty}
+use Rattle.subj.specs.Names.{tokens, is_one_wildcard, is_rest_wildcard}
 
 -- NATS documentation, "Wildcards", on the lists of tokens of a pattern and of a subject
 abbrev pub takes_token : List ℕ → List ℕ → Bool

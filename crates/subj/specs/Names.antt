@@ -4,8 +4,9 @@ use Rattle.std.specs.Option.{option_or}
 use Rattle.std.specs.List.{slice_split, list_any}
 use Rattle.std.specs.Str.{bytes_eq}
 use Rattle.subj.specs.declared.limits.TheConstants.{MAX_SUBJECT, MAX_QUEUE_NAME, MAX_SID, MAX_NODE_NAME}
-use Rattle.subj.specs.declared.names.NameFault.{NameFault}
-use Rattle.subj.specs.declared.names.NameFault.TheVariants.{Empty, EmptyToken, BadByte, TooLong, WildNotLast, Wild}
+use Rattle.subj.specs.declared.faults.NameFault.{NameFault}
+use Rattle.subj.specs.declared.faults.NameFault.TheVariants.{Empty, EmptyToken, BadByte, TooLong, WildNotLast, Wild}
+use Rattle.list_laws.specs.Lists.{is_empty}
 
 -- NATS documentation, "Subject-Based Messaging": a subject's tokens are the pieces between the bytes `.`
 abbrev pub is_dot : ℕ → Bool
@@ -40,10 +41,6 @@ is_node_name_byte byte = is_between 48 57 byte || (is_between 65 90 byte || (is_
 
 abbrev pub has_no_name_byte : List ℕ → Bool
 has_no_name_byte text = list_any (λ byte. not (is_node_name_byte byte)) text
-
-abbrev pub is_empty : {A : Type 0} → List A → Bool
-is_empty [] = true
-is_empty (x ∷ xs) = false
 
 abbrev pub has_empty_token : List (List ℕ) → Bool
 has_empty_token ts = list_any is_empty ts
@@ -99,12 +96,3 @@ sid_fault text = forbidden_fault MAX_SID text
 
 abbrev pub node_name_fault : List ℕ → Option NameFault
 node_name_fault text = text_fault MAX_NODE_NAME (has_no_name_byte text) text
-
--- the numbers of the refusals (profile)
-abbrev pub name_fault_number : NameFault → ℕ
-name_fault_number Empty = 1
-name_fault_number EmptyToken = 2
-name_fault_number BadByte = 3
-name_fault_number TooLong = 4
-name_fault_number WildNotLast = 5
-name_fault_number Wild = 6

@@ -3,7 +3,8 @@ use Rattle.std.specs.Prelude.{ℕ, Bool, true, false, not, ◌&&◌, ◌||◌, n
 use Rattle.subj.specs.declared.scans.TokenKind.{TokenKind}
 use Rattle.subj.specs.declared.scans.TokenKind.TheVariants.{Empty, One, Rest, Literal}
 use Rattle.subj.specs.declared.scans.Scan.{Scan}
-use Rattle.subj.specs.Names.{tokens, is_dot, is_empty, is_one_wildcard, is_rest_wildcard, is_forbidden, has_forbidden, has_empty_token, has_wild_token, has_wild_before_last}
+use Rattle.list_laws.specs.Lists.{is_empty}
+use Rattle.subj.specs.Names.{tokens, is_dot, is_one_wildcard, is_rest_wildcard, is_forbidden, has_forbidden, has_empty_token, has_wild_token, has_wild_before_last}
 
 abbrev pub kind_of : List ℕ → TokenKind
 kind_of token =

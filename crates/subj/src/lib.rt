@@ -2,10 +2,11 @@
 //!
 //! In reading order: `limits` has every limit by its name; `names` and `scans` judge bytes, which `subjects`, `patterns`,
 //! `queue_names`, `sids` and `node_ids` keep; `keys`, `messages`, `identities`, `turns` and `jobs` are what the crates hand to one
-//! another; `servers` is who is in the cluster; `failures` is how a call fails.
+//! another; `servers` is who is in the cluster; `failures` is how a call fails, and `faults` why bytes are no name.
 #![tactic(auto)]
 
 mod failures;
+mod faults;
 mod identities;
 mod jobs;
 mod keys;
@@ -22,6 +23,7 @@ mod subjects;
 mod turns;
 
 pub use failures::Failure;
+pub use faults::NameFault;
 pub use identities::{ConnId, Incarnation, PubId, SubId};
 pub use jobs::{Job, QueueNames};
 pub use keys::Key;
@@ -33,7 +35,7 @@ pub use limits::{
     SUBSCRIPTION_BYTES, SUBSCRIPTION_COST, SUBSCRIPTIONS, WINDOW,
 };
 pub use messages::{Message, MessageParts, Pub};
-pub use names::{NameFault, split_token};
+pub use names::split_token;
 pub use node_ids::NodeId;
 pub use patterns::Pattern;
 pub use queue_names::QueueName;

@@ -2,44 +2,9 @@
 
 ghost use Rattle.std.specs.Prelude.{◌≡◌, ◌+◌, ◌<◌, ◌∷◌, length, position, IfSome};
 ghost use Rattle.std.specs.Option.{option_copied};
-ghost use Rattle.subj.specs.Names.{name_fault_number, tokens, tokens_behind, is_dot, is_forbidden, is_one_wildcard as one_wildcard, is_rest_wildcard as rest_wildcard, has_forbidden as some_forbidden, forbidden_fault};
+ghost use Rattle.subj.specs.Names.{tokens, tokens_behind, is_dot, is_forbidden, is_one_wildcard as one_wildcard, is_rest_wildcard as rest_wildcard, has_forbidden as some_forbidden, forbidden_fault};
 
-use thiserror::Error;
-
-/// Why bytes are not a name.
-///
-/// The causes are looked for in the order `Empty`, `TooLong`, `BadByte`, `EmptyToken`, and then
-/// `WildNotLast` in a pattern or `Wild` in a subject: the first that holds is told. (Profile.)
-#[derive(Clone, Copy, Debug, PartialEq, Eq, Error)]
-pub enum NameFault {
-    /// There are no bytes.
-    #[error("a name is empty")]
-    Empty = 1,
-    /// A subject or a pattern has a token without bytes.
-    #[error("a token between dots is empty")]
-    EmptyToken = 2,
-    /// There is a byte that this kind of name may not have.
-    #[error("a name has a byte that it may not have")]
-    BadByte = 3,
-    /// There are more bytes than this kind of name may have.
-    #[error("a name is too long")]
-    TooLong = 4,
-    /// A pattern has the token `>` before its last.
-    #[error("the wildcard > is not the last token of a pattern")]
-    WildNotLast = 5,
-    /// A subject has a token `*` or `>`.
-    #[error("a subject has a wildcard")]
-    Wild = 6,
-}
-
-impl NameFault {
-    /// The number that the router tells of this refusal.
-    pub fn number(self) -> u16
-        ensures { result ≡ name_fault_number self }
-    {
-        self as u16
-    }
-}
+use crate::faults::NameFault;
 
 /// Whether the byte is in no subject, pattern, queue name or subscription id.
 pub(crate) fn is_forbidden_byte(byte: u8) -> bool

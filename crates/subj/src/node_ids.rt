@@ -4,8 +4,8 @@ ghost use Rattle.std.specs.Prelude.{◌≡◌, ◌≤◌, length, None, ⊤};
 ghost use Rattle.subj.specs.Answers.{IsDecided};
 ghost use Rattle.subj.specs.Names.{node_name_fault, is_node_name_byte, has_no_name_byte as some_no_name_byte};
 
+use crate::faults::NameFault;
 use crate::limits::MAX_NODE_NAME;
-use crate::names::NameFault;
 use std::marker::Model;
 
 /// The name of a server of the cluster.

@@ -3,12 +3,14 @@
 ghost use Rattle.std.specs.Option.{option_copied};
 ghost use Rattle.std.specs.Prelude.{◌≡◌, ◌≤◌, ◌&&◌, length, Option, None, IfOk, ⊤};
 ghost use Rattle.subj.specs.Answers.{IsAnswered};
-ghost use Rattle.subj.specs.Names.{tokens_behind, is_empty, is_rest_wildcard, pattern_fault};
+ghost use Rattle.list_laws.specs.Lists.{is_empty};
+ghost use Rattle.subj.specs.Names.{tokens_behind, is_rest_wildcard, pattern_fault};
 ghost use Rattle.subj.specs.Matching.{subject_matches, takes_token as takes};
 
 use crate::failures::Failure;
+use crate::faults::NameFault;
 use crate::limits::MAX_SUBJECT;
-use crate::names::{NameFault, is_one_wildcard, is_rest_wildcard, split_token};
+use crate::names::{is_one_wildcard, is_rest_wildcard, split_token};
 use crate::scans::Scan;
 use crate::subjects::Subject;
 use std::alloc::{AllocError, Global};

@@ -4,8 +4,9 @@ ghost use Rattle.std.specs.Prelude.{◌≡◌, [], None, Some, MatchResult};
 ghost use Rattle.subj.specs.Names.{forbidden_fault};
 ghost use Rattle.subj.specs.Scans.{kind_before as kind_in_front, scan_before, scan_of, some_empty, some_wild, some_early};
 
+use crate::faults::NameFault;
 use crate::limits::MAX_SUBJECT;
-use crate::names::{NameFault, is_forbidden_byte};
+use crate::names::is_forbidden_byte;
 
 /// What a token is, as far as its kind matters.
 #[derive(Clone, Copy, PartialEq, Eq)]

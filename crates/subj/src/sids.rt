@@ -5,8 +5,9 @@ ghost use Rattle.subj.specs.Answers.{IsAnswered};
 ghost use Rattle.subj.specs.Names.{sid_fault};
 
 use crate::failures::Failure;
+use crate::faults::NameFault;
 use crate::limits::MAX_SID;
-use crate::names::{NameFault, text_fault};
+use crate::names::text_fault;
 use std::alloc::{AllocError, Global};
 use std::marker::Model;
 

@@ -5,8 +5,8 @@ ghost use Rattle.subj.specs.Answers.{IsAnswered, IsDecided};
 ghost use Rattle.subj.specs.Names.{subject_fault};
 
 use crate::failures::Failure;
+use crate::faults::NameFault;
 use crate::limits::MAX_SUBJECT;
-use crate::names::NameFault;
 use crate::scans::Scan;
 use bytes::Bytes;
 use std::alloc::{AllocError, Global};

@@ -1,13 +1,15 @@
 -- What the seats of a race that is over say of the runs of its shards.
 use Rattle.std.proofs.Common.{◌≡◌, ℕ, zero, suc, ◌+◌, ◌<◌, Bool, true, false, cond, Option, Some, List, [], ◌∷◌, ◌++◌, length, map, refl, sym, ap, ◌∙◌, subst, arith, append_assoc, ◌⊎◌, ⊎_elim, inl, inr}
 use Rattle.std.proofs.lemmas.List.{length-map}
-use mathlib.Core.Option.{some, some-ne-none, some-injective}
+use mathlib.Core.Option.{some-ne-none, some-injective}
 use Rattle.subj.specs.declared.jobs.Job.{Job}
 use Rattle.subj.specs.declared.limits.TheConstants.{MAX_COUNTER, MAX_QUEUE_NAMES, WINDOW}
 use Rattle.claim_cells.specs.declared.parts.ShardPart.{ShardPart}
 use Rattle.claim_cells.specs.Calls.{AllOf, HasEach, IsClosed, finished_list}
 use Rattle.claim_cells.specs.Rule.{At, Has, Law, row}
 use Rattle.claim_cells.specs.Seats.{RaceId, ShardShown}
+use Rattle.thread_law.proofs.Places.{at_map, at_unmap}
+use Rattle.thread_node.proofs.Starting.{map_snoc}
 use Rattle.node_threads.specs.AtHub.{AtHub, IsAtHub}
 use Rattle.node_threads.specs.AtWork.{AtWork, Makes, at_start}
 use Rattle.node_threads.specs.Outlets.{AreFirst}
@@ -29,16 +31,6 @@ snoc_at [] a b (suc i) e = absurd (some-ne-none b (sym e))
 snoc_at (x ∷ xs) a b zero e = inl e
 snoc_at (x ∷ xs) a b (suc i) e = ⊎_elim (λ h. inl h) (λ h. inr (ap suc h.0, h.1)) (snoc_at xs a b i e)
 
-at_map : {A B : Type 0} (f : A → B) (xs : List A) (k : ℕ) (x : A) → At xs k x → At (map f xs) k (f x)
-at_map f [] k x e = absurd (some-ne-none x (sym e))
-at_map f (y ∷ ys) zero x e = ap (λ z. some (f z)) (some-injective y x e)
-at_map f (y ∷ ys) (suc k) x e = at_map f ys k x e
-
-at_unmap : {A B : Type 0} (f : A → B) (xs : List A) (k : ℕ) (y : B) → At (map f xs) k y → (x : A) × At xs k x × (f x ≡ y)
-at_unmap f [] k y e = absurd (some-ne-none y (sym e))
-at_unmap f (x ∷ xs) zero y e = (x, refl, some-injective (f x) y e)
-at_unmap f (x ∷ xs) (suc k) y e = at_unmap f xs k y e
-
 same_list : {A : Type 0} (xs ys : List A) → length xs ≡ length ys → ((k : ℕ) (x : A) → At xs k x → At ys k x) → xs ≡ ys
 same_list [] [] n h = refl
 same_list [] (y ∷ ys) n h = absurd (omega arith)
@@ -56,10 +48,6 @@ closed_none race issued kept = ([], refl, (λ k run e. absurd (some-ne-none run 
 kept_entries : {E : Type 0} (kept : Bool) (tape : Option (List E)) (all entries : List E) → Grows (Some []) all tape → IsKept kept tape entries → entries ≡ cond kept all []
 kept_entries {E} true tape all entries g k = subst (Grows (Some []) all) k g
 kept_entries false tape all entries g k = k
-
-map_snoc : {A B : Type 0} (f : A → B) (xs : List A) (x : A) → map f (xs ++ x ∷ []) ≡ map f xs ++ f x ∷ []
-map_snoc f [] x = refl
-map_snoc f (y ∷ ys) x = ap (λ l. f y ∷ l) (map_snoc f ys x)
 
 first_of_first : (xs ys zs : List Job) → AreFirst xs ys → AreFirst ys zs → AreFirst xs zs
 first_of_first xs ys zs a b = (a.0 ++ b.0, b.1 ∙ ap (λ l. l ++ b.0) a.1 ∙ append_assoc xs a.0 b.0)

@@ -1,8 +1,10 @@
 //! One server on threads: the hub and each shard under a lock of its own. Any thread may make its calls.
 //!
 //! In reading order: `parts` is what a server is made of, `locked_hub` and `locked_shard` what stands under its locks, `node` the
-//! server with its locks, `calls` those that take a lock for one call, `pass_calls` those whose caller keeps what it asked and what
-//! it was answered, `workers` the threads that work lanes, `finish` the end.
+//! server with its locks, `calls` those that take a lock for one call, `pass_calls` those whose caller keeps what it asked (`asking`) and
+//! what it was answered (`passes`), `workers` the threads that work lanes, `finish` the end. What is written down is `keeping` and
+//! `hub_entries`; that it is what callers were told is seen by `asked`, `comparing`, `rising` and `handing`. `faults` says why there is no
+//! report.
 #![tactic(auto)]
 
 mod asked;

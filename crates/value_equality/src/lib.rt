@@ -2,6 +2,8 @@
 //! have no `==` of their own; and lines of clients and of routes.
 //!
 //! Each function answers true just where its two values are one to every contract. None takes memory.
+//!
+//! In reading order: `keys` and `messages` are compared part by part, and `frames` by these; `lines` is apart.
 #![tactic(auto)]
 
 mod frames;

@@ -4,16 +4,13 @@
 use Rattle.std.specs.Prelude.{◌≡◌, ℕ, suc, ◌+◌, ◌<◌, ◌≤◌, List, [], ◌∷◌, ◌++◌, length, take, drop, nat_lt, nat_le, nat_eq, if◌then◌else◌, Bool, true, false, Option, None, Some, IsSome, Result, Ok, Err}
 use Rattle.std.specs.Option.{option_map}
 use Rattle.std.specs.List.{starts_with}
+use Rattle.line_fields.specs.LineEnd.{line_end}
 use Rattle.wire_cut.specs.declared.faults.CutFault.{CutFault}
 use Rattle.wire_cut.specs.declared.faults.CutFault.TheVariants.{LineTooLong, PayloadTooLong, NoCrLfAfterPayload}
 
--- CR LF, which ends a line and stands behind a payload
-abbrev pub cr_lf : List ℕ
-cr_lf = 13 ∷ 10 ∷ []
-
 -- the bytes begin with CR LF
 abbrev pub begins_with_cr_lf : List ℕ → Bool
-begins_with_cr_lf bytes = starts_with nat_eq bytes cr_lf
+begins_with_cr_lf bytes = starts_with nat_eq bytes line_end
 
 -- where the first CR LF of the bytes begins
 unfoldable pub first_cr_lf : List ℕ → Option ℕ

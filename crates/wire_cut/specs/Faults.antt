@@ -3,7 +3,7 @@ use Rattle.std.specs.Prelude.{ℕ}
 use Rattle.wire_cut.specs.declared.faults.CutFault.{CutFault}
 use Rattle.wire_cut.specs.declared.faults.CutFault.TheVariants.{LineTooLong, PayloadTooLong, NoCrLfAfterPayload}
 
-abbrev pub fault_number : CutFault → ℕ
-fault_number LineTooLong = 10
-fault_number PayloadTooLong = 11
-fault_number NoCrLfAfterPayload = 12
+abbrev pub cut_fault_number : CutFault → ℕ
+cut_fault_number LineTooLong = 10
+cut_fault_number PayloadTooLong = 11
+cut_fault_number NoCrLfAfterPayload = 12

@@ -13,6 +13,7 @@ use crate::faults::{CutFault, FeedFault, FillFault};
 use crate::piece::Piece;
 use crate::source::Source;
 use crate::window::Window;
+use line_fields::CR_LF;
 use memchr::memchr;
 use std::alloc::Global;
 use std::marker::Model;
@@ -20,8 +21,6 @@ use std::marker::Model;
 const CR: u8 = b'\r';
 
 const LF: u8 = b'\n';
-
-const CR_LF: [u8; 2] = [CR, LF];
 
 /// Cuts a stream into lines and payloads. A control line ends with the first CR LF, and so does a
 /// payload, whose size its line announces (NATS documentation, "Client Protocol"). That a lone CR

@@ -12,10 +12,10 @@ use thiserror::Error;
 #[derive(Clone, Copy, Debug, PartialEq, Eq, Error)]
 pub enum CutFault {
     /// The next `line_max + 2` bytes hold no CR LF.
-    #[error("a line is too long")]
+    #[error("a line is longer than its reader takes")]
     LineTooLong = 10,
     /// The announced payload is above the cutter's limit.
-    #[error("a payload is too long")]
+    #[error("a payload is announced that is larger than its reader takes")]
     PayloadTooLong = 11,
     /// The two bytes behind a payload are not CR LF.
     #[error("a payload is not ended by CR LF")]
@@ -23,11 +23,11 @@ pub enum CutFault {
 }
 
 impl CutFault {
-    ghost use Rattle.wire_cut.specs.Faults.{fault_number};
+    ghost use Rattle.wire_cut.specs.Faults.{cut_fault_number};
 
     /// The number of the refusal, 10 to 12.
     pub fn number(self) -> u16
-        ensures { result ≡ fault_number self }
+        ensures { result ≡ cut_fault_number self }
     {
         self as u16
     }

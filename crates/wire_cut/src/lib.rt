@@ -1,6 +1,6 @@
 //! Cuts a stream of bytes into lines and payloads, and names where the bytes come from and go to.
 //!
-//! In reading order: `piece` and `fault` are what a cutter gives, `window` is its buffer, and `cutter` cuts. `source` and `sink` are
+//! In reading order: `piece` and `faults` are what a cutter gives, `window` is its buffer, and `cutter` cuts. `source` and `sink` are
 //! where bytes come from and go to, in memory (`mem_source`, `mem_sink`) or over `std` (`raw`).
 #![tactic(auto)]
 

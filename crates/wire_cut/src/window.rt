@@ -125,6 +125,8 @@ fn make_room(
         slice_range buffer.new.items at (at + (end - start))
         ≡ slice_range buffer.old.items start end) }
     ensures room { IfOk result (λ at. at + (end - start) + count ≤ vec_len buffer.new) }
+    ensures small { start ≡ end → count ≤ vec_len buffer.old →
+        OnOk result (vec_len buffer.new ≤ max count KEPT_BYTES) }
     ensures err { OnErr result (buffer.new.items ≡ buffer.old.items) }
 {
     if start == end && count <= buffer.len() {

@@ -3,6 +3,10 @@
 //! done with a plain checker.
 //!
 //! `world_drill` draws few lists and tells what has to come out; `world_drill LISTS` draws so many and tells figures too.
+//!
+//! In reading order: `lists` is the checker, by `tokens` and `bytes_due` of its own. `drill` plays what is drawn (`draw`, `moves`, `asks`,
+//! `player`), looks at it, plays it again on other clusters (`alike`), and edits what it looked at (`copies`, `plants`). `rows` are closed
+//! lists, and `seen` and `written` what is told.
 #![tactic(auto)]
 
 mod alike;

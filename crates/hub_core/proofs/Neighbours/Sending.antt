@@ -1,16 +1,13 @@
 -- The frames of a publication, peer by peer, and the names of each server.
 use Rattle.std.proofs.Common.{◌≡◌, ℕ, suc, ◌+◌, ◌<◌, ◌≤◌, Bool, true, false, ◌&&◌, cond, List, [], ◌∷◌, ◌++◌, length, take, drop, get_or, Option, Some, None, refl, sym, ap, ◌∙◌, arith, append_assoc, add-one}
 use Rattle.std.specs.Prelude.{map, filter, unwrap_or, not, nat_eq, nat_lt, nat_le, if◌then◌else◌}
-use Rattle.std.specs.Cmp.Lexicographic.{slice_cmp, nat_list_cmp_total}
-use Rattle.std.specs.declared.cmp.Ordering.{Ordering}
-use Rattle.std.specs.declared.cmp.Ordering.TheVariants.{Less, Equal, Greater}
-use Rattle.std.specs.Ordering.{is_lt, nat_cmp}
 use Rattle.std.proofs.lemmas.Bool.Decides.{nat_tests}
 use Rattle.std.proofs.lemmas.List.{at_drop_more}
 use Rattle.std.proofs.lemmas.Option.{slice_get-get_or}
 use Rattle.list_laws.proofs.Tests.{and_true, lt_true}
 use Rattle.subj.specs.declared.limits.TheConstants.{MAX_QUEUE_NAMES, ROUTE_FRAMES}
 use Rattle.subj.specs.Messages.{Content}
+use Rattle.subj.proofs.Rising.{before_trans}
 use Rattle.subj.specs.QueueNames.{is_before, is_before_first, are_rising, is_named, are_queue_names}
 use Rattle.subj.specs.Servers.{Server, name_of}
 use Rattle.route_values.specs.Frames.{Frame}
@@ -75,14 +72,6 @@ chosen_is choice server_name (name ∷ names) (server ∷ servers) is =
     (λ k. if is_named server_name (first k) then name ∷ chosen_is choice server_name names servers others k else chosen_is choice server_name names servers others k)
 
 -- ---- names of one server rise as all of them do
-
-less_is : (r : Ordering) → is_lt r ≡ true → r ≡ Less
-less_is Less is = refl
-less_is Equal is = cc
-less_is Greater is = cc
-
-before_trans : (x y z : List ℕ) → is_before x y ≡ true → is_before y z ≡ true → is_before x z ≡ true
-before_trans x y z a b = ap is_lt (nat_list_cmp_total.trans x y z (less_is (slice_cmp nat_cmp x y) a) (less_is (slice_cmp nat_cmp y z) b))
 
 -- what stands before the first stands before the first of those that are left
 first_left : (test : List ℕ → Bool) (x : List ℕ) (names : List (List ℕ)) → is_before_first x names ≡ true → are_rising names ≡ true → is_before_first x (filter test names) ≡ true

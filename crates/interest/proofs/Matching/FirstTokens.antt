@@ -5,7 +5,8 @@ use Rattle.std.specs.List.{list_any, onto_first, join_with_byte}
 use Rattle.std.specs.Str.{bytes_eq}
 use Rattle.std.proofs.lemmas.Bool.{cases_Bool, and_parts}
 use Rattle.std.proofs.lemmas.List.Splits.{join_with_byte-slice_split}
-use Rattle.subj.specs.Names.{tokens, is_dot, is_empty, is_one_wildcard, is_rest_wildcard}
+use Rattle.list_laws.specs.Lists.{is_empty}
+use Rattle.subj.specs.Names.{tokens, is_dot, is_one_wildcard, is_rest_wildcard}
 use Rattle.subj.specs.Matching.{tokens_match, takes_token}
 
 -- ---- a text is its tokens with dots between them

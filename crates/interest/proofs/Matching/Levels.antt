@@ -4,7 +4,8 @@ use Rattle.std.proofs.lemmas.Bool.{cases_Bool}
 use Rattle.std.proofs.lemmas.List.{append_assoc, append-nil}
 use Rattle.std.proofs.Math.Seq.{take-append_seam}
 use Rattle.std.specs.List.{list_any}
-use Rattle.subj.specs.Names.{tokens, is_dot, is_empty, is_rest_wildcard, tokens_behind}
+use Rattle.list_laws.specs.Lists.{is_empty}
+use Rattle.subj.specs.Names.{tokens, is_dot, is_rest_wildcard, tokens_behind}
 use Rattle.subj.specs.Matching.{tokens_match, takes_token, subject_matches}
 use Rattle.subj.specs.QueueNames.{is_before}
 use Rattle.interest.specs.Sights.{is_nearer, nearer, nearest, next_token, next_of, IsFrom, Begins, MatchesFrom, IsLevelOf}

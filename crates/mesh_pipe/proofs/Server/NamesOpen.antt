@@ -3,11 +3,11 @@ use Rattle.std.proofs.Common.{◌≡◌, ℕ, ◌+◌, ◌≤◌, Bool, true, fa
 use Rattle.std.specs.Prelude.{unwrap_or}
 use Rattle.std.specs.Map.{values_of, lookup}
 use Rattle.std.specs.BTreeMap.{is_at}
-use Rattle.std.specs.Cmp.Lexicographic.{slice_cmp, nat_list_cmp_total}
+use Rattle.std.specs.Cmp.Lexicographic.{slice_cmp}
 use Rattle.std.specs.declared.cmp.Ordering.{Ordering}
 use Rattle.std.specs.declared.cmp.Ordering.TheVariants.{Less, Equal, Greater}
 use Rattle.std.specs.Option.{option_cmp}
-use Rattle.std.specs.Ordering.{is_lt, is_eq, nat_cmp, ordering_then}
+use Rattle.std.specs.Ordering.{is_eq, nat_cmp, ordering_then}
 use Rattle.std.specs.Cmp.{eq_by_cmp_equiv}
 use Rattle.std.proofs.lemmas.List.Elements.{All-head, All-tail}
 use Rattle.std.proofs.lemmas.List.Sums.{sum_by-cons}
@@ -21,7 +21,8 @@ use Rattle.subj.specs.declared.keys.Key.{Key}
 use Rattle.subj.specs.declared.limits.TheConstants.{MAX_WEIGHT}
 use Rattle.subj.specs.Keys.{key_cmp}
 use Rattle.subj.specs.Matching.{subject_matches}
-use Rattle.subj.specs.QueueNames.{is_before, is_before_first, are_rising, is_named}
+use Rattle.subj.proofs.Rising.{before_trans, not_before, head_below}
+use Rattle.subj.specs.QueueNames.{is_before_first, are_rising, is_named}
 use Rattle.subj.specs.Servers.{Server}
 use Rattle.interest.specs.Counts.{Counts, count_of, IsInterest}
 use Rattle.interest.specs.Laws.{one_if_same, times}
@@ -37,26 +38,6 @@ use Rattle.mesh_pipe.specs.PipeText.{names_wanted}
 
 abbrev Rises : List (List ℕ) → Type 0
 Rises names = are_rising names ≡ true
-
-less : (r : Ordering) → is_lt r ≡ true → r ≡ Less
-less Less e = refl
-less Equal e = absurd (true≢false (sym e))
-less Greater e = absurd (true≢false (sym e))
-
-before_trans : (x y z : List ℕ) → is_before x y ≡ true → is_before y z ≡ true → is_before x z ≡ true
-before_trans x y z e f = ap is_lt (nat_list_cmp_total.trans x y z (less (slice_cmp nat_cmp x y) e) (less (slice_cmp nat_cmp y z) f))
-
-not_before : (x : List ℕ) → is_before x x ≡ true → ⊥
-not_before x e = go (slice_cmp nat_cmp x x) (less (slice_cmp nat_cmp x x) e) ((eq_by_cmp_equiv nat_list_cmp_total).refl x)
-  where
-    go : (r : Ordering) → r ≡ Less → is_eq r ≡ true → ⊥
-    go r is tied = true≢false (sym tied ∙ ap is_eq is)
-
-head_below : (x : List ℕ) (xs : List (List ℕ)) → Rises (x ∷ xs) → (z : List ℕ) → In z xs → is_before x z ≡ true
-head_below x [] r z i = absurd i
-head_below x (y ∷ ys) r z i =
-    let parts = and_true (is_before x y) (are_rising (y ∷ ys)) r in
-    ⊎_elim (λ (e : z ≡ y). subst (λ n. is_before x n ≡ true) (sym e) parts.0) (λ (j : In z ys). before_trans x y z parts.0 (head_below y ys parts.1 z j)) i
 
 tail_rises : (x : List ℕ) (xs : List (List ℕ)) → Rises (x ∷ xs) → Rises xs
 tail_rises x xs r = (and_true (is_before_first x xs) (are_rising xs) r).1

@@ -1,5 +1,5 @@
 -- A shard that made its End of a turn made one Claim of each index of the job.
-use Rattle.std.proofs.Common.{◌≡◌, ◌≢◌, ℕ, zero, suc, ◌+◌, ◌-◌, ◌<◌, ◌≤◌, Bool, true, false, true≢false, cond, nat_eq, nat_lt, ◌&&◌, List, [], ◌∷◌, ◌++◌, map, set, length, Option, Some, None, refl, sym, ap, ◌∙◌, subst, ⊎_elim, arith}
+use Rattle.std.proofs.Common.{◌≡◌, ◌≢◌, ℕ, zero, suc, ◌+◌, ◌-◌, ◌<◌, ◌≤◌, Bool, true, false, true≢false, cond, nat_eq, nat_lt, ◌&&◌, List, [], ◌∷◌, ◌++◌, map, set, length, Option, Some, None, refl, sym, ap, ◌∙◌, subst, ⊎_elim, arith, add-one}
 use Rattle.std.specs.Prelude.{filter, slice_get, is_some}
 use Rattle.std.specs.Option.{option_or}
 use Rattle.std.proofs.lemmas.Option.{none-some, same_Some}
@@ -235,18 +235,9 @@ claim_counted s finished job next u won claims ends turn k = record {
         lemma m n f g h = f (omega arith)
 
 claimed_next : (sh : shards.State) (job : Job) (u : Option Subscription) (won : Bool) → ((claimed sh (Some job) u won).finished ≡ sh.finished) × ((claimed sh (Some job) u won).hand ≡ sh.hand) × ((claimed sh (Some job) u won).next_index ≡ suc sh.next_index)
-claimed_next sh job None won = (refl, refl, one_more sh.next_index)
-  where
-    one_more : (n : ℕ) → n + 1 ≡ suc n
-    one_more n = omega arith
-claimed_next sh job (Some u) true = (refl, refl, one_more sh.next_index)
-  where
-    one_more : (n : ℕ) → n + 1 ≡ suc n
-    one_more n = omega arith
-claimed_next sh job (Some u) false = (refl, refl, one_more sh.next_index)
-  where
-    one_more : (n : ℕ) → n + 1 ≡ suc n
-    one_more n = omega arith
+claimed_next sh job None won = (refl, refl, add-one sh.next_index)
+claimed_next sh job (Some u) true = (refl, refl, add-one sh.next_index)
+claimed_next sh job (Some u) false = (refl, refl, add-one sh.next_index)
 
 claim_case : (issued p index : ℕ) (won : Bool) (lines : List Line) (line : Line) (claims : List Claimed) (ends : List Ended) → slice_get lines p ≡ Some line → SoundLine WINDOW issued line.shard line.waiting → claim_refusal line.shard index line.shard.hand ≡ None → Counts lines claims ends
     → Counts (set lines p (line_after (of_shard.Claim index won) line)) (claimed_with (suc p) index won line.shard.hand (candidate_of line.shard line.shard.hand index) ++ claims) ends

@@ -1,5 +1,5 @@
 -- The race keeps up with the shards over each step.
-use Rattle.std.proofs.Common.{◌≡◌, ◌≢◌, ℕ, zero, suc, ◌+◌, ◌-◌, ◌≤◌, Bool, true, false, cond, ◌&&◌, nat_eq, nat_lt, List, [], ◌∷◌, length, map, set, Option, Some, None, is_some, refl, sym, ap, ◌∙◌, subst, arith}
+use Rattle.std.proofs.Common.{◌≡◌, ◌≢◌, ℕ, zero, suc, ◌+◌, ◌-◌, ◌≤◌, Bool, true, false, cond, ◌&&◌, nat_eq, nat_lt, List, [], ◌∷◌, length, map, set, Option, Some, None, is_some, refl, sym, ap, ◌∙◌, subst, arith, add-one}
 use Rattle.std.specs.Prelude.{slice_get, slice_index}
 use Rattle.std.specs.Option.{option_or}
 use Rattle.std.proofs.lemmas.Option.{none-some, same_Some}
@@ -129,11 +129,8 @@ record IsOver (s after : State) (job : Job) : Type 0 where
 
 over_turn : (race new : RaceState) (lines : List Line) (shard : ℕ) (line after : Line) (job : Job)
     → IsRaced race lines → IsFinished race shard (line.shard.finished + 1) new → job.turn ≡ suc line.shard.finished → IsOver line.shard after.shard job → IsRaced new (set lines (shard - 1) after)
-over_turn race new lines shard line after job raced h turn over = moved race new lines (shard - 1) after raced (h.finished ∙ ap (set race.finished (shard - 1)) (one_more line.shard.finished ∙ sym turn ∙ sym over.finished)) (λ p apart. ap (λ t. slice_index t p) h.next ∙ set_off race.next (shard - 1) 0 p apart)
+over_turn race new lines shard line after job raced h turn over = moved race new lines (shard - 1) after raced (h.finished ∙ ap (set race.finished (shard - 1)) (add-one line.shard.finished ∙ sym turn ∙ sym over.finished)) (λ p apart. ap (λ t. slice_index t p) h.next ∙ set_off race.next (shard - 1) 0 p apart)
     (let z = subst (λ t. slice_index t (shard - 1) ≤ 0) (sym h.next) (set_at race.next (shard - 1) 0) in omega arith)
-  where
-    one_more : (m : ℕ) → m + 1 ≡ suc m
-    one_more m = omega arith
 
 pub next_turn : (s : State) (waiting : List Job) (k : ℕ) (job : Job) → Turns (begun_turn s.hand s.finished) waiting k → s.hand ≡ None → first_of waiting ≡ Some job → job.turn ≡ suc s.finished
 next_turn s [] k job turns free first = absurd (none-some job first)

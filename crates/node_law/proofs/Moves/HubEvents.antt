@@ -1,9 +1,9 @@
 -- The events of the hub and of sessions, as the cluster law's node sees them.
-use Rattle.std.proofs.Common.{◌≡◌, ◌≢◌, ℕ, zero, suc, ◌-◌, ◌+◌, ◌<◌, ◌≤◌, Bool, true, false, cond, nat_eq, nat_lt, not, ◌&&◌, ◌||◌, List, [], ◌∷◌, map, length, Option, Some, None, refl, sym, ap, ◌∙◌, subst, arith}
+use Rattle.std.proofs.Common.{◌≡◌, ◌≢◌, ℕ, suc, ◌-◌, ◌+◌, ◌<◌, ◌≤◌, Bool, true, false, cond, nat_eq, nat_lt, not, ◌&&◌, ◌||◌, List, [], ◌∷◌, map, length, Option, Some, None, refl, sym, ap, ◌∙◌, subst, arith}
 use Rattle.std.specs.Prelude.{slice_get, is_some, if◌then◌else◌}
 use Rattle.std.proofs.lemmas.Option.{none-some}
 use Rattle.list_laws.specs.Lists.{Each}
-use Rattle.list_laws.proofs.Lists.{read_set}
+use Rattle.list_laws.proofs.Lists.{read_set, get_some}
 use Rattle.list_laws.proofs.Tests.{eq_true, eq_false, lt_false, lt_true, no_cause, not_false, not_true, and_true, or_false}
 use Rattle.list_laws.proofs.Changes.{get_set_here, get_set_there, map_map, map_set_same}
 use Rattle.cluster_law.specs.Hub.{IsTold}
@@ -49,9 +49,6 @@ use Rattle.node_law.specs.AsLaw.{law_at, line_of, node_of, sent_of, is_open_in, 
 use Rattle.node_law.proofs.Moves.Lines.{Steps}
 use Rattle.node_law.proofs.Moves.LineEvents.{found}
 use Rattle.node_law.proofs.Moves.Hubs.{SameOpen, queued_open, hub_steps, news_steps, meets_steps, queued_seen, all_room, issued_sound, law_issues}
-
-one_more : (n : ℕ) → n + 1 ≡ suc n
-one_more n = omega arith
 
 numbered_seen : (server : Server) (frames : List Frame) → map (sent_of server) (map route.Numbered frames) ≡ map (frame_of server) frames
 numbered_seen server frames = map_map route.Numbered (sent_of server) frames
@@ -213,11 +210,6 @@ connect_greets server s (Some x) connect least e = go x.dialed (no_cause (is_som
         let g = no_cause (not (nat_eq (place server connect.to) server.me && is_peer server (place server connect.server_name))) WrongName (if nat_lt connect.inc least || not (nat_eq connect.to_inc server.inc) then Some OldIncarnation else against (connect_offer server connect) (kept_for (place server connect.server_name) s.standing)) f in
         let b = and_true (nat_eq (place server connect.to) server.me) (is_peer server (place server connect.server_name)) (not_false (nat_eq (place server connect.to) server.me && is_peer server (place server connect.server_name)) g.0) in
         peer_greets server connect.server_name connect.inc least b.1 (or_false (nat_lt connect.inc least) (not (nat_eq connect.to_inc server.inc)) (no_cause (nat_lt connect.inc least || not (nat_eq connect.to_inc server.inc)) OldIncarnation (against (connect_offer server connect) (kept_for (place server connect.server_name) s.standing)) g.1).0).0
-
-pub get_some : {A : Type 0} (xs : List A) (n : ℕ) → n < length xs → (x : A) × (slice_get xs n ≡ Some x)
-get_some [] n lt = absurd (omega arith)
-get_some (x ∷ xs) zero lt = (x, refl)
-get_some (x ∷ xs) (suc n) lt = get_some xs n (omega arith)
 
 -- a peer of this server, at no incarnation below the one seen
 seen_at : (server : Server) (a : Node) (name : List ℕ) (peer : Peer) → is_peer server (place server name) ≡ true → slice_get a.hub.peers (place server name) ≡ Some peer → seen_name server a name ≡ peer.seen

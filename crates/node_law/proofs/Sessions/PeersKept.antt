@@ -4,7 +4,7 @@ use Rattle.std.specs.Prelude.{slice_get, is_some, if◌then◌else◌}
 use Rattle.std.specs.Str.{bytes_eq}
 use Rattle.std.proofs.lemmas.Option.{none-some, same_Some}
 use Rattle.list_laws.specs.Lists.{In}
-use Rattle.list_laws.proofs.Lists.{read_map, read_replicate, in_append, in_left, in_right, pairs_weaker}
+use Rattle.list_laws.proofs.Lists.{get_some, read_map, read_replicate, in_append, in_left, in_right, pairs_weaker}
 use Rattle.list_laws.proofs.Tests.{lt_false, no_cause, not_true, and_true}
 use Rattle.list_laws.proofs.Changes.{get_map}
 use Rattle.subj.specs.Servers.{Server, IsListed, own_name, place, is_peer}
@@ -33,7 +33,7 @@ use Rattle.node_law.specs.Steps.{shard_line, deltas_at, seen_name, sessions_afte
 use Rattle.node_law.specs.Runs.{Done, Ran}
 use Rattle.node_law.specs.Sound.{SoundNode}
 use Rattle.node_law.specs.PeersKept.{IsUpAt, KeptAt, IsGreatest, seen_in, seen_of_run, KeepsPeers}
-use Rattle.node_law.proofs.Moves.HubEvents.{Greets, info_greets, connect_greets, get_some}
+use Rattle.node_law.proofs.Moves.HubEvents.{Greets, info_greets, connect_greets}
 use Rattle.node_law.proofs.Sessions.Kept.{Differ, Apart, Kept, SameUps, Stays, drop_back, drop_on, filter_apart, session_in, added, same_all, at_same, frame_kept, complete_kept, cut_kept}
 use Rattle.node_law.proofs.Runs.Sound.{run_sound}
 

@@ -8,8 +8,7 @@ use Rattle.route_values.specs.declared.frames.RouteFrame.TheVariants.{Info, Conn
 use Rattle.route_values.specs.Snapshots.{snapshot_text}
 use Rattle.route_values.specs.Valid.{IsBody, IsRouteFrame}
 use Rattle.route_frames.specs.Canonical.{canonical_line, body_payload, canonical_payload}
-use Rattle.route_frames.specs.CutAgain.{IsShort, AreLines, ArePayloads, IsCutAgain}
-use Rattle.route_frames.specs.ReadAgain.{IsAnnouncedAgain, IsReadAgain}
+use Rattle.route_frames.specs.Laws.{IsShort, AreLines, ArePayloads, IsCutAgain, IsAnnouncedAgain, IsReadAgain}
 use Rattle.route_frames.proofs.Cuts.Frames.{IsShortLine, none_is, line_cut, line_short}
 use Rattle.route_frames.proofs.Canonical.Numbered.{snapshot_fits}
 use Rattle.route_frames.specs.Spelling.{body_announces, announces}

@@ -8,7 +8,7 @@ use Rattle.route_values.specs.Snapshots.{line_end}
 use Rattle.route_frames.specs.Meaning.{Meaning}
 use Rattle.route_frames.specs.Decoding.{size_meaning, frame_meaning}
 use Rattle.route_frames.specs.Canonical.{canonical_line, canonical_payload, payload_bytes, frame_bytes}
-use Rattle.route_frames.specs.ReadAgain.{BeginsNoOther}
+use Rattle.route_frames.specs.Laws.{BeginsNoOther}
 use Rattle.route_frames.proofs.Cuts.Behind.{drop_front}
 use Rattle.route_frames.proofs.Cuts.Spaces.{take_front}
 use Rattle.route_frames.proofs.Again.Routes.{is_cut_again, is_announced_again, is_read_again}

@@ -10,10 +10,11 @@ use Rattle.std.proofs.lemmas.Bool.{le-leb}
 use Rattle.std.proofs.lemmas.Bool.Decides.{nat_tests}
 use Rattle.std.proofs.lemmas.Fmt.{digits_decimal, decimal_is_IsNumeral, length-decimal-le, decimal_nonempty}
 use Rattle.std.proofs.lemmas.Str.Parse.{IsNumeralModel, numerals_by_fold}
-use Rattle.line_fields.specs.Fields.{is_empty, is_blank, is_digit_field, number_of}
+use Rattle.list_laws.specs.Lists.{is_empty}
+use Rattle.line_fields.specs.Fields.{is_blank, is_digit_field, number_of}
 use Rattle.line_fields.specs.Spelling.{IsField, FieldsFollow}
 use Rattle.subj.specs.declared.limits.TheConstants.{MAX_SUBJECT, MAX_QUEUE_NAME, MAX_NODE_NAME}
-use Rattle.subj.specs.declared.names.NameFault.TheVariants.{TooLong, BadByte}
+use Rattle.subj.specs.declared.faults.NameFault.TheVariants.{TooLong, BadByte}
 use Rattle.subj.specs.Names as names
 use Rattle.route_frames.specs.Canonical.{spaced}
 

@@ -16,7 +16,7 @@ use Rattle.route_frames.specs.declared.common.TheConstants.{INCARNATION_DIGITS, 
 use Rattle.route_frames.specs.declared.line_reading.TheConstants.{WEIGHT_DIGITS, SIZE_DIGITS}
 use Rattle.route_frames.specs.Canonical.{spaced, operation_word, common_of, member_fields, body_fields, numbered_line, body_payload, info_json, connect_json}
 use Rattle.route_frames.specs.Spelling.{HasCommon, SpellsWeight, SpellsBody, SpellsKey, SpellsKeys, SpellsBehind, body_announces, Spells, SpellsNumbered}
-use Rattle.route_frames.specs.ReadAgain.{CanonicalIsSpelt}
+use Rattle.route_frames.specs.Laws.{CanonicalIsSpelt}
 use Rattle.route_frames.proofs.Canonical.Fields.{follow_spaced, append_fields, number_again}
 use Rattle.route_frames.proofs.Meaning.Lines.{queue_weight}
 use Rattle.route_frames.proofs.Canonical.Numbered.{spaced-append, common_are, snapshot_fits, body_are}

@@ -19,7 +19,7 @@ use Rattle.route_values.specs.Frames.{Frame}
 use Rattle.route_values.specs.Snapshots.{snapshot_text}
 use Rattle.route_values.specs.Valid.{IsKey, IsWeighted, AreNames, IsReply, IsMessage, IsBody, IsFrame}
 use Rattle.route_frames.specs.Canonical.{spaced, operation_word, common_of, member_fields, form_fields, body_fields, numbered_line}
-use Rattle.route_frames.specs.CutAgain.{IsPayloadCutAgain}
+use Rattle.route_frames.specs.Laws.{IsPayloadCutAgain}
 use Rattle.route_frames.proofs.Cuts.Behind.{drop_front}
 use Rattle.route_frames.proofs.Canonical.Fields.{all_digits, queue_plain, pattern_plain, subject_plain, subject_short, pattern_short, queue_short, node_short, node_without_cr}
 use Rattle.route_frames.proofs.Canonical.Numbered.{spaced-append, weight_fits, snapshot_fits}

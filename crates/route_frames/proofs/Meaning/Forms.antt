@@ -4,7 +4,8 @@ use Rattle.std.specs.List.{slice_split}
 use Rattle.std.proofs.lemmas.List.{length-drop, drop-drop}
 use Rattle.std.proofs.lemmas.List.Splits.{length-slice_split}
 use Rattle.std.proofs.lemmas.List.Sums.{length-filter, count_by-le-length}
-use Rattle.line_fields.specs.Fields.{is_empty, is_blank, fields}
+use Rattle.list_laws.specs.Lists.{is_empty}
+use Rattle.line_fields.specs.Fields.{is_blank, fields}
 use Rattle.route_frames.specs.Arguments.{in_front, split_last_of, split_last}
 
 last_of : (field : List ℕ) (front : List (List ℕ)) (last : List ℕ) → split_last_of field (front ++ last ∷ []) ≡ (field ∷ front, last)

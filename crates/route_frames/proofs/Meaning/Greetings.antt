@@ -16,7 +16,7 @@ use Rattle.route_frames.specs.Canonical.{counted}
 use Rattle.route_frames.specs.Greetings.{json_of, object_of, whole_of, whole_at, whole_in_range, incarnation_in, node_at, info_in, dial_in, connect_in, info_of, connect_text_of}
 use Rattle.route_frames.specs.Spelling.{HasInfo, HasConnect}
 use Rattle.route_frames.proofs.Canonical.Greetings.{serial_range}
-use Rattle.route_frames.proofs.Meaning.Parts.{incarnation_again, node_again}
+use Rattle.route_frames.proofs.Meaning.Parts.{incarnation_again, name_again}
 
 -- ---- members
 
@@ -50,7 +50,7 @@ node_means : (key : List ℕ) (json : Data) (name : List ℕ) → Has key json (
 unfolding node_at
 node_means key json name has is =
     let found : ok_or (option_and_then as_str (get key json)) BadArgs ≡ Ok name = ap (λ found. ok_or (option_and_then as_str found) BadArgs) has in
-    rw found (node_again name is)
+    rw found (name_again node_name_fault name is)
 
 -- ---- INFO
 

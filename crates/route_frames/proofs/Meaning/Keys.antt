@@ -5,7 +5,7 @@ use Rattle.std.specs.Option.{ok_or}
 use Rattle.std.specs.List.{list_any}
 use Rattle.std.specs.Str.{all_ascii_digits}
 use Rattle.std.specs.Str.Parse.{digits_value}
-use Rattle.line_fields.specs.Fields.{is_empty}
+use Rattle.list_laws.specs.Lists.{is_empty}
 use Rattle.route_values.specs.Snapshots.{Weighted, line_end}
 use Rattle.route_values.specs.Valid.{IsWeighted, AreWeighted, AreSnapshotKeys}
 use Rattle.route_frames.specs.declared.faults.RouteFault.TheVariants.{BadArgs}

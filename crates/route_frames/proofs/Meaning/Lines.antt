@@ -5,7 +5,7 @@ use Rattle.std.specs.Option.{ok_or, option_to_list}
 use Rattle.std.proofs.lemmas.Bool.Decides.{nat_tests}
 use Rattle.subj.specs.declared.limits.TheConstants.{MAX_WEIGHT, MAX_SNAPSHOT, MAX_PAYLOAD, MAX_COUNTER}
 use Rattle.subj.specs.declared.keys.Key.{Key}
-use Rattle.subj.specs.Names.{node_name_fault}
+use Rattle.subj.specs.Names.{node_name_fault, subject_fault}
 use Rattle.subj.specs.Messages.{Content}
 use Rattle.route_values.specs.Snapshots.{Weighted}
 use Rattle.route_values.specs.Valid.{IsKey, IsWeighted, IsMessage, IsIncarnation}
@@ -19,7 +19,7 @@ use Rattle.route_frames.specs.CommonFields.{CommonFields, digits_of, numbers_of}
 use Rattle.route_frames.specs.NumberedLines.{plus_line, minus_line, snapshot_line, message_line}
 use Rattle.route_frames.specs.Canonical.{form_fields}
 use Rattle.route_frames.specs.Spelling.{IsNumber, SpellsWeight}
-use Rattle.route_frames.proofs.Meaning.Parts.{digits_spelt, numbers_spelt, within_again, in_range_again, node_again, subject_again, key_again, weighted_again}
+use Rattle.route_frames.proofs.Meaning.Parts.{digits_spelt, numbers_spelt, within_again, in_range_again, key_again, weighted_again, name_again}
 use Rattle.route_frames.proofs.Meaning.Messages.{fields_again, reply_again, queues_again}
 
 -- what the ends of a frame have to be
@@ -67,10 +67,10 @@ plus_by : (from to : List ℕ) (inc to_inc number : ℕ) (are : AreDigits inc to
 unfolding plus_line
 plus_by from to inc to_inc number are pattern None weight behind ends some is spelt =
     let one = plain_weight weight is.weight in
-    rw (spelt, one) (rw (numbers_mean from to inc to_inc number are, in_range_again 1 inc to_inc number ends.life ends.other_life some ends.most, node_again from ends.sender, node_again to ends.receiver, key_again (record { pattern = pattern; queue = None }) is.key) refl)
+    rw (spelt, one) (rw (numbers_mean from to inc to_inc number are, in_range_again 1 inc to_inc number ends.life ends.other_life some ends.most, name_again node_name_fault from ends.sender, name_again node_name_fault to ends.receiver, key_again (record { pattern = pattern; queue = None }) is.key) refl)
 plus_by from to inc to_inc number are pattern (Some queue) weight behind ends some is spelt =
     let fits = queue_weight weight is.weight in
-    rw spelt.1 (rw (numbers_mean from to inc to_inc number are, digits_mean WEIGHT_DIGITS spelt.0 weight spelt.2, in_range_again 1 inc to_inc number ends.life ends.other_life some ends.most, within_again 1 MAX_WEIGHT weight fits.0 fits.1, node_again from ends.sender, node_again to ends.receiver, key_again (record { pattern = pattern; queue = Some queue }) is.key, weighted_again (record { pattern = pattern; queue = Some queue }, weight) is.weight) refl)
+    rw spelt.1 (rw (numbers_mean from to inc to_inc number are, digits_mean WEIGHT_DIGITS spelt.0 weight spelt.2, in_range_again 1 inc to_inc number ends.life ends.other_life some ends.most, within_again 1 MAX_WEIGHT weight fits.0 fits.1, name_again node_name_fault from ends.sender, name_again node_name_fault to ends.receiver, key_again (record { pattern = pattern; queue = Some queue }) is.key, weighted_again (record { pattern = pattern; queue = Some queue }, weight) is.weight) refl)
 
 pub plus_means : (from to : List ℕ) (inc to_inc number : ℕ) (are : AreDigits inc to_inc number) (weighted : Weighted) (behind : List (List ℕ)) → AreEnds from to inc to_inc number → 1 ≤ number → IsWeighted weighted → SpellsWeight weighted.0.queue weighted.1 behind
     → plus_line (common_with from to inc to_inc number are) (codes "$G" ∷ weighted.0.pattern ∷ behind) ≡ Ok (line_spelt from to inc to_inc number (said.Plus weighted))
@@ -82,9 +82,9 @@ minus_by : (from to : List ℕ) (inc to_inc number : ℕ) (are : AreDigits inc t
     → minus_line (common_with from to inc to_inc number are) (codes "$G" ∷ pattern ∷ option_to_list queue) ≡ Ok (line_spelt from to inc to_inc number (said.Minus (record { pattern = pattern; queue = queue })))
 unfolding minus_line
 minus_by from to inc to_inc number are pattern None ends some is =
-    rw (numbers_mean from to inc to_inc number are, in_range_again 1 inc to_inc number ends.life ends.other_life some ends.most, node_again from ends.sender, node_again to ends.receiver, key_again (record { pattern = pattern; queue = None }) is) refl
+    rw (numbers_mean from to inc to_inc number are, in_range_again 1 inc to_inc number ends.life ends.other_life some ends.most, name_again node_name_fault from ends.sender, name_again node_name_fault to ends.receiver, key_again (record { pattern = pattern; queue = None }) is) refl
 minus_by from to inc to_inc number are pattern (Some queue) ends some is =
-    rw (numbers_mean from to inc to_inc number are, in_range_again 1 inc to_inc number ends.life ends.other_life some ends.most, node_again from ends.sender, node_again to ends.receiver, key_again (record { pattern = pattern; queue = Some queue }) is) refl
+    rw (numbers_mean from to inc to_inc number are, in_range_again 1 inc to_inc number ends.life ends.other_life some ends.most, name_again node_name_fault from ends.sender, name_again node_name_fault to ends.receiver, key_again (record { pattern = pattern; queue = Some queue }) is) refl
 
 pub minus_means : (from to : List ℕ) (inc to_inc number : ℕ) (are : AreDigits inc to_inc number) (key : Key) → AreEnds from to inc to_inc number → 1 ≤ number → IsKey key
     → minus_line (common_with from to inc to_inc number are) (codes "$G" ∷ key.pattern ∷ option_to_list key.queue) ≡ Ok (line_spelt from to inc to_inc number (said.Minus key))
@@ -96,7 +96,7 @@ pub snapshot_means : (from to : List ℕ) (inc to_inc number : ℕ) (are : AreDi
     → snapshot_line (common_with from to inc to_inc number are) (digits ∷ []) ≡ Ok (line_spelt from to inc to_inc number (said.Snapshot size))
 unfolding snapshot_line
 snapshot_means from to inc to_inc number are digits size ends short spelt =
-    rw (numbers_mean from to inc to_inc number are, digits_mean SIZE_DIGITS digits size spelt, in_range_again 0 inc to_inc number ends.life ends.other_life (omega arith) ends.most, within_again 0 MAX_SNAPSHOT size (omega arith) short, node_again from ends.sender, node_again to ends.receiver) refl
+    rw (numbers_mean from to inc to_inc number are, digits_mean SIZE_DIGITS digits size spelt, in_range_again 0 inc to_inc number ends.life ends.other_life (omega arith) ends.most, within_again 0 MAX_SNAPSHOT size (omega arith) short, name_again node_name_fault from ends.sender, name_again node_name_fault to ends.receiver) refl
 
 -- ---- RMSG
 
@@ -105,4 +105,4 @@ pub message_means : (from to : List ℕ) (inc to_inc number : ℕ) (are : AreDig
 unfolding message_line
 message_means from to inc to_inc number are digits message queues ends some is spelt =
     let size = length message.payload in
-    rw (fields_again (codes "$G") message.subject message.reply queues digits is.ordered, numbers_mean from to inc to_inc number are, digits_mean SIZE_DIGITS digits size spelt, in_range_again 1 inc to_inc number ends.life ends.other_life some ends.most, within_again 0 MAX_PAYLOAD size (omega arith) is.payload, node_again from ends.sender, node_again to ends.receiver, subject_again message.subject is.subject, reply_again message.reply is.reply, queues_again queues is.names is.ordered) refl
+    rw (fields_again (codes "$G") message.subject message.reply queues digits is.ordered, numbers_mean from to inc to_inc number are, digits_mean SIZE_DIGITS digits size spelt, in_range_again 1 inc to_inc number ends.life ends.other_life some ends.most, within_again 0 MAX_PAYLOAD size (omega arith) is.payload, name_again node_name_fault from ends.sender, name_again node_name_fault to ends.receiver, name_again subject_fault message.subject is.subject, reply_again message.reply is.reply, queues_again queues is.names is.ordered) refl

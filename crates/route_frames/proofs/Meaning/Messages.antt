@@ -4,15 +4,17 @@ use Rattle.std.specs.Prelude.{nat_lt, nat_le, codes}
 use Rattle.std.specs.Option.{ok_or}
 use Rattle.std.proofs.lemmas.Bool.Decides.{nat_tests}
 use Rattle.subj.specs.declared.limits.TheConstants.{MAX_QUEUE_NAMES}
+use Rattle.subj.specs.Names.{subject_fault, queue_name_fault}
 use Rattle.subj.specs.QueueNames.{are_queue_names, are_rising}
 use Rattle.route_values.specs.Valid.{AreNames, IsReply}
 use Rattle.route_frames.specs.declared.faults.RouteFault.TheVariants.{BadArgs, TooManyQueues}
 use Rattle.route_frames.specs.Meaning.{◌>>=◌}
 use Rattle.route_frames.specs.Arguments.{MessageFields, message_form, form_split, message_fields}
-use Rattle.route_frames.specs.NumberedLines.{subject_of, optional, are_names, queue_names_in, message_fields_in}
+use Rattle.route_frames.specs.NumberedLines.{optional, are_names, queue_names_in, message_fields_in}
 use Rattle.route_frames.specs.Canonical.{form_fields}
 use Rattle.route_frames.proofs.Meaning.Forms.{split_last-append}
-use Rattle.route_frames.proofs.Meaning.Parts.{subject_again, queue_again}
+use Rattle.route_frames.specs.CommonFields.{name_of}
+use Rattle.route_frames.proofs.Meaning.Parts.{name_again}
 
 -- ---- the form
 
@@ -37,12 +39,12 @@ fields_again account subject reply names size are =
 
 names_again : (names : List (List ℕ)) → AreNames names → are_names names ≡ Ok names
 names_again [] is = refl
-names_again (name ∷ names) is = rw (queue_again name is.0, names_again names is.1) refl
+names_again (name ∷ names) is = rw (name_again queue_name_fault name is.0, names_again names is.1) refl
 
 pub queues_again : (names : List (List ℕ)) → AreNames names → are_queue_names names ≡ true → queue_names_in names ≡ Ok names
 unfolding queue_names_in
 queues_again names is are = rw (names_again names is) (ap (λ b. ok_or (cond b (Some names) None) BadArgs) are)
 
-pub reply_again : (reply : Option (List ℕ)) → IsReply reply → optional subject_of reply ≡ Ok reply
+pub reply_again : (reply : Option (List ℕ)) → IsReply reply → optional (name_of subject_fault) reply ≡ Ok reply
 reply_again None is = refl
-reply_again (Some reply) is = ap (λ read. read >>= λ value. Ok (Some value)) (subject_again reply is)
+reply_again (Some reply) is = ap (λ read. read >>= λ value. Ok (Some value)) (name_again subject_fault reply is)

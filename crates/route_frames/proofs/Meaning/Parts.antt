@@ -6,7 +6,7 @@ use Rattle.std.proofs.lemmas.Bool.{le-leb}
 use Rattle.std.proofs.lemmas.Bool.Decides.{nat_tests}
 use Rattle.subj.specs.declared.limits.TheConstants.{MAX_INCARNATION, MAX_COUNTER}
 use Rattle.subj.specs.declared.keys.Key.{Key}
-use Rattle.subj.specs.Names.{node_name_fault, pattern_fault, subject_fault, queue_name_fault}
+use Rattle.subj.specs.Names.{pattern_fault, queue_name_fault}
 use Rattle.subj.specs.Numbers.{incarnation_of}
 use Rattle.route_values.specs.Snapshots.{Weighted, is_weight, weighted_key}
 use Rattle.route_values.specs.Valid.{IsQueue, IsKey, IsIncarnation}
@@ -14,8 +14,9 @@ use Rattle.route_frames.specs.declared.faults.RouteFault.TheVariants.{BadArgs, B
 use Rattle.route_frames.specs.declared.common.Digits.{Digits}
 use Rattle.route_frames.specs.declared.common.Numbers.{Numbers}
 use Rattle.route_frames.specs.Meaning.{◌>>=◌}
-use Rattle.route_frames.specs.CommonFields.{within, node_of, numbers_in_range}
-use Rattle.route_frames.specs.NumberedLines.{pattern_of, subject_of, queue_of, optional, key_of}
+use Rattle.route_frames.specs.CommonFields.{within, numbers_in_range, name_of}
+use Rattle.route_frames.specs.NumberedLines.{optional, key_of}
+use Rattle.subj.specs.declared.faults.NameFault.{NameFault}
 
 -- ---- numbers
 
@@ -41,25 +42,16 @@ in_range_again least inc to_inc number is is_too low high =
 
 -- ---- names
 
-pub node_again : (name : List ℕ) → node_name_fault name ≡ None → node_of name ≡ Ok name
-node_again name is = ap (λ fault. cond (is_some fault) (Err BadArgs) (Ok name)) is
+pub name_again : (fault : List ℕ → Option NameFault) (name : List ℕ) → fault name ≡ None → name_of fault name ≡ Ok name
+name_again fault name is = ap (λ found. cond (is_some found) (Err BadArgs) (Ok name)) is
 
-pub subject_again : (text : List ℕ) → subject_fault text ≡ None → subject_of text ≡ Ok text
-subject_again text is = ap (λ fault. cond (is_some fault) (Err BadArgs) (Ok text)) is
-
-pub pattern_again : (text : List ℕ) → pattern_fault text ≡ None → pattern_of text ≡ Ok text
-pattern_again text is = ap (λ fault. cond (is_some fault) (Err BadArgs) (Ok text)) is
-
-pub queue_again : (text : List ℕ) → queue_name_fault text ≡ None → queue_of text ≡ Ok text
-queue_again text is = ap (λ fault. cond (is_some fault) (Err BadArgs) (Ok text)) is
-
-optional_queue_again : (queue : Option (List ℕ)) → IsQueue queue → optional queue_of queue ≡ Ok queue
+optional_queue_again : (queue : Option (List ℕ)) → IsQueue queue → optional (name_of queue_name_fault) queue ≡ Ok queue
 optional_queue_again None is = refl
-optional_queue_again (Some queue) is = ap (λ read. read >>= λ value. Ok (Some value)) (queue_again queue is)
+optional_queue_again (Some queue) is = ap (λ read. read >>= λ value. Ok (Some value)) (name_again queue_name_fault queue is)
 
 pub key_again : (key : Key) → IsKey key → key_of key.pattern key.queue ≡ Ok key
 unfolding key_of
-key_again key is = rw (pattern_again key.pattern is.pattern, optional_queue_again key.queue is.queue) refl
+key_again key is = rw (name_again pattern_fault key.pattern is.pattern, optional_queue_again key.queue is.queue) refl
 
 pub weighted_again : (weighted : Weighted) → is_weight weighted.0 weighted.1 ≡ true → ok_or (weighted_key weighted.0 weighted.1) BadArgs ≡ Ok weighted
 weighted_again weighted is = ap (λ b. ok_or (cond b (Some weighted) None) BadArgs) is

@@ -2,14 +2,9 @@
 use Rattle.std.proofs.Common.{◌≡◌, ℕ, Bool, true, false, not, ◌||◌, cond, List, [], ◌∷◌, ◌++◌, length, refl, ap, sym, ◌∙◌, arith, Option, Some, None, Ok, nat_eq, nat_le, Err, ◌≤◌, ◌&&◌}
 use Rattle.std.specs.Prelude.{codes, drop}
 use Rattle.std.specs.Option.{ok_or, option_to_list}
-use Rattle.std.specs.List.{list_any}
-use Rattle.std.specs.Char.{to_ascii_lowercase}
-use Rattle.std.specs.Str.{bytes_eq, str_to_ascii_lowercase}
 use Rattle.std.proofs.lemmas.Bool.{le-leb}
 use Rattle.std.proofs.lemmas.Bool.Decides.{nat_tests}
-use Rattle.std.proofs.lemmas.Slice.Eq.{bytes_eq-Decides}
-use Rattle.line_fields.specs.Fields.{is_empty, is_blank, is_word, fields, begins_with_field, line_fields}
-use Rattle.line_fields.specs.Spelling.{IsField}
+use Rattle.line_fields.specs.Fields.{is_blank, is_word, fields, begins_with_field, line_fields}
 use Rattle.line_fields.proofs.SpellingFields.{stops, follow_fields, line_fields_are}
 use Rattle.subj.specs.declared.limits.TheConstants.{MAX_PAYLOAD, MAX_COUNTER}
 use Rattle.route_values.specs.declared.bodies.Body.{Body}
@@ -27,55 +22,19 @@ use Rattle.route_frames.specs.declared.lines.RouteLine.TheVariants as line
 use Rattle.route_frames.specs.declared.operation.Operation.{Operation}
 use Rattle.route_frames.specs.declared.operation.Operation.TheVariants as operation
 use Rattle.route_frames.specs.Meaning.{Meaning, ◌>>=◌}
-use Rattle.route_frames.specs.Operations.{operation_of}
+use Rattle.route_frames.specs.Operations.{word_of}
 use Rattle.route_frames.specs.CommonFields.{CommonFields}
 use Rattle.route_frames.specs.NumberedLines.{plus_line, minus_line, snapshot_line, message_line}
-use Rattle.route_frames.specs.Lines.{numbered, operation_meaning, fields_meaning, line_meaning}
-use Rattle.route_frames.specs.Announced.{announced_size}
+use Rattle.route_frames.specs.Lines.{numbered, operation_meaning, fields_meaning, line_meaning, announced_size}
 use Rattle.route_frames.specs.Decoding.{sized, body_meaning, frame_behind, frame_meaning, numbered_meaning}
-use Rattle.route_frames.specs.Canonical.{operation_word, form_fields}
+use Rattle.route_frames.specs.Canonical.{operation_for, form_fields}
 use Rattle.route_frames.specs.Spelling.{SpellsBody, SpellsBehind, body_announces, frame_word, SpellsText, SpellsLine, SpellsPayload, announces}
-use Rattle.route_frames.specs.Readings.{SpeltIsRead, AnnouncedIsTold}
+use Rattle.route_frames.specs.Laws.{SpeltIsRead, AnnouncedIsTold}
+use Rattle.route_frames.proofs.Operations.{named_is_found, word_is_field}
 use Rattle.route_frames.proofs.Cuts.Behind.{drop_front}
 use Rattle.route_frames.proofs.Meaning.Lines.{AreEnds, line_spelt, AreDigits, common_with, plus_means, minus_means, snapshot_means, message_means}
 use Rattle.route_frames.proofs.Meaning.Keys.{text_means}
 use Rattle.route_frames.proofs.Meaning.Greetings.{info_means, connect_means}
-
--- ---- operations
-
-abbrev lower : List ℕ → List ℕ
-lower bytes = str_to_ascii_lowercase bytes
-
-abbrev by_letters : List ℕ → Option Operation
-by_letters letters =
-    cond (bytes_eq letters (lower (codes "RMSG"))) (Some operation.Msg)
-    (cond (bytes_eq letters (lower (codes "RS+"))) (Some operation.Plus)
-    (cond (bytes_eq letters (lower (codes "RS-"))) (Some operation.Minus)
-    (cond (bytes_eq letters (lower (codes "RSS"))) (Some operation.Snapshot)
-    (cond (bytes_eq letters (lower (codes "INFO"))) (Some operation.Info)
-    (cond (bytes_eq letters (lower (codes "CONNECT"))) (Some operation.Connect) None)))))
-
-named : (word field : List ℕ) → is_word word field ≡ true → operation_of field ≡ by_letters (lower word)
-named word field names = ap by_letters ((bytes_eq-Decides (lower field) (lower word)).0 names)
-
-blank_in_any_case : (x : ℕ) (b : Bool) → is_blank x ≡ b → is_blank (to_ascii_lowercase x) ≡ b
-blank_in_any_case x true e = grind (arith, nat_tests)
-blank_in_any_case x false e = grind (arith, nat_tests)
-
-blanks_in_any_case : (field : List ℕ) → list_any is_blank (lower field) ≡ list_any is_blank field
-blanks_in_any_case [] = refl
-blanks_in_any_case (x ∷ xs) = ap (λ b. b || list_any is_blank (lower xs)) (blank_in_any_case x (is_blank x) refl) ∙ ap (λ b. is_blank x || b) (blanks_in_any_case xs)
-
-empty_in_any_case : (field : List ℕ) → is_empty (lower field) ≡ is_empty field
-empty_in_any_case [] = refl
-empty_in_any_case (x ∷ xs) = refl
-
-word_is_field : (word field : List ℕ) → IsField (lower word) → is_word word field ≡ true → IsField field
-word_is_field word field is names =
-    let same = (bytes_eq-Decides (lower field) (lower word)).0 names in (
-      sym (empty_in_any_case field) ∙ ap is_empty same ∙ is.0,
-      sym (blanks_in_any_case field) ∙ ap (list_any is_blank) same ∙ is.1,
-    )
 
 -- ---- a line, by its operation and the text behind it
 
@@ -86,33 +45,15 @@ end_of_field (x ∷ xs) e = other (is_blank x) e where
   other true e = refl
   other false e = absurd (cc)
 
-line_means_by : (text word field behind : List ℕ) (op : Option Operation) → text ≡ field ++ behind → is_word word field ≡ true → IsField (lower word) → by_letters (lower word) ≡ op → begins_with_field behind ≡ false → line_meaning text ≡ operation_meaning op behind (fields behind)
-line_means_by text word field behind op whole names is_field is ends =
+line_means_by : (text field behind : List ℕ) (o : Operation) → text ≡ field ++ behind → is_word (word_of o) field ≡ true → begins_with_field behind ≡ false → line_meaning text ≡ operation_meaning (Some o) behind (fields behind)
+line_means_by text field behind o whole names ends =
     let follows = follow_fields (fields behind) behind refl (end_of_field behind ends) in
-    let are : line_fields text ≡ field ∷ fields behind = line_fields_are field (fields behind) text (record { rest = behind; whole = whole; is_field = word_is_field word field is_field names; follows = follows }) in
+    let are : line_fields text ≡ field ∷ fields behind = line_fields_are field (fields behind) text (record { rest = behind; whole = whole; is_field = word_is_field o field names; follows = follows }) in
     ap (fields_meaning text) are
-    ∙ ap (λ op. operation_meaning op (drop (length field) text) (fields behind)) (named word field names ∙ is)
-    ∙ ap (λ behind_field. operation_meaning op behind_field (fields behind)) (ap (drop (length field)) whole ∙ drop_front field behind)
+    ∙ ap (λ found. operation_meaning found (drop (length field) text) (fields behind)) (named_is_found o field names)
+    ∙ ap (λ behind_field. operation_meaning (Some o) behind_field (fields behind)) (ap (drop (length field)) whole ∙ drop_front field behind)
 
 -- ---- numbered frames
-
-abbrev op_of : Body → Operation
-op_of (Plus weighted) = operation.Plus
-op_of (Minus key) = operation.Minus
-op_of (Snapshot keys) = operation.Snapshot
-op_of (Msg message queues) = operation.Msg
-
-op_is : (body : Body) → by_letters (lower (operation_word body)) ≡ Some (op_of body)
-op_is (Plus weighted) = refl
-op_is (Minus key) = refl
-op_is (Snapshot keys) = refl
-op_is (Msg message queues) = refl
-
-op_is_field : (body : Body) → IsField (lower (operation_word body))
-op_is_field (Plus weighted) = (refl, refl)
-op_is_field (Minus key) = (refl, refl)
-op_is_field (Snapshot keys) = (refl, refl)
-op_is_field (Msg message queues) = (refl, refl)
 
 abbrev frame_with : List ℕ → ℕ → List ℕ → ℕ → ℕ → Body → Frame
 frame_with from inc to to_inc number body = record { from = from; inc = inc; to = to; to_inc = to_inc; number = number; body = body }
@@ -141,7 +82,7 @@ ends_of frame is most = record { sender = is.from; receiver = is.to; life = is.i
 -- what the text behind an operation says of a frame, and what is made of it and a payload
 record BodyMeans (text : List ℕ) (all : List (List ℕ)) (frame : Frame) (size : Option ℕ) : Type 0 where
   pub said : LineBody
-  pub says : operation_meaning (Some (op_of frame.body)) text all ≡ Ok (line.Numbered (line_spelt frame.from frame.to frame.inc frame.to_inc frame.number said))
+  pub says : operation_meaning (Some (operation_for frame.body)) text all ≡ Ok (line.Numbered (line_spelt frame.from frame.to frame.inc frame.to_inc frame.number said))
   pub told : announced_size (line.Numbered (line_spelt frame.from frame.to frame.inc frame.to_inc frame.number said)) ≡ size
   pub makes : (payload : List ℕ) → SpellsBehind frame.body payload → size ≡ body_announces frame.body payload → body_meaning said payload ≡ Ok frame.body
 
@@ -203,13 +144,13 @@ record LineMeans (text : List ℕ) (frame : RouteFrame) (size : Option ℕ) : Ty
 line_by : (text word behind : List ℕ) (frame : RouteFrame) (size : Option ℕ) → text ≡ word ++ behind → is_word (frame_word frame) word ≡ true → begins_with_field behind ≡ false → SpellsText frame size behind → IsRouteFrame frame → LineMeans text frame size
 line_by text word behind (route.Info info) size whole names ends spelt is = record {
   read = line.Info info;
-  says = line_means_by text (codes "INFO") word behind (Some operation.Info) whole names (refl, refl) refl ends ∙ ap (λ read. read >>= λ info. Ok (line.Info info)) (info_means behind spelt.1 info spelt.2 spelt.3 is);
+  says = line_means_by text word behind operation.Info whole names ends ∙ ap (λ read. read >>= λ info. Ok (line.Info info)) (info_means behind spelt.1 info spelt.2 spelt.3 is);
   told = sym spelt.0;
   makes = λ payload behind told. refl;
 }
 line_by text word behind (route.Connect connect) size whole names ends spelt is = record {
   read = line.Connect connect;
-  says = line_means_by text (codes "CONNECT") word behind (Some operation.Connect) whole names (refl, refl) refl ends ∙ ap (λ read. read >>= λ connect. Ok (line.Connect connect)) (connect_means behind spelt.1 connect spelt.2 spelt.3 is);
+  says = line_means_by text word behind operation.Connect whole names ends ∙ ap (λ read. read >>= λ connect. Ok (line.Connect connect)) (connect_means behind spelt.1 connect spelt.2 spelt.3 is);
   told = sym spelt.0;
   makes = λ payload behind told. refl;
 }
@@ -218,7 +159,7 @@ line_by text word behind (route.Numbered frame) size whole names ends spelt is =
     let are : AreDigits frame.inc frame.to_inc frame.number = record { inc_digits = common.inc; to_inc_digits = common.to_inc; number_digits = common.number; is_inc = common.is_inc; is_to_inc = common.is_to_inc; is_number = common.is_number } in
     let means = body_by behind (fields behind) spelt.0 frame.from frame.to frame.inc frame.to_inc frame.number frame.body size are common.whole is spelt.2 in record {
       read = line.Numbered (line_spelt frame.from frame.to frame.inc frame.to_inc frame.number means.said);
-      says = line_means_by text (operation_word frame.body) word behind (Some (op_of frame.body)) whole names (op_is_field frame.body) (op_is frame.body) ends ∙ means.says;
+      says = line_means_by text word behind (operation_for frame.body) whole names ends ∙ means.says;
       told = means.told;
       makes = λ payload behind told. ap (λ read. read >>= λ frame. Ok (route.Numbered frame)) (read_frame frame.from frame.to frame.inc frame.to_inc frame.number means.said frame.body payload (means.makes payload behind told) is.number);
     }

@@ -1,13 +1,12 @@
 -- What a reader answers is spelt, or refused for its cause.
 use Rattle.route_frames.specs.declared.lines.RouteLine.{RouteLine}
-use Rattle.route_frames.specs.Announced.{body_size, announced_size}
-use Rattle.route_frames.specs.TextViews.{is_json, text_meaning, joined_text}
+use Rattle.route_frames.specs.Lines.{body_size, announced_size, line_meaning}
+use Rattle.route_frames.specs.TextViews.{is_json, text_meaning, size_in, joined_text}
 use Rattle.route_frames.specs.declared.texts.LineText.TheVariants as said
 use Rattle.std.specs.Borrow.{Bor}
 use Rattle.route_frames.specs.declared.texts.LineText.{LineText}
 use Rattle.route_frames.specs.declared.lines.NumberedLine.{NumberedLine}
 use Rattle.route_frames.specs.declared.lines.RouteLine.TheVariants as route_line
-use Rattle.route_frames.specs.Lines.{line_meaning}
 use Rattle.std.proofs.Common.{◌≡◌, ℕ, Bool, true, false, ◌||◌, ◌&&◌, is_ok, true≢false, List, refl, sym, ◌∙◌, ◌⊎◌, inl, inr, Option, Some, None, Result, Ok, Err, ap, subst}
 use Rattle.std.specs.Prelude.{unwrap_or}
 use Rattle.subj.specs.declared.failures.Failure.{Failure}
@@ -16,13 +15,13 @@ use Rattle.route_values.specs.declared.frames.RouteFrame.{RouteFrame}
 use Rattle.route_frames.specs.declared.faults.RouteFault.{RouteFault}
 use Rattle.route_frames.specs.declared.faults.RouteFault.TheVariants.{BadArgs}
 use Rattle.route_frames.specs.Meaning.{Meaning, Means, MeansBy, ◌>>=◌}
-use Rattle.route_frames.specs.Decoding.{size_meaning, frame_meaning, sized, joined, takes_memory, is_snapshot_body, is_snapshot_behind, body_has_payload, line_has_payload, Joins, failure_of}
+use Rattle.route_frames.specs.Decoding.{size_meaning, frame_meaning, sized, joined, takes_memory, is_snapshot_body, is_snapshot_behind, body_has_payload, line_has_payload, frame_behind, JoinsBy, Joins, failure_of}
 use Rattle.route_frames.specs.Operations.{is_json_line}
 use Rattle.route_frames.specs.declared.lines.Unjoined.{Unjoined}
 use Rattle.route_frames.specs.declared.lines.Unjoined.TheVariants as back
 use Rattle.route_frames.specs.Causes.{line_cause}
 use Rattle.route_frames.specs.Refusals.{IsSizeOf, IsFrameOf, IsReadOf}
-use Rattle.route_frames.specs.Readings.{SpellsOneFrame, AnnouncesOneSize}
+use Rattle.route_frames.specs.Laws.{SpellsOneFrame, AnnouncesOneSize}
 use Rattle.route_frames.proofs.Refused.Agreement.{Agrees}
 use Rattle.route_frames.proofs.Refused.Whole.{size_agrees, frame_agrees}
 use Rattle.route_frames.proofs.Spelt.Chains.{ok_same}
@@ -59,6 +58,26 @@ told_of read x f e = ap (λ read. read >>= λ y. Ok (f y)) e
 
 told_fault : {A B : Type 0} (read : Result A RouteFault) (fault : RouteFault) (next : A → Result B RouteFault) → read ≡ Err fault → (read >>= next) ≡ Err fault
 told_fault read fault next e = ap (λ read. read >>= next) e
+
+-- ---- a line that was judged, and then copied or asked for its size
+
+abbrev size_behind : Meaning RouteLine → Meaning (Option ℕ)
+size_behind read = read >>= λ read. Ok (announced_size read)
+
+pub copy_means : (line : List ℕ) (text : LineText) (answer : Result RouteLine (Failure RouteFault)) → line_meaning line ≡ text_meaning text → is_json_line line ≡ is_json text
+    → Means (is_json text) (text_meaning text) answer → Means (is_json_line line) (line_meaning line) answer
+copy_means line text (Ok read) is json means = is ∙ means
+copy_means line text (Err (Refused fault)) is json means = is ∙ means
+copy_means line text (Err OutOfMemory) is json means = ap (λ json. json || is_ok (line_meaning line)) json ∙ ap (λ read. is_json text || is_ok read) is ∙ means
+
+pub size_means : (line : List ℕ) (text : LineText) (answer : Result (Option ℕ) (Failure RouteFault)) → line_meaning line ≡ text_meaning text → is_json_line line ≡ is_json text
+    → Means (is_json text) (size_in text) answer → Means (is_json_line line) (size_meaning line) answer
+size_means line text (Ok size) is json means = ap size_behind is ∙ means
+size_means line text (Err (Refused fault)) is json means = ap size_behind is ∙ means
+size_means line text (Err OutOfMemory) is json means = ap (λ json. json || is_ok (size_meaning line)) json ∙ ap (λ read. is_json text || is_ok (size_behind read)) is ∙ means
+
+pub size_fault : (line : List ℕ) (fault : RouteFault) → line_meaning line ≡ Err fault → size_meaning line ≡ Err fault
+size_fault line fault is = ap size_behind is
 
 pub line_answered : (line : List ℕ) (answer : Result RouteLine (Failure RouteFault)) → Means (is_json_line line) (line_meaning line) answer → IsReadOf line answer
 line_answered line (Ok read) means = told_is_announced line (announced_size read) (told_of (line_meaning line) read announced_size means)
@@ -123,6 +142,14 @@ bad_line_means line payload fault is = ap (λ read. read >>= λ read. joined rea
 and_right : (a b : Bool) → (a && b) ≡ true → b ≡ true
 and_right true b e = e
 and_right false b e = absurd (true≢false (sym e))
+
+-- a payload of the size that a line announces is joined with it as the rest of the meaning says
+pub fitting_joins : (read : RouteLine) (payload : List ℕ) (answer : Result RouteFrame Unjoined) → sized (announced_size read) payload ≡ Ok tt
+    → JoinsBy (line_has_payload read) (frame_behind read payload) read payload answer → Joins read payload answer
+fitting_joins read payload (Ok frame) fits joins = ap (λ fits. fits >>= λ fits. frame_behind read payload) fits ∙ joins
+fitting_joins read payload (Err (back.Refused fault)) fits joins = ap (λ fits. fits >>= λ fits. frame_behind read payload) fits ∙ joins
+fitting_joins read payload (Err (back.OutOfMemory line bytes)) fits joins =
+    (joins.0, joins.1, ap (λ fits. line_has_payload read && is_ok fits) fits ∙ ap (λ memory. memory && true) joins.2)
 
 -- a line that was read, and the payload that it is joined with
 pub joined_answered : (line payload : List ℕ) (read : RouteLine) (answer : Result RouteFrame Unjoined) → line_meaning line ≡ Ok read → Joins read payload answer → IsFrameOf line payload (failure_of answer)

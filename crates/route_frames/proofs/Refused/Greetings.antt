@@ -16,7 +16,8 @@ use Rattle.route_frames.specs.Meaning.{Meaning, ◌>>=◌}
 use Rattle.route_frames.specs.Greetings.{json_of, object_in, object_of, whole_of, whole_in_range, whole_number, incarnation_in, node_at, info_in, dial_in, connect_in, info_of, connect_text_of}
 use Rattle.route_frames.specs.Causes.{is_beyond, is_member_beyond, members_cause, info_members, connect_members}
 use Rattle.route_frames.proofs.Refused.Agreement.{Agrees, agrees_then, ok_or_agrees}
-use Rattle.route_frames.proofs.Refused.Numbered.{is_within, incarnation_within, node_agrees}
+use Rattle.route_frames.proofs.Refused.Numbered.{name_agrees, is_within, incarnation_within}
+use Rattle.subj.specs.Names.{node_name_fault}
 
 -- ---- as `Agrees`, where what is read has a property that a later step needs
 
@@ -72,7 +73,7 @@ incarnation_agrees (Number n) fits = rw (incarnation_within n, fits) tt
 
 node_at_agrees : (key : List ℕ) (json : Data) → Agrees None (node_at key json)
 unfolding node_at
-node_at_agrees key json = agrees_then None (ok_or (option_and_then as_str (get key json)) BadArgs) _ (ok_or_agrees (option_and_then as_str (get key json))) (λ name. node_agrees name)
+node_at_agrees key json = agrees_then None (ok_or (option_and_then as_str (get key json)) BadArgs) _ (ok_or_agrees (option_and_then as_str (get key json))) (λ name. name_agrees node_name_fault name)
 
 -- ---- objects
 

@@ -19,23 +19,18 @@ use Rattle.route_frames.specs.declared.common.Digits.{Digits}
 use Rattle.route_frames.specs.declared.lines.LineBody.TheVariants.{Plus, Msg}
 use Rattle.route_frames.specs.declared.lines.NumberedLine.{NumberedLine}
 use Rattle.route_frames.specs.Meaning.{Meaning, ◌>>=◌}
-use Rattle.route_frames.specs.CommonFields.{CommonFields, within, node_of, numbers_of, numbers_in_range}
+use Rattle.route_frames.specs.CommonFields.{CommonFields, within, numbers_of, numbers_in_range, name_of}
 use Rattle.route_frames.specs.Arguments.{PlusFields, MessageFields, plus_fields, minus_fields, snapshot_field, message_fields}
-use Rattle.route_frames.specs.NumberedLines.{account_of, pattern_of, subject_of, queue_of, optional, key_of, are_names, queue_names_in, weight_digits, plus_line, minus_line, snapshot_line, few_names, message_fields_in, message_line}
+use Rattle.route_frames.specs.NumberedLines.{account_of, optional, key_of, are_names, queue_names_in, weight_digits, plus_line, minus_line, snapshot_line, few_names, message_fields_in, message_line}
 use Rattle.route_frames.specs.Causes.{NumberField, numbers_cause, common_numbers, weight_numbers, plus_cause, minus_cause, snapshot_cause, message_cause}
 use Rattle.route_frames.proofs.Meaning.Parts.{digits_spelt, numbers_spelt}
 use Rattle.route_frames.proofs.Refused.Agreement.{Agrees, agrees_then, ok_or_agrees, refused_where, refused_unless, fields_agree}
+use Rattle.subj.specs.declared.faults.NameFault.{NameFault}
 
 -- ---- names
 
-pub node_agrees : (field : List ℕ) → Agrees None (node_of field)
-node_agrees field = refused_where (is_some (node_name_fault field)) field
-
-subject_agrees : (field : List ℕ) → Agrees None (subject_of field)
-subject_agrees field = refused_where (is_some (subject_fault field)) field
-
-queue_agrees : (field : List ℕ) → Agrees None (queue_of field)
-queue_agrees field = refused_where (is_some (queue_name_fault field)) field
+pub name_agrees : (fault : List ℕ → Option NameFault) (field : List ℕ) → Agrees None (name_of fault field)
+name_agrees fault field = refused_where (is_some (fault field)) field
 
 optional_agrees : (read : List ℕ → Meaning (List ℕ)) → ((field : List ℕ) → Agrees None (read field)) → (field : Option (List ℕ)) → Agrees None (optional read field)
 optional_agrees read each None = tt
@@ -44,8 +39,8 @@ optional_agrees read each (Some field) = agrees_then None (read field) _ (each f
 pub key_agrees : (pattern : List ℕ) (queue : Option (List ℕ)) → Agrees None (key_of pattern queue)
 unfolding key_of
 key_agrees pattern queue =
-    agrees_then None (pattern_of pattern) _ (refused_where (is_some (pattern_fault pattern)) pattern) (λ pattern.
-    agrees_then None (optional queue_of queue) _ (optional_agrees queue_of queue_agrees queue) (λ queue. tt))
+    agrees_then None (name_of pattern_fault pattern) _ (name_agrees pattern_fault pattern) (λ pattern.
+    agrees_then None (optional (name_of queue_name_fault) queue) _ (optional_agrees (name_of queue_name_fault) (name_agrees queue_name_fault) queue) (λ queue. tt))
 
 -- ---- numbers: all digits before all ranges
 
@@ -122,10 +117,10 @@ to_inc_of common = number_of INCARNATION_DIGITS common.to_inc
 abbrev frame_number_of : CommonFields → Option ℕ
 frame_number_of common = number_of NUMBER_DIGITS common.number
 
-ends_agree : {B : Type 0} (common : CommonFields) (next : List ℕ → List ℕ → Meaning B) → ((from to : List ℕ) → Agrees None (next from to)) → Agrees None (node_of common.from >>= λ from. node_of common.to >>= λ to. next from to)
+ends_agree : {B : Type 0} (common : CommonFields) (next : List ℕ → List ℕ → Meaning B) → ((from to : List ℕ) → Agrees None (next from to)) → Agrees None (name_of node_name_fault common.from >>= λ from. name_of node_name_fault common.to >>= λ to. next from to)
 ends_agree common next others =
-    agrees_then None (node_of common.from) _ (node_agrees common.from) (λ from.
-    agrees_then None (node_of common.to) _ (node_agrees common.to) (λ to. others from to))
+    agrees_then None (name_of node_name_fault common.from) _ (name_agrees node_name_fault common.from) (λ from.
+    agrees_then None (name_of node_name_fault common.to) _ (name_agrees node_name_fault common.to) (λ to. others from to))
 
 account_agrees : (field : List ℕ) → Agrees None (account_of field)
 account_agrees field = refused_unless (bytes_eq field (codes "$G")) tt
@@ -143,7 +138,7 @@ weighs_agrees from to numbers pattern queue weight =
 
 abbrev plus_behind : CommonFields → PlusFields → Numbers → ℕ → Meaning NumberedLine
 plus_behind common fields numbers weight =
-    account_of fields.account >>= λ account. node_of common.from >>= λ from. node_of common.to >>= λ to. weighs from to numbers fields.pattern fields.queue weight
+    account_of fields.account >>= λ account. name_of node_name_fault common.from >>= λ from. name_of node_name_fault common.to >>= λ to. weighs from to numbers fields.pattern fields.queue weight
 
 plus_behind_agrees : (common : CommonFields) (fields : PlusFields) (numbers : Numbers) (weight : ℕ) → Agrees None (plus_behind common fields numbers weight)
 plus_behind_agrees common fields numbers weight =
@@ -185,7 +180,7 @@ snapshot_agrees common behind = fields_agree (snapshot_cause common) (snapshot_f
 names_agree : (fields : List (List ℕ)) → Agrees None (are_names fields)
 names_agree [] = tt
 names_agree (field ∷ fields) =
-    agrees_then None (queue_of field) _ (queue_agrees field) (λ name.
+    agrees_then None (name_of queue_name_fault field) _ (name_agrees queue_name_fault field) (λ name.
     agrees_then None (are_names fields) _ (names_agree fields) (λ others. tt))
 
 queues_agree : (fields : List (List ℕ)) → Agrees None (queue_names_in fields)
@@ -194,16 +189,16 @@ queues_agree fields = agrees_then None (are_names fields) _ (names_agree fields)
 
 abbrev message_behind : CommonFields → MessageFields → Numbers → ℕ → Meaning NumberedLine
 message_behind common fields numbers size =
-    account_of fields.account >>= λ account. node_of common.from >>= λ from. node_of common.to >>= λ to.
-    subject_of fields.subject >>= λ subject. optional subject_of fields.form.reply >>= λ reply. queue_names_in fields.form.names >>= λ queues.
+    account_of fields.account >>= λ account. name_of node_name_fault common.from >>= λ from. name_of node_name_fault common.to >>= λ to.
+    name_of subject_fault fields.subject >>= λ subject. optional (name_of subject_fault) fields.form.reply >>= λ reply. queue_names_in fields.form.names >>= λ queues.
     Ok (record { from = from; to = to; numbers = numbers; body = Msg subject reply queues size })
 
 message_behind_agrees : (common : CommonFields) (fields : MessageFields) (numbers : Numbers) (size : ℕ) → Agrees None (message_behind common fields numbers size)
 message_behind_agrees common fields numbers size =
     agrees_then None (account_of fields.account) _ (account_agrees fields.account) (λ account.
     ends_agree common _ (λ from to.
-    agrees_then None (subject_of fields.subject) _ (subject_agrees fields.subject) (λ subject.
-    agrees_then None (optional subject_of fields.form.reply) _ (optional_agrees subject_of subject_agrees fields.form.reply) (λ reply.
+    agrees_then None (name_of subject_fault fields.subject) _ (name_agrees subject_fault fields.subject) (λ subject.
+    agrees_then None (optional (name_of subject_fault) fields.form.reply) _ (optional_agrees (name_of subject_fault) (name_agrees subject_fault) fields.form.reply) (λ reply.
     agrees_then None (queue_names_in fields.form.names) _ (queues_agree fields.form.names) (λ queues. tt)))))
 
 -- too many names are told before the numbers

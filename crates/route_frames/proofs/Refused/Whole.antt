@@ -2,7 +2,8 @@
 use Rattle.std.proofs.Common.{ℕ, List, [], ◌∷◌, length, drop, refl, Option, Some, None}
 use Rattle.std.specs.Prelude.{nat_eq}
 use Rattle.std.specs.Option.{ok_or}
-use Rattle.line_fields.specs.Fields.{line_fields, number_of, is_empty}
+use Rattle.list_laws.specs.Lists.{is_empty}
+use Rattle.line_fields.specs.Fields.{line_fields, number_of}
 use Rattle.subj.specs.Messages.{content_of}
 use Rattle.route_values.specs.Frames.{frame_of}
 use Rattle.route_values.specs.Snapshots.{weighted_key, snapshot_of}
@@ -22,8 +23,7 @@ use Rattle.route_frames.specs.CommonFields.{CommonFields, common_fields}
 use Rattle.route_frames.specs.Arguments.{plus_fields, minus_fields, snapshot_field, message_fields}
 use Rattle.route_frames.specs.NumberedLines.{key_of, plus_line, minus_line, snapshot_line, message_line}
 use Rattle.route_frames.specs.Greetings.{json_of, info_of, connect_text_of}
-use Rattle.route_frames.specs.Lines.{numbered, operation_meaning, fields_meaning, line_meaning}
-use Rattle.route_frames.specs.Announced.{announced_size}
+use Rattle.route_frames.specs.Lines.{numbered, operation_meaning, fields_meaning, line_meaning, announced_size}
 use Rattle.route_frames.specs.SnapshotTexts.{pieces, plain_key, queue_key, weighted_of, before_cr, key_line_of, keys_in, snapshot_in}
 use Rattle.route_frames.specs.Decoding.{size_meaning, sized, body_meaning, numbered_meaning, frame_behind, frame_meaning}
 use Rattle.route_frames.specs.Causes.{plus_cause, minus_cause, snapshot_cause, message_cause, common_cause, members_cause, info_members, connect_members, operation_cause, fields_cause, line_cause}

@@ -10,12 +10,13 @@ use Rattle.route_frames.specs.declared.faults.RouteFault.TheVariants.{BadArgs}
 use Rattle.route_frames.specs.declared.line_reading.TheConstants.{WEIGHT_DIGITS, SIZE_DIGITS}
 use Rattle.route_frames.specs.declared.lines.LineBody.TheVariants as said
 use Rattle.route_frames.specs.declared.lines.NumberedLine.{NumberedLine}
-use Rattle.route_frames.specs.CommonFields.{CommonFields, digits_of, within, node_of, numbers_of, numbers_in_range}
+use Rattle.route_frames.specs.CommonFields.{CommonFields, digits_of, within, numbers_of, numbers_in_range, name_of}
 use Rattle.route_frames.specs.Arguments.{PlusFields, MinusFields, plus_fields, minus_fields, snapshot_field}
 use Rattle.route_frames.specs.NumberedLines.{account_of, key_of, weight_digits, plus_line, minus_line, snapshot_line}
 use Rattle.route_frames.specs.Spelling.{SpellsWeight, SpellsPlus, SpellsSize}
 use Rattle.route_frames.proofs.Spelt.Chains.{step_ok, ok_same, found_ok, some_same}
 use Rattle.route_frames.proofs.Spelt.Fields.{digits_ok, within_ok, KeyIs, key_ok, account_ok, weighted_ok, CommonIs, common_is}
+use Rattle.subj.specs.Names.{node_name_fault}
 
 -- ---- RS+
 
@@ -68,8 +69,8 @@ plus_read common fields line e =
     let numbers = step_ok (numbers_in_range 1 digits.0) _ line spelt.2 in
     let weight = step_ok (within 1 MAX_WEIGHT spelt.0) _ line numbers.2 in
     let account = step_ok (account_of (found.0).account) _ line weight.2 in
-    let from = step_ok (node_of common.from) _ line account.2 in
-    let to = step_ok (node_of common.to) _ line from.2 in
+    let from = step_ok (name_of node_name_fault common.from) _ line account.2 in
+    let to = step_ok (name_of node_name_fault common.to) _ line from.2 in
     let key = step_ok (key_of (found.0).pattern (found.0).queue) _ line to.2 in
     let weighted = step_ok (ok_or (weighted_key key.0 weight.0) BadArgs) _ line key.2 in
     let same = ok_same (record { from = from.0; to = to.0; numbers = numbers.0; body = said.Plus weighted.0 }) line weighted.2 in
@@ -115,8 +116,8 @@ minus_read common fields line e =
     let digits = step_ok (numbers_of common) _ line found.2 in
     let numbers = step_ok (numbers_in_range 1 digits.0) _ line digits.2 in
     let account = step_ok (account_of (found.0).account) _ line numbers.2 in
-    let from = step_ok (node_of common.from) _ line account.2 in
-    let to = step_ok (node_of common.to) _ line from.2 in
+    let from = step_ok (name_of node_name_fault common.from) _ line account.2 in
+    let to = step_ok (name_of node_name_fault common.to) _ line from.2 in
     let key = step_ok (key_of (found.0).pattern (found.0).queue) _ line to.2 in
     let same = ok_same (record { from = from.0; to = to.0; numbers = numbers.0; body = said.Minus key.0 }) line key.2 in
     let shape = minus_shape fields found.0 (found_ok (minus_fields fields) BadArgs found.0 found.1) in
@@ -151,8 +152,8 @@ snapshot_read common fields line e =
     let spelt = step_ok (digits_of SIZE_DIGITS found.0) _ line digits.2 in
     let numbers = step_ok (numbers_in_range 0 digits.0) _ line spelt.2 in
     let size = step_ok (within 0 MAX_SNAPSHOT spelt.0) _ line numbers.2 in
-    let from = step_ok (node_of common.from) _ line size.2 in
-    let to = step_ok (node_of common.to) _ line from.2 in
+    let from = step_ok (name_of node_name_fault common.from) _ line size.2 in
+    let to = step_ok (name_of node_name_fault common.to) _ line from.2 in
     let same = ok_same (record { from = from.0; to = to.0; numbers = numbers.0; body = said.Snapshot size.0 }) line to.2 in
     let shape = snapshot_shape fields found.0 (found_ok (snapshot_field fields) BadArgs found.0 found.1) in
     let in_range = within_ok 0 MAX_SNAPSHOT spelt.0 size.0 size.1 in

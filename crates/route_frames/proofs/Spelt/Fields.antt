@@ -18,10 +18,11 @@ use Rattle.route_frames.specs.declared.common.Digits.{Digits}
 use Rattle.route_frames.specs.declared.common.Numbers.{Numbers}
 use Rattle.route_frames.specs.declared.lines.LineBody.{LineBody}
 use Rattle.route_frames.specs.declared.lines.NumberedLine.{NumberedLine}
-use Rattle.route_frames.specs.CommonFields.{CommonFields, digits_of, within, node_of, numbers_of, numbers_in_range}
-use Rattle.route_frames.specs.NumberedLines.{account_of, pattern_of, subject_of, queue_of, optional, key_of}
+use Rattle.route_frames.specs.CommonFields.{CommonFields, digits_of, within, numbers_of, numbers_in_range, name_of}
+use Rattle.route_frames.specs.NumberedLines.{account_of, optional, key_of}
 use Rattle.route_frames.specs.Spelling.{IsNumber}
 use Rattle.route_frames.proofs.Spelt.Chains.{step_ok, ok_same, found_ok, unless_ok, where_ok, where_some, no_fault}
+use Rattle.subj.specs.declared.faults.NameFault.{NameFault}
 
 -- ---- single fields
 
@@ -54,39 +55,24 @@ incarnation_ok n m e =
     let good = inc_by (nat_eq n 0 || nat_lt MAX_INCARNATION n) n m (found_ok (incarnation_of n) BadNumber m e) in
     (good.1, subst IsIncarnation good.1 (inc_range n good.0))
 
-pub node_ok : (field name : List ℕ) → node_of field ≡ Ok name → (field ≡ name) × (node_name_fault name ≡ None)
-node_ok field name e =
-    let good = unless_ok (is_some (node_name_fault field)) BadArgs field name e in
-    (good.1, ap node_name_fault (sym good.1) ∙ no_fault (node_name_fault field) good.0)
+pub name_ok : (fault : List ℕ → Option NameFault) (field name : List ℕ) → name_of fault field ≡ Ok name → (field ≡ name) × (fault name ≡ None)
+name_ok fault field name e =
+    let good = unless_ok (is_some (fault field)) BadArgs field name e in
+    (good.1, ap fault (sym good.1) ∙ no_fault (fault field) good.0)
 
-pub pattern_ok : (field name : List ℕ) → pattern_of field ≡ Ok name → (field ≡ name) × (pattern_fault name ≡ None)
-pattern_ok field name e =
-    let good = unless_ok (is_some (pattern_fault field)) BadArgs field name e in
-    (good.1, ap pattern_fault (sym good.1) ∙ no_fault (pattern_fault field) good.0)
-
-pub subject_ok : (field name : List ℕ) → subject_of field ≡ Ok name → (field ≡ name) × (subject_fault name ≡ None)
-subject_ok field name e =
-    let good = unless_ok (is_some (subject_fault field)) BadArgs field name e in
-    (good.1, ap subject_fault (sym good.1) ∙ no_fault (subject_fault field) good.0)
-
-pub queue_ok : (field name : List ℕ) → queue_of field ≡ Ok name → (field ≡ name) × (queue_name_fault name ≡ None)
-queue_ok field name e =
-    let good = unless_ok (is_some (queue_name_fault field)) BadArgs field name e in
-    (good.1, ap queue_name_fault (sym good.1) ∙ no_fault (queue_name_fault field) good.0)
-
-pub optional_queue_ok : (field name : Option (List ℕ)) → optional queue_of field ≡ Ok name → (field ≡ name) × IsQueue name
+pub optional_queue_ok : (field name : Option (List ℕ)) → optional (name_of queue_name_fault) field ≡ Ok name → (field ≡ name) × IsQueue name
 optional_queue_ok None name e = let same = ok_same None name e in (same, subst IsQueue same tt)
 optional_queue_ok (Some field) name e =
-    let step = step_ok (queue_of field) _ name e in
-    let good = queue_ok field step.0 step.1 in
+    let step = step_ok (name_of queue_name_fault field) _ name e in
+    let good = name_ok queue_name_fault field step.0 step.1 in
     let same = ap (λ f. Some f) good.0 ∙ ok_same (Some step.0) name step.2 in
     (same, subst IsQueue (ok_same (Some step.0) name step.2) good.1)
 
-pub optional_subject_ok : (field name : Option (List ℕ)) → optional subject_of field ≡ Ok name → (field ≡ name) × IsReply name
+pub optional_subject_ok : (field name : Option (List ℕ)) → optional (name_of subject_fault) field ≡ Ok name → (field ≡ name) × IsReply name
 optional_subject_ok None name e = let same = ok_same None name e in (same, subst IsReply same tt)
 optional_subject_ok (Some field) name e =
-    let step = step_ok (subject_of field) _ name e in
-    let good = subject_ok field step.0 step.1 in
+    let step = step_ok (name_of subject_fault field) _ name e in
+    let good = name_ok subject_fault field step.0 step.1 in
     let same = ap (λ f. Some f) good.0 ∙ ok_same (Some step.0) name step.2 in
     (same, subst IsReply (ok_same (Some step.0) name step.2) good.1)
 
@@ -98,9 +84,9 @@ pub record KeyIs (pattern : List ℕ) (queue : Option (List ℕ)) (key : Key) : 
 pub key_ok : (pattern : List ℕ) (queue : Option (List ℕ)) (key : Key) → key_of pattern queue ≡ Ok key → KeyIs pattern queue key
 unfolding key_of
 key_ok pattern queue key e =
-    let one = step_ok (pattern_of pattern) _ key e in
-    let two = step_ok (optional queue_of queue) _ key one.2 in
-    let is = pattern_ok pattern one.0 one.1 in
+    let one = step_ok (name_of pattern_fault pattern) _ key e in
+    let two = step_ok (optional (name_of queue_name_fault) queue) _ key one.2 in
+    let is = name_ok pattern_fault pattern one.0 one.1 in
     let is_too = optional_queue_ok queue two.0 two.1 in
     let same = ok_same (record { pattern = one.0; queue = two.0 }) key two.2 in
     subst (λ key. KeyIs pattern queue key) same (record { pattern_same = is.0; queue_same = is_too.0; valid = record { pattern = is.1; queue = is_too.1 } })
@@ -163,13 +149,13 @@ pub record CommonIs (common : CommonFields) (least : ℕ) (line : NumberedLine) 
   pub high : line.numbers.number ≤ MAX_COUNTER
 
 pub common_is : (common : CommonFields) (least : ℕ) (digits : Digits) (numbers : Numbers) (from to : List ℕ) (body : LineBody)
-    → numbers_of common ≡ Ok digits → numbers_in_range least digits ≡ Ok numbers → node_of common.from ≡ Ok from → node_of common.to ≡ Ok to
+    → numbers_of common ≡ Ok digits → numbers_in_range least digits ≡ Ok numbers → name_of node_name_fault common.from ≡ Ok from → name_of node_name_fault common.to ≡ Ok to
     → CommonIs common least (record { from = from; to = to; numbers = numbers; body = body })
 common_is common least digits numbers from to body spelt ranged sender receiver =
     let are = digits_are common digits spelt in
     let in_range = numbers_are least digits numbers ranged in
-    let one = node_ok common.from from sender in
-    let two = node_ok common.to to receiver in record {
+    let one = name_ok node_name_fault common.from from sender in
+    let two = name_ok node_name_fault common.to to receiver in record {
       from = one.0;
       to = two.0;
       sender = one.1;

@@ -16,7 +16,7 @@ use Rattle.route_frames.specs.Canonical.{counted}
 use Rattle.route_frames.specs.Greetings.{json_of, object_of, whole_of, whole_at, whole_in_range, whole_number, incarnation_in, node_at, info_in, dial_in, connect_in, info_of, connect_text_of}
 use Rattle.route_frames.specs.Spelling.{HasInfo, HasConnect}
 use Rattle.route_frames.proofs.Spelt.Chains.{step_ok, ok_same, found_ok, where_ok, where_some, some_same}
-use Rattle.route_frames.proofs.Spelt.Fields.{incarnation_ok, node_ok}
+use Rattle.route_frames.proofs.Spelt.Fields.{incarnation_ok, name_ok}
 
 -- ---- members
 
@@ -79,7 +79,7 @@ node_read : (key : List ℕ) (json : Data) (name : List ℕ) → node_at key jso
 unfolding node_at
 node_read key json name e =
     let step = step_ok (ok_or (option_and_then as_str (get key json)) BadArgs) _ name e in
-    let is = node_ok step.0 name step.2 in
+    let is = name_ok node_name_fault step.0 name step.2 in
     record { member = member_string (get key json) step.0 (found_ok (option_and_then as_str (get key json)) BadArgs step.0 step.1) ∙ ap (λ s. Some (string s)) is.0; valid = is.1 }
 
 -- ---- INFO

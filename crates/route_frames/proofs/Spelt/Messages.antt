@@ -5,20 +5,20 @@ use Rattle.std.specs.Option.{ok_or}
 use Rattle.std.specs.Str.{bytes_eq}
 use Rattle.std.proofs.lemmas.Slice.Eq.{bytes_eq-Decides}
 use Rattle.subj.specs.declared.limits.TheConstants.{MAX_PAYLOAD, MAX_QUEUE_NAMES}
-use Rattle.subj.specs.Names.{subject_fault}
+use Rattle.subj.specs.Names.{subject_fault, node_name_fault, queue_name_fault}
 use Rattle.subj.specs.QueueNames.{queue_names_of, are_queue_names}
 use Rattle.route_values.specs.Valid.{IsReply, AreNames}
 use Rattle.route_frames.specs.declared.faults.RouteFault.TheVariants.{BadArgs, TooManyQueues}
 use Rattle.route_frames.specs.declared.line_reading.TheConstants.{SIZE_DIGITS}
 use Rattle.route_frames.specs.declared.lines.LineBody.TheVariants as said
 use Rattle.route_frames.specs.declared.lines.NumberedLine.{NumberedLine}
-use Rattle.route_frames.specs.CommonFields.{CommonFields, digits_of, within, node_of, numbers_of, numbers_in_range}
+use Rattle.route_frames.specs.CommonFields.{CommonFields, digits_of, within, numbers_of, numbers_in_range, name_of}
 use Rattle.route_frames.specs.Arguments.{Form, MessageFields, split_last_of, replied, form_between, form_of, message_form, message_fields}
-use Rattle.route_frames.specs.NumberedLines.{account_of, subject_of, queue_of, optional, are_names, queue_names_in, message_fields_in, message_line}
+use Rattle.route_frames.specs.NumberedLines.{account_of, optional, are_names, queue_names_in, message_fields_in, message_line}
 use Rattle.route_frames.specs.Canonical.{form_fields}
 use Rattle.route_frames.specs.Spelling.{SpellsSize}
 use Rattle.route_frames.proofs.Spelt.Chains.{step_ok, ok_same, found_ok, unless_ok, where_some, some_same}
-use Rattle.route_frames.proofs.Spelt.Fields.{digits_ok, within_ok, subject_ok, queue_ok, optional_subject_ok, account_ok, CommonIs, common_is}
+use Rattle.route_frames.proofs.Spelt.Fields.{digits_ok, within_ok, optional_subject_ok, account_ok, CommonIs, common_is, name_ok}
 
 -- ---- the form
 
@@ -85,9 +85,9 @@ record NamesRead (fields names : List (List ℕ)) : Type 0 where
 names_read : (fields names : List (List ℕ)) → are_names fields ≡ Ok names → NamesRead fields names
 names_read [] names e = let same = ok_same [] names e in subst (NamesRead []) same (record { same = refl; valid = tt })
 names_read (field ∷ fields) names e =
-    let name = step_ok (queue_of field) _ names e in
+    let name = step_ok (name_of queue_name_fault field) _ names e in
     let others = step_ok (are_names fields) _ names name.2 in
-    let is = queue_ok field name.0 name.1 in
+    let is = name_ok queue_name_fault field name.0 name.1 in
     let are = names_read fields others.0 others.1 in
     subst (NamesRead (field ∷ fields)) (ok_same (name.0 ∷ others.0) names others.2) (record { same = ap (λ f. f ∷ fields) is.0 ∙ ap (λ fs. name.0 ∷ fs) are.same; valid = (is.1, are.valid) })
 
@@ -134,14 +134,14 @@ message_read common fields line e =
     let numbers = step_ok (numbers_in_range 1 digits.0) _ line spelt.2 in
     let size = step_ok (within 0 MAX_PAYLOAD spelt.0) _ line numbers.2 in
     let account = step_ok (account_of (found.0).account) _ line size.2 in
-    let from = step_ok (node_of common.from) _ line account.2 in
-    let to = step_ok (node_of common.to) _ line from.2 in
-    let subject = step_ok (subject_of (found.0).subject) _ line to.2 in
-    let reply = step_ok (optional subject_of form.reply) _ line subject.2 in
+    let from = step_ok (name_of node_name_fault common.from) _ line account.2 in
+    let to = step_ok (name_of node_name_fault common.to) _ line from.2 in
+    let subject = step_ok (name_of subject_fault (found.0).subject) _ line to.2 in
+    let reply = step_ok (optional (name_of subject_fault) form.reply) _ line subject.2 in
     let queues = step_ok (queue_names_in form.names) _ line reply.2 in
     let body = said.Msg subject.0 reply.0 queues.0 size.0 in
     let same = ok_same (record { from = from.0; to = to.0; numbers = numbers.0; body = body }) line queues.2 in
-    let is_subject = subject_ok (found.0).subject subject.0 subject.1 in
+    let is_subject = name_ok subject_fault (found.0).subject subject.0 subject.1 in
     let is_reply = optional_subject_ok form.reply reply.0 reply.1 in
     let are = queues_read form.names queues.0 queues.1 in
     let in_range = within_ok 0 MAX_PAYLOAD spelt.0 size.0 size.1 in

@@ -7,7 +7,7 @@ use Rattle.std.specs.Str.{bytes_eq}
 use Rattle.std.proofs.lemmas.List.Splits.{join_with_byte-slice_split}
 use Rattle.std.proofs.lemmas.List.{take-append-drop}
 use Rattle.std.proofs.lemmas.Slice.Eq.{bytes_eq-Decides}
-use Rattle.line_fields.specs.Fields.{is_empty}
+use Rattle.list_laws.specs.Lists.{is_empty}
 use Rattle.route_values.specs.Snapshots.{Weighted, are_snapshot_keys, snapshot_of, line_end}
 use Rattle.route_values.specs.Valid.{IsWeighted, AreWeighted, AreSnapshotKeys}
 use Rattle.route_frames.specs.declared.faults.RouteFault.TheVariants.{BadArgs}

@@ -1,5 +1,5 @@
 -- What was read is spelt: a line, and a line with its payload.
-use Rattle.std.proofs.Common.{◌≡◌, ℕ, Bool, true, false, cond, List, [], ◌∷◌, ◌++◌, length, refl, ap, sym, ◌∙◌, subst, arith, Option, Some, None, Ok, true≢false}
+use Rattle.std.proofs.Common.{◌≡◌, ℕ, true, false, List, [], ◌∷◌, ◌++◌, length, refl, ap, sym, ◌∙◌, subst, arith, Option, Some, None, Ok, true≢false}
 use Rattle.std.specs.Prelude.{nat_le, nat_eq, codes, replicate}
 use Rattle.std.specs.Option.{ok_or}
 use Rattle.std.proofs.lemmas.Bool.Decides.{nat_tests}
@@ -23,68 +23,22 @@ use Rattle.route_frames.specs.declared.lines.RouteLine.TheVariants as line
 use Rattle.route_frames.specs.declared.operation.Operation.{Operation}
 use Rattle.route_frames.specs.declared.operation.Operation.TheVariants as operation
 use Rattle.route_frames.specs.Meaning.{Meaning}
-use Rattle.route_frames.specs.Operations.{operation_of}
+use Rattle.route_frames.specs.Operations.{word_of, operation_of}
 use Rattle.route_frames.specs.CommonFields.{CommonFields, common_fields}
 use Rattle.route_frames.specs.NumberedLines.{plus_line, minus_line, snapshot_line, message_line}
-use Rattle.route_frames.specs.Lines.{numbered, operation_meaning, fields_meaning, line_meaning}
-use Rattle.route_frames.specs.Announced.{body_size, announced_size}
+use Rattle.route_frames.specs.Lines.{numbered, operation_meaning, fields_meaning, line_meaning, body_size, announced_size}
 use Rattle.route_frames.specs.SnapshotTexts.{snapshot_in}
 use Rattle.route_frames.specs.Decoding.{sized, body_meaning, numbered_meaning, frame_behind, frame_meaning, is_snapshot_body}
 use Rattle.route_frames.specs.Greetings.{info_of, connect_text_of}
 use Rattle.route_frames.specs.Spelling.{Spells, SpellsBehind, body_announces, frame_word, SpellsText, SpellsLine, SpellsPayload, announces}
 use Rattle.route_frames.specs.Refusals.{Announces}
-use Rattle.route_frames.specs.Readings.{ReadIsSpelt, ToldIsAnnounced}
+use Rattle.route_frames.specs.Laws.{ReadIsSpelt, ToldIsAnnounced}
+use Rattle.route_frames.proofs.Operations.{found_is_named}
 use Rattle.route_frames.proofs.Cuts.Behind.{behind_first}
 use Rattle.route_frames.proofs.Spelt.Chains.{step_ok, ok_same, found_ok, where_ok, where_some}
 use Rattle.route_frames.proofs.Spelt.Snapshots.{snapshot_read}
 use Rattle.route_frames.proofs.Spelt.Greetings.{info_read, connect_read}
 use Rattle.route_frames.proofs.Spelt.Numbered.{frame_in, Fits, LineSpells, plus_spells, minus_spells, snapshot_spells, message_spells}
-
--- ---- operations, by which test holds
-
-abbrev choice : (m p q s i c : Bool) → Option Operation
-choice m p q s i c = cond m (Some operation.Msg) (cond p (Some operation.Plus) (cond q (Some operation.Minus) (cond s (Some operation.Snapshot) (cond i (Some operation.Info) (cond c (Some operation.Connect) None)))))
-
--- the word of an operation
-abbrev word_of : Operation → List ℕ
-word_of operation.Msg = codes "RMSG"
-word_of operation.Plus = codes "RS+"
-word_of operation.Minus = codes "RS-"
-word_of operation.Snapshot = codes "RSS"
-word_of operation.Info = codes "INFO"
-word_of operation.Connect = codes "CONNECT"
-
--- the test of an operation
-abbrev test_of : (m p q s i c : Bool) → Operation → Bool
-test_of m p q s i c operation.Msg = m
-test_of m p q s i c operation.Plus = p
-test_of m p q s i c operation.Minus = q
-test_of m p q s i c operation.Snapshot = s
-test_of m p q s i c operation.Info = i
-test_of m p q s i c operation.Connect = c
-
-option_same : (a b : Operation) → Some a ≡ Some b → a ≡ b
-option_same a b e = cc
-
-chosen : (m p q s i c : Bool) (op : Operation) → choice m p q s i c ≡ Some op → test_of m p q s i c op ≡ true
-chosen true p q s i c op e = subst (λ op. test_of true p q s i c op ≡ true) (option_same operation.Msg op e) refl
-chosen false true q s i c op e = subst (λ op. test_of false true q s i c op ≡ true) (option_same operation.Plus op e) refl
-chosen false false true s i c op e = subst (λ op. test_of false false true s i c op ≡ true) (option_same operation.Minus op e) refl
-chosen false false false true i c op e = subst (λ op. test_of false false false true i c op ≡ true) (option_same operation.Snapshot op e) refl
-chosen false false false false true c op e = subst (λ op. test_of false false false false true c op ≡ true) (option_same operation.Info op e) refl
-chosen false false false false false true op e = subst (λ op. test_of false false false false false true op ≡ true) (option_same operation.Connect op e) refl
-chosen false false false false false false op e = absurd (cc)
-
-tests_word : (field : List ℕ) (op : Operation) → test_of (is_word (codes "RMSG") field) (is_word (codes "RS+") field) (is_word (codes "RS-") field) (is_word (codes "RSS") field) (is_word (codes "INFO") field) (is_word (codes "CONNECT") field) op ≡ is_word (word_of op) field
-tests_word field operation.Msg = refl
-tests_word field operation.Plus = refl
-tests_word field operation.Minus = refl
-tests_word field operation.Snapshot = refl
-tests_word field operation.Info = refl
-tests_word field operation.Connect = refl
-
-names_word : (field : List ℕ) (op : Operation) → operation_of field ≡ Some op → is_word (word_of op) field ≡ true
-names_word field op e = sym (tests_word field op) ∙ chosen (is_word (codes "RMSG") field) (is_word (codes "RS+") field) (is_word (codes "RS-") field) (is_word (codes "RSS") field) (is_word (codes "INFO") field) (is_word (codes "CONNECT") field) op e
 
 -- ---- a line, by its operation and the text behind it
 
@@ -104,7 +58,7 @@ no_field_first (x ∷ xs) e = rw e refl
 operation_read : (text field behind : List ℕ) (all : List (List ℕ)) (found : Option Operation) (read : RouteLine) → text ≡ field ++ behind → fields behind ≡ all → begins_with_field behind ≡ false → operation_of field ≡ found → operation_meaning found behind all ≡ Ok read → LineRead text read
 operation_read text field behind all None read whole are ends is e = absurd (cc)
 operation_read text field behind all (Some op) read whole are ends is e =
-    record { word = field; behind = behind; op = op; whole = whole; names = names_word field op is; is_behind = ends; says = ap (operation_meaning (Some op) behind) are ∙ e }
+    record { word = field; behind = behind; op = op; whole = whole; names = found_is_named op field is; is_behind = ends; says = ap (operation_meaning (Some op) behind) are ∙ e }
 
 line_read_by : (text : List ℕ) (all : List (List ℕ)) (read : RouteLine) → line_fields text ≡ all → fields_meaning text all ≡ Ok read → LineRead text read
 line_read_by text [] read is e = absurd (cc)

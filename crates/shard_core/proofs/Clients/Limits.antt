@@ -2,16 +2,16 @@
 use Rattle.std.proofs.Common.{◌≡◌, ℕ, ◌+◌, ◌-◌, ◌%◌, ◌*◌, ◌<◌, ◌≤◌, arith, ap, ◌∙◌, ⊎_elim, Bool, true, false, cond, not, List, [], ◌∷◌, Option, Some, None, Result, Ok, Err, refl, sym, subst, inl, inr}
 use Rattle.std.specs.Prelude.{filter}
 use Rattle.std.specs.Option.{option_or}
-use Rattle.list_laws.specs.Lists.{Each}
-use Rattle.list_laws.proofs.Lists.{each_cons, each_one, each_append}
-use Rattle.list_laws.proofs.Changes.{in_filter}
+use Rattle.list_laws.specs.Lists.{In, Each, Pairs}
+use Rattle.list_laws.proofs.Lists.{each_cons, each_one, each_append, pairs_append}
+use Rattle.list_laws.proofs.Changes.{in_filter, pairs_filter}
 use Rattle.client_frames.specs.ErrTexts.{err_line}
 use Rattle.client_frames.specs.Frames.{reply_line}
 use Rattle.outbox.specs.Views.{Backlog, with_entry, with_last, without_first, reply_entry}
 use Rattle.sub_table.specs.declared.Subscription.{Subscription}
 use Rattle.subj.specs.declared.jobs.Job.{Job}
 use Rattle.shard_core.specs.declared.faults.ShardFault.{ShardFault}
-use Rattle.shard_core.specs.Shards.{State, Client, new_shard, has_number, client_at, is_open, with_outbox, changed, fits}
+use Rattle.shard_core.specs.Shards.{State, Client, new_shard, has_number, client_at, is_open, with_outbox, changed, detached, fits}
 use Rattle.shard_core.specs.Owed.{Walk, walk, is_due, first_step, put_one, give, shut_slow, due_entry, slow_consumer, candidate_of, claimed}
 use Rattle.shard_core.specs.ShardEvents.{Event, Attach, Subscribe, Unsubscribe, Reply, Shut, Detach, Take, Begin, Claim, End, DropJob, Collect, Answer}
 use Rattle.shard_core.specs.ShardSteps.{called, new_client, new_sub, subscribed, ended_now, unsubscribed, answer_fits, done_with, shard_after, IsStep}
@@ -21,73 +21,80 @@ use Rattle.shard_core.proofs.Closings.Causes.{fixed}
 use Rattle.std.proofs.Math.Nat.{add-mod_right}
 use Rattle.std.proofs.lemmas.Nat.{mod-mul-add}
 
--- what does not depend on what waits
-module _ (P : Client → Type 0) (stays : (change : Backlog → Backlog) (x : Client) → P x → P (with_outbox change x)) where
-  changed_has : (change : Backlog → Backlog) (k : ℕ) (xs : List Client) → Each P xs → Each P (changed change k xs)
-  changed_has change k [] h = h
-  changed_has change k (x ∷ xs) h = go (changed_has change k xs (λ y i. h y (inr i))) (has_number k x)
-    where
-      here : P (with_outbox change x)
-      here = stays change x (h x (inl refl))
+-- what does not depend on what waits, of each connection
+changed_each : (P : Client → Type 0) → ((change : Backlog → Backlog) (x : Client) → P x → P (with_outbox change x)) → (change : Backlog → Backlog) (k : ℕ) (xs : List Client) → Each P xs → Each P (changed change k xs)
+changed_each P stays change k [] h = h
+changed_each P stays change k (x ∷ xs) h = go (changed_each P stays change k xs (λ y i. h y (inr i))) (has_number k x)
+  where
+    here : P (with_outbox change x)
+    here = stays change x (h x (inl refl))
 
-      go : Each P (changed change k xs) → (b : Bool) → Each P (cond b (with_outbox change x ∷ xs) (x ∷ changed change k xs))
-      go below true = each_cons P (with_outbox change x) xs here (λ y i. h y (inr i))
-      go below false = each_cons P x (changed change k xs) (h x (inl refl)) below
+    go : Each P (changed change k xs) → (b : Bool) → Each P (cond b (with_outbox change x ∷ xs) (x ∷ changed change k xs))
+    go below true = each_cons P (with_outbox change x) xs here (λ y i. h y (inr i))
+    go below false = each_cons P x (changed change k xs) (h x (inl refl)) below
 
-  put_has : (s : State) (job : Job) (w : Walk) (u : Subscription) → Each P w.clients → Each P (put_one s job w u).clients
+detached_each : (P : Client → Type 0) (k : ℕ) (xs : List Client) → Each P xs → Each P (detached k xs)
+detached_each P k xs h = λ y i. h y (in_filter (λ client. not (has_number k client)) xs y i).0
+
+-- and what also holds of fewer connections
+module _ (Q : List Client → Type 0) (changes : (change : Backlog → Backlog) (k : ℕ) (xs : List Client) → Q xs → Q (changed change k xs)) (detaches : (k : ℕ) (xs : List Client) → Q xs → Q (detached k xs)) where
+  put_has : (s : State) (job : Job) (w : Walk) (u : Subscription) → Q w.clients → Q (put_one s job w u).clients
   put_has s job w u h = go (is_open u.conn w.clients) (fits (client_at u.conn w.clients) (due_entry s.shard job None u))
     where
-      go : (o r : Bool) → Each P (cond o (cond r (give (due_entry s.shard job None u) u w) (shut_slow s.subs u.conn w)) w).clients
-      go true true = changed_has (with_entry (due_entry s.shard job None u)) u.conn w.clients h
-      go true false = changed_has (with_last slow_consumer) u.conn w.clients h
+      go : (o r : Bool) → Q (cond o (cond r (give (due_entry s.shard job None u) u w) (shut_slow s.subs u.conn w)) w).clients
+      go true true = changes (with_entry (due_entry s.shard job None u)) u.conn w.clients h
+      go true false = changes (with_last slow_consumer) u.conn w.clients h
       go false r = h
 
-  walk_has : (s : State) (job : Job) (due : List Subscription) (w : Walk) → Each P w.clients → Each P (walk s job due w).clients
+  walk_has : (s : State) (job : Job) (due : List Subscription) (w : Walk) → Q w.clients → Q (walk s job due w).clients
   walk_has s job [] w h = h
   walk_has s job (u ∷ due) w h = walk_has s job due (put_one s job w u) (put_has s job w u h)
 
-  either : (x y : State) (b : Bool) → Each P x.clients → Each P y.clients → Each P (cond b x y).clients
+  either : (x y : State) (b : Bool) → Q x.clients → Q y.clients → Q (cond b x y).clients
   either x y true f g = f
   either x y false f g = g
 
-  keeps : (s : State) (e : Event) → P (new_client s.next_conn) → Each P s.clients → Each P (shard_after s e).clients
-  keeps s Attach new h = each_append P s.clients (new_client s.next_conn ∷ []) h (each_one P (new_client s.next_conn) new)
+  keeps : (s : State) (e : Event) → (e ≡ Attach → Q (s.clients ++ new_client s.next_conn ∷ [])) → Q s.clients → Q (shard_after s e).clients
+  keeps s Attach new h = new refl
   keeps s (Subscribe conn key sid) new h = go (called conn sid s.subs)
     where
-      go : (u : Option Subscription) → Each P (subscribed s (new_sub s conn key sid) u).clients
+      go : (u : Option Subscription) → Q (subscribed s (new_sub s conn key sid) u).clients
       go None = h
       go (Some u) = h
   keeps s (Unsubscribe conn sid max) new h = go (called conn sid s.subs)
     where
-      go : (u : Option Subscription) → Each P (unsubscribed s max u).clients
+      go : (u : Option Subscription) → Q (unsubscribed s max u).clients
       go None = h
       go (Some u) = either _ _ (ended_now max u) h h
-  keeps s (Reply conn frame) new h = either _ _ (answer_fits s conn (reply_line frame)) (changed_has (with_entry (reply_entry (reply_line frame))) conn s.clients h) (changed_has (with_last slow_consumer) conn s.clients h)
-  keeps s (Shut conn text) new h = changed_has (with_last (err_line text)) conn s.clients h
-  keeps s (Detach conn) new h = λ y i. h y (in_filter (λ client. not (has_number conn client)) s.clients y i).0
-  keeps s (Take conn count) new h = changed_has (without_first count) conn s.clients h
+  keeps s (Reply conn frame) new h = either _ _ (answer_fits s conn (reply_line frame)) (changes (with_entry (reply_entry (reply_line frame))) conn s.clients h) (changes (with_last slow_consumer) conn s.clients h)
+  keeps s (Shut conn text) new h = changes (with_last (err_line text)) conn s.clients h
+  keeps s (Detach conn) new h = detaches conn s.clients h
+  keeps s (Take conn count) new h = changes (without_first count) conn s.clients h
   keeps s (Begin job) new h = walk_has s job (filter (is_due job) s.subs) (first_step s.clients) h
   keeps s (Claim index won) new h = go s.hand (candidate_of s s.hand index) won
     where
-      go : (hand : Option Job) (u : Option Subscription) (b : Bool) → Each P (claimed s hand u b).clients
+      go : (hand : Option Job) (u : Option Subscription) (b : Bool) → Q (claimed s hand u b).clients
       go None u b = h
       go (Some job) None b = h
-      go (Some job) (Some u) true = changed_has (with_entry (due_entry s.shard job u.key.queue u)) u.conn s.clients h
+      go (Some job) (Some u) true = changes (with_entry (due_entry s.shard job u.key.queue u)) u.conn s.clients h
       go (Some job) (Some u) false = h
   keeps s End new h = go s.hand
     where
-      go : (hand : Option Job) → Each P (done_with s hand).clients
+      go : (hand : Option Job) → Q (done_with s hand).clients
       go None = h
       go (Some job) = h
   keeps s (DropJob waiting) new h = go (option_or s.hand waiting)
     where
-      go : (hand : Option Job) → Each P (done_with s hand).clients
+      go : (hand : Option Job) → Q (done_with s hand).clients
       go None = h
       go (Some job) = h
   keeps s Collect new h = h
 
+keeps_each : (P : Client → Type 0) → ((change : Backlog → Backlog) (x : Client) → P x → P (with_outbox change x)) → (s : State) (e : Event) → (e ≡ Attach → P (new_client s.next_conn)) → Each P s.clients → Each P (shard_after s e).clients
+keeps_each P stays s e new h = keeps (Each P) (changed_each P stays) (detached_each P) s e (λ is. each_append P s.clients (new_client s.next_conn ∷ []) h (each_one P (new_client s.next_conn) (new is))) h
+
 pub limits_kept : (s : State) (e : Event) → Each HasLimits s.clients → Each HasLimits (shard_after s e).clients
-limits_kept s e h = keeps HasLimits (λ change x l. record { entries = l.entries; bytes = l.bytes }) s e (record { entries = refl; bytes = refl }) h
+limits_kept s e h = keeps_each HasLimits (λ change x l. record { entries = l.entries; bytes = l.bytes }) s e (λ is. record { entries = refl; bytes = refl }) h
 
 pub limits_stay : LimitsStay
 limits_stay = record {
@@ -111,7 +118,7 @@ own_as : (s t : State) → t.shard ≡ s.shard → t.shards ≡ s.shards → (n 
 own_as s t shard shards n own = record { some = own.some; place = ap (λ k. (n - 1) % k) shards ∙ own.place ∙ ap (λ k. k - 1) (sym shard) }
 
 pub first_numbers : (shard shards : ℕ) → 1 ≤ shard → shard ≤ shards → HasOwnNumbers (new_shard shard shards)
-first_numbers shard shards some few = record { next = record { some = some; place = below (shard - 1) shards (omega arith) }; all = λ x i. absurd i }
+first_numbers shard shards some few = record { shards = omega arith; next = record { some = some; place = below (shard - 1) shards (omega arith) }; all = λ x i. absurd i; rising = tt; below = λ x i. absurd i }
   where
     below : (n k : ℕ) → n < k → n % k ≡ n
     below n k lt = sym (ap (λ m. m % k) (none n k)) ∙ mod-mul-add 0 k n lt
@@ -119,12 +126,50 @@ first_numbers shard shards some few = record { next = record { some = some; plac
         none : (n k : ℕ) → 0 * k + n ≡ n
         none n k = omega arith
 
+-- the numbers in order of attaching
+
+abbrev Rise : Client → Client → Type 0
+Rise older newer = older.number < newer.number
+
+-- a connection keeps its number, whatever waits for it
+in_changed : (change : Backlog → Backlog) (k : ℕ) (xs : List Client) (y : Client) → In y (changed change k xs) → (x : Client) × In x xs × (y.number ≡ x.number)
+in_changed change k xs y i = changed_each (λ z. (x : Client) × In x xs × (z.number ≡ x.number)) (λ change z h. h) change k xs (λ x j. (x, j, refl)) y i
+
+changed_rise : (change : Backlog → Backlog) (k : ℕ) (xs : List Client) → Pairs Rise xs → Pairs Rise (changed change k xs)
+changed_rise change k [] h = h
+changed_rise change k (x ∷ xs) h = go (changed_rise change k xs h.1) (has_number k x)
+  where
+    go : Pairs Rise (changed change k xs) → (b : Bool) → Pairs Rise (cond b (with_outbox change x ∷ xs) (x ∷ changed change k xs))
+    go below true = ((λ y i. h.0 y i), h.1)
+    go below false = ((λ y i. let was = in_changed change k xs y i in let lt : x.number < was.0.number = h.0 was.0 was.1 in let same : y.number ≡ was.0.number = was.2 in omega arith), below)
+
+rising_kept : (s : State) (e : Event) → Each (λ client. client.number < s.next_conn) s.clients → Pairs Rise s.clients → Pairs Rise (shard_after s e).clients
+rising_kept s e below h =
+    keeps (Pairs Rise) changed_rise (λ k xs p. pairs_filter Rise (λ client. not (has_number k client)) xs p) s e
+    (λ is. pairs_append Rise s.clients (new_client s.next_conn ∷ []) h ((λ y i. absurd i), tt) (λ x y i j. each_one (λ (z : Client). x.number < z.number) (new_client s.next_conn) (below x i) y j)) h
+
+-- numbers go on
+next_above : (s : State) (e : Event) → s.next_conn ≤ (shard_after s e).next_conn
+next_above s e = ⊎_elim (λ (g : (shard_after s e).next_conn ≡ s.next_conn). omega arith) (λ (g : (shard_after s e).next_conn ≡ s.next_conn + s.shards). omega arith) (fixed s e).next
+
+below_kept : (s : State) (e : Event) → 1 ≤ s.shards → Each (λ client. client.number < s.next_conn) s.clients → Each (λ client. client.number < (shard_after s e).next_conn) (shard_after s e).clients
+below_kept s e some h =
+    keeps_each (λ (client : Client). client.number < (shard_after s e).next_conn) (λ change x lt. lt) s e
+    (λ is. subst (λ (f : Event). s.next_conn < (shard_after s f).next_conn) (sym is) (attached_above s some))
+    (λ x i. let lt : x.number < s.next_conn = h x i in let le = next_above s e in omega arith)
+  where
+    attached_above : (s : State) → 1 ≤ s.shards → s.next_conn < s.next_conn + s.shards
+    attached_above s some = omega arith
+
 pub numbers_kept : (s : State) (e : Event) → HasOwnNumbers s → HasOwnNumbers (shard_after s e)
 numbers_kept s e h =
     let f = fixed s e in
     record {
+      shards = subst (λ k. 1 ≤ k) (sym f.shards) h.shards;
       next = own_as s (shard_after s e) f.shard f.shards (shard_after s e).next_conn (⊎_elim (λ (g : (shard_after s e).next_conn ≡ s.next_conn). subst (IsOwn s) (sym g) h.next) (λ (g : (shard_after s e).next_conn ≡ s.next_conn + s.shards). subst (IsOwn s) (sym g) (later_own s h.next)) f.next);
-      all = λ x i. own_as s (shard_after s e) f.shard f.shards x.number (keeps (λ (c : Client). IsOwn s c.number) (λ change c own. own) s e h.next h.all x i);
+      all = λ x i. own_as s (shard_after s e) f.shard f.shards x.number (keeps_each (λ (c : Client). IsOwn s c.number) (λ change c own. own) s e (λ is. h.next) h.all x i);
+      rising = rising_kept s e h.below h.rising;
+      below = below_kept s e h.shards h.below;
     }
 
 pub numbers_tell_shards : NumbersTellShards

@@ -1,11 +1,11 @@
 -- Each event of a shard, as the cluster law's shard sees it.
-use Rattle.std.proofs.Common.{◌≡◌, ◌≢◌, ◌⊎◌, ℕ, zero, suc, ◌+◌, ◌<◌, ◌≤◌, Bool, true, false, true≢false, cond, nat_eq, nat_lt, not, ◌&&◌, List, [], ◌∷◌, ◌++◌, map, length, is_none, Option, Some, None, refl, sym, ap, ◌∙◌, subst, inl, inr, ⊎_elim, arith}
+use Rattle.std.proofs.Common.{◌≡◌, ◌≢◌, ◌⊎◌, ℕ, suc, ◌+◌, ◌≤◌, Bool, true, false, true≢false, cond, nat_eq, nat_lt, not, ◌&&◌, List, [], ◌∷◌, ◌++◌, map, length, is_none, Option, Some, None, refl, sym, ap, ◌∙◌, subst, inl, inr, ⊎_elim, arith, add-one}
 use Rattle.std.specs.Prelude.{filter, slice_get}
 use Rattle.std.specs.List.{list_any}
 use Rattle.std.specs.Option.{option_or}
 use Rattle.std.proofs.lemmas.Option.{none-some, same_Some}
 use Rattle.list_laws.specs.Lists.{In, Each, Pairs, SubList}
-use Rattle.list_laws.proofs.Lists.{in_left, in_map, in_read, pairs_append, pairs_map, each_append, each_one}
+use Rattle.list_laws.proofs.Lists.{get_some, in_left, in_map, in_read, pairs_append, pairs_map, each_append, each_one}
 use Rattle.list_laws.proofs.Tests.{eq_true, and_true, no_end, lt_true, same_bytes, has_in, in_has}
 use Rattle.list_laws.proofs.Changes.{append_nil, append_assoc, map_append, in_filter, pairs_filter, pairs_map_back, in_sub, in_mapped, sub_later}
 use Rattle.cluster_law.specs.Config.{Config, every_rule}
@@ -29,9 +29,6 @@ use Rattle.shard_core.specs.ShardSteps.{called, new_sub, subscribed, ended_now, 
 use Rattle.shard_core.specs.Lines.{Turns, SoundLine, HasJob, waiting_after, first_of, rest_of}
 use Rattle.shard_core.specs.AsLaw.{Naming, job_of, hand_of, sub_of, shard_of, matching, ClaimMoves, given_by_claim, AreThese, opened_by, placements_for, LawStep, ShardFollows}
 use Rattle.shard_core.proofs.Closings.Closed.{closed_of, closes, are_open, closed_in, serials_left, counted_sub, counted_serials, max_sub, max_serials}
-
-one_more : (n : ℕ) → n + 1 ≡ suc n
-one_more n = omega arith
 
 -- ---- subscriptions close, or nothing is seen
 
@@ -93,8 +90,8 @@ opens c names n inc now place issued race after_race s waiting deltas conn key s
   closed = [];
   steps = (
     record {
-      out_is = λ i. record history.nothing { lives = record { id = law.life_id n inc place (one_more s.opened i); connection = conn; sid = sid; pattern = key.pattern; queue = key.queue; opened = now } ∷ [] };
-      after = λ i. record (shard_of names n inc s waiting) { serials = one_more s.opened i; subscriptions = (map_append sub_of s.subs (u ∷ []) ∙ ap (λ m. map sub_of s.subs ++ record { serial = m; connection = conn; sid = sid; pattern = key.pattern; queue = key.queue } ∷ []) (one_more s.opened)) i };
+      out_is = λ i. record history.nothing { lives = record { id = law.life_id n inc place (add-one s.opened i); connection = conn; sid = sid; pattern = key.pattern; queue = key.queue; opened = now } ∷ [] };
+      after = λ i. record (shard_of names n inc s waiting) { serials = add-one s.opened i; subscriptions = (map_append sub_of s.subs (u ∷ []) ∙ ap (λ m. map sub_of s.subs ++ record { serial = m; connection = conn; sid = sid; pattern = key.pattern; queue = key.queue } ∷ []) (add-one s.opened)) i };
     },
     keeps,
   );
@@ -233,11 +230,6 @@ drops c names n inc now place issued race after_race sh hand waiting rest job ke
 
 -- ---- Claim
 
-get_some : {A : Type 0} (xs : List A) (n : ℕ) → n < length xs → (x : A) × (slice_get xs n ≡ Some x)
-get_some [] n lt = absurd (omega arith)
-get_some (x ∷ xs) zero lt = (x, refl)
-get_some (x ∷ xs) (suc n) lt = get_some xs n (omega arith)
-
 just_one : (u : Subscription) (us : List Subscription) → In u us → Each (λ v. In v (u ∷ [])) us → Pairs (λ v w. v.serial ≢ w.serial) us → us ≡ u ∷ []
 just_one u [] i h p = absurd i
 just_one u (v ∷ []) i h p = ⊎_elim (λ (e : v ≡ u). ap (λ t. t ∷ []) e) (λ k. absurd k) (h v (inl refl))
@@ -254,7 +246,7 @@ passes : (c : Config) (names : Naming) (n inc now place issued : ℕ) (race afte
 passes c names n inc now place issued race after_race sh job waiting name so keeps is = record {
   event = law.Claim;
   closed = [];
-  steps = inr (record { job = job_of names n inc job; in_hand = refl; name = name; name_is = is; keeps = keeps; out_is = refl; after = λ i. record (shard_of names n inc (record sh { hand = Some job }) waiting) { next = one_more sh.next_index i } });
+  steps = inr (record { job = job_of names n inc job; in_hand = refl; name = name; name_is = is; keeps = keeps; out_is = refl; after = λ i. record (shard_of names n inc (record sh { hand = Some job }) waiting) { next = add-one sh.next_index i } });
   closes = λ k was now_not. absurd (true≢false (sym was ∙ now_not));
   sound = record { hand = so.hand; turns = so.turns; room = so.room; apart = so.apart; below = so.below };
 }
@@ -279,7 +271,7 @@ wins c names n inc now place issued race after_race sh job waiting name u w so p
     closed = closed_of w.ended us;
     are_open = subst (λ t. law.AreOpen t (closed_of w.ended us)) same (are_open w.ended us (subst (Pairs (λ j k. j ≢ k)) (sym serials) so.apart));
     out_is = refl;
-    after = λ i. record (shard_of names n inc (record sh { hand = Some job }) waiting) { next = one_more sh.next_index i; subscriptions = (sym (closes w.ended us) ∙ ap (law.without (closed_of w.ended us)) same) i };
+    after = λ i. record (shard_of names n inc (record sh { hand = Some job }) waiting) { next = add-one sh.next_index i; subscriptions = (sym (closes w.ended us) ∙ ap (law.without (closed_of w.ended us)) same) i };
   });
   closes = λ k was now_not. closed_in w.ended us k (ap (list_any (nat_eq k)) serials ∙ was) now_not;
   sound =

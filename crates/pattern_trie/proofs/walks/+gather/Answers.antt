@@ -2,7 +2,8 @@ use Rattle.std.proofs.Common.{rules, ◌≡◌, ℕ, ◌++◌, ◌∷◌, [], Li
 use Rattle.std.specs.Prelude.{codes}
 use Rattle.std.specs.Option.{option_copied}
 use Rattle.std.proofs.lemmas.List.{append-nil}
-use Rattle.subj.specs.Names.{is_empty, tokens_behind}
+use Rattle.list_laws.specs.Lists.{is_empty}
+use Rattle.subj.specs.Names.{tokens_behind}
 use Rattle.pattern_trie.specs.Nodes.{below_at, has_mark, AreKnown}
 use Rattle.pattern_trie.specs.Matchers.{matchers, dotted, gathered}
 use Rattle.pattern_trie.proofs.Gathers.{gathered_none, token_none, walked}

@@ -1,7 +1,7 @@
 use Rattle.std.proofs.Common.{◌≡◌, length}
 use Rattle.std.specs.List.{list_all}
 use Rattle.route_frames.specs.NumberedLines.{is_queue_name}
-use Rattle.route_frames.specs.FormViews.{names_view}
+use Rattle.route_frames.specs.TextViews.{names_view}
 use Rattle.route_frames.proofs.line_reading.are_queue_names.Given as goal
 
 -- what is left decides as the whole does

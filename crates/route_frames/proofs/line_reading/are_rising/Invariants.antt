@@ -1,6 +1,6 @@
 use Rattle.std.proofs.Common.{◌≡◌, length}
 use Rattle.subj.specs.QueueNames.{are_rising}
-use Rattle.route_frames.specs.FormViews.{names_view}
+use Rattle.route_frames.specs.TextViews.{names_view}
 use Rattle.route_frames.proofs.line_reading.are_rising.Given as goal
 
 -- what is left decides as the whole does

@@ -1,5 +1,5 @@
 use Rattle.std.proofs.Common.{◌≡◌, ◌++◌, length}
-use Rattle.route_frames.specs.FormViews.{names_view}
+use Rattle.route_frames.specs.TextViews.{names_view}
 use Rattle.route_frames.proofs.texts.copy_queues.Given as goal
 
 -- the copies so far and those that are left are all

@@ -1,5 +1,5 @@
 use Rattle.std.proofs.Common.{◌≡◌, ◌+◌, length}
-use Rattle.route_frames.specs.FormViews.{names_view}
+use Rattle.route_frames.specs.TextViews.{names_view}
 use Rattle.route_frames.proofs.names.Names.len.Given as goal
 
 -- those that were counted, and those that are left
