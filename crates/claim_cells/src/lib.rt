@@ -1,6 +1,14 @@
 //! The race of a server's shards without a lock: one table of words, on which each shard steps with a
 //! seat of its own.
 //!
+//! ```text
+//! let (cells, mut hub, mut seats) = Cells::new(alloc, 1)?;
+//! let mut seat = seats.pop().unwrap();
+//! cells.issue(&mut hub)?;
+//! cells.seen(&mut seat);
+//! let won = seat.has_turn() && cells.claim(&mut seat, 0);
+//! ```
+//!
 //! What is proved holds between any two steps, whatever threads make them and in whatever order they come.
 //! Which shard wins a pair, that a thread gets on, and one common order of all steps are not said.
 //!

@@ -1,4 +1,12 @@
 //! The race of a server's shards for the queue names of a publication: one of them wins each.
+//!
+//! ```text
+//! let mut race = PlainRace::new(alloc, 2)?;
+//! let turn = race.issue()?;
+//! assert!(rt; race.claim(1, turn, 0));
+//! assert!(rt; !race.claim(2, turn, 0));
+//! race.finish(1, turn);
+//! ```
 #![tactic(auto)]
 
 ghost use Rattle.std.specs.Prelude.{◌≡◌, ◌<◌, ◌≤◌, IfOk};

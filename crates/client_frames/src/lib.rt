@@ -1,5 +1,13 @@
 //! What clients and a server say to each other: lines are read, and replies and messages written.
 //!
+//! ```text
+//! let mut texts = SharedTexts::new(alloc);
+//! let mut out = Vec::new(alloc);
+//! if let ClientLine::Ping = decode_line(&mut texts, b"PING")? {
+//!     encode(&ServerFrame::Reply(ReplyFrame::Pong), &mut out)?;
+//! }
+//! ```
+//!
 //! In reading order: `operation`, `arguments` and `choices` read parts of a line, and `decoding` a whole one, as a `client_line` or one
 //! of the `faults`; `err_texts` says what is told of these. `server_frames` are what is sent, which `info`, `message_lines` and
 //! `encoding` write. `awaited` is what has to come next in a stream, and `shared_texts` keeps what is copied of it.

@@ -1,4 +1,12 @@
 //! What a client is told of a refusal by its shard, or by the hub of its server.
+//!
+//! ```text
+//! match shard.subscribe(id, key, sid) {
+//!     Ok(_) => conn.answer(Ok(())),
+//!     Err(Failure::Refused(fault)) => conn.answer(Err(refusal_of_shard(fault))),
+//!     Err(Failure::OutOfMemory) => return Err(AllocError),
+//! }
+//! ```
 #![tactic(auto)]
 
 ghost use Rattle.std.specs.Prelude.{◌≡◌};

@@ -1,5 +1,11 @@
 //! The cluster law: what holds of every run of a cluster of NATS routers, proved once, over a pure machine.
 //!
+//! ```text
+//! // A function that calls a law is proved with what the law says.
+//! cluster_law::headline();
+//! cluster_law::unique_names();
+//! ```
+//!
 //! The machine (`specs/`) has nodes that start and stop, frames that were sent and are handed over at any time, any number of times or never, and on each node a hub, a race for
 //! claims, and shards. Its steps are relations, so it does whatever the rules allow: queue names are split in any way, a claim may be lost, any open subscriptions may close.
 //! Each function here has an empty body, and its contract is a law. The code is shown to follow the machine in the crates above.

@@ -1,6 +1,13 @@
 //! The exact cluster: servers that start and stop, the frames that they send to each other, and what was published,
 //! subscribed and placed, found by comparing each server before and after a step.
 //!
+//! ```text
+//! let mut world: World<ListTable, PlainRace> = World::new(alloc, names, 2)?.ok_or("a cluster")?;
+//! let outcome = world.step(&Event::Start { node: 0, inc })?;
+//! let outcomes = world.run(&events)?;
+//! let placements = world.placements();
+//! ```
+//!
 //! The definitions of a cluster's step and their laws stand here, and in code [`World`], each of whose steps is such a step.
 //! Each law is a function with an empty body.
 //!

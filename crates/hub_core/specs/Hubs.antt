@@ -23,7 +23,7 @@ abbrev pub after : Hub → Event → Hub
 after hub event = record { server = hub.server; state = hub_after hub.server hub.state event }
 
 -- the hub's part of a server's step, of an event that is not refused
-pub record IsStep (old : Hub) (event : Event) (answer : Answer) (new : Hub) : Type 0 where
+pub record DoesStep (old : Hub) (event : Event) (answer : Answer) (new : Hub) : Type 0 where
   pub answered : answer ≡ hub_answer old.server old.state event
   pub after : new ≡ after old event
 

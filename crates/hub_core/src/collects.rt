@@ -6,7 +6,7 @@ ghost use Rattle.interest.specs.Told.{counts_told};
 ghost use Rattle.interest.specs.Recounts.{IsPlanOf, IsRecountOf};
 ghost use Rattle.hub_core.specs.Telling.{collect_refusal, collect_frames};
 ghost use Rattle.hub_core.specs.Events.{Collect, Collected};
-ghost use Rattle.hub_core.specs.Hubs.{refusal, IsStep};
+ghost use Rattle.hub_core.specs.Hubs.{refusal, DoesStep};
 ghost use Rattle.hub_core.specs.Calls.{IsTellingOf, AreCounted, told_out};
 
 use crate::answers::Told;
@@ -104,7 +104,7 @@ impl Hub {
     pub fn commit_collect(&mut self, deltas: &[Delta], plan: CollectPlan) -> Told
         requires taken { collect_refusal self.old.state deltas.now ≡ None }
         requires planned { IsTellingOf self.old deltas.now plan.recount plan.changes.items plan.frames.items plan.cut.items }
-        ensures { (shard : ℕ) → IsStep self.old (Collect shard deltas.now) (Collected result.changes.items (collect_frames self.old.server self.old.state deltas.now) result.cut.items) self.new }
+        ensures { (shard : ℕ) → DoesStep self.old (Collect shard deltas.now) (Collected result.changes.items (collect_frames self.old.server self.old.state deltas.now) result.cut.items) self.new }
     {
         let CollectPlan {
             recount,
@@ -126,7 +126,7 @@ impl Hub {
     /// turn, as [`Local::apply`](interest::Local::apply) tells, and then with [`HubFault::Spent`] where
     /// their changes would go beyond the last number.
     pub fn collect(&mut self, deltas: &[Delta]) -> Result<Told, Failure<HubFault>>
-        ensures { (shard : ℕ) → IsAnswered (refusal self.old (Collect shard deltas.now)) (λ told. IsStep self.old (Collect shard deltas.now) (Collected told.changes.items (collect_frames self.old.server self.old.state deltas.now) told.cut.items) self.new) (self.new ≡ self.old) result }
+        ensures { (shard : ℕ) → IsAnswered (refusal self.old (Collect shard deltas.now)) (λ told. DoesStep self.old (Collect shard deltas.now) (Collected told.changes.items (collect_frames self.old.server self.old.state deltas.now) told.cut.items) self.new) (self.new ≡ self.old) result }
     {
         if deltas.is_empty() {
             return Ok(Told::nothing(self.alloc));

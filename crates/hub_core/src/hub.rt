@@ -8,7 +8,7 @@ ghost use Rattle.subj.specs.Servers.{is_peer};
 ghost use Rattle.hub_core.specs.State.{seen_of as seen};
 ghost use Rattle.hub_core.specs.Events.{Receive, Up, Cut, TakeFrom, IsUp, WasCut, Taken};
 ghost use Rattle.hub_core.specs.Steps.{IsMeeting};
-ghost use Rattle.hub_core.specs.Hubs.{started, refusal, IsStep};
+ghost use Rattle.hub_core.specs.Hubs.{started, refusal, DoesStep};
 ghost use Rattle.hub_core.specs.declared.faults.HubFault.TheVariants.{Spent};
 ghost use Rattle.hub_core.specs.Publishing.{busy_fault};
 ghost use Rattle.hub_core.specs.Receiving.{receive_refusal, origin_fault as refused_of_origin, received, has_message};
@@ -113,7 +113,7 @@ impl Hub {
     pub fn commit_up(&mut self, place: usize, inc: Incarnation, snapshot: Numbered)
         requires meeting { IsMeeting self.old.server self.old.state place inc }
         requires planned { snapshot ≡ snapshot_to self.old.server self.old.state place inc }
-        ensures { IsStep self.old (Up place inc) (IsUp snapshot) self.new }
+        ensures { DoesStep self.old (Up place inc) (IsUp snapshot) self.new }
     {
         let alloc = self.alloc;
         let peer = &mut self.peers[place];
@@ -124,7 +124,7 @@ impl Hub {
     /// [`Hub::plan_up`] and [`Hub::commit_up`] together. Want of memory leaves all as it was.
     pub fn peer_up(&mut self, place: usize, inc: Incarnation) -> Result<(), AllocError>
         requires { IsMeeting self.old.server self.old.state place inc }
-        ensures ok { OnOk result (IsStep self.old (Up place inc) (IsUp (snapshot_to self.old.server self.old.state place inc)) self.new) }
+        ensures ok { OnOk result (DoesStep self.old (Up place inc) (IsUp (snapshot_to self.old.server self.old.state place inc)) self.new) }
         ensures err { OnErr result (self.new ≡ self.old) }
     {
         let snapshot = self.plan_up(place, inc)?;
@@ -137,7 +137,7 @@ impl Hub {
     #[tactic(auto, using(crate::proofs::Neighbours::Changed::changed_is))]
     pub fn peer_cut(&mut self, place: usize)
         requires { is_peer self.old.server place ≡ true }
-        ensures { IsStep self.old (Cut place) WasCut self.new }
+        ensures { DoesStep self.old (Cut place) WasCut self.new }
     {
         let peer = &mut self.peers[place];
         peer.cut();
@@ -151,7 +151,7 @@ impl Hub {
         place: usize,
         count: usize,
     ) -> Result<Vec<Numbered>, Failure<HubFault>>
-        ensures { IsAnswered (refusal self.old (TakeFrom place count)) (λ frames. IsStep self.old (TakeFrom place count) (Taken frames.items) self.new) (self.new ≡ self.old) result }
+        ensures { IsAnswered (refusal self.old (TakeFrom place count)) (λ frames. DoesStep self.old (TakeFrom place count) (Taken frames.items) self.new) (self.new ≡ self.old) result }
     {
         if !self.server.is_peer(place) {
             return Err(Failure::Refused(HubFault::NotInCluster));
@@ -275,7 +275,7 @@ impl Hub {
         frame: &Numbered,
         finished: &Finished,
     ) -> Result<Received, Failure<HubFault>>
-        ensures { IsAnswered (refusal self.old (Receive frame.now finished.now)) (λ received. IsStep self.old (Receive frame.now finished.now) (answer_of received) self.new) (self.new ≡ self.old) result }
+        ensures { IsAnswered (refusal self.old (Receive frame.now finished.now)) (λ received. DoesStep self.old (Receive frame.now finished.now) (answer_of received) self.new) (self.new ≡ self.old) result }
     {
         match self.plan_receive(frame, finished)? {
             Some(job) => {

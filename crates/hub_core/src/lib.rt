@@ -1,6 +1,13 @@
 //! The hub of a server: it numbers what its clients publish, splits each queue name over the cluster, keeps
 //! a view of each peer's interest, and tells which frames of peers it takes.
 //!
+//! ```text
+//! let mut hub = Hub::new(alloc, server)?;
+//! let told = hub.collect(&deltas)?;
+//! let job = hub.publish(conn, &said, 0, &Finished::new())?;
+//! let frames = hub.take_route(1, usize::MAX)?;
+//! ```
+//!
 //! In reading order: `hub` has the state; `publishing` with `choice` is what a publish owes, `receiving` what a frame of a peer does,
 //! `collects` with `collecting` what peers are told of interest, and `telling` the snapshot for one that comes up (`up`). `peers` keeps
 //! what is known of each, and `putting` puts frames for them. `window` and `refusals` say why a call is refused (`faults`), and `answers`

@@ -10,7 +10,7 @@ ghost use Rattle.hub_core.specs.Choice.{is_eligible as eligible, queue_names as 
 ghost use Rattle.hub_core.specs.Publishing.{is_owed as owed, publish_refusal, frames_of};
 ghost use Rattle.hub_core.specs.Events.{Publish, Issued};
 ghost use Rattle.hub_core.specs.declared.faults.HubFault.TheVariants.{TooManyQueues};
-ghost use Rattle.hub_core.specs.Hubs.{IsStep};
+ghost use Rattle.hub_core.specs.Hubs.{DoesStep};
 ghost use Rattle.hub_core.specs.Chosen.{IsSplit, chosen_for, frame_at, sent_from, IsPlanOf, publication, turn_refusal};
 ghost use Rattle.hub_core.specs.Serving.{IsServed};
 
@@ -292,7 +292,7 @@ impl Hub {
         word: u64,
         finished: &Finished,
     ) -> Result<Job, Failure<HubFault>>
-        ensures { let p = publication conn said.now word in IsAnswered (publish_refusal self.old.server self.old.state p finished.now) (λ job. IsStep self.old (Publish p finished.now) (Issued job (frames_of self.old.server self.old.state p)) self.new) (self.new ≡ self.old) result }
+        ensures { let p = publication conn said.now word in IsAnswered (publish_refusal self.old.server self.old.state p finished.now) (λ job. DoesStep self.old (Publish p finished.now) (Issued job (frames_of self.old.server self.old.state p)) self.new) (self.new ≡ self.old) result }
     {
         let PublishPlan { job, frames } = self.plan_publish(conn, said, word, finished)?;
         self.commit_publish(frames);

@@ -1,6 +1,14 @@
 //! What the clients of a server are interested in: how many subscriptions of each key are open, and
 //! what the other servers are told of it.
 //!
+//! ```text
+//! let mut counts = Local::new(alloc)?;
+//! let mut view = View::new(alloc);
+//! if let Some(change) = counts.apply(&Delta { key, up: true })? {
+//!     view.hear(1, change)?;
+//! }
+//! ```
+//!
 //! In reading order: `changes` is what is counted and told; `counts` is the server's own interest, and `views` that of a peer, both
 //! over keys in order (`ordered`, `key_lists`). `seeks` with `sights` finds the keys that match a subject, `matches` and `names` say who
 //! wants it. `tally` and `recounts` count many changes at once.

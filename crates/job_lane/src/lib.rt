@@ -1,5 +1,13 @@
 //! A lane: the bounded queue by which one thread hands jobs to another, in order.
 //!
+//! ```text
+//! let (mut near, mut far) = lane(alloc, LANE_CAPACITY)?;
+//! let run = Run::new(alloc, jobs).ok().ok_or("memory")?;
+//! let is_pushed = near.push(rt, run).is_ok();
+//! let turn = far.pop(rt);
+//! let job = far.in_hand();
+//! ```
+//!
 //! In reading order: `runs` is what a lane carries, `ends` its two ends; `rule`, `steps` and `counts` are what its queue keeps.
 #![tactic(auto)]
 

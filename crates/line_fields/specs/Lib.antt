@@ -1,4 +1,4 @@
--- what ends a line
+-- what ends a line, and a payload behind it
 pub mod LineEnd
 -- a line as a list of fields
 pub mod Fields

@@ -1,5 +1,12 @@
 //! The fields of a line, as clients and routes write them, and what lines are written with.
 //!
+//! ```text
+//! let (first, rest) = split_line(b"UNSUB 7").ok_or("a word")?;
+//! assert!(rt; is_word(b"UNSUB", first));
+//! let (second, _) = split_field(rest).ok_or("an id")?;
+//! assert_eq!(rt; read_digits(second, MAX_DIGITS), Some(7));
+//! ```
+//!
 //! In reading order: `splitting` has the fields of a line, `digits` the numbers in them, and `laws` what holds of both; `appending` is what
 //! lines are written with.
 #![tactic(auto)]

@@ -2,6 +2,10 @@
 //! one line of JSON for each case how long it took. Without words it makes each at a small size, and tells
 //! no times.
 //!
+//! ```text
+//! mesh_bench lanes 200000
+//! ```
+//!
 //! In reading order: `command` finds the measure. Each has a module of its name, with what it makes first (`*_setup`, `*_jobs`,
 //! `*_subjects`, `*_stream`) and what it does over and over (`*_run`, `*_calls`, `*_reading`): `frames`, `matches`, `lanes` (with
 //! `locked_run` and `jobs`), `shards`, `hubs`, `nodes` and `threads`. `faults` is the error of all of them.

@@ -1,6 +1,12 @@
 //! One client of a server of its own, on a reader and a writer: [`pipe_run`] reads what the client sends and
 //! writes what the server answers, as a function of the bytes alone.
 //!
+//! ```text
+//! let mut source = Raw::new(rt.reader());
+//! let mut sink = Raw::new(io::writer(rt));
+//! let end = pipe_run(rt.alloc(), &mut source, &mut sink)?;
+//! ```
+//!
 //! In reading order: `pipe` is the loop and what its contract says of all bytes that were written;
 //! `pipe_server` answers each thing that the connection asks, by a `confirmation` most often; `serving` makes the server's calls.
 #![tactic(auto)]

@@ -1,5 +1,9 @@
 //! The program: `serve` serves a mesh on sockets, `pipe` one client on standard input and output, `match` answers one
 //! question of matching, and `script` plays what is done in a cluster.
+//!
+//! ```text
+//! nats_mesh serve --nodes 3 --port 4222
+//! ```
 #![tactic(auto)]
 
 mod command;

@@ -1,6 +1,14 @@
 //! One server as a machine: its hub with its sessions, its shards with the jobs that wait for them, and the race for claims, put
 //! together.
 //!
+//! ```text
+//! let mut node: Node<ListTable, PlainRace> = Node::new(alloc, server)?;
+//! let conn = node.attach(1)?;
+//! node.subscribe(conn, key, sid)?;
+//! node.publish(conn, &said, 0)?;
+//! node.begin(1, false)?;
+//! ```
+//!
 //! Each call of [`Node`] is a step of the server, by the definitions of `node_law`; a list of events is a run of such steps, which
 //! keeps the promises of one server.
 //!

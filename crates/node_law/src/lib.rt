@@ -1,5 +1,12 @@
 //! One server as definitions: its state, its events, its step, and what holds of every step and of every run.
 //!
+//! ```text
+//! // A function that calls a law is proved with what the law says.
+//! one_server_keeps();
+//! let attach = NodeEvent::at_shard(1, ShardWork::Attach);
+//! let subscribe = NodeEvent::of_conn(conn, ConnEvent::Subscribe { key, sid });
+//! ```
+//!
 //! A server is a hub, its sessions, its shards with the jobs that wait for them, and the race for claims, put together. Each law
 //! is a function with an empty body. In code are only the events and the refusals.
 #![tactic(auto)]

@@ -19,7 +19,7 @@ side_of hub s = record { server = hub.server; hub = hub.state; sessions = s.stat
 -- ---- an INFO or a CONNECT
 
 pub greeted : (hub new_hub : Hub) (old new : calls.Served) (e : of_sessions.Event) (answer : of_sessions.Answer) (q inc : ℕ) → old.server ≡ hub.server → IsAskedSessions (side_of hub old) e → hub_with (side_of hub old) e ≡ (hubs.after hub (of_hub.Up q inc)).state
-    → calls.refusal old e ≡ None → calls.IsStep old e answer new → new_hub ≡ hubs.after hub (of_hub.Up q inc) → IsDone (side_of hub old) (BySessions e) (OfSessions answer) (side_of new_hub new)
+    → calls.refusal old e ≡ None → calls.DoesStep old e answer new → new_hub ≡ hubs.after hub (of_hub.Up q inc) → IsDone (side_of hub old) (BySessions e) (OfSessions answer) (side_of new_hub new)
 greeted hub new_hub old new e answer q inc same asked with free step up = record {
   free = ap (λ s. session_refusal s old.state e) (sym same) ∙ free;
   asked = asked;
@@ -31,7 +31,7 @@ greeted hub new_hub old new e answer q inc same asked with free step up = record
 }
 
 -- the sessions stay those of their server
-pub greeted_stays : (hub new_hub : Hub) (old new : calls.Served) (e : of_sessions.Event) (answer : of_sessions.Answer) (q inc : ℕ) → old.server ≡ hub.server → calls.IsStep old e answer new → new_hub ≡ hubs.after hub (of_hub.Up q inc) → new.server ≡ new_hub.server
+pub greeted_stays : (hub new_hub : Hub) (old new : calls.Served) (e : of_sessions.Event) (answer : of_sessions.Answer) (q inc : ℕ) → old.server ≡ hub.server → calls.DoesStep old e answer new → new_hub ≡ hubs.after hub (of_hub.Up q inc) → new.server ≡ new_hub.server
 greeted_stays hub new_hub old new e answer q inc same step up = ap (λ (t : calls.Served). t.server) step.after ∙ same ∙ sym (ap (λ (t : Hub). t.server) up)
 
 -- ---- a collect
@@ -46,7 +46,7 @@ cut_of of_hub.WasCut = []
 cut_of (of_hub.Taken frames) = []
 
 pub collect_done : (old new : Hub) (s t : calls.Served) (shard : ℕ) (deltas : List Delta) (changes : List Change) (cut given : List ℕ) → hubs.refusal old (of_hub.Collect shard deltas) ≡ None
-    → hubs.IsStep old (of_hub.Collect shard deltas) (of_hub.Collected changes (collect_frames old.server old.state deltas) cut) new → given ≡ cut → t ≡ record { server = s.server; state = all_dropped given s.state }
+    → hubs.DoesStep old (of_hub.Collect shard deltas) (of_hub.Collected changes (collect_frames old.server old.state deltas) cut) new → given ≡ cut → t ≡ record { server = s.server; state = all_dropped given s.state }
     → IsDone (side_of old s) (ByHub (of_hub.Collect shard deltas)) (OfHub (of_hub.Collected changes (collect_frames old.server old.state deltas) cut)) (side_of new t)
 collect_done old new s t shard deltas changes cut given free step same dropped = record {
   free = free;
@@ -57,5 +57,5 @@ collect_done old new s t shard deltas changes cut given free step same dropped =
       λ k. record { server = (step.after k).server; hub = (step.after k).state; sessions = is k };
 }
 
-pub collect_stays : (old new : Hub) (s t : calls.Served) (e : of_hub.Event) (answer : of_hub.Answer) (given : List ℕ) → s.server ≡ old.server → hubs.IsStep old e answer new → t ≡ record { server = s.server; state = all_dropped given s.state } → t.server ≡ new.server
+pub collect_stays : (old new : Hub) (s t : calls.Served) (e : of_hub.Event) (answer : of_hub.Answer) (given : List ℕ) → s.server ≡ old.server → hubs.DoesStep old e answer new → t ≡ record { server = s.server; state = all_dropped given s.state } → t.server ≡ new.server
 collect_stays old new s t e answer given same step dropped = ap (λ (x : calls.Served). x.server) dropped ∙ same ∙ sym (ap (λ (x : Hub). x.server) step.after)

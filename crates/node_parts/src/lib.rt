@@ -1,5 +1,13 @@
 //! The parts of one server in code: a shard with the jobs that wait for it ([`Line`]), and the hub with its sessions ([`Side`]).
 //!
+//! ```text
+//! let mut side = Side::new(alloc, server)?;
+//! let mut line: Line<ListTable> = Line::new(alloc, 1, 1)?;
+//! let conn = line.attach()?;
+//! line.subscribe(conn, key, sid)?;
+//! let told = side.collect(1, line.deltas())?;
+//! ```
+//!
 //! Whoever has them under one roof is a server; so has whoever keeps each under a lock of its own.
 //!
 //! In reading order: `lines`, `side`, `jobs` (a job for each line), `peers` and `places`.

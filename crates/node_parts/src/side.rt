@@ -7,7 +7,7 @@ ghost use Rattle.hub_core.specs.Chosen.{IsPlanOf, publication};
 ghost use Rattle.hub_core.specs.Events.{Collect, Receive, TakeFrom, Collected, Heard, Taken};
 ghost use Rattle.hub_core.specs.Publishing.{publish_refusal};
 ghost use Rattle.hub_core.specs.Receiving.{has_message, receive_refusal};
-ghost use Rattle.hub_core.specs.Hubs.{IsStep};
+ghost use Rattle.hub_core.specs.Hubs.{DoesStep};
 ghost use Rattle.hub_core.specs.Peers.{snapshot_to};
 ghost use Rattle.hub_core.specs.Steps.{hub_refusal};
 ghost use Rattle.hub_core.specs.Telling.{collect_frames};
@@ -28,7 +28,7 @@ use subj::{ConnId, Failure, Finished, Incarnation, Job, NodeId, Pub, Server};
 
 /// Counts the deltas of the shard, and tells of them: [`Hub::collect`].
 fn tell(hub: &mut Hub, shard: u64, deltas: &[Delta]) -> Result<Told, Failure<HubFault>>
-    ensures { IsAnswered (hub_refusal hub.old.server hub.old.state (Collect shard deltas.now)) (λ told. IsStep hub.old (Collect shard deltas.now) (Collected told.changes.items (collect_frames hub.old.server hub.old.state deltas.now) told.cut.items) hub.new) (hub.new ≡ hub.old) result }
+    ensures { IsAnswered (hub_refusal hub.old.server hub.old.state (Collect shard deltas.now)) (λ told. DoesStep hub.old (Collect shard deltas.now) (Collected told.changes.items (collect_frames hub.old.server hub.old.state deltas.now) told.cut.items) hub.new) (hub.new ≡ hub.old) result }
 {
     let _shard = shard;
     hub.collect(deltas)

@@ -1,12 +1,3 @@
-pub mod Joining
-pub mod Clients
-pub mod Working
-pub mod Claims
-pub mod Drops
-pub mod Telling
-pub mod Lines
-pub mod Outlets
-pub mod HubCalls
-pub mod Publishing
-pub mod Receiving
-pub mod Parts
+pub mod Shards
+pub mod Hubs
+pub mod Lanes

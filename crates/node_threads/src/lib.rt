@@ -1,6 +1,14 @@
 //! What stands under the locks of a server on threads: the states of its hub and of each of its shards. The hub hands jobs to
 //! the shards by lanes, and the shards race for claims. The locks themselves are those of `thread_node`.
 //!
+//! ```text
+//! let mut shard: ShardState<ListTable, N> = ShardState::new(alloc, seat, 1, far)?;
+//! let conn = shard.attach()?;
+//! hub.publish(&cells, conn, &said, 0)?;
+//! hub.push_jobs(rt);
+//! let turned = shard.turn(rt, &cells, &Open, &mut Tape::new(alloc, false));
+//! ```
+//!
 //! In reading order: `names` ties the parts of one server; `line` is the hub's end of a lane, and `outlet` has all of them;
 //! `hub_state` and `shard_state` stand under the locks; `turning` is a turn of a shard, with `gates` that may hold it, and comes to what
 //! `turned` says; `dropping` and `ending` are how jobs and servers end. A `tape` is what is kept in writing, of a shard by `noting`, in

@@ -78,7 +78,7 @@ impl<N: NodeName> Line<N> {
     }
 
     /// Pushes the run, unless the lane has it. A lane without room, and want of memory, leave it owed.
-    #[tactic(auto, using(crate::proofs::Outlets::owed_behind, crate::proofs::Outlets::pushed_now))]
+    #[tactic(auto, using(crate::proofs::Lanes::Outlets::owed_behind, crate::proofs::Lanes::Outlets::pushed_now))]
     pub(crate) fn offer<R: Wait>(&mut self, rt: &R, run: &Run)
         requires { AreNumbered (self.old.pushed ++ owed self.old.taken (Some run.now)) }
         ensures { (self.new.shard ≡ self.old.shard) × (self.new.pushed ++ owed self.new.taken (Some run.now) ≡ self.old.pushed ++ owed self.old.taken (Some run.now)) }

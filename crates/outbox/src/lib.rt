@@ -1,5 +1,13 @@
 //! What waits to be written to a client: a list of entries within limits.
 //!
+//! ```text
+//! let mut outbox = Outbox::new(alloc, OUTBOX_ENTRIES, OUTBOX_BYTES)?;
+//! if outbox.room_for(b"PONG") {
+//!     outbox.stage_reply(b"PONG")?;
+//!     outbox.commit();
+//! }
+//! ```
+//!
 //! In reading order: `entries` is what waits, `kept` how one entry is kept, `byte_queue` and `entry_queue` how all are, and `outbox` is
 //! the outbox.
 #![tactic(auto)]

@@ -1,5 +1,13 @@
 //! What is held under patterns, found by the subjects that they match.
 //!
+//! ```text
+//! let mut trie = PatternTrie::new(alloc);
+//! trie.insert(&pattern, serial)?;
+//! let mut found = Vec::new(alloc);
+//! trie.matching(&subject, &mut found)?;
+//! trie.remove(&pattern, serial);
+//! ```
+//!
 //! In reading order: `node` is what stands for one beginning of patterns, and `nodes` has all of them, found by a hash (`text_hasher`);
 //! `beginnings` enters a pattern and takes it out, and `walks` finds what a subject reaches, by the tokens that may go on (`marks`).
 #![tactic(auto)]

@@ -1,4 +1,10 @@
 //! The choice of one server among several, by weight.
+//!
+//! ```text
+//! let servers = [(first, 1), (second, 2)];
+//! assert_eq!(rt; choose(&servers, 0), Some(first));
+//! assert_eq!(rt; choose(&servers, 5), Some(second));
+//! ```
 #![tactic(auto)]
 
 ghost use Rattle.std.specs.Prelude.{◌≡◌, ◌^◌, ◌<◌, ◌↔◌, IsNone, IfSome, Any, slice_get};

@@ -2,6 +2,7 @@
 use Rattle.std.specs.Prelude.{ℕ, List, [], ◌∷◌, ◌++◌, length, codes, decimal, Option, Some, None}
 use Rattle.std.specs.List.{flat_map}
 use Rattle.std.specs.Option.{option_to_list}
+use Rattle.line_fields.specs.LineEnd.{payload_bytes}
 use Rattle.serde_json.specs.Data.{Data, number, unsigned, string, object, member, no_members}
 use Rattle.serde_json.specs.Written.{compact_text}
 use Rattle.route_values.specs.declared.bodies.Body.{Body}
@@ -89,10 +90,6 @@ abbrev pub canonical_payload : RouteFrame → Option (List ℕ)
 canonical_payload (frame.Info info) = None
 canonical_payload (frame.Connect connect) = None
 canonical_payload (frame.Numbered numbered) = body_payload numbered.body
-
-abbrev pub payload_bytes : Option (List ℕ) → List ℕ
-payload_bytes None = []
-payload_bytes (Some payload) = payload ++ line_end
 
 abbrev pub frame_bytes : RouteFrame → List ℕ
 frame_bytes frame = canonical_line frame ++ (line_end ++ payload_bytes (canonical_payload frame))

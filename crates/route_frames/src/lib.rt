@@ -1,6 +1,13 @@
 //! What servers of a cluster tell each other: the frames of routes, written and read. What they hold
 //! is of `route_values`, and is named here too, so that a crate above needs no other.
 //!
+//! ```text
+//! let line = RouteLine::read(alloc, text)?;
+//! let frame = line.into_frame(alloc, payload)?;
+//! let mut out = Vec::new(alloc);
+//! encode(&frame, &mut out)?;
+//! ```
+//!
 //! In reading order: `operation`, `common`, `arguments` and `names` split a line, `texts` is a line as it stands there, and
 //! `line_reading` judges it; `lines` keeps what it says until its payload comes. `greetings` and `snapshot_reading` read the rest,
 //! `reading` reads whole frames, and `encoding` writes them.

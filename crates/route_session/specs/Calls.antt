@@ -28,7 +28,7 @@ abbrev pub after : Served → Event → Served
 after s event = record { server = s.server; state = session_after s.server s.state event }
 
 -- what is answered to an event, and what stands then
-pub record IsStep (old : Served) (event : Event) (answer : Answer) (new : Served) : Type 0 where
+pub record DoesStep (old : Served) (event : Event) (answer : Answer) (new : Served) : Type 0 where
   pub answered : answer ≡ session_answer old.server old.state event
   pub after : new ≡ after old event
 

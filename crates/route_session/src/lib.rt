@@ -1,5 +1,12 @@
 //! The sessions of a server with its peers: who dialed whom, and which completed session with a peer is kept.
 //!
+//! ```text
+//! let mut sessions = Sessions::new(alloc, server);
+//! let session = sessions.dial(1)?;
+//! let (kept, connect) = sessions.on_info(session, &info, 0)?;
+//! assert_eq!(rt; sessions.kept(1), Some(session));
+//! ```
+//!
 //! In reading order: `offers` says which of two sessions is the better one, `standing` keeps those that stand, and `sessions` has the
 //! calls.
 #![tactic(auto)]

@@ -7,7 +7,7 @@ ghost use Rattle.route_values.specs.Records.{is_serial};
 ghost use Rattle.route_session.specs.State.{number_kept, kept_for};
 ghost use Rattle.route_session.specs.Events.{Dial, Accept, OnInfo, OnConnect, Cut, Dialed, Accepted, KeptAfterInfo, Kept as WasKept, WasCut};
 ghost use Rattle.route_session.specs.Steps.{against, completed, dropped, own_connect as connect_to};
-ghost use Rattle.route_session.specs.Calls.{new_sessions, refusal, IsStep, AreSessions, is_dial, peer_of, open_session, IsInfoOffer, IsConnectOffer};
+ghost use Rattle.route_session.specs.Calls.{new_sessions, refusal, DoesStep, AreSessions, is_dial, peer_of, open_session, IsInfoOffer, IsConnectOffer};
 
 use crate::faults::SessionFault;
 use crate::ids::SessionId;
@@ -138,7 +138,7 @@ impl Sessions {
     /// Refused: 70 where the place is of no other server of the cluster; 74 where [`MAX_SESSIONS`] stand;
     /// 75 where the numbers have come to [`MAX_COUNTER`]. Any `Err` leaves all as it was.
     pub fn dial(&mut self, place: usize) -> Result<SessionId, Failure<SessionFault>>
-        ensures { IsAnswered (refusal self.old (Dial place)) (λ session. IsStep self.old (Dial place) (Dialed session) self.new) (self.new ≡ self.old) result }
+        ensures { IsAnswered (refusal self.old (Dial place)) (λ session. DoesStep self.old (Dial place) (Dialed session) self.new) (self.new ≡ self.old) result }
     {
         if let Some(fault) = self.dial_fault(place) {
             return Err(Failure::Refused(fault));
@@ -161,7 +161,7 @@ impl Sessions {
     /// Refused: 74 where [`MAX_SESSIONS`] stand; 75 where the numbers have come to [`MAX_COUNTER`]. Any
     /// `Err` leaves all as it was.
     pub fn accept(&mut self) -> Result<(SessionId, RouteInfo), Failure<SessionFault>>
-        ensures { IsAnswered (refusal self.old Accept) (λ given. IsStep self.old Accept (Accepted given.0 given.1) self.new) (self.new ≡ self.old) result }
+        ensures { IsAnswered (refusal self.old Accept) (λ given. DoesStep self.old Accept (Accepted given.0 given.1) self.new) (self.new ≡ self.old) result }
     {
         if let Some(fault) = self.accept_fault() {
             return Err(Failure::Refused(fault));
@@ -322,7 +322,7 @@ impl Sessions {
         info: &RouteInfo,
         least: u64,
     ) -> Result<(Kept, RouteConnect), SessionFault>
-        ensures { IsDecided (refusal self.old (OnInfo session info.now least)) (λ done. IsStep self.old (OnInfo session info.now least) (KeptAfterInfo done.0.instead_of done.1) self.new) (self.new ≡ self.old) result }
+        ensures { IsDecided (refusal self.old (OnInfo session info.now least)) (λ done. DoesStep self.old (OnInfo session info.now least) (KeptAfterInfo done.0.instead_of done.1) self.new) (self.new ≡ self.old) result }
     {
         let offer = self.info_offer(session, info, least)?;
         let kept = self.complete(session, offer);
@@ -356,7 +356,7 @@ impl Sessions {
         connect: &RouteConnect,
         least: u64,
     ) -> Result<Kept, SessionFault>
-        ensures { IsDecided (refusal self.old (OnConnect session connect.now least)) (λ kept. IsStep self.old (OnConnect session connect.now least) (WasKept kept.instead_of) self.new) (self.new ≡ self.old) result }
+        ensures { IsDecided (refusal self.old (OnConnect session connect.now least)) (λ kept. DoesStep self.old (OnConnect session connect.now least) (WasKept kept.instead_of) self.new) (self.new ≡ self.old) result }
     {
         let offer = self.connect_offer(session, connect, least)?;
         Ok(self.complete(session, offer))
@@ -376,7 +376,7 @@ impl Sessions {
     ///
     /// Refused: 73 where the session doesn't stand; that leaves all as it was. Takes no memory.
     pub fn cut(&mut self, session: SessionId) -> Result<Option<usize>, SessionFault>
-        ensures done { IsDecided (refusal self.old (Cut session)) (λ place. IsStep self.old (Cut session) (WasCut place) self.new) (self.new ≡ self.old) result }
+        ensures done { IsDecided (refusal self.old (Cut session)) (λ place. DoesStep self.old (Cut session) (WasCut place) self.new) (self.new ≡ self.old) result }
         ensures peer { IfOk result (λ cut. IfSome cut (λ place. peer self.old.server place ≡ true)) }
     {
         let Some(ended) = session_at(&self.standing, session.get()) else {

@@ -1,5 +1,12 @@
 //! What the frames of routes hold, as values that hold only what can be spelt.
 //!
+//! ```text
+//! let key = Key { pattern, queue: None };
+//! let weighted = WeightedKey::new(key, 1).ok_or("a weight")?;
+//! let frame = Numbered::new(from, inc, to, to_inc, 1, Body::Plus(weighted));
+//! let frame = RouteFrame::Numbered(frame.ok_or("a frame")?);
+//! ```
+//!
 //! In reading order: `info` and `connect` are how two servers greet one another; `bodies` is what a numbered frame says, with `snapshots`
 //! of interest, and `frames` has all frames. `valid` says what holds of each value.
 #![tactic(auto)]

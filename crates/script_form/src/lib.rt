@@ -1,5 +1,12 @@
 //! The form of a script.
 //!
+//! ```text
+//! let script = Script::read(alloc, b"{\"nodes\":[\"n1\"],\"shards\":1,\"steps\":[]}")?;
+//! for step in script.steps() {
+//!     make(script.names(), step);
+//! }
+//! ```
+//!
 //! A script is JSON that names the servers of a cluster and says step by step what is done in it. [`Script::read`] reads just
 //! those bytes that are one, and tells of all others the first cause for which they are none.
 //!

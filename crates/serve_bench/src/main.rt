@@ -2,6 +2,10 @@
 //! subscribers, each with a connection and a thread of its own, and tells in one line of JSON how fast messages came
 //! and which of them were lost, doubled or out of order.
 //!
+//! ```text
+//! serve_bench one-to-eight --port 4222
+//! ```
+//!
 //! In reading order: `command` and `given` are what is asked for, and `plan` the cases; `connection` is a client's, which reads (`window`,
 //! `frames`) and writes (`batch`). In `flowing` go messages from each `publisher` to each `receiver`, who wait for one another (`meeting`,
 //! `holding`, `progress`) and count (`tally`); in `trips` requests and replies. `figures` tells what came of it.

@@ -240,6 +240,7 @@ pub record IsRefused (old : State) (event : Event) (why : ShardFault) (new : Sta
   pub cause : shard_refusal old event ≡ Some why
   pub same : new ≡ old
 
+-- a step is one of the two
 abbrev pub IsStep : State → Event → Result Answer ShardFault → State → Type 0
 IsStep old event (Ok answer) new = IsDone old event answer new
 IsStep old event (Err why) new = IsRefused old event why new

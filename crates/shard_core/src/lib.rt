@@ -1,6 +1,14 @@
 //! One shard of a server: its connections with what waits for them, its open subscriptions, and the job
 //! that it works off.
 //!
+//! ```text
+//! let mut shard: Shard<ListTable> = Shard::new(alloc, 1, 1)?;
+//! let conn = shard.attach()?;
+//! shard.subscribe(conn, key, sid)?;
+//! let begun = shard.begin(job, false)?;
+//! let entries = shard.take(conn, usize::MAX)?;
+//! ```
+//!
 //! In reading order: `shard` has the calls, `calls` their answers, and `shard/refusals` why they are refused; `connections` keeps the
 //! outboxes, `openings` the open subscriptions; `walk` is what Begin places, `claim` with `members` the choice of one member.
 #![tactic(auto)]

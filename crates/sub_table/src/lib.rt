@@ -1,4 +1,10 @@
 //! The open subscriptions of a shard: what any table of them keeps, and the plain list.
+//!
+//! ```text
+//! let mut table = ListTable::new(alloc)?;
+//! table.add(Subscription { serial: 1, conn, key, sid, delivered: 0, max: None })?;
+//! let found = table.matching(&subject)?;
+//! ```
 #![tactic(auto)]
 
 ghost use Rattle.std.specs.Prelude.{◌≡◌, ◌<◌, ◌+◌, nat_le, [], ◌∷◌, ◌++◌, length, map, filter, position, IfOk, OnOk, OnErr, All};

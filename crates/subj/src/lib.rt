@@ -1,5 +1,11 @@
 //! Names, subjects and matching, and the values that the crates of the router share.
 //!
+//! ```text
+//! let pattern = Pattern::read(alloc, b"orders.*")?;
+//! let subject = Subject::read(alloc, b"orders.new")?;
+//! assert!(rt; pattern.matches(&subject));
+//! ```
+//!
 //! In reading order: `limits` has every limit by its name; `names` and `scans` judge bytes, which `subjects`, `patterns`,
 //! `queue_names`, `sids` and `node_ids` keep; `keys`, `messages`, `identities`, `turns` and `jobs` are what the crates hand to one
 //! another; `servers` is who is in the cluster; `failures` is how a call fails, and `faults` why bytes are no name.

@@ -1,5 +1,12 @@
 //! What a server on threads did, as the hub's run and each shard's, and what holds of every legal run.
 //!
+//! ```text
+//! use thread_law::legal_runs_are_once;
+//!
+//! // A function that calls a law is proved with what the law says.
+//! legal_runs_are_once();
+//! ```
+//!
 //! All is definitions and laws: each law is a function with an empty body.
 #![tactic(auto)]
 

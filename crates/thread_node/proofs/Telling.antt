@@ -18,10 +18,10 @@ use Rattle.node_threads.specs.AtHub.{AtHub, Does as HubDoes, Looks, Publishes, R
 use Rattle.node_threads.specs.AtWork.{AtWork, Does, Makes, at_start}
 use Rattle.node_threads.specs.Tapes.{Grows, IsTape, entry_of}
 use Rattle.node_threads.specs.declared.shard_entries.ShardEntry.{ShardEntry}
-use Rattle.node_threads.proofs.Clients.{is_client}
-use Rattle.node_threads.proofs.HubCalls.{same_server}
-use Rattle.node_threads.proofs.Telling.{client_tells, grows_join, refused_same, tape_more}
-use Rattle.node_threads.proofs.Joining.{makes_nothing}
+use Rattle.node_threads.proofs.Shards.Clients.{is_client}
+use Rattle.node_threads.proofs.Hubs.HubCalls.{same_server}
+use Rattle.node_threads.proofs.Shards.Telling.{client_tells, grows_join, refused_same, tape_more}
+use Rattle.node_threads.proofs.Shards.Joining.{makes_nothing}
 use Rattle.thread_node.specs.HubTapes.{IsHubTape, entries_in, hub_entry, of_received}
 use Rattle.thread_node.specs.declared.hub_entries.HubEntry.{HubEntry}
 use Rattle.thread_node.specs.declared.hub_entries.HubEvent.TheVariants as event

@@ -1,5 +1,13 @@
 //! One server on threads: the hub and each shard under a lock of its own. Any thread may make its calls.
 //!
+//! ```text
+//! let node: ThreadNode<ListTable, N> = ThreadNode::start(alloc, parts)?;
+//! let conn = node.attach(rt, 1)?;
+//! node.publish(rt, conn, &said, 0)?;
+//! let turned = node.turn(rt, 1, &Open);
+//! let report = node.finish(rt, alloc, Vec::new(alloc))?;
+//! ```
+//!
 //! In reading order: `parts` is what a server is made of, `locked_hub` and `locked_shard` what stands under its locks, `node` the
 //! server with its locks, `calls` those that take a lock for one call, `pass_calls` those whose caller keeps what it asked (`asking`) and
 //! what it was answered (`passes`), `workers` the threads that work lanes, `finish` the end. What is written down is `keeping` and

@@ -1,6 +1,13 @@
 //! Whether two values that a server is asked with are the same: keys, messages and numbered frames, which own what they hold and so
 //! have no `==` of their own; and lines of clients and of routes.
 //!
+//! ```text
+//! let copy = key.try_clone(alloc)?;
+//! assert!(rt; is_same_key(&key, &copy));
+//! let copy = message.try_clone()?;
+//! assert!(rt; is_same_message(&message, &copy));
+//! ```
+//!
 //! Each function answers true just where its two values are one to every contract. None takes memory.
 //!
 //! In reading order: `keys` and `messages` are compared part by part, and `frames` by these; `lines` is apart.

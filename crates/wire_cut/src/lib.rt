@@ -1,5 +1,13 @@
 //! Cuts a stream of bytes into lines and payloads, and names where the bytes come from and go to.
 //!
+//! ```text
+//! let mut cutter = Cutter::new(alloc, 4_096, 1_048_576);
+//! cutter.feed(b"PING\r\n")?;
+//! if let Some(Piece::Line(line)) = cutter.next()? {
+//!     assert_eq!(rt; line, b"PING".as_slice());
+//! }
+//! ```
+//!
 //! In reading order: `piece` and `faults` are what a cutter gives, `window` is its buffer, and `cutter` cuts. `source` and `sink` are
 //! where bytes come from and go to, in memory (`mem_source`, `mem_sink`) or over `std` (`raw`).
 #![tactic(auto)]

@@ -2,6 +2,10 @@
 //! late, again or never, cuts, restarts and full outboxes. It plays them on a cluster in code and looks at the lists of what was
 //! done with a plain checker.
 //!
+//! ```text
+//! world_drill 2000
+//! ```
+//!
 //! `world_drill` draws few lists and tells what has to come out; `world_drill LISTS` draws so many and tells figures too.
 //!
 //! In reading order: `lists` is the checker, by `tokens` and `bytes_due` of its own. `drill` plays what is drawn (`draw`, `moves`, `asks`,

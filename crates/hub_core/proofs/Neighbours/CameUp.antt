@@ -6,7 +6,7 @@ use Rattle.hub_core.specs.State.{State, Peer, known, changed_at}
 use Rattle.hub_core.specs.Events.{Up, IsUp}
 use Rattle.hub_core.specs.Peers.{snapshot_to}
 use Rattle.hub_core.specs.Steps.{IsMeeting}
-use Rattle.hub_core.specs.Hubs.{Hub, IsKept, IsStep}
+use Rattle.hub_core.specs.Hubs.{Hub, IsKept, DoesStep}
 use Rattle.hub_core.proofs.Neighbours.Changed.{changed_is}
 use Rattle.hub_core.proofs.Steps.Kept.{peer_within, kept_after}
 
@@ -21,7 +21,7 @@ module _ (old : Hub) (q inc : ℕ) (snapshot : Frame) (x base new : Peer) (kept 
   pub met_kept : IsKept (record { server = old.server; state = later })
   met_kept = kept_after old.server old.state (Up q inc) later kept asked (ap (λ (peers : List Peer). record old.state { peers = peers }) peers_are) kept.published kept.changed
 
-  pub met_done : IsStep old (Up q inc) (IsUp snapshot) (record { server = old.server; state = later })
+  pub met_done : DoesStep old (Up q inc) (IsUp snapshot) (record { server = old.server; state = later })
   met_done = record {
     answered = ap IsUp planned;
     after = ap (λ (peers : List Peer). record old { state = record old.state { peers = peers } }) peers_are;

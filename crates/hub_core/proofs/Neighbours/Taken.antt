@@ -8,7 +8,7 @@ use Rattle.hub_core.specs.State.{State, Peer, changed_at}
 use Rattle.hub_core.specs.Events.{TakeFrom, Taken}
 use Rattle.hub_core.specs.Peers.{take_refusal, outbox_of}
 use Rattle.hub_core.specs.declared.faults.HubFault.TheVariants.{NotInCluster}
-use Rattle.hub_core.specs.Hubs.{Hub, IsKept, IsStep}
+use Rattle.hub_core.specs.Hubs.{Hub, IsKept, DoesStep}
 use Rattle.hub_core.proofs.Neighbours.Changed.{changed_is}
 use Rattle.hub_core.proofs.Steps.Kept.{peer_within, kept_after}
 
@@ -26,7 +26,7 @@ module _ (old : Hub) (q count : ℕ) (frames : List Frame) (x new : Peer) (kept 
   pub taken_kept : IsKept (record { server = old.server; state = later })
   taken_kept = kept_after old.server old.state (TakeFrom q count) later kept tt (ap (λ (peers : List Peer). record old.state { peers = peers }) peers_are) kept.published kept.changed
 
-  pub taken_done : (take_refusal old.server q ≡ None) × IsStep old (TakeFrom q count) (Taken frames) (record { server = old.server; state = later })
+  pub taken_done : (take_refusal old.server q ≡ None) × DoesStep old (TakeFrom q count) (Taken frames) (record { server = old.server; state = later })
   taken_done = (
     no_cause (is_peer old.server q) is,
     record {

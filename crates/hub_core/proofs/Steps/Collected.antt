@@ -12,7 +12,7 @@ use Rattle.hub_core.specs.State.{State, Peer}
 use Rattle.hub_core.specs.Telling.{is_slow, slow_from, without_slow, count_of_changes, changes_of, collect_refusal, collect_frames, collected}
 use Rattle.hub_core.specs.Events.{Collect, Collected}
 use Rattle.hub_core.specs.Calls.{HasRoomFor, AreCounted, told_out}
-use Rattle.hub_core.specs.Hubs.{Hub, IsKept, IsStep}
+use Rattle.hub_core.specs.Hubs.{Hub, IsKept, DoesStep}
 use Rattle.hub_core.proofs.Steps.Kept.{kept_after}
 use Rattle.hub_core.proofs.Neighbours.Known.{map_length}
 use Rattle.hub_core.proofs.Neighbours.Puts.{nothing_put}
@@ -90,7 +90,7 @@ module _ (hub : Hub) (kept : IsKept hub) where
     peers = (nothing_put hub.server 0 (map (without_slow 0) hub.state.peers) ∙ all_stay hub.state.peers room) i;
   }
 
-  pub nothing_told : (shard : ℕ) → IsStep hub (Collect shard []) (Collected [] (collect_frames hub.server hub.state []) []) hub
+  pub nothing_told : (shard : ℕ) → DoesStep hub (Collect shard []) (Collected [] (collect_frames hub.server hub.state []) []) hub
   nothing_told shard = record {
     answered = ap (λ cut. Collected [] [] cut) (sym (none_slow 0 hub.state.peers room));
     after = λ i. record hub { state = sym same i };

@@ -7,7 +7,7 @@ ghost use Rattle.shard_core.specs.Shards.{waits_for};
 ghost use Rattle.node_law.specs.Steps.{event_refusal};
 ghost use Rattle.node_parts.specs.Lines.{LineTakesBytes};
 
-use super::Line;
+use super::{Line, shard_answer};
 use node_law::NodeFault;
 use sub_table::SubTable;
 use subj::{ConnId, Failure};
@@ -29,10 +29,6 @@ impl<T: SubTable> Line<T> {
     ) -> Result<usize, Failure<NodeFault>>
         ensures { IsAnswered (event_refusal self.old (Some (Take conn count))) (λ taken. LineTakesBytes self.old conn count taken out.old.items out.new.items self.new) ((self.new ≡ self.old) × (out.new.items ≡ out.old.items)) result }
     {
-        match self.shard.take_bytes(conn, count, out) {
-            Ok(taken) => Ok(taken),
-            Err(Failure::Refused(fault)) => Err(Failure::Refused(NodeFault::Shard(fault))),
-            Err(Failure::OutOfMemory) => Err(Failure::OutOfMemory),
-        }
+        shard_answer(self.shard.take_bytes(conn, count, out))
     }
 }

@@ -13,7 +13,8 @@ use Rattle.route_values.specs.declared.frames.RouteFrame.{RouteFrame}
 use Rattle.route_values.specs.Snapshots.{line_end}
 use Rattle.route_values.specs.Valid.{IsRouteFrame, AreRouteFrames}
 use Rattle.route_frames.specs.Decoding.{frame_meaning, size_meaning}
-use Rattle.route_frames.specs.Canonical.{canonical_line, canonical_payload, payload_bytes, frame_bytes}
+use Rattle.line_fields.specs.LineEnd.{payload_bytes}
+use Rattle.route_frames.specs.Canonical.{canonical_line, canonical_payload, frame_bytes}
 use Rattle.route_frames.specs.Laws.{IsAnnouncedAgain, IsReadAgain, IsCutAgain, IsShort, ArePayloads, IsPayloadCutAgain}
 use Rattle.route_frames.specs.InStream.{RouteItem, came, Awaited, a_line, payload_of, frame_told, line_told, route_grammar, AreReadInAnyParts}
 

@@ -7,7 +7,8 @@ use Rattle.route_values.specs.declared.frames.RouteFrame.{RouteFrame}
 use Rattle.route_values.specs.Snapshots.{line_end}
 use Rattle.route_frames.specs.Meaning.{Meaning}
 use Rattle.route_frames.specs.Decoding.{size_meaning, frame_meaning}
-use Rattle.route_frames.specs.Canonical.{canonical_line, canonical_payload, payload_bytes, frame_bytes}
+use Rattle.line_fields.specs.LineEnd.{payload_bytes}
+use Rattle.route_frames.specs.Canonical.{canonical_line, canonical_payload, frame_bytes}
 use Rattle.route_frames.specs.Laws.{BeginsNoOther}
 use Rattle.route_frames.proofs.Cuts.Behind.{drop_front}
 use Rattle.route_frames.proofs.Cuts.Spaces.{take_front}

@@ -1,4 +1,4 @@
-use Rattle.node_threads.proofs.Parts.{sides_are_parts}
+use Rattle.node_threads.proofs.Hubs.Parts.{sides_are_parts}
 use Rattle.node_threads.proofs.laws.sides_are_parts.Goals as goal
 
 pub returns : goal.returns

@@ -2,7 +2,7 @@ use Rattle.std.proofs.Common.{◌≡◌, ℕ, List, [], length, None, sym, ◌�
 use Rattle.list_laws.proofs.Tests.{eq_true}
 use Rattle.interest.specs.declared.changes.Change.{Change}
 use Rattle.interest.specs.declared.changes.Delta.{Delta}
-use Rattle.hub_core.specs.Hubs.{Hub, shown, IsStep}
+use Rattle.hub_core.specs.Hubs.{Hub, shown, DoesStep}
 use Rattle.hub_core.specs.Events.{Collect, Collected}
 use Rattle.hub_core.specs.Telling.{collect_refusal, collect_frames}
 use Rattle.hub_core.proofs.Steps.Collected.{nothing_refused, nothing_told}
@@ -16,7 +16,7 @@ returns-then-is_empty c = λ shard.
     let deltas = c.args.deltas.now in
     let none : deltas ≡ [] = no_items deltas (eq_true (length deltas) 0 (sym c.is_empty.ensures ∙ c.if-is_empty.true)) in
     let Tells : Hub → List Delta → List Change → List ℕ → Type 0 = λ hub deltas changes cut.
-    (collect_refusal hub.state deltas ≡ None) × IsStep hub (Collect shard deltas) (Collected changes (collect_frames hub.server hub.state deltas) cut) hub in
+    (collect_refusal hub.state deltas ≡ None) × DoesStep hub (Collect shard deltas) (Collected changes (collect_frames hub.server hub.state deltas) cut) hub in
     let told : Tells old [] [] [] = (nothing_refused old c.self.invariant, nothing_told old c.self.invariant shard) in
     let here : Tells c.args.self.now [] [] [] = subst (λ (hub : Hub). Tells hub [] [] []) c.self.view_is told in
     let counted : Tells c.args.self.now deltas [] [] = subst (λ (ds : List Delta). Tells c.args.self.now ds [] []) (sym none) here in

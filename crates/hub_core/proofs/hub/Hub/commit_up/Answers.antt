@@ -3,7 +3,7 @@ use Rattle.std.specs.Prelude.{slice_set}
 use Rattle.hub_core.specs.Events.{Up, IsUp}
 use Rattle.hub_core.specs.Peers.{snapshot_to}
 use Rattle.hub_core.specs.Steps.{IsMeeting}
-use Rattle.hub_core.specs.Hubs.{Hub, IsStep, shown}
+use Rattle.hub_core.specs.Hubs.{Hub, DoesStep, shown}
 use Rattle.hub_core.proofs.Neighbours.CameUp.{met_kept, met_done}
 use Rattle.hub_core.proofs.hub.Hub.commit_up.Goals as goal
 
@@ -21,6 +21,6 @@ returns c =
     let old = shown i.server i.issued i.published i.changed i.counts i.peers.items in
     let asked : IsMeeting old.server old.state c.args.place c.args.inc = subst (λ (h : Hub). IsMeeting h.server h.state c.args.place c.args.inc) (sym c.self.view_is) c.requires.meeting in
     let planned : c.args.snapshot ≡ snapshot_to old.server old.state c.args.place c.args.inc = subst (λ (h : Hub). c.args.snapshot ≡ snapshot_to h.server h.state c.args.place c.args.inc) (sym c.self.view_is) c.requires.planned in
-    subst (λ (h : Hub). IsStep h (Up c.args.place c.args.inc) (IsUp c.args.snapshot) (shown i.server i.issued i.published i.changed i.counts (slice_set i.peers.items c.args.place c.meet.new.self)))
+    subst (λ (h : Hub). DoesStep h (Up c.args.place c.args.inc) (IsUp c.args.snapshot) (shown i.server i.issued i.published i.changed i.counts (slice_set i.peers.items c.args.place c.meet.new.self)))
     c.self.view_is
     (met_done old c.args.place c.args.inc c.args.snapshot c.index_mut-peer.result.now c.know.new.self c.meet.new.self c.self.invariant asked planned c.index_mut-peer.ensures.value c.know.ensures c.meet.ensures)

@@ -3,7 +3,7 @@ use Rattle.std.specs.Prelude.{slice_set}
 use Rattle.subj.specs.Servers.{is_peer}
 use Rattle.hub_core.specs.Events.{TakeFrom, Taken}
 use Rattle.hub_core.specs.Peers.{take_refusal}
-use Rattle.hub_core.specs.Hubs.{Hub, IsStep, shown}
+use Rattle.hub_core.specs.Hubs.{Hub, DoesStep, shown}
 use Rattle.hub_core.proofs.Neighbours.Taken.{taken_kept, taken_done}
 use Rattle.hub_core.proofs.hub.Hub.take_route.Goals as goal
 
@@ -19,6 +19,6 @@ returns c =
     let i = c.self.inside in
     let old = shown i.server i.issued i.published i.changed i.counts i.peers.items in
     let is : is_peer old.server c.args.place ≡ true = sym c.is_peer.ensures.same ∙ c.if-not-is_peer.false in
-    subst (λ (h : Hub). (take_refusal h.server c.args.place ≡ None) × IsStep h (TakeFrom c.args.place c.args.count) (Taken c.in_ok-frames.frames.items) (shown i.server i.issued i.published i.changed i.counts (slice_set i.peers.items c.args.place c.take.new.self)))
+    subst (λ (h : Hub). (take_refusal h.server c.args.place ≡ None) × DoesStep h (TakeFrom c.args.place c.args.count) (Taken c.in_ok-frames.frames.items) (shown i.server i.issued i.published i.changed i.counts (slice_set i.peers.items c.args.place c.take.new.self)))
     c.self.view_is
     (taken_done old c.args.place c.args.count c.in_ok-frames.frames.items c.index_mut-peer.result.now c.take.new.self c.self.invariant is c.index_mut-peer.ensures.value c.in_ok-frames.ensures.frames c.in_ok-frames.ensures.ok)

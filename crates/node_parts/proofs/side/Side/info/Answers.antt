@@ -60,7 +60,7 @@ returns c =
     let here = side_of old.hub old.sessions in
     let e = of_session.OnInfo c.args.session x (seen_name here x.server_name) in
     let free' : calls.refusal old.sessions e ≡ None = subst (λ n. calls.refusal old.sessions (of_session.OnInfo c.args.session x n) ≡ None) least_is free in
-    let step = subst (λ n. calls.IsStep old.sessions (of_session.OnInfo c.args.session x n) (of_session.KeptAfterInfo c.in-Ok-on_info.done.0.instead_of c.in-Ok-on_info.done.1) c.on_info.new.self) least_is c.in-Ok-on_info.ensures.1 in
+    let step = subst (λ n. calls.DoesStep old.sessions (of_session.OnInfo c.args.session x n) (of_session.KeptAfterInfo c.in-Ok-on_info.done.0.instead_of c.in-Ok-on_info.done.1) c.on_info.new.self) least_is c.in-Ok-on_info.ensures.1 in
     let done = greeted old.hub c.commit_up.new.self old.sessions c.on_info.new.self e (of_session.KeptAfterInfo c.in-Ok-on_info.done.0.instead_of c.in-Ok-on_info.done.1) q x.inc same refl (ap (λ k. up old.hub.server old.hub.state k x.inc) (peer_is old.hub.server x.server_name q is).same) free' step up_is in
     let new = side_of c.commit_up.new.self c.on_info.new.self in
     subst (λ (s : Side). (session_refusal s.server s.sessions (of_session.OnInfo c.args.session x (seen_name s x.server_name)) ≡ None) × IsDone s (BySessions (of_session.OnInfo c.args.session x (seen_name s x.server_name))) (OfSessions (of_session.KeptAfterInfo c.in-Ok-on_info.done.0.instead_of c.in-Ok-on_info.done.1)) new) c.self.view_is

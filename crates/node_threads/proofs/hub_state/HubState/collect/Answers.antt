@@ -2,7 +2,7 @@ use Rattle.hub_core.specs.Events.{Collect, Collected}
 use Rattle.hub_core.specs.Telling.{collect_frames}
 use Rattle.node_threads.specs.AtHub.{hub_at}
 use Rattle.node_parts.specs.Sides.{ByHub, OfHub}
-use Rattle.node_threads.proofs.HubCalls.{at_hub_does, quiet_collect}
+use Rattle.node_threads.proofs.Hubs.HubCalls.{at_hub_does, quiet_collect}
 use Rattle.node_threads.proofs.hub_state.HubState.collect.Goals as goal
 
 pub invariant_of-self-2 : goal.invariant_of-self-2

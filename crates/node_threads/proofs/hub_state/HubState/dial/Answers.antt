@@ -2,7 +2,7 @@ use Rattle.node_threads.specs.AtHub.{hub_at}
 use Rattle.route_session.specs.Events.{Dial, Dialed}
 use Rattle.route_session.specs.Steps.{session_refusal}
 use Rattle.node_parts.specs.Sides.{BySessions, OfSessions}
-use Rattle.node_threads.proofs.HubCalls.{does_call, quiet_sessions}
+use Rattle.node_threads.proofs.Hubs.HubCalls.{does_call, quiet_sessions}
 use Rattle.node_threads.proofs.hub_state.HubState.dial.Goals as goal
 
 pub invariant_of-self : goal.invariant_of-self

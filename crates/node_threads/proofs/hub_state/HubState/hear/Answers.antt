@@ -2,8 +2,8 @@ use Rattle.hub_core.specs.Events.{Receive, Heard}
 use Rattle.hub_core.specs.Receiving.{receive_refusal}
 use Rattle.node_threads.specs.AtHub.{hub_at}
 use Rattle.node_parts.specs.Sides.{ByHub, OfHub}
-use Rattle.node_threads.proofs.HubCalls.{does_call}
-use Rattle.node_threads.proofs.Receiving.{quiet_news}
+use Rattle.node_threads.proofs.Hubs.HubCalls.{does_call}
+use Rattle.node_threads.proofs.Hubs.Receiving.{quiet_news}
 use Rattle.node_threads.proofs.hub_state.HubState.hear.Goals as goal
 
 pub invariant_of-self : goal.invariant_of-self

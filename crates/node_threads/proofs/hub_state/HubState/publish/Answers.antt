@@ -8,7 +8,7 @@ use Rattle.hub_core.specs.Events as of_hub
 use Rattle.hub_core.specs.Publishing.{publish_refusal, own_job, frames_of}
 use Rattle.node_threads.specs.AtHub.{AtHub, hub_at, IsAtHub}
 use Rattle.node_parts.specs.Sides.{Side, ByHub, OfHub}
-use Rattle.node_threads.proofs.Publishing.{may_publish, published_done, has_issued, issues}
+use Rattle.node_threads.proofs.Hubs.Publishing.{may_publish, published_done, has_issued, issues}
 use Rattle.node_threads.proofs.hub_state.HubState.publish.Goals as goal
 
 pub commit_publish-requires : goal.commit_publish-requires

@@ -7,8 +7,8 @@ use Rattle.hub_core.specs.Events as of_hub
 use Rattle.hub_core.specs.Receiving.{receive_refusal}
 use Rattle.node_threads.specs.AtHub.{AtHub, hub_at, IsAtHub, Issues, Looks}
 use Rattle.node_parts.specs.Sides.{Side, ByHub, OfHub, IsDone}
-use Rattle.node_threads.proofs.Publishing.{has_issued, issues}
-use Rattle.node_threads.proofs.Receiving.{has_job, routed_answer, may_route, issued_more}
+use Rattle.node_threads.proofs.Hubs.Publishing.{has_issued, issues}
+use Rattle.node_threads.proofs.Hubs.Receiving.{has_job, routed_answer, may_route, issued_more}
 use Rattle.node_threads.proofs.hub_state.HubState.route.Goals as goal
 
 pub unreachable-requires : goal.unreachable-requires

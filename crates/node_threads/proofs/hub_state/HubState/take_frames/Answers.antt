@@ -2,7 +2,7 @@ use Rattle.node_threads.specs.AtHub.{hub_at}
 use Rattle.hub_core.specs.Events.{TakeFrom, Taken}
 use Rattle.hub_core.specs.Steps.{hub_refusal}
 use Rattle.node_parts.specs.Sides.{ByHub, OfHub}
-use Rattle.node_threads.proofs.HubCalls.{does_call, quiet_take}
+use Rattle.node_threads.proofs.Hubs.HubCalls.{does_call, quiet_take}
 use Rattle.node_threads.proofs.hub_state.HubState.take_frames.Goals as goal
 
 pub invariant_of-self : goal.invariant_of-self

@@ -1,6 +1,6 @@
 use Rattle.std.proofs.Common.{All, subst}
 use Rattle.node_threads.specs.Outlets.{AreFirst, Outlet}
-use Rattle.node_threads.proofs.Outlets.{pushed_first}
+use Rattle.node_threads.proofs.Lanes.Outlets.{pushed_first}
 use Rattle.node_threads.proofs.outlet.Outlet.into_lines.Goals as goal
 
 pub returns : goal.returns

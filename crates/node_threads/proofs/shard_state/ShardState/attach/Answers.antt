@@ -1,7 +1,7 @@
 use Rattle.std.proofs.Common.{refl}
 use Rattle.shard_core.specs.ShardEvents.{Attach, Attached}
 use Rattle.node_threads.specs.AtWork.{seen_as}
-use Rattle.node_threads.proofs.Clients.{client_call}
+use Rattle.node_threads.proofs.Shards.Clients.{client_call}
 use Rattle.node_threads.proofs.shard_state.ShardState.attach.Goals as goal
 
 pub invariant_of-self : goal.invariant_of-self

@@ -5,9 +5,9 @@ use Rattle.shard_core.specs.ShardSteps.{shard_refusal}
 use Rattle.node_threads.specs.AtWork.{IsAtWork, seen_as}
 use Rattle.node_threads.specs.Tapes.{Grows, Tells, begin_entry}
 use Rattle.node_threads.specs.Turns.{HasWorked, MayBegin}
-use Rattle.node_threads.proofs.Joining.{makes_nothing, works_nothing}
-use Rattle.node_threads.proofs.Telling.{tells_nothing, tells_one}
-use Rattle.node_threads.proofs.Working.{begun_at_work, begun_makes, begun_works, handed_back, step_of, waits_for}
+use Rattle.node_threads.proofs.Shards.Joining.{makes_nothing, works_nothing}
+use Rattle.node_threads.proofs.Shards.Telling.{tells_nothing, tells_one}
+use Rattle.node_threads.proofs.Shards.Working.{begun_at_work, begun_makes, begun_works, handed_back, step_of, waits_for}
 use Rattle.node_threads.proofs.shard_state.ShardState.begin_next.Goals as goal
 
 pub invariant_of-self : goal.invariant_of-self

@@ -6,9 +6,9 @@ use Rattle.shard_core.specs.ShardEvents.{Claim}
 use Rattle.shard_core.specs.ShardSteps.{shard_refusal}
 use Rattle.node_threads.specs.Tapes.{Tells}
 use Rattle.node_threads.specs.Turns.{MayClaim, ClaimsOne}
-use Rattle.node_threads.proofs.Claims.{seat_claims, claims_nobody, claims_lost, claims_won, claim_at_work, claim_makes, claim_works}
-use Rattle.node_threads.proofs.Telling.{refused_same, tells_nothing, tells_one}
-use Rattle.node_threads.proofs.Working.{step_of}
+use Rattle.node_threads.proofs.Shards.Claims.{seat_claims, claims_nobody, claims_lost, claims_won, claim_at_work, claim_makes, claim_works}
+use Rattle.node_threads.proofs.Shards.Telling.{refused_same, tells_nothing, tells_one}
+use Rattle.node_threads.proofs.Shards.Working.{step_of}
 use Rattle.node_threads.proofs.shard_state.ShardState.claim.Goals as goal
 
 pub invariant_of-self-in-Ok-None : goal.invariant_of-self-in-Ok-None

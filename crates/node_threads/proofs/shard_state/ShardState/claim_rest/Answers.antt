@@ -1,9 +1,9 @@
 use Rattle.std.proofs.Common.{length, sym, subst}
 use Rattle.node_threads.specs.AtWork.{AtWork, seen_as}
 use Rattle.node_threads.specs.Turns.{IsTrying}
-use Rattle.node_threads.proofs.Joining.{makes_nothing, works_nothing, works_join}
-use Rattle.node_threads.proofs.Telling.{tells_nothing, tells_join}
-use Rattle.node_threads.proofs.Claims.{trying_start, trying_next, trying_all}
+use Rattle.node_threads.proofs.Shards.Joining.{makes_nothing, works_nothing, works_join}
+use Rattle.node_threads.proofs.Shards.Telling.{tells_nothing, tells_join}
+use Rattle.node_threads.proofs.Shards.Claims.{trying_start, trying_next, trying_all}
 use Rattle.node_threads.proofs.shard_state.ShardState.claim_rest.Goals as goal
 
 pub loop-index-init : goal.loop-index-init

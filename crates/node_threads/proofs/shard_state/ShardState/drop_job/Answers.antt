@@ -1,5 +1,5 @@
-use Rattle.node_threads.proofs.Drops.{dropped_join}
-use Rattle.node_threads.proofs.Telling.{tells_join, tells_quiet}
+use Rattle.node_threads.proofs.Shards.Drops.{dropped_join}
+use Rattle.node_threads.proofs.Shards.Telling.{tells_join, tells_quiet}
 use Rattle.node_threads.proofs.shard_state.ShardState.drop_job.Goals as goal
 
 pub returns-clause-drops : goal.returns-clause-drops

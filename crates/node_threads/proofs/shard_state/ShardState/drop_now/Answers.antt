@@ -6,8 +6,8 @@ use Rattle.shard_core.specs.ShardSteps.{shard_after}
 use Rattle.node_threads.specs.AtWork.{AtWork, IsAtWork, seen_as}
 use Rattle.node_threads.specs.Tapes.{Grows, Tells, drop_entry}
 use Rattle.node_threads.specs.Turns.{HasDropped, MayBegin}
-use Rattle.node_threads.proofs.Drops.{dropped_one, dropped_at_work, has_dropped, same_drop, same_job, with_dropped}
-use Rattle.node_threads.proofs.Telling.{dropped_tells, waiting_dropped, waits_alone}
+use Rattle.node_threads.proofs.Shards.Drops.{dropped_one, dropped_at_work, has_dropped, same_drop, same_job, with_dropped}
+use Rattle.node_threads.proofs.Shards.Telling.{dropped_tells, waiting_dropped, waits_alone}
 use Rattle.node_threads.proofs.shard_state.ShardState.drop_now.Goals as goal
 
 pub invariant_of-self : goal.invariant_of-self

@@ -7,9 +7,9 @@ use Rattle.claim_cells.specs.Steps.{finished_one}
 use Rattle.node_threads.specs.AtWork.{IsAtWork, seen_as}
 use Rattle.node_threads.specs.Turns.{HasEnded}
 use Rattle.node_threads.specs.Tapes.{Tells}
-use Rattle.node_threads.proofs.Claims.{end_at_work, end_ends, end_makes}
-use Rattle.node_threads.proofs.Telling.{tells_one}
-use Rattle.node_threads.proofs.Working.{step_of}
+use Rattle.node_threads.proofs.Shards.Claims.{end_at_work, end_ends, end_makes}
+use Rattle.node_threads.proofs.Shards.Telling.{tells_one}
+use Rattle.node_threads.proofs.Shards.Working.{step_of}
 use Rattle.node_threads.proofs.shard_state.ShardState.end.Goals as goal
 
 pub invariant_of-self : goal.invariant_of-self

@@ -1,5 +1,5 @@
 use Rattle.std.proofs.Common.{[]}
-use Rattle.node_threads.proofs.Joining.{makes_join, works_nothing}
+use Rattle.node_threads.proofs.Shards.Joining.{makes_join, works_nothing}
 use Rattle.node_threads.proofs.shard_state.ShardState.has_job.Goals as goal
 
 pub returns-then-has_next-clause-works : goal.returns-then-has_next-clause-works

@@ -1,6 +1,6 @@
 use Rattle.std.proofs.Common.{true, [], subst}
 use Rattle.node_threads.specs.AtWork.{Makes, seen_as}
-use Rattle.node_threads.proofs.Working.{pops}
+use Rattle.node_threads.proofs.Shards.Working.{pops}
 use Rattle.node_threads.proofs.shard_state.ShardState.has_next.Goals as goal
 
 pub returns-clause-makes : goal.returns-clause-makes

@@ -1,7 +1,7 @@
 use Rattle.std.proofs.Common.{true≢false, sym, ap, ◌∙◌}
 use Rattle.shard_core.specs.Held.{Held}
 use Rattle.shard_core.specs.Shards.{new_shard}
-use Rattle.node_threads.proofs.Working.{starts_at_work}
+use Rattle.node_threads.proofs.Shards.Working.{starts_at_work}
 use Rattle.node_threads.proofs.shard_state.ShardState.new.Goals as goal
 
 pub invariant_of-result : goal.invariant_of-result

@@ -2,7 +2,7 @@ use Rattle.std.proofs.Common.{refl}
 use Rattle.shard_core.specs.Answers.{answer_of}
 use Rattle.shard_core.specs.ShardEvents.{Subscribe}
 use Rattle.node_threads.specs.AtWork.{seen_as}
-use Rattle.node_threads.proofs.Clients.{client_call}
+use Rattle.node_threads.proofs.Shards.Clients.{client_call}
 use Rattle.node_threads.proofs.shard_state.ShardState.subscribe.Goals as goal
 
 pub invariant_of-self : goal.invariant_of-self

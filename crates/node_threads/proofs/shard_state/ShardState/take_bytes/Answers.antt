@@ -1,6 +1,6 @@
 use Rattle.std.proofs.Common.{refl}
 use Rattle.node_threads.specs.AtWork.{seen_as}
-use Rattle.node_threads.proofs.Clients.{took_bytes}
+use Rattle.node_threads.proofs.Shards.Clients.{took_bytes}
 use Rattle.node_threads.proofs.shard_state.ShardState.take_bytes.Goals as goal
 
 pub invariant_of-self : goal.invariant_of-self

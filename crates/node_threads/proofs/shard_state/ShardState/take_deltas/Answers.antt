@@ -1,6 +1,6 @@
 use Rattle.std.proofs.Common.{refl}
 use Rattle.node_threads.specs.AtWork.{seen_as}
-use Rattle.node_threads.proofs.Clients.{collected_at_work}
+use Rattle.node_threads.proofs.Shards.Clients.{collected_at_work}
 use Rattle.node_threads.proofs.shard_state.ShardState.take_deltas.Goals as goal
 
 pub invariant_of-self : goal.invariant_of-self

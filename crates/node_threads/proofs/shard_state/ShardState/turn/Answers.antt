@@ -1,5 +1,5 @@
-use Rattle.node_threads.proofs.Joining.{works_join, ended_join}
-use Rattle.node_threads.proofs.Telling.{tells_join, tells_quiet}
+use Rattle.node_threads.proofs.Shards.Joining.{works_join, ended_join}
+use Rattle.node_threads.proofs.Shards.Telling.{tells_join, tells_quiet}
 use Rattle.node_threads.proofs.shard_state.ShardState.turn.Goals as goal
 
 pub returns-then-not-has_job-clause-tells : goal.returns-then-not-has_job-clause-tells

@@ -2,7 +2,7 @@ use Rattle.std.proofs.Common.{refl}
 use Rattle.std.specs.Prelude.{option_to_list}
 use Rattle.shard_core.specs.ShardEvents.{Unsubscribe, Unsubscribed}
 use Rattle.node_threads.specs.AtWork.{seen_as}
-use Rattle.node_threads.proofs.Clients.{client_decided}
+use Rattle.node_threads.proofs.Shards.Clients.{client_decided}
 use Rattle.node_threads.proofs.shard_state.ShardState.unsubscribe.Goals as goal
 
 pub invariant_of-self : goal.invariant_of-self

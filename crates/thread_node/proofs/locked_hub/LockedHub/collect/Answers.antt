@@ -9,7 +9,7 @@ use Rattle.node_threads.specs.AtWork.{AtWork}
 use Rattle.node_threads.specs.Tapes.{Grows, IsTape, entry}
 use Rattle.node_threads.specs.declared.shard_entries.ShardEvent.TheVariants as shard_event
 use Rattle.node_threads.specs.declared.shard_entries.ShardTold.TheVariants as shard_told
-use Rattle.node_threads.proofs.Telling.{refused_same}
+use Rattle.node_threads.proofs.Shards.Telling.{refused_same}
 use Rattle.thread_node.specs.HubTapes.{IsHubTape, hub_entry}
 use Rattle.thread_node.specs.declared.hub_entries.HubEvent.TheVariants as event
 use Rattle.thread_node.specs.declared.hub_entries.HubTold.TheVariants as told

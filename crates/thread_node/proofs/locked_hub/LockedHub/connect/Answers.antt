@@ -2,7 +2,7 @@ use Rattle.std.proofs.Common.{◌≡◌, refl, sym, subst}
 use Rattle.route_session.specs.Events as of_sessions
 use Rattle.route_session.specs.Steps.{session_refusal}
 use Rattle.node_parts.specs.Sides.{BySessions, OfSessions, seen_name}
-use Rattle.node_threads.proofs.Telling.{refused_same}
+use Rattle.node_threads.proofs.Shards.Telling.{refused_same}
 use Rattle.thread_node.specs.HubTapes.{IsHubTape}
 use Rattle.thread_node.specs.declared.hub_entries.HubEvent.TheVariants as event
 use Rattle.thread_node.proofs.Telling.{hub_does}

@@ -3,7 +3,7 @@ use Rattle.hub_core.specs.Events as of_hub
 use Rattle.hub_core.specs.Steps.{hub_refusal}
 use Rattle.node_parts.specs.Sides.{ByHub, OfHub}
 use Rattle.node_threads.specs.Tapes.{Grows}
-use Rattle.node_threads.proofs.Telling.{refused_same}
+use Rattle.node_threads.proofs.Shards.Telling.{refused_same}
 use Rattle.thread_node.specs.HubTapes.{IsHubTape, hub_entry}
 use Rattle.thread_node.specs.declared.hub_entries.HubEvent.TheVariants as event
 use Rattle.thread_node.specs.declared.hub_entries.HubTold.TheVariants as told

@@ -1,4 +1,4 @@
-use Rattle.node_threads.proofs.Telling.{tape_more}
+use Rattle.node_threads.proofs.Shards.Telling.{tape_more}
 use Rattle.thread_node.proofs.locked_shard.LockedShard.drop_job.Goals as goal
 
 pub invariant_of-self : goal.invariant_of-self

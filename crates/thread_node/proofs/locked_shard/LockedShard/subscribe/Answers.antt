@@ -4,7 +4,7 @@ use Rattle.shard_core.specs.ShardEvents as of_shard
 use Rattle.shard_core.specs.ShardSteps.{shard_refusal}
 use Rattle.node_threads.specs.Tapes.{Grows, IsTape, entry}
 use Rattle.node_threads.specs.declared.shard_entries.ShardEvent.TheVariants as event
-use Rattle.node_threads.proofs.Telling.{refused_same}
+use Rattle.node_threads.proofs.Shards.Telling.{refused_same}
 use Rattle.thread_node.proofs.Telling.{tape_does}
 use Rattle.thread_node.proofs.locked_shard.LockedShard.subscribe.Goals as goal
 

@@ -21,7 +21,7 @@ use Rattle.node_law.specs.Sound.{tried_of}
 use Rattle.node_threads.specs.AtWork.{AtWork, Makes, IsAtWork, HasDone, at_start, one_if, seen_as}
 use Rattle.node_threads.specs.Steps.{Done, Leads}
 use Rattle.node_threads.specs.Turns.{is_work, HasWorked}
-use Rattle.node_threads.proofs.Joining.{makes_join}
+use Rattle.node_threads.proofs.Shards.Joining.{makes_join}
 
 abbrev pub step_of : State → Event → Done
 step_of s e = record { before = s; event = e; answer = shard_answer s e }

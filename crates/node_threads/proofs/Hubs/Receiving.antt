@@ -22,8 +22,8 @@ use Rattle.hub_core.proofs.Steps.Receives.{from_peer}
 use Rattle.hub_core.proofs.Steps.Rooms.{or_none}
 use Rattle.node_parts.specs.Sides.{Side, ByHub, OfHub, job_in}
 use Rattle.node_threads.specs.AtHub.{AtHub, IsAtHub}
-use Rattle.node_threads.proofs.HubCalls.{Quiet}
-use Rattle.node_threads.proofs.Publishing.{MayIssue, shows_room}
+use Rattle.node_threads.proofs.Hubs.HubCalls.{Quiet}
+use Rattle.node_threads.proofs.Hubs.Publishing.{MayIssue, shows_room}
 use Rattle.node_parts.proofs.Receiving.{heard_answer}
 
 -- ---- what is answered

@@ -14,10 +14,10 @@ use Rattle.node_threads.specs.AtWork.{AtWork, Makes, Does, IsAtWork, at_start, s
 use Rattle.node_threads.specs.Steps.{Done}
 use Rattle.node_threads.specs.Tapes.{Grows, Tells, IsTape, drop_entry, entry_of, entries_of}
 use Rattle.node_threads.specs.declared.shard_entries.ShardEntry.{ShardEntry}
-use Rattle.node_threads.proofs.Joining.{makes_join, makes_nothing}
-use Rattle.node_threads.proofs.Clients.{is_client, client_makes, with_state}
-use Rattle.node_threads.proofs.Drops.{IsDropped, dropped_makes, with_dropped}
-use Rattle.node_threads.proofs.Working.{step_of}
+use Rattle.node_threads.proofs.Shards.Joining.{makes_join, makes_nothing}
+use Rattle.node_threads.proofs.Shards.Clients.{is_client, client_makes, with_state}
+use Rattle.node_threads.proofs.Shards.Drops.{IsDropped, dropped_makes, with_dropped}
+use Rattle.node_threads.proofs.Shards.Working.{step_of}
 
 pub grows_not : {E : Type 0} (tape : Option (List E)) → Grows tape [] tape
 grows_not None = tt

@@ -23,7 +23,7 @@ use Rattle.node_law.specs.Sound.{tried_of}
 use Rattle.node_threads.specs.AtWork.{AtWork, Makes, IsAtWork, HasDone, one_if}
 use Rattle.node_threads.specs.Steps.{claimed_in, pair_of}
 use Rattle.node_threads.specs.Turns.{is_work, HasEnded, MayClaim, ClaimsOne, HasTried, IsTrying}
-use Rattle.node_threads.proofs.Working.{step_of, led, done_join}
+use Rattle.node_threads.proofs.Shards.Working.{step_of, led, done_join}
 
 abbrev pub with_both : AtWork → State → ShardPart → AtWork
 with_both w s part = record w { state = s; part = part }

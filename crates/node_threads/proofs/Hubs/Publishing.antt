@@ -23,7 +23,7 @@ use Rattle.hub_core.proofs.Steps.Rooms.{or_none, has_room}
 use Rattle.route_values.specs.Frames.{Frame}
 use Rattle.node_parts.specs.Sides.{Side, Event, ByHub, Answer, OfHub, IsDone, job_in}
 use Rattle.node_threads.specs.AtHub.{AtHub, hub_at, Issues, IsAtHub}
-use Rattle.node_threads.proofs.HubCalls.{done_more, same_server}
+use Rattle.node_threads.proofs.Hubs.HubCalls.{done_more, same_server}
 
 -- ---- loads
 

@@ -15,7 +15,7 @@ use Rattle.shard_core.specs.declared.faults.ShardFault.{ShardFault}
 use Rattle.node_law.specs.Sound.{tried_of}
 use Rattle.node_threads.specs.AtWork.{AtWork, Makes, Does, TakesBytes, IsAtWork, HasDone, at_start, one_if}
 use Rattle.node_threads.specs.Steps.{job_in, claimed_in}
-use Rattle.node_threads.proofs.Joining.{makes_join}
+use Rattle.node_threads.proofs.Shards.Joining.{makes_join}
 
 -- it is one of a client, or hands the deltas over
 abbrev pub is_client : Event → Bool

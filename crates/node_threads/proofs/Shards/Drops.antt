@@ -11,8 +11,8 @@ use Rattle.shard_core.specs.ShardEvents.{DropJob, Dropped}
 use Rattle.shard_core.specs.ShardSteps.{IsHanded, shard_after, shard_answer, done_with}
 use Rattle.node_threads.specs.AtWork.{AtWork, Makes, IsAtWork, HasDone, one_if}
 use Rattle.node_threads.specs.Turns.{HasDropped, MayBegin}
-use Rattle.node_threads.proofs.Joining.{makes_join}
-use Rattle.node_threads.proofs.Working.{step_of, led, done_join}
+use Rattle.node_threads.proofs.Shards.Joining.{makes_join}
+use Rattle.node_threads.proofs.Shards.Working.{step_of, led, done_join}
 
 -- the job that is dropped
 pub record IsDropped (w : AtWork) (job : Job) : Type 0 where

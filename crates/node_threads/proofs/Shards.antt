@@ -1,0 +1,7 @@
+-- What a shard at work does, event by event, and what is kept in writing of it.
+pub mod Joining
+pub mod Clients
+pub mod Working
+pub mod Claims
+pub mod Drops
+pub mod Telling
