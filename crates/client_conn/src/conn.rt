@@ -120,7 +120,10 @@ impl Conn {
         ensures { self.new.asking ≡ answered answer self.old.asking }
     {
         match answer {
-            Ok(()) => self.open_asks.advance(),
+            Ok(()) => {
+                let done = self.open_asks.advance();
+                self.reader.take_back(done);
+            }
             Err(refusal) => self.refuse(refusal),
         }
     }

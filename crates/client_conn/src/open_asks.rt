@@ -45,6 +45,17 @@ fn confirm(confirmation: &mut Option<Ask>, options: Options)
     }
 }
 
+/// The message that it asks to publish, if it does.
+fn message_in(ask: Option<Ask>) -> Option<Message> {
+    match ask {
+        Some(Ask::Publish(said)) => {
+            let Pub { message, .. } = said;
+            Some(message)
+        }
+        _ => None,
+    }
+}
+
 impl OpenAsks {
     /// This alone is asked, of a client that has chosen no options yet.
     pub fn of(ask: Ask) -> OpenAsks
@@ -136,15 +147,15 @@ impl OpenAsks {
         }
     }
 
-    /// The first was answered.
-    pub fn advance(&mut self)
+    /// The first was answered. Gives its message, where it was a publication.
+    pub fn advance(&mut self) -> Option<Message>
         ensures { self.new ≡ record self.old { asks = drop 1 self.old.asks } }
     {
         if self.confirmation.is_some() {
             self.confirmation = None;
-        } else {
-            self.own = None;
+            return None;
         }
+        message_in(self.own.take())
     }
 
     /// The client is told this in place of the first.

@@ -17,7 +17,7 @@ use bytes::Bytes;
 use client_frames::{Awaited, ClientLine, ErrText, LineFault, PubHead, SharedTexts, decode_line};
 use std::alloc::{AllocError, AllocFailed, Global};
 use std::mem;
-use subj::{CLIENT_LINE, Failure, MAX_PAYLOAD, Message, MessageParts};
+use subj::{CLIENT_LINE, Failure, MAX_PAYLOAD, Message, MessageParts, Subject};
 use wire_cut::{Cutter, FeedFault, FillFault, Piece, Source};
 
 /// Reads the items of a client's stream, each of which asks for something. An item is read only once there is memory
@@ -78,6 +78,17 @@ fn message_with(alloc: Global, awaited: &mut Awaited, payload: Bytes) -> Result<
     }
 }
 
+/// The subject of a message, which is its own where no copy of the message is left, and else a copy.
+fn subject_of(message: Message) -> Option<Subject> {
+    match message.into_parts() {
+        Ok(parts) => {
+            let MessageParts { subject, .. } = parts;
+            Some(subject)
+        }
+        Err(message) => message.subject().try_clone().ok(),
+    }
+}
+
 impl ItemReader {
     /// A reader to which nothing was fed.
     pub fn new(alloc: Global) -> ItemReader
@@ -90,6 +101,18 @@ impl ItemReader {
             texts: SharedTexts::new(alloc),
             awaited: Awaited::Line,
             ended: false,
+        }
+    }
+
+    /// Takes back the message of a publication that was answered, if it was one: the next is on its subject most often.
+    pub fn take_back(&mut self, message: Option<Message>)
+        ensures { self.new ≡ self.old }
+    {
+        let Some(message) = message else {
+            return;
+        };
+        if let Some(subject) = subject_of(message) {
+            self.texts.keep(subject);
         }
     }
 

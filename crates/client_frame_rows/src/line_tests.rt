@@ -2,8 +2,8 @@
 
 use bytes::Bytes;
 use client_frames::{
-    ClientLine, Delivery, ErrText, InfoData, LineFault, MessageLines, ReplyFrame, ServerFrame,
-    SharedTexts, decode_line, encode, info_text, message_line, reply_line,
+    ClientLine, Delivery, ErrText, InfoData, LineFault, MessageLines, PubHead, ReplyFrame,
+    ServerFrame, SharedTexts, decode_line, encode, info_text, message_line, reply_line,
 };
 use std::alloc::{AllocError, Global};
 use std::test::Fail;
@@ -39,10 +39,13 @@ fn told_behind(texts: &mut SharedTexts, alloc: Global, line: &[u8]) -> Result<Ve
                 Some(reply) => reply.bytes(),
             };
             let size = head.size.to_string(alloc)?;
-            joined(
+            let told = joined(
                 alloc,
                 &[b"pub", head.subject.bytes(), reply, size.as_bytes()],
-            )
+            )?;
+            let PubHead { subject, .. } = head;
+            texts.keep(subject);
+            Ok(told)
         }
         Ok(ClientLine::PubBad { size }) => {
             let size = size.to_string(alloc)?;

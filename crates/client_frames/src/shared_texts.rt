@@ -17,7 +17,8 @@ const BLOCK: usize = 2_048;
 /// Copies texts, such as the subjects and the payloads of publications. Small ones share blocks of memory, each of
 /// which is given back with the last text in it, so that most of them take none of their own.
 ///
-/// A client mostly publishes on the subject that it has just published on, which is judged and copied once.
+/// A client mostly publishes on the subject that it has just published on: one that is handed back with [`SharedTexts::keep`] is
+/// neither judged nor copied again.
 ///
 /// Nothing is seen of it but what it copies.
 #[derive(Drop)]
@@ -69,22 +70,25 @@ impl SharedTexts {
         }
     }
 
-    /// A copy of bytes, where they are a subject. The one that was copied last by this call is neither judged nor copied
-    /// again. Want of memory comes only where they are one.
+    /// The text of a subject that is done with is the next one's most often.
+    pub fn keep(&mut self, subject: Subject) {
+        self.last_subject = Some(subject);
+    }
+
+    /// A copy of bytes, where they are a subject; the one that is kept, where they are its own. Want of memory comes only
+    /// where they are one.
     pub(crate) fn subject(&mut self, text: &[u8]) -> Result<Option<Subject>, AllocError>
         ensures ok { IfOk result (λ subject. subject ≡ (if is_some (subject_fault text.now) then None else Some text.now)) }
         ensures err { OnErr result (subject_fault text.now ≡ None) }
     {
-        if let Some(last) = &self.last_subject {
+        if let Some(last) = self.last_subject.take() {
             if last.bytes() == text {
-                return Ok(Some(last.try_clone()?));
+                return Ok(Some(last));
             }
         }
         if Subject::fault(text).is_some() {
             return Ok(None);
         }
-        let subject = self.new_subject(text)?;
-        self.last_subject = Some(subject.try_clone()?);
-        Ok(Some(subject))
+        Ok(Some(self.new_subject(text)?))
     }
 }

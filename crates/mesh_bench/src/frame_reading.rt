@@ -1,7 +1,7 @@
 //! Reading a stream of frames.
 
 use crate::faults::invalid;
-use client_frames::{ClientLine, SharedTexts, decode_line};
+use client_frames::{ClientLine, PubHead, SharedTexts, decode_line};
 use memchr::memchr_iter;
 use std::alloc::Global;
 use std::io;
@@ -18,7 +18,11 @@ pub struct Read {
 /// How many bytes of a payload follow the line.
 fn size_behind(texts: &mut SharedTexts, line: &[u8]) -> io::Result<Option<u64>> {
     match decode_line(texts, line) {
-        Ok(ClientLine::Pub(head)) => Ok(Some(head.size)),
+        Ok(ClientLine::Pub(head)) => {
+            let PubHead { subject, size, .. } = head;
+            texts.keep(subject);
+            Ok(Some(size))
+        }
         Ok(_) => Ok(None),
         Err(_) => Err(invalid()),
     }

@@ -9,7 +9,7 @@ ghost use Rattle.shard_core.specs.Shards.{is_known, is_open};
 ghost use Rattle.mesh_pipe.specs.PipeText.{pipe_info, at_first, at_rest};
 ghost use Rattle.mesh_pipe.specs.PipeServing.{refusal_of as refused, line_in, shard_in, waiting_in, all_entries, waiting_bytes, placing_refused, pipe_server, IsServing, Steps, IsPublished, IsOpened, AreFree, HasBegun, HasClaimed, HasEnded, HasClaimedAll, HasWorkedOff, queues_in, first_queues};
 
-use claim_cells::CellsRace;
+use claim_race::PlainRace;
 use client_conn::Refusal;
 use client_frames::{ErrText, InfoData, ReplyFrame};
 use client_refusals::{refusal_of_hub, refusal_of_shard};
@@ -19,8 +19,8 @@ use std::alloc::{AllocError, Global};
 use sub_trie::TrieTable;
 use subj::{ConnId, Failure, Incarnation, Key, NodeId, Pub, Server, Sid};
 
-/// A server over the trie and the cells.
-pub type PipeNode = Node<TrieTable, CellsRace>;
+/// A server over the trie, with a race for one thread.
+pub type PipeNode = Node<TrieTable, PlainRace>;
 
 /// The number of its shard.
 const SHARD: u64 = 1;

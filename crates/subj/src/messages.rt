@@ -107,6 +107,18 @@ impl Message {
         &self.shared.payload
     }
 
+    /// What it is made of, where no copy of it is left; else it comes back. Takes no memory.
+    pub fn into_parts(self) -> Result<MessageParts, Message>
+        ensures ok { IfOk result (λ parts. parts ≡ self) }
+        ensures err { IfErr result (λ message. message ≡ self) }
+    {
+        let Message { shared } = self;
+        match Arc::try_unwrap(shared) {
+            Ok(parts) => Ok(parts),
+            Err(shared) => Err(Message { shared }),
+        }
+    }
+
     /// A copy that shares all bytes.
     pub fn try_clone(&self) -> Result<Message, AllocError>
         ensures { IfOk result (λ message. message ≡ self.now) }
