@@ -22,8 +22,8 @@ abbrev pub wins_in : List ShardPart → List Win
 wins_in [] = []
 wins_in (p ∷ parts) = wins_of p ++ wins_in parts
 
-abbrev pub shown : {S : Type 0} → Me S View → RaceState
-shown m = record { issued = (hub_of m).issued; finished = finished_in m.0.shards; next = next_in m.0.shards; won = wins_in m.0.shards }
+abbrev pub race_of_seat : {S : Type 0} → Me S View → RaceState
+race_of_seat m = record { issued = (hub_of m).issued; finished = finished_in m.0.shards; next = next_in m.0.shards; won = wins_in m.0.shards }
 
 -- the seat has all parts
 abbrev pub IsWhole : {S : Type 0} → Me S View → Type 0

@@ -46,11 +46,11 @@ abbrev pub first_of_view : View → View
 first_of_view v = record { hub = None; shards = first_parts v.shards; at = 0; count = v.count }
 
 -- two seats are joined: the first takes in the shards' parts of the second, which is spent
-abbrev pub joined : View → View → View
-joined v w = record { hub = v.hub; shards = v.shards ++ w.shards; at = 0; count = v.count }
+abbrev pub joined_view : View → View → View
+joined_view v w = record { hub = v.hub; shards = v.shards ++ w.shards; at = 0; count = v.count }
 
-abbrev pub spent : View
-spent = record { hub = None; shards = []; at = 0; count = 0 }
+abbrev pub spent_view : View
+spent_view = record { hub = None; shards = []; at = 0; count = 0 }
 
 -- the pairs of a list are of turns issued and up to the one behind the finished turn, in which they stand below the next index
 abbrev pub InTurn : ℕ → ℕ → ShardPart → List (ℕ × ℕ) → Type 0

@@ -7,15 +7,15 @@ use Rattle.claim_cells.specs.declared.parts.View.{View}
 use Rattle.claim_cells.specs.Rule.{At, Has, newcomer, fresh_hub, cell}
 
 -- the hub has loaded a shard's last finished turn
-abbrev pub looked : HubPart → ℕ → ℕ → HubPart
-looked h shard n = record { issued = h.issued; loads = h.loads ++ (shard, n) ∷ [] }
+abbrev pub hub_after_load : HubPart → ℕ → ℕ → HubPart
+hub_after_load h shard n = record { issued = h.issued; loads = h.loads ++ (shard, n) ∷ [] }
 
 abbrev pub issued_one : HubPart → HubPart
 issued_one h = record { issued = h.issued + 1; loads = h.loads }
 
 -- the shard has loaded the last turn issued
-abbrev pub seen : ShardPart → ℕ → ShardPart
-seen p n = record { shard = p.shard; loads = p.loads ++ n ∷ []; finished = p.finished; next = p.next; won = p.won; lost = p.lost }
+abbrev pub part_after_load : ShardPart → ℕ → ShardPart
+part_after_load p n = record { shard = p.shard; loads = p.loads ++ n ∷ []; finished = p.finished; next = p.next; won = p.won; lost = p.lost }
 
 -- the shard has won the index in its turn, or lost it
 abbrev pub won_by : ShardPart → ℕ → ShardPart
@@ -63,7 +63,7 @@ module _ {S : Type 0} where
 
   -- The hub found n as the shard's last finished turn: no lower than before, and what the shard's own part says where the seat has that. The shard acts from then on.
   abbrev pub IsLookedAt : ℕ → ℕ → HubPart → Me S View → ℕ → Me S View → Type 0
-  IsLookedAt limit shard h m n k = (k ≡ (with_hub m.0 (looked h shard n) (shard - 1), m.1)) × (n ≤ limit) × ((f : ℕ) → Has h.loads (shard, f) → f ≤ n)
+  IsLookedAt limit shard h m n k = (k ≡ (with_hub m.0 (hub_after_load h shard n) (shard - 1), m.1)) × (n ≤ limit) × ((f : ℕ) → Has h.loads (shard, f) → f ≤ n)
       × ((i : ℕ) (p : ShardPart) → At m.0.shards i p → p.shard ≡ shard → n ≡ p.finished)
 
   -- One more turn is issued, in which none of the seat's parts has won yet.
@@ -72,7 +72,7 @@ module _ {S : Type 0} where
 
   -- The shard found n as the last turn issued: no lower than before, and what the hub's part says where the seat has that.
   abbrev pub IsSeenAt : ℕ → ShardPart → Me S View → ℕ → Me S View → Type 0
-  IsSeenAt limit p m n k = (k ≡ (with_part m.0 (seen p n), m.1)) × (n ≤ limit) × ((f : ℕ) → Has p.loads f → f ≤ n) × ((h : HubPart) → m.0.hub ≡ Some h → n ≡ h.issued)
+  IsSeenAt limit p m n k = (k ≡ (with_part m.0 (part_after_load p n), m.1)) × (n ≤ limit) × ((f : ℕ) → Has p.loads f → f ≤ n) × ((h : HubPart) → m.0.hub ≡ Some h → n ≡ h.issued)
 
   -- The pair is won, which none of the seat's parts had won; or lost, which one of them had won if the seat has all.
   abbrev pub IsWonAt : ShardPart → ℕ → Me S View → Me S View → Type 0

@@ -3,7 +3,7 @@
 ghost use Rattle.std.specs.Prelude.{◌≡◌, ℕ, ◌+◌, ◌<◌, ◌≤◌, [], true, false, IfOk, IsOk};
 ghost use Rattle.subj.specs.declared.limits.TheConstants.{MAX_COUNTER, MAX_QUEUE_NAMES, MAX_SHARDS, WINDOW};
 ghost use Rattle.claim_cells.specs.Rule.{Has, whole_view, fresh_hub};
-ghost use Rattle.claim_cells.specs.Steps.{seen, won_by, lost_by, finished_one};
+ghost use Rattle.claim_cells.specs.Steps.{part_after_load, won_by, lost_by, finished_one};
 ghost use Rattle.claim_cells.specs.Seats.{HasTurn, last_load};
 ghost use Rattle.claim_cells.specs.Calls.{AllNew, AreLoads, IsIssuedOrBusy, IsLooked, ShowsRoom};
 
@@ -124,10 +124,10 @@ impl Cells {
     /// Loads the last turn issued.
     ///
     /// The seat keeps the load as its last one; it is no lower than those before. Required: the seat is of this race.
-    pub fn seen(&self, seat: &mut ShardSeat) -> Turn
+    pub fn see(&self, seat: &mut ShardSeat) -> Turn
         requires race { seat.old.race ≡ self.now }
         ensures race { seat.new.race ≡ seat.old.race }
-        ensures part { seat.new.part ≡ seen seat.old.part result }
+        ensures part { seat.new.part ≡ part_after_load seat.old.part result }
         ensures last { last_load seat.new.part.loads ≡ result }
         ensures rises { (n : ℕ) → Has seat.old.part.loads n → n ≤ result }
     {

@@ -5,7 +5,7 @@
 //! let (cells, mut hub, mut seats) = Cells::new(alloc, 1)?;
 //! let mut seat = seats.pop().unwrap();
 //! cells.issue(&mut hub)?;
-//! cells.seen(&mut seat);
+//! cells.see(&mut seat);
 //! let won = seat.has_turn() && cells.claim(&mut seat, 0);
 //! ```
 //!
@@ -13,20 +13,20 @@
 //! Which shard wins a pair, that a thread gets on, and one common order of all steps are not said.
 //!
 //! In reading order: `seats` are what the hub and each shard step with, `cells` has the calls, `steps` the steps on single words and
-//! `plays` their rule; `closing` is the end of a race, and `one_seat` the same race for one thread.
+//! `plays` their rule; `closing` is the end of a race, and `cells_race` the same race for one thread.
 #![tactic(auto)]
 
 mod cells;
+mod cells_race;
 mod closing;
-mod one_seat;
 mod parts;
 mod plays;
 mod seats;
 mod steps;
 
 pub use cells::Cells;
+pub use cells_race::CellsRace;
 pub use closing::Closed;
-pub use one_seat::CellsRace;
 pub use parts::{HubPart, ShardPart};
 pub use seats::{HubSeat, ShardSeat};
 pub use subj::{Busy, Finished, Turn};

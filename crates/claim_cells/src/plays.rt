@@ -1,6 +1,6 @@
 //! The rule of the words, and what each kind of step on them tells.
 
-ghost use Rattle.claim_cells.specs.Rule.{Kept, whole_view, rest_of, first_of_view, joined, spent};
+ghost use Rattle.claim_cells.specs.Rule.{Kept, whole_view, rest_of, first_of_view, joined_view, spent_view};
 ghost use Rattle.claim_cells.specs.Steps.{Looks, Issues, Sees, Claims, Finishes};
 ghost use Rattle.subj.specs.declared.limits.TheConstants.{MAX_COUNTER, MAX_QUEUE_NAMES, WINDOW};
 
@@ -64,7 +64,7 @@ impl Split<View> for FirstPart {
 pub(crate) struct Both;
 
 impl Join<View> for Both {
-    ghost both = { joined };
+    ghost both = { joined_view };
 
-    ghost spent = { spent };
+    ghost spent = { spent_view };
 }

@@ -8,7 +8,7 @@ use Rattle.subj.specs.declared.limits.TheConstants.{WINDOW, MAX_QUEUE_NAMES}
 use Rattle.claim_race.specs.declared.plain_race.Progress.{Progress}
 use Rattle.claim_race.specs.declared.plain_race.Claimed.{Claimed}
 use Rattle.claim_race.specs.Race.{winner, IsNew, busy_of, IsInTurn, IsNextIndex, IsIssued, IsClaimed, IsFinished}
-use Rattle.claim_race.specs.PlainRace.{cell, wins_in, finished_in, next_in, is_of_turn, shown, IsTable}
+use Rattle.claim_race.specs.PlainRace.{cell, wins_in, finished_in, next_in, is_of_turn, race_of_table, IsTable}
 use Rattle.claim_race.proofs.Behind.{room}
 use Rattle.claim_race.proofs.Turns.{one_turn, same_index, same_row, place_below}
 use Rattle.claim_race.proofs.Table.{holds, winner_in, told, holds_it, nobody, somebody, unchanged, elsewhere}
@@ -42,7 +42,7 @@ not_above issued finished table is i k =
       | false ↦ λ _. refl
     ] refl
 
-pub issues : (issued : ℕ) (progress : List Progress) (table : List (Option Claimed)) → IsTable issued (finished_in progress) table → IsIssued (shown issued progress table) (issued + 1) (shown (issued + 1) progress table)
+pub issues : (issued : ℕ) (progress : List Progress) (table : List (Option Claimed)) → IsTable issued (finished_in progress) table → IsIssued (race_of_table issued progress table) (issued + 1) (race_of_table (issued + 1) progress table)
 unfolding winner
 issues issued progress table is = record {
   after = refl;
@@ -70,7 +70,7 @@ turned a b c d told_so = grind (arith, nat_tests)
 cases_eq : (a b : ℕ) → (a ≡ b) ⊎ (a ≢ b)
 cases_eq a b = elim (nat_eq a b) as (λ c. nat_eq a b ≡ c → (a ≡ b) ⊎ (a ≢ b)) [ true ↦ λ so. inl (is_it a b so) | false ↦ λ so. inr (λ same. grind (arith, nat_tests)) ] refl
 
-module _ (issued : ℕ) (old : List Progress) (table : List (Option Claimed)) (is : IsTable issued (finished_in old) table) (shard turn index : ℕ) (on_turn : IsInTurn (shown issued old table) shard turn) (next : IsNextIndex (shown issued old table) shard index) where
+module _ (issued : ℕ) (old : List Progress) (table : List (Option Claimed)) (is : IsTable issued (finished_in old) table) (shard turn index : ℕ) (on_turn : IsInTurn (race_of_table issued old table) shard turn) (next : IsNextIndex (race_of_table issued old table) shard index) where
   abbrev here : ℕ
   here = cell turn index
 
@@ -101,7 +101,7 @@ module _ (issued : ℕ) (old : List Progress) (table : List (Option Claimed)) (i
   elsewhere_here j other = elsewhere issued (finished_in old) table is turn index j other
 
   -- a claim where the pair was won
-  pub lost : (new : List Progress) → finished_in new ≡ finished_in old → next_in new ≡ set (next_in old) (shard - 1) (index + 1) → is_of_turn turn held ≡ true → IsClaimed (shown issued old table) shard turn index false (shown issued new table)
+  pub lost : (new : List Progress) → finished_in new ≡ finished_in old → next_in new ≡ set (next_in old) (shard - 1) (index + 1) → is_of_turn turn held ≡ true → IsClaimed (race_of_table issued old table) shard turn index false (race_of_table issued new table)
   unfolding winner
   lost new finished_same next_is told_so = let was = of_turn held refl told_so in record {
     decided = sym (ap is_none (somebody table turn index here was.0 within (λ k below. elsewhere_here k (λ same. absurd (omega arith))) was.1 was.2));
@@ -148,7 +148,7 @@ module _ (issued : ℕ) (old : List Progress) (table : List (Option Claimed)) (i
   ] refl
 
   -- a claim where nobody had won the pair
-  pub won : (new : List Progress) → finished_in new ≡ finished_in old → next_in new ≡ set (next_in old) (shard - 1) (index + 1) → is_of_turn turn held ≡ false → IsClaimed (shown issued old table) shard turn index true (shown issued new written)
+  pub won : (new : List Progress) → finished_in new ≡ finished_in old → next_in new ≡ set (next_in old) (shard - 1) (index + 1) → is_of_turn turn held ≡ false → IsClaimed (race_of_table issued old table) shard turn index true (race_of_table issued new written)
   unfolding winner
   won new finished_same next_is told_so = record {
     decided = sym (ap is_none (nobody table turn index (λ k _. free k (cases_eq k here))));
@@ -192,7 +192,7 @@ finish_table issued finished table k turn is behind = record {
       let old = is.near place below in let old_is : get_or finished place 0 ≡ get_or finished k 0 = ap (λ n. get_or finished n 0) same in omega arith
   near place below (inr other) = let old = is.near place below in let there = get_or-set_other finished k place turn 0 other in omega arith
 
-pub finishes : (issued : ℕ) (old new : List Progress) (table : List (Option Claimed)) (shard turn : ℕ) → finished_in new ≡ set (finished_in old) (shard - 1) turn → next_in new ≡ set (next_in old) (shard - 1) 0 → IsFinished (shown issued old table) shard turn (shown issued new table)
+pub finishes : (issued : ℕ) (old new : List Progress) (table : List (Option Claimed)) (shard turn : ℕ) → finished_in new ≡ set (finished_in old) (shard - 1) turn → next_in new ≡ set (next_in old) (shard - 1) 0 → IsFinished (race_of_table issued old table) shard turn (race_of_table issued new table)
 unfolding winner
 finishes issued old new table shard turn finished_is next_is = record {
   issued = refl;
@@ -207,7 +207,7 @@ same_starts : {A : Type 0} (f : A → ℕ) (n : ℕ) (x : A) → f x ≡ 0 → m
 same_starts f zero x is = refl
 same_starts f (suc n) x is = ap (λ y. y ∷ map f (replicate n x)) is ∙ ap (λ ys. 0 ∷ ys) (same_starts f n x is)
 
-pub begins : (shards issued : ℕ) (progress : List Progress) (table : List (Option Claimed)) (start : Progress) → issued ≡ 0 → progress ≡ replicate shards start → start.finished ≡ 0 → start.next ≡ 0 → wins_in table ≡ [] → IsNew shards (shown issued progress table)
+pub begins : (shards issued : ℕ) (progress : List Progress) (table : List (Option Claimed)) (start : Progress) → issued ≡ 0 → progress ≡ replicate shards start → start.finished ≡ 0 → start.next ≡ 0 → wins_in table ≡ [] → IsNew shards (race_of_table issued progress table)
 begins shards issued progress table start issued_is progress_is finished_is next_is none_won = record {
   issued = issued_is;
   finished = ap finished_in progress_is ∙ same_starts (λ (shard : Progress). shard.finished) shards start finished_is;

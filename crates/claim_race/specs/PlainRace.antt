@@ -22,8 +22,8 @@ finished_in progress = map (λ shard. shard.finished) progress
 abbrev pub next_in : List Progress → List ℕ
 next_in progress = map (λ shard. shard.next) progress
 
-abbrev pub shown : ℕ → List Progress → List (Option Claimed) → RaceState
-shown issued progress table = record { issued = issued; finished = finished_in progress; next = next_in progress; won = wins_in table }
+abbrev pub race_of_table : ℕ → List Progress → List (Option Claimed) → RaceState
+race_of_table issued progress table = record { issued = issued; finished = finished_in progress; next = next_in progress; won = wins_in table }
 
 -- the place holds a claim of the turn
 abbrev pub is_of_turn : ℕ → Option Claimed → Bool

@@ -44,9 +44,9 @@ impl Model for PlainRace {
 
     ghost Value = { RaceState };
 
-    ghost use Rattle.claim_race.specs.PlainRace.{shown, finished_in, IsTable};
+    ghost use Rattle.claim_race.specs.PlainRace.{race_of_table, finished_in, IsTable};
 
-    ghost view = { λ race. shown race.issued race.progress.items race.table.items };
+    ghost view = { λ race. race_of_table race.issued race.progress.items race.table.items };
 
     ghost invariant = { λ race. IsTable race.issued (finished_in race.progress.items) race.table.items };
 }

@@ -15,7 +15,7 @@ use Rattle.client_conn.specs.declared.reader.ItemReader.{ItemReader}
 use Rattle.client_conn.specs.declared.reader.Looked.{Looked}
 use Rattle.client_conn.specs.declared.reader.Looked.TheVariants.{Announced, Told}
 use Rattle.client_conn.specs.Items.{OpenState, first_options, options_behind, item_asks, items_asks, asked_by}
-use Rattle.client_conn.specs.Asks.{Asking, listens, over, asked_before, asking_of, Answer, answered, fed, no_asks}
+use Rattle.client_conn.specs.Asks.{Asking, listens, over, asked_before, asking_of, Answer, asks_after_answer, asks_after_bytes, no_asks}
 use Rattle.client_conn.specs.Feeding.{HasRead, ClosedWhere, AnswersClosed}
 use Rattle.client_conn.specs.Streams.{end_of, reading_at, left_of, asking_at, HasTaken, HasNone, HasFilled, HasLooked}
 use Rattle.client_conn.proofs.Telling.{told_before, fed_standing}
@@ -68,9 +68,9 @@ nothing_asked before stand old new is none empty =
     ∙ ap (items_asks before.options) none.none
 
 pub other_answered : (stand : OpenState) (end : End Awaited) (answer : Answer) → answer ≡ Err Other → not (no_asks stand.asks) ≡ true
-    → asking_at (record stand { asks = [] }) closed ≡ answered answer (asking_at stand end)
-other_answered stand end answer is given = by_standing stand.asks given ∙ ap (λ a. answered a (asking_at stand end)) (sym is) where
-  by_standing : (asks : List Ask) → not (no_asks asks) ≡ true → asking_at (record { asks = []; options = stand.options }) closed ≡ answered (Err Other) (asking_at (record { asks = asks; options = stand.options }) end)
+    → asking_at (record stand { asks = [] }) closed ≡ asks_after_answer answer (asking_at stand end)
+other_answered stand end answer is given = by_standing stand.asks given ∙ ap (λ a. asks_after_answer a (asking_at stand end)) (sym is) where
+  by_standing : (asks : List Ask) → not (no_asks asks) ≡ true → asking_at (record { asks = []; options = stand.options }) closed ≡ asks_after_answer (Err Other) (asking_at (record { asks = asks; options = stand.options }) end)
   by_standing [] given = absurd (cc)
   by_standing (ask ∷ asks) given = refl
 

@@ -13,7 +13,7 @@ use Rattle.wire_cut.proofs.ReadingLemmas.{cuts_alike, reads_by_looks, waits_for_
 use Rattle.client_frames.specs.declared.awaited.Awaited.{Awaited}
 use Rattle.client_frames.specs.declared.awaited.Awaited.TheVariants as awaits
 use Rattle.client_frames.specs.declared.client_line.PubHead.{PubHead}
-use Rattle.client_frames.specs.Lines.{Meaning, Means, line_meaning}
+use Rattle.client_frames.specs.Lines.{Meaning, ClientLineMeans, line_meaning}
 use Rattle.client_frames.specs.declared.client_line.ClientLine.{ClientLine}
 use Rattle.client_frames.specs.declared.client_line.ClientLine.TheVariants.{Connect, Pub, PubBad, Sub, Unsub, Ping, Pong}
 use Rattle.client_frames.specs.declared.err_texts.ErrText.{ErrText}
@@ -234,8 +234,8 @@ line_moved looks s t old mid bytes meaning new step reads due is same means tell
     (subst (λ m. TellsFound looks s t (found_before client_grammar (after_next old.cutter).unread (line_told m)) new) (sym means)
     (subst (λ l. TellsFound looks s t (found_before client_grammar l (line_told meaning)) new) (ap (λ r. r.cutter.unread) same) tells)))
 
-pub means_refused : (meaning : Meaning) (result : Result ClientLine (Failure LineFault)) (failure : Failure LineFault) (fault : LineFault) → result ≡ Err failure → failure ≡ Refused fault → Means meaning result → meaning ≡ Err fault
-means_refused meaning result failure fault is refuses means = subst (λ f. Means meaning (Err f)) refuses (subst (Means meaning) is means)
+pub means_refused : (meaning : Meaning) (result : Result ClientLine (Failure LineFault)) (failure : Failure LineFault) (fault : LineFault) → result ≡ Err failure → failure ≡ Refused fault → ClientLineMeans meaning result → meaning ≡ Err fault
+means_refused meaning result failure fault is refuses means = subst (λ f. ClientLineMeans meaning (Err f)) refuses (subst (ClientLineMeans meaning) is means)
 
 -- a payload is announced that is not too large
 pub announced : (s : OpenState) (r : ItemReader) (cutter : CutterState) (awaited : Awaited) (size : ℕ) → IsBehindLine r → expect_fault r.cutter.fault r.cutter.payload_max size ≡ None → cutter ≡ after_expect r.cutter size

@@ -7,7 +7,7 @@ use Rattle.client_frames.specs.declared.client_line.Options.{Options}
 use Rattle.client_frames.specs.Streams.{StreamItem, client_grammar}
 use Rattle.client_conn.specs.declared.ask.Ask.{Ask}
 use Rattle.client_conn.specs.Items.{OpenState, options_behind, options_after, item_asks, items_asks}
-use Rattle.client_conn.specs.Asks.{Asking, Onward, asked_before, onward_of, asking_of, read_onward, fed}
+use Rattle.client_conn.specs.Asks.{Asking, Onward, asked_before, onward_of, asking_of, read_onward, asks_after_bytes}
 use Rattle.client_conn.specs.Streams.{reading_at, longer, asking_at}
 
 -- ---- items that are put together
@@ -40,20 +40,20 @@ resumed_asks : (o : Options) (end : End Awaited) (bytes : List ℕ) → asking_o
 resumed_asks o (waits awaited unread) bytes = refl
 resumed_asks o closed bytes = refl
 
-pub fed_reading : (o : Options) (awaited : Awaited) (bytes more : List ℕ) → fed more (asking_of o (reading_of client_grammar awaited bytes)) ≡ asking_of o (reading_of client_grammar awaited (bytes ++ more))
+pub fed_reading : (o : Options) (awaited : Awaited) (bytes more : List ℕ) → asks_after_bytes more (asking_of o (reading_of client_grammar awaited bytes)) ≡ asking_of o (reading_of client_grammar awaited (bytes ++ more))
 fed_reading o awaited bytes more =
     let r = reading_of client_grammar awaited bytes in
     ap (asked_before (items_asks o r.items)) (sym (resumed_asks (options_after r.items o) r.end more))
     ∙ sym (told_before o r.items (resumed client_grammar r.end more))
     ∙ ap (asking_of o) (reads_on client_grammar awaited bytes more)
 
-pub fed_behind : (open_asks : List Ask) (s : Asking) (bytes : List ℕ) → fed bytes (asked_before open_asks s) ≡ asked_before open_asks (fed bytes s)
+pub fed_behind : (open_asks : List Ask) (s : Asking) (bytes : List ℕ) → asks_after_bytes bytes (asked_before open_asks s) ≡ asked_before open_asks (asks_after_bytes bytes s)
 fed_behind open_asks s bytes = sym (asked_before_twice open_asks s.asks (read_onward s.onward bytes))
 
-fed_end : (o : Options) (end : End Awaited) (bytes : List ℕ) → fed bytes (asking_of o (reading_at end)) ≡ asking_of o (reading_at (longer bytes end))
+fed_end : (o : Options) (end : End Awaited) (bytes : List ℕ) → asks_after_bytes bytes (asking_of o (reading_at end)) ≡ asking_of o (reading_at (longer bytes end))
 fed_end o (waits awaited unread) bytes = fed_reading o awaited unread bytes
 fed_end o closed bytes = refl
 
 -- a reader that has more bytes
-pub fed_standing : (stand : OpenState) (end : End Awaited) (bytes : List ℕ) → fed bytes (asking_at stand end) ≡ asking_at stand (longer bytes end)
+pub fed_standing : (stand : OpenState) (end : End Awaited) (bytes : List ℕ) → asks_after_bytes bytes (asking_at stand end) ≡ asking_at stand (longer bytes end)
 fed_standing stand end bytes = fed_behind stand.asks (asking_of stand.options (reading_at end)) bytes ∙ ap (asked_before stand.asks) (fed_end stand.options end bytes)

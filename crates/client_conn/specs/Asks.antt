@@ -49,8 +49,8 @@ read_onward (listens options awaited unread) bytes = asking_of options (reading_
 read_onward over bytes = nothing_more
 
 -- more bytes came
-abbrev pub fed : List ℕ → Asking → Asking
-fed bytes s = asked_before s.asks (read_onward s.onward bytes)
+abbrev pub asks_after_bytes : List ℕ → Asking → Asking
+asks_after_bytes bytes s = asked_before s.asks (read_onward s.onward bytes)
 
 -- ---- answers
 
@@ -79,8 +79,8 @@ answered_first answer [] onward = record { asks = []; onward = onward }
 answered_first answer (ask ∷ asks) onward = answered_of answer ask asks onward
 
 -- the first ask was answered
-abbrev pub answered : Answer → Asking → Asking
-answered answer s = answered_first answer s.asks s.onward
+abbrev pub asks_after_answer : Answer → Asking → Asking
+asks_after_answer answer s = answered_first answer s.asks s.onward
 
 -- ---- a connection
 
@@ -101,13 +101,13 @@ abbrev pub is_finished : Asking → Bool
 is_finished s = no_asks s.asks && is_over s.onward
 
 -- all answers, in order
-abbrev pub answered_all : List Answer → Asking → Asking
-answered_all [] s = s
-answered_all (answer ∷ answers) s = answered_all answers (answered answer s)
+abbrev pub asks_after_answers : List Answer → Asking → Asking
+asks_after_answers [] s = s
+asks_after_answers (answer ∷ answers) s = asks_after_answers answers (asks_after_answer answer s)
 
 -- what stands to be asked after these bytes and these answers
 abbrev pub asking : InfoData → List ℕ → List Answer → Asking
-asking info bytes answers = answered_all answers (fed bytes (begun info))
+asking info bytes answers = asks_after_answers answers (asks_after_bytes bytes (begun info))
 
 -- ---- a connection as its callers see it
 

@@ -3,12 +3,12 @@ use Rattle.std.specs.Prelude.{◌≡◌, ℕ, ◌+◌, ◌<◌, ◌≤◌, Bool,
 use Rattle.std.specs.Io.KnownBytes.{Consumes, IsAtEnd}
 use Rattle.client_conn.specs.declared.faults.ReadFault.{ReadFault}
 use Rattle.client_conn.specs.declared.faults.ReadFault.TheVariants.{Closed, Failed, OutOfMemory}
-use Rattle.client_conn.specs.Asks.{Asking, over, fed, is_finished}
+use Rattle.client_conn.specs.Asks.{Asking, over, asks_after_bytes, is_finished}
 
 -- n bytes of the source came, at most as many as asked for, and none only at its end
 pub record HasRead (old new : Asking) (before after : Option (List ℕ)) (asked n : ℕ) : Type 0 where
   pub bytes : List ℕ
-  pub came : new ≡ fed bytes old
+  pub came : new ≡ asks_after_bytes bytes old
   pub count : length bytes ≡ n
   pub bound : n ≤ asked
   pub consumed : Consumes before after bytes

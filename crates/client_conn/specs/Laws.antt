@@ -5,7 +5,7 @@ use Rattle.client_frames.specs.declared.server_frames.ReplyFrame.TheVariants as 
 use Rattle.client_frames.specs.Streams.{stream_commands}
 use Rattle.client_conn.specs.declared.ask.Ask.TheVariants.{Reply}
 use Rattle.client_conn.specs.Items.{first_options, items_asks}
-use Rattle.client_conn.specs.Asks.{Asking, Answer, fed, answered, begun, asking}
+use Rattle.client_conn.specs.Asks.{Asking, Answer, asks_after_bytes, asks_after_answer, begun, asking}
 
 -- what happens to a connection
 pub data Happening : Type 0 where
@@ -13,8 +13,8 @@ pub data Happening : Type 0 where
   an_answer : Answer → Happening
 
 abbrev pub after : Happening → Asking → Asking
-after (more_bytes bytes) s = fed bytes s
-after (an_answer answer) s = answered answer s
+after (more_bytes bytes) s = asks_after_bytes bytes s
+after (an_answer answer) s = asks_after_answer answer s
 
 abbrev pub after_all : List Happening → Asking → Asking
 after_all [] s = s

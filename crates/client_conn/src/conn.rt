@@ -3,7 +3,7 @@
 ghost use Rattle.std.specs.Prelude.{◌≡◌, [], IsTrue, IsSome, IsOkAnd, IfOk, OnOk, OnErr, slice_get, option_copied, Err};
 ghost use Rattle.std.specs.Borrow.{sem};
 ghost use Rattle.std.specs.Io.KnownBytes.{Keeps};
-ghost use Rattle.client_conn.specs.Asks.{begun, fed, answered, is_finished};
+ghost use Rattle.client_conn.specs.Asks.{begun, asks_after_bytes, asks_after_answer, is_finished};
 ghost use Rattle.client_conn.specs.Feeding.{HasRead, CountsRead, AnswersClosed};
 ghost use Rattle.client_conn.specs.Streams.{IsInStep, asking_at, end_of};
 ghost use Rattle.client_conn.specs.Shown.{Stays};
@@ -75,7 +75,7 @@ impl Conn {
     /// Takes the next bytes of the client, of any number. Nothing is kept where nothing is read any more.
     /// Want of memory changes nothing.
     pub fn feed(&mut self, bytes: &[u8]) -> Result<(), AllocError>
-        ensures ok { OnOk result (self.new.asking ≡ fed bytes.now self.old.asking) }
+        ensures ok { OnOk result (self.new.asking ≡ asks_after_bytes bytes.now self.old.asking) }
         ensures given { self.new.given ≡ self.old.given }
         ensures err { OnErr result (self.new ≡ self.old) }
     {
@@ -117,7 +117,7 @@ impl Conn {
     /// any other refusal nothing is asked any more. Takes no memory.
     pub fn answer(&mut self, answer: Result<(), Refusal>)
         requires { IsTrue self.old.given }
-        ensures { self.new.asking ≡ answered answer self.old.asking }
+        ensures { self.new.asking ≡ asks_after_answer answer self.old.asking }
     {
         match answer {
             Ok(()) => {
@@ -131,7 +131,7 @@ impl Conn {
     /// What was asked is refused.
     fn refuse(&mut self, refusal: Refusal)
         requires { IsTrue self.old.given }
-        ensures { self.new.asking ≡ answered (Err refusal) self.old.asking }
+        ensures { self.new.asking ≡ asks_after_answer (Err refusal) self.old.asking }
     {
         match refusal {
             Refusal::Busy => {}

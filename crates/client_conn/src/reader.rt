@@ -280,7 +280,7 @@ impl ItemReader {
     {
         let (size, payload) = match self.cutter.peek() {
             Ok(None) => return Ok(Looked::Waits),
-            Ok(Some(Piece::Payload(payload))) => (payload.len(), self.texts.copied(payload)?),
+            Ok(Some(Piece::Payload(payload))) => (payload.len(), self.texts.copy(payload)?),
             // a line comes only where no payload was announced
             Ok(Some(Piece::Line(_))) => unreachable!(),
             Err(fault) => return Ok(self.end_with(ErrText::of_cut(fault), open_asks)),

@@ -10,7 +10,7 @@ use std::test::Fail;
 use subj::{ConnId, Failure, Incarnation, Message, NodeId, Sid, Subject};
 use wire_cut::CutFault;
 
-fn joined(alloc: Global, words: &[&[u8]]) -> Result<Vec<u8>, AllocError> {
+fn line_of(alloc: Global, words: &[&[u8]]) -> Result<Vec<u8>, AllocError> {
     let mut text = Vec::new(alloc);
     for word in words {
         if !text.is_empty() {
@@ -26,12 +26,16 @@ fn on_or_off(option: bool) -> &'static [u8] {
 }
 
 /// What a line means, in words: a bar stands where there is no reply or queue name.
-fn told(alloc: Global, line: &[u8]) -> Result<Vec<u8>, AllocError> {
-    told_behind(&mut SharedTexts::new(alloc), alloc, line)
+fn meaning(alloc: Global, line: &[u8]) -> Result<Vec<u8>, AllocError> {
+    meaning_behind(&mut SharedTexts::new(alloc), alloc, line)
 }
 
 /// The same of a line behind those whose texts these are.
-fn told_behind(texts: &mut SharedTexts, alloc: Global, line: &[u8]) -> Result<Vec<u8>, AllocError> {
+fn meaning_behind(
+    texts: &mut SharedTexts,
+    alloc: Global,
+    line: &[u8],
+) -> Result<Vec<u8>, AllocError> {
     match decode_line(texts, line) {
         Ok(ClientLine::Pub(head)) => {
             let reply = match &head.reply {
@@ -39,7 +43,7 @@ fn told_behind(texts: &mut SharedTexts, alloc: Global, line: &[u8]) -> Result<Ve
                 Some(reply) => reply.bytes(),
             };
             let size = head.size.to_string(alloc)?;
-            let told = joined(
+            let told = line_of(
                 alloc,
                 &[b"pub", head.subject.bytes(), reply, size.as_bytes()],
             )?;
@@ -49,7 +53,7 @@ fn told_behind(texts: &mut SharedTexts, alloc: Global, line: &[u8]) -> Result<Ve
         }
         Ok(ClientLine::PubBad { size }) => {
             let size = size.to_string(alloc)?;
-            joined(alloc, &[b"bad", size.as_bytes()])
+            line_of(alloc, &[b"bad", size.as_bytes()])
         }
         Ok(
             ClientLine::Sub {
@@ -62,11 +66,11 @@ fn told_behind(texts: &mut SharedTexts, alloc: Global, line: &[u8]) -> Result<Ve
                 None => b"|",
                 Some(name) => name.bytes(),
             };
-            joined(alloc, &[b"sub", pattern.bytes(), queue, sid.bytes()])
+            line_of(alloc, &[b"sub", pattern.bytes(), queue, sid.bytes()])
         }
-        Ok(ClientLine::Ping) => joined(alloc, &[b"ping"]),
-        Ok(ClientLine::Pong) => joined(alloc, &[b"pong"]),
-        Ok(ClientLine::Connect(options)) => joined(
+        Ok(ClientLine::Ping) => line_of(alloc, &[b"ping"]),
+        Ok(ClientLine::Pong) => line_of(alloc, &[b"pong"]),
+        Ok(ClientLine::Connect(options)) => line_of(
             alloc,
             &[
                 b"connect",
@@ -75,15 +79,15 @@ fn told_behind(texts: &mut SharedTexts, alloc: Global, line: &[u8]) -> Result<Ve
             ],
         ),
         Ok(ClientLine::Unsub { sid, max }) => match max {
-            None => joined(alloc, &[b"unsub", sid.bytes()]),
+            None => line_of(alloc, &[b"unsub", sid.bytes()]),
             Some(max) => {
                 let max = max.to_string(alloc)?;
-                joined(alloc, &[b"unsub", sid.bytes(), max.as_bytes()])
+                line_of(alloc, &[b"unsub", sid.bytes(), max.as_bytes()])
             }
         },
         Err(Failure::Refused(fault)) => {
             let number = fault.number().to_string(alloc)?;
-            joined(alloc, &[b"refused", number.as_bytes()])
+            line_of(alloc, &[b"refused", number.as_bytes()])
         }
         Err(Failure::OutOfMemory) => Err(AllocError),
     }
@@ -155,7 +159,7 @@ fn subjects_come_again(rt: HostRuntime) -> Result<(), Fail> {
     let alloc = rt.alloc();
     let mut texts = SharedTexts::new(alloc);
     for (line, want) in &PUBLICATIONS {
-        let got = told_behind(&mut texts, alloc, line)?;
+        let got = meaning_behind(&mut texts, alloc, line)?;
         assert_eq!(rt; got.as_slice(), *want, "{line:?}");
     }
     Ok(())
@@ -203,7 +207,7 @@ static CHOICES: [(&[u8], &[u8]); 20] = [
 #[test]
 fn clients_choose_options(rt: HostRuntime) -> Result<(), Fail> {
     for (line, want) in &CHOICES {
-        let got = told(rt.alloc(), line)?;
+        let got = meaning(rt.alloc(), line)?;
         assert_eq!(rt; got.as_slice(), *want, "{line:?}");
     }
     Ok(())
@@ -247,14 +251,14 @@ static NO_CHOICES: [&[u8]; 30] = [
 #[test]
 fn bad_choices_are_refused(rt: HostRuntime) -> Result<(), Fail> {
     for line in &NO_CHOICES {
-        let got = told(rt.alloc(), line)?;
+        let got = meaning(rt.alloc(), line)?;
         assert_eq!(rt; got.as_slice(), b"refused 22".as_slice(), "{line:?}");
     }
     Ok(())
 }
 
 /// `CONNECT` with an object in which so many lists stand within one another.
-fn nested(alloc: Global, lists: usize) -> Result<Vec<u8>, AllocError> {
+fn nested_lists(alloc: Global, lists: usize) -> Result<Vec<u8>, AllocError> {
     let mut line = Vec::from_slice(alloc, b"CONNECT {\"x\":")?;
     for _ in 0..lists {
         line.push(b'[')?;
@@ -275,8 +279,8 @@ fn options_nest_127_deep(rt: HostRuntime) -> Result<(), Fail> {
         (1_000, b"refused 22"),
     ];
     for (lists, want) in rows {
-        let line = nested(rt.alloc(), lists)?;
-        let got = told(rt.alloc(), &line)?;
+        let line = nested_lists(rt.alloc(), lists)?;
+        let got = meaning(rt.alloc(), &line)?;
         assert_eq!(rt; got.as_slice(), want, "{lists}");
     }
     Ok(())
@@ -285,7 +289,7 @@ fn options_nest_127_deep(rt: HostRuntime) -> Result<(), Fail> {
 #[test]
 fn lines_mean_commands(rt: HostRuntime) -> Result<(), Fail> {
     for (line, want) in &COMMANDS {
-        let got = told(rt.alloc(), line)?;
+        let got = meaning(rt.alloc(), line)?;
         assert_eq!(rt; got.as_slice(), *want, "{line:?}");
     }
     Ok(())
@@ -379,7 +383,7 @@ static REFUSALS: [(&[u8], &[u8]); 74] = [
 #[test]
 fn lines_are_refused(rt: HostRuntime) -> Result<(), Fail> {
     for (line, want) in &REFUSALS {
-        let got = told(rt.alloc(), line)?;
+        let got = meaning(rt.alloc(), line)?;
         assert_eq!(rt; got.as_slice(), *want, "{line:?}");
     }
     Ok(())
@@ -398,8 +402,8 @@ fn names_have_limits(rt: HostRuntime) -> Result<(), Fail> {
         let pattern = vec![in rt.alloc(); b'a'; pattern_len]?;
         let queue = vec![in rt.alloc(); b'q'; queue_len]?;
         let sid = vec![in rt.alloc(); b'1'; sid_len]?;
-        let line = joined(rt.alloc(), &[b"SUB", &pattern, &queue, &sid])?;
-        let got = told(rt.alloc(), &line)?;
+        let line = line_of(rt.alloc(), &[b"SUB", &pattern, &queue, &sid])?;
+        let got = meaning(rt.alloc(), &line)?;
         assert!(rt;
             got.starts_with(want),
             "{pattern_len} {queue_len} {sid_len}"
@@ -520,7 +524,7 @@ fn delivery(message: Message, sid: Sid) -> ServerFrame {
 }
 
 /// What a frame adds behind other bytes.
-fn added(alloc: Global, frame: &ServerFrame) -> Result<Vec<u8>, AllocError> {
+fn addition(alloc: Global, frame: &ServerFrame) -> Result<Vec<u8>, AllocError> {
     let mut out = Vec::from_slice(alloc, b"before ")?;
     encode(frame, &mut out)?;
     Ok(out)
@@ -540,7 +544,7 @@ fn replies_have_bytes(rt: HostRuntime) -> Result<(), Fail> {
     for (reply, line, bytes) in rows {
         let got = reply_line(rt.alloc(), &reply)?;
         assert_eq!(rt; got.as_slice(), line);
-        let got = added(rt.alloc(), &ServerFrame::Reply(reply))?;
+        let got = addition(rt.alloc(), &ServerFrame::Reply(reply))?;
         assert_eq!(rt; got.as_slice(), bytes);
     }
     Ok(())
@@ -548,7 +552,7 @@ fn replies_have_bytes(rt: HostRuntime) -> Result<(), Fail> {
 
 #[test]
 fn info_has_bytes(rt: HostRuntime) -> Result<(), Fail> {
-    let got = added(rt.alloc(), &ServerFrame::Reply(ReplyFrame::Info(info()?)))?;
+    let got = addition(rt.alloc(), &ServerFrame::Reply(ReplyFrame::Info(info()?)))?;
     let want = format!(in rt.alloc(); "before INFO {}\r\n", INFO)?;
     assert_eq!(rt; got.as_slice(), want.as_bytes());
     Ok(())
@@ -576,7 +580,7 @@ fn messages_have_bytes(rt: HostRuntime) -> Result<(), Fail> {
     for (subject, reply, sid, payload, bytes) in rows {
         let message = message(rt.alloc(), subject, reply, payload)?;
         let sid = Sid::read(rt.alloc(), sid)?;
-        let got = added(rt.alloc(), &delivery(message, sid))?;
+        let got = addition(rt.alloc(), &delivery(message, sid))?;
         assert_eq!(rt; got.as_slice(), bytes);
     }
     Ok(())

@@ -9,18 +9,18 @@ use Rattle.client_frames.specs.declared.info.InfoData.{InfoData}
 abbrev pub server_id : InfoData → List ℕ
 server_id info = info.name ++ (codes "-" ++ decimal info.inc)
 
-abbrev pub counted : ℕ → Data
-counted n = number (unsigned n)
+abbrev pub number_data : ℕ → Data
+number_data n = number (unsigned n)
 
 -- NATS documentation, "Client Protocol", "INFO"; the keys stand in the order of their bytes (profile)
 abbrev pub info_data : InfoData → Data
 info_data info = object (
-    member (codes "client_id") (counted info.client_id) (
+    member (codes "client_id") (number_data info.client_id) (
     member (codes "headers") (boolean false) (
     member (codes "host") (string (codes "127.0.0.1")) (
-    member (codes "max_payload") (counted MAX_PAYLOAD) (
-    member (codes "port") (counted info.port) (
-    member (codes "proto") (counted 1) (
+    member (codes "max_payload") (number_data MAX_PAYLOAD) (
+    member (codes "port") (number_data info.port) (
+    member (codes "proto") (number_data 1) (
     member (codes "server_id") (string (server_id info)) (
     member (codes "server_name") (string info.name) (
     member (codes "version") (string (codes "1.0.0")) no_members)))))))))

@@ -136,7 +136,7 @@ takes_memory (Err BadJson) = true
 takes_memory (Err BadSubject) = false
 
 -- a reader answers what a line means, and want of memory only where reading takes any
-abbrev pub Means : Meaning → Result ClientLine (Failure LineFault) → Type 0
-Means meaning (Ok command) = meaning ≡ Ok command
-Means meaning (Err (Refused fault)) = meaning ≡ Err fault
-Means meaning (Err OutOfMemory) = IsTrue (takes_memory meaning)
+abbrev pub ClientLineMeans : Meaning → Result ClientLine (Failure LineFault) → Type 0
+ClientLineMeans meaning (Ok command) = meaning ≡ Ok command
+ClientLineMeans meaning (Err (Refused fault)) = meaning ≡ Err fault
+ClientLineMeans meaning (Err OutOfMemory) = IsTrue (takes_memory meaning)

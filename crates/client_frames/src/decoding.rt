@@ -5,7 +5,7 @@ ghost use Rattle.std.specs.Option.{option_copied};
 ghost use Rattle.subj.specs.Names.{sid_fault};
 ghost use Rattle.line_fields.specs.Fields.{fields};
 ghost use Rattle.client_frames.specs.Arguments.{two_or_three};
-ghost use Rattle.client_frames.specs.Lines.{Means, line_meaning, operation_meaning, connection_of, publication_of, subscription_of, closing_of, maximum_of, reply_fault, queue_fault};
+ghost use Rattle.client_frames.specs.Lines.{ClientLineMeans, line_meaning, operation_meaning, connection_of, publication_of, subscription_of, closing_of, maximum_of, reply_fault, queue_fault};
 
 use crate::arguments::Arguments;
 use crate::choices::read_options;
@@ -31,7 +31,7 @@ const COUNT_DIGITS: usize = 10;
 /// Want of memory comes only for a command that keeps names, and for the JSON of a `CONNECT`, good or
 /// bad. All other tests come before the first allocation. The subjects of publications share the memory of the texts.
 pub fn decode_line(texts: &mut SharedTexts, line: &[u8]) -> Result<ClientLine, Failure<LineFault>>
-    ensures { Means (line_meaning line.now) result }
+    ensures { ClientLineMeans (line_meaning line.now) result }
 {
     let Some((field, text)) = split_line(line) else {
         return Err(Failure::Refused(LineFault::UnknownOp));
@@ -45,7 +45,7 @@ fn decode_behind(
     operation: Option<Operation>,
     text: &[u8],
 ) -> Result<ClientLine, Failure<LineFault>>
-    ensures { Means (operation_meaning operation text.now (fields text.now)) result }
+    ensures { ClientLineMeans (operation_meaning operation text.now (fields text.now)) result }
 {
     match operation {
         None => Err(Failure::Refused(LineFault::UnknownOp)),
@@ -59,7 +59,7 @@ fn decode_behind(
 }
 
 fn decode_connect(alloc: Global, text: &[u8]) -> Result<ClientLine, Failure<LineFault>>
-    ensures { Means (connection_of text.now (fields text.now)) result }
+    ensures { ClientLineMeans (connection_of text.now (fields text.now)) result }
 {
     if split_field(text).is_none() {
         return Err(Failure::Refused(LineFault::BadArgs));
@@ -89,7 +89,7 @@ fn read_reply(texts: &mut SharedTexts, reply: Option<&[u8]>) -> Result<Option<Re
 }
 
 fn decode_pub(texts: &mut SharedTexts, text: &[u8]) -> Result<ClientLine, Failure<LineFault>>
-    ensures { Means (publication_of (two_or_three (fields text.now))) result }
+    ensures { ClientLineMeans (publication_of (two_or_three (fields text.now))) result }
 {
     let Some(arguments) = Arguments::read(text) else {
         return Err(Failure::Refused(LineFault::BadArgs));
@@ -146,7 +146,7 @@ fn read_sid(alloc: Global, text: &[u8]) -> Result<Sid, AllocError>
 }
 
 fn decode_sub(alloc: Global, text: &[u8]) -> Result<ClientLine, Failure<LineFault>>
-    ensures { Means (subscription_of (two_or_three (fields text.now))) result }
+    ensures { ClientLineMeans (subscription_of (two_or_three (fields text.now))) result }
 {
     let Some(arguments) = Arguments::read(text) else {
         return Err(Failure::Refused(LineFault::BadArgs));
@@ -169,7 +169,7 @@ fn decode_sub(alloc: Global, text: &[u8]) -> Result<ClientLine, Failure<LineFaul
 }
 
 fn decode_unsub(alloc: Global, text: &[u8]) -> Result<ClientLine, Failure<LineFault>>
-    ensures { Means (closing_of (fields text.now)) result }
+    ensures { ClientLineMeans (closing_of (fields text.now)) result }
 {
     let Some((sid, behind)) = split_field(text) else {
         return Err(Failure::Refused(LineFault::BadArgs));

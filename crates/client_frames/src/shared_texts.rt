@@ -45,7 +45,7 @@ impl SharedTexts {
     }
 
     /// A copy of the text.
-    pub fn copied(&mut self, text: &[u8]) -> Result<Bytes, AllocError>
+    pub fn copy(&mut self, text: &[u8]) -> Result<Bytes, AllocError>
         ensures { IfOk result (λ copy. copy ≡ text.now) }
     {
         if text.len() > SMALL {
@@ -63,7 +63,7 @@ impl SharedTexts {
         requires { subject_fault text.now ≡ None }
         ensures { IfOk result (λ subject. subject ≡ text.now) }
     {
-        match Subject::from_shared(self.copied(text)?) {
+        match Subject::from_shared(self.copy(text)?) {
             Ok(subject) => Ok(subject),
             // required: the bytes are a subject
             Err(_) => unreachable!(),

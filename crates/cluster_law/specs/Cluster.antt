@@ -4,8 +4,8 @@ use Rattle.list_laws.specs.Lists.{In}
 use Rattle.cluster_law.specs.Rules.{Where}
 use Rattle.cluster_law.specs.Messages.{Frame}
 use Rattle.cluster_law.specs.Config.{Config, Rules}
-use Rattle.cluster_law.specs.History.{Closing, History, Output, nothing, grown}
-use Rattle.cluster_law.specs.Hub.{unheard}
+use Rattle.cluster_law.specs.History.{Closing, History, Output, nothing, history_with}
+use Rattle.cluster_law.specs.Hub.{new_peer}
 use Rattle.cluster_law.specs.Shard.{Subscription, Shard, closings_of}
 use Rattle.cluster_law.specs.Node.{Node, NodeEvent, Publish, Receive, Announce, OnShard, NodeStep}
 
@@ -20,7 +20,7 @@ new_shard = record { finished = 0; hand = None; next = 0; waiting = []; serials 
 
 -- A node just started knows nothing.
 abbrev pub new_node : Config → ℕ → Node
-new_node c inc = record { up = true; inc = inc; hub = record { published = 0; changed = 0; interest = []; peers = replicate c.nodes (unheard 0) }; race = record { issued = 0; won = [] }; shards = replicate c.shards new_shard }
+new_node c inc = record { up = true; inc = inc; hub = record { published = 0; changed = 0; interest = []; peers = replicate c.nodes (new_peer 0) }; race = record { issued = 0; won = [] }; shards = replicate c.shards new_shard }
 
 -- A node that is down.
 abbrev pub no_node : Node
@@ -31,8 +31,8 @@ abbrev pub begin : Config → World
 begin c = record { nodes = replicate c.nodes no_node; step = 0; past = record { started = []; publications = []; sent = []; changes = []; jobs = []; lives = []; closings = []; placements = [] } }
 
 -- Node n becomes b, and what it put out is added to the histories.
-abbrev pub applied : World → ℕ → Node → Output → World
-applied w n b out = record { nodes = set w.nodes n b; step = suc w.step; past = grown w.past out }
+abbrev pub world_with : World → ℕ → Node → Output → World
+world_with w n b out = record { nodes = set w.nodes n b; step = suc w.step; past = history_with w.past out }
 
 pub data Event : Type 0 where
   Start : (node inc : ℕ) → Event
@@ -60,7 +60,7 @@ pub record Stops (w : World) (n : ℕ) (w' : World) : Type 0 where
   pub before : Node
   pub before_is : slice_get w.nodes n ≡ Some before
   pub was_up : before.up ≡ true
-  pub after : w' ≡ applied w n no_node (record nothing { closings = all_closings n before.inc (suc w.step) 0 before.shards })
+  pub after : w' ≡ world_with w n no_node (record nothing { closings = all_closings n before.inc (suc w.step) 0 before.shards })
 
 -- A node that is up makes a step.
 pub record Acts (rules : Rules) (c : Config) (w : World) (n : ℕ) (e : NodeEvent) (w' : World) : Type 0 where
@@ -70,7 +70,7 @@ pub record Acts (rules : Rules) (c : Config) (w : World) (n : ℕ) (e : NodeEven
   pub out : Output
   pub new : Node
   pub steps : NodeStep rules c n (suc w.step) before e out new
-  pub after : w' ≡ applied w n new out
+  pub after : w' ≡ world_with w n new out
 
 -- A frame that was sent is handed to a node, which takes it.
 pub record Hands (rules : Rules) (c : Config) (w : World) (n number : ℕ) (w' : World) : Type 0 where

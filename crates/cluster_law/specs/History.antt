@@ -62,8 +62,8 @@ pub record Output : Type 0 where
 abbrev pub nothing : Output
 nothing = record { publications = []; frames = []; changes = []; jobs = []; lives = []; closings = []; placements = [] }
 
-abbrev pub grown : History → Output → History
-grown past out = record {
+abbrev pub history_with : History → Output → History
+history_with past out = record {
   started = past.started;
   publications = past.publications ++ out.publications;
   sent = past.sent ++ out.frames;

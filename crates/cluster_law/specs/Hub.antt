@@ -21,8 +21,8 @@ pub record Hub : Type 0 where
   pub interest : View
   pub peers : List Peer
 
-abbrev pub unheard : ℕ → Peer
-unheard inc = record { seen = inc; mark = 0; heard = 0; view = [] }
+abbrev pub new_peer : ℕ → Peer
+new_peer inc = record { seen = inc; mark = 0; heard = 0; view = [] }
 
 -- Publish
 
@@ -53,7 +53,7 @@ pub record HubPublishes (rules : Rules) (c : Config) (n : ℕ) (hub : Hub) (p : 
 
 -- What is known of an origin where a frame of incarnation inc is looked at: a greater one than was seen begins anew.
 abbrev pub Known : Rules → Peer → ℕ → Peer → Type 0
-Known rules peer inc base = ((inc ≢ peer.seen) × Where rules.origin (peer.seen < inc) × (base ≡ unheard inc)) ⊎ ((inc ≡ peer.seen) × (base ≡ peer))
+Known rules peer inc base = ((inc ≢ peer.seen) × Where rules.origin (peer.seen < inc) × (base ≡ new_peer inc)) ⊎ ((inc ≡ peer.seen) × (base ≡ peer))
 
 -- A numbered frame is for this node, at this incarnation, and of another node.
 pub record IsForMe (rules : Rules) (n inc to to_inc origin : ℕ) : Type 0 where

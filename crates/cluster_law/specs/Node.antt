@@ -21,8 +21,8 @@ abbrev pub finished_turns : List Shard → List ℕ
 finished_turns shards = map (λ (shard : Shard). shard.finished) shards
 
 -- Each shard's line gets the job, at its end.
-abbrev pub queued : Job → Shard → Shard
-queued job shard = record shard { waiting = shard.waiting ++ job ∷ [] }
+abbrev pub shard_with_job : Job → Shard → Shard
+shard_with_job job shard = record shard { waiting = shard.waiting ++ job ∷ [] }
 
 abbrev pub next_publication : ℕ → ℕ → Node → Content → Publication
 next_publication n now a content = record { id = next_id n a.inc a.hub; content = content; step = now }
@@ -39,7 +39,7 @@ pub record Publishes (rules : Rules) (c : Config) (n now : ℕ) (a : Node) (cont
   pub publishes : HubPublishes rules c n a.hub (next_publication n now a content) names frames hub
   pub issues : Issues rules c.window (finished_turns a.shards) a.race race
   pub out_is : out ≡ record nothing { publications = next_publication n now a content ∷ []; frames = map Message frames; jobs = next_job n a (next_id n a.inc a.hub) content names ∷ [] }
-  pub after : b ≡ record a { hub = hub; race = race; shards = map (queued (next_job n a (next_id n a.inc a.hub) content names)) a.shards }
+  pub after : b ≡ record a { hub = hub; race = race; shards = map (shard_with_job (next_job n a (next_id n a.inc a.hub) content names)) a.shards }
 
 -- A routed message is taken: the same for this node alone, and it is sent to nobody else ("Cluster Protocol": one hop).
 pub record Receives (rules : Rules) (c : Config) (n : ℕ) (a : Node) (m : Routed) (out : Output) (b : Node) : Type 0 where
@@ -48,7 +48,7 @@ pub record Receives (rules : Rules) (c : Config) (n : ℕ) (a : Node) (m : Route
   pub receives : HubReceives rules n a.inc a.hub m hub
   pub issues : Issues rules c.window (finished_turns a.shards) a.race race
   pub out_is : out ≡ record nothing { jobs = next_job n a m.id m.content m.names ∷ [] }
-  pub after : b ≡ record a { hub = hub; race = race; shards = map (queued (next_job n a m.id m.content m.names)) a.shards }
+  pub after : b ≡ record a { hub = hub; race = race; shards = map (shard_with_job (next_job n a m.id m.content m.names)) a.shards }
 
 -- News of interest are taken.
 pub record Hears (rules : Rules) (c : Config) (n : ℕ) (a : Node) (t : News) (out : Output) (b : Node) : Type 0 where
@@ -66,15 +66,15 @@ pub record Meets (rules : Rules) (n : ℕ) (a : Node) (origin inc : ℕ) (out : 
   pub out_is : out ≡ record nothing { frames = frames }
   pub after : b ≡ record a { hub = hub }
 
-abbrev pub noted : ℕ → ℕ → Change → Noted
-noted n inc change = record { node = n; inc = inc; change = change }
+abbrev pub note_of : ℕ → ℕ → Change → Noted
+note_of n inc change = record { node = n; inc = inc; change = change }
 
 -- Changes of interest are collected, or a session is greeted, or a peer gets a snapshot.
 pub record Announces (c : Config) (n : ℕ) (a : Node) (changes : List Change) (out : Output) (b : Node) : Type 0 where
   pub hub : Hub
   pub frames : List Frame
   pub announces : HubAnnounces c n a.inc a.hub changes frames hub
-  pub out_is : out ≡ record nothing { frames = frames; changes = map (noted n a.inc) changes }
+  pub out_is : out ≡ record nothing { frames = frames; changes = map (note_of n a.inc) changes }
   pub after : b ≡ record a { hub = hub }
 
 -- An event of one shard.

@@ -40,9 +40,9 @@ has k [] = false
 has k (x ∷ xs) = cond (nat_eq k x) true (has k xs)
 
 -- All but those of these serials.
-abbrev pub without : List ℕ → List Subscription → List Subscription
-without closed [] = []
-without closed (u ∷ us) = cond (has u.serial closed) (without closed us) (u ∷ without closed us)
+abbrev pub subs_without : List ℕ → List Subscription → List Subscription
+subs_without closed [] = []
+subs_without closed (u ∷ us) = cond (has u.serial closed) (subs_without closed us) (u ∷ subs_without closed us)
 
 abbrev pub closings_of : ℕ → ℕ → ℕ → ℕ → List ℕ → List Closing
 closings_of n inc s now closed = map (λ serial. record { life = life_id n inc s serial; step = now }) closed
@@ -56,7 +56,7 @@ pub record AreOpen (subscriptions : List Subscription) (closed : List ℕ) : Typ
 pub record Closes (n inc now s : ℕ) (old : Shard) (closed : List ℕ) (out : Output) (new : Shard) : Type 0 where
   pub are_open : AreOpen old.subscriptions closed
   pub out_is : out ≡ record nothing { closings = closings_of n inc s now closed }
-  pub after : new ≡ record old { subscriptions = without closed old.subscriptions }
+  pub after : new ≡ record old { subscriptions = subs_without closed old.subscriptions }
 
 -- Working a job
 
@@ -82,7 +82,7 @@ pub record Begins (rules : Rules) (c : Config) (n inc now s : ℕ) (old : Shard)
   pub closed : List ℕ
   pub are_open : AreOpen old.subscriptions closed
   pub out_is : out ≡ record nothing { placements = map (placement n inc s now job) placed; closings = closings_of n inc s now closed }
-  pub after : new ≡ record old { hand = Some job; next = 0; waiting = rest; subscriptions = without closed old.subscriptions }
+  pub after : new ≡ record old { hand = Some job; next = 0; waiting = rest; subscriptions = subs_without closed old.subscriptions }
 
 -- A claim that is won: it is placed for one open member of the queue name at the next index, whose pattern matches. Some may close, by a maximum.
 pub record Wins (rules : Rules) (c : Config) (n inc now s : ℕ) (race : Race) (old : Shard) (out : Output) (new : Shard) (after_race : Race) : Type 0 where
@@ -98,7 +98,7 @@ pub record Wins (rules : Rules) (c : Config) (n inc now s : ℕ) (race : Race) (
   pub closed : List ℕ
   pub are_open : AreOpen old.subscriptions closed
   pub out_is : out ≡ record nothing { placements = placement n inc s now job chosen ∷ []; closings = closings_of n inc s now closed }
-  pub after : new ≡ record old { next = suc old.next; subscriptions = without closed old.subscriptions }
+  pub after : new ≡ record old { next = suc old.next; subscriptions = subs_without closed old.subscriptions }
 
 -- A claim that is lost, or an index that has no candidate here.
 pub record Passes (window : ℕ) (race : Race) (old : Shard) (out : Output) (new : Shard) (after_race : Race) : Type 0 where

@@ -2,8 +2,8 @@
 //!
 //! ```text
 //! // A function that calls a law is proved with what the law says.
-//! cluster_law::headline();
-//! cluster_law::unique_names();
+//! cluster_law::publications_are_placed_once();
+//! cluster_law::names_are_unique();
 //! ```
 //!
 //! The machine (`specs/`) has nodes that start and stop, frames that were sent and are handed over at any time, any number of times or never, and on each node a hub, a race for
@@ -26,23 +26,23 @@ ghost use Rattle.cluster_law.specs.Counterexamples.{AddresseeIsNeeded, Incarnati
 /// The headline. Whatever is published, subscribed, unsubscribed, delivered, lost, repeated, late, cut or restarted: each publication is placed at most once for a plain
 /// subscription, and for a queue name for at most one member in the whole cluster. What is placed is the content of a publication of an earlier step, for a subscription that was
 /// open at that step and matched. Of one subscription, the publications of one origin incarnation come in strictly rising number.
-pub fn headline()
+pub fn publications_are_placed_once()
     ensures { (c : Config) (w : World) → Reached every_rule c w → Headline c w.past }
 {}
 
 /// No two publications have one name, nor two subscriptions. A closing is of a subscription that was opened in an earlier step, and closes it once.
-pub fn unique_names()
+pub fn names_are_unique()
     ensures { (c : Config) (w : World) → Reached every_rule c w → Unique w.past }
 {}
 
 /// A publication has at most one frame for a peer, and so to one incarnation of it. Its queue names are split without overlap among the job at its own node and its frames. At a
 /// node it is accepted at most once, over all incarnations. A job or frame has at most `queue_names` names.
-pub fn routed_once()
+pub fn publications_are_routed_once()
     ensures { (c : Config) (w : World) → Reached every_rule c w → Routing c w.past }
 {}
 
 /// In each shard of a node that is up, each job stands once in the line, in order of turns, and none of a finished turn.
-pub fn ordered_lines()
+pub fn lines_are_in_order()
     ensures { (c : Config) (w : World) → Reached every_rule c w → EachShard IsLine w }
 {}
 
@@ -69,7 +69,7 @@ pub fn paths_are_reached()
 
 /// The laws are not empty: a run of two nodes in which a queue member and a plain subscription of the other node both get a message, a repeated frame is refused, and a restart
 /// refuses a late one.
-pub fn places_and_refuses()
+pub fn some_run_places_and_refuses()
     ensures { Witness }
 {}
 
@@ -103,7 +103,7 @@ pub fn apart_is_needed()
     ensures { ApartIsNeeded }
 {}
 
-/// A publication has one frame for a peer. The headline holds without this rule; `routed_once` does not.
+/// A publication has one frame for a peer. The headline holds without this rule; `publications_are_routed_once` does not.
 pub fn one_frame_is_needed()
     ensures { OneFrameIsNeeded }
 {}

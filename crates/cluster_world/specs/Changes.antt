@@ -15,7 +15,7 @@ use Rattle.shard_core.specs.Shards.{waits_for}
 use Rattle.shard_core.specs.Puts.{put_by, entries_for}
 use Rattle.claim_race.specs.Race.{RaceState}
 use Rattle.node_law.specs.AsLaw.{Part, part_of, waits_at, is_open_in}
-use Rattle.shard_core.specs.ShardSteps.{called}
+use Rattle.shard_core.specs.ShardSteps.{sub_called}
 use Rattle.node_law.specs.Sound.{SoundNode}
 use Rattle.node_law.specs.State.{Line, Node}
 use Rattle.node_law.specs.declared.events.ConnEvent.{ConnEvent}
@@ -53,7 +53,7 @@ new_life server now conn key sid line None = record { id = record { node = serve
 
 abbrev pub conn_lives : Server → ℕ → ℕ → ConnEvent → Option Line → List Life
 conn_lives server now conn event None = []
-conn_lives server now conn (Subscribe key sid) (Some line) = new_life server now conn key sid line (called conn sid line.shard.subs)
+conn_lives server now conn (Subscribe key sid) (Some line) = new_life server now conn key sid line (sub_called conn sid line.shard.subs)
 conn_lives server now conn (Unsubscribe sid max) (Some line) = []
 conn_lives server now conn (Reply frame) (Some line) = []
 conn_lives server now conn (Shut text) (Some line) = []

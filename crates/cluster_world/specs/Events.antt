@@ -26,11 +26,11 @@ frame_at (suc k) sent = slice_get sent k
 
 -- ---- what the frame is to the server: nothing, where it is of another kind
 
-abbrev pub numbered : Option RouteFrame → Option NodeEvent
-numbered None = None
-numbered (Some (route.Numbered frame)) = Some (of_node.Receive frame)
-numbered (Some (route.Info info)) = None
-numbered (Some (route.Connect connect)) = None
+abbrev pub numbered_event : Option RouteFrame → Option NodeEvent
+numbered_event None = None
+numbered_event (Some (route.Numbered frame)) = Some (of_node.Receive frame)
+numbered_event (Some (route.Info info)) = None
+numbered_event (Some (route.Connect connect)) = None
 
 abbrev pub info_on : ℕ → Option RouteFrame → Option NodeEvent
 info_on session None = None
@@ -48,7 +48,7 @@ connect_on session (Some (route.Connect connect)) = Some (of_node.OnConnect sess
 abbrev pub event_for : World → Event → Option NodeEvent
 event_for w (Start n inc) = None
 event_for w (Stop n) = None
-event_for w (Receive n k) = numbered (frame_at k w.sent)
+event_for w (Receive n k) = numbered_event (frame_at k w.sent)
 event_for w (OnInfo n session k) = info_on session (frame_at k w.sent)
 event_for w (OnConnect n session k) = connect_on session (frame_at k w.sent)
 event_for w (At n event) = Some (Own event)

@@ -49,12 +49,12 @@ abbrev pub life_of : Life → state.Life
 life_of life = record { id = life_id_of life.id; conn = life.conn; key = life.key; sid = life.sid; opened = life.opened; closed = life.closed }
 
 -- of the server that puts a message, its placement has the place and the incarnation alone
-abbrev pub placing : ℕ → ℕ → Server
-placing node inc = record { names = []; me = node; inc = inc; shards = 0 }
+abbrev pub placing_server : ℕ → ℕ → Server
+placing_server node inc = record { names = []; me = node; inc = inc; shards = 0 }
 
 -- the messages among what a step put
 abbrev pub placements_in : Placements → List Placement
-placements_in p = placements_put (placing p.node p.inc) p.step p.entries.items
+placements_in p = placements_put (placing_server p.node p.inc) p.step p.entries.items
 
 abbrev pub started_of : Started → ℕ × ℕ
 started_of s = (s.node, s.inc)

@@ -16,9 +16,9 @@ pub record Passed : Type 0 where
   pub before : World
   pub event : Event
 
-abbrev pub passed : (c : Cluster) (w : World) (events : List Event) (w' : World) → Run c w events w' → List Passed
-passed c w [] w' run = []
-passed c w (e ∷ es) w' run = record { before = w; event = e } ∷ passed c run.0 es w' run.3
+abbrev pub passed_events : (c : Cluster) (w : World) (events : List Event) (w' : World) → Run c w events w' → List Passed
+passed_events c w [] w' run = []
+passed_events c w (e ∷ es) w' run = record { before = w; event = e } ∷ passed_events c run.0 es w' run.3
 
 -- ---- which server makes a step of its own in an event, and what it is asked there
 
@@ -46,8 +46,8 @@ abbrev pub acting_if : World → Event → Option WorldFault → Option Acting
 acting_if w e None = acting_in w e
 acting_if w e (Some why) = None
 
-abbrev pub acting : Cluster → World → Event → Option Acting
-acting c w e = acting_if w e (world_refusal c w e)
+abbrev pub acting_server : Cluster → World → Event → Option Acting
+acting_server c w e = acting_if w e (world_refusal c w e)
 
 -- ---- jobs: of a publish of the server's own, or of a message that it takes
 
@@ -63,7 +63,7 @@ jobs_of c (Some x) = map (λ job. record { node = x.node; inc = x.running.inc; j
 
 abbrev pub jobs_made : Cluster → List Passed → List MadeJob
 jobs_made c [] = []
-jobs_made c (p ∷ ps) = jobs_of c (acting c p.before p.event) ++ jobs_made c ps
+jobs_made c (p ∷ ps) = jobs_of c (acting_server c p.before p.event) ++ jobs_made c ps
 
 -- ---- changes of interest
 
@@ -78,7 +78,7 @@ changes_of (Some x) = map (λ change. record { node = x.node; inc = x.running.in
 
 abbrev pub changes_made : Cluster → List Passed → List MadeChange
 changes_made c [] = []
-changes_made c (p ∷ ps) = changes_of (acting c p.before p.event) ++ changes_made c ps
+changes_made c (p ∷ ps) = changes_of (acting_server c p.before p.event) ++ changes_made c ps
 
 -- those of one incarnation, in order
 

@@ -23,7 +23,7 @@ use Rattle.cluster_world.specs.Events as of_world
 use Rattle.cluster_world.specs.Outcomes.{Outcome, Refused, Done}
 use Rattle.cluster_world.specs.Refusals.{world_refusal}
 use Rattle.cluster_world.specs.Changes.{placement_of, AreGained}
-use Rattle.cluster_world.specs.Steps.{acted, started, stopped}
+use Rattle.cluster_world.specs.Steps.{world_after_step, world_after_start, world_after_stop}
 
 -- ---- a race that forgets nothing
 
@@ -149,26 +149,26 @@ abbrev pub next_act : Cluster → World → ℕ → Option (Option Running) → 
 next_act c w n None event = w
 next_act c w n (Some None) event = w
 next_act c w n (Some (Some a)) None = w
-next_act c w n (Some (Some a)) (Some e) = acted c w n a e (next_node c n a e) (placements_put (server_at c n a.inc) (suc w.step) (puts (server_at c n a.inc) a.node e (node_wins a.node e)))
+next_act c w n (Some (Some a)) (Some e) = world_after_step c w n a e (next_node c n a e) (placements_put (server_at c n a.inc) (suc w.step) (puts (server_at c n a.inc) a.node e (node_wins a.node e)))
 
-abbrev pub happened : Cluster → World → Event → World
-happened c w (Start n inc) = started c w n inc
-happened c w (Stop n) = stopped w n
-happened c w (of_world.Receive n k) = next_act c w n (slice_get w.nodes n) (event_for w (of_world.Receive n k))
-happened c w (of_world.OnInfo n session k) = next_act c w n (slice_get w.nodes n) (event_for w (of_world.OnInfo n session k))
-happened c w (of_world.OnConnect n session k) = next_act c w n (slice_get w.nodes n) (event_for w (of_world.OnConnect n session k))
-happened c w (At n event) = next_act c w n (slice_get w.nodes n) (event_for w (At n event))
+abbrev pub world_after_event : Cluster → World → Event → World
+world_after_event c w (Start n inc) = world_after_start c w n inc
+world_after_event c w (Stop n) = world_after_stop w n
+world_after_event c w (of_world.Receive n k) = next_act c w n (slice_get w.nodes n) (event_for w (of_world.Receive n k))
+world_after_event c w (of_world.OnInfo n session k) = next_act c w n (slice_get w.nodes n) (event_for w (of_world.OnInfo n session k))
+world_after_event c w (of_world.OnConnect n session k) = next_act c w n (slice_get w.nodes n) (event_for w (of_world.OnConnect n session k))
+world_after_event c w (At n event) = next_act c w n (slice_get w.nodes n) (event_for w (At n event))
 
 abbrev pub next_of : Cluster → World → Event → Option WorldFault → World
-next_of c w e None = happened c w e
+next_of c w e None = world_after_event c w e
 next_of c w e (Some why) = record w { step = suc w.step }
 
 abbrev pub next : Cluster → World → Event → World
 next c w e = next_of c w e (world_refusal c w e)
 
-abbrev pub played : Cluster → World → List Event → World
-played c w [] = w
-played c w (e ∷ es) = played c (next c w e) es
+abbrev pub world_after_events : Cluster → World → List Event → World
+world_after_events c w [] = w
+world_after_events c w (e ∷ es) = world_after_events c (next c w e) es
 
 -- ---- and what is answered
 
@@ -194,9 +194,9 @@ outcome_of c w e (Some why) = Refused why
 abbrev pub outcome : Cluster → World → Event → Outcome
 outcome c w e = outcome_of c w e (world_refusal c w e)
 
-abbrev pub answered : Cluster → World → List Event → List Outcome
-answered c w [] = []
-answered c w (e ∷ es) = outcome c w e ∷ answered c (next c w e) es
+abbrev pub outcomes_of_events : Cluster → World → List Event → List Outcome
+outcomes_of_events c w [] = []
+outcomes_of_events c w (e ∷ es) = outcome c w e ∷ outcomes_of_events c (next c w e) es
 
 -- ---- where that is a step: in every world where
 

@@ -4,7 +4,7 @@ use Rattle.node_law.specs.declared.events.ConnEvent.TheVariants.{Detach, Take}
 use Rattle.node_law.specs.Events.{OfConn, Publish, Dial, Accept, CutSession, TakeFrames}
 use Rattle.cluster_world.specs.State.{Cluster, new_world}
 use Rattle.cluster_world.specs.Events.{Event, Start, Stop, Receive, OnInfo, OnConnect, At}
-use Rattle.cluster_world.specs.Play.{answered}
+use Rattle.cluster_world.specs.Play.{outcomes_of_events}
 use Rattle.cluster_world.specs.Steps.{Answers}
 use Rattle.cluster_world.specs.Written.{lines_of}
 use Rattle.cluster_world.specs.Scripts.{pair, alone, member, hi, subscribe, attach, begin, claim, end, collect, publish, end_of, a_restart, two_shards, a_full_window, a_lower_incarnation}
@@ -180,7 +180,7 @@ pub record WritesACut : Type 0 where
 -- ---- each closed script is a run of the exact cluster, with the outcomes that are written and to the world that it ends in
 
 abbrev pub IsRun : Cluster → List Event → Type 0
-IsRun c events = Answers c (new_world c) events (answered c (new_world c) events) (end_of c events)
+IsRun c events = Answers c (new_world c) events (outcomes_of_events c (new_world c) events) (end_of c events)
 
 pub record ScriptsAreRuns : Type 0 where
   pub restart : IsRun pair a_restart

@@ -17,7 +17,7 @@ use Rattle.route_values.specs.declared.frames.RouteFrame.TheVariants as route
 use Rattle.node_law.specs.State.{Line}
 use Rattle.cluster_world.specs.Events.{Event}
 use Rattle.cluster_world.specs.Headline.{IsCluster, EachUp}
-use Rattle.cluster_world.specs.Made.{Passed, passed, MadeJob, MadeChange, jobs_made, changes_made, changes_in_life}
+use Rattle.cluster_world.specs.Made.{Passed, passed_events, MadeJob, MadeChange, jobs_made, changes_made, changes_in_life}
 use Rattle.cluster_world.specs.State.{Cluster, Publication, Running, World, new_world}
 use Rattle.cluster_world.specs.Steps.{Run}
 
@@ -115,11 +115,11 @@ pub record RestsOn (c : Cluster) (steps : List Passed) (w : World) : Type 0 wher
   pub lines : EachUp (λ n a. (place : ℕ) (line : Line) → slice_get a.node.lines place ≡ Some line → IsLine line) w
 
 abbrev pub RunsRestOn : Type 0
-RunsRestOn = (c : Cluster) → IsCluster c → (events : List Event) (w : World) (run : Run c (new_world c) events w) → RestsOn c (passed c (new_world c) events w run) w
+RunsRestOn = (c : Cluster) → IsCluster c → (events : List Event) (w : World) (run : Run c (new_world c) events w) → RestsOn c (passed_events c (new_world c) events w run) w
 
 abbrev pub FinishedStays : Type 0
 FinishedStays = (c : Cluster) → IsCluster c → (before after : List Event) (w w' : World) → Run c (new_world c) before w → Run c w after w' → TurnsStay w w'
 
 -- what a value can say of the run that ends in it
 abbrev pub CameSo : Cluster → World → Type 0
-CameSo c w = (events : List Event) × (run : Run c (new_world c) events w) × RestsOn c (passed c (new_world c) events w run) w
+CameSo c w = (events : List Event) × (run : Run c (new_world c) events w) × RestsOn c (passed_events c (new_world c) events w run) w

@@ -15,7 +15,7 @@ use Rattle.cluster_world.specs.Faults.{world_fault_number}
 use Rattle.cluster_world.specs.State.{Cluster, Placement, World, new_world}
 use Rattle.cluster_world.specs.Events.{Event, Start, Stop, Receive, OnInfo, OnConnect, At}
 use Rattle.cluster_world.specs.Outcomes.{Outcome, Refused, Done}
-use Rattle.cluster_world.specs.Play.{answered, played}
+use Rattle.cluster_world.specs.Play.{outcomes_of_events, world_after_events}
 
 -- ---- words
 
@@ -25,10 +25,10 @@ number_of (Refused why) = world_fault_number why
 number_of (Done answer) = 0
 
 abbrev pub outcomes : Cluster → List Event → List ℕ
-outcomes c events = map number_of (answered c (new_world c) events)
+outcomes c events = map number_of (outcomes_of_events c (new_world c) events)
 
 abbrev pub end_of : Cluster → List Event → World
-end_of c events = played c (new_world c) events
+end_of c events = world_after_events c (new_world c) events
 
 abbrev pub done : ℕ → List ℕ
 done count = replicate count 0

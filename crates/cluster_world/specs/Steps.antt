@@ -16,8 +16,8 @@ abbrev pub set_node : World → ℕ → Option Running → List (Option Running)
 set_node w n node = set w.nodes n node
 
 -- the world after a step of the server at place n, which becomes b and puts these into outboxes
-abbrev pub acted : Cluster → World → ℕ → Running → NodeEvent → Node → List Placement → World
-acted c w n a e b gained = record {
+abbrev pub world_after_step : Cluster → World → ℕ → Running → NodeEvent → Node → List Placement → World
+world_after_step c w n a e b gained = record {
   step = suc w.step;
   nodes = set_node w n (Some (record { inc = a.inc; node = b }));
   started = w.started;
@@ -40,29 +40,29 @@ pub record Acts (c : Cluster) (w : World) (n : ℕ) (event : Option NodeEvent) (
   pub told : outcome ≡ Done (node_answer (server_at c n a.inc) a.node e won)
   pub gained : List Placement
   pub are_gained : AreGained (server_at c n a.inc) (suc w.step) a.node.lines b.lines gained
-  pub after : w' ≡ acted c w n a e b gained
+  pub after : w' ≡ world_after_step c w n a e b gained
 
 -- the world after a server starts, which knows nothing, and after one stops, whose subscriptions close with it
 
-abbrev pub started : Cluster → World → ℕ → ℕ → World
-started c w n inc = record w { step = suc w.step; nodes = set_node w n (Some (record { inc = inc; node = new_node (server_at c n inc) })); started = w.started ++ (n, inc) ∷ [] }
+abbrev pub world_after_start : Cluster → World → ℕ → ℕ → World
+world_after_start c w n inc = record w { step = suc w.step; nodes = set_node w n (Some (record { inc = inc; node = new_node (server_at c n inc) })); started = w.started ++ (n, inc) ∷ [] }
 
-abbrev pub stopped : World → ℕ → World
-stopped w n = record w { step = suc w.step; nodes = set_node w n None; lives = map (looked_at (suc w.step) (set_node w n None)) w.lives }
+abbrev pub world_after_stop : World → ℕ → World
+world_after_stop w n = record w { step = suc w.step; nodes = set_node w n None; lives = map (looked_at (suc w.step) (set_node w n None)) w.lives }
 
 -- a server starts; an incarnation is at least 1 (profile)
 pub record Starts (c : Cluster) (w : World) (n inc : ℕ) (outcome : Outcome) (w' : World) : Type 0 where
   pub some : 0 < inc
   pub down : slice_get w.nodes n ≡ Some None
   pub told : outcome ≡ Done Nothing
-  pub after : w' ≡ started c w n inc
+  pub after : w' ≡ world_after_start c w n inc
 
 -- a server stops
 pub record Stops (w : World) (n : ℕ) (outcome : Outcome) (w' : World) : Type 0 where
   pub a : Running
   pub a_is : slice_get w.nodes n ≡ Some (Some a)
   pub told : outcome ≡ Done Nothing
-  pub after : w' ≡ stopped w n
+  pub after : w' ≡ world_after_stop w n
 
 abbrev pub Happens : Cluster → World → Event → Outcome → World → Type 0
 Happens c w (Start n inc) outcome w' = Starts c w n inc outcome w'

@@ -23,7 +23,7 @@ use Rattle.cluster_world.specs.Adding.{AreNoted, opened_lives, closed_if}
 use Rattle.cluster_world.specs.Events.{Event, Start, Stop, Receive, OnInfo, OnConnect, At}
 use Rattle.cluster_world.specs.Changes.{is_open}
 use Rattle.cluster_world.specs.Headline.{IsCluster}
-use Rattle.cluster_world.specs.InCode.{publication_of, life_of, placements_in, started_of, items_of, placing}
+use Rattle.cluster_world.specs.InCode.{publication_of, life_of, placements_in, started_of, items_of, placing_server}
 use Rattle.cluster_world.specs.Outcomes.{Outcome}
 use Rattle.cluster_world.specs.Play.{placements_put}
 use Rattle.cluster_world.specs.State.{Cluster, Publication, Life, Placement, Running, World, new_world, server_at}
@@ -41,8 +41,8 @@ pub record Listed : Type 0 where
 abbrev pub no_lists : Listed
 no_lists = record { started = []; publications = []; lives = []; placements = []; sent = [] }
 
-abbrev pub listed : Lists → Listed
-listed l = record {
+abbrev pub listed_of : Lists → Listed
+listed_of l = record {
   started = map started_of l.started.items;
   publications = map publication_of l.publications.items;
   lives = map life_of l.lives.items;
@@ -66,16 +66,16 @@ abbrev pub with_closed : Acted → Listed → Listed
 with_closed acted old = record old { lives = map (closed_if acted.step acted.node acted.inc None) old.lives }
 
 -- a server's step adds what was noted before it and what the server did
-abbrev pub added : Acted → Noted → Did → Listed → Listed
-added acted noted did old = record old {
+abbrev pub listed_with : Acted → Noted → Did → Listed → Listed
+listed_with acted noted did old = record old {
   publications = old.publications ++ option_to_list (option_map publication_of noted.publication);
   lives = map (closed_if acted.step acted.node acted.inc (Some did.ended.items)) old.lives ++ opened_lives acted.node acted.inc acted.step noted.opening (answer_of did.answer);
-  placements = old.placements ++ placements_put (placing acted.node acted.inc) acted.step did.entries.items;
+  placements = old.placements ++ placements_put (placing_server acted.node acted.inc) acted.step did.entries.items;
   sent = old.sent ++ did.frames.items;
 }
 
 abbrev pub IsAdded : Acted → Noted → Did → Listed → Listed → Type 0
-IsAdded acted noted did old new = new ≡ added acted noted did old
+IsAdded acted noted did old new = new ≡ listed_with acted noted did old
 
 -- ---- the servers that are up
 
@@ -127,8 +127,8 @@ cluster_of server = record { names = server.names; shards = server.shards }
 abbrev pub world_of : ℕ → List (Option Served) → Listed → World
 world_of step nodes l = record { step = step; nodes = map running_in nodes; started = l.started; publications = l.publications; lives = l.lives; placements = l.placements; sent = l.sent }
 
-abbrev pub shown : Server → ℕ → List (Option Served) → Listed → Shown
-shown server step nodes l = record { cluster = cluster_of server; world = world_of step nodes l }
+abbrev pub value_of_parts : Server → ℕ → List (Option Served) → Listed → Shown
+value_of_parts server step nodes l = record { cluster = cluster_of server; world = world_of step nodes l }
 
 -- a new cluster, if that is one: its first server is then within the limits
 abbrev pub new_cluster : Cluster → Option Shown

@@ -9,7 +9,7 @@ use Rattle.cluster_world.specs.Faults.{world_fault_number}
 use Rattle.cluster_world.specs.State.{Cluster, LifeId, Life, Placement, World, new_world}
 use Rattle.cluster_world.specs.Events.{Event}
 use Rattle.cluster_world.specs.Outcomes.{Outcome, Refused, Done}
-use Rattle.cluster_world.specs.Play.{answered, played}
+use Rattle.cluster_world.specs.Play.{outcomes_of_events, world_after_events}
 
 -- ---- an outcome (profile)
 
@@ -83,4 +83,4 @@ abbrev pub run_lines : Cluster → List Outcome → World → List (List ℕ)
 run_lines c outcomes w = outcome_lines 0 outcomes ++ last_lines c w
 
 abbrev pub lines_of : Cluster → List Event → List (List ℕ)
-lines_of c events = run_lines c (answered c (new_world c) events) (played c (new_world c) events)
+lines_of c events = run_lines c (outcomes_of_events c (new_world c) events) (world_after_events c (new_world c) events)

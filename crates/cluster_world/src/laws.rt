@@ -11,7 +11,7 @@ ghost use Rattle.cluster_world.specs.Lives.{LivesAreOpen, LivesCloseByCause};
 ghost use Rattle.cluster_world.specs.Headline.{IsCluster, Headline, Names, EachUp, AreSent};
 ghost use Rattle.cluster_world.specs.OwnRuns.{EachHasRun, EachKeepsItsLaws};
 ghost use Rattle.cluster_world.specs.Outcomes.{Outcome};
-ghost use Rattle.cluster_world.specs.Play.{NoneAhead, PutsArePlaced, next, outcome, answered, played};
+ghost use Rattle.cluster_world.specs.Play.{NoneAhead, PutsArePlaced, next, outcome, outcomes_of_events, world_after_events};
 ghost use Rattle.cluster_world.specs.RestsOn.{RunsRestOn, FinishedStays, CameSo};
 ghost use Rattle.cluster_world.specs.State.{Cluster, World, new_world, server_at};
 ghost use Rattle.cluster_world.specs.Steps.{Run, WorldStep, Answers, Carried};
@@ -24,24 +24,24 @@ ghost use Rattle.cluster_world.specs.Scripts.{ARestart, TwoShards, AFullWindow, 
 /// that matched and was open at that step; and of one subscription the publications of one incarnation come in rising
 /// number. And it is said of all that servers put: whatever a step puts, for whichever subscriptions, is what that step places,
 /// so that no run is left out.
-pub fn headline()
+pub fn publications_are_placed_once()
     ensures once { (c : Cluster) → IsCluster c → (events : List Event) (w : World) → Run c (new_world c) events w → Headline w }
     ensures puts { PutsArePlaced }
 {
     shard_core::entries_are_put();
     node_core::servers_follow_the_law();
     node_core::servers_stay_sound();
-    cluster_law::headline()
+    cluster_law::publications_are_placed_once()
 }
 
 /// Of the same runs: no two publications have one name, nor two subscriptions, over all servers and incarnations.
-pub fn unique_names()
+pub fn names_are_unique()
     ensures { (c : Cluster) → IsCluster c → (events : List Event) (w : World) → Run c (new_world c) events w → Names w }
 {
     shard_core::entries_are_put();
     node_core::servers_follow_the_law();
     node_core::servers_stay_sound();
-    cluster_law::unique_names()
+    cluster_law::names_are_unique()
 }
 
 /// Of the same runs: each server that is up is sound. In each of its shards the job in hand is that of the next turn, the
@@ -67,8 +67,8 @@ pub fn it_rests_on_this()
     shard_core::entries_are_put();
     node_core::servers_follow_the_law();
     node_core::servers_stay_sound();
-    cluster_law::unique_names();
-    cluster_law::routed_once();
+    cluster_law::names_are_unique();
+    cluster_law::publications_are_routed_once();
     cluster_law::views_are_of_origin()
 }
 
@@ -83,24 +83,24 @@ pub fn finished_turns_stay()
 }
 
 /// What a cluster can carry along with its lists: that some run ends in it. It holds at first.
-pub fn carried_at_first()
+pub fn new_worlds_are_carried()
     ensures { (c : Cluster) → Carried c (new_world c) }
 {}
 
 /// Each step keeps it.
-pub fn carried_on()
+pub fn steps_keep_worlds_carried()
     ensures { (c : Cluster) (w : World) (e : Event) (outcome : Outcome) (w' : World) → WorldStep c w e outcome w' → Carried c w → Carried c w' }
 {}
 
 /// It says the headline, where no two servers have one name; and so it says whatever holds of every run.
-pub fn carried_says()
+pub fn carried_worlds_keep_the_headline()
     ensures { (c : Cluster) → IsCluster c → (w : World) → Carried c w → ∥ Headline w ∥₁ }
 {
-    headline()
+    publications_are_placed_once()
 }
 
 /// And what the headline rests on, of the run that ends here.
-pub fn carried_rests()
+pub fn carried_worlds_rest_on_this()
     ensures { (c : Cluster) → IsCluster c → (w : World) → Carried c w → ∥ CameSo c w ∥₁ }
 {
     it_rests_on_this()
@@ -125,7 +125,7 @@ pub fn each_event_goes_on()
 
 /// So every list of events is a run, with the outcomes that the program on lists tells and to the world that it ends in.
 pub fn every_list_is_a_run()
-    ensures { (c : Cluster) → IsCluster c → (events : List Event) → Answers c (new_world c) events (answered c (new_world c) events) (played c (new_world c) events) }
+    ensures { (c : Cluster) → IsCluster c → (events : List Event) → Answers c (new_world c) events (outcomes_of_events c (new_world c) events) (world_after_events c (new_world c) events) }
 {
     shard_core::entries_are_put();
     node_core::servers_follow_the_law();
@@ -168,7 +168,7 @@ pub fn puts_are_placed()
 }
 
 /// Of every run: each server that is up came to its state by a run of its own from its start in this incarnation. So what
-/// holds of every run of a server (`node_core::one_winner` and its siblings) holds of it.
+/// holds of every run of a server (`node_core::queue_names_have_one_winner` and its siblings) holds of it.
 pub fn each_server_ran()
     ensures { EachHasRun }
 {}
@@ -180,7 +180,7 @@ pub fn each_server_ran()
 pub fn servers_keep_their_laws()
     ensures { EachKeepsItsLaws }
 {
-    node_core::one_server_keeps();
+    node_core::servers_keep_their_promises();
     node_core::hubs_stay_sound();
     node_core::shards_stay_held()
 }
@@ -196,7 +196,7 @@ pub fn echo_is_kept()
     ensures { EchoesAreKept }
 {
     puts_are_placed();
-    unique_names()
+    names_are_unique()
 }
 
 /// Of every run: each life that has not closed is a subscription that is open, of the same connection, key and sid, in a shard of
@@ -218,30 +218,30 @@ pub fn lives_close_by_cause()
 
 /// Two servers with one member of a queue group: a message reaches it once; the frame handed over again is late, and
 /// after a restart it is for an incarnation that is no more.
-pub fn a_restart()
+pub fn a_restart_refuses_old_frames()
     ensures { ARestart }
 {}
 
 /// One server of two shards: of two members of one group one gets each message; a maximum is kept; and each refusal
 /// comes in its order, the cluster's own too.
-pub fn two_shards()
+pub fn two_shards_share_a_group()
     ensures { TwoShards }
 {}
 
 /// A server takes a window of publishes, and the next one once each shard has done with the first of them.
-pub fn a_full_window()
+pub fn a_full_window_refuses_publishes()
     ensures { AFullWindow }
 {}
 
 /// A server may start with an incarnation below an earlier one, and its peers refuse it; and there are no frames but
 /// those that were sent.
-pub fn a_lower_incarnation()
+pub fn a_lower_incarnation_is_refused()
     ensures { ALowerIncarnation }
 {}
 
 /// What is not collected yet is in no snapshot; of one message the placements stand in the order of their subscriptions; and a
 /// frame for another server is refused.
-pub fn a_snapshot()
+pub fn a_snapshot_tells_what_was_collected()
     ensures { ASnapshot }
 {}
 

@@ -6,10 +6,10 @@ ghost use Rattle.std.specs.Option.{option_map, option_copied, option_to_list};
 ghost use Rattle.std.specs.Vec.{vec_len, vec_capacity};
 ghost use Rattle.node_core.specs.InCode.{answer_of};
 ghost use Rattle.cluster_world.specs.Refusals.{is_used};
-ghost use Rattle.cluster_world.specs.InCode.{started_of, publication_of, life_of, placements_in, items_of, placing};
+ghost use Rattle.cluster_world.specs.InCode.{started_of, publication_of, life_of, placements_in, items_of, placing_server};
 ghost use Rattle.cluster_world.specs.Play.{placements_put};
 ghost use Rattle.cluster_world.specs.Adding.{is_sub, closes, closed_if, opened_lives};
-ghost use Rattle.cluster_world.specs.Value.{listed, no_lists, with_start, with_closed, HasRoom, IsAdded};
+ghost use Rattle.cluster_world.specs.Value.{listed_of, no_lists, with_start, with_closed, HasRoom, IsAdded};
 
 use crate::noted::{Noted, Opening};
 use crate::records::{Life, LifeId, Placements, Publication, Started};
@@ -120,7 +120,7 @@ fn close_all_lives(lives: &mut Vec<Life>, acted: &Acted)
 #[tactic(auto, using(crate::proofs::Clusters::Finds::flat_more, crate::proofs::Clusters::Finds::no_more))]
 fn keep_entries(placements: &mut Vec<Placements>, acted: &Acted, entries: Vec<Placed>)
     requires { vec_len placements.old < vec_capacity placements.old }
-    ensures { flat_map placements_in placements.new.items ≡ flat_map placements_in placements.old.items ++ placements_put (placing acted.now.node acted.now.inc) acted.now.step entries.items }
+    ensures { flat_map placements_in placements.new.items ≡ flat_map placements_in placements.old.items ++ placements_put (placing_server acted.now.node acted.now.inc) acted.now.step entries.items }
 {
     if entries.is_empty() {
         return;
@@ -162,7 +162,7 @@ fn keep_all(
     ensures answer { result ≡ did.answer }
     ensures publications { map publication_of publications.new.items ≡ map publication_of publications.old.items ++ option_to_list (option_map publication_of noted.publication) }
     ensures lives { map life_of lives.new.items ≡ map (closed_if acted.step acted.node acted.inc (Some did.ended.items)) (map life_of lives.old.items) ++ opened_lives acted.node acted.inc acted.step noted.opening (answer_of did.answer) }
-    ensures placements { flat_map placements_in placements.new.items ≡ flat_map placements_in placements.old.items ++ placements_put (placing acted.node acted.inc) acted.step did.entries.items }
+    ensures placements { flat_map placements_in placements.new.items ≡ flat_map placements_in placements.old.items ++ placements_put (placing_server acted.node acted.inc) acted.step did.entries.items }
     ensures sent { flat_map items_of sent.new.items ≡ flat_map items_of sent.old.items ++ did.frames.items }
 {
     let Noted {
@@ -180,7 +180,7 @@ fn keep_all(
 impl Lists {
     /// Nothing was done.
     pub(crate) fn new(alloc: Global) -> Lists
-        ensures { listed result ≡ no_lists }
+        ensures { listed_of result ≡ no_lists }
     {
         Lists {
             started: Vec::new(alloc),
@@ -193,15 +193,15 @@ impl Lists {
 
     /// Whether the incarnation was started there before.
     pub(crate) fn has_started(&self, node: usize, inc: Incarnation) -> bool
-        ensures { result ≡ is_used node inc (listed self.now).started }
+        ensures { result ≡ is_used node inc (listed_of self.now).started }
     {
         was_started(&self.started, node, inc)
     }
 
     /// The incarnation was started there. Want of memory leaves all as it was.
     pub(crate) fn add_start(&mut self, node: usize, inc: Incarnation) -> Result<(), AllocError>
-        ensures ok { OnOk result (listed self.new ≡ with_start node inc (listed self.old)) }
-        ensures err { OnErr result (listed self.new ≡ listed self.old) }
+        ensures ok { OnOk result (listed_of self.new ≡ with_start node inc (listed_of self.old)) }
+        ensures err { OnErr result (listed_of self.new ≡ listed_of self.old) }
     {
         self.started.reserve(1)?;
         self.started.push_reserved(Started { node, inc });
@@ -210,14 +210,14 @@ impl Lists {
 
     /// The server stops: its lives close. Takes no memory.
     pub(crate) fn close_all(&mut self, acted: Acted)
-        ensures { listed self.new ≡ with_closed acted (listed self.old) }
+        ensures { listed_of self.new ≡ with_closed acted (listed_of self.old) }
     {
         close_all_lives(&mut self.lives, &acted);
     }
 
     /// Makes one place more in each list that a server's step adds to.
     pub(crate) fn make_room(&mut self) -> Result<(), AllocError>
-        ensures same { listed self.new ≡ listed self.old }
+        ensures same { listed_of self.new ≡ listed_of self.old }
         ensures room { OnOk result (HasRoom self.new) }
     {
         self.publications.reserve(1)?;
@@ -231,7 +231,7 @@ impl Lists {
     pub(crate) fn keep(&mut self, acted: Acted, noted: Noted, did: Did) -> Answer
         requires { HasRoom self.old }
         ensures answer { result ≡ did.answer }
-        ensures lists { IsAdded acted noted did (listed self.old) (listed self.new) }
+        ensures lists { IsAdded acted noted did (listed_of self.old) (listed_of self.new) }
     {
         keep_all(
             acted,

@@ -4,7 +4,7 @@ ghost use Rattle.std.specs.Prelude.{◌≡◌, ◌<◌, length, None, Some, IfOk
 ghost use Rattle.std.specs.Option.{option_map};
 ghost use Rattle.node_core.specs.Lent.{asked_of};
 ghost use Rattle.cluster_world.specs.Refusals.{start_refusal, stop_refusal};
-ghost use Rattle.cluster_world.specs.Value.{slot_refusal, IsMade, inc_in, running_in, listed, server_in};
+ghost use Rattle.cluster_world.specs.Value.{slot_refusal, IsMade, inc_in, running_in, listed_of, server_in};
 
 use crate::faults::WorldFault;
 use crate::lists::Lists;
@@ -149,7 +149,7 @@ pub(crate) fn start_fault<T: SubTable, R: Race>(
     n: usize,
     inc: Incarnation,
 ) -> Option<WorldFault>
-    ensures { result ≡ start_refusal n inc (listed lists.now).started (option_map running_in (slice_get nodes.now n)) }
+    ensures { result ≡ start_refusal n inc (listed_of lists.now).started (option_map running_in (slice_get nodes.now n)) }
 {
     match nodes.is_up(n) {
         None => Some(WorldFault::NoSuch),

@@ -7,10 +7,10 @@ ghost use Rattle.cluster_world.specs.State.{Cluster, World};
 ghost use Rattle.cluster_world.specs.Steps.{Carried};
 ghost use Rattle.cluster_world.specs.Value.{LivesAreOpen};
 
-use crate::laws::{echo_is_kept, taken_frames_were_sent, unique_names};
+use crate::laws::{echo_is_kept, names_are_unique, taken_frames_were_sent};
 
 /// Each subscription that has not closed is open at its server, which is up in its incarnation.
-pub fn carried_open()
+pub fn carried_lives_are_open()
     ensures { (c : Cluster) → IsCluster c → (w : World) → Carried c w → LivesAreOpen w }
 {
     shard_core::entries_are_put();
@@ -19,21 +19,21 @@ pub fn carried_open()
 }
 
 /// No two publications have one name, nor two subscriptions.
-pub fn carried_names()
+pub fn carried_names_are_unique()
     ensures { (c : Cluster) → IsCluster c → (w : World) → Carried c w → ∥ Names w ∥₁ }
 {
-    unique_names()
+    names_are_unique()
 }
 
 /// Each frame that a take from a peer gives was sent.
-pub fn carried_sent()
+pub fn carried_frames_were_sent()
     ensures { (c : Cluster) (w : World) → Carried c w → ∥ AreSent w ∥₁ }
 {
     taken_frames_were_sent()
 }
 
 /// What was published without echo was placed for no subscription of the connection that published it.
-pub fn carried_echo()
+pub fn carried_echo_is_kept()
     ensures { (c : Cluster) → IsCluster c → (w : World) → Carried c w → ∥ EchoIsKept c w ∥₁ }
 {
     echo_is_kept()

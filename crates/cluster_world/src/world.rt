@@ -14,12 +14,18 @@ ghost use Rattle.cluster_world.specs.Value.{IsFor, IsStepped, Ran, IsPart, new_c
 use crate::events::Event;
 use crate::faults::WorldFault;
 use crate::frames::asked_by;
-use crate::laws::{carried_at_first, carried_on, carried_rests, carried_says, puts_are_placed};
+use crate::laws::{
+    carried_worlds_keep_the_headline, carried_worlds_rest_on_this, new_worlds_are_carried,
+    puts_are_placed, steps_keep_worlds_carried,
+};
 use crate::lists::{Acted, Lists};
 use crate::nodes::{Made, Nodes, server_of, start_fault, stop_fault};
 use crate::outcomes::Outcome;
 use crate::records::{Life, Placements, Publication};
-use crate::values::{carried_echo, carried_names, carried_open, carried_sent};
+use crate::values::{
+    carried_echo_is_kept, carried_frames_were_sent, carried_lives_are_open,
+    carried_names_are_unique,
+};
 use claim_race::Race;
 use node_core::{Answer, Node};
 use route_values::RouteFrame;
@@ -48,11 +54,11 @@ impl<T: SubTable, R: Race> Model for World<T, R> {
 
     ghost Value = { Shown };
 
-    ghost use Rattle.cluster_world.specs.Value.{listed, world_of, shown, IsKept};
+    ghost use Rattle.cluster_world.specs.Value.{listed_of, world_of, value_of_parts, IsKept};
 
-    ghost view = { λ w. shown w.server w.step w.nodes (listed w.lists) };
+    ghost view = { λ w. value_of_parts w.server w.step w.nodes (listed_of w.lists) };
 
-    ghost invariant = { λ w. IsKept w.server w.nodes (world_of w.step w.nodes (listed w.lists)) };
+    ghost invariant = { λ w. IsKept w.server w.nodes (world_of w.step w.nodes (listed_of w.lists)) };
 }
 
 impl<T: SubTable, R: Race> World<T, R> {
@@ -66,7 +72,7 @@ impl<T: SubTable, R: Race> World<T, R> {
     ) -> Result<Option<World<T, R>>, AllocError>
         ensures { IfOk result (λ made. made ≡ new_cluster (record { names = names.items; shards = shards })) }
     {
-        carried_at_first();
+        new_worlds_are_carried();
         let Some(inc) = Incarnation::new(1) else {
             // 1 is an incarnation
             unreachable!()
@@ -107,7 +113,7 @@ impl<T: SubTable, R: Race> World<T, R> {
     }
 
     /// What was sent so far, step by step. Frames are counted from 1, over all steps.
-    pub fn sent(&self) -> &[Vec<RouteFrame>]
+    pub fn sent_frames(&self) -> &[Vec<RouteFrame>]
         ensures { flat_map items_of result.now ≡ self.now.world.sent }
     {
         &self.lists.sent
@@ -133,11 +139,11 @@ impl<T: SubTable, R: Race> World<T, R> {
         ensures sent { ∥ AreSent self.now.world ∥₁ }
     {
         let _step = self.step;
-        carried_says();
-        carried_names();
-        carried_echo();
-        carried_rests();
-        carried_sent()
+        carried_worlds_keep_the_headline();
+        carried_names_are_unique();
+        carried_echo_is_kept();
+        carried_worlds_rest_on_this();
+        carried_frames_were_sent()
     }
 
     /// A refusal: only the step is counted. Required: some event is refused so.
@@ -147,7 +153,7 @@ impl<T: SubTable, R: Race> World<T, R> {
         ensures told { outcome_of result ≡ Refused fault }
         ensures stepped { (e : Asked) → world_refusal self.old.cluster self.old.world e ≡ Some fault → IsStepped self.old e (Refused fault) self.new }
     {
-        carried_on();
+        steps_keep_worlds_carried();
         self.step = now;
         Outcome::Refused(fault)
     }
@@ -160,8 +166,8 @@ impl<T: SubTable, R: Race> World<T, R> {
         ensures ok { IfOk result (λ outcome. IsStepped self.old (event_of event.now) (outcome_of outcome) self.new) }
         ensures err { OnErr result (self.new ≡ self.old) }
     {
-        carried_on();
-        carried_open();
+        steps_keep_worlds_carried();
+        carried_lives_are_open();
         puts_are_placed();
         self.lists.make_room()?;
         let asked = asked_by(event, &self.lists.sent);
@@ -200,7 +206,7 @@ impl<T: SubTable, R: Race> World<T, R> {
         ensures ok { IfOk result (λ outcome. IsStepped self.old (Start n inc) (outcome_of outcome) self.new) }
         ensures err { OnErr result (self.new ≡ self.old) }
     {
-        carried_on();
+        steps_keep_worlds_carried();
         let _first = inc.get();
         let Some(server) = server_of(self.alloc, &self.server, n, inc)? else {
             // required: there is such a place
@@ -235,8 +241,8 @@ impl<T: SubTable, R: Race> World<T, R> {
         requires cause { world_refusal self.old.cluster self.old.world (Stop n) ≡ None }
         ensures { IsStepped self.old (Stop n) (outcome_of result) self.new }
     {
-        carried_on();
-        carried_open();
+        steps_keep_worlds_carried();
+        carried_lives_are_open();
         let Some(inc) = self.nodes.inc_at(n) else {
             // required: a server is up there
             unreachable!()

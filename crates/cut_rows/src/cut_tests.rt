@@ -14,7 +14,7 @@ const LINE_MAX: usize = 8;
 const PAYLOAD_MAX: u64 = 6;
 
 /// The size that a test's line announces: `p` and digits, as `p5`.
-fn announced(line: &[u8]) -> Option<u64> {
+fn announced_size(line: &[u8]) -> Option<u64> {
     let (letter, digits) = line.split_first()?;
     if *letter != b'p' || digits.is_empty() || digits.len() > 9 {
         return None;
@@ -55,7 +55,7 @@ fn take_all(cutter: &mut Cutter, log: &mut Vec<u8>) -> Result<(), AllocError> {
             Ok(Some(Piece::Payload(payload))) => note(log, b'[', payload, b']')?,
             Ok(Some(Piece::Line(line))) => {
                 note(log, b'<', line, b'>')?;
-                if let Some(size) = announced(line) {
+                if let Some(size) = announced_size(line) {
                     if let Err(fault) = cutter.expect(size) {
                         return note_fault(log, fault);
                     }
@@ -145,7 +145,7 @@ fn cuts_a_stream_alike_in_any_feeds(rt: HostRuntime) -> Result<(), Fail> {
             take_all(&mut cutter, &mut log)?;
         }
         assert_eq!(rt; log.as_slice(), STREAM_PIECES, "{most} bytes a read");
-        assert_eq!(rt; cutter.held(), 0);
+        assert_eq!(rt; cutter.unread_len(), 0);
     }
     Ok(())
 }
@@ -157,7 +157,7 @@ fn stays_at(cutter: &mut Cutter, source: &mut MemSource, fault: CutFault, held: 
         && cutter.next() == Err(fault)
         && cutter.after_line()
         && cutter.expect(0) == Err(fault)
-        && cutter.held() == held
+        && cutter.unread_len() == held
 }
 
 #[test]
@@ -172,7 +172,7 @@ fn keeps_a_fault(rt: HostRuntime) -> Result<(), Fail> {
         let mut log = Vec::new(rt.alloc());
         cutter.feed(stream).ok().ok_or("feed")?;
         take_all(&mut cutter, &mut log)?;
-        let held = cutter.held();
+        let held = cutter.unread_len();
         let mut source = MemSource::new(STREAM.to_vec(rt.alloc())?);
         for call in 0..2 {
             let stays = stays_at(&mut cutter, &mut source, fault, held);
@@ -203,7 +203,7 @@ fn tells_whether_a_line_came_last(rt: HostRuntime) -> Result<(), Fail> {
     assert!(rt; cutter.next() == Ok(Some(Piece::Payload(b"abc"))));
     assert!(rt; !cutter.after_line());
     assert!(rt; cutter.next() == Ok(None));
-    assert_eq!(rt; cutter.held(), 2);
+    assert_eq!(rt; cutter.unread_len(), 2);
     Ok(())
 }
 
@@ -298,7 +298,7 @@ fn passes_failures_on(rt: HostRuntime) -> Result<(), Fail> {
     assert_eq!(rt; source.read(&mut buffer), Err(ReadFailed));
     let mut cutter = Cutter::new(rt.alloc(), LINE_MAX, PAYLOAD_MAX);
     assert_eq!(rt; cutter.read_from(&mut source, 64), Err(FillFault::Read));
-    assert_eq!(rt; cutter.held(), 0);
+    assert_eq!(rt; cutter.unread_len(), 0);
     for takes_none in [false, true] {
         let mut sink = Raw::new(Broken { takes_none });
         assert_eq!(rt; sink.write(b"a"), Err(WriteFailed));

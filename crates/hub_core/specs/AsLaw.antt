@@ -16,16 +16,16 @@ use Rattle.interest.specs.declared.changes.Change.{Change}
 use Rattle.interest.specs.declared.changes.Change.TheVariants.{Up, Gone}
 use Rattle.interest.specs.declared.changes.Delta.{Delta}
 use Rattle.interest.specs.Counts.{IsInterest}
-use Rattle.interest.specs.Views.{View, told_view, followed}
+use Rattle.interest.specs.Views.{View, told_view, view_with_change}
 use Rattle.route_values.specs.declared.bodies.Body.{Body}
 use Rattle.route_values.specs.declared.bodies.Body.TheVariants.{Plus, Minus, Snapshot, Msg}
 use Rattle.route_values.specs.Frames.{Frame}
 use Rattle.route_values.specs.Snapshots.{Weighted}
 use Rattle.hub_core.specs.State.{State, Peer}
-use Rattle.hub_core.specs.Publishing.{Publication, publish_refusal, published, own_job, frames_of, next_id}
-use Rattle.hub_core.specs.Receiving.{receive_refusal, received}
-use Rattle.hub_core.specs.Telling.{collect_refusal, collected, changes_of, collect_frames}
-use Rattle.hub_core.specs.Peers.{up, cut, taken, snapshot_to}
+use Rattle.hub_core.specs.Publishing.{Publication, publish_refusal, after_publish, own_job, frames_of, next_id}
+use Rattle.hub_core.specs.Receiving.{receive_refusal, after_receive}
+use Rattle.hub_core.specs.Telling.{collect_refusal, after_collect, changes_of, collect_frames}
+use Rattle.hub_core.specs.Peers.{up, cut, after_take, snapshot_to}
 
 -- ---- values
 
@@ -89,8 +89,8 @@ abbrev pub own_view : interest.View → View
 own_view view = map own_weighted view
 
 abbrev pub follow : interest.Change → interest.View → interest.View
-follow (interest.Up weighted) view = view_of (followed (Up (own_weighted weighted)) (own_view view))
-follow (interest.Gone key) view = view_of (followed (Gone (own_key key)) (own_view view))
+follow (interest.Up weighted) view = view_of (view_with_change (Up (own_weighted weighted)) (own_view view))
+follow (interest.Gone key) view = view_of (view_with_change (Gone (own_key key)) (own_view view))
 follow interest.Cleared view = []
 
 abbrev pub routing : Config → Config
@@ -109,22 +109,22 @@ pub record IsPublished (c : Config) (server : Server) (hub : State) (p : Publica
   pub frames : List messages.Routed
   pub frames_are : map (frame_of server) (frames_of server hub p) ≡ map messages.Message frames
   pub id_is : id_of server (next_id server hub) ≡ law.next_id server.me server.inc (hub_of hub)
-  pub publishes : HubPublishes every_rule (routing c) server.me (hub_of hub) (record { id = law.next_id server.me server.inc (hub_of hub); content = content_of p.said.message; step = now }) (own_job server hub p).queues frames (hub_of (published server hub p))
+  pub publishes : HubPublishes every_rule (routing c) server.me (hub_of hub) (record { id = law.next_id server.me server.inc (hub_of hub); content = content_of p.said.message; step = now }) (own_job server hub p).queues frames (hub_of (after_publish server hub p))
   pub room : HasRoom server hub finished
-  pub peers : HasPeers server (published server hub p)
+  pub peers : HasPeers server (after_publish server hub p)
 
 -- a publish that is not refused
 abbrev pub PublishesInLaw : Type 0
 PublishesInLaw = (c : Config) (server : Server) (hub : State) (p : Publication) (finished : List ℕ) (now : ℕ) → IsListed server → HasPeers server hub → publish_refusal server hub p finished ≡ None → IsPublished c server hub p finished now
 
 abbrev pub TakenAs : Config → Server → State → List ℕ → Frame → messages.Frame → Type 0
-TakenAs c server hub finished frame (messages.Message m) = HubReceives every_rule server.me server.inc (hub_of hub) m (hub_of (received server hub frame)) × HasRoom server hub finished
-TakenAs c server hub finished frame (messages.Interest news) = HubHears every_rule (routing c) server.me server.inc (hub_of hub) news (hub_of (received server hub frame))
+TakenAs c server hub finished frame (messages.Message m) = HubReceives every_rule server.me server.inc (hub_of hub) m (hub_of (after_receive server hub frame)) × HasRoom server hub finished
+TakenAs c server hub finished frame (messages.Interest news) = HubHears every_rule (routing c) server.me server.inc (hub_of hub) news (hub_of (after_receive server hub frame))
 TakenAs c server hub finished frame (messages.Greeting origin inc) = ⊥
 
 -- a frame that is not refused: a message is received, and news are heard
 abbrev pub ReceivesInLaw : Type 0
-ReceivesInLaw = (c : Config) (server : Server) (hub : State) (finished : List ℕ) (frame : Frame) → IsListed server → HasPeers server hub → receive_refusal server hub finished frame ≡ None → TakenAs c server hub finished frame (frame_of server frame) × HasPeers server (received server hub frame)
+ReceivesInLaw = (c : Config) (server : Server) (hub : State) (finished : List ℕ) (frame : Frame) → IsListed server → HasPeers server hub → receive_refusal server hub finished frame ≡ None → TakenAs c server hub finished frame (frame_of server frame) × HasPeers server (after_receive server hub frame)
 
 pub record IsMet (server : Server) (hub : State) (q inc : ℕ) : Type 0 where
   pub meets : HubMeets every_rule server.me (hub_of hub) q inc (hub_of (up server hub q inc))
@@ -136,9 +136,9 @@ abbrev pub MeetsInLaw : Type 0
 MeetsInLaw = (server : Server) (hub : State) (q inc : ℕ) (peer : Peer) → IsListed server → HasPeers server hub → q ≢ server.me → slice_get hub.peers q ≡ Some peer → peer.seen ≤ inc → IsMet server hub q inc
 
 pub record IsAnnounced (c : Config) (server : Server) (hub : State) (deltas : List Delta) : Type 0 where
-  pub announces : HubAnnounces (routing c) server.me server.inc (hub_of hub) (map change_of (changes_of hub deltas)) (map (frame_of server) (collect_frames server hub deltas)) (hub_of (collected server hub deltas))
-  pub within : IsInterest (collected server hub deltas).counts
-  pub peers : HasPeers server (collected server hub deltas)
+  pub announces : HubAnnounces (routing c) server.me server.inc (hub_of hub) (map change_of (changes_of hub deltas)) (map (frame_of server) (collect_frames server hub deltas)) (hub_of (after_collect server hub deltas))
+  pub within : IsInterest (after_collect server hub deltas).counts
+  pub peers : HasPeers server (after_collect server hub deltas)
 
 -- a collect that is not refused, of counts within their limits
 abbrev pub AnnouncesInLaw : Type 0
@@ -153,4 +153,4 @@ abbrev pub CutsUnseen : Type 0
 CutsUnseen = (server : Server) (hub : State) (q : ℕ) → HasPeers server hub → IsUnseen server hub (cut hub q)
 
 abbrev pub TakesUnseen : Type 0
-TakesUnseen = (server : Server) (hub : State) (q count : ℕ) → HasPeers server hub → IsUnseen server hub (taken hub q count)
+TakesUnseen = (server : Server) (hub : State) (q count : ℕ) → HasPeers server hub → IsUnseen server hub (after_take hub q count)

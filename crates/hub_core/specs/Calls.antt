@@ -86,8 +86,8 @@ pub record IsPlanned (server : Server) (hub : State) (frames : List Frame) : Typ
   pub frames_are : frames ≡ frames_of server hub publication
 
 -- these frames are put, and the numbers count up
-abbrev pub put_out : Server → State → List Frame → State
-put_out server hub frames = record hub { issued = hub.issued + 1; published = hub.published + 1; peers = with_frames server frames 0 hub.peers }
+abbrev pub after_frames : Server → State → List Frame → State
+after_frames server hub frames = record hub { issued = hub.issued + 1; published = hub.published + 1; peers = with_frames server frames 0 hub.peers }
 
 -- ---- a collect
 
@@ -106,8 +106,8 @@ pub record AreCounted (server : Server) (hub : State) (deltas : List Delta) (cou
   pub frames_are : frames ≡ collect_frames server hub deltas
 
 -- so many changes are told, by these frames
-abbrev pub told_out : Server → State → Counts → ℕ → List Frame → State
-told_out server hub counts count frames = record hub { changed = hub.changed + count; counts = counts; peers = with_frames server frames 0 (map (without_slow count) hub.peers) }
+abbrev pub after_changes : Server → State → Counts → ℕ → List Frame → State
+after_changes server hub counts count frames = record hub { changed = hub.changed + count; counts = counts; peers = with_frames server frames 0 (map (without_slow count) hub.peers) }
 
 -- what a collect of these deltas is planned as: what becomes of the counts, the changes, the frames, and the peers that are cut
 pub record IsTellingOf (hub : Hub) (deltas : List Delta) (recount : Recount) (changes : List Change) (frames : List Frame) (cut : List ℕ) : Type 0 where

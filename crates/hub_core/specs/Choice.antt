@@ -3,7 +3,7 @@ use Rattle.std.specs.Prelude.{ℕ, suc, Bool, not, ◌&&◌, nat_eq, nat_lt, Lis
 use Rattle.subj.specs.declared.limits.TheConstants.{ROUTE_FRAMES}
 use Rattle.subj.specs.QueueNames.{is_named}
 use Rattle.subj.specs.Servers.{Server, name_of}
-use Rattle.pick.specs.Pick.{Weighted, picked}
+use Rattle.pick.specs.Pick.{Weighted, pick_of}
 use Rattle.interest.specs.Counts.{Counts}
 use Rattle.interest.specs.Matches.{names_in, weight_in}
 use Rattle.hub_core.specs.State.{State, Peer}
@@ -28,7 +28,7 @@ weights server hub subject name = weights_from server hub.counts subject name 0 
 
 -- the server that serves the queue name; one word serves all names
 abbrev pub server_for : Server → State → List ℕ → ℕ → List ℕ → Option (List ℕ)
-server_for server hub subject word name = picked (weights server hub subject name) word
+server_for server hub subject word name = pick_of (weights server hub subject name) word
 
 -- ---- the queue names that a server serves
 

@@ -12,8 +12,8 @@ pub record Hub : Type 0 where
   pub server : Server
   pub state : State
 
-abbrev pub started : Server → Hub
-started server = record { server = server; state = new_hub server }
+abbrev pub hub_at_start : Server → Hub
+hub_at_start server = record { server = server; state = new_hub server }
 
 -- the first cause for which the event is refused
 abbrev pub refusal : Hub → Event → Option HubFault
@@ -29,8 +29,8 @@ pub record DoesStep (old : Hub) (event : Event) (answer : Answer) (new : Hub) : 
 
 -- ---- the fields of a hub in code
 
-abbrev pub shown : Server → ℕ → ℕ → ℕ → Counts → List Peer → Hub
-shown server issued published changed counts peers = record { server = server; state = record { issued = issued; published = published; changed = changed; counts = counts; peers = peers } }
+abbrev pub hub_of_parts : Server → ℕ → ℕ → ℕ → Counts → List Peer → Hub
+hub_of_parts server issued published changed counts peers = record { server = server; state = record { issued = issued; published = published; changed = changed; counts = counts; peers = peers } }
 
 -- the server is one of its cluster, and no number is beyond its limit
 pub record IsKept (hub : Hub) : Type 0 where

@@ -6,7 +6,7 @@ use Rattle.route_values.specs.declared.bodies.Body.TheVariants.{Snapshot}
 use Rattle.route_values.specs.Frames.{Frame}
 use Rattle.hub_core.specs.declared.faults.HubFault.{HubFault}
 use Rattle.hub_core.specs.declared.faults.HubFault.TheVariants.{NotInCluster}
-use Rattle.hub_core.specs.State.{State, Peer, known, changed_at}
+use Rattle.hub_core.specs.State.{State, Peer, peer_in_life, changed_at}
 
 -- all interest of the counts, at the number of the last change, to an incarnation of the peer at place q
 abbrev pub snapshot_to : Server → State → ℕ → ℕ → Frame
@@ -14,7 +14,7 @@ snapshot_to server hub q inc = record { from = own_name server; inc = server.inc
 
 -- a session with an incarnation of the peer is kept: it is up, and a snapshot is all that waits
 abbrev pub up : Server → State → ℕ → ℕ → State
-up server hub q inc = record hub { peers = changed_at (λ peer. record (known peer inc) { up = true; outbox = snapshot_to server hub q inc ∷ [] }) q hub.peers }
+up server hub q inc = record hub { peers = changed_at (λ peer. record (peer_in_life peer inc) { up = true; outbox = snapshot_to server hub q inc ∷ [] }) q hub.peers }
 
 -- the kept session has ended: marks, view and outbox stay
 abbrev pub cut : State → ℕ → State
@@ -32,5 +32,5 @@ outbox_of (Some peer) = peer.outbox
 abbrev pub first_frames : State → ℕ → ℕ → List Frame
 first_frames hub q count = take count (outbox_of (slice_get hub.peers q))
 
-abbrev pub taken : State → ℕ → ℕ → State
-taken hub q count = record hub { peers = changed_at (λ peer. record peer { outbox = drop count peer.outbox }) q hub.peers }
+abbrev pub after_take : State → ℕ → ℕ → State
+after_take hub q count = record hub { peers = changed_at (λ peer. record peer { outbox = drop count peer.outbox }) q hub.peers }

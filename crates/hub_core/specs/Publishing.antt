@@ -88,5 +88,5 @@ abbrev pub with_frames : Server → List Frame → ℕ → List Peer → List Pe
 with_frames server frames q [] = []
 with_frames server frames q (peer ∷ peers) = record peer { outbox = peer.outbox ++ filter (is_to server q) frames } ∷ with_frames server frames (suc q) peers
 
-abbrev pub published : Server → State → Publication → State
-published server hub p = record hub { issued = hub.issued + 1; published = hub.published + 1; peers = with_frames server (frames_of server hub p) 0 hub.peers }
+abbrev pub after_publish : Server → State → Publication → State
+after_publish server hub p = record hub { issued = hub.issued + 1; published = hub.published + 1; peers = with_frames server (frames_of server hub p) 0 hub.peers }

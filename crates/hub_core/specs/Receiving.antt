@@ -15,7 +15,7 @@ use Rattle.hub_core.specs.declared.faults.HubFault.{HubFault}
 use Rattle.hub_core.specs.declared.faults.HubFault.TheVariants.{Spent, NotMe, OtherMe, NotInCluster, StaleOrigin, Late}
 use Rattle.hub_core.specs.Faults.{fault_of_interest}
 use Rattle.hub_core.specs.Publishing.{busy_fault}
-use Rattle.hub_core.specs.State.{State, Peer, peer_of, known, changed_at}
+use Rattle.hub_core.specs.State.{State, Peer, peer_of, peer_in_life, changed_at}
 
 -- ---- refusals: 63, 64, 65, 66, then 67, 60, 62 of a message, and 67, 68, 69 of interest; all of them as against what is known of the frame's incarnation
 
@@ -35,7 +35,7 @@ abbrev pub origin_fault : Server → State → List ℕ → Frame → Option Pee
 origin_fault server hub finished frame None = Some NotInCluster
 origin_fault server hub finished frame (Some peer) =
     if nat_lt frame.inc peer.seen then Some StaleOrigin
-    else body_fault server hub (known peer frame.inc) frame.number finished frame.body
+    else body_fault server hub (peer_in_life peer frame.inc) frame.number finished frame.body
 
 abbrev pub receive_refusal : Server → State → List ℕ → Frame → Option HubFault
 receive_refusal server hub finished frame =
@@ -59,10 +59,10 @@ has_message (Snapshot keys) = false
 has_message (Msg content queues) = true
 
 -- a message takes the next turn
-abbrev pub received : Server → State → Frame → State
-received server hub frame = record hub {
+abbrev pub after_receive : Server → State → Frame → State
+after_receive server hub frame = record hub {
   issued = (if has_message frame.body then hub.issued + 1 else hub.issued);
-  peers = changed_at (λ peer. told_by frame.body frame.number (known peer frame.inc)) (place server frame.from) hub.peers;
+  peers = changed_at (λ peer. told_by frame.body frame.number (peer_in_life peer frame.inc)) (place server frame.from) hub.peers;
 }
 
 -- the job of a message, with the queue names that its origin has picked this server for

@@ -47,8 +47,8 @@ abbrev pub is_new_life : Peer → ℕ → Bool
 is_new_life peer inc = nat_lt peer.seen inc
 
 -- a frame of this incarnation is looked at, or a session has it: a new life begins anew, and is not up; what waits stays
-abbrev pub known : Peer → ℕ → Peer
-known peer inc = if is_new_life peer inc then record { seen = inc; mark = 0; heard = nothing_heard; up = false; outbox = peer.outbox } else peer
+abbrev pub peer_in_life : Peer → ℕ → Peer
+peer_in_life peer inc = if is_new_life peer inc then record { seen = inc; mark = 0; heard = nothing_heard; up = false; outbox = peer.outbox } else peer
 
 -- the peer at this place, changed
 abbrev pub changed_in : (Peer → Peer) → ℕ → Option Peer → List Peer → List Peer

@@ -7,10 +7,10 @@ use Rattle.route_values.specs.declared.bodies.Body.TheVariants.{Plus, Minus, Sna
 use Rattle.route_values.specs.Frames.{Frame}
 use Rattle.hub_core.specs.declared.faults.HubFault.{HubFault}
 use Rattle.hub_core.specs.State.{State, IsSound, new_hub, seen_of}
-use Rattle.hub_core.specs.Publishing.{publish_refusal, published, own_job, frames_of}
-use Rattle.hub_core.specs.Receiving.{receive_refusal, received, routed_job}
-use Rattle.hub_core.specs.Telling.{collect_refusal, collected, changes_of, collect_frames, slow_peers}
-use Rattle.hub_core.specs.Peers.{up, cut, snapshot_to, take_refusal, taken, first_frames}
+use Rattle.hub_core.specs.Publishing.{publish_refusal, after_publish, own_job, frames_of}
+use Rattle.hub_core.specs.Receiving.{receive_refusal, after_receive, routed_job}
+use Rattle.hub_core.specs.Telling.{collect_refusal, after_collect, changes_of, collect_frames, slow_peers}
+use Rattle.hub_core.specs.Peers.{up, cut, snapshot_to, take_refusal, after_take, first_frames}
 use Rattle.hub_core.specs.Events.{Event, Publish, Receive, Collect, Up, Cut, TakeFrom, Answer, Issued, Routed, Heard, Collected, IsUp, WasCut, Taken}
 
 -- ---- what may be asked
@@ -42,12 +42,12 @@ hub_refusal server hub (TakeFrom q count) = take_refusal server q
 -- ---- the state after an event that is not refused
 
 abbrev pub hub_after : Server → State → Event → State
-hub_after server hub (Publish p finished) = published server hub p
-hub_after server hub (Receive frame finished) = received server hub frame
-hub_after server hub (Collect shard deltas) = collected server hub deltas
+hub_after server hub (Publish p finished) = after_publish server hub p
+hub_after server hub (Receive frame finished) = after_receive server hub frame
+hub_after server hub (Collect shard deltas) = after_collect server hub deltas
 hub_after server hub (Up q inc) = up server hub q inc
 hub_after server hub (Cut q) = cut hub q
-hub_after server hub (TakeFrom q count) = taken hub q count
+hub_after server hub (TakeFrom q count) = after_take hub q count
 
 -- ---- what is answered
 

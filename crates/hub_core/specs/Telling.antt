@@ -75,8 +75,8 @@ collect_frames server hub deltas = frames_behind server (count_of_changes hub de
 
 -- ---- after: each peer is judged alone, by its outbox as it was
 
-abbrev pub collected : Server → State → List Delta → State
-collected server hub deltas = record hub {
+abbrev pub after_collect : Server → State → List Delta → State
+after_collect server hub deltas = record hub {
   changed = hub.changed + count_of_changes hub deltas;
   counts = counts_told hub.counts deltas;
   peers = with_frames server (collect_frames server hub deltas) 0 (map (without_slow (count_of_changes hub deltas)) hub.peers);

@@ -4,7 +4,7 @@ ghost use Rattle.std.specs.Prelude.{◌≡◌, ◌*◌, ◌≤◌, ◌++◌, ◌
 ghost use Rattle.std.specs.Option.{option_copied};
 ghost use Rattle.subj.specs.QueueNames.{is_named, are_queue_names};
 ghost use Rattle.subj.specs.Servers.{Server};
-ghost use Rattle.pick.specs.Pick.{picked};
+ghost use Rattle.pick.specs.Pick.{pick_of};
 ghost use Rattle.interest.specs.Matches.{has_queue_match, names_in, AreGathered};
 ghost use Rattle.hub_core.specs.Choice.{is_eligible as eligible, weight_at as weighs, weights_from, names_from};
 ghost use Rattle.hub_core.specs.Chosen.{AreFound, chosen_for, wants_name_from};
@@ -127,7 +127,7 @@ fn server_for(
     name: &QueueName,
 ) -> Option<NodeId>
     requires { length peers.now ≡ length server.now.names }
-    ensures { result ≡ picked (weights_from server.now counts.now subject.now name.now 0 peers.now) word }
+    ensures { result ≡ pick_of (weights_from server.now counts.now subject.now name.now 0 peers.now) word }
 {
     let _me = server.me();
     let mut weights = [(server.name(), 0); SERVERS];
@@ -148,7 +148,7 @@ fn server_at(
     name: Option<&QueueName>,
 ) -> Option<NodeId>
     requires { length peers.now ≡ length server.now.names }
-    ensures { result ≡ option_and_then (λ name. picked (weights_from server.now counts.now subject.now name 0 peers.now) word) (option_copied name.entry) }
+    ensures { result ≡ option_and_then (λ name. pick_of (weights_from server.now counts.now subject.now name 0 peers.now) word) (option_copied name.entry) }
 {
     server_for(server, counts, peers, subject, word, name?)
 }
@@ -167,7 +167,7 @@ pub(crate) fn servers_for(
 ) -> Servers
     requires { length peers.now ≡ length server.now.names }
     ensures few { length names.now ≤ MAX_QUEUE_NAMES }
-    ensures same { take (length names.now) result ≡ map (λ name. picked (weights_from server.now counts.now subject.now name 0 peers.now) word) names.now }
+    ensures same { take (length names.now) result ≡ map (λ name. pick_of (weights_from server.now counts.now subject.now name 0 peers.now) word) names.now }
 {
     let mut servers = [None; NAMES];
     for place in 0..names.len() {

@@ -7,7 +7,7 @@ ghost use Rattle.interest.specs.Recounts.{IsPlanOf, IsRecountOf};
 ghost use Rattle.hub_core.specs.Telling.{collect_refusal, collect_frames};
 ghost use Rattle.hub_core.specs.Events.{Collect, Collected};
 ghost use Rattle.hub_core.specs.Hubs.{refusal, DoesStep};
-ghost use Rattle.hub_core.specs.Calls.{IsTellingOf, AreCounted, told_out};
+ghost use Rattle.hub_core.specs.Calls.{IsTellingOf, AreCounted, after_changes};
 
 use crate::answers::Told;
 use crate::collecting::{cut_slow, frames_of_changes, slow_peers};
@@ -90,7 +90,7 @@ impl Hub {
     fn tell(&mut self, deltas: &[Delta], recount: Recount, count: usize, frames: Vec<Numbered>)
         requires recount { IsRecountOf self.old.state.counts deltas.now recount }
         requires counted { AreCounted self.old.server self.old.state deltas.now count frames.items }
-        ensures { self.new ≡ record self.old { state = told_out self.old.server self.old.state (counts_told self.old.state.counts deltas.now) count frames.items } }
+        ensures { self.new ≡ record self.old { state = after_changes self.old.server self.old.state (counts_told self.old.state.counts deltas.now) count frames.items } }
     {
         self.counts.commit(deltas, recount);
         self.changed += count as u64;

@@ -8,11 +8,11 @@ ghost use Rattle.subj.specs.Servers.{is_peer};
 ghost use Rattle.hub_core.specs.State.{seen_of as seen};
 ghost use Rattle.hub_core.specs.Events.{Receive, Up, Cut, TakeFrom, IsUp, WasCut, Taken};
 ghost use Rattle.hub_core.specs.Steps.{IsMeeting};
-ghost use Rattle.hub_core.specs.Hubs.{started, refusal, DoesStep};
+ghost use Rattle.hub_core.specs.Hubs.{hub_at_start, refusal, DoesStep};
 ghost use Rattle.hub_core.specs.declared.faults.HubFault.TheVariants.{Spent};
 ghost use Rattle.hub_core.specs.Publishing.{busy_fault};
-ghost use Rattle.hub_core.specs.Receiving.{receive_refusal, origin_fault as refused_of_origin, received, has_message};
-ghost use Rattle.hub_core.specs.Calls.{job_of, IsTaken, answer_of, IsPlanned, put_out};
+ghost use Rattle.hub_core.specs.Receiving.{receive_refusal, origin_fault as refused_of_origin, after_receive, has_message};
+ghost use Rattle.hub_core.specs.Calls.{job_of, IsTaken, answer_of, IsPlanned, after_frames};
 ghost use Rattle.hub_core.specs.Peers.{snapshot_to};
 
 use crate::answers::Received;
@@ -51,17 +51,17 @@ impl Model for Hub {
 
     ghost Value = { Hub };
 
-    ghost use Rattle.hub_core.specs.Hubs.{shown, IsKept};
+    ghost use Rattle.hub_core.specs.Hubs.{hub_of_parts, IsKept};
 
-    ghost view = { λ hub. shown hub.server hub.issued hub.published hub.changed hub.counts hub.peers.items };
+    ghost view = { λ hub. hub_of_parts hub.server hub.issued hub.published hub.changed hub.counts hub.peers.items };
 
-    ghost invariant = { λ hub. IsKept (shown hub.server hub.issued hub.published hub.changed hub.counts hub.peers.items) };
+    ghost invariant = { λ hub. IsKept (hub_of_parts hub.server hub.issued hub.published hub.changed hub.counts hub.peers.items) };
 }
 
 impl Hub {
     /// The hub of a server that has just started: nothing is counted, and nothing is known of any peer.
     pub fn new(alloc: Global, server: Server) -> Result<Hub, AllocError>
-        ensures { IfOk result (λ hub. hub ≡ started server) }
+        ensures { IfOk result (λ hub. hub ≡ hub_at_start server) }
     {
         let _me = server.me();
         let peers = unknown_peers(alloc, server.names().len())?;
@@ -246,7 +246,7 @@ impl Hub {
     pub fn commit_message(&mut self, frame: &Numbered)
         requires message { has_message frame.now.body ≡ true }
         requires taken { IsTaken self.old.server self.old.state frame.now }
-        ensures { self.new ≡ record self.old { state = received self.old.server self.old.state frame.now } }
+        ensures { self.new ≡ record self.old { state = after_receive self.old.server self.old.state frame.now } }
     {
         let place = peer_place(&self.server, frame.from()).unwrap();
         let alloc = self.alloc;
@@ -259,7 +259,7 @@ impl Hub {
     fn hear(&mut self, frame: &Numbered) -> Result<(), Failure<HubFault>>
         requires news { has_message frame.now.body ≡ false }
         requires taken { IsTaken self.old.server self.old.state frame.now }
-        ensures { IsAnswered None (λ _. self.new ≡ record self.old { state = received self.old.server self.old.state frame.now }) (self.new ≡ self.old) result }
+        ensures { IsAnswered None (λ _. self.new ≡ record self.old { state = after_receive self.old.server self.old.state frame.now }) (self.new ≡ self.old) result }
     {
         let place = peer_place(&self.server, frame.from()).unwrap();
         let alloc = self.alloc;
@@ -294,7 +294,7 @@ impl Hub {
     /// memory.
     pub fn commit_publish(&mut self, frames: Vec<Numbered>)
         requires { IsPlanned self.old.server self.old.state frames.items }
-        ensures { self.new ≡ record self.old { state = put_out self.old.server self.old.state frames.items } }
+        ensures { self.new ≡ record self.old { state = after_frames self.old.server self.old.state frames.items } }
     {
         self.issued = self.issued.next().unwrap();
         self.published += 1;

@@ -2,7 +2,7 @@
 
 ghost use Rattle.std.specs.Prelude.{◌≡◌, ◌≤◌, ◌<◌, ◌+◌, ◌++◌, ◌∷◌, [], true, false, take, drop, length, replicate, vec_len, vec_capacity, IfOk, OnErr};
 ghost use Rattle.std.specs.VecDeque.{deque_capacity};
-ghost use Rattle.hub_core.specs.State.{known, unknown_peer};
+ghost use Rattle.hub_core.specs.State.{peer_in_life, unknown_peer};
 ghost use Rattle.subj.specs.declared.limits.TheConstants.{ROUTE_FRAMES, MAX_INCARNATION};
 
 use interest::View;
@@ -84,7 +84,7 @@ impl Peer {
     /// A frame of this incarnation is looked at, or a session has it: a greater one than was seen begins
     /// anew, and is not up.
     pub fn know(&mut self, alloc: Global, inc: Incarnation)
-        ensures { self.new ≡ known self.old inc }
+        ensures { self.new ≡ peer_in_life self.old inc }
     {
         if self.seen < inc.get() {
             self.seen = inc.get();

@@ -5,7 +5,7 @@ ghost use Rattle.subj.specs.Answers.{IsAnswered};
 ghost use Rattle.subj.specs.Servers.{is_peer, place as place_of};
 ghost use Rattle.interest.specs.Heard.{news_fault, heard_after, Changed};
 ghost use Rattle.hub_core.specs.Faults.{fault_of_interest as as_hub_fault};
-ghost use Rattle.hub_core.specs.State.{known};
+ghost use Rattle.hub_core.specs.State.{peer_in_life};
 ghost use Rattle.hub_core.specs.Receiving.{told_by, has_message as says_message};
 ghost use Rattle.hub_core.specs.Calls.{address_fault as wrong_address, interest_fault as unheard, heard_by};
 
@@ -103,14 +103,14 @@ pub(crate) fn is_message(frame: &Numbered) -> bool
 impl Peer {
     /// The mark of a life of the peer, as far as it is known.
     pub fn mark_in(&self, inc: u64) -> u64
-        ensures { result ≡ (known self.now inc).mark }
+        ensures { result ≡ (peer_in_life self.now inc).mark }
     {
         if self.seen < inc { 0 } else { self.mark }
     }
 
     /// Why the news of a frame are not heard, or None where they are, or where it is a message.
     pub fn interest_fault(&self, alloc: Global, frame: &Numbered) -> Option<HubFault>
-        ensures { result ≡ unheard (known self.now frame.now.inc).heard frame.now.number frame.now.body }
+        ensures { result ≡ unheard (peer_in_life self.now frame.now.inc).heard frame.now.number frame.now.body }
     {
         if self.seen < frame.inc().get() {
             return interest_fault(&View::new(alloc), frame.number(), frame.body());
@@ -122,7 +122,7 @@ impl Peer {
     /// leaves all as it was.
     pub fn hear(&mut self, alloc: Global, frame: &Numbered) -> Result<(), Failure<HubFault>>
         requires { says_message frame.now.body ≡ false }
-        ensures { IsAnswered (unheard (known self.old frame.now.inc).heard frame.now.number frame.now.body) (λ _. self.new ≡ told_by frame.now.body frame.now.number (known self.old frame.now.inc)) (self.new ≡ self.old) result }
+        ensures { IsAnswered (unheard (peer_in_life self.old frame.now.inc).heard frame.now.number frame.now.body) (λ _. self.new ≡ told_by frame.now.body frame.now.number (peer_in_life self.old frame.now.inc)) (self.new ≡ self.old) result }
     {
         if self.seen < frame.inc().get() {
             let mut heard = View::new(alloc);
@@ -137,7 +137,7 @@ impl Peer {
     /// Takes the message of a frame.
     pub fn take_message(&mut self, alloc: Global, frame: &Numbered)
         requires { says_message frame.now.body ≡ true }
-        ensures { self.new ≡ told_by frame.now.body frame.now.number (known self.old frame.now.inc) }
+        ensures { self.new ≡ told_by frame.now.body frame.now.number (peer_in_life self.old frame.now.inc) }
     {
         self.know(alloc, frame.inc());
         self.mark = frame.number();

@@ -1,7 +1,7 @@
 //! Examples: a queue group with members on two of three servers, one of which has two keys for it: a peer, and the server itself.
 
 use crate::driver::{Came, Driver};
-use crate::made::{frame, key, plus, said};
+use crate::made::{frame, hello_publication, key, plus};
 use hub_core::PublishPlan;
 use route_values::Body;
 use std::alloc::Global;
@@ -27,7 +27,7 @@ fn fill(rt: &impl Abort, alloc: Global, hub: &mut Driver) -> Result<(), Fail> {
 }
 
 /// The last byte of the peer's name of the frame at the place, and how many queue names it has.
-fn sent(plan: &PublishPlan, place: usize) -> Option<(u8, usize)> {
+fn sent_frame(plan: &PublishPlan, place: usize) -> Option<(u8, usize)> {
     let frame = plan.frames.get(place)?;
     let to = frame.to();
     let last = *to.bytes().last()?;
@@ -44,7 +44,7 @@ type Split = (usize, Option<(u8, usize)>, Option<(u8, usize)>);
 fn split(hub: &Driver, said: &Pub, word: u64) -> Option<Split> {
     let plan = hub.plan(said, word)?;
     let names = plan.job.queues.as_slice().len();
-    Some((names, sent(&plan, 0), sent(&plan, 1)))
+    Some((names, sent_frame(&plan, 0), sent_frame(&plan, 1)))
 }
 
 /// Of three words two are those of n2, which has two of three members; without n2 all are those of n1.
@@ -64,7 +64,7 @@ fn pick(rt: &impl Abort, hub: &mut Driver, said: &Pub) {
 fn the_word_picks_a_server(rt: HostRuntime) -> Result<(), Fail> {
     let mut hub = Driver::start(rt.alloc(), 3, 3, 1)?;
     fill(&rt, rt.alloc(), &mut hub)?;
-    pick(&rt, &mut hub, &said(rt.alloc())?);
+    pick(&rt, &mut hub, &hello_publication(rt.alloc())?);
     Ok(())
 }
 
@@ -96,6 +96,6 @@ fn pick_own(rt: &impl Abort, hub: &Driver, said: &Pub) {
 fn each_key_of_the_server_itself_counts(rt: HostRuntime) -> Result<(), Fail> {
     let mut hub = Driver::start(rt.alloc(), 2, 3, 1)?;
     fill_own(&rt, rt.alloc(), &mut hub)?;
-    pick_own(&rt, &hub, &said(rt.alloc())?);
+    pick_own(&rt, &hub, &hello_publication(rt.alloc())?);
     Ok(())
 }

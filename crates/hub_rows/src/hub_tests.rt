@@ -10,7 +10,7 @@ use std::test::Fail;
 use subj::{Finished, Turn, WINDOW};
 
 /// What comes of a message of n2.
-fn routed(
+fn message_outcome(
     alloc: Global,
     hub: &mut Driver,
     inc: u64,
@@ -33,7 +33,7 @@ fn messages_are_taken_once(rt: HostRuntime) -> Result<(), Fail> {
         (7, 5, 10, Came::Refused(66)),
     ];
     for (inc, to_inc, number, came) in table {
-        let heard = routed(rt.alloc(), &mut hub, inc, to_inc, number)?;
+        let heard = message_outcome(rt.alloc(), &mut hub, inc, to_inc, number)?;
         assert_eq!(rt; heard, came);
     }
     assert_eq!(rt; hub.seen_of(1), 8);
@@ -41,7 +41,12 @@ fn messages_are_taken_once(rt: HostRuntime) -> Result<(), Fail> {
 }
 
 /// What comes of news of n2: of all its interest, which is none, or of one key more.
-fn told(alloc: Global, hub: &mut Driver, is_snapshot: bool, number: u64) -> Result<Came, Fail> {
+fn news_outcome(
+    alloc: Global,
+    hub: &mut Driver,
+    is_snapshot: bool,
+    number: u64,
+) -> Result<Came, Fail> {
     let body = if is_snapshot {
         Body::Snapshot(SnapshotKeys::new(alloc))
     } else {
@@ -62,7 +67,7 @@ fn news_are_heard_in_order(rt: HostRuntime) -> Result<(), Fail> {
         (false, 6, Came::Heard(6)),
     ];
     for (is_snapshot, number, came) in table {
-        let heard = told(rt.alloc(), &mut hub, is_snapshot, number)?;
+        let heard = news_outcome(rt.alloc(), &mut hub, is_snapshot, number)?;
         assert_eq!(rt; heard, came);
     }
     Ok(())
@@ -107,10 +112,10 @@ fn rejoin(hub: &mut Driver) -> Result<(), Fail> {
 }
 
 fn join_twice(rt: &impl Abort, alloc: Global, hub: &mut Driver) -> Result<(), Fail> {
-    assert_eq!(rt; routed(alloc, hub, 7, 5, 1)?, Came::Routed(1));
+    assert_eq!(rt; message_outcome(alloc, hub, 7, 5, 1)?, Came::Routed(1));
     rejoin(hub)?;
     rejoin(hub)?;
-    assert_eq!(rt; routed(alloc, hub, 7, 5, 1)?, Came::Refused(67));
+    assert_eq!(rt; message_outcome(alloc, hub, 7, 5, 1)?, Came::Refused(67));
     assert_eq!(rt; hub.take(5)?, 1);
     Ok(())
 }

@@ -30,7 +30,7 @@ fn number_of(answer: Result<Option<Change>, Failure<InterestFault>>) -> u64 {
 }
 
 /// What is told of one delta.
-fn told(
+fn change_number(
     alloc: Global,
     local: &mut Local,
     pattern: &[u8],
@@ -52,7 +52,10 @@ fn assert_told(
     let key = key(alloc, b"foo", queue)?;
     let mut local = Local::new(alloc)?;
     for (up, answer, weight) in table {
-        assert_eq!(rt; told(alloc, &mut local, b"foo", queue, *up)?, *answer);
+        assert_eq!(rt;
+            change_number(alloc, &mut local, b"foo", queue, *up)?,
+            *answer
+        );
         assert_eq!(rt; local.weight(&key), *weight);
     }
     Ok(())
@@ -111,7 +114,10 @@ fn keys_stand_in_order(rt: HostRuntime) -> Result<(), Fail> {
         (b"a", b"p"),
     ];
     for (pattern, queue) in opened {
-        assert_eq!(rt; told(rt.alloc(), &mut local, pattern, queue, true)?, 1);
+        assert_eq!(rt;
+            change_number(rt.alloc(), &mut local, pattern, queue, true)?,
+            1
+        );
     }
     let order: [(&[u8], usize); 6] = [
         (b"a", 0),
@@ -133,8 +139,14 @@ fn has_plain(alloc: Global, local: &Local, subject: &[u8]) -> Result<bool, Fail>
 #[test]
 fn only_plain_keys_match_plainly(rt: HostRuntime) -> Result<(), Fail> {
     let mut local = Local::new(rt.alloc())?;
-    assert_eq!(rt; told(rt.alloc(), &mut local, b"foo.*", b"", true)?, 1);
-    assert_eq!(rt; told(rt.alloc(), &mut local, b"bar", b"q", true)?, 1);
+    assert_eq!(rt;
+        change_number(rt.alloc(), &mut local, b"foo.*", b"", true)?,
+        1
+    );
+    assert_eq!(rt;
+        change_number(rt.alloc(), &mut local, b"bar", b"q", true)?,
+        1
+    );
     let table: [(&[u8], bool); 4] = [
         (b"foo.a", true),
         (b"foo", false),
@@ -152,18 +164,21 @@ fn a_key_has_a_greatest_weight(rt: HostRuntime) -> Result<(), Fail> {
     let mut local = Local::new(rt.alloc())?;
     for before in 0..MAX_WEIGHT {
         assert_eq!(rt;
-            told(rt.alloc(), &mut local, b"foo", b"q", true)?,
+            change_number(rt.alloc(), &mut local, b"foo", b"q", true)?,
             before + 1
         );
     }
     for (up, answer) in [(true, REFUSED + 43), (false, 65_535), (true, 65_536)] {
-        assert_eq!(rt; told(rt.alloc(), &mut local, b"foo", b"q", up)?, answer);
+        assert_eq!(rt;
+            change_number(rt.alloc(), &mut local, b"foo", b"q", up)?,
+            answer
+        );
     }
     Ok(())
 }
 
 /// The last five digits of the number.
-pub(crate) fn numbered(number: u64) -> [u8; 5] {
+pub(crate) fn pattern_of_number(number: u64) -> [u8; 5] {
     let mut digits = [b'0'; 5];
     let mut left = number;
     for digit in digits.iter_mut().rev() {
@@ -178,7 +193,13 @@ fn there_is_a_greatest_number_of_keys(rt: HostRuntime) -> Result<(), Fail> {
     let mut local = Local::new(rt.alloc())?;
     for number in 0..MAX_KEYS {
         assert_eq!(rt;
-            told(rt.alloc(), &mut local, &numbered(number), b"", true)?,
+            change_number(
+                rt.alloc(),
+                &mut local,
+                &pattern_of_number(number),
+                b"",
+                true
+            )?,
             1
         );
     }
@@ -190,7 +211,10 @@ fn there_is_a_greatest_number_of_keys(rt: HostRuntime) -> Result<(), Fail> {
         (b"x", true, 1),
     ];
     for (pattern, up, answer) in table {
-        assert_eq!(rt; told(rt.alloc(), &mut local, pattern, b"", up)?, answer);
+        assert_eq!(rt;
+            change_number(rt.alloc(), &mut local, pattern, b"", up)?,
+            answer
+        );
     }
     assert_eq!(rt; local.keys().count(), 65_536);
     Ok(())
@@ -204,12 +228,15 @@ fn keys_have_a_greatest_number_of_bytes(rt: HostRuntime) -> Result<(), Fail> {
     // 3,771 keys of 1,112 bytes each, and then one of the 952 bytes that are left
     let each = MAX_SUBJECT as u64 + MAX_QUEUE_NAME as u64 + SUBSCRIPTION_COST;
     for number in 0..SUBSCRIPTION_BYTES / each {
-        pattern[..5].copy_from_slice(&numbered(number));
-        assert_eq!(rt; told(rt.alloc(), &mut local, &pattern, &queue, true)?, 1);
+        pattern[..5].copy_from_slice(&pattern_of_number(number));
+        assert_eq!(rt;
+            change_number(rt.alloc(), &mut local, &pattern, &queue, true)?,
+            1
+        );
     }
     for (len, answer) in [(929, REFUSED + 43), (928, 1), (1, REFUSED + 43)] {
         assert_eq!(rt;
-            told(rt.alloc(), &mut local, &pattern[5..5 + len], b"", true)?,
+            change_number(rt.alloc(), &mut local, &pattern[5..5 + len], b"", true)?,
             answer
         );
     }

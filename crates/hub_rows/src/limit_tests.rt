@@ -2,7 +2,7 @@
 //! the last number.
 
 use crate::driver::{Came, Driver, Issued};
-use crate::made::{frame, key, message, plus, said};
+use crate::made::{frame, hello_publication, key, message, plus};
 use std::alloc::Global;
 use std::process::Abort;
 use std::test::Fail;
@@ -41,7 +41,7 @@ fn exceed_names(rt: &impl Abort, alloc: Global, hub: &mut Driver, said: &Pub) ->
 
 #[test]
 fn a_publication_has_up_to_64_queue_names(rt: HostRuntime) -> Result<(), Fail> {
-    let said = said(rt.alloc())?;
+    let said = hello_publication(rt.alloc())?;
     let mut hub = Driver::start(rt.alloc(), 2, 2, 1)?;
     exceed_names(&rt, rt.alloc(), &mut hub, &said)
 }
@@ -83,7 +83,7 @@ fn exceed_frames(rt: &impl Abort, hub: &mut Driver, said: &Pub) -> Result<(), Fa
 
 #[test]
 fn up_to_1024_frames_wait(rt: HostRuntime) -> Result<(), Fail> {
-    let said = said(rt.alloc())?;
+    let said = hello_publication(rt.alloc())?;
     let mut hub = Driver::start(rt.alloc(), 2, 2, 1)?;
     want(&rt, rt.alloc(), &mut hub)?;
     exceed_frames(&rt, &mut hub, &said)

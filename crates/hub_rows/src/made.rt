@@ -51,7 +51,7 @@ pub(crate) fn key(alloc: Global, pattern: &[u8], queue: &[u8]) -> Result<Key, Fa
 }
 
 /// A publication on `foo`.
-pub(crate) fn said(alloc: Global) -> Result<Pub, Fail> {
+pub(crate) fn hello_publication(alloc: Global) -> Result<Pub, Fail> {
     let subject = Subject::read(alloc, b"foo")?;
     let payload = Bytes::copy_from_slice(alloc, b"hello")?;
     Ok(Pub::new(alloc, subject, None, payload, true)?.ok_or("a publication")?)

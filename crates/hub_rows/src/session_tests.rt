@@ -104,10 +104,10 @@ fn hear_connects(rt: &impl Abort, n1: &mut Sessions, n2: &mut Sessions) -> Resul
 
 /// Of n2's sessions the one that is kept ends, once.
 fn end(rt: &impl Abort, n2: &mut Sessions) {
-    assert_eq!(rt; n2.kept(0), Some(second()));
+    assert_eq!(rt; n2.kept_session(0), Some(second()));
     assert_eq!(rt; n2.cut(first()), Err(SessionFault::UnknownSession));
     assert_eq!(rt; n2.cut(second()), Ok(Some(0)));
-    assert_eq!(rt; n2.kept(0), None);
+    assert_eq!(rt; n2.kept_session(0), None);
 }
 
 #[test]
@@ -115,7 +115,7 @@ fn both_keep_the_session_of_the_first_server(rt: HostRuntime) -> Result<(), Fail
     let (mut n1, mut n2) = crossing(rt.alloc())?;
     hear_infos(&rt, &mut n1, &mut n2)?;
     hear_connects(&rt, &mut n1, &mut n2)?;
-    assert_eq!(rt; n1.kept(1), Some(first()));
+    assert_eq!(rt; n1.kept_session(1), Some(first()));
     end(&rt, &mut n2);
     Ok(())
 }

@@ -1,6 +1,6 @@
 //! Examples: news that are late, behind a gap, or of a key that is not there; and who wants a subject.
 
-use crate::interest_tests::numbered;
+use crate::interest_tests::pattern_of_number;
 use crate::made::key;
 use interest::{Change, FoundNames, InterestFault, View};
 use route_values::{SnapshotKeys, WeightedKey};
@@ -10,7 +10,12 @@ use std::test::Fail;
 use subj::{Failure, MAX_KEYS, QueueName, Subject};
 
 /// The key with this weight.
-fn weighted(alloc: Global, pattern: &[u8], queue: &[u8], weight: u64) -> Result<WeightedKey, Fail> {
+fn weighted_key(
+    alloc: Global,
+    pattern: &[u8],
+    queue: &[u8],
+    weight: u64,
+) -> Result<WeightedKey, Fail> {
     let key = key(alloc, pattern, queue)?;
     Ok(WeightedKey::new(key, weight).ok_or("a weight")?)
 }
@@ -35,7 +40,7 @@ fn heard(
 ) -> Result<u16, Fail> {
     let change = match weight {
         0 => Change::Gone(key(alloc, pattern, queue)?),
-        _ => Change::Up(weighted(alloc, pattern, queue, weight)?),
+        _ => Change::Up(weighted_key(alloc, pattern, queue, weight)?),
     };
     Ok(number_of(view.hear(number, change)))
 }
@@ -115,7 +120,7 @@ fn heard_keys_want_subjects(rt: HostRuntime) -> Result<(), Fail> {
 fn numbered_keys(alloc: Global, count: u64) -> Result<SnapshotKeys, Fail> {
     let mut keys = Vec::new(alloc);
     for number in 0..count {
-        keys.push(weighted(alloc, &numbered(number), b"", 1)?)?;
+        keys.push(weighted_key(alloc, &pattern_of_number(number), b"", 1)?)?;
     }
     Ok(SnapshotKeys::from_keys(keys).ok_or("a snapshot")?)
 }

@@ -6,7 +6,7 @@ use Rattle.subj.specs.declared.limits.TheConstants.{MAX_KEYS}
 use Rattle.subj.specs.Keys.{key_cmp}
 use Rattle.interest.specs.declared.changes.Change.{Change}
 use Rattle.interest.specs.declared.faults.InterestFault.{InterestFault}
-use Rattle.interest.specs.Views.{View, followed, change_fault, snapshot_fault}
+use Rattle.interest.specs.Views.{View, view_with_change, change_fault, snapshot_fault}
 
 -- the number of the last change heard, and the keys after it
 pub record Heard : Type 0 where
@@ -31,7 +31,7 @@ news_fault heard (Changed number change) = change_fault heard.mark heard.keys nu
 news_fault heard (Whole number keys) = snapshot_fault heard.mark number keys
 
 abbrev pub heard_after : Heard → News → Heard
-heard_after heard (Changed number change) = record { mark = number; keys = followed change heard.keys }
+heard_after heard (Changed number change) = record { mark = number; keys = view_with_change change heard.keys }
 heard_after heard (Whole number keys) = record { mark = number; keys = keys }
 
 -- what is refused changes nothing

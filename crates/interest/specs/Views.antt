@@ -26,18 +26,18 @@ abbrev pub has_key : View → Key → Bool
 has_key view key = is_some (lookup (is_at (key_cmp key)) view)
 
 -- NATS documentation, "Cluster Protocol": `RS+` says that the key is there, `RS-` that it is gone; the weight told takes the place of the one before
-abbrev pub followed : Change → View → View
-followed (Up weighted) view = insert_entry key_cmp view weighted.0 weighted.1
-followed (Gone key) view = remove_entry (is_at (key_cmp key)) view
+abbrev pub view_with_change : Change → View → View
+view_with_change (Up weighted) view = insert_entry key_cmp view weighted.0 weighted.1
+view_with_change (Gone key) view = remove_entry (is_at (key_cmp key)) view
 
 abbrev pub followed_if : Option Change → View → View
 followed_if None view = view
-followed_if (Some change) view = followed change view
+followed_if (Some change) view = view_with_change change view
 
 -- after these changes, in order
 abbrev pub view_after : List Change → View → View
 view_after [] view = view
-view_after (change ∷ changes) view = view_after changes (followed change view)
+view_after (change ∷ changes) view = view_after changes (view_with_change change view)
 
 -- what an incarnation has told by its first changes, so many of them: they act on no keys, in order
 abbrev pub view_at : List Change → ℕ → View

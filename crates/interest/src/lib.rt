@@ -9,19 +9,19 @@
 //! }
 //! ```
 //!
-//! In reading order: `changes` is what is counted and told; `counts` is the server's own interest, and `views` that of a peer, both
-//! over keys in order (`ordered`, `key_lists`). `seeks` with `sights` finds the keys that match a subject, `matches` and `names` say who
+//! In reading order: `changes` is what is counted and told; `local` is the server's own interest, and `views` that of a peer, both
+//! over keys in order (`ordered_keys`, `keys`). `seeks` with `sights` finds the keys that match a subject, `matches` and `names` say who
 //! wants it. `tally` and `recounts` count many changes at once.
 #![tactic(auto)]
 
 mod changes;
-mod counts;
 mod faults;
-mod key_lists;
+mod keys;
 mod laws;
+mod local;
 mod matches;
 mod names;
-mod ordered;
+mod ordered_keys;
 mod recounts;
 mod seeks;
 mod sights;
@@ -29,13 +29,13 @@ mod tally;
 mod views;
 
 pub use changes::{Change, Delta};
-pub use counts::Local;
 pub use faults::InterestFault;
-pub use key_lists::Keys;
+pub use keys::Keys;
 pub use laws::{
     counts_and_changes_agree, counts_are_of_the_open, counts_can_be_told, openings_are_counted,
     views_are_of_their_origin,
 };
+pub use local::Local;
 pub use names::{FoundNames, TooManyNames};
 pub use recounts::{Numbers, Recount};
 pub use tally::DeltaPlan;

@@ -6,7 +6,7 @@ ghost use Rattle.std.specs.Map.{keys_of};
 ghost use Rattle.subj.specs.Keys.{key_cmp};
 ghost use Rattle.interest.specs.Recounts.{is_first_below, is_first_at, below, from_key, without_first, one_if, with_numbers};
 
-use crate::ordered::OrderedKey;
+use crate::ordered_keys::OrderedKey;
 use std::cmp::Ordering;
 use std::collections::{BTreeMap, VecDeque};
 use subj::Key;
@@ -120,7 +120,7 @@ fn move_all(entries: &mut VecDeque<Entry>, done: &mut Vec<Entry>)
 
 /// The entries after each of these keys has taken its number, in the room for them. Takes no memory, and
 /// no more time than there are entries and numbers.
-pub(crate) fn recounted(
+pub(crate) fn entries_after(
     entries: Vec<Entry>,
     numbers: BTreeMap<OrderedKey, u64>,
     room: Vec<Entry>,

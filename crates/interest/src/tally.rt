@@ -11,9 +11,9 @@ ghost use Rattle.interest.specs.declared.recounts.Recount.TheVariants.{Many};
 ghost use Rattle.interest.specs.Told.{counts_told, changes_told as told, are_refused};
 
 use crate::changes::{Change, Delta};
-use crate::counts::{Local, PLACES, change, number_after};
-use crate::ordered::OrderedKey;
-use crate::recounts::{Numbers, Recount, recounted};
+use crate::local::{Local, PLACES, change, number_after};
+use crate::ordered_keys::OrderedKey;
+use crate::recounts::{Numbers, Recount, entries_after};
 use std::alloc::{AllocError, Global};
 use std::cmp::Ordering;
 use std::collections::{BTreeMap, VecDeque};
@@ -304,7 +304,7 @@ impl Local {
             room,
         } = many;
         let entries = replace(&mut self.entries, Vec::new(self.alloc));
-        self.entries = recounted(entries, numbers, room);
+        self.entries = entries_after(entries, numbers, room);
         self.bytes = bytes;
     }
 

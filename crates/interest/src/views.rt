@@ -9,7 +9,7 @@ ghost use Rattle.subj.specs.Keys.{key_cmp};
 ghost use Rattle.interest.specs.Places.{IsPlaceOf, IsGapFor};
 ghost use Rattle.interest.specs.Heard.{Changed, Whole, IsHeard, nothing_heard, news_fault, heard_after};
 ghost use Rattle.interest.specs.Matches.{has_plain_match, has_queue_match, weight_in, names_in as names_of, AreGathered};
-ghost use Rattle.interest.specs.Views.{follow_fault as fault_of_following, followed, has_key};
+ghost use Rattle.interest.specs.Views.{follow_fault as fault_of_following, view_with_change, has_key};
 ghost use Rattle.interest.specs.declared.changes.Change.TheVariants.{Up, Gone};
 ghost use Rattle.interest.specs.declared.faults.InterestFault.TheVariants.{Late, Gap};
 
@@ -58,7 +58,7 @@ fn take_away(keys: &mut Vec<WeightedKey>, key: &Key)
 fn follow(keys: &mut Vec<WeightedKey>, change: Change) -> Result<(), AllocError>
     requires heard { IsHeard keys.old.items }
     requires taken { fault_of_following keys.old.items change ≡ None }
-    ensures ok { OnOk result (keys.new.items ≡ followed change keys.old.items) }
+    ensures ok { OnOk result (keys.new.items ≡ view_with_change change keys.old.items) }
     ensures err { OnErr result (keys.new.items ≡ keys.old.items) }
     ensures heard { IsHeard keys.new.items }
 {

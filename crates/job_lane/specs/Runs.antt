@@ -25,8 +25,8 @@ not_given None = []
 not_given (Some run) = drop 1 run
 
 -- those of all jobs that came which were given
-abbrev pub given : List Job → Option (List Job) → List Job
-given came run = take (length came - length (not_given run)) came
+abbrev pub jobs_given : List Job → Option (List Job) → List Job
+jobs_given came run = take (length came - length (not_given run)) came
 
 -- what was not given yet came last
 abbrev pub IsGiving : List Job → Option (List Job) → Type 0

@@ -68,13 +68,13 @@ impl Model for LaneOut {
     ghost use Rattle.crossbeam_queue.specs.Passes.{IsPassOf};
     ghost use Rattle.job_lane.specs.Ends.{Reader};
     ghost use Rattle.job_lane.specs.Rule.{known_by, IsPopping};
-    ghost use Rattle.job_lane.specs.Runs.{IsGiving, given, job_in_hand, jobs_of};
+    ghost use Rattle.job_lane.specs.Runs.{IsGiving, jobs_given, job_in_hand, jobs_of};
 
     ghost Value = { Reader };
 
     ghost view = { λ end. record {
       lane = end.pass.table_id;
-      popped = given (jobs_of (known_by end.pass).popped) end.run;
+      popped = jobs_given (jobs_of (known_by end.pass).popped) end.run;
       hand = job_in_hand end.run;
     } };
 

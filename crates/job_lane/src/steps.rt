@@ -5,7 +5,7 @@ ghost use Rattle.crossbeam_queue.specs.Passes.{view, IsPassOf, IsSamePass, ruled
 ghost use Rattle.subj.specs.declared.jobs.Job.{Job};
 ghost use Rattle.job_lane.specs.Ends.{HadRoom, LackedRoom};
 ghost use Rattle.job_lane.specs.Rule.{AreLastLengths, IsPushing, IsPopping, total_of};
-ghost use Rattle.job_lane.specs.Runs.{GoesOnIn, IsFirstTurn, IsGiving, IsTaken, given, jobs_of, not_given};
+ghost use Rattle.job_lane.specs.Runs.{GoesOnIn, IsFirstTurn, IsGiving, IsTaken, jobs_given, jobs_of, not_given};
 ghost use Rattle.job_lane.specs.Turns.{AreNumberedBehind};
 
 use crate::counts::Count;
@@ -98,7 +98,7 @@ pub fn take_next<R: Wait>(
     ensures table { pass.new.table_id ≡ pass.old.table_id }
     ensures popping { IsPopping (view pass.new) }
     ensures giving { IsGiving (jobs_of (view pass.new).popped) run.new }
-    ensures taken { IsTaken (given (jobs_of (view pass.old).popped) run.old) (given (jobs_of (view pass.new).popped) run.new) run.new result }
+    ensures taken { IsTaken (jobs_given (jobs_of (view pass.old).popped) run.old) (jobs_given (jobs_of (view pass.new).popped) run.new) run.new result }
 {
     if go_on(run) {
         return first_turn(run);

@@ -1,7 +1,7 @@
 -- What a pipe still has to say, and what its steps do about it.
 use Rattle.std.specs.Prelude.{◌≡◌, ℕ, ◌+◌, ◌<◌, true, List, [], ◌++◌, sum_by, Option, Some, None, Result, Ok, Err}
 use Rattle.std.specs.Io.KnownBytes.{Appends}
-use Rattle.client_conn.specs.Asks.{Asking, ConnState, over, fed}
+use Rattle.client_conn.specs.Asks.{Asking, ConnState, over, asks_after_bytes}
 use Rattle.client_conn.specs.Shuts.{AsksToShut}
 use Rattle.mesh_pipe.specs.declared.faults.PipeFault.{PipeFault}
 use Rattle.mesh_pipe.specs.declared.faults.PipeFault.TheVariants.{Read, Write, OutOfMemory}
@@ -9,7 +9,7 @@ use Rattle.mesh_pipe.specs.declared.pipe.Flow.{Flow}
 use Rattle.mesh_pipe.specs.declared.pipe.Flow.TheVariants.{Open, Closed}
 use Rattle.mesh_pipe.specs.declared.pipe_server.PipeServer.{PipeServer}
 use Rattle.mesh_pipe.specs.PipeText.{Served, Output, no_output, text_before, asks_said}
-use Rattle.mesh_pipe.specs.PipeStates.{IsReady, served, asks_of}
+use Rattle.mesh_pipe.specs.PipeStates.{IsReady, served_state, asks_of}
 
 -- ---- where a pipe stands in its stream
 
@@ -19,7 +19,7 @@ pub record PipeState : Type 0 where
 
 -- what is said of what stands to be asked, and of what these bytes ask for
 abbrev pub said_from : PipeState → List ℕ → Output
-said_from at more = asks_said (fed more at.asking).asks at.served
+said_from at more = asks_said (asks_after_bytes more at.asking).asks at.served
 
 -- nothing is said before more bytes come
 abbrev pub Waits : PipeState → Type 0
@@ -37,12 +37,12 @@ pub record Ends (from : PipeState) (said : List ℕ) : Type 0 where
 -- ---- the connection and its server
 
 abbrev pub state_of : ConnState → PipeServer → PipeState
-state_of conn server = record { asking = conn.asking; served = served server }
+state_of conn server = record { asking = conn.asking; served = served_state server }
 
 pub record IsInStep (conn : ConnState) (server : PipeServer) : Type 0 where
   pub ready : IsReady server
   -- all that the bytes ask for stands to be asked
-  pub settled : fed [] conn.asking ≡ conn.asking
+  pub settled : asks_after_bytes [] conn.asking ≡ conn.asking
   -- and where nothing is read any more, it is asked to shut the connection
   pub shuts : conn.asking.onward ≡ over → AsksToShut conn.asking.asks
 

@@ -10,7 +10,7 @@ use Rattle.client_refusals.specs.Refusals.{refusal_of_shard, refusal_of_hub}
 use Rattle.claim_race.specs.Race.{RaceState, winner}
 use Rattle.hub_core.specs.State.{unknown_peer}
 use Rattle.outbox.specs.Views.{bytes_of_all}
-use Rattle.shard_core.specs.Owed.{walked}
+use Rattle.shard_core.specs.Owed.{whole_walk}
 use Rattle.shard_core.specs.Shards.{State, new_shard, waits_for}
 use Rattle.shard_core.specs.ShardEvents.{Event, Begin, Claim, End}
 use Rattle.shard_core.specs.ShardSteps.{shard_after}
@@ -21,7 +21,7 @@ use Rattle.node_law.specs.declared.faults.NodeFault.TheVariants as node_fault
 use Rattle.node_law.specs.State.{Line, Node}
 use Rattle.node_law.specs.Runs.{Done, Ran}
 use Rattle.node_core.specs.Served as of_node
-use Rattle.mesh_pipe.specs.PipeText.{names_wanted, job_of, served_by, claimed_first, worked_off}
+use Rattle.mesh_pipe.specs.PipeText.{names_wanted, job_of, served_by, after_claims, after_job}
 
 -- node `n1`, alone in its cluster, in its first life, with one shard
 abbrev pub pipe_server : Server
@@ -105,7 +105,7 @@ pub record HasBegun (old : of_node.Served) (shut : Bool) (new : of_node.Served) 
   pub job : Job
   pub first : waiting_in old ≡ job ∷ []
   pub steps : Steps old (Begin job) new
-  pub is_shut : shut ≡ has_any (walked (shard_in old) job).shut
+  pub is_shut : shut ≡ has_any (whole_walk (shard_in old) job).shut
   pub race : new.node.race ≡ old.node.race
 
 -- the claim was won where there was a candidate
@@ -129,7 +129,7 @@ queues_in s = queues_of (shard_in s).hand
 -- all of them are claimed, and it is ended
 pub record HasClaimedAll (old new : of_node.Served) : Type 0 where
   pub serving : IsServing new
-  pub shard : shard_in new ≡ shard_after (claimed_first (queues_in old) (shard_in old)) End
+  pub shard : shard_in new ≡ shard_after (after_claims (queues_in old) (shard_in old)) End
   pub waiting : waiting_in new ≡ []
 
 -- the job that waits was worked off
@@ -137,9 +137,9 @@ pub record HasWorkedOff (old : of_node.Served) (shut : Bool) (new : of_node.Serv
   pub job : Job
   pub first : waiting_in old ≡ job ∷ []
   pub serving : IsServing new
-  pub shard : shard_in new ≡ worked_off job (shard_in old)
+  pub shard : shard_in new ≡ after_job job (shard_in old)
   pub waiting : waiting_in new ≡ []
-  pub is_shut : shut ≡ has_any (walked (shard_in old) job).shut
+  pub is_shut : shut ≡ has_any (whole_walk (shard_in old) job).shut
 
 abbrev pub first_queues : List Job → ℕ
 first_queues [] = 0

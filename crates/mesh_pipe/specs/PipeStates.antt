@@ -12,20 +12,20 @@ use Rattle.mesh_pipe.specs.PipeText.{Served, Output, at_first, at_rest, served_b
 use Rattle.mesh_pipe.specs.PipeServing.{IsServing, shard_in, waiting_in}
 
 -- what the answers depend on
-abbrev pub served : PipeServer → Served
-served server = served_by (shard_in server.node)
+abbrev pub served_state : PipeServer → Served
+served_state server = served_by (shard_in server.node)
 
 -- no job waits, all that was put was taken, and the hub was told of all
 pub record IsReady (server : PipeServer) : Type 0 where
   pub serving : IsServing server.node
   pub conn : server.conn ≡ 1
-  pub shard : shard_in server.node ≡ at_rest (served server)
+  pub shard : shard_in server.node ≡ at_rest (served_state server)
   pub waiting : waiting_in server.node ≡ []
 
 -- nothing was done yet
 pub record IsNew (server : PipeServer) : Type 0 where
   pub ready : IsReady server
-  pub same : served server ≡ at_first
+  pub same : served_state server ≡ at_first
   pub empty : server.output.items ≡ []
 
 -- ---- an ask
@@ -34,7 +34,7 @@ pub record IsNew (server : PipeServer) : Type 0 where
 pub record HasSaid (said : Output) (old new : PipeServer) : Type 0 where
   pub text : new.output.items ≡ old.output.items ++ said.text
   pub ready : IsReady new
-  pub same : served new ≡ said.served
+  pub same : served_state new ≡ said.served
 
 -- whether the connection was shut
 abbrev pub outcome_by : Bool → Outcome
@@ -51,7 +51,7 @@ IsTold Other s said = ⊥
 
 abbrev pub HasServed : Outcome → Output → PipeServer → PipeServer → Type 0
 HasServed (Answered (Ok done)) said old new = (said.closed ≡ false) × HasSaid said old new
-HasServed (Answered (Err why)) said old new = IsTold why (served old) said × (new ≡ old)
+HasServed (Answered (Err why)) said old new = IsTold why (served_state old) said × (new ≡ old)
 HasServed Closed said old new = (said.closed ≡ true) × (new.output.items ≡ old.output.items ++ said.text)
 
 -- how much an ask leads to, where of a refusal the client is told

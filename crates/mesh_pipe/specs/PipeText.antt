@@ -20,7 +20,7 @@ use Rattle.shard_core.specs.declared.faults.ShardFault.{ShardFault}
 use Rattle.shard_core.specs.declared.faults.ShardFault.TheVariants.{TooManySubs, Spent}
 use Rattle.shard_core.specs.ShardEvents.{Event, Subscribe, Unsubscribe, Reply, Shut, Begin, Claim, End}
 use Rattle.shard_core.specs.Shards.{State, new_shard, is_open, waits_for}
-use Rattle.shard_core.specs.ShardSteps.{attached, shard_refusal, shard_after}
+use Rattle.shard_core.specs.ShardSteps.{after_attach, shard_refusal, shard_after}
 
 -- ---- the server of a pipe (profile)
 
@@ -39,7 +39,7 @@ at_first = record { subs = []; opened = 0; jobs = 0 }
 
 -- its one shard, with its one connection, for which nothing waits
 abbrev pub at_rest : Served → State
-at_rest s = record (attached (new_shard 1 1)) { opened = s.opened; finished = s.jobs; subs = s.subs }
+at_rest s = record (after_attach (new_shard 1 1)) { opened = s.opened; finished = s.jobs; subs = s.subs }
 
 -- ---- what is written
 
@@ -87,8 +87,8 @@ abbrev pub opened_or_not : Key → List ℕ → Served → Option ShardFault →
 opened_or_not key sid s None = after_event (Subscribe 1 key sid) s
 opened_or_not key sid s (Some fault) = opening_refused fault s
 
-abbrev pub opening : Key → List ℕ → Served → Output
-opening key sid s = opened_or_not key sid s (shard_refusal (at_rest s) (Subscribe 1 key sid))
+abbrev pub output_of_subscribe : Key → List ℕ → Served → Output
+output_of_subscribe key sid s = opened_or_not key sid s (shard_refusal (at_rest s) (Subscribe 1 key sid))
 
 -- ---- a publication makes a job of the next turn, which is worked off
 
@@ -107,28 +107,28 @@ job_of p s = record {
 }
 
 -- the first so many queue names of the job in hand are claimed, in order, and each claim with a candidate is won
-abbrev pub claimed_first : ℕ → State → State
-claimed_first zero t = t
-claimed_first (suc n) t = shard_after (claimed_first n t) (Claim n true)
+abbrev pub after_claims : ℕ → State → State
+after_claims zero t = t
+after_claims (suc n) t = shard_after (after_claims n t) (Claim n true)
 
-abbrev pub worked_off : Job → State → State
-worked_off job t = shard_after (claimed_first (length job.queues) (shard_after t (Begin job))) End
+abbrev pub after_job : Job → State → State
+after_job job t = shard_after (after_claims (length job.queues) (shard_after t (Begin job))) End
 
 -- numbers are asked for first, and then whether the job has places for all queue names (profile)
-abbrev pub placing : Pub → Served → Output
-placing p s =
+abbrev pub output_of_publish : Pub → Served → Output
+output_of_publish p s =
     if nat_le MAX_COUNTER s.jobs then error_told NumbersSpent s
     else (if nat_lt MAX_QUEUE_NAMES (length (names_wanted p.message.subject s.subs)) then error_told TooManyQueueGroups s
-    else output_of (worked_off (job_of p s) (at_rest s)))
+    else output_of (after_job (job_of p s) (at_rest s)))
 
 -- ---- all that a client's connection asks
 
 abbrev pub ask_said : Ask → Served → Output
 ask_said (ask.Reply frame) s = after_event (Reply 1 frame) s
 ask_said (ask.Shut text) s = after_event (Shut 1 text) s
-ask_said (ask.Subscribe key sid) s = opening key sid s
+ask_said (ask.Subscribe key sid) s = output_of_subscribe key sid s
 ask_said (ask.Unsubscribe sid max) s = after_event (Unsubscribe 1 sid max) s
-ask_said (ask.Publish p) s = placing p s
+ask_said (ask.Publish p) s = output_of_publish p s
 
 -- one after the other, up to the first that closes
 unfoldable pub asks_said : List Ask → Served → Output

@@ -1,8 +1,8 @@
 //! What a pipe's server makes of what its client's connection asks.
 
 ghost use Rattle.std.specs.Prelude.{◌≡◌, [], IfOk, OnOk};
-ghost use Rattle.mesh_pipe.specs.PipeText.{after_event, opening, placing, ask_said};
-ghost use Rattle.mesh_pipe.specs.PipeStates.{outcome_by, served, IsNew, IsReady, HasServed, MayBeTold};
+ghost use Rattle.mesh_pipe.specs.PipeText.{after_event, output_of_subscribe, output_of_publish, ask_said};
+ghost use Rattle.mesh_pipe.specs.PipeStates.{outcome_by, served_state, IsNew, IsReady, HasServed, MayBeTold};
 ghost use Rattle.shard_core.specs.ShardEvents.{Unsubscribe, Reply, Shut};
 
 use crate::confirmation::Confirmation;
@@ -67,7 +67,7 @@ impl PipeServer {
     /// Does what the connection asks, and takes all that was put for it.
     pub fn serve(&mut self, ask: &Ask) -> Result<Outcome, AllocError>
         requires { IsReady self.old }
-        ensures served { IfOk result (λ outcome. HasServed outcome (ask_said ask.now (served self.old)) self.old self.new) }
+        ensures served { IfOk result (λ outcome. HasServed outcome (ask_said ask.now (served_state self.old)) self.old self.new) }
         ensures told { IfOk result (λ outcome. MayBeTold outcome ask.now) }
     {
         match ask {
@@ -89,7 +89,7 @@ impl PipeServer {
     /// whether the client was shut instead.
     fn reply(&mut self, frame: &ReplyFrame) -> Result<bool, AllocError>
         requires { IsReady self.old }
-        ensures { IfOk result (λ shut. HasServed (outcome_by shut) (after_event (Reply 1 frame.now) (served self.old)) self.old self.new) }
+        ensures { IfOk result (λ shut. HasServed (outcome_by shut) (after_event (Reply 1 frame.now) (served_state self.old)) self.old self.new) }
     {
         if let ReplyFrame::Ok = frame {
             self.output.extend_from_slice(self.confirmation.text())?;
@@ -109,7 +109,7 @@ impl PipeServer {
     /// Puts a line, and takes it. Tells whether the client was shut instead.
     fn put_reply(&mut self, frame: &ReplyFrame) -> Result<bool, AllocError>
         requires { IsReady self.old }
-        ensures { IfOk result (λ shut. HasServed (outcome_by shut) (after_event (Reply 1 frame.now) (served self.old)) self.old self.new) }
+        ensures { IfOk result (λ shut. HasServed (outcome_by shut) (after_event (Reply 1 frame.now) (served_state self.old)) self.old self.new) }
     {
         let shut = reply(&mut self.node, self.conn, frame)?;
         take(&mut self.node, self.conn, &mut self.output)?;
@@ -118,7 +118,7 @@ impl PipeServer {
 
     fn shut(&mut self, text: ErrText) -> Result<(), AllocError>
         requires { IsReady self.old }
-        ensures { OnOk result (HasServed Outcome.Closed (after_event (Shut 1 text) (served self.old)) self.old self.new) }
+        ensures { OnOk result (HasServed Outcome.Closed (after_event (Shut 1 text) (served_state self.old)) self.old self.new) }
     {
         shut(&mut self.node, self.conn, text)?;
         take(&mut self.node, self.conn, &mut self.output)?;
@@ -127,7 +127,7 @@ impl PipeServer {
 
     fn subscribe(&mut self, key: &Key, sid: &Sid) -> Result<Outcome, AllocError>
         requires { IsReady self.old }
-        ensures { IfOk result (λ outcome. HasServed outcome (opening key.now sid.now (served self.old)) self.old self.new) }
+        ensures { IfOk result (λ outcome. HasServed outcome (output_of_subscribe key.now sid.now (served_state self.old)) self.old self.new) }
     {
         let key = key.try_clone(self.alloc)?;
         let sid = sid.try_clone(self.alloc)?;
@@ -142,7 +142,7 @@ impl PipeServer {
 
     fn unsubscribe(&mut self, sid: &Sid, max: Option<u64>) -> Result<(), AllocError>
         requires { IsReady self.old }
-        ensures { OnOk result (HasServed (Outcome.Answered (Ok tt)) (after_event (Unsubscribe 1 sid.now max) (served self.old)) self.old self.new) }
+        ensures { OnOk result (HasServed (Outcome.Answered (Ok tt)) (after_event (Unsubscribe 1 sid.now max) (served_state self.old)) self.old self.new) }
     {
         unsubscribe(&mut self.node, self.conn, sid, max);
         collect(&mut self.node)?;
@@ -151,7 +151,7 @@ impl PipeServer {
 
     fn publish(&mut self, said: &Pub) -> Result<Outcome, AllocError>
         requires { IsReady self.old }
-        ensures { IfOk result (λ outcome. HasServed outcome (placing said.now (served self.old)) self.old self.new) }
+        ensures { IfOk result (λ outcome. HasServed outcome (output_of_publish said.now (served_state self.old)) self.old self.new) }
     {
         match publish(&mut self.node, self.conn, said)? {
             Ok(()) => {

@@ -12,7 +12,7 @@ use Rattle.cluster_world.specs.Play.{placements_put}
 use Rattle.cluster_world.specs.State.{Cluster, Life, Placement, World}
 use Rattle.cluster_world.specs.Written.{outcome_text, outcome_lines, placement_line, last_lines, run_lines}
 use Rattle.mesh_script.specs.Lines.{lines_text, end_line}
-use Rattle.mesh_script.specs.Placing.{named, placements_text}
+use Rattle.mesh_script.specs.Placing.{cluster_named, placements_text}
 
 pub lines_behind : (first more : List (List ℕ)) → lines_text (first ++ more) ≡ lines_text first ++ lines_text more
 lines_behind [] more = refl
@@ -53,14 +53,14 @@ count_split all first more e = ap length e ∙ counted_behind first more
 -- ---- a whole text
 
 pub last_text : (names : List (List ℕ)) (w : World) (lives : List Life) (placements : List Placement) (number count : ℕ) → lives ≡ w.lives → placements ≡ w.placements → number ≡ w.step → count ≡ length placements
-    → placements_text (named names) lives placements ++ (end_line number count ++ codes "\n") ≡ lines_text (last_lines (named names) w)
+    → placements_text (cluster_named names) lives placements ++ (end_line number count ++ codes "\n") ≡ lines_text (last_lines (cluster_named names) w)
 last_text names w lives placements number count same_lives same_placements same_number same_count =
-    ap (λ n. placements_text (named names) lives placements ++ (end_line number n ++ codes "\n")) (same_count ∙ ap length same_placements)
-    ∙ ap (λ n. placements_text (named names) lives placements ++ (end_line n (length w.placements) ++ codes "\n")) same_number
-    ∙ ap (λ l. placements_text (named names) l placements ++ (end_line w.step (length w.placements) ++ codes "\n")) same_lives
-    ∙ ap (λ l. placements_text (named names) w.lives l ++ (end_line w.step (length w.placements) ++ codes "\n")) same_placements
-    ∙ ap (λ l. placements_text (named names) w.lives w.placements ++ l) (sym (append-nil (end_line w.step (length w.placements) ++ codes "\n")))
-    ∙ sym (lines_behind (map (placement_line (named names) w.lives) w.placements) (end_line w.step (length w.placements) ∷ []))
+    ap (λ n. placements_text (cluster_named names) lives placements ++ (end_line number n ++ codes "\n")) (same_count ∙ ap length same_placements)
+    ∙ ap (λ n. placements_text (cluster_named names) lives placements ++ (end_line n (length w.placements) ++ codes "\n")) same_number
+    ∙ ap (λ l. placements_text (cluster_named names) l placements ++ (end_line w.step (length w.placements) ++ codes "\n")) same_lives
+    ∙ ap (λ l. placements_text (cluster_named names) w.lives l ++ (end_line w.step (length w.placements) ++ codes "\n")) same_placements
+    ∙ ap (λ l. placements_text (cluster_named names) w.lives w.placements ++ l) (sym (append-nil (end_line w.step (length w.placements) ++ codes "\n")))
+    ∙ sym (lines_behind (map (placement_line (cluster_named names) w.lives) w.placements) (end_line w.step (length w.placements) ∷ []))
 
 -- what was told so far, and all behind it
 pub run_front : (c : Cluster) (first more : List Outcome) (w : World) → lines_text (outcome_lines 0 first) ++ (lines_text (outcome_lines (0 + length first) more) ++ lines_text (last_lines c w)) ≡ lines_text (run_lines c (first ++ more) w)

@@ -44,20 +44,20 @@ abbrev pub next_frame : World → ℕ
 next_frame w = suc (length w.sent)
 
 -- b is handed the CONNECT on its session
-abbrev pub connecting : ℕ → ℕ → ℕ → Asks
-connecting b at_b frame = once (OnConnect b at_b frame)
+abbrev pub connect_asks : ℕ → ℕ → ℕ → Asks
+connect_asks b at_b frame = once (OnConnect b at_b frame)
 
 -- a is handed the INFO on its session, and sends the CONNECT before all else
-abbrev pub informing : ℕ → ℕ → ℕ → ℕ → ℕ → Asks
-informing a b at_a at_b frame = Ask (OnInfo a at_a frame) (λ w outcome. where_done outcome (connecting b at_b (next_frame w)))
+abbrev pub info_asks : ℕ → ℕ → ℕ → ℕ → ℕ → Asks
+info_asks a b at_a at_b frame = Ask (OnInfo a at_a frame) (λ w outcome. where_done outcome (connect_asks b at_b (next_frame w)))
 
 -- b accepts, and sends the INFO
-abbrev pub accepting : ℕ → ℕ → ℕ → Asks
-accepting a b at_a = Ask (At b Accept) (λ w outcome. where_some (session_in outcome) (λ at_b. informing a b at_a at_b (next_frame w)))
+abbrev pub accept_asks : ℕ → ℕ → ℕ → Asks
+accept_asks a b at_a = Ask (At b Accept) (λ w outcome. where_some (session_in outcome) (λ at_b. info_asks a b at_a at_b (next_frame w)))
 
 -- a dials b
-abbrev pub joining : ℕ → ℕ → Asks
-joining a b = Ask (At a (Dial b)) (λ w outcome. where_some (session_in outcome) (λ at_a. accepting a b at_a))
+abbrev pub dial_asks : ℕ → ℕ → Asks
+dial_asks a b = Ask (At a (Dial b)) (λ w outcome. where_some (session_in outcome) (λ at_a. accept_asks a b at_a))
 
 -- ---- all else is one event
 
@@ -83,7 +83,7 @@ act_asks names n (act.Connect session frame) = once (OnConnect n session frame)
 act_asks names n (act.Cut session) = once (At n (CutSession session))
 act_asks names n (act.TakeEntries conn count) = once (At n (OfConn conn (Take count)))
 act_asks names n (act.TakeFrames peer count) = once (At n (TakeFrames (place_in peer names) count))
-act_asks names n (act.Join peer) = joining n (place_in peer names)
+act_asks names n (act.Join peer) = dial_asks n (place_in peer names)
 
 abbrev pub step_asks : List (List ℕ) → Step → Asks
 step_asks names step = act_asks names (place_in step.node names) step.act

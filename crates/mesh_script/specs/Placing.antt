@@ -7,8 +7,8 @@ use Rattle.mesh_script.specs.declared.placed.Message.{Message}
 use Rattle.mesh_script.specs.Lines.{lines_text}
 
 -- of a cluster, the lines of its placements have the names of the servers alone
-abbrev pub named : List (List ℕ) → Cluster
-named names = record { names = names; shards = 0 }
+abbrev pub cluster_named : List (List ℕ) → Cluster
+cluster_named names = record { names = names; shards = 0 }
 
 -- a placement has bytes, which its line has not
 abbrev pub placement_in : Message → Placement

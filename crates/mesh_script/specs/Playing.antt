@@ -11,9 +11,9 @@ use Rattle.script_form.specs.Form.{Script}
 use Rattle.mesh_script.specs.declared.asks.Asked.{Asked}
 use Rattle.mesh_script.specs.declared.asks.Asked.TheVariants as asked
 use Rattle.mesh_script.specs.declared.faults.PlayFault.{PlayFault}
-use Rattle.mesh_script.specs.Asks.{Asks, NoMore, Ask, once, joining}
+use Rattle.mesh_script.specs.Asks.{Asks, NoMore, Ask, once, dial_asks}
 use Rattle.mesh_script.specs.Lines.{lines_text}
-use Rattle.mesh_script.specs.Placing.{named}
+use Rattle.mesh_script.specs.Placing.{cluster_named}
 use Rattle.mesh_script.specs.Played.{AppendsStart, Writes, IsPlayed, IsPlayedSafely, cluster_of}
 use Rattle.mesh_script.specs.Putting.{Puts}
 use Rattle.mesh_script.specs.Told.{Told}
@@ -55,7 +55,7 @@ AsksOne (Err fault) e old was new is = AppendsStart was is old.text
 
 abbrev pub asks_of : Asked → Asks
 asks_of (asked.Event event) = once (event_of event)
-asks_of (asked.Join a b) = joining a b
+asks_of (asked.Join a b) = dial_asks a b
 
 -- ---- a whole script
 
@@ -64,7 +64,7 @@ first_standing c = record { cluster = c; world = new_world c; number = 0; text =
 
 -- what stood to be written, the lines of the placements and the last line are written, or a beginning of these
 abbrev pub Finishes : {T : Type 0} → Result T PlayFault → List (List ℕ) → PlayState → Option (List ℕ) → Option (List ℕ) → Type 0
-Finishes result names old was is = old.number ≡ old.world.step → Writes result was is (old.text ++ lines_text (last_lines (named names) old.world))
+Finishes result names old was is = old.number ≡ old.world.step → Writes result was is (old.text ++ lines_text (last_lines (cluster_named names) old.world))
 
 -- the rest of what is asked can be told, wherever it broke off
 pub record Completed (c : Cluster) (asks : Asks) (outcomes : List Outcome) : Type 0 where

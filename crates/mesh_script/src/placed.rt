@@ -2,11 +2,11 @@
 
 ghost use Rattle.std.specs.Prelude.{◌≡◌, ◌+◌, ◌++◌, [], ◌∷◌, map, length, codes, decimal, OnOk, IfOk};
 ghost use Rattle.std.specs.List.{flat_map};
-ghost use Rattle.cluster_world.specs.InCode.{life_of, life_id_of, placements_in, placing};
+ghost use Rattle.cluster_world.specs.InCode.{life_of, life_id_of, placements_in, placing_server};
 ghost use Rattle.cluster_world.specs.Changes.{placement_of};
 ghost use Rattle.cluster_world.specs.Written.{is_life as is_of_life, sid_of as sid_for, mode_text, name_at as name_for, fields, placement_line};
 ghost use Rattle.mesh_script.specs.Lines.{end_line};
-ghost use Rattle.mesh_script.specs.Placing.{named, placement_in, HasPut, placements_text};
+ghost use Rattle.mesh_script.specs.Placing.{cluster_named, placement_in, HasPut, placements_text};
 ghost use Rattle.mesh_script.specs.Putting.{PutsOrStarts};
 ghost use Rattle.mesh_script.specs.Played.{CountsWrites};
 
@@ -60,7 +60,7 @@ fn sid_of<'a>(lives: &'a [Life], id: &LifeId) -> &'a [u8]
 
 /// The name of the server at the place; nothing where there is none.
 fn name_at(names: &[NodeId], place: usize) -> &[u8]
-    ensures { result.now ≡ name_for (named names.now) place }
+    ensures { result.now ≡ name_for (cluster_named names.now) place }
 {
     match names.get(place) {
         None => b"",
@@ -104,7 +104,7 @@ fn put_subscriber(
     known: Known<'_>,
     message: &Message<'_>,
 ) -> Result<(), AllocError>
-    ensures { OnOk result (output.new ≡ output.old ++ fields (name_for (named known.entry.names.now) message.now.life.node ∷ decimal message.now.conn ∷ sid_for (map life_of known.entry.lives.now) (life_id_of message.now.life) ∷ mode_text message.now.mode.now ∷ [])) }
+    ensures { OnOk result (output.new ≡ output.old ++ fields (name_for (cluster_named known.entry.names.now) message.now.life.node ∷ decimal message.now.conn ∷ sid_for (map life_of known.entry.lives.now) (life_id_of message.now.life) ∷ mode_text message.now.mode.now ∷ [])) }
 {
     put_field(output, name_at(known.names, message.life.node))?;
     output.put_with(b" ", message.conn.get())?;
@@ -119,7 +119,7 @@ fn put_message(
     known: Known<'_>,
     message: &Message<'_>,
 ) -> Result<(), AllocError>
-    ensures { OnOk result (output.new ≡ output.old ++ (placement_line (named known.entry.names.now) (map life_of known.entry.lives.now) (placement_in message.now) ++ codes "\n")) }
+    ensures { OnOk result (output.new ≡ output.old ++ (placement_line (cluster_named known.entry.names.now) (map life_of known.entry.lives.now) (placement_in message.now) ++ codes "\n")) }
 {
     output.put_with(b"placed ", message.step)?;
     put_publication(output, message.id)?;
@@ -134,7 +134,7 @@ fn put_entry(
     placements: &Placements,
     placed: &Placed,
 ) -> Result<u64, AllocError>
-    ensures { IfOk result (λ count. HasPut count output.old (placements_text (named known.entry.names.now) (map life_of known.entry.lives.now)) (placement_of (placing placements.now.node placements.now.inc) placements.now.step placed.now.conn placed.now.entry.bytes placed.now.entry.tag) output.new) }
+    ensures { IfOk result (λ count. HasPut count output.old (placements_text (cluster_named known.entry.names.now) (map life_of known.entry.lives.now)) (placement_of (placing_server placements.now.node placements.now.inc) placements.now.step placed.now.conn placed.now.entry.bytes placed.now.entry.tag) output.new) }
 {
     match placed.entry.tag() {
         Tag::Reply => Ok(0),
@@ -166,7 +166,7 @@ fn put_step<S: Sink>(
     before: u64,
     sink: &mut S,
 ) -> Result<u64, PlayFault>
-    ensures text { PutsOrStarts result output.old (S.written sink.old) (placements_text (named known.entry.names.now) (map life_of known.entry.lives.now) (placements_in placements.now)) output.new (S.written sink.new) }
+    ensures text { PutsOrStarts result output.old (S.written sink.old) (placements_text (cluster_named known.entry.names.now) (map life_of known.entry.lives.now) (placements_in placements.now)) output.new (S.written sink.new) }
     ensures count { IfOk result (λ count. count ≡ before + length (placements_in placements.now)) }
     ensures failures { CountsWrites result (S.failures sink.old) (S.failures sink.new) }
 {
@@ -189,7 +189,7 @@ pub(crate) fn put_placements<S: Sink>(
     all: &[Placements],
     sink: &mut S,
 ) -> Result<u64, PlayFault>
-    ensures text { PutsOrStarts result output.old (S.written sink.old) (placements_text (named known.entry.names.now) (map life_of known.entry.lives.now) (flat_map placements_in all.now)) output.new (S.written sink.new) }
+    ensures text { PutsOrStarts result output.old (S.written sink.old) (placements_text (cluster_named known.entry.names.now) (map life_of known.entry.lives.now) (flat_map placements_in all.now)) output.new (S.written sink.new) }
     ensures count { IfOk result (λ count. count ≡ length (flat_map placements_in all.now)) }
     ensures failures { CountsWrites result (S.failures sink.old) (S.failures sink.new) }
 {

@@ -2,7 +2,7 @@
 
 ghost use Rattle.std.specs.Prelude.{◌≡◌, IfOk, Some, []};
 ghost use Rattle.cluster_world.specs.InCode.{event_of, outcome_of};
-ghost use Rattle.mesh_script.specs.Asks.{once as asked_once, session_in as session_told, step_asks, joining, accepting, informing, connecting, next_frame as frame_after};
+ghost use Rattle.mesh_script.specs.Asks.{once as asked_once, session_in as session_told, step_asks, dial_asks, accept_asks, info_asks, connect_asks, next_frame as frame_after};
 ghost use Rattle.mesh_script.specs.Playing.{Makes, AsksOne, Finishes, asks_of};
 ghost use Rattle.mesh_script.specs.Played.{CountsWrites};
 
@@ -109,7 +109,7 @@ impl<T: SubTable, R: Race> Player<T, R> {
         ensures { IfOk result (λ frame. frame ≡ frame_after self.now.world) }
     {
         let mut number = 1usize;
-        for frames in self.world.sent() {
+        for frames in self.world.sent_frames() {
             let Some(more) = number.checked_add(frames.len()) else {
                 return Err(AllocError);
             };
@@ -120,7 +120,7 @@ impl<T: SubTable, R: Race> Player<T, R> {
 
     /// The side that accepted is handed the `CONNECT`.
     fn connect<S: Sink>(&mut self, b: Side, frame: usize, sink: &mut S) -> Result<(), PlayFault>
-        ensures makes { Makes result self.old (S.written sink.old) (connecting b.node b.session frame) self.new (S.written sink.new) }
+        ensures makes { Makes result self.old (S.written sink.old) (connect_asks b.node b.session frame) self.new (S.written sink.new) }
         ensures failures { CountsWrites result (S.failures sink.old) (S.failures sink.new) }
     {
         let event = Event::OnConnect {
@@ -140,7 +140,7 @@ impl<T: SubTable, R: Race> Player<T, R> {
         frame: usize,
         sink: &mut S,
     ) -> Result<(), PlayFault>
-        ensures makes { Makes result self.old (S.written sink.old) (informing a.node b.node a.session b.session frame) self.new (S.written sink.new) }
+        ensures makes { Makes result self.old (S.written sink.old) (info_asks a.node b.node a.session b.session frame) self.new (S.written sink.new) }
         ensures failures { CountsWrites result (S.failures sink.old) (S.failures sink.new) }
     {
         let next = self.next_frame()?;
@@ -158,7 +158,7 @@ impl<T: SubTable, R: Race> Player<T, R> {
 
     /// The server at place `b` accepts; where that is done, the side that dialed is handed the `INFO` that it sends.
     fn accept<S: Sink>(&mut self, a: Side, b: usize, sink: &mut S) -> Result<(), PlayFault>
-        ensures makes { Makes result self.old (S.written sink.old) (accepting a.node b a.session) self.new (S.written sink.new) }
+        ensures makes { Makes result self.old (S.written sink.old) (accept_asks a.node b a.session) self.new (S.written sink.new) }
         ensures failures { CountsWrites result (S.failures sink.old) (S.failures sink.new) }
     {
         let info = self.next_frame()?;
@@ -175,7 +175,7 @@ impl<T: SubTable, R: Race> Player<T, R> {
 
     /// The server at place `a` dials the one at place `b`, and what follows.
     fn join<S: Sink>(&mut self, a: usize, b: usize, sink: &mut S) -> Result<(), PlayFault>
-        ensures makes { Makes result self.old (S.written sink.old) (joining a b) self.new (S.written sink.new) }
+        ensures makes { Makes result self.old (S.written sink.old) (dial_asks a b) self.new (S.written sink.new) }
         ensures failures { CountsWrites result (S.failures sink.old) (S.failures sink.new) }
     {
         let event = Event::At {

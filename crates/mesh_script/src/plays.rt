@@ -26,8 +26,8 @@ fn plays_go_on()
 fn plays_are_safe()
     ensures { ArePlayedSafely }
 {
-    cluster_world::headline();
-    cluster_world::unique_names();
+    cluster_world::publications_are_placed_once();
+    cluster_world::names_are_unique();
     cluster_world::echo_is_kept()
 }
 

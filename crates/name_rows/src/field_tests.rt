@@ -5,7 +5,7 @@ use std::alloc::{AllocError, Global};
 use std::test::Fail;
 
 /// The fields of the text, each with a bar behind it.
-fn barred(alloc: Global, text: &[u8]) -> Result<Vec<u8>, AllocError> {
+fn fields_with_bars(alloc: Global, text: &[u8]) -> Result<Vec<u8>, AllocError> {
     let mut out = Vec::new(alloc);
     for field in fields(alloc, text)? {
         out.extend_from_slice(field)?;
@@ -24,14 +24,14 @@ fn blanks_separate_fields(rt: HostRuntime) -> Result<(), Fail> {
         (b"  a  b", b"a|b|"),
     ];
     for (text, wanted) in table {
-        let out = barred(rt.alloc(), text)?;
+        let out = fields_with_bars(rt.alloc(), text)?;
         assert_eq!(rt; out.as_slice(), wanted);
     }
     Ok(())
 }
 
 /// The operation of the line and what is behind it, with a bar between them; nothing where it has none.
-fn begun(alloc: Global, line: &[u8]) -> Result<Vec<u8>, AllocError> {
+fn operation_with_rest(alloc: Global, line: &[u8]) -> Result<Vec<u8>, AllocError> {
     let mut out = Vec::new(alloc);
     if let Some((operation, behind)) = split_line(line) {
         out.extend_from_slice(operation)?;
@@ -50,7 +50,7 @@ fn a_line_begins_with_its_operation(rt: HostRuntime) -> Result<(), Fail> {
         (b"RS+  a", b"RS+|  a"),
     ];
     for (line, wanted) in table {
-        let out = begun(rt.alloc(), line)?;
+        let out = operation_with_rest(rt.alloc(), line)?;
         assert_eq!(rt; out.as_slice(), wanted);
     }
     Ok(())

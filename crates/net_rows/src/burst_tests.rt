@@ -1,6 +1,6 @@
 //! Clients that share a shard, send much at once, or end while they are answered; over streams in memory.
 
-use crate::servers::{HELLO, fed, greeting};
+use crate::servers::{HELLO, greeting, stream_of};
 use crate::stage::{MemServer, Play, act};
 use node_net::{MemStream, Side};
 use std::alloc::Global;
@@ -49,13 +49,13 @@ pub(crate) fn eight_of_each<N: NodeName, R: Abort + Wait>(
     alloc: Global,
     server: &mut MemServer<'_, N>,
 ) -> Result<(), Fail> {
-    let mut stream = fed(alloc, HELLO)?;
+    let mut stream = stream_of(alloc, HELLO)?;
     for number in 0..8 {
         stream.feed(format!(in alloc; "SUB foo {number}\r\n")?.as_bytes())?;
     }
     let hears = server.add(rt, stream, Side::Client)?;
     server.turn(rt, &[]);
-    let mut stream = fed(alloc, HELLO)?;
+    let mut stream = stream_of(alloc, HELLO)?;
     for _message in 0..1_000 {
         stream.feed(b"PUB foo 2\r\nhi\r\n")?;
     }
@@ -81,8 +81,8 @@ pub(crate) fn reads_once_a_turn<N: NodeName, R: Abort + Wait>(
     alloc: Global,
     server: &mut MemServer<'_, N>,
 ) -> Result<(), Fail> {
-    let hears = server.add(rt, fed(alloc, b"SUB foo 1\r\n")?, Side::Client)?;
-    let mut stream = fed(alloc, HELLO)?;
+    let hears = server.add(rt, stream_of(alloc, b"SUB foo 1\r\n")?, Side::Client)?;
+    let mut stream = stream_of(alloc, HELLO)?;
     for _message in 0..60_000 {
         stream.feed(b"PUB foo 2\r\nhi\r\n")?;
     }
@@ -122,11 +122,11 @@ pub(crate) fn each_has_its_own<N: NodeName, R: Abort + Wait>(
     ];
     let mut keys = Vec::new(alloc);
     for (lines, _) in rows {
-        keys.push(server.add(rt, fed(alloc, lines)?, Side::Client)?)?;
+        keys.push(server.add(rt, stream_of(alloc, lines)?, Side::Client)?)?;
     }
     server.turn(rt, &[]);
     let published = b"PUB a 1\r\nx\r\nPUB bb 2\r\nyy\r\nPUB a 3\r\nzzz\r\nPUB d 0\r\n\r\n";
-    let says = server.add(rt, fed(alloc, published)?, Side::Client)?;
+    let says = server.add(rt, stream_of(alloc, published)?, Side::Client)?;
     server.turn(rt, &[says]);
     for (place, (_, answers)) in rows.iter().enumerate() {
         let key = *keys.get(place).ok_or("a client")?;
@@ -151,7 +151,7 @@ pub(crate) fn goes_on_alone<N: NodeName, R: Abort + Wait>(
     alloc: Global,
     server: &mut MemServer<'_, N>,
 ) -> Result<(), Fail> {
-    let mut stream = fed(alloc, HELLO)?;
+    let mut stream = stream_of(alloc, HELLO)?;
     for _ping in 0..30_000 {
         stream.feed(b"PING\r\n")?;
     }
@@ -182,7 +182,7 @@ pub(crate) fn ends_before_it_reads<N: NodeName, R: Abort + Wait>(
     server: &mut MemServer<'_, N>,
 ) -> Result<(), Fail> {
     let first_line = greeting(alloc, 1)?;
-    let mut stream = fed(alloc, HELLO)?;
+    let mut stream = stream_of(alloc, HELLO)?;
     stream.feed(b"PING\r\nPING\r\n")?;
     stream.end();
     let client = server.add(rt, stream.with_room(first_line.len()), Side::Client)?;

@@ -57,14 +57,14 @@ impl Client {
     }
 
     /// A client that wants no `+OK`, and that the server has answered.
-    pub fn greeted<R: Net<Stream = TcpStream> + Clock>(
+    pub fn with_greeting<R: Net<Stream = TcpStream> + Clock>(
         rt: &R,
         alloc: Global,
         port: u16,
     ) -> Result<Client, Fail> {
         let mut client = Client::connect(rt, alloc, port)?;
         client.send(b"CONNECT {\"verbose\":false}\r\n")?;
-        let _first = client.settled(alloc)?;
+        let _first = client.bytes_until_pong(alloc)?;
         Ok(client)
     }
 
@@ -99,7 +99,7 @@ impl Client {
     }
 
     /// All that came before the answer to a PING that is sent now.
-    pub fn settled(&mut self, alloc: Global) -> Result<Vec<u8>, Fail> {
+    pub fn bytes_until_pong(&mut self, alloc: Global) -> Result<Vec<u8>, Fail> {
         self.send(b"PING\r\n")?;
         self.until(alloc, b"PONG\r\n")
     }

@@ -3,7 +3,7 @@
 
 ghost use Rattle.std.specs.Prelude.{◌≡◌};
 
-use crate::servers::{HELLO, fed, greeting, server};
+use crate::servers::{HELLO, greeting, server, stream_of};
 use crate::stage::MemServer;
 use node_net::{MemStream, Server, Side};
 use std::alloc::Global;
@@ -120,7 +120,7 @@ fn stands<N: NodeName, R: Abort + Wait>(
     let (frames, messages) = row;
     let node: ThreadNode<TrieTable, N> = ThreadNode::start(alloc, parts)?;
     let mut server = Server::new(alloc, &node, server(alloc, 2, 0, 1)?, 4222, 0)?;
-    let mut stream = fed(alloc, HELLO)?;
+    let mut stream = stream_of(alloc, HELLO)?;
     stream.feed(b"SUB foo 1\r\n")?;
     let client = server.add(rt, stream, Side::Client)?;
     let route = server.add(rt, MemStream::new(alloc), Side::Accepted)?;

@@ -3,7 +3,7 @@
 ghost use Rattle.std.specs.Prelude.{◌≡◌};
 
 use crate::clients::numbers;
-use crate::servers::{HELLO, fed, server};
+use crate::servers::{HELLO, server, stream_of};
 use crate::stage::MemServer;
 use node_net::{MemStream, Server, Side};
 use std::alloc::Global;
@@ -141,10 +141,10 @@ fn add_clients<M: NodeName, N: NodeName, R: Wait>(
     first: &mut MemServer<'_, M>,
     second: &mut MemServer<'_, N>,
 ) -> Result<Clients, Fail> {
-    let publisher = first.add(rt, fed(alloc, HELLO)?, Side::Client)?;
-    let near = first.add(rt, fed(alloc, b"SUB work crew 1\r\n")?, Side::Client)?;
-    let far = second.add(rt, fed(alloc, b"SUB work crew 2\r\n")?, Side::Client)?;
-    let plain = second.add(rt, fed(alloc, b"SUB all 3\r\n")?, Side::Client)?;
+    let publisher = first.add(rt, stream_of(alloc, HELLO)?, Side::Client)?;
+    let near = first.add(rt, stream_of(alloc, b"SUB work crew 1\r\n")?, Side::Client)?;
+    let far = second.add(rt, stream_of(alloc, b"SUB work crew 2\r\n")?, Side::Client)?;
+    let plain = second.add(rt, stream_of(alloc, b"SUB all 3\r\n")?, Side::Client)?;
     Ok(Clients {
         publisher,
         near,
@@ -154,7 +154,7 @@ fn add_clients<M: NodeName, N: NodeName, R: Wait>(
 }
 
 /// How often each number came to a connection.
-fn counted<N: NodeName>(
+fn count_numbers<N: NodeName>(
     alloc: Global,
     server: &MemServer<'_, N>,
     key: usize,
@@ -170,7 +170,7 @@ fn counted<N: NodeName>(
 }
 
 /// How many of the numbers from one to the other came so often.
-fn came(times: &[u64; 401], from: usize, to: usize, often: u64) -> usize {
+fn number_count(times: &[u64; 401], from: usize, to: usize, often: u64) -> usize {
     let times = times.get(from..to).unwrap_or(&[]);
     times.iter().filter(|time| **time == often).count()
 }
@@ -213,25 +213,25 @@ fn checks<M: NodeName, N: NodeName, R: Abort>(
     clients: Clients,
 ) -> Result<(), Fail> {
     let mut near = [0; 401];
-    counted(alloc, first, clients.near, &mut near)?;
+    count_numbers(alloc, first, clients.near, &mut near)?;
     let mut far = [0; 401];
-    counted(alloc, second, clients.far, &mut far)?;
+    count_numbers(alloc, second, clients.far, &mut far)?;
     let mut either = near;
-    counted(alloc, second, clients.far, &mut either)?;
+    count_numbers(alloc, second, clients.far, &mut either)?;
     let mut plain = [0; 401];
-    counted(alloc, second, clients.plain, &mut plain)?;
+    count_numbers(alloc, second, clients.plain, &mut plain)?;
     for (from, to) in [(1, 101), (301, 401)] {
-        assert_eq!(rt; came(&either, from, to, 1), 100);
-        assert_eq!(rt; came(&plain, from, to, 1), 100);
-        assert!(rt; came(&near, from, to, 1) > 0);
-        assert!(rt; came(&far, from, to, 1) > 0);
+        assert_eq!(rt; number_count(&either, from, to, 1), 100);
+        assert_eq!(rt; number_count(&plain, from, to, 1), 100);
+        assert!(rt; number_count(&near, from, to, 1) > 0);
+        assert!(rt; number_count(&far, from, to, 1) > 0);
     }
-    assert_eq!(rt; came(&near, 201, 301, 1), 100);
-    assert_eq!(rt; came(&far, 201, 301, 0), 100);
-    assert_eq!(rt; came(&plain, 201, 301, 0), 100);
+    assert_eq!(rt; number_count(&near, 201, 301, 1), 100);
+    assert_eq!(rt; number_count(&far, 201, 301, 0), 100);
+    assert_eq!(rt; number_count(&plain, 201, 301, 0), 100);
     assert_eq!(rt; came_once_at_most(&either, 101, 201), 100);
     assert_eq!(rt; came_once_at_most(&plain, 101, 201), 100);
-    let broken = came(&plain, 101, 201, 0);
+    let broken = number_count(&plain, 101, 201, 0);
     assert!(rt; broken > 0 && broken < 100);
     Ok(())
 }
@@ -243,7 +243,7 @@ fn dial_each_other<M: NodeName, N: NodeName, R: Abort + Wait>(
     first: &mut MemServer<'_, M>,
     second: &mut MemServer<'_, N>,
 ) -> Result<(), Fail> {
-    let hears = second.add(rt, fed(alloc, b"SUB foo 1\r\n")?, Side::Client)?;
+    let hears = second.add(rt, stream_of(alloc, b"SUB foo 1\r\n")?, Side::Client)?;
     let mut there = join(rt, alloc, first, second)?;
     let back = second.add(rt, MemStream::new(alloc), Side::Dialed(0))?;
     let taken = first.add(rt, MemStream::new(alloc), Side::Accepted)?;
@@ -259,7 +259,7 @@ fn dial_each_other<M: NodeName, N: NodeName, R: Abort + Wait>(
     }
     carry(rt, alloc, first, second, &mut there)?;
     assert!(rt; first.stream(taken).is_none());
-    let says = first.add(rt, fed(alloc, b"PUB foo 2\r\nhi\r\n")?, Side::Client)?;
+    let says = first.add(rt, stream_of(alloc, b"PUB foo 2\r\nhi\r\n")?, Side::Client)?;
     first.turn(rt, &[says]);
     carry(rt, alloc, first, second, &mut there)?;
     let written = second.stream(hears).ok_or("a stream")?.written();
@@ -302,7 +302,7 @@ fn subscribes_to_many<M: NodeName, N: NodeName, R: Abort + Wait>(
 ) -> Result<(), Fail> {
     let mut route = join(rt, alloc, first, second)?;
     carry(rt, alloc, first, second, &mut route)?;
-    let mut stream = fed(alloc, HELLO)?;
+    let mut stream = stream_of(alloc, HELLO)?;
     for number in 0..3_000 {
         stream.feed(format!(in alloc; "SUB foo.{number} {number}\r\n")?.as_bytes())?;
     }
@@ -311,7 +311,11 @@ fn subscribes_to_many<M: NodeName, N: NodeName, R: Abort + Wait>(
         second.turn(rt, &[hears]);
     }
     carry(rt, alloc, first, second, &mut route)?;
-    let says = first.add(rt, fed(alloc, b"PUB foo.2999 2\r\nhi\r\n")?, Side::Client)?;
+    let says = first.add(
+        rt,
+        stream_of(alloc, b"PUB foo.2999 2\r\nhi\r\n")?,
+        Side::Client,
+    )?;
     first.turn(rt, &[says]);
     carry(rt, alloc, first, second, &mut route)?;
     let written = second.stream(hears).ok_or("a stream")?.written();

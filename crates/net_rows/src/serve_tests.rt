@@ -15,7 +15,7 @@ use std::thread::join;
 use std::time::Duration;
 
 /// What is given of a mesh of so many servers of two shards, which ends after so many clients.
-fn given(nodes: u64, port: u64, stop_after: u64) -> Given {
+fn numbers_given(nodes: u64, port: u64, stop_after: u64) -> Given {
     Given {
         nodes,
         port,
@@ -27,7 +27,7 @@ fn given(nodes: u64, port: u64, stop_after: u64) -> Given {
 }
 
 /// A message that is published with this number as its payload.
-fn numbered(alloc: Global, subject: &str, number: u64) -> Result<String, Fail> {
+fn numbered_publication(alloc: Global, subject: &str, number: u64) -> Result<String, Fail> {
     let payload = format!(in alloc; "{number}")?;
     Ok(format!(in alloc; "PUB {subject} {}\r\n{payload}\r\n", payload.len())?)
 }
@@ -39,15 +39,15 @@ fn hears_the_other<R: Net<Stream = TcpStream> + Clock + Abort>(
     ports: [u16; 2],
 ) -> Result<(), Fail> {
     let [first, second] = ports;
-    let mut hears = Client::greeted(rt, alloc, second)?;
+    let mut hears = Client::with_greeting(rt, alloc, second)?;
     hears.send(b"SUB foo 1\r\n")?;
-    let _none = hears.settled(alloc)?;
-    let mut says = Client::greeted(rt, alloc, first)?;
+    let _none = hears.bytes_until_pong(alloc)?;
+    let mut says = Client::with_greeting(rt, alloc, first)?;
     let mut last = 0;
     for number in 1..1_001 {
-        says.send(numbered(alloc, "foo", number)?.as_bytes())?;
-        let _none = says.settled(alloc)?;
-        for heard in numbers(alloc, &hears.settled(alloc)?)? {
+        says.send(numbered_publication(alloc, "foo", number)?.as_bytes())?;
+        let _none = says.bytes_until_pong(alloc)?;
+        for heard in numbers(alloc, &hears.bytes_until_pong(alloc)?)? {
             assert!(rt; heard > last);
             last = heard;
         }
@@ -63,7 +63,7 @@ fn hears_the_other<R: Net<Stream = TcpStream> + Clock + Abort>(
 #[test]
 fn serve_two_nodes(rt: HostRuntime) -> Result<(), Fail> {
     let alloc = rt.alloc();
-    let options = Options::new(given(2, 17_410, 2))?;
+    let options = Options::new(numbers_given(2, 17_410, 2))?;
     let (served, heard) = join(
         &rt,
         || serve(&rt, alloc, &options).is_ok(),
@@ -79,7 +79,7 @@ fn count(alloc: Global, members: &mut [Client], times: &mut [u64]) -> Result<(u6
     let mut all = 0_u64;
     let mut served = 0_usize;
     for member in members {
-        let heard = numbers(alloc, &member.settled(alloc)?)?;
+        let heard = numbers(alloc, &member.bytes_until_pong(alloc)?)?;
         if !heard.is_empty() {
             served = served.saturating_add(1);
         }
@@ -101,19 +101,19 @@ fn served_once<R: Net<Stream = TcpStream> + Clock + Abort>(
 ) -> Result<(), Fail> {
     let mut members = Vec::new(alloc);
     for port in ports {
-        let mut member = Client::greeted(rt, alloc, port)?;
+        let mut member = Client::with_greeting(rt, alloc, port)?;
         member.send(b"SUB work crew 7\r\n")?;
-        let _none = member.settled(alloc)?;
+        let _none = member.bytes_until_pong(alloc)?;
         members.push(member)?;
     }
-    let mut says = Client::greeted(rt, alloc, ports[0])?;
+    let mut says = Client::with_greeting(rt, alloc, ports[0])?;
     let mut nothing: [u64; 0] = [];
     let mut served = 0;
     for _try in 0..1_000 {
         for _message in 0..30 {
             says.send(b"PUB work 1\r\n0\r\n")?;
         }
-        let _none = says.settled(alloc)?;
+        let _none = says.bytes_until_pong(alloc)?;
         thread::sleep(rt, Duration::from_millis(20));
         (_, served) = count(alloc, &mut members, &mut nothing)?;
         if served == 3 {
@@ -124,7 +124,7 @@ fn served_once<R: Net<Stream = TcpStream> + Clock + Abort>(
     thread::sleep(rt, Duration::from_millis(300));
     let _rest = count(alloc, &mut members, &mut nothing)?;
     for number in 1..1_001 {
-        says.send(numbered(alloc, "work", number)?.as_bytes())?;
+        says.send(numbered_publication(alloc, "work", number)?.as_bytes())?;
     }
     let mut times = [0; 1_001];
     let mut all = 0_u64;
@@ -147,7 +147,7 @@ fn served_once<R: Net<Stream = TcpStream> + Clock + Abort>(
 #[test]
 fn a_queue_group_over_three_nodes(rt: HostRuntime) -> Result<(), Fail> {
     let alloc = rt.alloc();
-    let options = Options::new(given(3, 17_420, 4))?;
+    let options = Options::new(numbers_given(3, 17_420, 4))?;
     let (served, heard) = join(
         &rt,
         || serve(&rt, alloc, &options).is_ok(),
@@ -165,7 +165,7 @@ fn makes_noise<R: Net<Stream = TcpStream> + Clock + Abort>(
     alloc: Global,
     ports: [u16; 4],
 ) -> Result<(), Fail> {
-    let mut stays = Client::greeted(rt, alloc, ports[0])?;
+    let mut stays = Client::with_greeting(rt, alloc, ports[0])?;
     let mut random = Pcg64::seed_from_u64(1);
     let mut noise = Vec::new(alloc);
     for _byte in 0..10_000 {
@@ -175,7 +175,7 @@ fn makes_noise<R: Net<Stream = TcpStream> + Clock + Abort>(
         let mut noisy = Client::connect(rt, alloc, port)?;
         noisy.offer(&noise);
         assert!(rt; noisy.ends());
-        let _none = stays.settled(alloc)?;
+        let _none = stays.bytes_until_pong(alloc)?;
     }
     Ok(())
 }
@@ -183,7 +183,7 @@ fn makes_noise<R: Net<Stream = TcpStream> + Clock + Abort>(
 #[test]
 fn noise(rt: HostRuntime) -> Result<(), Fail> {
     let alloc = rt.alloc();
-    let options = Options::new(given(2, 17_430, 3))?;
+    let options = Options::new(numbers_given(2, 17_430, 3))?;
     let (served, heard) = join(
         &rt,
         || serve(&rt, alloc, &options).is_ok(),
@@ -198,7 +198,7 @@ fn noise(rt: HostRuntime) -> Result<(), Fail> {
 #[test]
 fn a_port_that_is_taken(rt: HostRuntime) -> Result<(), Fail> {
     let alloc = rt.alloc();
-    let options = Options::new(given(1, 17_440, 1))?;
+    let options = Options::new(numbers_given(1, 17_440, 1))?;
     let address = SocketAddr::from((Ipv4Addr::LOCALHOST, options.route_port(0)));
     let _taken = TcpListener::bind(&rt, address)?;
     let refused = serve(&rt, alloc, &options);
@@ -222,7 +222,7 @@ fn options_are_kept(rt: HostRuntime) -> Result<(), Fail> {
         (9_007_199_254_740_991, u64::MAX, None)
     );
     assert_eq!(rt; (most.client_port(7), most.route_port(7)), (65_527, 65_535));
-    let least = Options::new(given(1, 1, 1))?;
+    let least = Options::new(numbers_given(1, 1, 1))?;
     assert_eq!(rt; (least.client_port(0), least.route_port(0)), (1, 2));
     assert_eq!(rt; least.stop_after, Some(1));
     Ok(())
@@ -230,7 +230,7 @@ fn options_are_kept(rt: HostRuntime) -> Result<(), Fail> {
 
 #[test]
 fn bad_options(rt: HostRuntime) {
-    let good = given(1, 4_222, 1);
+    let good = numbers_given(1, 4_222, 1);
     let mut shards = good;
     shards.shards = 9;
     let mut no_shards = good;
@@ -240,16 +240,31 @@ fn bad_options(rt: HostRuntime) {
     let mut late = good;
     late.inc = 9_007_199_254_740_992;
     let rows: [(Given, OptionFault); 10] = [
-        (given(0, 0, 0), OptionFault::BadValue(OptionName::Nodes)),
-        (given(9, 1, 1), OptionFault::BadValue(OptionName::Nodes)),
-        (given(1, 0, 0), OptionFault::BadValue(OptionName::Port)),
-        (given(1, 65_536, 1), OptionFault::BadValue(OptionName::Port)),
+        (
+            numbers_given(0, 0, 0),
+            OptionFault::BadValue(OptionName::Nodes),
+        ),
+        (
+            numbers_given(9, 1, 1),
+            OptionFault::BadValue(OptionName::Nodes),
+        ),
+        (
+            numbers_given(1, 0, 0),
+            OptionFault::BadValue(OptionName::Port),
+        ),
+        (
+            numbers_given(1, 65_536, 1),
+            OptionFault::BadValue(OptionName::Port),
+        ),
         (shards, OptionFault::BadValue(OptionName::Shards)),
         (no_shards, OptionFault::BadValue(OptionName::Shards)),
         (inc, OptionFault::BadValue(OptionName::Inc)),
         (late, OptionFault::BadValue(OptionName::Inc)),
-        (given(1, 1, 0), OptionFault::BadValue(OptionName::StopAfter)),
-        (given(8, 65_521, 1), OptionFault::TooManyPorts),
+        (
+            numbers_given(1, 1, 0),
+            OptionFault::BadValue(OptionName::StopAfter),
+        ),
+        (numbers_given(8, 65_521, 1), OptionFault::TooManyPorts),
     ];
     for (given, wanted) in rows {
         assert_eq!(rt; Options::new(given).err(), Some(wanted));

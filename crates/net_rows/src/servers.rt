@@ -20,7 +20,7 @@ pub fn server(alloc: Global, count: usize, me: usize, shards: u64) -> Result<Ser
 }
 
 /// A stream whose other end has sent these bytes.
-pub fn fed(alloc: Global, bytes: &[u8]) -> Result<MemStream, Fail> {
+pub fn stream_of(alloc: Global, bytes: &[u8]) -> Result<MemStream, Fail> {
     let mut stream = MemStream::new(alloc);
     stream.feed(bytes)?;
     Ok(stream)

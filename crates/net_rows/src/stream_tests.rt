@@ -1,6 +1,6 @@
 //! Servers over streams in memory.
 
-use crate::servers::{HELLO, fed, greeting};
+use crate::servers::{HELLO, greeting, stream_of};
 use crate::stage::{MemServer, Play, act};
 use node_net::{MemStream, Side};
 use std::alloc::Global;
@@ -15,7 +15,7 @@ pub(crate) fn hears_itself<N: NodeName, R: Abort + Wait>(
     alloc: Global,
     server: &mut MemServer<'_, N>,
 ) -> Result<(), Fail> {
-    let mut stream = fed(alloc, HELLO)?;
+    let mut stream = stream_of(alloc, HELLO)?;
     stream.feed(b"SUB foo 1\r\nPUB foo 5\r\nhello\r\nUNSUB 1\r\nPUB foo 2\r\nhi\r\nPING\r\n")?;
     let key = server.add(rt, stream, Side::Client)?;
     server.turn(rt, &[key]);
@@ -39,10 +39,10 @@ pub(crate) fn fails_alone<N: NodeName, R: Abort + Wait>(
     server: &mut MemServer<'_, N>,
     call: u64,
 ) -> Result<(), Fail> {
-    let mut stream = fed(alloc, HELLO)?;
+    let mut stream = stream_of(alloc, HELLO)?;
     stream.feed(b"SUB bar 1\r\nPUB bar 3\r\nhey\r\nPING\r\nPUB bar 4\r\nagain")?;
     let first = server.add(rt, stream.at_most(16).failing_at(call), Side::Client)?;
-    let mut stream = fed(alloc, HELLO)?;
+    let mut stream = stream_of(alloc, HELLO)?;
     stream.feed(b"SUB foo 1\r\nPING\r\n")?;
     let second = server.add(rt, stream, Side::Client)?;
     for _turn in 0..64 {
@@ -71,10 +71,10 @@ pub(crate) fn goes_in_mid_line<N: NodeName, R: Abort + Wait>(
     alloc: Global,
     server: &mut MemServer<'_, N>,
 ) -> Result<(), Fail> {
-    let mut stream = fed(alloc, b"SUB fo")?;
+    let mut stream = stream_of(alloc, b"SUB fo")?;
     stream.end();
     let first = server.add(rt, stream, Side::Client)?;
-    let second = server.add(rt, fed(alloc, b"PING\r\n")?, Side::Client)?;
+    let second = server.add(rt, stream_of(alloc, b"PING\r\n")?, Side::Client)?;
     for _turn in 0..2 {
         server.turn(rt, &[first, second]);
     }
@@ -132,10 +132,10 @@ pub(crate) fn never_reads<N: NodeName, R: Abort + Wait>(
     server: &mut MemServer<'_, N>,
 ) -> Result<(), Fail> {
     let first_line = greeting(alloc, 1)?;
-    let mut stream = fed(alloc, HELLO)?;
+    let mut stream = stream_of(alloc, HELLO)?;
     stream.feed(b"SUB foo 1\r\n")?;
     let slow = server.add(rt, stream.with_room(first_line.len()), Side::Client)?;
-    let mut stream = fed(alloc, HELLO)?;
+    let mut stream = stream_of(alloc, HELLO)?;
     stream.feed(b"SUB foo 2\r\n")?;
     let fast = server.add(rt, stream, Side::Client)?;
     server.turn(rt, &[slow, fast]);
@@ -182,7 +182,7 @@ pub(crate) fn hear_all<N: NodeName, R: Abort + Wait>(
 ) -> Result<(), Fail> {
     let mut keys = Vec::new(alloc);
     for _client in 0..1_000 {
-        keys.push(server.add(rt, fed(alloc, b"SUB news 1\r\n")?, Side::Client)?)?;
+        keys.push(server.add(rt, stream_of(alloc, b"SUB news 1\r\n")?, Side::Client)?)?;
     }
     server.turn(rt, &[]);
     let first = *keys.first().ok_or("a client")?;

@@ -60,9 +60,9 @@ failure_of (Fault why) = failure.Refused why
 failure_of OutOfMemory = failure.OutOfMemory
 
 -- an answer with its refusal as a failure
-abbrev pub answered : {T : Type 0} → Result T Refused → Result T (Failure NodeFault)
-answered (Ok x) = Ok x
-answered (Err why) = Err (failure_of why)
+abbrev pub result_in_code : {T : Type 0} → Result T Refused → Result T (Failure NodeFault)
+result_in_code (Ok x) = Ok x
+result_in_code (Err why) = Err (failure_of why)
 
 -- want of memory has no number
 abbrev pub number_of : Refused → Option ℕ

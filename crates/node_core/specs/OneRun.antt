@@ -5,7 +5,7 @@ use Rattle.node_core.specs.declared.did.Did.{Did}
 use Rattle.node_core.specs.declared.refused.Refused.{Refused}
 use Rattle.node_core.specs.declared.refused.Refused.TheVariants.{Fault, OutOfMemory}
 use Rattle.node_law.specs.Events.{NodeEvent}
-use Rattle.node_core.specs.InCode.{answered}
+use Rattle.node_core.specs.InCode.{result_in_code}
 use Rattle.node_core.specs.Outcome.{Outcome, Does, did_of}
 pub use Rattle.node_law.specs.Promises.{KeepsPromises, OneServerKeeps}
 use Rattle.node_law.specs.Runs.{Done, Ran}
@@ -34,7 +34,7 @@ abbrev pub IsRun : Served → List NodeEvent → List (Result Outcome Refused) �
 IsRun old [] [] new = new ≡ old
 IsRun old [] (r ∷ rs) new = ⊥
 IsRun old (e ∷ es) [] new = ⊥
-IsRun old (e ∷ es) (r ∷ rs) new = (mid : Served) × IsAnswered (refusal old e) (λ did. Does old e did mid) (mid ≡ old) (answered r) × Follows (is_short r) ((rs ≡ []) × (new ≡ mid)) (IsRun mid es rs new)
+IsRun old (e ∷ es) (r ∷ rs) new = (mid : Served) × IsAnswered (refusal old e) (λ did. Does old e did mid) (mid ≡ old) (result_in_code r) × Follows (is_short r) ((rs ≡ []) × (new ≡ mid)) (IsRun mid es rs new)
 
 -- ---- the promises
 

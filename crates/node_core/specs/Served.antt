@@ -13,7 +13,7 @@ use Rattle.hub_core.specs.declared.faults.HubFault.{HubFault}
 use Rattle.route_values.specs.Frames.{Frame}
 use Rattle.route_values.specs.Records.{Info, Connect}
 use Rattle.route_session.specs.State.{peer_of_session, session_at, number_kept}
-use Rattle.route_session.specs.Steps.{own_info, own_connect, serial_of, dropped}
+use Rattle.route_session.specs.Steps.{own_info, own_connect, serial_of, without_peer}
 use Rattle.route_session.specs.declared.faults.SessionFault.{SessionFault}
 use Rattle.shard_core.specs.Answers.{IsTold}
 use Rattle.shard_core.specs.Lines.{first_of}
@@ -68,12 +68,12 @@ pub record Served : Type 0 where
   pub node : Node
 
 -- a server with these parts
-abbrev pub seen : Side → RaceState → List Line → Served
-seen side race lines = record { server = side.server; node = record { hub = side.hub; sessions = side.sessions; race = race; lines = lines } }
+abbrev pub served_of_parts : Side → RaceState → List Line → Served
+served_of_parts side race lines = record { server = side.server; node = record { hub = side.hub; sessions = side.sessions; race = race; lines = lines } }
 
 -- a server that has just started
-abbrev pub started : Server → Served
-started server = record { server = server; node = new_node server }
+abbrev pub new_server : Server → Served
+new_server server = record { server = server; node = new_node server }
 
 -- the first cause for which the event is refused
 abbrev pub refusal : Served → NodeEvent → Option NodeFault

@@ -8,7 +8,7 @@ ghost use Rattle.shard_core.specs.ShardEvents.{Attached, Unsubscribed, Replied, 
 ghost use Rattle.node_law.specs.Events.{Own, OfConn, AtShard, Dial, Accept, CutSession, TakeFrames, OnInfo, OnConnect};
 ghost use Rattle.node_law.specs.declared.events.ConnEvent.TheVariants.{Subscribe, Unsubscribe, Reply, Shut, Detach, Take};
 ghost use Rattle.node_law.specs.declared.events.ShardWork.TheVariants.{Attach, Begin, Claim, End, DropJob};
-ghost use Rattle.node_core.specs.Served.{started, of_session_answer, of_session_decision, of_hub_answer, refusal, ConnStep, WorkStep, BeginStep, DialStep, AcceptStep, CutStep, FramesStep, DropStep, ClaimStep, InfoStep, ConnectStep};
+ghost use Rattle.node_core.specs.Served.{new_server, of_session_answer, of_session_decision, of_hub_answer, refusal, ConnStep, WorkStep, BeginStep, DialStep, AcceptStep, CutStep, FramesStep, DropStep, ClaimStep, InfoStep, ConnectStep};
 ghost use Rattle.node_law.specs.State.{lines_from};
 
 mod applying;
@@ -100,17 +100,17 @@ impl<T: SubTable, R: Race> Model for Node<T, R> {
 
     ghost Value = { Served };
 
-    ghost use Rattle.node_core.specs.Served.{seen, IsKept};
+    ghost use Rattle.node_core.specs.Served.{served_of_parts, IsKept};
 
-    ghost view = { λ n. seen n.side (R.contents n.race) n.lines.items };
+    ghost view = { λ n. served_of_parts n.side (R.contents n.race) n.lines.items };
 
-    ghost invariant = { λ n. IsKept (seen n.side (R.contents n.race) n.lines.items) };
+    ghost invariant = { λ n. IsKept (served_of_parts n.side (R.contents n.race) n.lines.items) };
 }
 
 impl<T: SubTable, R: Race> Node<T, R> {
     /// A server that has just started: nothing is counted, nobody is known, and no job waits.
     pub fn new(alloc: Global, server: Server) -> Result<Node<T, R>, AllocError>
-        ensures { IfOk result (λ node. node ≡ started server) }
+        ensures { IfOk result (λ node. node ≡ new_server server) }
     {
         let _me = server.me();
         let lines = new_lines(alloc, server.shards())?;

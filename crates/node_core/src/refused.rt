@@ -1,7 +1,7 @@
 //! Why a server did not do what it was asked.
 
 ghost use Rattle.std.specs.Prelude.{◌≡◌};
-ghost use Rattle.node_core.specs.InCode.{answered, number_of};
+ghost use Rattle.node_core.specs.InCode.{result_in_code, number_of};
 
 use node_law::NodeFault;
 use subj::Failure;
@@ -34,7 +34,7 @@ impl Refused {
 
 /// An answer whose refusal is a failure.
 pub(crate) fn as_refused<X: Drop>(answer: Result<X, Failure<NodeFault>>) -> Result<X, Refused>
-    ensures { answered result ≡ answer }
+    ensures { result_in_code result ≡ answer }
 {
     match answer {
         Ok(x) => Ok(x),

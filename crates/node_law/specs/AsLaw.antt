@@ -218,7 +218,7 @@ pub record Moves (server : Server) (now : ℕ) (a b : Node) (x : law.NodeEvent) 
   pub steps : law.NodeStep every_rule (law_at server) server.me now (node_of server a) x out (node_of server b)
   pub publications_are : out.publications ≡ publications
   pub frames_are : out.frames ≡ frames
-  pub changes_are : out.changes ≡ map (law.noted server.me server.inc) (map change_of changes)
+  pub changes_are : out.changes ≡ map (law.note_of server.me server.inc) (map change_of changes)
   pub jobs_are : out.jobs ≡ map (job_of (id_of server) server.me server.inc) jobs
   pub lives_are : out.lives ≡ lives
   pub placements_are : out.placements ≡ placements

@@ -55,8 +55,8 @@ put_for turn name None = []
 put_for turn name (Some part) = if is_of_turn turn (job_by part.line.shard part.event) then filter (is_for name) (put_by part.line.shard part.event) else []
 
 -- what the events of a run put so, over all shards, the newest first
-abbrev pub all_put : Server → ℕ → List ℕ → List Done → List Placed
-all_put server turn name h = flat_map (λ (d : Done). put_for turn name (part_of server d.before d.event d.won)) h
+abbrev pub entries_put : Server → ℕ → List ℕ → List Done → List Placed
+entries_put server turn name h = flat_map (λ (d : Done). put_for turn name (part_of server d.before d.event d.won)) h
 
 -- the name stands at no other place among the queue names of the job
 abbrev pub StandsAt : List ℕ → ℕ → Job → Type 0
@@ -67,4 +67,4 @@ abbrev pub PutsOnce : Type 0
 PutsOnce =
     (server : Server) (h : List Done) (a : Node) → IsListed server → Ran server h a
     → (turn index : ℕ) (name : List ℕ) → Each (λ job. job.turn ≡ turn → StandsAt name index job) (jobs_of server h)
-    → length (all_put server turn name h) ≤ 1
+    → length (entries_put server turn name h) ≤ 1

@@ -18,13 +18,13 @@ use Rattle.shard_core.specs.Lines.{first_of, waiting_after}
 use Rattle.shard_core.specs.declared.faults.ShardFault.TheVariants.{NoConn, JobInHand, NoJob}
 use Rattle.hub_core.specs.State as hub
 use Rattle.hub_core.specs.State.{peer_of, seen_of}
-use Rattle.hub_core.specs.Publishing.{publish_refusal, published, own_job, frames_of}
-use Rattle.hub_core.specs.Receiving.{receive_refusal, received, routed_job}
-use Rattle.hub_core.specs.Telling.{collect_refusal, collected, collect_frames, slow_peers}
-use Rattle.hub_core.specs.Peers.{up, cut, snapshot_to, take_refusal, taken}
+use Rattle.hub_core.specs.Publishing.{publish_refusal, after_publish, own_job, frames_of}
+use Rattle.hub_core.specs.Receiving.{receive_refusal, after_receive, routed_job}
+use Rattle.hub_core.specs.Telling.{collect_refusal, after_collect, collect_frames, slow_peers}
+use Rattle.hub_core.specs.Peers.{up, cut, snapshot_to, take_refusal, after_take}
 use Rattle.route_session.specs.State as sessions
 use Rattle.route_session.specs.State.{session_at, peer_of_session}
-use Rattle.route_session.specs.Steps.{dial_refusal, room_refusal, info_refusal, connect_refusal, cut_refusal, dialed, accepted, dropped, completed, completed_by_info, connect_offer, ended, all_dropped, own_info, own_connect, serial_of}
+use Rattle.route_session.specs.Steps.{dial_refusal, room_refusal, info_refusal, connect_refusal, cut_refusal, after_dial, after_accept, without_peer, after_completion, after_info, connect_offer, after_cut, without_peers, own_info, own_connect, serial_of}
 use Rattle.node_law.specs.declared.faults.NodeFault.{NodeFault}
 use Rattle.node_law.specs.declared.faults.NodeFault.TheVariants.{NoShard, Shard, Hub, Session}
 use Rattle.node_law.specs.State.{Line, Node, finished_turns}
@@ -167,8 +167,8 @@ abbrev pub on_line : Node → ℕ → (Line → Line) → Option Line → Node
 on_line a place change line = record a { lines = set_line a.lines place change line }
 
 -- each shard gets the job
-abbrev pub queued : Job → Line → Line
-queued job line = record line { waiting = line.waiting ++ job ∷ [] }
+abbrev pub line_with_job : Job → Line → Line
+line_with_job job line = record line { waiting = line.waiting ++ job ∷ [] }
 
 abbrev pub deltas_at : Option Line → List Delta
 deltas_at None = []
@@ -177,8 +177,8 @@ deltas_at (Some line) = line.shard.deltas
 -- a peer without room for the frames of a collect is cut, and so is its kept session
 abbrev pub collected_at : Server → Node → ℕ → List Delta → Node
 collected_at server a shard deltas = record (on_line a (shard - 1) (line_after of_shard.Collect) (shard_line a shard)) {
-  hub = collected server a.hub deltas;
-  sessions = all_dropped (slow_peers a.hub deltas) a.sessions;
+  hub = after_collect server a.hub deltas;
+  sessions = without_peers (slow_peers a.hub deltas) a.sessions;
 }
 
 -- the peer of a kept session is cut with it
@@ -189,29 +189,29 @@ cut_if hub (Some q) = cut hub q
 abbrev pub own_after : Server → Node → OwnEvent → Bool → RaceState → Node
 own_after server a (OfConn conn event) won race = on_line a (conn_place server conn) (line_after (conn_event conn event)) (conn_line server a conn)
 own_after server a (AtShard shard work) won race = record (on_line a (shard - 1) (λ line. line_after_if (work_event work won line) line) (shard_line a shard)) { race = race }
-own_after server a (Publish p) won race = record a { hub = published server a.hub p; race = race; lines = map (queued (own_job server a.hub p)) a.lines }
+own_after server a (Publish p) won race = record a { hub = after_publish server a.hub p; race = race; lines = map (line_with_job (own_job server a.hub p)) a.lines }
 own_after server a (Collect shard) won race = collected_at server a shard (deltas_at (shard_line a shard))
-own_after server a (Dial q) won race = record a { sessions = dialed a.sessions q }
-own_after server a Accept won race = record a { sessions = accepted a.sessions }
-own_after server a (CutSession session) won race = record a { hub = cut_if a.hub (peer_of_session session a.sessions.standing); sessions = ended session a.sessions }
-own_after server a (TakeFrames q count) won race = record a { hub = taken a.hub q count }
+own_after server a (Dial q) won race = record a { sessions = after_dial a.sessions q }
+own_after server a Accept won race = record a { sessions = after_accept a.sessions }
+own_after server a (CutSession session) won race = record a { hub = cut_if a.hub (peer_of_session session a.sessions.standing); sessions = after_cut session a.sessions }
+own_after server a (TakeFrames q count) won race = record a { hub = after_take a.hub q count }
 
 -- a frame of a greater incarnation of its server ends the session that was kept with it
 abbrev pub sessions_after_frame : Server → Node → Frame → sessions.State
-sessions_after_frame server a frame = if nat_lt (seen_name server a frame.from) frame.inc then dropped (place server frame.from) a.sessions else a.sessions
+sessions_after_frame server a frame = if nat_lt (seen_name server a frame.from) frame.inc then without_peer (place server frame.from) a.sessions else a.sessions
 
 -- a message gives each shard its job, and goes to nobody else (NATS documentation, "Cluster Protocol")
 abbrev pub lines_after_body : Node → Frame → Body → List Line
 lines_after_body a frame (Plus weighted) = a.lines
 lines_after_body a frame (Minus key) = a.lines
 lines_after_body a frame (Snapshot keys) = a.lines
-lines_after_body a frame (Msg content queues) = map (queued (routed_job a.hub frame content queues)) a.lines
+lines_after_body a frame (Msg content queues) = map (line_with_job (routed_job a.hub frame content queues)) a.lines
 
 abbrev pub node_after : Server → Node → NodeEvent → Bool → RaceState → Node
 node_after server a (Own event) won race = own_after server a event won race
-node_after server a (Receive frame) won race = record { hub = received server a.hub frame; sessions = sessions_after_frame server a frame; race = race; lines = lines_after_body a frame frame.body }
-node_after server a (OnInfo session info) won race = record a { hub = up server a.hub (place server info.server_name) info.inc; sessions = completed_by_info server a.sessions info (session_at session a.sessions.standing) }
-node_after server a (OnConnect session connect) won race = record a { hub = up server a.hub (place server connect.server_name) connect.inc; sessions = completed session (connect_offer server connect) a.sessions }
+node_after server a (Receive frame) won race = record { hub = after_receive server a.hub frame; sessions = sessions_after_frame server a frame; race = race; lines = lines_after_body a frame frame.body }
+node_after server a (OnInfo session info) won race = record a { hub = up server a.hub (place server info.server_name) info.inc; sessions = after_info server a.sessions info (session_at session a.sessions.standing) }
+node_after server a (OnConnect session connect) won race = record a { hub = up server a.hub (place server connect.server_name) connect.inc; sessions = after_completion session (connect_offer server connect) a.sessions }
 
 -- ---- the frames that it puts for peers, or gives to a session, in order
 

@@ -13,7 +13,7 @@ ghost use Rattle.node_law.specs.Promises.{OneServerKeeps};
 ghost use Rattle.node_law.specs.OneServer.{ClaimsPlace, EndedTurns, OneJob, OneWinner, TurnsAreFresh};
 
 /// Each call of a race is a move of the cluster law's race: over the window, the same pairs are won.
-pub fn race_follows()
+pub fn races_follow_the_law()
     ensures { RaceFollows }
 {}
 
@@ -36,7 +36,7 @@ pub fn runs_stay_sound()
 
 /// Of the claims of one queue name of a job that were answered, over all shards, exactly one is won where any had a
 /// candidate, and none otherwise.
-pub fn one_winner()
+pub fn queue_names_have_one_winner()
     ensures { OneWinner }
 {}
 
@@ -53,12 +53,12 @@ pub fn claims_place()
 
 /// Each turn that is issued has one job, the same in all shards: each claim and each end of a turn is of that job, so that an
 /// index of a turn is one queue name.
-pub fn one_job()
+pub fn turns_have_one_job()
     ensures { OneJob }
 {}
 
 /// A shard that made its end of a turn made exactly one claim of each queue name of the turn's job.
-pub fn ended_turns()
+pub fn ended_turns_have_each_claim_once()
     ensures { EndedTurns }
 {}
 
@@ -79,7 +79,7 @@ pub fn counts_are_open()
 
 /// Over a whole run and all shards, what is placed for one queue name of a turn is one message where any of its claims had a
 /// candidate, and none otherwise.
-pub fn places_once()
+pub fn queue_messages_are_placed_once()
     ensures { PlacesOnce }
 {}
 
@@ -91,7 +91,7 @@ pub fn outboxes_are_known()
 
 /// Over a whole run and all shards, whatever the events, at most one message is put for a queue name of a turn, where that
 /// stands at most once among the queue names of the turn's job.
-pub fn puts_once()
+pub fn queue_messages_are_put_once()
     ensures { PutsOnce }
 {}
 
@@ -113,13 +113,13 @@ pub fn shards_stay_held()
 /// placed where any had a candidate, and none otherwise; a shard that ended a turn made one claim of each queue name of the turn's
 /// one job; each outbox gave and has just the replies and the owed messages, and the last line of a connection that is shut; counts
 /// and what is still to tell are the open subscriptions; and a peer is up just where a session with it is kept.
-pub fn one_server_keeps()
+pub fn servers_keep_their_promises()
     ensures { OneServerKeeps }
 {
-    one_winner();
-    places_once();
-    ended_turns();
-    one_job();
+    queue_names_have_one_winner();
+    queue_messages_are_placed_once();
+    ended_turns_have_each_claim_once();
+    turns_have_one_job();
     outboxes_are_known();
     counts_are_open();
     peers_are_kept();

@@ -2,7 +2,7 @@
 //!
 //! ```text
 //! // A function that calls a law is proved with what the law says.
-//! one_server_keeps();
+//! servers_keep_their_promises();
 //! let attach = NodeEvent::at_shard(1, ShardWork::Attach);
 //! let subscribe = NodeEvent::of_conn(conn, ConnEvent::Subscribe { key, sid });
 //! ```
@@ -18,7 +18,9 @@ mod laws;
 pub use events::{ConnEvent, NodeEvent, OwnEvent, ShardWork};
 pub use faults::NodeFault;
 pub use laws::{
-    claims_place, counts_are_open, ended_turns, hubs_stay_sound, one_job, one_server_keeps,
-    one_winner, outboxes_are_known, peers_are_kept, places_once, puts_once, race_follows,
-    runs_stay_sound, servers_follow_the_law, servers_stay_sound, shards_stay_held, turns_are_fresh,
+    claims_place, counts_are_open, ended_turns_have_each_claim_once, hubs_stay_sound,
+    outboxes_are_known, peers_are_kept, queue_messages_are_placed_once,
+    queue_messages_are_put_once, queue_names_have_one_winner, races_follow_the_law,
+    runs_stay_sound, servers_follow_the_law, servers_keep_their_promises, servers_stay_sound,
+    shards_stay_held, turns_are_fresh, turns_have_one_job,
 };

@@ -233,7 +233,7 @@ impl<'n, S: Stream, T: SubTable, N: NodeName> Server<'n, S, T, N> {
         }
         self.has_told = false;
         for peer in 0..self.peers.count() {
-            if let Some(key) = self.peers.kept(peer) {
+            if let Some(key) = self.peers.kept_connection(peer) {
                 self.write_to_peer(rt, peer, key);
             }
         }

@@ -10,7 +10,7 @@
 //!
 //! In reading order: `client_link` and `route_link` make calls of what was read (`calls`), and tell what they have come to (`runs`);
 //! `connection` has one of them with its stream; `server` has all connections, and finds those of clients (`clients`) and of other servers
-//! (`peers`); `turning` and `flushing` are a turn of its loop, and `running` is the loop. `closings`, `redials` and `stops` say when
+//! (`peers`); `turning` and `flushing` are a turn of its loop, and `running` is the loop. `closings`, `redials` and `company` say when
 //! connections are closed, other servers dialed again, and the loop ended; `faults` why no stream is taken.
 #![tactic(auto)]
 
@@ -18,6 +18,7 @@ mod calls;
 mod client_link;
 mod clients;
 mod closings;
+mod company;
 mod connection;
 mod faults;
 mod flushing;
@@ -27,11 +28,10 @@ mod route_link;
 mod running;
 mod runs;
 mod server;
-mod stops;
 mod turning;
 
+pub use company::Company;
 pub use faults::AddFault;
 pub use net_streams::{MemStream, Stream, StreamFault};
 pub use running::{Sockets, WAKER};
 pub use server::{Server, Side, shard_of_client};
-pub use stops::Company;

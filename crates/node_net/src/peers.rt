@@ -41,7 +41,7 @@ impl Peers {
     }
 
     /// The connection whose session with the server at this place is kept.
-    pub fn kept(&self, place: usize) -> Option<usize> {
+    pub fn kept_connection(&self, place: usize) -> Option<usize> {
         self.ways.get(place)?.kept
     }
 

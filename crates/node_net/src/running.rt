@@ -1,8 +1,8 @@
 //! The loop of a server's thread: it polls, accepts, dials, and turns.
 
+use crate::company::Company;
 use crate::redials::{Greeting, Redials};
 use crate::server::{Server, Side};
-use crate::stops::Company;
 use mio::net::{TcpListener, TcpStream};
 use mio::{Events, Interest, Poll, Token};
 use node_threads::NodeName;
@@ -247,7 +247,7 @@ impl<'n, T: SubTable, N: NodeName> Server<'n, TcpStream, T, N> {
         rounds: &mut Rounds,
     ) {
         for (place, address) in addresses.iter().enumerate() {
-            let is_reached = self.peers.kept(place).is_some();
+            let is_reached = self.peers.kept_connection(place).is_some();
             rounds.redials.look(place, rounds.now, is_reached);
             if !self.is_missing(place) || !rounds.redials.is_due(place, rounds.now) {
                 continue;

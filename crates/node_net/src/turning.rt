@@ -304,7 +304,7 @@ impl<'n, S: Stream, T: SubTable, N: NodeName> Server<'n, S, T, N> {
         };
         self.has_told = true;
         for place in told.cut {
-            if let Some(key) = self.peers.kept(place) {
+            if let Some(key) = self.peers.kept_connection(place) {
                 self.give_up(key);
             }
         }

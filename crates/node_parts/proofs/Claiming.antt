@@ -11,11 +11,11 @@ use Rattle.sub_table.specs.declared.Subscription.{Subscription}
 use Rattle.claim_race.specs.Race.{RaceState, IsNextIndex, IsClaimed, next_of}
 use Rattle.shard_core.specs.Shards.{State}
 use Rattle.shard_core.specs.Closings.{id_of, ended_ids}
-use Rattle.shard_core.specs.Owed.{candidate_of, claimed, placed_for, ended_by}
+use Rattle.shard_core.specs.Owed.{candidate_of, after_claim, placed_for, ended_by}
 use Rattle.shard_core.specs.declared.calls.Candidate.{Candidate}
-use Rattle.shard_core.specs.Held.{Held, Chooses, Stands, ClaimsAreWhole, settled, placed_chosen, ended_by_chosen, candidate_told, told_of}
+use Rattle.shard_core.specs.Held.{Held, Chooses, Stands, ClaimsAreWhole, held_at_rest, after_put_chosen, ended_by_chosen, candidate_told, told_of}
 use Rattle.shard_core.specs.ShardEvents as of_shard
-use Rattle.shard_core.specs.ShardSteps.{shard_refusal, claimed_answer, claim_refusal}
+use Rattle.shard_core.specs.ShardSteps.{shard_refusal, claim_answer, claim_refusal}
 use Rattle.shard_core.specs.declared.faults.ShardFault.TheVariants.{BadIndex}
 use Rattle.node_parts.specs.declared.lines.Claimed.TheVariants.{Nobody, Lost, Won}
 use Rattle.node_law.specs.State.{Line}
@@ -75,8 +75,8 @@ claim_nobody copies old mid waiting index shard found race job hand chooses is =
     go : (c : Option Subscription) → candidate_of s s.hand index ≡ c → None ≡ told_of copies s.shard (Some job) c → LineClaims copies (record { shard = s; waiting = waiting }) race shard index Nobody (record { shard = mid.state; waiting = waiting }) race
     go (Some sub) at e = absurd (none-some _ e)
     go None at e = record {
-      told = λ k. claimed_answer s (hand k) (at k) false;
-      after = λ k. record { shard = (ap (λ (h : Held). h.state) chooses.after ∙ sym (λ j. claimed s (hand j) (at j) false)) k; waiting = waiting };
+      told = λ k. claim_answer s (hand k) (at k) false;
+      after = λ k. record { shard = (ap (λ (h : Held). h.state) chooses.after ∙ sym (λ j. after_claim s (hand j) (at j) false)) k; waiting = waiting };
       moves = subst (λ h. ClaimRace race shard index h (candidate_of s s.hand index) false race) (sym hand) (subst (λ c. ClaimRace race shard index (Some job) c false race) (sym at) refl);
     }
 
@@ -87,14 +87,14 @@ claim_lost copies old mid waiting index shard turn found told race new_race job 
     let s = old.state in
     let h = candidate copies s index turn told job hand turn_is (sym is ∙ chooses.told) in
     record {
-      told = λ k. claimed_answer s (h.hand k) (h.chosen k) false;
-      after = λ k. record { shard = (ap (λ (h : Held). h.state) chooses.after ∙ sym (λ j. claimed s (h.hand j) (h.chosen j) false)) k; waiting = waiting };
+      told = λ k. claim_answer s (h.hand k) (h.chosen k) false;
+      after = λ k. record { shard = (ap (λ (h : Held). h.state) chooses.after ∙ sym (λ j. after_claim s (h.hand j) (h.chosen j) false)) k; waiting = waiting };
       moves = subst (λ o. ClaimRace race shard index o (candidate_of s s.hand index) false new_race) (sym h.hand) (subst (λ c. ClaimRace race shard index (Some h.job) c false new_race) (sym h.chosen) (subst (λ t. IsClaimed race shard t index false new_race) (sym h.turn_is) lost));
     }
 
 pub claim_won : ClaimsAreWhole → (copies : Bool) (old mid new : Held) (waiting : List Job) (index shard turn : ℕ) (found : Option Candidate) (told : Candidate) (ended : Option SubId) (race new_race : RaceState) (job : Job)
     → old.state.hand ≡ Some job → job.turn ≡ turn → shard_refusal old.state (of_shard.Claim index false) ≡ None → Chooses copies old index found mid → found ≡ Some told → IsClaimed race shard turn index true new_race
-    → new ≡ settled (placed_chosen mid.state mid.state.hand mid.chosen) → option_to_list ended ≡ ended_ids mid.state.shard (ended_by_chosen mid.chosen)
+    → new ≡ held_at_rest (after_put_chosen mid.state mid.state.hand mid.chosen) → option_to_list ended ≡ ended_ids mid.state.shard (ended_by_chosen mid.chosen)
     → LineClaims copies (record { shard = old.state; waiting = waiting }) race shard index (Won told.sub told.placed ended) (record { shard = new.state; waiting = waiting }) new_race
 claim_won law copies old mid new waiting index shard turn found told ended race new_race job hand turn_is cause chooses is won placed closed =
     let s = old.state in
@@ -105,7 +105,7 @@ claim_won law copies old mid new waiting index shard turn found told ended race 
     let named : told.sub ≡ id_of s.shard h.sub.serial = ap (λ (c : Candidate). c.sub) h.told_is in
     let ended_is : option_to_list ended ≡ ended_ids s.shard (ended_by h.sub) = closed ∙ ap (λ (m : Held). ended_ids m.state.shard (ended_by_chosen m.chosen)) chooses.after ∙ ap (λ c. ended_ids s.shard (ended_by_chosen c)) h.chosen in
     record {
-      told = (entry, ap (λ (c : Candidate). c.placed) h.told_is, (λ k. claimed_answer s (h.hand k) (h.chosen k) true) ∙ (λ k. of_shard.Won (sym named k) entry (sym ended_is k)));
+      told = (entry, ap (λ (c : Candidate). c.placed) h.told_is, (λ k. claim_answer s (h.hand k) (h.chosen k) true) ∙ (λ k. of_shard.Won (sym named k) entry (sym ended_is k)));
       after = λ k. record { shard = shard_is k; waiting = waiting };
       moves = subst (λ o. ClaimRace race shard index o (candidate_of s s.hand index) true new_race) (sym h.hand) (subst (λ c. ClaimRace race shard index (Some h.job) c true new_race) (sym h.chosen) (subst (λ t. IsClaimed race shard t index true new_race) (sym h.turn_is) won));
     }

@@ -9,7 +9,7 @@ use Rattle.interest.specs.declared.changes.Delta.{Delta}
 use Rattle.route_session.specs.Calls as calls
 use Rattle.route_session.specs.Events as of_sessions
 use Rattle.route_session.specs.State as sessions
-use Rattle.route_session.specs.Steps.{session_refusal, session_answer, session_after, all_dropped}
+use Rattle.route_session.specs.Steps.{session_refusal, session_answer, session_after, without_peers}
 use Rattle.node_parts.specs.Sides.{Side, Event, ByHub, BySessions, Answer, OfHub, OfSessions, IsAsked, IsAskedSessions, IsDone, hub_with}
 
 -- the hub with the sessions
@@ -46,16 +46,16 @@ cut_of of_hub.WasCut = []
 cut_of (of_hub.Taken frames) = []
 
 pub collect_done : (old new : Hub) (s t : calls.Served) (shard : ℕ) (deltas : List Delta) (changes : List Change) (cut given : List ℕ) → hubs.refusal old (of_hub.Collect shard deltas) ≡ None
-    → hubs.DoesStep old (of_hub.Collect shard deltas) (of_hub.Collected changes (collect_frames old.server old.state deltas) cut) new → given ≡ cut → t ≡ record { server = s.server; state = all_dropped given s.state }
+    → hubs.DoesStep old (of_hub.Collect shard deltas) (of_hub.Collected changes (collect_frames old.server old.state deltas) cut) new → given ≡ cut → t ≡ record { server = s.server; state = without_peers given s.state }
     → IsDone (side_of old s) (ByHub (of_hub.Collect shard deltas)) (OfHub (of_hub.Collected changes (collect_frames old.server old.state deltas) cut)) (side_of new t)
 collect_done old new s t shard deltas changes cut given free step same dropped = record {
   free = free;
   asked = tt;
   answered = ap OfHub step.answered;
   after =
-      let is : t.state ≡ all_dropped (slow_peers old.state deltas) s.state = ap (λ (x : calls.Served). x.state) dropped ∙ ap (λ l. all_dropped l s.state) (same ∙ ap cut_of step.answered) in
+      let is : t.state ≡ without_peers (slow_peers old.state deltas) s.state = ap (λ (x : calls.Served). x.state) dropped ∙ ap (λ l. without_peers l s.state) (same ∙ ap cut_of step.answered) in
       λ k. record { server = (step.after k).server; hub = (step.after k).state; sessions = is k };
 }
 
-pub collect_stays : (old new : Hub) (s t : calls.Served) (e : of_hub.Event) (answer : of_hub.Answer) (given : List ℕ) → s.server ≡ old.server → hubs.DoesStep old e answer new → t ≡ record { server = s.server; state = all_dropped given s.state } → t.server ≡ new.server
+pub collect_stays : (old new : Hub) (s t : calls.Served) (e : of_hub.Event) (answer : of_hub.Answer) (given : List ℕ) → s.server ≡ old.server → hubs.DoesStep old e answer new → t ≡ record { server = s.server; state = without_peers given s.state } → t.server ≡ new.server
 collect_stays old new s t e answer given same step dropped = ap (λ (x : calls.Served). x.server) dropped ∙ same ∙ sym (ap (λ (x : Hub). x.server) step.after)

@@ -9,7 +9,7 @@ use Rattle.route_values.specs.Frames.{Frame}
 use Rattle.route_values.specs.declared.bodies.Body.{Body}
 use Rattle.route_values.specs.declared.bodies.Body.TheVariants.{Plus, Minus, Snapshot, Msg}
 use Rattle.node_law.specs.State.{Line}
-use Rattle.node_law.specs.Steps.{queued}
+use Rattle.node_law.specs.Steps.{line_with_job}
 use Rattle.node_parts.specs.declared.told.Received.{Received}
 use Rattle.node_parts.specs.declared.told.Received.TheVariants.{Routed, Heard}
 
@@ -22,7 +22,7 @@ pub record MayIssue (race : RaceState) (lines : List Line) : Type 0 where
 -- the next turn is issued, and each line has got one of these jobs, which are alike
 pub record AreGiven (race : RaceState) (lines : List Line) (jobs : List Job) (new_race : RaceState) (new_lines : List Line) : Type 0 where
   pub issued : IsIssued race (race.issued + 1) new_race
-  pub given : (job : Job) → jobs ≡ replicate (length lines) job → new_lines ≡ map (queued job) lines
+  pub given : (job : Job) → jobs ≡ replicate (length lines) job → new_lines ≡ map (line_with_job job) lines
 
 -- a message is routed, with so many copies of its job; news are heard
 abbrev pub IsReceived : hub.State → Frame → Body → ℕ → Received → List Job → Type 0

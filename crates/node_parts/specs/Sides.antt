@@ -11,7 +11,7 @@ use Rattle.hub_core.specs.Telling.{slow_peers}
 use Rattle.route_session.specs.Events as of_sessions
 use Rattle.route_session.specs.State as sessions
 use Rattle.route_session.specs.State.{no_sessions, peer_of_session}
-use Rattle.route_session.specs.Steps.{session_refusal, session_after, session_answer, all_dropped, dropped}
+use Rattle.route_session.specs.Steps.{session_refusal, session_after, session_answer, without_peers, without_peer}
 use Rattle.node_law.specs.Steps.{cut_if}
 
 pub record Side : Type 0 where
@@ -65,13 +65,13 @@ IsFree s (BySessions event) = session_refusal s.server s.sessions event ≡ None
 
 -- a frame of a greater incarnation than was seen ends the session that was kept with its server, at this place
 abbrev pub session_after_frame : ℕ → ℕ → ℕ → sessions.State → sessions.State
-session_after_frame q seen inc s = if nat_lt seen inc then dropped q s else s
+session_after_frame q seen inc s = if nat_lt seen inc then without_peer q s else s
 
 -- a frame of a later life of its server ends the session that was kept with it, and so does a collect with each peer that it cuts
 abbrev pub sessions_with : Side → of_hub.Event → sessions.State
 sessions_with s (of_hub.Publish p finished) = s.sessions
 sessions_with s (of_hub.Receive frame finished) = session_after_frame (place s.server frame.from) (seen_name s frame.from) frame.inc s.sessions
-sessions_with s (of_hub.Collect shard deltas) = all_dropped (slow_peers s.hub deltas) s.sessions
+sessions_with s (of_hub.Collect shard deltas) = without_peers (slow_peers s.hub deltas) s.sessions
 sessions_with s (of_hub.Up q inc) = s.sessions
 sessions_with s (of_hub.Cut q) = s.sessions
 sessions_with s (of_hub.TakeFrom q count) = s.sessions

@@ -9,7 +9,7 @@ ghost use Rattle.hub_core.specs.Events.{Receive as ReceiveFrame};
 ghost use Rattle.hub_core.specs.Receiving.{has_message};
 ghost use Rattle.hub_core.specs.Steps.{hub_refusal};
 ghost use Rattle.node_law.specs.State.{Line as OneLine};
-ghost use Rattle.node_law.specs.Steps.{queued};
+ghost use Rattle.node_law.specs.Steps.{line_with_job};
 ghost use Rattle.node_parts.specs.Jobs.{MayIssue, AreGiven, IsReceived, MayRoute, AreRouted};
 ghost use Rattle.node_parts.specs.Sides.{ByHub, side_after};
 
@@ -53,7 +53,7 @@ pub fn fill(copies: &mut Vec<Job>, job: &Job, count: usize) -> Result<(), AllocE
 fn hand_out<T: SubTable>(lines: &mut [Line<T>], jobs: &mut Vec<Job>)
     requires enough { length jobs.old.items ≡ length lines.old }
     requires room { (place : ℕ) (line : OneLine) → slice_get lines.old place ≡ Some line → length line.waiting < WINDOW }
-    ensures { (job : OneJob) → jobs.old.items ≡ replicate (length lines.old) job → lines.new ≡ map (queued job) lines.old }
+    ensures { (job : OneJob) → jobs.old.items ≡ replicate (length lines.old) job → lines.new ≡ map (line_with_job job) lines.old }
 {
     for line in lines {
         let Some(job) = jobs.pop() else {
@@ -68,7 +68,7 @@ fn hand_out<T: SubTable>(lines: &mut [Line<T>], jobs: &mut Vec<Job>)
 fn give<T: SubTable>(lines: &mut [Line<T>], job: Job, copies: &mut Vec<Job>)
     requires enough { length (copies.old.items ++ job ∷ []) ≡ length lines.old }
     requires room { (place : ℕ) (line : OneLine) → slice_get lines.old place ≡ Some line → length line.waiting < WINDOW }
-    ensures { (same : OneJob) → copies.old.items ++ job ∷ [] ≡ replicate (length lines.old) same → lines.new ≡ map (queued same) lines.old }
+    ensures { (same : OneJob) → copies.old.items ++ job ∷ [] ≡ replicate (length lines.old) same → lines.new ≡ map (line_with_job same) lines.old }
 {
     let Some((first, others)) = lines.split_first_mut() else {
         // required: there is a line for the job

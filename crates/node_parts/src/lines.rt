@@ -8,7 +8,7 @@ ghost use Rattle.shard_core.specs.Lines.{first_of};
 ghost use Rattle.shard_core.specs.ShardEvents.{Attach, Subscribe, Unsubscribe, Reply, Shut, Detach, Take, Claim, End, Collect, Attached, Unsubscribed, Replied, WasShut, Detached, Taken, Collected};
 ghost use Rattle.node_parts.specs.Lines.{LineStep, LineBegins, LineEnds, LineDrops, LineClaims, MayClaim, WaitsNext, of_answer, of_decision};
 ghost use Rattle.node_law.specs.State.{new_line};
-ghost use Rattle.node_law.specs.Steps.{begin_of, drop_of, event_refusal, no_job as no_job_of, queued};
+ghost use Rattle.node_law.specs.Steps.{begin_of, drop_of, event_refusal, no_job as no_job_of, line_with_job};
 
 mod refusals;
 mod taking;
@@ -240,7 +240,7 @@ impl<T: SubTable> Line<T> {
     /// memory.
     pub fn hand_over(&mut self, job: Job)
         requires { length self.old.waiting < WINDOW }
-        ensures { self.new ≡ queued job self.old }
+        ensures { self.new ≡ line_with_job job self.old }
     {
         self.waiting.push_back_reserved(job);
     }

@@ -4,7 +4,7 @@ ghost use Rattle.std.specs.Prelude.{◌≡◌, true};
 ghost use Rattle.hub_core.specs.Receiving.{has_message};
 ghost use Rattle.hub_core.specs.State.{peer_of, seen_of as seen_by_hub};
 ghost use Rattle.route_session.specs.Calls.{peer_of as peer_by_name};
-ghost use Rattle.route_session.specs.Steps.{all_dropped};
+ghost use Rattle.route_session.specs.Steps.{without_peers};
 ghost use Rattle.subj.specs.Servers.{place as place_of, is_peer as peer};
 ghost use Rattle.node_parts.specs.Sides.{session_after_frame};
 
@@ -34,7 +34,7 @@ pub(crate) fn seen_of(hub: &Hub, name: NodeId) -> u64
 
 /// Ends the sessions that are kept with the peers at these places. Takes no memory.
 pub(crate) fn drop_sessions(sessions: &mut Sessions, peers: &[usize])
-    ensures { sessions.new ≡ record { server = sessions.old.server; state = all_dropped peers.now sessions.old.state } }
+    ensures { sessions.new ≡ record { server = sessions.old.server; state = without_peers peers.now sessions.old.state } }
 {
     for peer in peers {
         sessions.drop_kept(*peer);

@@ -2,7 +2,7 @@
 
 ghost use Rattle.std.specs.Prelude.{◌≡◌, ⊤, [], true, false, option_map, IfOk};
 ghost use Rattle.subj.specs.Answers.{IsAnswered, IsDecided};
-ghost use Rattle.hub_core.specs.Calls.{IsPlanned, IsTaken, job_of, put_out};
+ghost use Rattle.hub_core.specs.Calls.{IsPlanned, IsTaken, job_of, after_frames};
 ghost use Rattle.hub_core.specs.Chosen.{IsPlanOf, publication};
 ghost use Rattle.hub_core.specs.Events.{Collect, Receive, TakeFrom, Collected, Heard, Taken};
 ghost use Rattle.hub_core.specs.Publishing.{publish_refusal};
@@ -282,7 +282,7 @@ impl Side {
     /// [`Hub::commit_publish`].
     pub fn commit_publish(&mut self, frames: Vec<Numbered>)
         requires { IsPlanned self.old.server self.old.hub frames.items }
-        ensures { self.new ≡ record self.old { hub = put_out self.old.server self.old.hub frames.items } }
+        ensures { self.new ≡ record self.old { hub = after_frames self.old.server self.old.hub frames.items } }
     {
         self.hub.commit_publish(frames);
     }

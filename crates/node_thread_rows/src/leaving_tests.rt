@@ -160,7 +160,7 @@ fn serve<N: NodeName + Send + Sync, R: Abort + Threads + Wait + Sync>(
 }
 
 /// How many jobs the shard worked to their end.
-fn ended(tape: &[ShardEntry]) -> usize {
+fn end_count(tape: &[ShardEntry]) -> usize {
     tape.iter()
         .filter(|entry| matches!(entry.event, ShardEvent::End))
         .count()
@@ -171,7 +171,7 @@ fn is_whole<R: Abort>(rt: &R, report: &Report) {
     assert_eq!(rt; report.issued.get(), 2 * EACH);
     assert_eq!(rt; report.worked.len(), 2);
     for tape in &report.worked {
-        assert_eq!(rt; ended(tape.as_slice()) as u64, 2 * EACH);
+        assert_eq!(rt; end_count(tape.as_slice()) as u64, 2 * EACH);
     }
 }
 

@@ -2,7 +2,7 @@
 
 ghost use Rattle.std.specs.Prelude.{◌≡◌};
 
-use crate::servers::{hello, member, publish, server, taken, told, work_of_foo};
+use crate::servers::{hello, last_turns, member, publish, server, take_count, work_of_foo};
 use client_frames::{ErrText, ReplyFrame};
 use hub_core::HubFault;
 use node_law::NodeFault;
@@ -29,8 +29,8 @@ fn serves_once<N: NodeName, R: Abort + Wait>(
     assert_eq!(rt; node.turn(rt, 1, &Open), Some(Turned::Worked(turn)));
     assert_eq!(rt; node.turn(rt, 1, &Open), Some(Turned::Idle));
     assert_eq!(rt; node.turn(rt, 2, &Open), Some(Turned::Worked(turn)));
-    assert_eq!(rt; taken(rt, node, 1, first), Some(1));
-    assert_eq!(rt; taken(rt, node, 2, second), Some(0));
+    assert_eq!(rt; take_count(rt, node, 1, first), Some(1));
+    assert_eq!(rt; take_count(rt, node, 2, second), Some(0));
     Ok(())
 }
 
@@ -43,7 +43,7 @@ fn is_served_once<N: NodeName, R: Abort + Wait>(
 {
     let node: ThreadNode<ListTable, N> = ThreadNode::start(alloc, parts)?;
     serves_once(rt, alloc, &node)?;
-    assert_eq!(rt; told(rt, alloc, node), Some([1, 1, 1]));
+    assert_eq!(rt; last_turns(rt, alloc, node), Some([1, 1, 1]));
     Ok(())
 }
 
@@ -159,7 +159,7 @@ fn fills_its_lanes<N: NodeName, R: Abort + Wait>(
 {
     let node: ThreadNode<ListTable, N> = ThreadNode::start(alloc, parts)?;
     fills_lanes(rt, alloc, &node)?;
-    assert_eq!(rt; told(rt, alloc, node), Some([WINDOW + 1, WINDOW, 1]));
+    assert_eq!(rt; last_turns(rt, alloc, node), Some([WINDOW + 1, WINDOW, 1]));
     Ok(())
 }
 

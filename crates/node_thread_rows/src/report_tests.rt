@@ -73,14 +73,14 @@ fn serve<N: NodeName + Send + Sync, R: Abort + Threads + Wait + Sync>(
 }
 
 /// How many publications of this turn the hub tells.
-fn issued(hub: &[HubEntry], number: u64) -> usize {
+fn issue_count(hub: &[HubEntry], number: u64) -> usize {
     hub.iter()
         .filter(|entry| matches!(entry.told, HubTold::Issued { turn, .. } if turn.get() == number))
         .count()
 }
 
 /// How many jobs the shard worked to their end.
-fn ended(tape: &[ShardEntry]) -> usize {
+fn end_count(tape: &[ShardEntry]) -> usize {
     tape.iter()
         .filter(|entry| matches!(entry.event, ShardEvent::End))
         .count()
@@ -107,11 +107,11 @@ fn is_whole<R: Abort>(rt: &R, report: &Report, count: u64) {
     assert!(rt; report.kept);
     assert_eq!(rt; report.worked.len(), 2);
     let (first, second) = (report.worked[0].as_slice(), report.worked[1].as_slice());
-    assert_eq!(rt; ended(first) as u64, count);
-    assert_eq!(rt; ended(second) as u64, count);
+    assert_eq!(rt; end_count(first) as u64, count);
+    assert_eq!(rt; end_count(second) as u64, count);
     for before in 0..count {
         let turn = before + 1;
-        assert_eq!(rt; issued(report.hub.as_slice(), turn), 1);
+        assert_eq!(rt; issue_count(report.hub.as_slice(), turn), 1);
         assert!(rt; has_won(first, turn) != has_won(second, turn));
     }
 }

@@ -64,7 +64,7 @@ pub fn publish<N: NodeName, R: Wait>(
 }
 
 /// Takes all that waits for a connection: how many entries.
-pub fn taken<N: NodeName, R: Wait>(
+pub fn take_count<N: NodeName, R: Wait>(
     rt: &R,
     node: &ThreadNode<ListTable, N>,
     shard: u64,
@@ -75,7 +75,7 @@ pub fn taken<N: NodeName, R: Wait>(
 }
 
 /// Ends a server of two shards: the last turn that it issued, and the last ones that the shards finished.
-pub fn told<N: NodeName, R: Wait>(
+pub fn last_turns<N: NodeName, R: Wait>(
     rt: &R,
     alloc: Global,
     node: ThreadNode<ListTable, N>,

@@ -2,7 +2,7 @@
 
 ghost use Rattle.std.specs.Prelude.{◌≡◌};
 
-use crate::servers::{hello, member, publish, server, taken, told};
+use crate::servers::{hello, last_turns, member, publish, server, take_count};
 use crossbeam_utils::sync::Parker;
 use hub_core::HubFault;
 use std::alloc::Global;
@@ -29,7 +29,7 @@ struct Meeting {
 const LOOKS: u64 = 1_000_000;
 
 impl Gate for Meeting {
-    fn reached(&self, shard: u64, _turn: Turn, _index: u64) {
+    fn hold(&self, shard: u64, _turn: Turn, _index: u64) {
         self.came.fetch_or(shard, Ordering::SeqCst);
         for _look in 0..LOOKS {
             if self.came.load(Ordering::SeqCst) == 3 {
@@ -71,7 +71,7 @@ fn meets<N: NodeName + Send + Sync, R: Abort + Threads + Wait + Sync>(
         met: AtomicU64::new(0),
     };
     meets_in_turn(rt, alloc, &node, &gate)?;
-    assert_eq!(rt; told(rt, alloc, node), Some([1, 1, 1]));
+    assert_eq!(rt; last_turns(rt, alloc, node), Some([1, 1, 1]));
     Ok(())
 }
 
@@ -137,8 +137,8 @@ fn all_taken<N: NodeName, R: Wait>(
     first: ConnId,
     second: ConnId,
 ) -> Option<u64> {
-    let of_first = taken(rt, node, 1, first)? as u64;
-    let of_second = taken(rt, node, 2, second)? as u64;
+    let of_first = take_count(rt, node, 1, first)? as u64;
+    let of_second = take_count(rt, node, 2, second)? as u64;
     of_first.checked_add(of_second)
 }
 
@@ -178,7 +178,10 @@ fn serves_all<N: NodeName + Send + Sync, R: Abort + Threads + Wait + Sync>(
 {
     let node: ThreadNode<ListTable, N> = ThreadNode::start(alloc, parts)?;
     serves_from_four(rt, alloc, &node)?;
-    assert_eq!(rt; told(rt, alloc, node), Some([2 * EACH, 2 * EACH, 2 * EACH]));
+    assert_eq!(rt;
+        last_turns(rt, alloc, node),
+        Some([2 * EACH, 2 * EACH, 2 * EACH])
+    );
     Ok(())
 }
 
@@ -232,7 +235,7 @@ fn wakes_and_stops<N: NodeName + Send + Sync, R: Abort + Threads + Wait + Sync>(
 {
     let node: ThreadNode<ListTable, N> = ThreadNode::start(alloc, parts)?;
     works_until_stopped(rt, alloc, &node, parkers)?;
-    assert_eq!(rt; told(rt, alloc, node), Some([EACH, EACH, EACH]));
+    assert_eq!(rt; last_turns(rt, alloc, node), Some([EACH, EACH, EACH]));
     Ok(())
 }
 

@@ -10,19 +10,19 @@ pub record Line : Type 0 where
   pub taken : Bool
 
 -- the run that a lane does not have yet
-abbrev pub owed : Bool → Option (List Job) → List Job
-owed taken None = []
-owed true (Some run) = []
-owed false (Some run) = run
+abbrev pub jobs_owed : Bool → Option (List Job) → List Job
+jobs_owed taken None = []
+jobs_owed true (Some run) = []
+jobs_owed false (Some run) = run
 
 -- what was pushed, and what is still to be
-abbrev pub handed_to : Option (List Job) → List Job → Line → List Job
-handed_to run unsent line = line.pushed ++ (owed line.taken run ++ unsent)
+abbrev pub jobs_handed_to : Option (List Job) → List Job → Line → List Job
+jobs_handed_to run unsent line = line.pushed ++ (jobs_owed line.taken run ++ unsent)
 
 -- the same for all lanes: that of the first
-abbrev pub handed : Option (List Job) → List Job → List Line → List Job
-handed run unsent [] = []
-handed run unsent (line ∷ lines) = handed_to run unsent line
+abbrev pub jobs_handed : Option (List Job) → List Job → List Line → List Job
+jobs_handed run unsent [] = []
+jobs_handed run unsent (line ∷ lines) = jobs_handed_to run unsent line
 
 -- all jobs that the shards are handed, and how many more there is room for
 pub record Outlet : Type 0 where
@@ -31,8 +31,8 @@ pub record Outlet : Type 0 where
 
 pub record IsOutlet (run : Option (List Job)) (unsent : List Job) (lines : List Line) : Type 0 where
   pub some : 0 < length lines
-  pub alike : All (λ line. handed_to run unsent line ≡ handed run unsent lines) lines
-  pub numbered : AreNumbered (handed run unsent lines)
+  pub alike : All (λ line. jobs_handed_to run unsent line ≡ jobs_handed run unsent lines) lines
+  pub numbered : AreNumbered (jobs_handed run unsent lines)
 
 -- these jobs are the first of those
 abbrev pub AreFirst : List Job → List Job → Type 0

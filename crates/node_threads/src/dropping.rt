@@ -4,7 +4,7 @@ ghost use Rattle.std.specs.Prelude.{◌≡◌, IfOk};
 ghost use Rattle.node_threads.specs.Tapes.{Tells};
 ghost use Rattle.node_threads.specs.Turns.{Drops, HasDropped, MayBegin};
 
-use crate::names::NodeName;
+use crate::node_name::NodeName;
 use crate::noting::note_drop;
 use crate::shard_entries::ShardEntry;
 use crate::shard_state::ShardState;

@@ -7,7 +7,7 @@ ghost use Rattle.node_threads.specs.Outlets.{AreFirst};
 
 use crate::hub_state::HubState;
 use crate::line::Line;
-use crate::names::NodeName;
+use crate::node_name::NodeName;
 use crate::shard_state::ShardState;
 use claim_cells::{HubSeat, ShardSeat};
 use job_lane::LaneOut;

@@ -6,7 +6,7 @@ use subj::Turn;
 pub trait Gate: Sync {
     /// A shard, counted from 1, has a candidate for the queue name of this index, in this turn. Only that
     /// shard's lock is held.
-    fn reached(&self, shard: u64, turn: Turn, index: u64);
+    fn hold(&self, shard: u64, turn: Turn, index: u64);
 }
 
 /// A gate that holds nothing.
@@ -14,5 +14,5 @@ pub trait Gate: Sync {
 pub struct Open;
 
 impl Gate for Open {
-    fn reached(&self, _shard: u64, _turn: Turn, _index: u64) {}
+    fn hold(&self, _shard: u64, _turn: Turn, _index: u64) {}
 }

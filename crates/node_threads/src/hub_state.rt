@@ -16,7 +16,7 @@ ghost use Rattle.node_threads.specs.AtHub.{Collects, Does, Looks, Publishes, Rec
 ghost use Rattle.node_parts.specs.Sides.{ByHub, BySessions, OfHub, OfSessions, new_side, seen_name};
 
 use crate::line::Line;
-use crate::names::NodeName;
+use crate::node_name::NodeName;
 use crate::outlet::Outlet;
 use crate::shard_state::ShardState;
 use claim_cells::{Cells, HubSeat};

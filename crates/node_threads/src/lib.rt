@@ -9,7 +9,7 @@
 //! let turned = shard.turn(rt, &cells, &Open, &mut Tape::new(alloc, false));
 //! ```
 //!
-//! In reading order: `names` ties the parts of one server; `line` is the hub's end of a lane, and `outlet` has all of them;
+//! In reading order: `node_name` ties the parts of one server; `line` is the hub's end of a lane, and `outlet` has all of them;
 //! `hub_state` and `shard_state` stand under the locks; `turning` is a turn of a shard, with `gates` that may hold it, and comes to what
 //! `turned` says; `dropping` and `ending` are how jobs and servers end. A `tape` is what is kept in writing, of a shard by `noting`, in
 //! `shard_entries`. `laws` says that all this is the server's own step.
@@ -21,7 +21,7 @@ mod gates;
 mod hub_state;
 mod laws;
 mod line;
-mod names;
+mod node_name;
 mod noting;
 mod outlet;
 mod shard_entries;
@@ -34,7 +34,7 @@ pub use gates::{Gate, Open};
 pub use hub_state::HubState;
 pub use laws::sides_are_parts;
 pub use line::Line;
-pub use names::NodeName;
+pub use node_name::NodeName;
 pub use shard_entries::{Deltas, ShardEntry, ShardEvent, ShardTold};
 pub use shard_state::ShardState;
 pub use tape::Tape;

@@ -2,9 +2,9 @@
 
 ghost use Rattle.std.specs.Prelude.{◌≡◌, ◌-◌, ◌++◌, true, false, Some, [], slice_get};
 ghost use Rattle.job_lane.specs.Turns.{AreNumbered};
-ghost use Rattle.node_threads.specs.Outlets.{owed};
+ghost use Rattle.node_threads.specs.Outlets.{jobs_owed};
 
-use crate::names::NodeName;
+use crate::node_name::NodeName;
 use job_lane::{LaneIn, Run};
 use std::marker::{Model, PhantomData};
 use std::sync::Wait;
@@ -80,8 +80,8 @@ impl<N: NodeName> Line<N> {
     /// Pushes the run, unless the lane has it. A lane without room, and want of memory, leave it owed.
     #[tactic(auto, using(crate::proofs::Lanes::Outlets::owed_behind, crate::proofs::Lanes::Outlets::pushed_now))]
     pub(crate) fn offer<R: Wait>(&mut self, rt: &R, run: &Run)
-        requires { AreNumbered (self.old.pushed ++ owed self.old.taken (Some run.now)) }
-        ensures { (self.new.shard ≡ self.old.shard) × (self.new.pushed ++ owed self.new.taken (Some run.now) ≡ self.old.pushed ++ owed self.old.taken (Some run.now)) }
+        requires { AreNumbered (self.old.pushed ++ jobs_owed self.old.taken (Some run.now)) }
+        ensures { (self.new.shard ≡ self.old.shard) × (self.new.pushed ++ jobs_owed self.new.taken (Some run.now) ≡ self.old.pushed ++ jobs_owed self.old.taken (Some run.now)) }
     {
         if self.taken {
             return;

@@ -2,10 +2,10 @@
 
 ghost use Rattle.std.specs.Prelude.{◌≡◌, ◌+◌, ◌<◌, ◌∷◌, ◌++◌, [], true, false, All, length, map, OnOk, Some, None};
 ghost use Rattle.job_lane.specs.Turns.{AreNumbered};
-ghost use Rattle.node_threads.specs.Outlets.{AreFirst, owed};
+ghost use Rattle.node_threads.specs.Outlets.{AreFirst, jobs_owed};
 
 use crate::line::Line;
-use crate::names::NodeName;
+use crate::node_name::NodeName;
 use job_lane::Run;
 use std::alloc::{AllocError, Global};
 use std::marker::Model;
@@ -27,11 +27,11 @@ pub(crate) struct Outlet<N: NodeName> {
 
 impl<N: NodeName> Model for Outlet<N> {
     ghost use Rattle.std.specs.Prelude.{◌-◌, vec_len, vec_capacity};
-    ghost use Rattle.node_threads.specs.Outlets.{Outlet, IsOutlet, handed};
+    ghost use Rattle.node_threads.specs.Outlets.{Outlet, IsOutlet, jobs_handed};
 
     ghost Value = { Outlet };
 
-    ghost view = { λ s. record { jobs = handed s.run s.unsent.items s.lines.items; room = vec_capacity s.unsent - vec_len s.unsent } };
+    ghost view = { λ s. record { jobs = jobs_handed s.run s.unsent.items s.lines.items; room = vec_capacity s.unsent - vec_len s.unsent } };
 
     ghost invariant = { λ s. IsOutlet s.run s.unsent.items s.lines.items };
 }
@@ -45,8 +45,8 @@ fn all_have<N: NodeName>(lines: &[Line<N>]) -> bool
 
 /// Pushes the run to each lane that does not have it.
 fn offer_to_each<N: NodeName, R: Wait>(rt: &R, lines: &mut [Line<N>], run: &Run)
-    requires { All (λ line. AreNumbered (line.pushed ++ owed line.taken (Some run.now))) lines.old }
-    ensures { map (λ line. line.pushed ++ owed line.taken (Some run.now)) lines.new ≡ map (λ line. line.pushed ++ owed line.taken (Some run.now)) lines.old }
+    requires { All (λ line. AreNumbered (line.pushed ++ jobs_owed line.taken (Some run.now))) lines.old }
+    ensures { map (λ line. line.pushed ++ jobs_owed line.taken (Some run.now)) lines.new ≡ map (λ line. line.pushed ++ jobs_owed line.taken (Some run.now)) lines.old }
 {
     for line in lines.iter_mut() {
         line.offer(rt, run);
@@ -64,8 +64,8 @@ fn begin_each<N: NodeName>(lines: &mut [Line<N>])
 
 /// Pushes the run to each lane that does not have it.
 fn offer_all<N: NodeName, R: Wait>(rt: &R, lines: &mut Vec<Line<N>>, run: &Run)
-    requires { All (λ line. AreNumbered (line.pushed ++ owed line.taken (Some run.now))) lines.old.items }
-    ensures { map (λ line. line.pushed ++ owed line.taken (Some run.now)) lines.new.items ≡ map (λ line. line.pushed ++ owed line.taken (Some run.now)) lines.old.items }
+    requires { All (λ line. AreNumbered (line.pushed ++ jobs_owed line.taken (Some run.now))) lines.old.items }
+    ensures { map (λ line. line.pushed ++ jobs_owed line.taken (Some run.now)) lines.new.items ≡ map (λ line. line.pushed ++ jobs_owed line.taken (Some run.now)) lines.old.items }
 {
     offer_to_each(rt, lines.as_mut_slice(), run);
 }

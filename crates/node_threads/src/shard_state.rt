@@ -10,7 +10,7 @@ ghost use Rattle.shard_core.specs.Shards.{is_open as opened};
 ghost use Rattle.shard_core.specs.ShardSteps.{shard_refusal};
 ghost use Rattle.node_threads.specs.AtWork.{Does, TakesBytes, at_start};
 
-use crate::names::NodeName;
+use crate::node_name::NodeName;
 use claim_cells::ShardSeat;
 use client_frames::{ErrText, ReplyFrame};
 use interest::Delta;

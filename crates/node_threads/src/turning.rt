@@ -7,7 +7,7 @@ ghost use Rattle.node_threads.specs.Tapes.{Tells};
 ghost use Rattle.node_threads.specs.Turns.{ClaimsOne, HasEnded, HasNone, HasTried, HasWorked, MayBegin, MayClaim, Turns};
 
 use crate::gates::Gate;
-use crate::names::NodeName;
+use crate::node_name::NodeName;
 use crate::noting::{note_begin, note_claim, note_end};
 use crate::shard_entries::ShardEntry;
 use crate::shard_state::ShardState;
@@ -25,7 +25,7 @@ use subj::Turn;
 fn tell<G: Gate>(gate: &G, seat: &ShardSeat, turn: Turn, index: u64)
     requires { seat.now.part.next ≤ index }
 {
-    gate.reached(seat.shard(), turn, index);
+    gate.hold(seat.shard(), turn, index);
 }
 
 impl<T: SubTable, N: NodeName> ShardState<T, N> {
@@ -100,7 +100,7 @@ impl<T: SubTable, N: NodeName> ShardState<T, N> {
         if self.seat.has_turn() {
             return true;
         }
-        cells.seen(&mut self.seat);
+        cells.see(&mut self.seat);
         self.seat.has_turn()
     }
 

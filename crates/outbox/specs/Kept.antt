@@ -14,13 +14,13 @@ is_whole (Copied tag len) = false
 is_whole (Whole entry) = true
 
 -- the entry, whose bytes are the first of these where they were copied
-abbrev pub seen_at : Kept → List ℕ → Written
-seen_at (Copied tag len) bytes = record { tag = tag; bytes = take len bytes }
-seen_at (Whole entry) bytes = entry
+abbrev pub written_at : Kept → List ℕ → Written
+written_at (Copied tag len) bytes = record { tag = tag; bytes = take len bytes }
+written_at (Whole entry) bytes = entry
 
-abbrev pub seen : List Kept → List ℕ → List Written
-seen [] bytes = []
-seen (kept ∷ others) bytes = seen_at kept bytes ∷ seen others (drop (copied_len kept) bytes)
+abbrev pub written_in : List Kept → List ℕ → List Written
+written_in [] bytes = []
+written_in (kept ∷ others) bytes = written_at kept bytes ∷ written_in others (drop (copied_len kept) bytes)
 
 abbrev pub copied_of : List Kept → ℕ
 copied_of [] = 0

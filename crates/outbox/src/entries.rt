@@ -93,11 +93,11 @@ impl Model for Entry {
     ghost Value = { Written };
 
     ghost use Rattle.std.specs.Prelude.{◌<◌, ◌^◌, length};
-    ghost use Rattle.outbox.specs.Behind.{with_behind};
+    ghost use Rattle.outbox.specs.Behind.{line_with_behind};
 
-    ghost view = { λ entry. record { tag = entry.tag; bytes = with_behind entry.line.items entry.behind } };
+    ghost view = { λ entry. record { tag = entry.tag; bytes = line_with_behind entry.line.items entry.behind } };
 
-    ghost invariant = { λ entry. length (with_behind entry.line.items entry.behind) < 2 ^ 64 };
+    ghost invariant = { λ entry. length (line_with_behind entry.line.items entry.behind) < 2 ^ 64 };
 }
 
 impl Entry {

@@ -5,7 +5,7 @@ ghost use Rattle.outbox.specs.Bytes.{bytes_of};
 ghost use Rattle.outbox.specs.Views.{size_of, bytes_of_all, reply_entry};
 ghost use Rattle.std.specs.VecDeque.{deque_capacity};
 ghost use Rattle.outbox.specs.declared.kept.Kept.{Kept as KeptEntry};
-ghost use Rattle.outbox.specs.Kept.{copied_len, copied_of, is_whole as is_kept_whole, seen_at, seen};
+ghost use Rattle.outbox.specs.Kept.{copied_len, copied_of, is_whole as is_kept_whole, written_at, written_in};
 
 use crate::byte_queue::ByteQueue;
 use crate::entries::{Entry, Tag};
@@ -23,7 +23,7 @@ const COPIED: usize = 4_096;
 fn append_kept(kept: &Kept, text: &[u8], out: &mut Vec<u8>) -> Result<usize, AllocError>
     requires { copied_len kept.now ≤ length text.now }
     ensures len { IfOk result (λ len. len ≡ copied_len kept.now) }
-    ensures ok { OnOk result (out.new.items ≡ out.old.items ++ (seen_at kept.now text.now).bytes) }
+    ensures ok { OnOk result (out.new.items ≡ out.old.items ++ (written_at kept.now text.now).bytes) }
     ensures err { OnErr result (out.new.items ≡ out.old.items) }
 {
     match kept {
@@ -41,7 +41,7 @@ fn append_kept(kept: &Kept, text: &[u8], out: &mut Vec<u8>) -> Result<usize, All
 /// A copy of an entry, and how many of `text`, which begins with the entry's own, it has.
 fn copy_of(alloc: Global, kept: &Kept, text: &[u8]) -> Result<(Entry, usize), AllocError>
     requires { copied_len kept.now ≤ length text.now }
-    ensures { IfOk result (λ copy. (copy.0 ≡ seen_at kept.now text.now) × (copy.1 ≡ copied_len kept.now)) }
+    ensures { IfOk result (λ copy. (copy.0 ≡ written_at kept.now text.now) × (copy.1 ≡ copied_len kept.now)) }
 {
     match kept {
         Kept::Copied { tag, len } => {
@@ -55,7 +55,7 @@ fn copy_of(alloc: Global, kept: &Kept, text: &[u8]) -> Result<(Entry, usize), Al
 
 /// How many bytes an entry has, and how many of them were copied.
 fn sizes_of(kept: &Kept) -> (usize, usize)
-    ensures all { (text : List ℕ) → copied_len kept.now ≤ length text → result.0 ≡ length (seen_at kept.now text).bytes }
+    ensures all { (text : List ℕ) → copied_len kept.now ≤ length text → result.0 ≡ length (written_at kept.now text).bytes }
     ensures copied { result.1 ≡ copied_len kept.now }
 {
     match kept {
@@ -68,7 +68,7 @@ fn sizes_of(kept: &Kept) -> (usize, usize)
 fn pop_first(kept: &mut VecDeque<Kept>) -> (usize, usize)
     ensures rest { kept.new.items ≡ drop 1 kept.old.items }
     ensures capacity { deque_capacity kept.new ≡ deque_capacity kept.old }
-    ensures all { (text : List ℕ) → copied_of kept.old.items ≤ length text → result.0 ≡ size_of (take 1 (seen kept.old.items text)) }
+    ensures all { (text : List ℕ) → copied_of kept.old.items ≤ length text → result.0 ≡ size_of (take 1 (written_in kept.old.items text)) }
     ensures copied { result.1 ≡ copied_of (take 1 kept.old.items) }
 {
     match kept.pop_front() {
@@ -100,7 +100,7 @@ fn append_first(
 ) -> Result<(), AllocError>
     requires there { count ≤ length kept.now.items }
     requires text { copied_of kept.now.items ≤ length text.now }
-    ensures ok { OnOk result (out.new.items ≡ out.old.items ++ bytes_of_all (take count (seen kept.now.items text.now))) }
+    ensures ok { OnOk result (out.new.items ≡ out.old.items ++ bytes_of_all (take count (written_in kept.now.items text.now))) }
     ensures err { take (length out.old.items) out.new.items ≡ out.old.items }
 {
     let mut at = 0;
@@ -138,7 +138,7 @@ fn copy_first(
 ) -> Result<Vec<Entry>, AllocError>
     requires there { count ≤ length kept.now.items }
     requires text { copied_of kept.now.items ≤ length text.now }
-    ensures { IfOk result (λ copies. copies.items ≡ take count (seen kept.now.items text.now)) }
+    ensures { IfOk result (λ copies. copies.items ≡ take count (written_in kept.now.items text.now)) }
 {
     let mut copies = Vec::with_capacity(alloc, count)?;
     let mut at = 0;
@@ -166,9 +166,9 @@ impl Model for EntryQueue {
 
     ghost use Rattle.std.specs.Prelude.{◌≡◌, length};
     ghost use Rattle.std.specs.VecDeque.{deque_capacity};
-    ghost use Rattle.outbox.specs.Kept.{seen, copied_of};
+    ghost use Rattle.outbox.specs.Kept.{written_in, copied_of};
 
-    ghost view = { λ q. record { entries = seen q.kept.items q.text; places = deque_capacity q.kept } };
+    ghost view = { λ q. record { entries = written_in q.kept.items q.text; places = deque_capacity q.kept } };
 
     ghost invariant = { λ q. copied_of q.kept.items ≡ length q.text };
 }

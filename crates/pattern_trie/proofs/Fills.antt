@@ -6,23 +6,23 @@ use Rattle.std.specs.Cmp.Lexicographic.{bytes_decides, nat_list_eq_equiv}
 use Rattle.std.proofs.lemmas.Bool.{cases_Bool, cond-true, cond-false}
 use Rattle.pattern_trie.specs.Nodes.{Nodes, below_at, values_at, one_if, has_mark, without_value, IsSame, Values, EntersEach, LeavesEach, CanLeaveEach}
 use Rattle.std.proofs.Props.{props}
-use Rattle.pattern_trie.specs.Beginnings.{is_beginning, with_behind}
+use Rattle.pattern_trie.specs.Beginnings.{is_beginning, beginning_with_rest}
 use Rattle.pattern_trie.specs.Held.{Held, Holds, count_below, values_for, without_held}
 use Rattle.pattern_trie.proofs.Lists.{count_push, values_push_here, values_push_other, count_without, without_absent, values_without_here, values_without_other, none_below, fewer_behind}
 
 module _ {V : Type 0} (eq : V → V → Bool) (text : List ℕ) (v : V) (held : List (Held V)) (old mid new : Nodes V) where
-  pub pushed : Holds held old → EntersEach (λ q. is_beginning q text) (λ k q. is_beginning (with_behind k q) text) old mid → Values text (values_at mid text ++ v ∷ []) mid new → Holds (held ++ (text, v) ∷ []) new
+  pub pushed : Holds held old → EntersEach (λ q. is_beginning q text) (λ k q. is_beginning (beginning_with_rest k q) text) old mid → Values text (values_at mid text ++ v ∷ []) mid new → Holds (held ++ (text, v) ∷ []) new
   pushed is entered put = record {
     counts = λ q. put.counts q ∙ entered.counts q ∙ ap (λ n. n + one_if (is_beginning q text)) (is.counts q) ∙ sym (count_push q text v held);
     values = at;
     marks = mark;
   } where
-    mark : (k : List ℕ) (q : List ℕ) → 0 < count_below (with_behind k q) (held ++ (text, v) ∷ []) → has_mark k new q ≡ true
+    mark : (k : List ℕ) (q : List ℕ) → 0 < count_below (beginning_with_rest k q) (held ++ (text, v) ∷ []) → has_mark k new q ≡ true
     mark k q some =
-        elim (cases_Bool (is_beginning (with_behind k q) text)) [
+        elim (cases_Bool (is_beginning (beginning_with_rest k q) text)) [
           | inl y ↦ put.marks k q (entered.marked k q y)
           | inr n ↦
-              let more : count_below (with_behind k q) (held ++ (text, v) ∷ []) ≡ count_below (with_behind k q) held + 0 = count_push (with_behind k q) text v held ∙ ap (λ b. count_below (with_behind k q) held + one_if b) n in
+              let more : count_below (beginning_with_rest k q) (held ++ (text, v) ∷ []) ≡ count_below (beginning_with_rest k q) held + 0 = count_push (beginning_with_rest k q) text v held ∙ ap (λ b. count_below (beginning_with_rest k q) held + one_if b) n in
               put.marks k q (entered.marks k q (is.marks k q (omega arith)))
         ]
 
@@ -62,7 +62,7 @@ module _ {V : Type 0} (eq : V → V → Bool) (text : List ℕ) (v : V) (held : 
     counts = counted;
     values = λ q. left.values q ∙ taken_values is put q;
     marks = λ k q some.
-        let before : count_below (with_behind k q) (without_held eq text v held) + one_if (is_beginning (with_behind k q) text) ≡ count_below (with_behind k q) held = count_without eq (with_behind k q) text v held (ap (list_any (eq v)) (sym (is.values text)) ∙ some_value) in
+        let before : count_below (beginning_with_rest k q) (without_held eq text v held) + one_if (is_beginning (beginning_with_rest k q) text) ≡ count_below (beginning_with_rest k q) held = count_without eq (beginning_with_rest k q) text v held (ap (list_any (eq v)) (sym (is.values text)) ∙ some_value) in
         let fewer = fewer_behind q k (without_held eq text v held) in
         let at = counted q in
         left.marks k q (omega arith) (put.marks k q (is.marks k q (omega arith)));
@@ -77,7 +77,7 @@ module _ {V : Type 0} (eq : V → V → Bool) (text : List ℕ) (v : V) (held : 
   not_taken is none put = record {
     counts = λ q. put.counts q ∙ is.counts q ∙ ap (count_below q) (sym (without_absent eq text v held (ap (list_any (eq v)) (sym (is.values text)) ∙ none)));
     values = taken_values is put;
-    marks = λ k q some. put.marks k q (is.marks k q (subst (λ hs. 0 < count_below (with_behind k q) hs) (without_absent eq text v held (ap (list_any (eq v)) (sym (is.values text)) ∙ none)) some));
+    marks = λ k q some. put.marks k q (is.marks k q (subst (λ hs. 0 < count_below (beginning_with_rest k q) hs) (without_absent eq text v held (ap (list_any (eq v)) (sym (is.values text)) ∙ none)) some));
   }
 
 pub CanLeaveEach-prop : {V : Type 0} (test : List ℕ → Bool) (nodes : Nodes V) → IsProp (CanLeaveEach test nodes)
@@ -94,7 +94,7 @@ same_filled held old new is same = record {
 }
 
 -- what was entered and left again
-pub left_again : {V : Type 0} (held : List (Held V)) (text : List ℕ) (old mid other new : Nodes V) → Holds held old → EntersEach (λ q. is_beginning q text) (λ k q. is_beginning (with_behind k q) text) old mid → IsSame mid other → LeavesEach (λ q. is_beginning q text) other new → Holds held new
+pub left_again : {V : Type 0} (held : List (Held V)) (text : List ℕ) (old mid other new : Nodes V) → Holds held old → EntersEach (λ q. is_beginning q text) (λ k q. is_beginning (beginning_with_rest k q) text) old mid → IsSame mid other → LeavesEach (λ q. is_beginning q text) other new → Holds held new
 left_again held text old mid other new is entered same left = record {
   counts = counted;
   values = λ q. left.values q ∙ same.values q ∙ entered.values q ∙ is.values q;

@@ -12,29 +12,29 @@ use Rattle.std.proofs.lemmas.Bool.Decides.{nat_tests}
 use Rattle.std.proofs.lemmas.List.{append_assoc, append-nil}
 use Rattle.list_laws.specs.Lists.{is_empty}
 use Rattle.pattern_trie.specs.Nodes.{Nodes, has_mark, below_at, count_of, one_if}
-use Rattle.pattern_trie.specs.Beginnings.{is_beginning, is_before_dot, with_behind}
+use Rattle.pattern_trie.specs.Beginnings.{is_beginning, is_before_dot, beginning_with_rest}
 use Rattle.pattern_trie.specs.Held.{Held, Holds, count_below, values_for}
-use Rattle.pattern_trie.specs.Matchers.{matchers, dotted, extended, gathered}
+use Rattle.pattern_trie.specs.Matchers.{matchers, text_with_token, text_with_tokens, gathered}
 use Rattle.pattern_trie.proofs.Lists.{begins_itself}
 
 -- ---- lists of token lists
 
 gathered_append : {V : Type 0} (held : List (Held V)) (path : List ℕ) (ms ns : List (List (List ℕ))) → gathered held path (ms ++ ns) ≡ gathered held path ms ++ gathered held path ns
 gathered_append held path [] ns = refl
-gathered_append held path (m ∷ ms) ns = ap (λ vs. values_for (extended path m) held ++ vs) (gathered_append held path ms ns) ∙ sym (append_assoc (values_for (extended path m) held) (gathered held path ms) (gathered held path ns))
+gathered_append held path (m ∷ ms) ns = ap (λ vs. values_for (text_with_tokens path m) held ++ vs) (gathered_append held path ms ns) ∙ sym (append_assoc (values_for (text_with_tokens path m) held) (gathered held path ms) (gathered held path ns))
 
-gathered_behind : {V : Type 0} (held : List (Held V)) (path token : List ℕ) (ms : List (List (List ℕ))) → gathered held path (map (λ m. token ∷ m) ms) ≡ gathered held (dotted path token) ms
+gathered_behind : {V : Type 0} (held : List (Held V)) (path token : List ℕ) (ms : List (List (List ℕ))) → gathered held path (map (λ m. token ∷ m) ms) ≡ gathered held (text_with_token path token) ms
 gathered_behind held path token [] = refl
-gathered_behind held path token (m ∷ ms) = ap (λ vs. values_for (extended (dotted path token) m) held ++ vs) (gathered_behind held path token ms)
+gathered_behind held path token (m ∷ ms) = ap (λ vs. values_for (text_with_tokens (text_with_token path token) m) held ++ vs) (gathered_behind held path token ms)
 
 -- the values of one token more: `>`, then the token, then `*`
 pub gathered_step : {V : Type 0} (held : List (Held V)) (path token : List ℕ) (tokens : List (List ℕ))
-    → gathered held path (matchers (token ∷ tokens)) ≡ values_for (dotted path (codes ">")) held ++ (gathered held (dotted path token) (matchers tokens) ++ gathered held (dotted path (codes "*")) (matchers tokens))
+    → gathered held path (matchers (token ∷ tokens)) ≡ values_for (text_with_token path (codes ">")) held ++ (gathered held (text_with_token path token) (matchers tokens) ++ gathered held (text_with_token path (codes "*")) (matchers tokens))
 gathered_step held path token tokens =
-    ap (λ vs. values_for (dotted path (codes ">")) held ++ vs)
+    ap (λ vs. values_for (text_with_token path (codes ">")) held ++ vs)
     (gathered_append held path (map (λ m. token ∷ m) (matchers tokens)) (map (λ m. codes "*" ∷ m) (matchers tokens))
     ∙ ap (λ vs. vs ++ gathered held path (map (λ m. codes "*" ∷ m) (matchers tokens))) (gathered_behind held path token (matchers tokens))
-    ∙ ap (λ vs. gathered held (dotted path token) (matchers tokens) ++ vs) (gathered_behind held path (codes "*") (matchers tokens)))
+    ∙ ap (λ vs. gathered held (text_with_token path token) (matchers tokens) ++ vs) (gathered_behind held path (codes "*") (matchers tokens)))
 
 -- ---- a path that nothing begins with
 
@@ -54,12 +54,12 @@ tail : List (List ℕ) → List ℕ
 tail [] = []
 tail (t ∷ ts) = 46 ∷ (t ++ tail ts)
 
-extended_is : (b : ℕ) (path : List ℕ) (ts : List (List ℕ)) → extended (b ∷ path) ts ≡ b ∷ (path ++ tail ts)
+extended_is : (b : ℕ) (path : List ℕ) (ts : List (List ℕ)) → text_with_tokens (b ∷ path) ts ≡ b ∷ (path ++ tail ts)
 unfolding tail
 extended_is b path [] = ap (λ l. b ∷ l) (sym (append-nil path))
 extended_is b path (t ∷ ts) = extended_is b (path ++ 46 ∷ t) ts ∙ ap (λ l. b ∷ l) (append_assoc path (46 ∷ t) (tail ts))
 
-extended_begins : (b : ℕ) (path : List ℕ) (ts : List (List ℕ)) → is_beginning (b ∷ path) (extended (b ∷ path) ts) ≡ true
+extended_begins : (b : ℕ) (path : List ℕ) (ts : List (List ℕ)) → is_beginning (b ∷ path) (text_with_tokens (b ∷ path) ts) ≡ true
 unfolding tail
 extended_begins b path [] = begins_itself (b ∷ path)
 extended_begins b path (t ∷ ts) = ap (is_beginning (b ∷ path)) (extended_is b path (t ∷ ts)) ∙ begins_more (b ∷ path) (t ++ tail ts)
@@ -77,7 +77,7 @@ none_under p q (h ∷ held) begins none =
 
 none_gathered : {V : Type 0} (b : ℕ) (path : List ℕ) (held : List (Held V)) (ms : List (List (List ℕ))) → count_below (b ∷ path) held ≡ 0 → gathered held (b ∷ path) ms ≡ []
 none_gathered b path held [] none = refl
-none_gathered b path held (m ∷ ms) none = ap (λ vs. vs ++ gathered held (b ∷ path) ms) (none_under (b ∷ path) (extended (b ∷ path) m) held (extended_begins b path m) none) ∙ none_gathered b path held ms none
+none_gathered b path held (m ∷ ms) none = ap (λ vs. vs ++ gathered held (b ∷ path) ms) (none_under (b ∷ path) (text_with_tokens (b ∷ path) m) held (extended_begins b path m) none) ∙ none_gathered b path held ms none
 
 -- where there is no node
 pub gathered_none : {V : Type 0} (held : List (Held V)) (nodes : Nodes V) (path : List ℕ) (ms : List (List (List ℕ))) → Holds held nodes → is_empty path ≡ false → below_at nodes path ≡ 0 → gathered held path ms ≡ []
@@ -86,22 +86,22 @@ gathered_none held nodes (b ∷ path) ms is empty none = none_gathered b path he
 
 -- ---- the path of one token more, cut off again
 
-pub dotted_back : (path token : List ℕ) → take (length path) (dotted path token) ≡ path
+pub dotted_back : (path token : List ℕ) → take (length path) (text_with_token path token) ≡ path
 dotted_back [] token = refl
 dotted_back (b ∷ path) token = ap (λ l. b ∷ l) (front path (46 ∷ token)) where
   front : (xs ys : List ℕ) → take (length xs) (xs ++ ys) ≡ xs
   front [] ys = refl
   front (x ∷ xs) ys = ap (λ l. x ∷ l) (front xs ys)
 
-pub cut_back : (n : ℕ) (path more token : List ℕ) → n ≡ length path → more ≡ dotted path token → take n more ≡ path
+pub cut_back : (n : ℕ) (path more token : List ℕ) → n ≡ length path → more ≡ text_with_token path token → take n more ≡ path
 cut_back n path more token is at = ap (λ k. take k more) is ∙ ap (take (length path)) at ∙ dotted_back path token
 
 -- ---- a token that no node is marked for
 
-not_counted : {V : Type 0} (held : List (Held V)) (nodes : Nodes V) (path : List ℕ) (k : List ℕ) → Holds held nodes → is_empty path ≡ false → has_mark k nodes path ≡ false → count_below (dotted path k) held ≡ 0
+not_counted : {V : Type 0} (held : List (Held V)) (nodes : Nodes V) (path : List ℕ) (k : List ℕ) → Holds held nodes → is_empty path ≡ false → has_mark k nodes path ≡ false → count_below (text_with_token path k) held ≡ 0
 not_counted held nodes [] k is some none = cc
 not_counted held nodes (b ∷ path) k is some none =
-    elim (cases_Bool (nat_lt 0 (count_below (with_behind k (b ∷ path)) held))) [
+    elim (cases_Bool (nat_lt 0 (count_below (beginning_with_rest k (b ∷ path)) held))) [
       | inl y ↦ absurd (no (sym (is.marks k (b ∷ path) (grind (arith, nat_tests))) ∙ none))
       | inr n ↦ grind (arith, nat_tests)
     ]
@@ -110,7 +110,7 @@ not_counted held nodes (b ∷ path) k is some none =
     no e = cc
 
 -- nothing is held behind a token that is not marked
-pub token_none : {V : Type 0} (held : List (Held V)) (nodes : Nodes V) (path token : List ℕ) (ms : List (List (List ℕ))) → Holds held nodes → (is_empty path ≡ false) × (has_mark token nodes path ≡ false) → gathered held (dotted path token) ms ≡ []
+pub token_none : {V : Type 0} (held : List (Held V)) (nodes : Nodes V) (path token : List ℕ) (ms : List (List (List ℕ))) → Holds held nodes → (is_empty path ≡ false) × (has_mark token nodes path ≡ false) → gathered held (text_with_token path token) ms ≡ []
 token_none held nodes [] token ms is none = nothing none.0 where
   nothing : {A : Type 0} → true ≡ false → A
   nothing e = cc
@@ -121,12 +121,12 @@ module _ {V : Type 0} (held : List (Held V)) (path token : List ℕ) (tokens : L
   joined : (f a b d : List V) → ((f ++ a) ++ b) ++ d ≡ f ++ (a ++ (b ++ d))
   joined f a b d = append_assoc (f ++ a) b d ∙ append_assoc f a (b ++ d)
 
-  pub walked : f1 ≡ f0 ++ gathered held (dotted path (codes ">")) (matchers []) → f2 ≡ f1 ++ gathered held (dotted path token) (matchers tokens) → f3 ≡ f2 ++ gathered held (dotted path (codes "*")) (matchers tokens)
+  pub walked : f1 ≡ f0 ++ gathered held (text_with_token path (codes ">")) (matchers []) → f2 ≡ f1 ++ gathered held (text_with_token path token) (matchers tokens) → f3 ≡ f2 ++ gathered held (text_with_token path (codes "*")) (matchers tokens)
       → f3 ≡ f0 ++ gathered held path (matchers (token ∷ tokens))
   walked one two three =
-      let a = values_for (dotted path (codes ">")) held in
-      let b = gathered held (dotted path token) (matchers tokens) in
-      let d = gathered held (dotted path (codes "*")) (matchers tokens) in
+      let a = values_for (text_with_token path (codes ">")) held in
+      let b = gathered held (text_with_token path token) (matchers tokens) in
+      let d = gathered held (text_with_token path (codes "*")) (matchers tokens) in
       three ∙ ap (λ f. f ++ d) (two ∙ ap (λ f. f ++ b) (one ∙ ap (λ vs. f0 ++ vs) (append-nil a))) ∙ joined f0 a b d ∙ sym (ap (λ vs. f0 ++ vs) (gathered_step held path token tokens))
 
 pub none_counted : {V : Type 0} (o : Option (Node V)) → is_some o ≡ false → count_of o ≡ 0

@@ -6,7 +6,7 @@ use Rattle.std.proofs.lemmas.Bool.{cases_Bool, and_parts, and_from}
 use Rattle.std.proofs.lemmas.List.{length-take-le}
 use Rattle.subj.specs.Names.{is_dot}
 use Rattle.pattern_trie.specs.Nodes.{Nodes, below_at, values_at, one_if, has_mark, Enters, Leaves, EntersEach, LeavesEach, CanLeaveEach}
-use Rattle.pattern_trie.specs.Beginnings.{is_before_dot_of, is_beginning, goes_on, with_behind}
+use Rattle.pattern_trie.specs.Beginnings.{is_before_dot_of, is_beginning, goes_on, beginning_with_rest}
 use Rattle.pattern_trie.proofs.Dots.{all_beginnings, all_before, one_more, none_more, before_this, not_before_itself, behind_dot}
 
 less_twice : (a b c : ℕ) → a - b - c ≡ a - (b + c)
@@ -80,7 +80,7 @@ module _ (text : List ℕ) where
         less_none a = omega arith
 
   pub enters_all : {V : Type 0} (behind : List ℕ → Bool) (old mid new : Nodes V) → EntersEach (λ q. is_before_dot_of (length text) q text) (λ k q. goes_on k (length text) q text) old mid → Enters text behind mid new
-      → EntersEach (λ q. is_beginning q text) (λ k q. is_beginning (with_behind k q) text) old new
+      → EntersEach (λ q. is_beginning q text) (λ k q. is_beginning (beginning_with_rest k q) text) old new
   enters_all behind old mid new so one = record {
     counts = λ q. one.counts q ∙ ap (λ n. n + one_if (bytes_eq text q)) (so.counts q) ∙ plus_twice (below_at old q) (one_if (is_before_dot_of (length text) q text)) (one_if (bytes_eq text q)) ∙ ap (λ n. below_at old q + n) (sym (all_beginnings q text));
     values = λ q. one.values q ∙ so.values q;

@@ -20,8 +20,8 @@ abbrev pub is_beginning : List ℕ → List ℕ → Bool
 is_beginning q text = bytes_eq q text || is_before_dot q text
 
 -- a beginning, and this text behind a dot
-abbrev pub with_behind : List ℕ → List ℕ → List ℕ
-with_behind more q = q ++ 46 ∷ more
+abbrev pub beginning_with_rest : List ℕ → List ℕ → List ℕ
+beginning_with_rest more q = q ++ 46 ∷ more
 
 -- whether q stands before a dot among the first so many bytes, and this begins what is behind it
 abbrev pub goes_on : List ℕ → ℕ → List ℕ → List ℕ → Bool

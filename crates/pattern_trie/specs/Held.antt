@@ -1,7 +1,7 @@
 -- What a trie holds: values, each under the bytes of a pattern, in order of insertion.
 use Rattle.std.specs.Prelude.{◌≡◌, ℕ, ◌+◌, ◌<◌, Bool, true, ◌&&◌, List, [], ◌∷◌, if◌then◌else◌}
 use Rattle.std.specs.Str.{bytes_eq}
-use Rattle.pattern_trie.specs.Beginnings.{is_beginning, with_behind}
+use Rattle.pattern_trie.specs.Beginnings.{is_beginning, beginning_with_rest}
 use Rattle.pattern_trie.specs.Nodes.{Nodes, below_at, values_at, has_mark, one_if}
 
 -- a pattern's bytes, and a value held under it
@@ -31,4 +31,4 @@ without_held eq text value (h ∷ held) = if is_held eq text value h then held e
 pub record Holds {V : Type 0} (held : List (Held V)) (nodes : Nodes V) : Type 0 where
   pub counts : (q : List ℕ) → below_at nodes q ≡ count_below q held
   pub values : (q : List ℕ) → values_at nodes q ≡ values_for q held
-  pub marks : (more q : List ℕ) → 0 < count_below (with_behind more q) held → has_mark more nodes q ≡ true
+  pub marks : (more q : List ℕ) → 0 < count_below (beginning_with_rest more q) held → has_mark more nodes q ≡ true

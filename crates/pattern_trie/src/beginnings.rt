@@ -2,7 +2,7 @@
 
 ghost use Rattle.std.specs.Prelude.{◌≤◌, length, OnOk, OnErr};
 ghost use Rattle.pattern_trie.specs.Nodes.{IsSame, EntersEach, LeavesEach, CanLeaveEach};
-ghost use Rattle.pattern_trie.specs.Beginnings.{is_beginning, is_before_dot_of, goes_on, with_behind};
+ghost use Rattle.pattern_trie.specs.Beginnings.{is_beginning, is_before_dot_of, goes_on, beginning_with_rest};
 
 use crate::marks::Marks;
 use crate::nodes::{Nodes, enter, leave};
@@ -44,7 +44,7 @@ pub(crate) fn enter_all<V: Drop>(
     nodes: &mut Nodes<V>,
     text: &[u8],
 ) -> Result<(), AllocError>
-    ensures ok { OnOk result (EntersEach (λ q. is_beginning q text.now) (λ more q. is_beginning (with_behind more q) text.now) nodes.old nodes.new) }
+    ensures ok { OnOk result (EntersEach (λ q. is_beginning q text.now) (λ more q. is_beginning (beginning_with_rest more q) text.now) nodes.old nodes.new) }
     ensures err { OnErr result (IsSame nodes.old nodes.new) }
 {
     enter_before(alloc, nodes, text)?;

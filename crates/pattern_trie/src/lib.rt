@@ -14,7 +14,7 @@
 
 ghost use Rattle.std.specs.Prelude.{◌≡◌, List, [], ◌∷◌, ◌++◌, OnOk, OnErr};
 ghost use Rattle.std.specs.List.Sorted.{IsPermutation};
-ghost use Rattle.pattern_trie.specs.Matchers.{matched};
+ghost use Rattle.pattern_trie.specs.Matchers.{matching_values};
 ghost use Rattle.pattern_trie.specs.Starts.{node_count};
 ghost use Rattle.pattern_trie.specs.Held.{Held, Holds, without_held};
 
@@ -80,7 +80,7 @@ impl<V: Copy + PartialEq> PatternTrie<V> {
     /// Adds the values held under the patterns that match the subject, once for each time that they
     /// are held. In which order they come is not said.
     pub fn matching(&self, subject: &Subject, found: &mut Vec<V>) -> Result<(), AllocError>
-        ensures { (held : List (Held V)) → Holds held self.now.nodes → OnOk result (IsPermutation (found.old.items ++ matched subject.now held) found.new.items) }
+        ensures { (held : List (Held V)) → Holds held self.now.nodes → OnOk result (IsPermutation (found.old.items ++ matching_values subject.now held) found.new.items) }
     {
         let text = subject.bytes();
         let mut path = Vec::with_capacity(self.alloc, text.len())?;

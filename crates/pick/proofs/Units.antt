@@ -6,7 +6,7 @@ use Rattle.std.proofs.lemmas.List.Sums.{sum_by-cons}
 use Rattle.std.proofs.lemmas.Bool.{cases_lt}
 use Rattle.std.proofs.lemmas.Nat.{mod_below}
 use Rattle.std.proofs.lemmas.Option.{slice_get_past, slice_get-get_or}
-use Rattle.pick.specs.Pick.{Weighted, weight_of, units, total_weight, picked, HasWeight}
+use Rattle.pick.specs.Pick.{Weighted, weight_of, units, total_weight, pick_of, HasWeight}
 
 first_units : (w k : ℕ) (node : List ℕ) (rest : List (List ℕ)) → k < w → slice_get (replicate w node ++ rest) k ≡ Some node
 first_units zero k node rest below = absurd (omega arith)
@@ -35,10 +35,10 @@ length-units [] = refl
 length-units (server ∷ servers) =
     omega (arith, length-append (replicate server.1 server.0) (units servers), length-replicate server.1 server.0, length-units servers, sum_by-cons weight_of server servers)
 
-pub picked_by_total : (servers : List Weighted) (word : ℕ) → picked servers word ≡ slice_get (units servers) (word % total_weight servers)
+pub picked_by_total : (servers : List Weighted) (word : ℕ) → pick_of servers word ≡ slice_get (units servers) (word % total_weight servers)
 picked_by_total servers word = ap (λ n. slice_get (units servers) (word % n)) (length-units servers)
 
-pub no_units : (servers : List Weighted) (word : ℕ) → total_weight servers ≡ 0 → picked servers word ≡ None
+pub no_units : (servers : List Weighted) (word : ℕ) → total_weight servers ≡ 0 → pick_of servers word ≡ None
 no_units servers word none = slice_get_past (units servers) (word % length (units servers)) (omega (arith, length-units servers))
 
 pub some_unit : (servers : List Weighted) (word : ℕ) → 0 < total_weight servers → IsSome (slice_get (units servers) (word % total_weight servers))

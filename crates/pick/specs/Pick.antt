@@ -17,8 +17,8 @@ abbrev pub units : List Weighted → List (List ℕ)
 units servers = flat_map (λ server. replicate server.1 server.0) servers
 
 -- the item `word mod total` of that list, counted from 0, where it has one
-abbrev pub picked : List Weighted → ℕ → Option (List ℕ)
-picked servers word = slice_get (units servers) (word % length (units servers))
+abbrev pub pick_of : List Weighted → ℕ → Option (List ℕ)
+pick_of servers word = slice_get (units servers) (word % length (units servers))
 
 -- the name is of a server that has a weight
 abbrev pub HasWeight : List ℕ → Weighted → Type 0

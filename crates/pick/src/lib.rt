@@ -8,7 +8,7 @@
 #![tactic(auto)]
 
 ghost use Rattle.std.specs.Prelude.{◌≡◌, ◌^◌, ◌<◌, ◌↔◌, IsNone, IfSome, Any, slice_get};
-ghost use Rattle.pick.specs.Pick.{total_weight as total, units, picked, HasWeight};
+ghost use Rattle.pick.specs.Pick.{total_weight as total, units, pick_of, HasWeight};
 
 use subj::NodeId;
 
@@ -46,7 +46,7 @@ fn server_of_unit(servers: &[(NodeId, u64)], unit: u64) -> Option<NodeId>
 #[tactic(auto, using(crate::proofs::Units::picked_by_total, crate::proofs::Units::no_units, crate::proofs::Units::some_unit, crate::proofs::Units::has_weight))]
 pub fn choose(weights: &[(NodeId, u64)], word: u64) -> Option<NodeId>
     requires { total weights.now < 2 ^ 64 }
-    ensures pick { result ≡ picked weights.now word }
+    ensures pick { result ≡ pick_of weights.now word }
     ensures none { IsNone result ↔ (total weights.now ≡ 0) }
     ensures weighs { IfSome result (λ node. Any (HasWeight node) weights.now) }
 {

@@ -1,6 +1,6 @@
 //! Readers and writers that fail: what was written by then is a beginning, and nothing comes behind it.
 
-use crate::refused_scripts::repeated;
+use crate::refused_scripts::repeated_steps;
 use crate::runs::run_between;
 use mesh_script::RunFault;
 use std::alloc::{AllocError, Global};
@@ -24,8 +24,8 @@ fn stopped_text(alloc: Global) -> Result<String, AllocError> {
     Ok(text)
 }
 
-fn stopping(alloc: Global) -> Result<String, AllocError> {
-    repeated(alloc, "{\"do\":\"stop\",\"node\":\"n1\"}", EVENTS)
+fn script_of_stops(alloc: Global) -> Result<String, AllocError> {
+    repeated_steps(alloc, "{\"do\":\"stop\",\"node\":\"n1\"}", EVENTS)
 }
 
 /// Plays the script into a sink whose write of this number fails.
@@ -42,7 +42,7 @@ fn written_until(
 
 #[test]
 fn all_is_written(rt: HostRuntime) -> Result<(), Fail> {
-    let script = stopping(rt.alloc())?;
+    let script = script_of_stops(rt.alloc())?;
     let (ended, sink) = written_until(rt.alloc(), script.as_str(), 0)?;
     assert_eq!(rt; ended, Ok(()));
     let text = stopped_text(rt.alloc())?;
@@ -53,7 +53,7 @@ fn all_is_written(rt: HostRuntime) -> Result<(), Fail> {
 /// Each write in turn fails: the sink has less than the writes before it would have held, and a front of the text.
 #[test]
 fn failing_writes_leave_a_beginning(rt: HostRuntime) -> Result<(), Fail> {
-    let script = stopping(rt.alloc())?;
+    let script = script_of_stops(rt.alloc())?;
     let text = stopped_text(rt.alloc())?;
     for write in 1u64..60 {
         let (ended, sink) = written_until(rt.alloc(), script.as_str(), write)?;
@@ -74,7 +74,7 @@ fn failing_writes_leave_a_beginning(rt: HostRuntime) -> Result<(), Fail> {
 /// Each read in turn fails: nothing is written.
 #[test]
 fn failing_reads_write_nothing(rt: HostRuntime) -> Result<(), Fail> {
-    let script = repeated(rt.alloc(), "{\"do\":\"stop\",\"node\":\"n1\"}", 4)?;
+    let script = repeated_steps(rt.alloc(), "{\"do\":\"stop\",\"node\":\"n1\"}", 4)?;
     for read in 1u64..100 {
         let bytes = Vec::from_slice(rt.alloc(), script.as_bytes())?;
         let mut source = MemSource::new(bytes).at_most(10).failing_at(read);

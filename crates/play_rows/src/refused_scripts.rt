@@ -47,7 +47,7 @@ fn refusals_are_written(rt: HostRuntime) -> Result<(), Fail> {
 }
 
 /// A script of one server with one step so many times.
-pub fn repeated(alloc: Global, step: &str, times: u64) -> Result<String, AllocError> {
+pub fn repeated_steps(alloc: Global, step: &str, times: u64) -> Result<String, AllocError> {
     let mut text = String::from_str(alloc, "{\"nodes\":[\"n1\"],\"shards\":1,\"steps\":[")?;
     for number in 0..times {
         if number > 0 {
@@ -61,7 +61,7 @@ pub fn repeated(alloc: Global, step: &str, times: u64) -> Result<String, AllocEr
 
 #[test]
 fn too_many_events_are_refused(rt: HostRuntime) -> Result<(), Fail> {
-    let script = repeated(rt.alloc(), "{\"do\":\"stop\",\"node\":\"n1\"}", 10_001)?;
+    let script = repeated_steps(rt.alloc(), "{\"do\":\"stop\",\"node\":\"n1\"}", 10_001)?;
     let (ended, written) = run_of(rt.alloc(), script.as_bytes())?;
     assert_eq!(rt; written.as_str(), "script refused 92\n");
     assert!(rt; ended.is_err());

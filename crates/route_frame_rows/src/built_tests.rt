@@ -62,7 +62,7 @@ fn n1_to_n2() -> Result<Ends, Fail> {
     })
 }
 
-fn numbered(ends: Ends, number: u64, body: Body) -> Result<RouteFrame, Fail> {
+fn numbered_frame(ends: Ends, number: u64, body: Body) -> Result<RouteFrame, Fail> {
     let frame = Numbered::new(ends.from, ends.inc, ends.to, ends.to_inc, number, body);
     Ok(RouteFrame::Numbered(frame.ok_or("a frame")?))
 }
@@ -86,7 +86,7 @@ fn publication(alloc: Global) -> Result<RouteFrame, Fail> {
     let ends = n1_to_n2()?;
     let queues = two_names(alloc)?;
     let message = message(alloc)?;
-    numbered(ends, 9, Body::Msg { message, queues })
+    numbered_frame(ends, 9, Body::Msg { message, queues })
 }
 
 fn snapshot(alloc: Global) -> Result<RouteFrame, Fail> {
@@ -96,7 +96,7 @@ fn snapshot(alloc: Global) -> Result<RouteFrame, Fail> {
     let plain = WeightedKey::new(plain_key(alloc, b"foo")?, 1);
     keys.push(plain.ok_or("a weight")?)?;
     let keys = SnapshotKeys::from_keys(keys).ok_or("keys")?;
-    numbered(n2_to_n1()?, 3, Body::Snapshot(keys))
+    numbered_frame(n2_to_n1()?, 3, Body::Snapshot(keys))
 }
 
 #[test]
@@ -105,9 +105,9 @@ fn interest_frames_have_their_bytes(rt: HostRuntime) -> Result<(), Fail> {
     let ends = n2_to_n1()?;
     let mut out = Vec::new(alloc);
     let counted = WeightedKey::new(queue_key(alloc, b"foo", b"q")?, 1).ok_or("a weight")?;
-    encode(&numbered(ends, 1, Body::Plus(counted))?, &mut out)?;
+    encode(&numbered_frame(ends, 1, Body::Plus(counted))?, &mut out)?;
     let key = queue_key(alloc, b"foo", b"q")?;
-    encode(&numbered(ends, 2, Body::Minus(key))?, &mut out)?;
+    encode(&numbered_frame(ends, 2, Body::Minus(key))?, &mut out)?;
     encode(&snapshot(alloc)?, &mut out)?;
     assert_eq!(rt;
         out.as_slice(),

@@ -7,7 +7,7 @@ use std::test::Fail;
 use subj::Failure;
 
 /// What a line and its payload mean: the canonical spelling of the frame, or the number of the refusal.
-fn told(alloc: Global, line: &[u8], payload: &[u8]) -> Result<Vec<u8>, AllocError> {
+fn meaning(alloc: Global, line: &[u8], payload: &[u8]) -> Result<Vec<u8>, AllocError> {
     let payload = Bytes::copy_from_slice(alloc, payload)?;
     match decode(alloc, line, payload) {
         Ok(frame) => {
@@ -24,7 +24,7 @@ fn told(alloc: Global, line: &[u8], payload: &[u8]) -> Result<Vec<u8>, AllocErro
 }
 
 /// What `payload_size` answers: the size, a bar for none, or the number of the refusal behind `!`.
-fn announced(alloc: Global, line: &[u8]) -> Result<Vec<u8>, AllocError> {
+fn announced_size(alloc: Global, line: &[u8]) -> Result<Vec<u8>, AllocError> {
     match payload_size(alloc, line) {
         Ok(None) => Vec::from_slice(alloc, b"|"),
         Ok(Some(size)) => {
@@ -83,9 +83,9 @@ static LINES: [(&[u8], &[u8]); 11] = [
 #[test]
 fn lines_are_read_and_spelt(rt: HostRuntime) -> Result<(), Fail> {
     for (line, wanted) in LINES {
-        let spelt = told(rt.alloc(), line, b"")?;
+        let spelt = meaning(rt.alloc(), line, b"")?;
         assert_eq!(rt; spelt.as_slice(), wanted);
-        let size = announced(rt.alloc(), line)?;
+        let size = announced_size(rt.alloc(), line)?;
         assert_eq!(rt; size.as_slice(), b"|".as_slice());
     }
     Ok(())
@@ -153,7 +153,7 @@ static FRAMES: [(&[u8], &[u8], &[u8]); 11] = [
 #[test]
 fn frames_are_read_and_spelt(rt: HostRuntime) -> Result<(), Fail> {
     for (line, payload, wanted) in FRAMES {
-        let spelt = told(rt.alloc(), line, payload)?;
+        let spelt = meaning(rt.alloc(), line, payload)?;
         assert_eq!(rt; spelt.as_slice(), wanted);
     }
     Ok(())
@@ -228,9 +228,9 @@ static REFUSED: [(&[u8], &[u8]); 56] = [
 #[test]
 fn lines_are_refused(rt: HostRuntime) -> Result<(), Fail> {
     for (line, number) in REFUSED {
-        let answer = told(rt.alloc(), line, b"")?;
+        let answer = meaning(rt.alloc(), line, b"")?;
         assert_eq!(rt; answer.as_slice(), number);
-        let size = announced(rt.alloc(), line)?;
+        let size = announced_size(rt.alloc(), line)?;
         assert_eq!(rt; size.first(), Some(&b'!'));
         assert_eq!(rt; &size[1..], number);
     }
@@ -308,9 +308,9 @@ static BAD_JSON: [(&[u8], &[u8]); 28] = [
 #[test]
 fn greetings_are_refused(rt: HostRuntime) -> Result<(), Fail> {
     for (line, number) in BAD_JSON {
-        let answer = told(rt.alloc(), line, b"")?;
+        let answer = meaning(rt.alloc(), line, b"")?;
         assert_eq!(rt; answer.as_slice(), number);
-        let size = announced(rt.alloc(), line)?;
+        let size = announced_size(rt.alloc(), line)?;
         assert_eq!(rt; size.first(), Some(&b'!'));
         assert_eq!(rt; &size[1..], number);
     }
@@ -337,9 +337,9 @@ static BAD_SNAPSHOTS: [(&[u8], &[u8]); 13] = [
 #[test]
 fn snapshots_are_refused(rt: HostRuntime) -> Result<(), Fail> {
     for (line, text) in BAD_SNAPSHOTS {
-        let answer = told(rt.alloc(), line, text)?;
+        let answer = meaning(rt.alloc(), line, text)?;
         assert_eq!(rt; answer.as_slice(), b"31".as_slice());
-        let size = announced(rt.alloc(), line)?;
+        let size = announced_size(rt.alloc(), line)?;
         let len = text.len().to_string(rt.alloc())?;
         assert_eq!(rt; size.as_slice(), len.as_bytes(), "the line alone");
     }
@@ -356,7 +356,7 @@ fn payloads_have_the_announced_size(rt: HostRuntime) -> Result<(), Fail> {
         (b"INFO {\"inc\":4,\"server_name\":\"n2\"}", b"x"),
     ];
     for (line, payload) in table {
-        let answer = told(rt.alloc(), line, payload)?;
+        let answer = meaning(rt.alloc(), line, payload)?;
         assert_eq!(rt; answer.as_slice(), b"31".as_slice());
     }
     Ok(())
@@ -371,7 +371,7 @@ fn sizes_are_announced(rt: HostRuntime) -> Result<(), Fail> {
         (b"RSS n2 4 n1 1 0 0", b"0"),
     ];
     for (line, wanted) in table {
-        let size = announced(rt.alloc(), line)?;
+        let size = announced_size(rt.alloc(), line)?;
         assert_eq!(rt; size.as_slice(), wanted);
     }
     Ok(())
@@ -406,14 +406,14 @@ fn too_many_names_are_told_before_digits(rt: HostRuntime) -> Result<(), Fail> {
     ];
     for (mark, count, end, wanted) in table {
         let line = with_names(rt.alloc(), mark, count, end)?;
-        let size = announced(rt.alloc(), &line)?;
+        let size = announced_size(rt.alloc(), &line)?;
         assert_eq!(rt; size.as_slice(), wanted);
     }
     Ok(())
 }
 
 /// An `INFO` with a member of so many arrays in one another.
-fn nested(alloc: Global, arrays: usize) -> Result<Vec<u8>, AllocError> {
+fn nested_arrays(alloc: Global, arrays: usize) -> Result<Vec<u8>, AllocError> {
     let mut line = Vec::from_slice(alloc, b"INFO {\"inc\":4,\"server_name\":\"n2\",\"x\":")?;
     for _ in 0..arrays {
         line.push(b'[')?;
@@ -429,8 +429,8 @@ fn nested(alloc: Global, arrays: usize) -> Result<Vec<u8>, AllocError> {
 fn json_may_nest_to_a_depth(rt: HostRuntime) -> Result<(), Fail> {
     let table: [(usize, &[u8]); 2] = [(126, b"|"), (127, b"!31")];
     for (arrays, wanted) in table {
-        let line = nested(rt.alloc(), arrays)?;
-        let size = announced(rt.alloc(), &line)?;
+        let line = nested_arrays(rt.alloc(), arrays)?;
+        let size = announced_size(rt.alloc(), &line)?;
         assert_eq!(rt; size.as_slice(), wanted, "{arrays} arrays");
     }
     Ok(())

@@ -62,7 +62,7 @@ fn take_frames(
 }
 
 /// The spellings of the frames of a stream that comes in parts of so many bytes.
-fn respelt(alloc: Global, stream: &[u8], part: usize) -> Result<Vec<u8>, Fail> {
+fn spellings(alloc: Global, stream: &[u8], part: usize) -> Result<Vec<u8>, Fail> {
     let mut cutter = Cutter::new(alloc, ROUTE_LINE, MAX_SNAPSHOT as u64);
     let mut waiting = None;
     let mut out = Vec::new(alloc);
@@ -89,9 +89,9 @@ static VECTORS: [&[u8]; 9] = [
 #[test]
 fn vectors_are_read_and_written(rt: HostRuntime) -> Result<(), Fail> {
     for vector in VECTORS {
-        let whole = respelt(rt.alloc(), vector, vector.len().max(1))?;
+        let whole = spellings(rt.alloc(), vector, vector.len().max(1))?;
         assert_eq!(rt; whole.as_slice(), vector);
-        let by_bytes = respelt(rt.alloc(), vector, 1)?;
+        let by_bytes = spellings(rt.alloc(), vector, 1)?;
         assert_eq!(rt; by_bytes.as_slice(), vector);
     }
     Ok(())
@@ -101,7 +101,7 @@ fn vectors_are_read_and_written(rt: HostRuntime) -> Result<(), Fail> {
 fn a_beginning_of_a_vector_is_no_frame(rt: HostRuntime) -> Result<(), Fail> {
     for vector in VECTORS {
         for len in 0..vector.len() {
-            let out = respelt(rt.alloc(), &vector[..len], 16)?;
+            let out = spellings(rt.alloc(), &vector[..len], 16)?;
             assert_eq!(rt; out.len(), 0, "{len} bytes");
         }
     }
@@ -115,7 +115,7 @@ fn frames_follow_each_other(rt: HostRuntime) -> Result<(), Fail> {
         stream.extend_from_slice(vector)?;
     }
     for part in [1, 7, 64, 1_024] {
-        let out = respelt(rt.alloc(), &stream, part)?;
+        let out = spellings(rt.alloc(), &stream, part)?;
         assert_eq!(rt; out.as_slice(), stream.as_slice(), "parts of {part}");
     }
     Ok(())

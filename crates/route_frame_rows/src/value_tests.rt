@@ -35,7 +35,12 @@ fn key_of(alloc: Global, pattern: &[u8], queue: &[u8]) -> Result<Key, Fail> {
     })
 }
 
-fn weighted(alloc: Global, pattern: &[u8], queue: &[u8], weight: u64) -> Result<WeightedKey, Fail> {
+fn weighted_key(
+    alloc: Global,
+    pattern: &[u8],
+    queue: &[u8],
+    weight: u64,
+) -> Result<WeightedKey, Fail> {
     let key = key_of(alloc, pattern, queue)?;
     Ok(WeightedKey::new(key, weight).ok_or("a key with its weight")?)
 }
@@ -96,7 +101,7 @@ fn weights_have_limits(rt: HostRuntime) -> Result<(), Fail> {
             "weight {weight}"
         );
     }
-    let key = weighted(rt.alloc(), b"foo.*", b"q", 3)?;
+    let key = weighted_key(rt.alloc(), b"foo.*", b"q", 3)?;
     let copy = key.try_clone(rt.alloc())?;
     assert_eq!(rt; copy.key().pattern.bytes(), b"foo.*".as_slice());
     assert_eq!(rt; copy.weight(), 3);
@@ -123,7 +128,7 @@ fn numbers_have_limits(rt: HostRuntime) -> Result<(), Fail> {
         (1_000_000_000_000_000, false),
     ];
     for (number, is_one) in table {
-        let plus = Body::Plus(weighted(rt.alloc(), b"foo", b"", 1)?);
+        let plus = Body::Plus(weighted_key(rt.alloc(), b"foo", b"", 1)?);
         assert_eq!(rt; is_numbered(number, plus)?, is_one, "number {number}");
         let minus = Body::Minus(key_of(rt.alloc(), b"foo", b"")?);
         assert_eq!(rt; is_numbered(number, minus)?, is_one, "number {number}");
@@ -154,7 +159,7 @@ fn a_publication_has_a_number(rt: HostRuntime) -> Result<(), Fail> {
 }
 
 /// Change 9 of n2: plain `foo` is gone.
-fn gone(alloc: Global) -> Result<Numbered, Fail> {
+fn gone_key(alloc: Global) -> Result<Numbered, Fail> {
     let body = Body::Minus(key_of(alloc, b"foo", b"")?);
     let from = node(b"n2")?;
     let to = node(b"n1")?;
@@ -164,7 +169,7 @@ fn gone(alloc: Global) -> Result<Numbered, Fail> {
 
 #[test]
 fn a_numbered_frame_tells_whose_it_is(rt: HostRuntime) -> Result<(), Fail> {
-    let frame = gone(rt.alloc())?.try_clone(rt.alloc())?;
+    let frame = gone_key(rt.alloc())?.try_clone(rt.alloc())?;
     assert_eq!(rt; frame.from().bytes(), b"n2".as_slice());
     assert_eq!(rt; frame.inc().get(), 4);
     assert_eq!(rt; frame.to().bytes(), b"n1".as_slice());
@@ -183,7 +188,7 @@ fn is_gone(body: &Body) -> bool {
 
 #[test]
 fn a_numbered_frame_keeps_its_body(rt: HostRuntime) -> Result<(), Fail> {
-    let frame = gone(rt.alloc())?;
+    let frame = gone_key(rt.alloc())?;
     assert!(rt; is_gone(frame.body()));
     assert!(rt; is_gone(&frame.into_body()));
     Ok(())
@@ -203,7 +208,7 @@ fn keys_of_a_snapshot_rise(rt: HostRuntime) -> Result<(), Fail> {
     for (keys, rise) in table {
         let mut list = Vec::new(rt.alloc());
         for (pattern, queue) in keys {
-            list.push(weighted(rt.alloc(), pattern, queue, 1)?)?;
+            list.push(weighted_key(rt.alloc(), pattern, queue, 1)?)?;
         }
         assert_eq!(rt; SnapshotKeys::from_keys(list).is_some(), rise);
     }
@@ -211,7 +216,7 @@ fn keys_of_a_snapshot_rise(rt: HostRuntime) -> Result<(), Fail> {
 }
 
 /// The last five digits of the number.
-fn numbered(number: usize) -> [u8; 5] {
+fn digits_of(number: usize) -> [u8; 5] {
     let mut digits = [b'0'; 5];
     let mut left = number;
     for digit in digits.iter_mut().rev() {
@@ -226,8 +231,8 @@ fn long_keys(alloc: Global, count: usize) -> Result<Vec<WeightedKey>, Fail> {
     let mut keys = Vec::new(alloc);
     let mut pattern = [b'a'; MAX_SUBJECT];
     for number in 0..count {
-        pattern[..5].copy_from_slice(&numbered(number));
-        keys.push(weighted(alloc, &pattern, b"", 1)?)?;
+        pattern[..5].copy_from_slice(&digits_of(number));
+        keys.push(weighted_key(alloc, &pattern, b"", 1)?)?;
     }
     Ok(keys)
 }
@@ -243,7 +248,7 @@ fn the_text_of_a_snapshot_has_a_limit(rt: HostRuntime) -> Result<(), Fail> {
     ];
     for (pattern, queue, fits) in last {
         let mut keys = long_keys(rt.alloc(), MAX_SNAPSHOT / 1_026)?;
-        keys.push(weighted(rt.alloc(), pattern, queue, 1)?)?;
+        keys.push(weighted_key(rt.alloc(), pattern, queue, 1)?)?;
         assert_eq!(rt; SnapshotKeys::from_keys(keys).is_some(), fits);
     }
     Ok(())
@@ -252,8 +257,8 @@ fn the_text_of_a_snapshot_has_a_limit(rt: HostRuntime) -> Result<(), Fail> {
 #[test]
 fn a_snapshot_is_copied(rt: HostRuntime) -> Result<(), Fail> {
     let mut list = Vec::new(rt.alloc());
-    list.push(weighted(rt.alloc(), b"a.*", b"q", 2)?)?;
-    list.push(weighted(rt.alloc(), b"foo", b"", 1)?)?;
+    list.push(weighted_key(rt.alloc(), b"a.*", b"q", 2)?)?;
+    list.push(weighted_key(rt.alloc(), b"foo", b"", 1)?)?;
     let keys = SnapshotKeys::from_keys(list).ok_or("keys in order")?;
     let mut text = Vec::new(rt.alloc());
     keys.append_text(&mut text)?;
@@ -278,7 +283,7 @@ fn copied_info(alloc: Global) -> Result<RouteInfo, Fail> {
 
 /// A copy of what tells that a key is gone.
 fn copied_news(alloc: Global) -> Result<Numbered, Fail> {
-    let news = RouteFrame::Numbered(gone(alloc)?);
+    let news = RouteFrame::Numbered(gone_key(alloc)?);
     match news.try_clone(alloc)? {
         RouteFrame::Numbered(copy) => Ok(copy),
         _ => Err("a numbered frame".into()),
@@ -298,8 +303,8 @@ fn what_a_server_may_have_is_a_snapshot(rt: HostRuntime) -> Result<(), Fail> {
     let mut pattern = [b'a'; MAX_SUBJECT];
     let mut keys = Vec::new(rt.alloc());
     for number in 0..3_757 {
-        pattern[..5].copy_from_slice(&numbered(number));
-        keys.push(weighted(rt.alloc(), &pattern, &[b'q'; 64], 65_536)?)?;
+        pattern[..5].copy_from_slice(&digits_of(number));
+        keys.push(weighted_key(rt.alloc(), &pattern, &[b'q'; 64], 65_536)?)?;
     }
     let snapshot = SnapshotKeys::from_keys(keys).ok_or("a snapshot")?;
     assert_eq!(rt; snapshot.as_slice().len(), 3_757);

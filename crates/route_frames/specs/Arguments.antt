@@ -64,24 +64,24 @@ split_last [] = None
 split_last (field ∷ others) = Some (split_last_of field others)
 
 -- a reply, and one or more queue names
-abbrev pub replied : List ℕ → List (List ℕ) → List ℕ → Option Form
-replied reply [] size = None
-replied reply (name ∷ names) size = Some (record { reply = Some reply; names = name ∷ names; size = size })
+abbrev pub reply_form : List ℕ → List (List ℕ) → List ℕ → Option Form
+reply_form reply [] size = None
+reply_form reply (name ∷ names) size = Some (record { reply = Some reply; names = name ∷ names; size = size })
 
 -- a reply is in front of the queue names
 abbrev pub replied_fields : List (List ℕ) → List ℕ → Option Form
 replied_fields [] size = None
-replied_fields (reply ∷ names) size = replied reply names size
+replied_fields (reply ∷ names) size = reply_form reply names size
 
-abbrev pub marked : List ℕ → List (List ℕ) → List ℕ → Option Form
-marked mark between size =
+abbrev pub form_by_mark : List ℕ → List (List ℕ) → List ℕ → Option Form
+form_by_mark mark between size =
     if bytes_eq mark (codes "|") then Some (record { reply = None; names = between; size = size })
     else (if bytes_eq mark (codes "+") then replied_fields between size else None)
 
 -- the first field, those between, and the last
 abbrev pub form_between : List ℕ → List (List ℕ) → List ℕ → Option Form
 form_between first [] size = Some (record { reply = Some first; names = []; size = size })
-form_between first (field ∷ others) size = marked first (field ∷ others) size
+form_between first (field ∷ others) size = form_by_mark first (field ∷ others) size
 
 abbrev pub form_split : List ℕ → Option (List (List ℕ) × List ℕ) → Option Form
 form_split first None = Some (record { reply = None; names = []; size = first })

@@ -18,26 +18,26 @@ use Rattle.route_frames.specs.Operations.{word_of}
 
 -- ---- INFO and CONNECT
 
-abbrev pub counted : ℕ → Data
-counted n = number (unsigned n)
+abbrev pub number_data : ℕ → Data
+number_data n = number (unsigned n)
 
 abbrev pub info_json : Info → Data
 info_json info = object (
-    member (codes "inc") (counted info.inc) (
+    member (codes "inc") (number_data info.inc) (
     member (codes "server_name") (string info.server_name) no_members))
 
 abbrev pub connect_json : Connect → Data
 connect_json connect = object (
-    member (codes "inc") (counted connect.inc) (
-    member (codes "serial") (counted connect.serial) (
+    member (codes "inc") (number_data connect.inc) (
+    member (codes "serial") (number_data connect.serial) (
     member (codes "server_name") (string connect.server_name) (
     member (codes "to") (string connect.to) (
-    member (codes "to_inc") (counted connect.to_inc) no_members)))))
+    member (codes "to_inc") (number_data connect.to_inc) no_members)))))
 
 -- ---- numbered frames, as fields with one space between them
 
-abbrev pub spaced : List (List ℕ) → List ℕ
-spaced fields = flat_map (λ field. 32 ∷ field) fields
+abbrev pub fields_with_spaces : List (List ℕ) → List ℕ
+fields_with_spaces fields = flat_map (λ field. 32 ∷ field) fields
 
 abbrev pub operation_for : Body → Operation
 operation_for (Plus key) = operation.Plus
@@ -70,7 +70,7 @@ body_fields (Snapshot keys) = decimal (length (snapshot_text keys)) ∷ []
 body_fields (Msg message queues) = codes "$G" ∷ message.subject ∷ (form_fields message.reply queues ++ decimal (length message.payload) ∷ [])
 
 unfoldable pub numbered_line : Frame → List ℕ
-numbered_line frame = operation_word frame.body ++ (spaced (common_of frame) ++ spaced (body_fields frame.body))
+numbered_line frame = operation_word frame.body ++ (fields_with_spaces (common_of frame) ++ fields_with_spaces (body_fields frame.body))
 
 -- ---- all frames
 

@@ -30,9 +30,9 @@ abbrev pub size_meaning : List ℕ → Meaning (Option ℕ)
 size_meaning line = line_meaning line >>= λ read. Ok (announced_size read)
 
 -- the payload has the size that was announced; none was where there is none
-abbrev pub sized : Option ℕ → List ℕ → Meaning (Unit {0})
-sized None payload = if is_empty payload then Ok tt else Err BadArgs
-sized (Some size) payload = if nat_eq (length payload) size then Ok tt else Err BadArgs
+abbrev pub payload_meaning : Option ℕ → List ℕ → Meaning (Unit {0})
+payload_meaning None payload = if is_empty payload then Ok tt else Err BadArgs
+payload_meaning (Some size) payload = if nat_eq (length payload) size then Ok tt else Err BadArgs
 
 abbrev pub body_meaning : LineBody → List ℕ → Meaning Body
 body_meaning (body.Plus key) payload = Ok (Plus key)
@@ -40,8 +40,8 @@ body_meaning (body.Minus key) payload = Ok (Minus key)
 body_meaning (body.Snapshot size) payload = snapshot_in payload >>= λ keys. Ok (Snapshot keys)
 body_meaning (body.Msg subject reply queues size) payload = ok_or (content_of subject reply payload) BadArgs >>= λ message. Ok (Msg message queues)
 
-abbrev pub framed : List ℕ → List ℕ → Numbers → Body → Meaning RouteFrame
-framed from to numbers body = ok_or (frame_of from numbers.inc to numbers.to_inc numbers.number body) BadArgs >>= λ frame. Ok (Numbered frame)
+abbrev pub frame_of_body : List ℕ → List ℕ → Numbers → Body → Meaning RouteFrame
+frame_of_body from to numbers body = ok_or (frame_of from numbers.inc to numbers.to_inc numbers.number body) BadArgs >>= λ frame. Ok (Numbered frame)
 
 unfoldable pub numbered_meaning : NumberedLine → List ℕ → Meaning Frame
 numbered_meaning numbered payload = do
@@ -54,16 +54,16 @@ frame_behind (line.Connect connect) payload = Ok (Connect connect)
 frame_behind (line.Numbered numbered) payload = numbered_meaning numbered payload >>= λ frame. Ok (Numbered frame)
 
 -- a line that was read, with the payload behind it: its size is judged first, and then the payload
-abbrev pub joined : RouteLine → List ℕ → Meaning RouteFrame
-joined read payload = do
-  fits ← sized (announced_size read) payload
+abbrev pub frame_of_line : RouteLine → List ℕ → Meaning RouteFrame
+frame_of_line read payload = do
+  fits ← payload_meaning (announced_size read) payload
   frame_behind read payload
 
 -- the line is judged before its payload
 unfoldable pub frame_meaning : List ℕ → List ℕ → Meaning RouteFrame
 frame_meaning text payload = do
   read ← line_meaning text
-  joined read payload
+  frame_of_line read payload
 
 -- ---- what can't be judged without memory: a JSON text, and the text of a snapshot that has the announced size
 
@@ -79,7 +79,7 @@ is_snapshot_line (line.Connect connect) = false
 is_snapshot_line (line.Numbered numbered) = is_snapshot_body numbered.body
 
 abbrev pub is_snapshot_text : RouteLine → List ℕ → Bool
-is_snapshot_text read payload = is_snapshot_line read && is_ok (sized (announced_size read) payload)
+is_snapshot_text read payload = is_snapshot_line read && is_ok (payload_meaning (announced_size read) payload)
 
 abbrev pub is_snapshot_behind : Meaning RouteLine → List ℕ → Bool
 is_snapshot_behind (Ok read) payload = is_snapshot_text read payload
@@ -108,7 +108,7 @@ JoinsBy memory meaning read payload (Err (Refused fault)) = meaning ≡ Err faul
 JoinsBy memory meaning read payload (Err (OutOfMemory line bytes)) = (line ≡ read) × (bytes ≡ payload) × (memory ≡ true)
 
 abbrev pub Joins : RouteLine → List ℕ → Result RouteFrame Unjoined → Type 0
-Joins read payload result = JoinsBy (line_has_payload read && is_ok (sized (announced_size read) payload)) (joined read payload) read payload result
+Joins read payload result = JoinsBy (line_has_payload read && is_ok (payload_meaning (announced_size read) payload)) (frame_of_line read payload) read payload result
 
 -- the same answer, without what was given back
 abbrev pub failure_of : Result RouteFrame Unjoined → Result RouteFrame (Failure RouteFault)

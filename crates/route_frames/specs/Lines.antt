@@ -18,8 +18,8 @@ use Rattle.route_frames.specs.declared.lines.LineBody.{LineBody}
 use Rattle.route_frames.specs.declared.lines.LineBody.TheVariants.{Plus, Minus, Snapshot, Msg}
 
 -- the line of a numbered frame, by what stands behind its common fields
-abbrev pub numbered : (CommonFields → List (List ℕ) → Meaning NumberedLine) → List (List ℕ) → Meaning RouteLine
-numbered behind fields = do
+abbrev pub line_of_fields : (CommonFields → List (List ℕ) → Meaning NumberedLine) → List (List ℕ) → Meaning RouteLine
+line_of_fields behind fields = do
   split ← ok_or (common_fields fields) BadArgs
   line ← behind split.0 split.1
   Ok (Numbered line)
@@ -29,10 +29,10 @@ abbrev pub operation_meaning : Option Operation → List ℕ → List (List ℕ)
 operation_meaning None text fields = Err UnknownOp
 operation_meaning (Some operation.Info) text fields = info_of text >>= λ info. Ok (Info info)
 operation_meaning (Some operation.Connect) text fields = connect_text_of text >>= λ connect. Ok (Connect connect)
-operation_meaning (Some operation.Plus) text fields = numbered plus_line fields
-operation_meaning (Some operation.Minus) text fields = numbered minus_line fields
-operation_meaning (Some operation.Snapshot) text fields = numbered snapshot_line fields
-operation_meaning (Some operation.Msg) text fields = numbered message_line fields
+operation_meaning (Some operation.Plus) text fields = line_of_fields plus_line fields
+operation_meaning (Some operation.Minus) text fields = line_of_fields minus_line fields
+operation_meaning (Some operation.Snapshot) text fields = line_of_fields snapshot_line fields
+operation_meaning (Some operation.Msg) text fields = line_of_fields message_line fields
 
 abbrev pub fields_meaning : List ℕ → List (List ℕ) → Meaning RouteLine
 fields_meaning line [] = Err UnknownOp

@@ -15,10 +15,10 @@ abbrev pub ◌>>=◌ : {A B : Type 0} → Result A RouteFault → (A → Result 
 
 -- A reader answers what bytes mean. Want of memory may stand in place of a value; in place of a refusal only where the
 -- test itself takes memory.
-abbrev pub Means : {A : Type 0} → Bool → Result A RouteFault → Result A (Failure RouteFault) → Type 0
-Means takes_memory meaning (Ok x) = meaning ≡ Ok x
-Means takes_memory meaning (Err (Refused fault)) = meaning ≡ Err fault
-Means takes_memory meaning (Err OutOfMemory) = (takes_memory || is_ok meaning) ≡ true
+abbrev pub RouteMeans : {A : Type 0} → Bool → Result A RouteFault → Result A (Failure RouteFault) → Type 0
+RouteMeans takes_memory meaning (Ok x) = meaning ≡ Ok x
+RouteMeans takes_memory meaning (Err (Refused fault)) = meaning ≡ Err fault
+RouteMeans takes_memory meaning (Err OutOfMemory) = (takes_memory || is_ok meaning) ≡ true
 
 -- the same of a value that is seen as another, where nothing but a test takes memory
 abbrev pub MeansBy : {X A : Type 0} → (X → A) → Bool → Result A RouteFault → Result X (Failure RouteFault) → Type 0

@@ -21,7 +21,7 @@ use Rattle.route_frames.specs.declared.line_reading.TheConstants.{WEIGHT_DIGITS,
 use Rattle.route_frames.specs.declared.operation.Operation.TheVariants as operation
 use Rattle.route_frames.specs.Operations.{word_of}
 use Rattle.route_frames.specs.Greetings.{json_of}
-use Rattle.route_frames.specs.Canonical.{counted, operation_word, form_fields}
+use Rattle.route_frames.specs.Canonical.{number_data, operation_word, form_fields}
 
 -- one to so many digits that are the number; zeros may stand in front
 abbrev pub IsNumber : ℕ → List ℕ → ℕ → Type 0
@@ -66,14 +66,14 @@ SpellsNumbered frame size all = (behind : List (List ℕ)) × HasCommon frame al
 
 pub record HasInfo (info : Info) (json : Data) : Type 0 where
   pub server_name : get (codes "server_name") json ≡ Some (string info.server_name)
-  pub inc : get (codes "inc") json ≡ Some (counted info.inc)
+  pub inc : get (codes "inc") json ≡ Some (number_data info.inc)
 
 pub record HasConnect (connect : Connect) (json : Data) : Type 0 where
   pub server_name : get (codes "server_name") json ≡ Some (string connect.server_name)
-  pub inc : get (codes "inc") json ≡ Some (counted connect.inc)
+  pub inc : get (codes "inc") json ≡ Some (number_data connect.inc)
   pub to : get (codes "to") json ≡ Some (string connect.to)
-  pub to_inc : get (codes "to_inc") json ≡ Some (counted connect.to_inc)
-  pub serial : get (codes "serial") json ≡ Some (counted connect.serial)
+  pub to_inc : get (codes "to_inc") json ≡ Some (number_data connect.to_inc)
+  pub serial : get (codes "serial") json ≡ Some (number_data connect.serial)
 
 -- ---- lines: an operation in letters of any case, and what stands behind it
 

@@ -7,7 +7,7 @@ use Rattle.route_frames.specs.Greetings.{info_of, connect_text_of}
 use Rattle.route_frames.specs.Operations.{is_json_line}
 use Rattle.route_frames.specs.Lines.{announced_size, line_meaning}
 use Rattle.route_values.specs.declared.frames.RouteFrame.{RouteFrame}
-use Rattle.route_frames.specs.Decoding.{joined}
+use Rattle.route_frames.specs.Decoding.{frame_of_line}
 use Rattle.subj.specs.declared.keys.Key.{Key}
 use Rattle.route_values.specs.Snapshots.{Weighted}
 use Rattle.route_frames.specs.declared.lines.LineBody.{LineBody}
@@ -87,4 +87,4 @@ Judges bytes (Ok text) = (line_meaning bytes ≡ text_meaning text) × (is_json_
 Judges bytes (Err fault) = line_meaning bytes ≡ Err fault
 
 abbrev pub joined_text : LineText → List ℕ → Meaning RouteFrame
-joined_text text payload = text_meaning text >>= λ read. joined read payload
+joined_text text payload = text_meaning text >>= λ read. frame_of_line read payload

@@ -3,7 +3,7 @@
 ghost use Rattle.std.specs.Prelude.{◌≡◌, None, Some, MatchOption, option_map};
 ghost use Rattle.std.specs.Option.{option_copied};
 ghost use Rattle.line_fields.specs.Fields.{fields as fields_of};
-ghost use Rattle.route_frames.specs.Arguments.{plus_fields, minus_fields, snapshot_field, form_of, marked as marked_form, message_fields, split_last as last_split_off};
+ghost use Rattle.route_frames.specs.Arguments.{plus_fields, minus_fields, snapshot_field, form_of, form_by_mark as marked_form, message_fields, split_last as last_split_off};
 ghost use Rattle.route_frames.specs.TextViews.{names_view};
 
 use crate::names::Names;

@@ -6,7 +6,7 @@ ghost use Rattle.route_values.specs.declared.frames.RouteFrame.TheVariants.{Info
 ghost use Rattle.route_values.specs.declared.frames.RouteFrame.TheVariants as route;
 ghost use Rattle.route_values.specs.declared.bodies.Body.TheVariants.{Plus, Minus, Snapshot, Msg};
 ghost use Rattle.route_values.specs.Snapshots.{snapshot_text, line_end};
-ghost use Rattle.route_frames.specs.Canonical.{info_json, connect_json, spaced, operation_word, common_of, form_fields, body_fields, numbered_line, canonical_line, frame_bytes};
+ghost use Rattle.route_frames.specs.Canonical.{info_json, connect_json, fields_with_spaces, operation_word, common_of, form_fields, body_fields, numbered_line, canonical_line, frame_bytes};
 ghost use Rattle.std.specs.Option.{option_copied};
 
 use crate::arguments::{NAMES_MARK, REPLY_MARK};
@@ -88,7 +88,7 @@ fn put_number(line: &mut Vec<u8>, number: u64) -> Result<(), AllocError>
 
 /// Appends the queue names, each with a blank in front.
 fn put_names(line: &mut Vec<u8>, names: &[QueueName]) -> Result<(), AllocError>
-    ensures { OnOk result (line.new.items ≡ line.old.items ++ spaced names.now) }
+    ensures { OnOk result (line.new.items ≡ line.old.items ++ fields_with_spaces names.now) }
 {
     for name in names {
         put_field(line, name.bytes())?;
@@ -98,7 +98,7 @@ fn put_names(line: &mut Vec<u8>, names: &[QueueName]) -> Result<(), AllocError>
 
 /// Appends the fields that all numbered frames have.
 fn put_common(line: &mut Vec<u8>, frame: &Numbered) -> Result<(), AllocError>
-    ensures { OnOk result (line.new.items ≡ line.old.items ++ spaced (common_of frame.now)) }
+    ensures { OnOk result (line.new.items ≡ line.old.items ++ fields_with_spaces (common_of frame.now)) }
 {
     put_field(line, frame.from().bytes())?;
     put_number(line, frame.inc().get())?;
@@ -109,7 +109,7 @@ fn put_common(line: &mut Vec<u8>, frame: &Numbered) -> Result<(), AllocError>
 }
 
 fn put_plus(line: &mut Vec<u8>, weighted: &WeightedKey) -> Result<(), AllocError>
-    ensures { OnOk result (line.new.items ≡ line.old.items ++ spaced (body_fields (Plus weighted.now))) }
+    ensures { OnOk result (line.new.items ≡ line.old.items ++ fields_with_spaces (body_fields (Plus weighted.now))) }
 {
     put_field(line, ACCOUNT)?;
     put_field(line, weighted.key().pattern.bytes())?;
@@ -121,7 +121,7 @@ fn put_plus(line: &mut Vec<u8>, weighted: &WeightedKey) -> Result<(), AllocError
 }
 
 fn put_minus(line: &mut Vec<u8>, key: &Key) -> Result<(), AllocError>
-    ensures { OnOk result (line.new.items ≡ line.old.items ++ spaced (body_fields (Minus key.now))) }
+    ensures { OnOk result (line.new.items ≡ line.old.items ++ fields_with_spaces (body_fields (Minus key.now))) }
 {
     put_field(line, ACCOUNT)?;
     put_field(line, key.pattern.bytes())?;
@@ -137,7 +137,7 @@ fn put_form(
     reply: Option<&Subject>,
     names: &[QueueName],
 ) -> Result<(), AllocError>
-    ensures { OnOk result (line.new.items ≡ line.old.items ++ spaced (form_fields (option_copied reply.entry) names.now)) }
+    ensures { OnOk result (line.new.items ≡ line.old.items ++ fields_with_spaces (form_fields (option_copied reply.entry) names.now)) }
 {
     if names.is_empty() {
         if let Some(reply) = reply {
@@ -156,7 +156,7 @@ fn put_form(
 }
 
 fn put_message(line: &mut Vec<u8>, message: &Message, queues: &QueueNames) -> Result<(), AllocError>
-    ensures { OnOk result (line.new.items ≡ line.old.items ++ spaced (body_fields (Msg message.now queues.now))) }
+    ensures { OnOk result (line.new.items ≡ line.old.items ++ fields_with_spaces (body_fields (Msg message.now queues.now))) }
 {
     put_field(line, ACCOUNT)?;
     put_field(line, message.subject().bytes())?;
@@ -213,7 +213,7 @@ fn operation(body: &Body) -> &'static [u8]
 
 /// The line of a numbered frame as far as all of them are alike.
 fn begun_line(alloc: Global, frame: &Numbered) -> Result<Vec<u8>, AllocError>
-    ensures { IfOk result (λ line. line.items ≡ operation_word frame.now.body ++ spaced (common_of frame.now)) }
+    ensures { IfOk result (λ line. line.items ≡ operation_word frame.now.body ++ fields_with_spaces (common_of frame.now)) }
 {
     let mut line = Vec::with_capacity(alloc, LINE_ROOM)?;
     line.extend_from_slice(operation(frame.body()))?;

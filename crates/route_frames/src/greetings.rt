@@ -3,7 +3,7 @@
 ghost use Rattle.std.specs.Prelude.{◌≡◌, true};
 ghost use Rattle.std.specs.Option.{ok_or};
 ghost use Rattle.serde_json.specs.View.{view};
-ghost use Rattle.route_frames.specs.Meaning.{Means, MeansBy};
+ghost use Rattle.route_frames.specs.Meaning.{RouteMeans, MeansBy};
 ghost use Rattle.route_frames.specs.Greetings.{json_of, object_of, whole_at, whole_in_range, whole_number, incarnation_in, node_at, info_in, dial_in, connect_in, info_of, connect_text_of};
 ghost use Rattle.route_frames.specs.declared.faults.RouteFault.TheVariants.{BadArgs};
 
@@ -167,7 +167,7 @@ fn connect_from(object: &Value) -> Result<RouteConnect, RouteFault>
 
 /// What stands behind `INFO`.
 pub(crate) fn read_info(alloc: Global, text: &[u8]) -> Result<RouteInfo, Failure<RouteFault>>
-    ensures { Means true (info_of text.now) result }
+    ensures { RouteMeans true (info_of text.now) result }
 {
     let object = read_object(alloc, text)?;
     let info = info_from(&object)?;
@@ -176,7 +176,7 @@ pub(crate) fn read_info(alloc: Global, text: &[u8]) -> Result<RouteInfo, Failure
 
 /// What stands behind `CONNECT`.
 pub(crate) fn read_connect(alloc: Global, text: &[u8]) -> Result<RouteConnect, Failure<RouteFault>>
-    ensures { Means true (connect_text_of text.now) result }
+    ensures { RouteMeans true (connect_text_of text.now) result }
 {
     let object = read_object(alloc, text)?;
     let connect = connect_from(&object)?;

@@ -7,11 +7,11 @@ ghost use Rattle.route_frames.specs.declared.faults.RouteFault.TheVariants.{BadA
 ghost use Rattle.line_fields.specs.Fields.{fields};
 ghost use Rattle.route_frames.specs.declared.operation.Operation.TheVariants as operation;
 ghost use Rattle.route_frames.specs.declared.lines.RouteLine.TheVariants as route_line;
-ghost use Rattle.route_frames.specs.Meaning.{Means, MeansBy, Says};
+ghost use Rattle.route_frames.specs.Meaning.{RouteMeans, MeansBy, Says};
 ghost use Rattle.route_frames.specs.TextViews.{body_view, numbered_view, joined_text, Judges};
-ghost use Rattle.route_frames.specs.Lines.{body_size, numbered, line_meaning};
+ghost use Rattle.route_frames.specs.Lines.{body_size, line_of_fields, line_meaning};
 ghost use Rattle.route_frames.specs.Operations.{is_json_line};
-ghost use Rattle.route_frames.specs.Decoding.{size_meaning, sized, framed as framed_by, frame_behind, joined, body_has_payload, line_has_payload, frame_meaning, takes_memory, JoinsBy, Joins, failure_of};
+ghost use Rattle.route_frames.specs.Decoding.{size_meaning, payload_meaning, frame_of_body as framed_by, frame_behind, frame_of_line, body_has_payload, line_has_payload, frame_meaning, takes_memory, JoinsBy, Joins, failure_of};
 ghost use Rattle.route_frames.specs.NumberedLines.{plus_line, minus_line, snapshot_line, message_line};
 ghost use Rattle.route_frames.specs.Refusals.{IsSizeOf, IsReadOf, IsFrameOf};
 
@@ -29,28 +29,28 @@ use std::alloc::Global;
 use subj::{Failure, MAX_PAYLOAD, Message, NodeId, Reply, Subject};
 
 fn plus(text: &[u8]) -> Result<NumberedText<'_>, RouteFault>
-    ensures { Says (λ line. route_line.Numbered (numbered_view line)) (numbered plus_line (fields text.now)) result }
+    ensures { Says (λ line. route_line.Numbered (numbered_view line)) (line_of_fields plus_line (fields text.now)) result }
 {
     let (common, behind) = Common::read(text).ok_or(RouteFault::BadArgs)?;
     read_plus(common, behind)
 }
 
 fn minus(text: &[u8]) -> Result<NumberedText<'_>, RouteFault>
-    ensures { Says (λ line. route_line.Numbered (numbered_view line)) (numbered minus_line (fields text.now)) result }
+    ensures { Says (λ line. route_line.Numbered (numbered_view line)) (line_of_fields minus_line (fields text.now)) result }
 {
     let (common, behind) = Common::read(text).ok_or(RouteFault::BadArgs)?;
     read_minus(common, behind)
 }
 
 fn snapshot(text: &[u8]) -> Result<NumberedText<'_>, RouteFault>
-    ensures { Says (λ line. route_line.Numbered (numbered_view line)) (numbered snapshot_line (fields text.now)) result }
+    ensures { Says (λ line. route_line.Numbered (numbered_view line)) (line_of_fields snapshot_line (fields text.now)) result }
 {
     let (common, behind) = Common::read(text).ok_or(RouteFault::BadArgs)?;
     read_snapshot(common, behind)
 }
 
 fn message(text: &[u8]) -> Result<NumberedText<'_>, RouteFault>
-    ensures { Says (λ line. route_line.Numbered (numbered_view line)) (numbered message_line (fields text.now)) result }
+    ensures { Says (λ line. route_line.Numbered (numbered_view line)) (line_of_fields message_line (fields text.now)) result }
 {
     let (common, behind) = Common::read(text).ok_or(RouteFault::BadArgs)?;
     read_message(common, behind)
@@ -77,7 +77,7 @@ fn read_text(line: &[u8]) -> Result<LineText<'_>, RouteFault>
 
 /// Whether a payload has the announced size.
 fn check_size(size: Option<u64>, payload: &[u8]) -> Result<(), RouteFault>
-    ensures { result ≡ sized size payload.now }
+    ensures { result ≡ payload_meaning size payload.now }
 {
     let fits = match size {
         None => payload.is_empty(),
@@ -97,7 +97,7 @@ fn message_of(
     reply: &Option<Reply>,
     payload: &Bytes,
 ) -> Result<Message, Failure<RouteFault>>
-    ensures { Means false (ok_or (content_of subject.now reply.now payload.now) BadArgs) result }
+    ensures { RouteMeans false (ok_or (content_of subject.now reply.now payload.now) BadArgs) result }
 {
     if payload.len() > MAX_PAYLOAD {
         return Err(Failure::Refused(RouteFault::BadArgs));
@@ -210,7 +210,7 @@ fn decode_numbered(
     line: NumberedText<'_>,
     payload: Bytes,
 ) -> Result<RouteFrame, Failure<RouteFault>>
-    ensures { MeansBy (λ frame. frame) (is_ok (sized (body_size (body_view line.entry.body)) payload)) (joined (route_line.Numbered (numbered_view line.entry)) payload) result }
+    ensures { MeansBy (λ frame. frame) (is_ok (payload_meaning (body_size (body_view line.entry.body)) payload)) (frame_of_line (route_line.Numbered (numbered_view line.entry)) payload) result }
 {
     check_size(line.payload_size(), payload.as_slice())?;
     let line = RouteLine::Numbered(line.copy(alloc)?);
@@ -246,7 +246,7 @@ impl RouteLine {
     /// documentation, "Cluster Protocol"; profile.)
     pub fn read(alloc: Global, line: &[u8]) -> Result<RouteLine, Failure<RouteFault>>
         ensures spelt { IsReadOf line.now result }
-        ensures means { Means (is_json_line line.now) (line_meaning line.now) result }
+        ensures means { RouteMeans (is_json_line line.now) (line_meaning line.now) result }
     {
         let text = read_text(line)?;
         text.copy(alloc)
@@ -272,7 +272,7 @@ impl RouteLine {
 /// it; want of memory comes only behind `INFO` and `CONNECT`. (Profile.)
 pub fn payload_size(alloc: Global, line: &[u8]) -> Result<Option<u64>, Failure<RouteFault>>
     ensures spelt { IsSizeOf line.now result }
-    ensures means { Means (is_json_line line.now) (size_meaning line.now) result }
+    ensures means { RouteMeans (is_json_line line.now) (size_meaning line.now) result }
 {
     let text = read_text(line)?;
     text.payload_size(alloc)
@@ -285,7 +285,7 @@ pub fn payload_size(alloc: Global, line: &[u8]) -> Result<Option<u64>, Failure<R
 /// profile.)
 pub fn decode(alloc: Global, line: &[u8], payload: Bytes) -> Result<RouteFrame, Failure<RouteFault>>
     ensures spelt { IsFrameOf line.now payload result }
-    ensures means { Means (takes_memory line.now payload) (frame_meaning line.now payload) result }
+    ensures means { RouteMeans (takes_memory line.now payload) (frame_meaning line.now payload) result }
 {
     let text = read_text(line)?;
     match text {

@@ -2,7 +2,7 @@
 
 ghost use Rattle.std.specs.Prelude.{◌≡◌, true, ◌∷◌, [], nat_eq, position, MatchOption};
 ghost use Rattle.std.specs.Option.{option_copied};
-ghost use Rattle.route_frames.specs.Meaning.{Means, MeansBy, Says};
+ghost use Rattle.route_frames.specs.Meaning.{RouteMeans, MeansBy, Says};
 ghost use Rattle.route_frames.specs.TextViews.{weighted_view};
 ghost use Rattle.route_frames.specs.SnapshotTexts.{pieces, plain_key, queue_key, weighted_of, before_cr as before_the_cr, key_line_of, keys_in, snapshot_in};
 
@@ -115,7 +115,7 @@ pub(crate) fn read_snapshot_keys(
     alloc: Global,
     text: &[u8],
 ) -> Result<SnapshotKeys, Failure<RouteFault>>
-    ensures { Means true (snapshot_in text.now) result }
+    ensures { RouteMeans true (snapshot_in text.now) result }
 {
     let keys = read_keys(alloc, text)?;
     let keys = SnapshotKeys::from_keys(keys).ok_or(RouteFault::BadArgs)?;

@@ -4,7 +4,7 @@
 ghost use Rattle.std.specs.Prelude.{◌≡◌, Ok, IfOk};
 ghost use Rattle.std.specs.Option.{option_copied};
 ghost use Rattle.route_frames.specs.TextViews.{names_view, key_view, weighted_view, body_view, numbered_view, is_json, text_meaning, size_in};
-ghost use Rattle.route_frames.specs.Meaning.{Means};
+ghost use Rattle.route_frames.specs.Meaning.{RouteMeans};
 ghost use Rattle.route_frames.specs.Lines.{body_size};
 
 use crate::common::{Digits, Numbers};
@@ -181,7 +181,7 @@ impl NumberedText<'_> {
 impl LineText<'_> {
     /// The line with parts of its own.
     pub(crate) fn copy(self, alloc: Global) -> Result<RouteLine, Failure<RouteFault>>
-        ensures { Means (is_json self.entry) (text_meaning self.entry) result }
+        ensures { RouteMeans (is_json self.entry) (text_meaning self.entry) result }
     {
         match self {
             LineText::Info(text) => Ok(RouteLine::Info(read_info(alloc, text)?)),
@@ -192,7 +192,7 @@ impl LineText<'_> {
 
     /// How many bytes of payload follow the line, where any do.
     pub(crate) fn payload_size(self, alloc: Global) -> Result<Option<u64>, Failure<RouteFault>>
-        ensures { Means (is_json self.entry) (size_in self.entry) result }
+        ensures { RouteMeans (is_json self.entry) (size_in self.entry) result }
     {
         match self {
             LineText::Info(text) => {

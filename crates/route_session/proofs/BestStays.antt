@@ -10,7 +10,7 @@ use Rattle.route_session.specs.declared.faults.SessionFault.{SessionFault}
 use Rattle.route_session.specs.declared.faults.SessionFault.TheVariants.{WrongName, OldIncarnation, Duplicate, UnknownSession}
 use Rattle.route_session.specs.Best.{Offer, is_better, better_of_kept}
 use Rattle.route_session.specs.State.{State, Session, session_at, is_of_peer, kept_for, offer_kept}
-use Rattle.route_session.specs.Steps.{against, loses_to, info_offer, connect_offer, info_fault, info_refusal, connect_fault, connect_refusal, is_not_of_peer, kept_at, completed_by_info}
+use Rattle.route_session.specs.Steps.{duplicate_fault, loses_to, info_offer, connect_offer, info_fault, info_refusal, connect_fault, connect_refusal, is_not_of_peer, kept_at, after_info}
 use Rattle.route_session.specs.Laws.{InfoKeepsBest, ConnectKeepsBest}
 
 -- ---- the session is the kept one
@@ -38,7 +38,7 @@ kept_there k offer (y ∷ xs) x at new = go (λ later. kept_there k offer xs x l
 
 -- ---- against the one that was kept
 
-wins : (offer : Offer) (o : Option Session) → against offer o ≡ None → Some offer ≡ better_of_kept offer (option_and_then (λ s. s.kept) o)
+wins : (offer : Offer) (o : Option Session) → duplicate_fault offer o ≡ None → Some offer ≡ better_of_kept offer (option_and_then (λ s. s.kept) o)
 wins offer None e = refl
 wins offer (Some old) e = by old.kept e
   where
@@ -50,7 +50,7 @@ wins offer (Some old) e = by old.kept e
         go true f h = ap (λ b. Some (cond b offer other)) (sym f)
         go false f h = absurd (none-some (Duplicate old.number) (sym h))
 
-loses : (offer : Offer) (kept : ℕ) (o : Option Session) → against offer o ≡ Some (Duplicate kept) → option_and_then (λ (s : Session). s.kept) o ≡ better_of_kept offer (option_and_then (λ s. s.kept) o)
+loses : (offer : Offer) (kept : ℕ) (o : Option Session) → duplicate_fault offer o ≡ Some (Duplicate kept) → option_and_then (λ (s : Session). s.kept) o ≡ better_of_kept offer (option_and_then (λ s. s.kept) o)
 loses offer kept None e = absurd (none-some (Duplicate kept) e)
 loses offer kept (Some old) e = by old.kept e
   where
@@ -83,7 +83,7 @@ pub record AfterInfo (server : Server) (s : State) (session : Session) (info : I
   pub q : ℕ
   pub new : is_some session.kept ≡ false
   pub peer : place server info.server_name ≡ q
-  pub told : against (info_offer server session info) (kept_for q s.standing) ≡ end
+  pub told : duplicate_fault (info_offer server session info) (kept_for q s.standing) ≡ end
 
 pub info_taken : (server : Server) (s : State) (session : Session) (info : Info) (least : ℕ) → info_refusal server s (Some session) info least ≡ None → AfterInfo server s session info None
 info_taken server s session info least e = let f = no_cause (is_some session.kept) UnknownSession (info_fault server s session info least session.dialed) e in by session.dialed f.0 f.1
@@ -91,23 +91,23 @@ info_taken server s session info least e = let f = no_cause (is_some session.kep
     by : (o : Option ℕ) → is_some session.kept ≡ false → info_fault server s session info least o ≡ None → AfterInfo server s session info None
     by None new e = absurd (none-some UnknownSession (sym e))
     by (Some q) new e =
-        let f = no_cause (not (nat_eq (place server info.server_name) q && is_peer server q)) WrongName (if nat_lt info.inc least then Some OldIncarnation else against (info_offer server session info) (kept_for q s.standing)) e in
-        let g = no_cause (nat_lt info.inc least) OldIncarnation (against (info_offer server session info) (kept_for q s.standing)) f.1 in
+        let f = no_cause (not (nat_eq (place server info.server_name) q && is_peer server q)) WrongName (if nat_lt info.inc least then Some OldIncarnation else duplicate_fault (info_offer server session info) (kept_for q s.standing)) e in
+        let g = no_cause (nat_lt info.inc least) OldIncarnation (duplicate_fault (info_offer server session info) (kept_for q s.standing)) f.1 in
         record { q = q; new = new; peer = eq_true (place server info.server_name) q ((and_true (nat_eq (place server info.server_name) q) (is_peer server q) (not_false (nat_eq (place server info.server_name) q && is_peer server q) f.0)).0); told = g.1 }
 
-info_lost : (server : Server) (s : State) (session : Session) (info : Info) (least kept : ℕ) → info_refusal server s (Some session) info least ≡ Some (Duplicate kept) → against (info_offer server session info) (kept_for (place server info.server_name) s.standing) ≡ Some (Duplicate kept)
+info_lost : (server : Server) (s : State) (session : Session) (info : Info) (least kept : ℕ) → info_refusal server s (Some session) info least ≡ Some (Duplicate kept) → duplicate_fault (info_offer server session info) (kept_for (place server info.server_name) s.standing) ≡ Some (Duplicate kept)
 info_lost server s session info least kept e = by session.dialed (past (is_some session.kept) UnknownSession (info_fault server s session info least session.dialed) kept refl e)
   where
-    by : (o : Option ℕ) → info_fault server s session info least o ≡ Some (Duplicate kept) → against (info_offer server session info) (kept_for (place server info.server_name) s.standing) ≡ Some (Duplicate kept)
+    by : (o : Option ℕ) → info_fault server s session info least o ≡ Some (Duplicate kept) → duplicate_fault (info_offer server session info) (kept_for (place server info.server_name) s.standing) ≡ Some (Duplicate kept)
     by None e = absurd (true≢false (sym (ap is_duplicate e)))
     by (Some q) e = go (not (nat_eq (place server info.server_name) q && is_peer server q)) refl e
       where
-        go : (b : Bool) → (not (nat_eq (place server info.server_name) q && is_peer server q)) ≡ b → (if b then Some WrongName else (if nat_lt info.inc least then Some OldIncarnation else against (info_offer server session info) (kept_for q s.standing))) ≡ Some (Duplicate kept)
-            → against (info_offer server session info) (kept_for (place server info.server_name) s.standing) ≡ Some (Duplicate kept)
+        go : (b : Bool) → (not (nat_eq (place server info.server_name) q && is_peer server q)) ≡ b → (if b then Some WrongName else (if nat_lt info.inc least then Some OldIncarnation else duplicate_fault (info_offer server session info) (kept_for q s.standing))) ≡ Some (Duplicate kept)
+            → duplicate_fault (info_offer server session info) (kept_for (place server info.server_name) s.standing) ≡ Some (Duplicate kept)
         go true f h = absurd (true≢false (sym (ap is_duplicate h)))
         go false f h =
             let same = eq_true (place server info.server_name) q (and_true (nat_eq (place server info.server_name) q) (is_peer server q) (not_false (nat_eq (place server info.server_name) q && is_peer server q) f)).0 in
-            ap (λ p. against (info_offer server session info) (kept_for p s.standing)) same ∙ past (nat_lt info.inc least) OldIncarnation (against (info_offer server session info) (kept_for q s.standing)) kept refl h
+            ap (λ p. duplicate_fault (info_offer server session info) (kept_for p s.standing)) same ∙ past (nat_lt info.inc least) OldIncarnation (duplicate_fault (info_offer server session info) (kept_for q s.standing)) kept refl h
 
 pub same_number : (k : ℕ) (xs : List Session) (x : Session) → session_at k xs ≡ Some x → x.number ≡ k
 same_number k [] x at = absurd (none-some x at)
@@ -121,9 +121,9 @@ pub info_keeps_best : InfoKeepsBest
 info_keeps_best server s number info least session at = record {
   taken = λ e.
       let t = info_taken server s session info least (ap (λ o. info_refusal server s o info least) (sym at) ∙ e) in
-      ap (λ o. offer_kept (place server info.server_name) (completed_by_info server s info o).standing) at
+      ap (λ o. offer_kept (place server info.server_name) (after_info server s info o).standing) at
       ∙ kept_there session.number (info_offer server session info) s.standing session (ap (λ k. session_at k s.standing) (same_number number s.standing session at) ∙ at) t.new
-      ∙ wins (info_offer server session info) (kept_for (place server info.server_name) s.standing) (ap (λ p. against (info_offer server session info) (kept_for p s.standing)) t.peer ∙ t.told);
+      ∙ wins (info_offer server session info) (kept_for (place server info.server_name) s.standing) (ap (λ p. duplicate_fault (info_offer server session info) (kept_for p s.standing)) t.peer ∙ t.told);
   refused = λ kept e. loses (info_offer server session info) kept (kept_for (place server info.server_name) s.standing) (info_lost server s session info least kept (ap (λ o. info_refusal server s o info least) (sym at) ∙ e));
 }
 
@@ -131,7 +131,7 @@ info_keeps_best server s number info least session at = record {
 
 pub record AfterConnect (server : Server) (s : State) (session : Session) (connect : Connect) : Type 0 where
   pub new : is_some session.kept ≡ false
-  pub told : against (connect_offer server connect) (kept_for (place server connect.server_name) s.standing) ≡ None
+  pub told : duplicate_fault (connect_offer server connect) (kept_for (place server connect.server_name) s.standing) ≡ None
 
 pub connect_taken : (server : Server) (s : State) (session : Session) (connect : Connect) (least : ℕ) → connect_refusal server s (Some session) connect least ≡ None → AfterConnect server s session connect
 connect_taken server s session connect least e = let f = no_cause (is_some session.kept) UnknownSession (connect_fault server s connect least session.dialed) e in by session.dialed f.0 f.1
@@ -139,18 +139,18 @@ connect_taken server s session connect least e = let f = no_cause (is_some sessi
     by : (o : Option ℕ) → is_some session.kept ≡ false → connect_fault server s connect least o ≡ None → AfterConnect server s session connect
     by (Some q) new e = absurd (none-some UnknownSession (sym e))
     by None new e =
-        let last = against (connect_offer server connect) (kept_for (place server connect.server_name) s.standing) in
+        let last = duplicate_fault (connect_offer server connect) (kept_for (place server connect.server_name) s.standing) in
         let f = no_cause (not (nat_eq (place server connect.to) server.me && is_peer server (place server connect.server_name))) WrongName (if nat_lt connect.inc least || not (nat_eq connect.to_inc server.inc) then Some OldIncarnation else last) e in
         let g = no_cause (nat_lt connect.inc least || not (nat_eq connect.to_inc server.inc)) OldIncarnation last f.1 in
         record { new = new; told = g.1 }
 
-connect_lost : (server : Server) (s : State) (session : Session) (connect : Connect) (least kept : ℕ) → connect_refusal server s (Some session) connect least ≡ Some (Duplicate kept) → against (connect_offer server connect) (kept_for (place server connect.server_name) s.standing) ≡ Some (Duplicate kept)
+connect_lost : (server : Server) (s : State) (session : Session) (connect : Connect) (least kept : ℕ) → connect_refusal server s (Some session) connect least ≡ Some (Duplicate kept) → duplicate_fault (connect_offer server connect) (kept_for (place server connect.server_name) s.standing) ≡ Some (Duplicate kept)
 connect_lost server s session connect least kept e = by session.dialed (past (is_some session.kept) UnknownSession (connect_fault server s connect least session.dialed) kept refl e)
   where
-    by : (o : Option ℕ) → connect_fault server s connect least o ≡ Some (Duplicate kept) → against (connect_offer server connect) (kept_for (place server connect.server_name) s.standing) ≡ Some (Duplicate kept)
+    by : (o : Option ℕ) → connect_fault server s connect least o ≡ Some (Duplicate kept) → duplicate_fault (connect_offer server connect) (kept_for (place server connect.server_name) s.standing) ≡ Some (Duplicate kept)
     by (Some q) e = absurd (true≢false (sym (ap is_duplicate e)))
     by None e =
-        let last = against (connect_offer server connect) (kept_for (place server connect.server_name) s.standing) in
+        let last = duplicate_fault (connect_offer server connect) (kept_for (place server connect.server_name) s.standing) in
         past (nat_lt connect.inc least || not (nat_eq connect.to_inc server.inc)) OldIncarnation last kept refl
         (past (not (nat_eq (place server connect.to) server.me && is_peer server (place server connect.server_name))) WrongName (if nat_lt connect.inc least || not (nat_eq connect.to_inc server.inc) then Some OldIncarnation else last) kept refl e)
 

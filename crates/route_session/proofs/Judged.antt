@@ -15,7 +15,7 @@ use Rattle.route_session.specs.declared.faults.SessionFault.{SessionFault}
 use Rattle.route_session.specs.declared.faults.SessionFault.TheVariants.{WrongName, OldIncarnation, UnknownSession}
 use Rattle.route_session.specs.Best.{Offer}
 use Rattle.route_session.specs.State.{State, Session, session_at, kept_for}
-use Rattle.route_session.specs.Steps.{against, info_fault, info_refusal, info_offer, completed, completed_by_info, serial_of}
+use Rattle.route_session.specs.Steps.{duplicate_fault, info_fault, info_refusal, info_offer, after_completion, after_info, serial_of}
 use Rattle.route_session.specs.Events.{OnInfo}
 use Rattle.route_session.specs.Calls.{Served, refusal, IsSession, AreSessions, is_dial, is_of_a_peer, peer_of, not_completed, open_session, IsInfoOffer}
 use Rattle.route_session.proofs.BestStays.{same_number}
@@ -102,18 +102,18 @@ record InfoFits (s : Served) (number : ℕ) (info : Info) (least : ℕ) (session
 abbrev offered : Served → Info → Session → ℕ → Offer
 offered s info session q = record { peer = q; inc = info.inc; dialer = s.server.me; serial = session.serial }
 
-info_judged : (s : Served) (number : ℕ) (info : Info) (least : ℕ) (session : Session) (q : ℕ) → InfoFits s number info least session q → refusal s (OnInfo number info least) ≡ against (offered s info session q) (kept_for q s.state.standing)
+info_judged : (s : Served) (number : ℕ) (info : Info) (least : ℕ) (session : Session) (q : ℕ) → InfoFits s number info least session q → refusal s (OnInfo number info least) ≡ duplicate_fault (offered s info session q) (kept_for q s.state.standing)
 info_judged s number info least session q fits =
     let at = opened number s.state.standing session fits.there in
     let peer = peer_is s.server info.server_name q fits.name in
-    let end = against (info_offer s.server session info) (kept_for q s.state.standing) in
+    let end = duplicate_fault (info_offer s.server session info) (kept_for q s.state.standing) in
     let named : (nat_eq (place s.server info.server_name) q && is_peer s.server q) ≡ true = both (nat_eq (place s.server info.server_name) q) (is_peer s.server q) (true_eq (place s.server info.server_name) q peer.same) peer.peer in
     ap (λ o. info_refusal s.server s.state o info least) at.there
     ∙ ap (λ b. cond b (Some UnknownSession) (info_fault s.server s.state session info least session.dialed)) at.new
     ∙ ap (info_fault s.server s.state session info least) fits.dialed
     ∙ ap (λ b. cond (not b) (Some WrongName) (cond (nat_lt info.inc least) (Some OldIncarnation) end)) named
     ∙ ap (λ b. cond b (Some OldIncarnation) end) (not_below info.inc least fits.inc)
-    ∙ ap (λ p. against (record { peer = p; inc = info.inc; dialer = s.server.me; serial = session.serial }) (kept_for q s.state.standing)) peer.same
+    ∙ ap (λ p. duplicate_fault (record { peer = p; inc = info.inc; dialer = s.server.me; serial = session.serial }) (kept_for q s.state.standing)) peer.same
   where
     both : (a b : Bool) → a ≡ true → b ≡ true → (a && b) ≡ true
     both a b e f = ap (λ t. t && b) e ∙ f
@@ -131,22 +131,22 @@ is_info_offer s number info least session q fits dial =
       dial = ap serial_of (sym at.there);
       name = sym peer.same;
       after =
-          ap (λ p. completed number (record { peer = p; inc = info.inc; dialer = s.server.me; serial = session.serial }) s.state) (sym peer.same)
-          ∙ ap (λ n. completed n (info_offer s.server session info) s.state) (sym (same_number number s.state.standing session at.there))
-          ∙ ap (completed_by_info s.server s.state info) (sym at.there);
+          ap (λ p. after_completion number (record { peer = p; inc = info.inc; dialer = s.server.me; serial = session.serial }) s.state) (sym peer.same)
+          ∙ ap (λ n. after_completion n (info_offer s.server session info) s.state) (sym (same_number number s.state.standing session at.there))
+          ∙ ap (after_info s.server s.state info) (sym at.there);
     }
 
 -- and then it is judged by that
 pub info_decided : (s : Served) (number : ℕ) (info : Info) (least : ℕ) (session : Session) (q : ℕ) (offer : Offer) (result : Result Offer SessionFault)
     → open_session number s.state.standing ≡ Some session → is_dial MAX_COUNTER session.serial session.dialed ≡ true → session.dialed ≡ Some q → peer_of s.server info.server_name ≡ Some q → least ≤ info.inc
-    → offer ≡ offered s info session q → IsDecided (against offer (kept_for offer.peer s.state.standing)) (λ kept. kept ≡ offer) ⊤ result
+    → offer ≡ offered s info session q → IsDecided (duplicate_fault offer (kept_for offer.peer s.state.standing)) (λ kept. kept ≡ offer) ⊤ result
     → IsDecided (refusal s (OnInfo number info least)) (λ (kept : Offer). IsInfoOffer s number info kept) ⊤ result
 info_decided s number info least session q offer result there dial dialed name inc same is =
     let fits : InfoFits s number info least session q = record { there = there; dialed = dialed; name = name; inc = inc } in
-    let judged : refusal s (OnInfo number info least) ≡ against offer (kept_for offer.peer s.state.standing) = info_judged s number info least session q fits ∙ ap (λ (x : Offer). against x (kept_for x.peer s.state.standing)) (sym same) in
+    let judged : refusal s (OnInfo number info least) ≡ duplicate_fault offer (kept_for offer.peer s.state.standing) = info_judged s number info least session q fits ∙ ap (λ (x : Offer). duplicate_fault x (kept_for x.peer s.state.standing)) (sym same) in
     go result judged (is_info_offer s number info least session q fits dial) is
   where
-    go : (r : Result Offer SessionFault) → refusal s (OnInfo number info least) ≡ against offer (kept_for offer.peer s.state.standing) → IsInfoOffer s number info (offered s info session q)
-        → IsDecided (against offer (kept_for offer.peer s.state.standing)) (λ kept. kept ≡ offer) ⊤ r → IsDecided (refusal s (OnInfo number info least)) (λ (kept : Offer). IsInfoOffer s number info kept) ⊤ r
+    go : (r : Result Offer SessionFault) → refusal s (OnInfo number info least) ≡ duplicate_fault offer (kept_for offer.peer s.state.standing) → IsInfoOffer s number info (offered s info session q)
+        → IsDecided (duplicate_fault offer (kept_for offer.peer s.state.standing)) (λ kept. kept ≡ offer) ⊤ r → IsDecided (refusal s (OnInfo number info least)) (λ (kept : Offer). IsInfoOffer s number info kept) ⊤ r
     go (Ok kept) judged taken is = (judged ∙ is.0, subst (IsInfoOffer s number info) (sym (is.1 ∙ same)) taken)
     go (Err why) judged taken is = (judged ∙ is.0, tt)

@@ -12,9 +12,9 @@ use Rattle.route_session.specs.declared.faults.SessionFault.{SessionFault}
 use Rattle.route_session.specs.declared.faults.SessionFault.TheVariants.{WrongName, OldIncarnation, Duplicate, UnknownSession, TooManySessions, Spent}
 use Rattle.route_session.specs.Best.{Offer, better_of_kept, best_after}
 use Rattle.route_session.specs.State.{State, Session, no_sessions, session_at, is_of_peer, kept_for, offer_kept, number_kept}
-use Rattle.route_session.specs.Steps.{info_offer, connect_offer, info_refusal, connect_refusal, cut_refusal, session_refusal, session_after, is_not_of_peer, kept_at, completed, completed_by_info, is_another}
+use Rattle.route_session.specs.Steps.{info_offer, connect_offer, info_refusal, connect_refusal, cut_refusal, session_refusal, session_after, is_not_of_peer, kept_at, after_completion, after_info, is_another}
 use Rattle.route_session.specs.Events.{Event, Dial, Accept, OnInfo, OnConnect, Cut}
-use Rattle.route_session.specs.OverRuns.{next_of, next, after_run, is_judged, offer_of, of_peer, offered, is_number, cuts, offered_since, BestStaysKept}
+use Rattle.route_session.specs.OverRuns.{next_of, next, after_run, is_judged, offer_of, of_peer, offers_at, is_number, cuts, offers_since, BestStaysKept}
 use Rattle.route_session.proofs.BestStays.{info_keeps_best, connect_keeps_best, same_number, info_taken, connect_taken}
 
 -- ---- the best of more
@@ -73,7 +73,7 @@ not_peer q xs x i = go (is_of_peer q x.kept) refl (in_filter (is_not_of_peer q) 
     go true e f = absurd (true≢false (sym f ∙ ap not e))
     go false e f = e
 
-completes : (s : State) (k : ℕ) (offer : Offer) → Stand s → Stand (completed k offer s)
+completes : (s : State) (k : ℕ) (offer : Offer) → Stand s → Stand (after_completion k offer s)
 completes s k offer h =
     let d = fewer s (is_not_of_peer offer.peer) h in
     let xs = filter (is_not_of_peer offer.peer) s.standing in
@@ -197,7 +197,7 @@ stands_next server s e h = go (session_refusal server s e)
     by Accept = opened s _ s.dials refl refl h
     by (OnInfo number info least) = found (session_at number s.standing)
       where
-        found : (o : Option Session) → Stand (completed_by_info server s info o)
+        found : (o : Option Session) → Stand (after_info server s info o)
         found None = h
         found (Some session) = completes s session.number (info_offer server session info) h
     by (OnConnect number connect least) = completes s number (connect_offer server connect) h
@@ -220,7 +220,7 @@ decided : (q : ℕ) (server : Server) (s : State) (e : Event) (offer : Offer) (o
     → (session_refusal server s e ≡ None → offer_kept offer.peer (session_after server s e).standing ≡ better_of_kept offer (offer_kept offer.peer s.standing))
     → (session_refusal server s e ≡ None → offer.peer ≢ q → offer_kept q (session_after server s e).standing ≡ offer_kept q s.standing)
     → ((kept : ℕ) → session_refusal server s e ≡ Some (Duplicate kept) → offer_kept offer.peer s.standing ≡ better_of_kept offer (offer_kept offer.peer s.standing))
-    → offer_kept q (next server s e).standing ≡ best_after None (offers ++ offered q server s e)
+    → offer_kept q (next server s e).standing ≡ best_after None (offers ++ offers_at q server s e)
 decided q server s e offer offers is h taken other lost = go (session_refusal server s e) refl
   where
     still : (why : SessionFault) → is_judged (Some why) ≡ false → offer_kept q s.standing ≡ best_after None (offers ++ (if is_judged (Some why) then of_peer q (offer_of server s e) else []))
@@ -242,7 +242,7 @@ decided q server s e offer offers is h taken other lost = go (session_refusal se
     go (Some Spent) f = still Spent refl
 
 -- of an event without an offer, which leaves what is kept
-without : (q : ℕ) (server : Server) (s : State) (e : Event) (offers : List Offer) → offer_of server s e ≡ None → offer_kept q s.standing ≡ best_after None offers → (session_refusal server s e ≡ None → offer_kept q (session_after server s e).standing ≡ offer_kept q s.standing) → offer_kept q (next server s e).standing ≡ best_after None (offers ++ offered q server s e)
+without : (q : ℕ) (server : Server) (s : State) (e : Event) (offers : List Offer) → offer_of server s e ≡ None → offer_kept q s.standing ≡ best_after None offers → (session_refusal server s e ≡ None → offer_kept q (session_after server s e).standing ≡ offer_kept q s.standing) → offer_kept q (next server s e).standing ≡ best_after None (offers ++ offers_at q server s e)
 without q server s e offers none h same = go (session_refusal server s e) refl ∙ h ∙ sym (ap (best_after None) (append_nil offers)) ∙ sym (ap (λ t. best_after None (offers ++ t)) (nothing (is_judged (session_refusal server s e))))
   where
     nothing : (b : Bool) → cond b (of_peer q (offer_of server s e)) [] ≡ []
@@ -271,14 +271,14 @@ nobody_there k (y ∷ xs) e x i = go (λ f j. nobody_there k xs f x j) (nat_eq y
     go rest false f g (inl same) = λ h. eq_false y.number k f (sym (ap (λ (z : Session). z.number) same) ∙ h)
     go rest false f g (inr j) = rest g j
 
-cut_one : (q : ℕ) (server : Server) (s : State) (number : ℕ) (offers : List Offer) → Stand s → offer_kept q s.standing ≡ best_after None offers → offer_kept q (next server s (Cut number)).standing ≡ best_after None (if cuts q s (Cut number) then [] else offers ++ offered q server s (Cut number))
+cut_one : (q : ℕ) (server : Server) (s : State) (number : ℕ) (offers : List Offer) → Stand s → offer_kept q s.standing ≡ best_after None offers → offer_kept q (next server s (Cut number)).standing ≡ best_after None (if cuts q s (Cut number) then [] else offers ++ offers_at q server s (Cut number))
 cut_one q server s number offers stand h = go (session_at number s.standing) refl
   where
     nothing : (b : Bool) → cond b (of_peer q None) [] ≡ []
     nothing true = refl
     nothing false = refl
 
-    none_more : best_after None (offers ++ offered q server s (Cut number)) ≡ best_after None offers
+    none_more : best_after None (offers ++ offers_at q server s (Cut number)) ≡ best_after None offers
     none_more = ap (λ t. best_after None (offers ++ t)) (nothing (is_judged (session_refusal server s (Cut number)))) ∙ ap (best_after None) (append_nil offers)
 
     not_cut : session_at number s.standing ≡ None → is_number number (number_kept q s.standing) ≡ false
@@ -288,32 +288,32 @@ cut_one q server s number offers stand h = go (session_at number s.standing) ref
         by None e = refl
         by (Some x) e = false_eq x.number number (nobody_there number s.standing none x (kept_stands q s.standing x e))
 
-    go : (o : Option Session) → session_at number s.standing ≡ o → offer_kept q (next_of s (session_after server s (Cut number)) (cut_refusal (session_at number s.standing))).standing ≡ best_after None (cond (is_number number (number_kept q s.standing)) [] (offers ++ offered q server s (Cut number)))
-    go None e = ap (λ o. offer_kept q (next_of s (session_after server s (Cut number)) (cut_refusal o)).standing) e ∙ h ∙ sym none_more ∙ sym (ap (λ b. best_after None (cond b [] (offers ++ offered q server s (Cut number)))) (not_cut e))
+    go : (o : Option Session) → session_at number s.standing ≡ o → offer_kept q (next_of s (session_after server s (Cut number)) (cut_refusal (session_at number s.standing))).standing ≡ best_after None (cond (is_number number (number_kept q s.standing)) [] (offers ++ offers_at q server s (Cut number)))
+    go None e = ap (λ o. offer_kept q (next_of s (session_after server s (Cut number)) (cut_refusal o)).standing) e ∙ h ∙ sym none_more ∙ sym (ap (λ b. best_after None (cond b [] (offers ++ offers_at q server s (Cut number)))) (not_cut e))
     go (Some session) e = ap (λ o. offer_kept q (next_of s (session_after server s (Cut number)) (cut_refusal o)).standing) e ∙ ended_kept q number s.standing stand.apart stand.once ∙ by (is_number number (number_kept q s.standing))
       where
-        by : (b : Bool) → cond b None (offer_kept q s.standing) ≡ best_after None (cond b [] (offers ++ offered q server s (Cut number)))
+        by : (b : Bool) → cond b None (offer_kept q s.standing) ≡ best_after None (cond b [] (offers ++ offers_at q server s (Cut number)))
         by true = refl
         by false = h ∙ sym none_more
 
-step_kept : (q : ℕ) (server : Server) (s : State) (e : Event) (offers : List Offer) → Stand s → offer_kept q s.standing ≡ best_after None offers → offer_kept q (next server s e).standing ≡ best_after None (if cuts q s e then [] else offers ++ offered q server s e)
+step_kept : (q : ℕ) (server : Server) (s : State) (e : Event) (offers : List Offer) → Stand s → offer_kept q s.standing ≡ best_after None offers → offer_kept q (next server s e).standing ≡ best_after None (if cuts q s e then [] else offers ++ offers_at q server s e)
 step_kept q server s (Dial p) offers stand h = without q server s (Dial p) offers refl h (λ f. kept_opened q s.standing _ refl)
 step_kept q server s Accept offers stand h = without q server s Accept offers refl h (λ f. kept_opened q s.standing _ refl)
 step_kept q server s (OnInfo number info least) offers stand h = go (session_at number s.standing) refl
   where
-    go : (o : Option Session) → session_at number s.standing ≡ o → offer_kept q (next server s (OnInfo number info least)).standing ≡ best_after None (offers ++ offered q server s (OnInfo number info least))
+    go : (o : Option Session) → session_at number s.standing ≡ o → offer_kept q (next server s (OnInfo number info least)).standing ≡ best_after None (offers ++ offers_at q server s (OnInfo number info least))
     go None at = without q server s (OnInfo number info least) offers (ap (option_map (λ session. info_offer server session info)) at) h (λ f. absurd (none-some UnknownSession (sym (sym (ap (λ o. info_refusal server s o info least) at) ∙ f))))
     go (Some session) at =
         let best = info_keeps_best server s number info least session at in
         decided q server s (OnInfo number info least) (info_offer server session info) offers (ap (option_map (λ session. info_offer server session info)) at) h best.taken
         (λ f apart.
         let new = (info_taken server s session info least (sym (ap (λ o. info_refusal server s o info least) at) ∙ f)).new in
-        ap (λ o. offer_kept q (completed_by_info server s info o).standing) at
+        ap (λ o. offer_kept q (after_info server s info o).standing) at
         ∙ kept_other q session.number (info_offer server session info) s.standing apart (only_new s stand session.number session (ap (λ k. session_at k s.standing) (same_number number s.standing session at) ∙ at) new))
         best.refused
 step_kept q server s (OnConnect number connect least) offers stand h = go (session_at number s.standing) refl
   where
-    go : (o : Option Session) → session_at number s.standing ≡ o → offer_kept q (next server s (OnConnect number connect least)).standing ≡ best_after None (offers ++ offered q server s (OnConnect number connect least))
+    go : (o : Option Session) → session_at number s.standing ≡ o → offer_kept q (next server s (OnConnect number connect least)).standing ≡ best_after None (offers ++ offers_at q server s (OnConnect number connect least))
     go None at = without q server s (OnConnect number connect least) offers (ap (option_map (λ (session : Session). connect_offer server connect)) at) h (λ f. absurd (none-some UnknownSession (sym (sym (ap (λ o. connect_refusal server s o connect least) at) ∙ f))))
     go (Some session) at =
         let best = connect_keeps_best server s number connect least session at in
@@ -324,9 +324,9 @@ step_kept q server s (OnConnect number connect least) offers stand h = go (sessi
         best.refused
 step_kept q server s (Cut number) offers stand h = cut_one q server s number offers stand h
 
-over_kept : (q : ℕ) (server : Server) (s : State) (es : List Event) (offers : List Offer) → Stand s → offer_kept q s.standing ≡ best_after None offers → offer_kept q (after_run server s es).standing ≡ best_after None (offered_since q server s es offers)
+over_kept : (q : ℕ) (server : Server) (s : State) (es : List Event) (offers : List Offer) → Stand s → offer_kept q s.standing ≡ best_after None offers → offer_kept q (after_run server s es).standing ≡ best_after None (offers_since q server s es offers)
 over_kept q server s [] offers stand h = h
-over_kept q server s (e ∷ es) offers stand h = over_kept q server (next server s e) es (if cuts q s e then [] else offers ++ offered q server s e) (stands_next server s e stand) (step_kept q server s e offers stand h)
+over_kept q server s (e ∷ es) offers stand h = over_kept q server (next server s e) es (if cuts q s e then [] else offers ++ offers_at q server s e) (stands_next server s e stand) (step_kept q server s e offers stand h)
 
 pub best_stays_kept : BestStaysKept
 best_stays_kept server q events = over_kept q server no_sessions events [] (record { apart = tt; below = λ x i. absurd i; once = tt }) refl

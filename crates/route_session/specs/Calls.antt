@@ -8,7 +8,7 @@ use Rattle.route_session.specs.declared.faults.SessionFault.{SessionFault}
 use Rattle.route_session.specs.Best.{Offer}
 use Rattle.route_session.specs.State.{State, Session, no_sessions, session_at}
 use Rattle.route_session.specs.Events.{Event, Answer}
-use Rattle.route_session.specs.Steps.{session_refusal, session_after, session_answer, serial_of, connect_offer, completed, completed_by_info}
+use Rattle.route_session.specs.Steps.{session_refusal, session_after, session_answer, serial_of, connect_offer, after_completion, after_info}
 
 -- a server, and its sessions
 pub record Served : Type 0 where
@@ -52,7 +52,7 @@ pub record IsInfoOffer (s : Served) (number : ℕ) (info : Info) (offer : Offer)
   pub serial : is_serial offer.serial ≡ true
   pub dial : offer.serial ≡ serial_of (session_at number s.state.standing)
   pub name : offer.peer ≡ place s.server info.server_name
-  pub after : completed number offer s.state ≡ completed_by_info s.server s.state info (session_at number s.state.standing)
+  pub after : after_completion number offer s.state ≡ after_info s.server s.state info (session_at number s.state.standing)
 
 -- what a CONNECT offers: by a peer
 pub record IsConnectOffer (s : Served) (connect : Connect) (offer : Offer) : Type 0 where

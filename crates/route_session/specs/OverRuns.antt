@@ -38,8 +38,8 @@ abbrev pub of_peer : ℕ → Option Offer → List Offer
 of_peer q None = []
 of_peer q (Some offer) = if nat_eq offer.peer q then offer ∷ [] else []
 
-abbrev pub offered : ℕ → Server → State → Event → List Offer
-offered q server s e = if is_judged (session_refusal server s e) then of_peer q (offer_of server s e) else []
+abbrev pub offers_at : ℕ → Server → State → Event → List Offer
+offers_at q server s e = if is_judged (session_refusal server s e) then of_peer q (offer_of server s e) else []
 
 -- the kept session of the peer is cut
 abbrev pub is_number : ℕ → Option ℕ → Bool
@@ -51,10 +51,10 @@ cuts q s (Cut number) = is_number number (number_kept q s.standing)
 cuts q s other = false
 
 -- what was offered since the last one that was kept was cut
-abbrev pub offered_since : ℕ → Server → State → List Event → List Offer → List Offer
-offered_since q server s [] offers = offers
-offered_since q server s (e ∷ es) offers = offered_since q server (next server s e) es (if cuts q s e then [] else offers ++ offered q server s e)
+abbrev pub offers_since : ℕ → Server → State → List Event → List Offer → List Offer
+offers_since q server s [] offers = offers
+offers_since q server s (e ∷ es) offers = offers_since q server (next server s e) es (if cuts q s e then [] else offers ++ offers_at q server s e)
 
 -- of every run from the start, and each peer: what is kept is the best of that
 abbrev pub BestStaysKept : Type 0
-BestStaysKept = (server : Server) (q : ℕ) (events : List Event) → offer_kept q (after_run server no_sessions events).standing ≡ best_after None (offered_since q server no_sessions events [])
+BestStaysKept = (server : Server) (q : ℕ) (events : List Event) → offer_kept q (after_run server no_sessions events).standing ≡ best_after None (offers_since q server no_sessions events [])

@@ -25,9 +25,9 @@ abbrev pub loses_to : Offer → ℕ → Option Offer → Option SessionFault
 loses_to new number None = None
 loses_to new number (Some old) = if is_better new old then None else Some (Duplicate number)
 
-abbrev pub against : Offer → Option Session → Option SessionFault
-against new None = None
-against new (Some old) = loses_to new old.number old.kept
+abbrev pub duplicate_fault : Offer → Option Session → Option SessionFault
+duplicate_fault new None = None
+duplicate_fault new (Some old) = loses_to new old.number old.kept
 
 -- what an INFO offers on a dialed session, and a CONNECT on an accepted one
 abbrev pub info_offer : Server → Session → Info → Offer
@@ -41,7 +41,7 @@ info_fault server s session info least None = Some UnknownSession
 info_fault server s session info least (Some q) =
     if not (nat_eq (place server info.server_name) q && is_peer server q) then Some WrongName
     else (if nat_lt info.inc least then Some OldIncarnation
-    else against (info_offer server session info) (kept_for q s.standing))
+    else duplicate_fault (info_offer server session info) (kept_for q s.standing))
 
 abbrev pub info_refusal : Server → State → Option Session → Info → ℕ → Option SessionFault
 info_refusal server s None info least = Some UnknownSession
@@ -52,7 +52,7 @@ connect_fault server s connect least (Some q) = Some UnknownSession
 connect_fault server s connect least None =
     if not (nat_eq (place server connect.to) server.me && is_peer server (place server connect.server_name)) then Some WrongName
     else (if nat_lt connect.inc least || not (nat_eq connect.to_inc server.inc) then Some OldIncarnation
-    else against (connect_offer server connect) (kept_for (place server connect.server_name) s.standing))
+    else duplicate_fault (connect_offer server connect) (kept_for (place server connect.server_name) s.standing))
 
 abbrev pub connect_refusal : Server → State → Option Session → Connect → ℕ → Option SessionFault
 connect_refusal server s None connect least = Some UnknownSession
@@ -71,47 +71,47 @@ session_refusal server s (Cut number) = cut_refusal (session_at number s.standin
 
 -- ---- the state after an event that is not refused
 
-abbrev pub dialed : State → ℕ → State
-dialed s q = record { numbers = s.numbers + 1; dials = s.dials + 1; standing = s.standing ++ record { number = s.numbers + 1; dialed = Some q; serial = s.dials + 1; kept = None } ∷ [] }
+abbrev pub after_dial : State → ℕ → State
+after_dial s q = record { numbers = s.numbers + 1; dials = s.dials + 1; standing = s.standing ++ record { number = s.numbers + 1; dialed = Some q; serial = s.dials + 1; kept = None } ∷ [] }
 
-abbrev pub accepted : State → State
-accepted s = record s { numbers = s.numbers + 1; standing = s.standing ++ record { number = s.numbers + 1; dialed = None; serial = 0; kept = None } ∷ [] }
+abbrev pub after_accept : State → State
+after_accept s = record s { numbers = s.numbers + 1; standing = s.standing ++ record { number = s.numbers + 1; dialed = None; serial = 0; kept = None } ∷ [] }
 
 abbrev pub is_not_of_peer : ℕ → Session → Bool
 is_not_of_peer q session = not (is_of_peer q session.kept)
 
 -- without the kept session of a peer
-abbrev pub dropped : ℕ → State → State
-dropped q s = record s { standing = filter (is_not_of_peer q) s.standing }
+abbrev pub without_peer : ℕ → State → State
+without_peer q s = record s { standing = filter (is_not_of_peer q) s.standing }
 
 abbrev pub kept_at : ℕ → Offer → Session → Session
 kept_at number offer session = if nat_eq session.number number then record session { kept = Some offer } else session
 
 -- the session is kept, in place of the one that was kept for its peer
-abbrev pub completed : ℕ → Offer → State → State
-completed number offer s = record s { standing = map (kept_at number offer) (dropped offer.peer s).standing }
+abbrev pub after_completion : ℕ → Offer → State → State
+after_completion number offer s = record s { standing = map (kept_at number offer) (without_peer offer.peer s).standing }
 
-abbrev pub completed_by_info : Server → State → Info → Option Session → State
-completed_by_info server s info None = s
-completed_by_info server s info (Some session) = completed session.number (info_offer server session info) s
+abbrev pub after_info : Server → State → Info → Option Session → State
+after_info server s info None = s
+after_info server s info (Some session) = after_completion session.number (info_offer server session info) s
 
 abbrev pub is_another : ℕ → Session → Bool
 is_another number session = not (nat_eq session.number number)
 
-abbrev pub ended : ℕ → State → State
-ended number s = record s { standing = filter (is_another number) s.standing }
+abbrev pub after_cut : ℕ → State → State
+after_cut number s = record s { standing = filter (is_another number) s.standing }
 
 -- without the kept sessions of these peers
-abbrev pub all_dropped : List ℕ → State → State
-all_dropped [] s = s
-all_dropped (q ∷ qs) s = all_dropped qs (dropped q s)
+abbrev pub without_peers : List ℕ → State → State
+without_peers [] s = s
+without_peers (q ∷ qs) s = without_peers qs (without_peer q s)
 
 abbrev pub session_after : Server → State → Event → State
-session_after server s (Dial q) = dialed s q
-session_after server s Accept = accepted s
-session_after server s (OnInfo number info least) = completed_by_info server s info (session_at number s.standing)
-session_after server s (OnConnect number connect least) = completed number (connect_offer server connect) s
-session_after server s (Cut number) = ended number s
+session_after server s (Dial q) = after_dial s q
+session_after server s Accept = after_accept s
+session_after server s (OnInfo number info least) = after_info server s info (session_at number s.standing)
+session_after server s (OnConnect number connect least) = after_completion number (connect_offer server connect) s
+session_after server s (Cut number) = after_cut number s
 
 -- ---- what is answered
 

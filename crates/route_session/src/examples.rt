@@ -3,7 +3,7 @@
 ghost use Rattle.route_session.specs.Examples.{DialsCross, KeepsTheBetter, RefusesInOrder};
 
 /// Two servers that dial each other at the same time keep the session of the one with the smaller place.
-pub fn crossed_dials()
+pub fn crossed_dials_keep_one_session()
     ensures { DialsCross }
 {}
 
@@ -13,6 +13,6 @@ pub fn the_worse_session_is_refused()
 {}
 
 /// Of several causes the first is told.
-pub fn refusals_in_order()
+pub fn refusals_come_in_order()
     ensures { RefusesInOrder }
 {}

@@ -3,7 +3,7 @@
 ghost use Rattle.std.specs.Prelude.{◌≡◌};
 ghost use Rattle.route_session.specs.Faults.{session_fault_number};
 
-use crate::ids::SessionId;
+use crate::session_ids::SessionId;
 use thiserror::Error;
 
 /// Why an event of a session is refused. (Profile.)

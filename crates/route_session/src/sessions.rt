@@ -6,13 +6,13 @@ ghost use Rattle.subj.specs.Servers.{place, is_peer as peer};
 ghost use Rattle.route_values.specs.Records.{is_serial};
 ghost use Rattle.route_session.specs.State.{number_kept, kept_for};
 ghost use Rattle.route_session.specs.Events.{Dial, Accept, OnInfo, OnConnect, Cut, Dialed, Accepted, KeptAfterInfo, Kept as WasKept, WasCut};
-ghost use Rattle.route_session.specs.Steps.{against, completed, dropped, own_connect as connect_to};
+ghost use Rattle.route_session.specs.Steps.{duplicate_fault, after_completion, without_peer, own_connect as connect_to};
 ghost use Rattle.route_session.specs.Calls.{new_sessions, refusal, DoesStep, AreSessions, is_dial, peer_of, open_session, IsInfoOffer, IsConnectOffer};
 
 use crate::faults::SessionFault;
-use crate::ids::SessionId;
 use crate::offers::Offer;
-use crate::standing::{Session, complete, drop_kept, duplicate, end, kept_id, session_at};
+use crate::session::{Session, complete, drop_kept, duplicate, end, kept_id, session_at};
+use crate::session_ids::SessionId;
 use route_values::{RouteConnect, RouteInfo};
 use std::alloc::Global;
 use std::marker::Model;
@@ -179,7 +179,7 @@ impl Sessions {
     }
 
     /// The session that is kept for the peer at this place.
-    pub fn kept(&self, place: usize) -> Option<SessionId>
+    pub fn kept_session(&self, place: usize) -> Option<SessionId>
         ensures { result ≡ number_kept place self.now.state.standing }
     {
         kept_id(&self.standing, place)
@@ -227,7 +227,7 @@ impl Sessions {
 
     /// What is offered, where no session that is as good or better is kept.
     fn if_better(&self, offer: Offer) -> Result<Offer, SessionFault>
-        ensures { IsDecided (against offer (kept_for offer.peer self.now.state.standing)) (λ kept. kept ≡ offer) ⊤ result }
+        ensures { IsDecided (duplicate_fault offer (kept_for offer.peer self.now.state.standing)) (λ kept. kept ≡ offer) ⊤ result }
     {
         match duplicate(&self.standing, offer) {
             Some(fault) => Err(fault),
@@ -290,7 +290,7 @@ impl Sessions {
     fn complete(&mut self, session: SessionId, offer: Offer) -> Kept
         requires { peer self.old.server offer.peer ≡ true }
         ensures given { result.instead_of ≡ number_kept offer.peer self.old.state.standing }
-        ensures kept { self.new ≡ record { server = self.old.server; state = completed session offer self.old.state } }
+        ensures kept { self.new ≡ record { server = self.old.server; state = after_completion session offer self.old.state } }
     {
         let instead_of = kept_id(&self.standing, offer.peer);
         complete(&mut self.standing, session.get(), offer);
@@ -388,7 +388,7 @@ impl Sessions {
 
     /// Ends the kept session of the peer at this place, where there is one. Takes no memory.
     pub fn drop_kept(&mut self, place: usize)
-        ensures { self.new ≡ record { server = self.old.server; state = dropped place self.old.state } }
+        ensures { self.new ≡ record { server = self.old.server; state = without_peer place self.old.state } }
     {
         drop_kept(&mut self.standing, place);
     }

@@ -53,16 +53,16 @@ script_in json = do
 abbrev pub count_of : List Step → ℕ
 count_of steps = sum (map (λ (step : Step). events_of step.act) steps)
 
-abbrev pub counted : Script → Result Script ScriptFault
-counted script = if nat_lt SCRIPT_EVENTS (count_of script.steps) then Err TooLong else Ok script
+abbrev pub script_within_limit : Script → Result Script ScriptFault
+script_within_limit script = if nat_lt SCRIPT_EVENTS (count_of script.steps) then Err TooLong else Ok script
 
-abbrev pub shaped : Option Script → Result Script ScriptFault
-shaped None = Err BadShape
-shaped (Some script) = counted script
+abbrev pub script_of_shape : Option Script → Result Script ScriptFault
+script_of_shape None = Err BadShape
+script_of_shape (Some script) = script_within_limit script
 
 abbrev pub read_json : Option Data → Result Script ScriptFault
 read_json None = Err NotJson
-read_json (Some json) = shaped (script_in json)
+read_json (Some json) = script_of_shape (script_in json)
 
 -- what bytes are as a script, or the first cause for which they are none
 abbrev pub script_of : List ℕ → Result Script ScriptFault

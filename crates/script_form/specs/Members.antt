@@ -100,10 +100,10 @@ MeansBy view meaning (Ok x) = meaning ≡ Some (view x)
 MeansBy view meaning (Err (Refused why)) = meaning ≡ None
 MeansBy view meaning (Err OutOfMemory) = Unit {0}
 
-abbrev pub Means : {A M : Type 0} → Option A → Result A (Failure M) → Type 0
-Means meaning (Ok x) = meaning ≡ Some x
-Means meaning (Err (Refused why)) = meaning ≡ None
-Means meaning (Err OutOfMemory) = Unit {0}
+abbrev pub MemberMeans : {A M : Type 0} → Option A → Result A (Failure M) → Type 0
+MemberMeans meaning (Ok x) = meaning ≡ Some x
+MemberMeans meaning (Err (Refused why)) = meaning ≡ None
+MemberMeans meaning (Err OutOfMemory) = Unit {0}
 
 -- the same without memory
 abbrev pub SaysBy : {X A M : Type 0} → (X → A) → Option A → Result X M → Type 0

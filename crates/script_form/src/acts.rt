@@ -1,7 +1,7 @@
 //! Reading steps.
 
 ghost use Rattle.serde_json.specs.View.{view};
-ghost use Rattle.script_form.specs.Members.{Means, Says};
+ghost use Rattle.script_form.specs.Members.{MemberMeans, Says};
 ghost use Rattle.script_form.specs.Acts.{start_in, attach_in, key_in, sub_in, unsub_in, publish_in, claim_in, take_entries_in, take_frames_in, take_in, act_in, verb_in, step_in, shard, peer, session, frame, conn};
 
 use crate::faults::Misfit;
@@ -71,7 +71,7 @@ fn read_attach(object: &Value) -> Result<Act, Misfit>
 
 #[tactic(auto, unfolding(crate::specs::Acts::key_in))]
 fn read_key(alloc: Global, object: &Value) -> Result<Key, Failure<Misfit>>
-    ensures { Means (key_in (view object.now)) result }
+    ensures { MemberMeans (key_in (view object.now)) result }
 {
     let pattern = pattern(alloc, object, Member::Pattern)?;
     let queue = optional_queue(alloc, object, Member::Queue)?;
@@ -80,7 +80,7 @@ fn read_key(alloc: Global, object: &Value) -> Result<Key, Failure<Misfit>>
 
 #[tactic(auto, unfolding(crate::specs::Acts::sub_in))]
 fn read_sub(alloc: Global, object: &Value) -> Result<Act, Failure<Misfit>>
-    ensures { Means (sub_in (view object.now)) result }
+    ensures { MemberMeans (sub_in (view object.now)) result }
 {
     let conn = read_conn(object)?;
     let key = read_key(alloc, object)?;
@@ -90,7 +90,7 @@ fn read_sub(alloc: Global, object: &Value) -> Result<Act, Failure<Misfit>>
 
 #[tactic(auto, unfolding(crate::specs::Acts::unsub_in))]
 fn read_unsub(alloc: Global, object: &Value) -> Result<Act, Failure<Misfit>>
-    ensures { Means (unsub_in (view object.now)) result }
+    ensures { MemberMeans (unsub_in (view object.now)) result }
 {
     let conn = read_conn(object)?;
     let sid = sid(alloc, object, Member::Sid)?;
@@ -100,7 +100,7 @@ fn read_unsub(alloc: Global, object: &Value) -> Result<Act, Failure<Misfit>>
 
 #[tactic(auto, unfolding(crate::specs::Acts::publish_in))]
 fn read_publish(alloc: Global, object: &Value) -> Result<Act, Failure<Misfit>>
-    ensures { Means (publish_in (view object.now)) result }
+    ensures { MemberMeans (publish_in (view object.now)) result }
 {
     let conn = read_conn(object)?;
     let subject = subject(alloc, object, Member::Subject)?;
@@ -156,7 +156,7 @@ fn read_take(object: &Value) -> Result<Act, Misfit>
 /// What is done, of what the verb says.
 #[tactic(auto, unfolding(crate::specs::Acts::of_shard, crate::specs::Acts::of_peer, crate::specs::Acts::of_session, crate::specs::Acts::detach_in, crate::specs::Acts::receive_in, crate::specs::Acts::cut_in))]
 fn read_act(alloc: Global, verb: Verb, object: &Value) -> Result<Act, Failure<Misfit>>
-    ensures { Means (act_in verb (view object.now)) result }
+    ensures { MemberMeans (act_in verb (view object.now)) result }
 {
     match verb {
         Verb::Start => Ok(read_start(object)?),
@@ -218,7 +218,7 @@ fn read_verb(object: &Value) -> Result<Verb, Misfit>
 /// One step.
 #[tactic(auto, unfolding(crate::specs::Acts::step_in))]
 pub(crate) fn read_step(alloc: Global, object: &Value) -> Result<Step, Failure<Misfit>>
-    ensures { Means (step_in (view object.now)) result }
+    ensures { MemberMeans (step_in (view object.now)) result }
 {
     let verb = read_verb(object)?;
     let node = node(object, Member::Node)?;

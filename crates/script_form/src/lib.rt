@@ -11,18 +11,18 @@
 //! those bytes that are one, and tells of all others the first cause for which they are none.
 //!
 //! In reading order: `steps` is what a script says, `verbs` and `member` the words that it is said with; `members` reads members of a JSON
-//! object, `acts` a step, and `reading` the whole. `faults` has the causes, and where they hold.
+//! object, `acts` a step, and `script` the whole. `faults` has the causes, and where they hold.
 #![tactic(auto)]
 
 mod acts;
 mod faults;
 mod member;
 mod members;
-mod reading;
+mod script;
 mod steps;
 mod verbs;
 
 pub use faults::{Place, ScriptError, ScriptFault};
 pub use member::Member;
-pub use reading::Script;
+pub use script::Script;
 pub use steps::{Act, Step};

@@ -6,7 +6,7 @@ ghost use Rattle.serde_json.specs.View.{view};
 ghost use Rattle.subj.specs.declared.faults.NameFault.{NameFault as Cause};
 ghost use Rattle.subj.specs.Answers.{IsAnswered};
 ghost use Rattle.subj.specs.Names.{node_name_fault, pattern_fault, subject_fault, queue_name_fault, sid_fault};
-ghost use Rattle.script_form.specs.Members.{Means, Says, SaysBy, member as there, optional, whole, text as is_text, truth as is_truth, node as is_node, name_at, optional_name_at};
+ghost use Rattle.script_form.specs.Members.{MemberMeans, Says, SaysBy, member as there, optional, whole, text as is_text, truth as is_truth, node as is_node, name_at, optional_name_at};
 
 use crate::faults::Misfit;
 use crate::member::Member;
@@ -75,7 +75,7 @@ fn optional_text<'a>(object: &'a Value, member: Member) -> Result<Option<&'a str
 
 /// What was read as a name, or that the member is none.
 fn member_name<T>(read: Result<T, Failure<NameFault>>, member: Member) -> Result<T, Failure<Misfit>>
-    ensures { (cause : Option Cause) (value : T) → IsAnswered cause (λ x. x ≡ value) ⊤ read → Means (if is_some cause then None else Some value) result }
+    ensures { (cause : Option Cause) (value : T) → IsAnswered cause (λ x. x ≡ value) ⊤ read → MemberMeans (if is_some cause then None else Some value) result }
 {
     match read {
         Ok(value) => Ok(value),
@@ -89,7 +89,7 @@ fn some_member_name<T>(
     read: Result<T, Failure<NameFault>>,
     member: Member,
 ) -> Result<Option<T>, Failure<Misfit>>
-    ensures { (cause : Option Cause) (value : T) → IsAnswered cause (λ x. x ≡ value) ⊤ read → Means (option_map Some (if is_some cause then None else Some value)) result }
+    ensures { (cause : Option Cause) (value : T) → IsAnswered cause (λ x. x ≡ value) ⊤ read → MemberMeans (option_map Some (if is_some cause then None else Some value)) result }
 {
     match read {
         Ok(value) => Ok(Some(value)),
@@ -125,7 +125,7 @@ pub(crate) fn node(object: &Value, member: Member) -> Result<NodeId, Misfit>
 /// What a client calls a subscription.
 #[tactic(auto, unfolding(crate::specs::Members::name_at))]
 pub(crate) fn sid(alloc: Global, object: &Value, member: Member) -> Result<Sid, Failure<Misfit>>
-    ensures { Means (name_at sid_fault member (view object.now)) result }
+    ensures { MemberMeans (name_at sid_fault member (view object.now)) result }
 {
     let text = text(object, member)?;
     member_name(Sid::read(alloc, text.as_bytes()), member)
@@ -138,7 +138,7 @@ pub(crate) fn pattern(
     object: &Value,
     member: Member,
 ) -> Result<Pattern, Failure<Misfit>>
-    ensures { Means (name_at pattern_fault member (view object.now)) result }
+    ensures { MemberMeans (name_at pattern_fault member (view object.now)) result }
 {
     let text = text(object, member)?;
     member_name(Pattern::read(alloc, text.as_bytes()), member)
@@ -151,7 +151,7 @@ pub(crate) fn subject(
     object: &Value,
     member: Member,
 ) -> Result<Subject, Failure<Misfit>>
-    ensures { Means (name_at subject_fault member (view object.now)) result }
+    ensures { MemberMeans (name_at subject_fault member (view object.now)) result }
 {
     let text = text(object, member)?;
     member_name(Subject::read(alloc, text.as_bytes()), member)
@@ -164,7 +164,7 @@ pub(crate) fn optional_subject(
     object: &Value,
     member: Member,
 ) -> Result<Option<Subject>, Failure<Misfit>>
-    ensures { Means (optional_name_at subject_fault member (view object.now)) result }
+    ensures { MemberMeans (optional_name_at subject_fault member (view object.now)) result }
 {
     match optional_text(object, member)? {
         None => Ok(None),
@@ -179,7 +179,7 @@ pub(crate) fn optional_queue(
     object: &Value,
     member: Member,
 ) -> Result<Option<QueueName>, Failure<Misfit>>
-    ensures { Means (optional_name_at queue_name_fault member (view object.now)) result }
+    ensures { MemberMeans (optional_name_at queue_name_fault member (view object.now)) result }
 {
     match optional_text(object, member)? {
         None => Ok(None),

@@ -32,7 +32,7 @@ fn with_steps(alloc: Global, step: &str, times: u64, last: &str) -> Result<Strin
 }
 
 /// Blanks, and then a script, of so many bytes together.
-fn padded(alloc: Global, len: usize, script: &[u8]) -> Result<Vec<u8>, AllocError> {
+fn padded_script(alloc: Global, len: usize, script: &[u8]) -> Result<Vec<u8>, AllocError> {
     let mut bytes = Vec::new(alloc);
     for _ in script.len()..len {
         bytes.push(b' ')?;
@@ -245,13 +245,13 @@ fn other_steps_are_refused(rt: HostRuntime) -> Result<(), Fail> {
 #[test]
 fn bytes_are_counted_first(rt: HostRuntime) -> Result<(), Fail> {
     let alloc = rt.alloc();
-    let most = padded(alloc, SCRIPT_BYTES, SMALLEST)?;
+    let most = padded_script(alloc, SCRIPT_BYTES, SMALLEST)?;
     assert_eq!(rt; number_of(alloc, &most)?, 0);
-    let blanks = padded(alloc, SCRIPT_BYTES, b"")?;
+    let blanks = padded_script(alloc, SCRIPT_BYTES, b"")?;
     assert_eq!(rt; number_of(alloc, &blanks)?, 90);
-    let more = padded(alloc, SCRIPT_BYTES + 1, SMALLEST)?;
+    let more = padded_script(alloc, SCRIPT_BYTES + 1, SMALLEST)?;
     assert_eq!(rt; number_of(alloc, &more)?, 92);
-    let more_blanks = padded(alloc, SCRIPT_BYTES + 1, b"")?;
+    let more_blanks = padded_script(alloc, SCRIPT_BYTES + 1, b"")?;
     assert_eq!(rt; number_of(alloc, &more_blanks)?, 92);
     Ok(())
 }

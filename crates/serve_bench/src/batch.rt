@@ -114,7 +114,7 @@ impl Batch {
     }
 
     /// The first frames, so many, with the numbers from this one on, each to a subject of its own choice.
-    pub fn numbered(&mut self, first: u64, count: u64) -> &[u8] {
+    pub fn with_numbers(&mut self, first: u64, count: u64) -> &[u8] {
         let length = self.length.max(1);
         let mut number = first;
         for frame in self.bytes.chunks_mut(length).take(count as usize) {

@@ -143,7 +143,7 @@ impl Connection {
                 Err(Stop::Malformed) => return Err(io::ErrorKind::InvalidData.into()),
             }
         }
-        let left = frames.left();
+        let left = frames.rest_len();
         self.window.keep_last(left);
         Ok(ponged)
     }

@@ -150,7 +150,7 @@ impl<'a> Frames<'a> {
     }
 
     /// How many bytes are behind the frames that were given.
-    pub fn left(&self) -> usize {
+    pub fn rest_len(&self) -> usize {
         self.rest.len()
     }
 }

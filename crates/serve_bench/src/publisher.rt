@@ -67,7 +67,8 @@ impl Publisher {
             if !progress.wait_for(rt, self.place, sent.saturating_sub(self.window)) {
                 break;
             }
-            self.connection.send(self.batch.numbered(self.sent, count))?;
+            self.connection
+                .send(self.batch.with_numbers(self.sent, count))?;
             self.sent = sent;
         }
         Ok(())

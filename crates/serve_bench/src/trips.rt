@@ -72,7 +72,7 @@ impl Asker {
     fn ask(&mut self) -> io::Result<()> {
         let number = self.sent;
         self.sent = number.saturating_add(1);
-        self.connection.send(self.request.numbered(number, 1))
+        self.connection.send(self.request.with_numbers(number, 1))
     }
 
     /// Waits for a reply: whether one came.

@@ -12,11 +12,11 @@ use Rattle.shard_core.specs.declared.faults.ShardFault.{ShardFault}
 use Rattle.shard_core.specs.declared.shard.CalledSub.{CalledSub}
 use Rattle.sub_table.specs.declared.Subscription.{Subscription}
 use Rattle.shard_core.specs.Closings.{ended_ids}
-use Rattle.shard_core.specs.Owed.{walked}
+use Rattle.shard_core.specs.Owed.{whole_walk}
 use Rattle.shard_core.specs.Puts.{put_by}
 use Rattle.shard_core.specs.ShardEvents.{Answer, Opened, AlreadyOpen, Take, Begin}
 use Rattle.shard_core.specs.ShardSteps.{shard_after, ended_now}
-use Rattle.shard_core.specs.Held.{Held, settled}
+use Rattle.shard_core.specs.Held.{Held, held_at_rest}
 use Rattle.shard_core.specs.Shards.{State, waits_for}
 use Rattle.outbox.specs.Views.{bytes_of_all}
 
@@ -30,27 +30,27 @@ abbrev pub call_of : Option ℕ → Subscription → CalledSub
 call_of max sub = record { serial = sub.serial; ends = ended_now max sub }
 
 -- copies of the entries, where they are asked for
-abbrev pub copied : Bool → List Placed → List Placed
-copied true placed = placed
-copied false placed = []
+abbrev pub copies_of : Bool → List Placed → List Placed
+copies_of true placed = placed
+copies_of false placed = []
 
 -- the bytes of the first entries that wait stand behind those that were there: a take without entries
 pub record TakesBytes (old : Held) (conn count taken : ℕ) (before bytes : List ℕ) (new : Held) : Type 0 where
   pub told : taken ≡ length (take count (waits_for conn old.state.clients))
   pub bytes_are : bytes ≡ before ++ bytes_of_all (take count (waits_for conn old.state.clients))
-  pub after : new ≡ settled (shard_after old.state (Take conn count))
+  pub after : new ≡ held_at_rest (shard_after old.state (Take conn count))
 
 -- what `begin` answers of its walk; the entries that it put, only where copies are asked for
 pub record IsTold (copies : Bool) (s : State) (job : Job) (begun : Begun) : Type 0 where
-  pub given : begun.given ≡ length (walked s job).given
-  pub put : begun.put.items ≡ copied copies (put_by s (Begin job))
-  pub closed : begun.closed.items ≡ (walked s job).shut
-  pub ended : begun.ended.items ≡ ended_ids s.shard (walked s job).ended
+  pub given : begun.given ≡ length (whole_walk s job).given
+  pub put : begun.put.items ≡ copies_of copies (put_by s (Begin job))
+  pub closed : begun.closed.items ≡ (whole_walk s job).shut
+  pub ended : begun.ended.items ≡ ended_ids s.shard (whole_walk s job).ended
 
 -- the step of a begin
 pub record HasBegun (copies : Bool) (old : Held) (job : Job) (begun : Begun) (new : Held) : Type 0 where
   pub answered : IsTold copies old.state job begun
-  pub after : new ≡ settled (shard_after old.state (Begin job))
+  pub after : new ≡ held_at_rest (shard_after old.state (Begin job))
 
 -- refused, or without memory, with the job handed back as it was
 abbrev pub IsHandedBack : Option ShardFault → Job → Type 0 → Job → Failure ShardFault → Type 0

@@ -15,9 +15,9 @@ use Rattle.subj.specs.declared.jobs.Job.{Job}
 use Rattle.subj.specs.declared.keys.Key.{Key}
 use Rattle.shard_core.specs.Shards.{State}
 use Rattle.shard_core.specs.Closings.{serials_of}
-use Rattle.shard_core.specs.Owed.{walked, candidate_of}
+use Rattle.shard_core.specs.Owed.{whole_walk, candidate_of}
 use Rattle.shard_core.specs.ShardEvents.{Event, Attach, Subscribe, Unsubscribe, Reply, Shut, Detach, Take, Begin, Claim, End, DropJob, Collect}
-use Rattle.shard_core.specs.ShardSteps.{called, shard_refusal, shard_after}
+use Rattle.shard_core.specs.ShardSteps.{sub_called, shard_refusal, shard_after}
 use Rattle.shard_core.specs.Lines.{SoundLine, HasJob, waiting_after}
 
 -- The law names servers by their places, and shards from 0. A shard never looks into the name of a publication, so all is
@@ -88,7 +88,7 @@ given_by s (Reply conn frame) = []
 given_by s (Shut conn text) = []
 given_by s (Detach conn) = []
 given_by s (Take conn count) = []
-given_by s (Begin job) = (walked s job).given
+given_by s (Begin job) = (whole_walk s job).given
 given_by s (Claim index won) = given_by_claim s.hand (candidate_of s s.hand index) won
 given_by s End = []
 given_by s (DropJob waiting) = []
@@ -122,7 +122,7 @@ opened_by n inc now place s conn key sid None = record { id = law.life_id n inc 
 
 abbrev pub lives_by : ℕ → ℕ → ℕ → ℕ → State → Event → List history.Life
 lives_by n inc now place s Attach = []
-lives_by n inc now place s (Subscribe conn key sid) = opened_by n inc now place s conn key sid (called conn sid s.subs)
+lives_by n inc now place s (Subscribe conn key sid) = opened_by n inc now place s conn key sid (sub_called conn sid s.subs)
 lives_by n inc now place s (Unsubscribe conn sid max) = []
 lives_by n inc now place s (Reply conn frame) = []
 lives_by n inc now place s (Shut conn text) = []

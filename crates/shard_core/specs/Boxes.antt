@@ -17,14 +17,14 @@ abbrev pub IsSettled : Clients → Type 0
 IsSettled c = c.next ≡ c.shown
 
 -- one of the two backlogs of a connection
-abbrev pub seen : (Waiting → Backlog) → Conn → Client
-seen backlog conn = record { number = conn.number; outbox = backlog conn.outbox; max_entries = conn.outbox.max_entries; max_bytes = conn.outbox.max_bytes }
+abbrev pub client_in_view : (Waiting → Backlog) → Conn → Client
+client_in_view backlog conn = record { number = conn.number; outbox = backlog conn.outbox; max_entries = conn.outbox.max_entries; max_bytes = conn.outbox.max_bytes }
 
-abbrev pub shown_shelf : Waiting → Backlog
-shown_shelf box = box.shown
+abbrev pub shown_backlog : Waiting → Backlog
+shown_backlog box = box.shown
 
-abbrev pub next_shelf : Waiting → Backlog
-next_shelf box = box.next
+abbrev pub next_backlog : Waiting → Backlog
+next_backlog box = box.next
 
 abbrev pub number_of : Conn → ℕ
 number_of conn = conn.number
@@ -36,7 +36,7 @@ AreRising conns = AllPairs (λ (a b : ℕ). a < b) (map number_of conns)
 -- what waits and what will wait differ at these places alone
 abbrev pub IsStagedWithin : List ℕ → List Conn → Type 0
 IsStagedWithin places conns =
-    (i : ℕ) (d : Conn) → i < length conns → list_any (nat_eq i) places ≡ false → seen next_shelf (slice_index_or conns i d) ≡ seen shown_shelf (slice_index_or conns i d)
+    (i : ℕ) (d : Conn) → i < length conns → list_any (nat_eq i) places ≡ false → client_in_view next_backlog (slice_index_or conns i d) ≡ client_in_view shown_backlog (slice_index_or conns i d)
 
 pub record AreConns (places : List ℕ) (conns : List Conn) : Type 0 where
   pub rising : AreRising conns

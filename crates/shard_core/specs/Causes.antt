@@ -9,7 +9,7 @@ use Rattle.subj.specs.declared.identities.SubId.{SubId}
 use Rattle.subj.specs.declared.jobs.Job.{Job}
 use Rattle.shard_core.specs.declared.faults.ShardFault.{ShardFault}
 use Rattle.shard_core.specs.Shards.{State, Client, new_shard, client_at, is_open, with_outbox, fits}
-use Rattle.shard_core.specs.Owed.{walked, is_due, due_entry, placed_for}
+use Rattle.shard_core.specs.Owed.{whole_walk, is_due, due_entry, placed_for}
 use Rattle.shard_core.specs.Opened.{AreRising}
 use Rattle.shard_core.specs.Puts.{entries_for}
 use Rattle.shard_core.specs.ShardEvents.{Event, Subscribe, Unsubscribe, Reply, Shut, Detach, Begin, Answer}
@@ -44,8 +44,8 @@ max_after (Unsubscribe conn sid max) sub = if is_called conn sid sub then max el
 max_after other sub = sub.max
 
 -- an event counts the messages that it gives, and notes a maximum; all else of a subscription stays
-abbrev pub gone_on : State → Event → Subscription → Subscription
-gone_on s e sub = record sub { delivered = sub.delivered + given_to s e sub; max = max_after e sub }
+abbrev pub sub_after : State → Event → Subscription → Subscription
+sub_after s e sub = record sub { delivered = sub.delivered + given_to s e sub; max = max_after e sub }
 
 abbrev pub IsOpening : State → Event → Subscription → Type 0
 IsOpening s (Subscribe conn key sid) new = new ≡ new_sub s conn key sid
@@ -55,7 +55,7 @@ IsOpening s other new = ⊥
 abbrev pub SubsGoOn : Type 0
 SubsGoOn =
     (s : State) (e : Event) → AreHeld s → shard_refusal s e ≡ None
-    → Each (λ new. ((old : Subscription) × In old s.subs × (new ≡ gone_on s e old)) ⊎ IsOpening s e new) (shard_after s e).subs
+    → Each (λ new. ((old : Subscription) × In old s.subs × (new ≡ sub_after s e old)) ⊎ IsOpening s e new) (shard_after s e).subs
 
 -- ---- what closes
 
@@ -110,7 +110,7 @@ with_given s job given conn = option_map (with_outbox (with_entries (entries_for
 -- it owes there
 abbrev pub LacksRoom : State → Event → ℕ → Type 0
 LacksRoom s (Reply of frame) conn = (conn ≡ of) × (answer_fits s of (reply_line frame) ≡ false)
-LacksRoom s (Begin job) conn = (sub : Subscription) × In sub (filter (is_due job) s.subs) × (sub.conn ≡ conn) × (fits (with_given s job (walked s job).given conn) (due_entry s.shard job None sub) ≡ false)
+LacksRoom s (Begin job) conn = (sub : Subscription) × In sub (filter (is_due job) s.subs) × (sub.conn ≡ conn) × (fits (with_given s job (whole_walk s job).given conn) (due_entry s.shard job None sub) ≡ false)
 LacksRoom s other conn = ⊥
 
 abbrev pub IsShut : Event → ℕ → Type 0
@@ -128,7 +128,7 @@ pub record ConnectionsLeave (s : State) (e : Event) : Type 0 where
   pub shut : Each (λ conn. IsShut e conn ⊎ LacksRoom s e conn) (shut_by s e)
 
 pub record GivesAll (s : State) (job : Job) : Type 0 where
-  pub all : Each (λ sub. is_open sub.conn s.clients ≡ true → In sub (walked s job).given ⊎ In sub.conn (walked s job).shut) (filter (is_due job) s.subs)
+  pub all : Each (λ sub. is_open sub.conn s.clients ≡ true → In sub (whole_walk s job).given ⊎ In sub.conn (whole_walk s job).shut) (filter (is_due job) s.subs)
 
 pub record RoomDecides : Type 0 where
   pub leave : (s : State) (e : Event) → shard_refusal s e ≡ None → ConnectionsLeave s e

@@ -29,8 +29,8 @@ abbrev pub closings_of : List ℕ → List Subscription → List Delta
 closings_of ended subs = flat_map (λ serial. map closing (filter (has_serial serial) subs)) ended
 
 -- these close, in this order
-abbrev pub without : List ℕ → State → State
-without ended s = record s { subs = filter (is_left ended) s.subs; deltas = s.deltas ++ closings_of ended s.subs }
+abbrev pub without_subs : List ℕ → State → State
+without_subs ended s = record s { subs = filter (is_left ended) s.subs; deltas = s.deltas ++ closings_of ended s.subs }
 
 abbrev pub ended_ids : ℕ → List ℕ → List SubId
 ended_ids shard ended = map (id_of shard) ended

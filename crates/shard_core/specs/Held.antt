@@ -7,9 +7,9 @@ use Rattle.subj.specs.declared.jobs.Job.{Job}
 use Rattle.subj.specs.declared.limits.TheConstants.{MAX_COUNTER, MAX_SHARDS, MAX_QUEUE_NAMES}
 use Rattle.shard_core.specs.declared.calls.Candidate.{Candidate}
 use Rattle.shard_core.specs.declared.calls.Placed.{Placed}
-use Rattle.shard_core.specs.Shards.{State, Client, new_shard, changed}
+use Rattle.shard_core.specs.Shards.{State, Client, new_shard, clients_with_change}
 use Rattle.shard_core.specs.Closings.{id_of}
-use Rattle.shard_core.specs.Owed.{due_entry, placed_for, placed_one, candidate_named, candidate_of, ended_by, tried}
+use Rattle.shard_core.specs.Owed.{due_entry, placed_for, after_put, candidate_named, candidate_of, ended_by, after_try}
 use Rattle.shard_core.specs.ShardEvents.{Event, Answer, Claim}
 use Rattle.shard_core.specs.ShardSteps.{shard_refusal, shard_after, shard_answer}
 
@@ -23,19 +23,19 @@ abbrev pub shard_with : ℕ → List Client → List Subscription → State
 shard_with shard clients subs = record (new_shard shard 0) { clients = clients; subs = subs }
 
 -- no candidate stands
-abbrev pub settled : State → Held
-settled s = record { state = s; chosen = None }
+abbrev pub held_at_rest : State → Held
+held_at_rest s = record { state = s; chosen = None }
 
 -- ---- what a call does
 
 -- it is the step of this event, with this answer, and no candidate stands behind it
 pub record DoesStep (old : Held) (event : Event) (answer : Answer) (new : Held) : Type 0 where
   pub answered : answer ≡ shard_answer old.state event
-  pub after : new ≡ settled (shard_after old.state event)
+  pub after : new ≡ held_at_rest (shard_after old.state event)
 
 -- it leaves the state as it was; a candidate that stood is dropped
 abbrev pub IsLeft : Held → Held → Type 0
-IsLeft old new = new ≡ settled old.state
+IsLeft old new = new ≡ held_at_rest old.state
 
 -- ---- a claim in two calls
 
@@ -55,7 +55,7 @@ told_of copies shard (Some job) chosen = option_map (candidate_told copies shard
 -- the index is tried, and the candidate stands
 pub record Chooses (copies : Bool) (old : Held) (index : ℕ) (candidate : Option Candidate) (new : Held) : Type 0 where
   pub told : candidate ≡ told_of copies old.state.shard old.state.hand (candidate_of old.state old.state.hand index)
-  pub after : new ≡ record { state = tried old.state; chosen = candidate_of old.state old.state.hand index }
+  pub after : new ≡ record { state = after_try old.state; chosen = candidate_of old.state old.state.hand index }
 
 -- the last call chose a candidate for this index
 pub record Stands (index : ℕ) (held : Held) : Type 0 where
@@ -64,10 +64,10 @@ pub record Stands (index : ℕ) (held : Held) : Type 0 where
   pub tried : held.state.next_index ≡ index + 1
 
 -- the candidate gets its entry
-abbrev pub placed_chosen : State → Option Job → Option Subscription → State
-placed_chosen s None chosen = s
-placed_chosen s (Some job) None = s
-placed_chosen s (Some job) (Some sub) = placed_one s job sub
+abbrev pub after_put_chosen : State → Option Job → Option Subscription → State
+after_put_chosen s None chosen = s
+after_put_chosen s (Some job) None = s
+after_put_chosen s (Some job) (Some sub) = after_put s job sub
 
 -- what closes with it
 abbrev pub ended_by_chosen : Option Subscription → List ℕ
@@ -86,7 +86,7 @@ serial_told candidate = option_map (λ (c : Candidate). c.sub.serial) candidate
 -- what waits once the candidate's entry is shown
 abbrev pub staged_in : Option Job → Subscription → ℕ → List Client → List Client
 staged_in None sub shard clients = clients
-staged_in (Some job) sub shard clients = changed (with_entry (due_entry shard job sub.key.queue sub)) sub.conn clients
+staged_in (Some job) sub shard clients = clients_with_change (with_entry (due_entry shard job sub.key.queue sub)) sub.conn clients
 
 abbrev pub staged_for : Option Subscription → Option Job → ℕ → List Client → List Client
 staged_for None hand shard clients = clients
@@ -102,7 +102,7 @@ pub record HasChosen (copies : Bool) (s : State) (job : Job) (name : List ℕ) (
 pub record IsWhole (old : State) (index : ℕ) (mid : Held) : Type 0 where
   pub not_won : mid.state ≡ shard_after old (Claim index false)
   pub stands : is_some mid.chosen ≡ true → Stands index mid
-  pub won : is_some mid.chosen ≡ true → placed_chosen mid.state mid.state.hand mid.chosen ≡ shard_after old (Claim index true)
+  pub won : is_some mid.chosen ≡ true → after_put_chosen mid.state mid.state.hand mid.chosen ≡ shard_after old (Claim index true)
 
 abbrev pub ClaimsAreWhole : Type 0
 ClaimsAreWhole = (copies : Bool) (old mid : Held) (index : ℕ) (candidate : Option Candidate) → shard_refusal old.state (Claim index false) ≡ None → Chooses copies old index candidate mid → IsWhole old.state index mid

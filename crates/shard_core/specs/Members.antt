@@ -10,12 +10,12 @@ use Rattle.shard_core.specs.declared.members.Members.{Members}
 use Rattle.shard_core.specs.declared.members.TheConstants.{MARK_FACTOR}
 
 -- the mark of a queue name: equal names have equal ones, and most others have others
-abbrev pub marked : ℕ → List ℕ → ℕ
-marked mark [] = mark
-marked mark (byte ∷ bytes) = marked (((mark * MARK_FACTOR) % 2 ^ 64 + byte) % 2 ^ 64) bytes
+abbrev pub mark_with : ℕ → List ℕ → ℕ
+mark_with mark [] = mark
+mark_with mark (byte ∷ bytes) = mark_with (((mark * MARK_FACTOR) % 2 ^ 64 + byte) % 2 ^ 64) bytes
 
 abbrev pub mark_of : List ℕ → ℕ
-mark_of name = marked 0 name
+mark_of name = mark_with 0 name
 
 abbrev pub mark_of_queue : Option (List ℕ) → ℕ
 mark_of_queue None = 0

@@ -6,7 +6,7 @@ use Rattle.sub_table.specs.declared.Subscription.{Subscription}
 use Rattle.shard_core.specs.Shards.{State}
 use Rattle.interest.specs.Laws.{opening}
 use Rattle.shard_core.specs.Closings.{serials_of, is_left, closings_of}
-use Rattle.shard_core.specs.Owed.{counted}
+use Rattle.shard_core.specs.Owed.{sub_with_count}
 use Rattle.shard_core.specs.Members.{AreNoted}
 use Rattle.shard_core.specs.declared.members.Members.{Members}
 
@@ -50,7 +50,7 @@ with_opening sub o = record { subs = o.subs ++ sub ∷ []; deltas = o.deltas ++ 
 
 -- those of these serials got one more message each
 abbrev pub with_counts : List ℕ → Opened → Opened
-with_counts given o = record o { subs = map (counted given) o.subs }
+with_counts given o = record o { subs = map (sub_with_count given) o.subs }
 
 -- these close in this order, and leave their deltas
 abbrev pub with_closings : List ℕ → Opened → Opened

@@ -12,8 +12,8 @@ use Rattle.sub_table.specs.declared.Subscription.{Subscription}
 use Rattle.subj.specs.QueueNames.{is_named}
 use Rattle.subj.specs.declared.jobs.Job.{Job}
 use Rattle.shard_core.specs.declared.calls.Placed.{Placed}
-use Rattle.shard_core.specs.Shards.{State, Client, client_at, is_open, changed, fits}
-use Rattle.shard_core.specs.Closings.{id_of, serials_of, left_of, without}
+use Rattle.shard_core.specs.Shards.{State, Client, client_at, is_open, clients_with_change, fits}
+use Rattle.shard_core.specs.Closings.{id_of, serials_of, left_of, without_subs}
 
 -- ---- who is owed, and what
 
@@ -64,46 +64,46 @@ abbrev pub ended_by : Subscription → List ℕ
 ended_by sub = if reaches sub.max (sub.delivered + 1) then sub.serial ∷ [] else []
 
 -- an entry is put
-abbrev pub give : Written → Subscription → Walk → Walk
-give entry sub w = record w { clients = changed (with_entry entry) sub.conn w.clients; given = w.given ++ sub ∷ []; ended = w.ended ++ ended_by sub }
+abbrev pub walk_with_entry : Written → Subscription → Walk → Walk
+walk_with_entry entry sub w = record w { clients = clients_with_change (with_entry entry) sub.conn w.clients; given = w.given ++ sub ∷ []; ended = w.ended ++ ended_by sub }
 
 -- a connection without room is shut, and all its subscriptions close, those of queue groups too (profile)
 abbrev pub slow_consumer : List ℕ
 slow_consumer = err_line SlowConsumer
 
-abbrev pub shut_slow : List Subscription → ℕ → Walk → Walk
-shut_slow subs conn w = record w { clients = changed (with_last slow_consumer) conn w.clients; shut = w.shut ++ conn ∷ []; ended = w.ended ++ left_of conn w.ended subs }
+abbrev pub walk_with_shut : List Subscription → ℕ → Walk → Walk
+walk_with_shut subs conn w = record w { clients = clients_with_change (with_last slow_consumer) conn w.clients; shut = w.shut ++ conn ∷ []; ended = w.ended ++ left_of conn w.ended subs }
 
 -- nothing for a connection that was shut before: its subscriptions closed with it
-abbrev pub put_one : State → Job → Walk → Subscription → Walk
-put_one s job w sub =
+abbrev pub walk_after_put : State → Job → Walk → Subscription → Walk
+walk_after_put s job w sub =
     if is_open sub.conn w.clients
     then (if fits (client_at sub.conn w.clients) (due_entry s.shard job None sub)
-    then give (due_entry s.shard job None sub) sub w
-    else shut_slow s.subs sub.conn w)
+    then walk_with_entry (due_entry s.shard job None sub) sub w
+    else walk_with_shut s.subs sub.conn w)
     else w
 
 abbrev pub walk : State → Job → List Subscription → Walk → Walk
 walk s job [] w = w
-walk s job (sub ∷ subs) w = walk s job subs (put_one s job w sub)
+walk s job (sub ∷ subs) w = walk s job subs (walk_after_put s job w sub)
 
 -- the open plain subscriptions that match and are permitted, in order of their serials, each once (profile)
 abbrev pub is_due : Job → Subscription → Bool
 is_due job sub = is_plain sub && is_wanted job sub
 
-abbrev pub walked : State → Job → Walk
-walked s job = walk s job (filter (is_due job) s.subs) (first_step s.clients)
+abbrev pub whole_walk : State → Job → Walk
+whole_walk s job = walk s job (filter (is_due job) s.subs) (first_step s.clients)
 
 -- ---- the state after entries were given
 
-abbrev pub counted : List ℕ → Subscription → Subscription
-counted given sub = if list_any (nat_eq sub.serial) given then record sub { delivered = sub.delivered + 1 } else sub
+abbrev pub sub_with_count : List ℕ → Subscription → Subscription
+sub_with_count given sub = if list_any (nat_eq sub.serial) given then record sub { delivered = sub.delivered + 1 } else sub
 
 abbrev pub after_walk : State → Walk → State
-after_walk s w = without w.ended (record s { clients = w.clients; subs = map (counted (serials_of w.given)) s.subs })
+after_walk s w = without_subs w.ended (record s { clients = w.clients; subs = map (sub_with_count (serials_of w.given)) s.subs })
 
-abbrev pub begun : State → Job → State
-begun s job = after_walk (record s { hand = Some job; next_index = 0 }) (walked s job)
+abbrev pub after_begin : State → Job → State
+after_begin s job = after_walk (record s { hand = Some job; next_index = 0 }) (whole_walk s job)
 
 -- ---- Claim
 
@@ -112,27 +112,27 @@ begun s job = after_walk (record s { hand = Some job; next_index = 0 }) (walked 
 abbrev pub is_candidate : State → Job → List ℕ → Subscription → Bool
 is_candidate s job name sub = is_named name sub.key.queue && (is_wanted job sub && fits (client_at sub.conn s.clients) (due_entry s.shard job (Some name) sub))
 
-abbrev pub chosen : ℕ → List Subscription → Option Subscription
-chosen turn subs = slice_get subs (turn % length subs)
+abbrev pub member_for_turn : ℕ → List Subscription → Option Subscription
+member_for_turn turn subs = slice_get subs (turn % length subs)
 
 abbrev pub candidate_named : State → Job → Option (List ℕ) → Option Subscription
 candidate_named s job None = None
-candidate_named s job (Some name) = chosen job.turn (filter (is_candidate s job name) s.subs)
+candidate_named s job (Some name) = member_for_turn job.turn (filter (is_candidate s job name) s.subs)
 
 abbrev pub candidate_of : State → Option Job → ℕ → Option Subscription
 candidate_of s None index = None
 candidate_of s (Some job) index = candidate_named s job (slice_get job.queues index)
 
 -- the index was tried
-abbrev pub tried : State → State
-tried s = record s { next_index = s.next_index + 1 }
+abbrev pub after_try : State → State
+after_try s = record s { next_index = s.next_index + 1 }
 
 -- the member gets its entry
-abbrev pub placed_one : State → Job → Subscription → State
-placed_one s job sub = after_walk s (give (due_entry s.shard job sub.key.queue sub) sub (first_step s.clients))
+abbrev pub after_put : State → Job → Subscription → State
+after_put s job sub = after_walk s (walk_with_entry (due_entry s.shard job sub.key.queue sub) sub (first_step s.clients))
 
 -- only a claim that is won places; without a candidate none is made
-abbrev pub claimed : State → Option Job → Option Subscription → Bool → State
-claimed s None sub won = s
-claimed s (Some job) None won = tried s
-claimed s (Some job) (Some sub) won = if won then placed_one (tried s) job sub else tried s
+abbrev pub after_claim : State → Option Job → Option Subscription → Bool → State
+after_claim s None sub won = s
+after_claim s (Some job) None won = after_try s
+after_claim s (Some job) (Some sub) won = if won then after_put (after_try s) job sub else after_try s

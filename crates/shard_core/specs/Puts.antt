@@ -7,7 +7,7 @@ use Rattle.sub_table.specs.declared.Subscription.{Subscription}
 use Rattle.subj.specs.declared.jobs.Job.{Job}
 use Rattle.shard_core.specs.declared.calls.Placed.{Placed}
 use Rattle.shard_core.specs.Shards.{State, waits_for}
-use Rattle.shard_core.specs.Owed.{Walk, walked, slow_consumer, candidate_of, placed_for}
+use Rattle.shard_core.specs.Owed.{Walk, whole_walk, slow_consumer, candidate_of, placed_for}
 use Rattle.shard_core.specs.ShardEvents.{Event, Attach, Subscribe, Unsubscribe, Reply, Shut, Detach, Take, Begin, Claim, End, DropJob, Collect}
 use Rattle.shard_core.specs.ShardSteps.{answer_fits, shard_refusal, shard_after}
 
@@ -32,7 +32,7 @@ put_by s (Reply conn frame) = if answer_fits s conn (reply_line frame) then put_
 put_by s (Shut conn text) = put_line (err_line text) conn ∷ []
 put_by s (Detach conn) = []
 put_by s (Take conn count) = []
-put_by s (Begin job) = put_by_walk s job (walked s job)
+put_by s (Begin job) = put_by_walk s job (whole_walk s job)
 put_by s (Claim index won) = put_by_claim s s.hand (candidate_of s s.hand index) won
 put_by s End = []
 put_by s (DropJob waiting) = []

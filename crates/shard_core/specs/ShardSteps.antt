@@ -13,15 +13,15 @@ use Rattle.subj.specs.declared.keys.Key.{Key}
 use Rattle.subj.specs.declared.limits.TheConstants.{MAX_COUNTER, MAX_SERIAL, SUBSCRIPTIONS, SUBSCRIPTION_BYTES, OUTBOX_ENTRIES, OUTBOX_BYTES}
 use Rattle.shard_core.specs.declared.faults.ShardFault.{ShardFault}
 use Rattle.shard_core.specs.declared.faults.ShardFault.TheVariants.{NoConn, JobInHand, NoJob, WrongTurn, TooManySubs, BadIndex, NotAllTried, Spent}
-use Rattle.shard_core.specs.Shards.{State, Client, is_open, is_known, client_at, changed, detached, fits, waits_for}
+use Rattle.shard_core.specs.Shards.{State, Client, is_open, is_known, client_at, clients_with_change, without_client, fits, waits_for}
 use Rattle.interest.specs.Laws.{opening}
-use Rattle.shard_core.specs.Closings.{id_of, left_of, without, ended_ids}
-use Rattle.shard_core.specs.Owed.{Walk, walked, begun, slow_consumer, candidate_of, claimed, placed_for, ended_by}
+use Rattle.shard_core.specs.Closings.{id_of, left_of, without_subs, ended_ids}
+use Rattle.shard_core.specs.Owed.{Walk, whole_walk, after_begin, slow_consumer, candidate_of, after_claim, placed_for, ended_by}
 use Rattle.shard_core.specs.ShardEvents.{Event, Attach, Subscribe, Unsubscribe, Reply, Shut, Detach, Take, Begin, Claim, End, DropJob, Collect, Answer, Attached, Opened, AlreadyOpen, Unsubscribed, Replied, WasShut, Detached, Taken, Began, Nobody, Lost, Won, Finished, Dropped, Collected}
 
 -- what the connection calls by this id
-abbrev pub called : ℕ → List ℕ → List Subscription → Option Subscription
-called conn sid subs = find (is_called conn sid) subs
+abbrev pub sub_called : ℕ → List ℕ → List Subscription → Option Subscription
+sub_called conn sid subs = find (is_called conn sid) subs
 
 -- ---- why an event is refused, the first cause first (profile)
 
@@ -41,7 +41,7 @@ known_refusal s conn = if is_known conn s.clients then None else Some NoConn
 abbrev pub subscribe_refusal : State → ℕ → Key → List ℕ → Option ShardFault
 subscribe_refusal s conn key sid =
     if not (is_open conn s.clients) then Some NoConn
-    else (if is_some (called conn sid s.subs) then None
+    else (if is_some (sub_called conn sid s.subs) then None
     else (if is_full s key then Some TooManySubs
     else (if nat_le MAX_SERIAL s.opened then Some Spent else None)))
 
@@ -78,16 +78,16 @@ shard_refusal s Collect = None
 abbrev pub new_client : ℕ → Client
 new_client number = record { number = number; outbox = empty_backlog; max_entries = OUTBOX_ENTRIES; max_bytes = OUTBOX_BYTES }
 
-abbrev pub attached : State → State
-attached s = record s { next_conn = s.next_conn + s.shards; clients = s.clients ++ new_client s.next_conn ∷ [] }
+abbrev pub after_attach : State → State
+after_attach s = record s { next_conn = s.next_conn + s.shards; clients = s.clients ++ new_client s.next_conn ∷ [] }
 
 abbrev pub new_sub : State → ℕ → Key → List ℕ → Subscription
 new_sub s conn key sid = record { serial = s.opened + 1; conn = conn; key = key; sid = sid; delivered = 0; max = None }
 
 -- NATS documentation, "Client Protocol", `SUB`; profile: a sid that is open changes nothing
-abbrev pub subscribed : State → Subscription → Option Subscription → State
-subscribed s sub (Some same) = s
-subscribed s sub None = record s { opened = s.opened + 1; subs = s.subs ++ sub ∷ []; deltas = s.deltas ++ opening sub.key ∷ [] }
+abbrev pub after_subscribe : State → Subscription → Option Subscription → State
+after_subscribe s sub (Some same) = s
+after_subscribe s sub None = record s { opened = s.opened + 1; subs = s.subs ++ sub ∷ []; deltas = s.deltas ++ opening sub.key ∷ [] }
 
 -- NATS documentation, "Client Protocol", `UNSUB`: at once, or once so many messages were delivered; profile: a sid that is
 -- not open changes nothing, and a later maximum replaces an earlier one
@@ -95,27 +95,27 @@ abbrev pub ended_now : Option ℕ → Subscription → Bool
 ended_now None sub = true
 ended_now (Some max) sub = nat_le max sub.delivered
 
-abbrev pub unsubscribed : State → Option ℕ → Option Subscription → State
-unsubscribed s max None = s
-unsubscribed s max (Some sub) = if ended_now max sub then without (sub.serial ∷ []) s else record s { subs = with_max sub.serial max s.subs }
+abbrev pub after_unsubscribe : State → Option ℕ → Option Subscription → State
+after_unsubscribe s max None = s
+after_unsubscribe s max (Some sub) = if ended_now max sub then without_subs (sub.serial ∷ []) s else record s { subs = with_max sub.serial max s.subs }
 
 -- a connection is shut: its last line is put, and all its subscriptions close
 abbrev pub was_shut : State → ℕ → List ℕ → State
-was_shut s conn line = without (left_of conn [] s.subs) (record s { clients = changed (with_last line) conn s.clients })
+was_shut s conn line = without_subs (left_of conn [] s.subs) (record s { clients = clients_with_change (with_last line) conn s.clients })
 
 -- an answer is put, or for want of room its connection is shut
 abbrev pub answer_fits : State → ℕ → List ℕ → Bool
 answer_fits s conn line = fits (client_at conn s.clients) (reply_entry line)
 
-abbrev pub replied : State → ℕ → List ℕ → State
-replied s conn line =
+abbrev pub after_reply : State → ℕ → List ℕ → State
+after_reply s conn line =
     if answer_fits s conn line
-    then record s { clients = changed (with_entry (reply_entry line)) conn s.clients }
+    then record s { clients = clients_with_change (with_entry (reply_entry line)) conn s.clients }
     else was_shut s conn slow_consumer
 
 -- a connection goes, and all its subscriptions close
 abbrev pub was_detached : State → ℕ → State
-was_detached s conn = without (left_of conn [] s.subs) (record s { clients = detached conn s.clients })
+was_detached s conn = without_subs (left_of conn [] s.subs) (record s { clients = without_client conn s.clients })
 
 -- a job is done, and with it its turn
 abbrev pub done_with : State → Option Job → State
@@ -123,24 +123,24 @@ done_with s None = s
 done_with s (Some job) = record s { finished = job.turn; hand = None; next_index = 0 }
 
 abbrev pub shard_after : State → Event → State
-shard_after s Attach = attached s
-shard_after s (Subscribe conn key sid) = subscribed s (new_sub s conn key sid) (called conn sid s.subs)
-shard_after s (Unsubscribe conn sid max) = unsubscribed s max (called conn sid s.subs)
-shard_after s (Reply conn frame) = replied s conn (reply_line frame)
+shard_after s Attach = after_attach s
+shard_after s (Subscribe conn key sid) = after_subscribe s (new_sub s conn key sid) (sub_called conn sid s.subs)
+shard_after s (Unsubscribe conn sid max) = after_unsubscribe s max (sub_called conn sid s.subs)
+shard_after s (Reply conn frame) = after_reply s conn (reply_line frame)
 shard_after s (Shut conn text) = was_shut s conn (err_line text)
 shard_after s (Detach conn) = was_detached s conn
-shard_after s (Take conn count) = record s { clients = changed (without_first count) conn s.clients }
-shard_after s (Begin job) = begun s job
-shard_after s (Claim index won) = claimed s s.hand (candidate_of s s.hand index) won
+shard_after s (Take conn count) = record s { clients = clients_with_change (without_first count) conn s.clients }
+shard_after s (Begin job) = after_begin s job
+shard_after s (Claim index won) = after_claim s s.hand (candidate_of s s.hand index) won
 shard_after s End = done_with s s.hand
 shard_after s (DropJob waiting) = done_with s (option_or s.hand waiting)
 shard_after s Collect = record s { deltas = [] }
 
 -- ---- what is answered
 
-abbrev pub subscribed_answer : State → Option Subscription → Answer
-subscribed_answer s (Some same) = AlreadyOpen
-subscribed_answer s None = Opened (id_of s.shard (s.opened + 1))
+abbrev pub subscribe_answer : State → Option Subscription → Answer
+subscribe_answer s (Some same) = AlreadyOpen
+subscribe_answer s None = Opened (id_of s.shard (s.opened + 1))
 
 abbrev pub ended_by_unsubscribe : Option ℕ → Option Subscription → List ℕ
 ended_by_unsubscribe max None = []
@@ -149,25 +149,25 @@ ended_by_unsubscribe max (Some sub) = if ended_now max sub then sub.serial ∷ [
 abbrev pub ended_by_reply : State → ℕ → List ℕ → List ℕ
 ended_by_reply s conn line = if answer_fits s conn line then [] else left_of conn [] s.subs
 
-abbrev pub began_answer : State → Job → Walk → Answer
-began_answer s job w = Began (map (placed_for s.shard job None) w.given) w.shut (ended_ids s.shard w.ended)
+abbrev pub begin_answer : State → Job → Walk → Answer
+begin_answer s job w = Began (map (placed_for s.shard job None) w.given) w.shut (ended_ids s.shard w.ended)
 
-abbrev pub claimed_answer : State → Option Job → Option Subscription → Bool → Answer
-claimed_answer s None sub won = Nobody
-claimed_answer s (Some job) None won = Nobody
-claimed_answer s (Some job) (Some sub) won =
+abbrev pub claim_answer : State → Option Job → Option Subscription → Bool → Answer
+claim_answer s None sub won = Nobody
+claim_answer s (Some job) None won = Nobody
+claim_answer s (Some job) (Some sub) won =
     if won then Won (id_of s.shard sub.serial) (placed_for s.shard job sub.key.queue sub) (ended_ids s.shard (ended_by sub)) else Lost
 
 abbrev pub shard_answer : State → Event → Answer
 shard_answer s Attach = Attached s.next_conn
-shard_answer s (Subscribe conn key sid) = subscribed_answer s (called conn sid s.subs)
-shard_answer s (Unsubscribe conn sid max) = Unsubscribed (ended_ids s.shard (ended_by_unsubscribe max (called conn sid s.subs)))
+shard_answer s (Subscribe conn key sid) = subscribe_answer s (sub_called conn sid s.subs)
+shard_answer s (Unsubscribe conn sid max) = Unsubscribed (ended_ids s.shard (ended_by_unsubscribe max (sub_called conn sid s.subs)))
 shard_answer s (Reply conn frame) = Replied (not (answer_fits s conn (reply_line frame))) (ended_ids s.shard (ended_by_reply s conn (reply_line frame)))
 shard_answer s (Shut conn text) = WasShut (ended_ids s.shard (left_of conn [] s.subs))
 shard_answer s (Detach conn) = Detached (ended_ids s.shard (left_of conn [] s.subs))
 shard_answer s (Take conn count) = Taken (take count (waits_for conn s.clients))
-shard_answer s (Begin job) = began_answer s job (walked s job)
-shard_answer s (Claim index won) = claimed_answer s s.hand (candidate_of s s.hand index) won
+shard_answer s (Begin job) = begin_answer s job (whole_walk s job)
+shard_answer s (Claim index won) = claim_answer s s.hand (candidate_of s s.hand index) won
 shard_answer s End = Finished
 shard_answer s (DropJob waiting) = Dropped (option_or s.hand waiting)
 shard_answer s Collect = Collected s.deltas
@@ -182,7 +182,7 @@ shut_by s (Reply conn frame) = if answer_fits s conn (reply_line frame) then [] 
 shut_by s (Shut conn text) = conn ∷ []
 shut_by s (Detach conn) = []
 shut_by s (Take conn count) = []
-shut_by s (Begin job) = (walked s job).shut
+shut_by s (Begin job) = (whole_walk s job).shut
 shut_by s (Claim index won) = []
 shut_by s End = []
 shut_by s (DropJob waiting) = []

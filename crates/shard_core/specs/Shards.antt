@@ -57,13 +57,13 @@ is_known number clients = is_some (client_at number clients)
 abbrev pub with_outbox : (Backlog → Backlog) → Client → Client
 with_outbox change client = record client { outbox = change client.outbox }
 
-abbrev pub changed : (Backlog → Backlog) → ℕ → List Client → List Client
-changed change number [] = []
-changed change number (client ∷ clients) = if has_number number client then with_outbox change client ∷ clients else client ∷ changed change number clients
+abbrev pub clients_with_change : (Backlog → Backlog) → ℕ → List Client → List Client
+clients_with_change change number [] = []
+clients_with_change change number (client ∷ clients) = if has_number number client then with_outbox change client ∷ clients else client ∷ clients_with_change change number clients
 
 -- the list without the connection
-abbrev pub detached : ℕ → List Client → List Client
-detached number clients = filter (λ client. not (has_number number client)) clients
+abbrev pub without_client : ℕ → List Client → List Client
+without_client number clients = filter (λ client. not (has_number number client)) clients
 
 -- an entry may be put: the connection is there and not shut, and both limits allow it (profile)
 abbrev pub room_of : Client → ℕ → Bool

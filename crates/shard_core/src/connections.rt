@@ -3,8 +3,8 @@
 ghost use Rattle.std.specs.Prelude.{map, filter, not, ◌≡◌, ◌==◌, ◌≤◌, ◌+◌, ◌<◌, ◌^◌, ◌++◌, ◌∷◌, [], true, false, position, take, length, All, IsTrue, IfOk, OnOk, OnErr};
 ghost use Rattle.std.specs.Option.{option_map, option_copied};
 ghost use Rattle.outbox.specs.Views.{with_entry, with_last, without_first, reply_entry, message_entry, bytes_of_all};
-ghost use Rattle.shard_core.specs.Boxes.{AreRising, AreConns, IsSettled, IsSettledAt, on_both, seen, shown_shelf, next_shelf, number_of};
-ghost use Rattle.shard_core.specs.Shards.{is_open as opened, is_known as known, client_at, changed, detached, fits, fits_len, waits_for};
+ghost use Rattle.shard_core.specs.Boxes.{AreRising, AreConns, IsSettled, IsSettledAt, on_both, client_in_view, shown_backlog, next_backlog, number_of};
+ghost use Rattle.shard_core.specs.Shards.{is_open as opened, is_known as known, client_at, clients_with_change, without_client, fits, fits_len, waits_for};
 ghost use Rattle.shard_core.specs.ShardSteps.{new_client};
 
 use crate::recipients::Recipients;
@@ -33,7 +33,7 @@ fn place_of(conns: &[Conn], number: u64) -> Option<usize>
 #[tactic(auto, using(crate::proofs::Clients::Lookups::numbers_stay))]
 fn commit_at(conns: &mut [Conn], place: usize)
     ensures numbers { map number_of conns.new ≡ map number_of conns.old }
-    ensures next { map (seen next_shelf) conns.new ≡ map (seen next_shelf) conns.old }
+    ensures next { map (client_in_view next_backlog) conns.new ≡ map (client_in_view next_backlog) conns.old }
     ensures settled { IsSettledAt place conns.old conns.new }
 {
     if place < conns.len() {
@@ -45,8 +45,8 @@ fn commit_at(conns: &mut [Conn], place: usize)
 /// Shows what was staged, which stands at these places and nowhere else.
 fn commit_all(conns: &mut [Conn], places: &[usize])
     requires { AreConns places.now conns.old }
-    ensures shown { map (seen shown_shelf) conns.new ≡ map (seen next_shelf) conns.old }
-    ensures next { map (seen next_shelf) conns.new ≡ map (seen next_shelf) conns.old }
+    ensures shown { map (client_in_view shown_backlog) conns.new ≡ map (client_in_view next_backlog) conns.old }
+    ensures next { map (client_in_view next_backlog) conns.new ≡ map (client_in_view next_backlog) conns.old }
     ensures settled { AreConns [] conns.new }
 {
     for place in places {
@@ -58,7 +58,7 @@ fn commit_all(conns: &mut [Conn], places: &[usize])
 #[tactic(auto, using(crate::proofs::Clients::Lookups::numbers_stay))]
 fn rollback_at(conns: &mut [Conn], place: usize)
     ensures numbers { map number_of conns.new ≡ map number_of conns.old }
-    ensures shown { map (seen shown_shelf) conns.new ≡ map (seen shown_shelf) conns.old }
+    ensures shown { map (client_in_view shown_backlog) conns.new ≡ map (client_in_view shown_backlog) conns.old }
     ensures settled { IsSettledAt place conns.old conns.new }
 {
     if place < conns.len() {
@@ -70,8 +70,8 @@ fn rollback_at(conns: &mut [Conn], place: usize)
 /// Drops what was staged, which stands at these places and nowhere else.
 fn rollback_all(conns: &mut [Conn], places: &[usize])
     requires { AreConns places.now conns.old }
-    ensures shown { map (seen shown_shelf) conns.new ≡ map (seen shown_shelf) conns.old }
-    ensures next { map (seen next_shelf) conns.new ≡ map (seen shown_shelf) conns.old }
+    ensures shown { map (client_in_view shown_backlog) conns.new ≡ map (client_in_view shown_backlog) conns.old }
+    ensures next { map (client_in_view next_backlog) conns.new ≡ map (client_in_view shown_backlog) conns.old }
     ensures settled { AreConns [] conns.new }
 {
     for place in places {
@@ -88,10 +88,10 @@ fn place_in(conns: &Vec<Conn>, conn: ConnId) -> Option<usize>
 }
 
 /// The connection, where it is there.
-fn found(conns: &Vec<Conn>, conn: ConnId) -> Option<&Conn>
+fn conn_of(conns: &Vec<Conn>, conn: ConnId) -> Option<&Conn>
     requires { AreRising conns.now.items }
-    ensures shown { option_map (seen shown_shelf) (option_copied result) ≡ client_at conn (map (seen shown_shelf) conns.now.items) }
-    ensures next { option_map (seen next_shelf) (option_copied result) ≡ client_at conn (map (seen next_shelf) conns.now.items) }
+    ensures shown { option_map (client_in_view shown_backlog) (option_copied result) ≡ client_at conn (map (client_in_view shown_backlog) conns.now.items) }
+    ensures next { option_map (client_in_view next_backlog) (option_copied result) ≡ client_at conn (map (client_in_view next_backlog) conns.now.items) }
 {
     match place_in(conns, conn) {
         None => None,
@@ -141,9 +141,9 @@ impl Model for Conns {
     ghost Value = { Clients };
 
     ghost use Rattle.std.specs.Prelude.{map};
-    ghost use Rattle.shard_core.specs.Boxes.{AreConns, seen, shown_shelf, next_shelf};
+    ghost use Rattle.shard_core.specs.Boxes.{AreConns, client_in_view, shown_backlog, next_backlog};
 
-    ghost view = { λ c. record { shown = map (seen shown_shelf) c.conns.items; next = map (seen next_shelf) c.conns.items } };
+    ghost view = { λ c. record { shown = map (client_in_view shown_backlog) c.conns.items; next = map (client_in_view next_backlog) c.conns.items } };
 
     ghost invariant = { λ c. AreConns c.places.items c.conns.items };
 }
@@ -180,14 +180,14 @@ impl Conns {
     pub fn is_known(&self, conn: ConnId) -> bool
         ensures { result ≡ known conn self.now.shown }
     {
-        found(&self.conns, conn).is_some()
+        conn_of(&self.conns, conn).is_some()
     }
 
     /// Whether the connection is there and not shut.
     pub fn is_open(&self, conn: ConnId) -> bool
         ensures { result ≡ opened conn self.now.shown }
     {
-        match found(&self.conns, conn) {
+        match conn_of(&self.conns, conn) {
             None => false,
             Some(conn) => !conn.outbox.is_shut(),
         }
@@ -197,7 +197,7 @@ impl Conns {
     pub fn has_nothing_for(&self, conn: ConnId) -> bool
         ensures { result ≡ (length (waits_for conn self.now.shown) == 0) }
     {
-        match found(&self.conns, conn) {
+        match conn_of(&self.conns, conn) {
             None => true,
             Some(conn) => conn.outbox.is_empty(),
         }
@@ -207,7 +207,7 @@ impl Conns {
     pub fn stays_open(&self, conn: ConnId) -> bool
         ensures { result ≡ opened conn self.now.next }
     {
-        match found(&self.conns, conn) {
+        match conn_of(&self.conns, conn) {
             None => false,
             Some(conn) => !conn.outbox.is_closing(),
         }
@@ -218,7 +218,7 @@ impl Conns {
     pub fn has_room(&self, conn: ConnId, len: usize) -> bool
         ensures { result ≡ fits_len (client_at conn self.now.next) len }
     {
-        match found(&self.conns, conn) {
+        match conn_of(&self.conns, conn) {
             None => false,
             Some(conn) => conn.outbox.room(len),
         }
@@ -228,7 +228,7 @@ impl Conns {
     pub fn stage(&mut self, conn: ConnId, entry: Entry) -> Result<(), AllocError>
         requires { IsTrue (fits (client_at conn self.old.next) entry) }
         ensures shown { self.new.shown ≡ self.old.shown }
-        ensures ok { OnOk result (self.new.next ≡ changed (with_entry entry) conn self.old.next) }
+        ensures ok { OnOk result (self.new.next ≡ clients_with_change (with_entry entry) conn self.old.next) }
         ensures err { OnErr result (self.new.next ≡ self.old.next) }
     {
         if let Some(place) = place_in(&self.conns, conn) {
@@ -254,7 +254,7 @@ impl Conns {
         requires fits { length line.now + length payload.now + 4 < 2 ^ 64 }
         requires room { IsTrue (fits (client_at conn self.old.next) (message_entry id sub mode line.now payload.now)) }
         ensures shown { self.new.shown ≡ self.old.shown }
-        ensures ok { OnOk result (self.new.next ≡ changed (with_entry (message_entry id sub mode line.now payload.now)) conn self.old.next) }
+        ensures ok { OnOk result (self.new.next ≡ clients_with_change (with_entry (message_entry id sub mode line.now payload.now)) conn self.old.next) }
         ensures err { OnErr result (self.new.next ≡ self.old.next) }
     {
         if let Some(place) = place_in(&self.conns, conn) {
@@ -272,7 +272,7 @@ impl Conns {
         requires once { opened conn self.old.next ≡ true }
         requires small { length line.now ≤ LAST_LINE_TEXT }
         ensures shown { self.new.shown ≡ self.old.shown }
-        ensures ok { OnOk result (self.new.next ≡ changed (with_last line.now) conn self.old.next) }
+        ensures ok { OnOk result (self.new.next ≡ clients_with_change (with_last line.now) conn self.old.next) }
         ensures err { OnErr result (self.new.next ≡ self.old.next) }
     {
         if let Some(place) = place_in(&self.conns, conn) {
@@ -312,7 +312,7 @@ impl Conns {
     pub fn put_reply(&mut self, conn: ConnId, line: &[u8]) -> Result<bool, AllocError>
         requires { IsSettled self.old }
         ensures room { IfOk result (λ put. put ≡ fits (client_at conn self.old.shown) (reply_entry line.now)) }
-        ensures put { IfOk result (λ put. put ≡ true → self.new ≡ on_both (changed (with_entry (reply_entry line.now)) conn) self.old) }
+        ensures put { IfOk result (λ put. put ≡ true → self.new ≡ on_both (clients_with_change (with_entry (reply_entry line.now)) conn) self.old) }
         ensures full { IfOk result (λ put. put ≡ false → self.new ≡ self.old) }
         ensures err { OnErr result (self.new ≡ self.old) }
     {
@@ -334,7 +334,7 @@ impl Conns {
         requires settled { IsSettled self.old }
         requires once { opened conn self.old.shown ≡ true }
         requires small { length line.now ≤ LAST_LINE_TEXT }
-        ensures { self.new ≡ on_both (changed (with_last line.now) conn) self.old }
+        ensures { self.new ≡ on_both (clients_with_change (with_last line.now) conn) self.old }
     {
         if let Some(place) = place_in(&self.conns, conn) {
             note(&mut self.recipients, &self.conns, place, conn);
@@ -348,7 +348,7 @@ impl Conns {
     pub fn take(&mut self, conn: ConnId, count: usize) -> Result<Vec<Entry>, AllocError>
         requires { IsSettled self.old }
         ensures given { IfOk result (λ entries. entries.items ≡ take count (waits_for conn self.old.shown)) }
-        ensures ok { OnOk result (self.new ≡ on_both (changed (without_first count) conn) self.old) }
+        ensures ok { OnOk result (self.new ≡ on_both (clients_with_change (without_first count) conn) self.old) }
         ensures err { OnErr result (self.new ≡ self.old) }
     {
         match place_in(&self.conns, conn) {
@@ -373,7 +373,7 @@ impl Conns {
         requires { IsSettled self.old }
         ensures taken { IfOk result (λ taken. taken ≡ length (take count (waits_for conn self.old.shown))) }
         ensures bytes { OnOk result (out.new.items ≡ out.old.items ++ bytes_of_all (take count (waits_for conn self.old.shown))) }
-        ensures ok { OnOk result (self.new ≡ on_both (changed (without_first count) conn) self.old) }
+        ensures ok { OnOk result (self.new ≡ on_both (clients_with_change (without_first count) conn) self.old) }
         ensures err { OnErr result (self.new ≡ self.old) }
         ensures out { OnErr result (out.new.items ≡ out.old.items) }
     {
@@ -404,7 +404,7 @@ impl Conns {
     /// The connection goes, with all that waits for it. Takes no memory.
     pub fn detach(&mut self, conn: ConnId)
         requires { IsSettled self.old }
-        ensures { self.new ≡ on_both (detached conn) self.old }
+        ensures { self.new ≡ on_both (without_client conn) self.old }
     {
         self.places.clear();
         remove(&mut self.conns, conn.get());

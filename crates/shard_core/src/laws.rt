@@ -12,7 +12,7 @@ ghost use Rattle.shard_core.specs.Shards.{State};
 
 /// Each event of a shard that is not refused is a step of the cluster law's shard: what it opens, what it closes, and which
 /// messages it places for which subscriptions. Jobs are begun in order of turns, and open serials stay apart.
-pub fn shard_follows()
+pub fn shards_follow_the_law()
     ensures { ShardFollows }
 {}
 

@@ -10,23 +10,22 @@
 //! ```
 //!
 //! In reading order: `shard` has the calls, `calls` their answers, and `shard/refusals` why they are refused; `connections` keeps the
-//! outboxes, `openings` the open subscriptions; `walk` is what Begin places, `claim` with `members` the choice of one member.
+//! outboxes, `openings` the open subscriptions; `tally` is what Begin places, `queue_claim` with `members` the choice of one member.
 #![tactic(auto)]
 
 mod calls;
-mod claim;
 mod connections;
 mod examples;
 mod faults;
 mod laws;
 mod members;
 mod openings;
+mod queue_claim;
 mod recipients;
 mod shard;
-mod walk;
+mod tally;
 
 pub use calls::{BeginFault, Begun, Candidate, Closed, Placed, Subscribed};
-pub use claim::claims_are_whole;
 pub use connections::Conns;
 pub use examples::{
     an_outbox_is_filled, claims_place_once, maxima_are_kept, members_take_turns, openings_are_told,
@@ -35,8 +34,9 @@ pub use examples::{
 pub use faults::ShardFault;
 pub use laws::{
     closings_are_told, entries_are_messages, entries_are_put, limits_stay, numbers_tell_shards,
-    room_decides, shard_follows, subs_close_by_cause, subs_go_on, subs_stay_held,
+    room_decides, shards_follow_the_law, subs_close_by_cause, subs_go_on, subs_stay_held,
 };
 pub use openings::Openings;
+pub use queue_claim::claims_are_whole;
 pub use recipients::Recipients;
 pub use shard::Shard;

@@ -179,14 +179,14 @@ impl<T: SubTable> Openings<T> {
         match self.members.of(subject) {
             None => self.table.matching(subject),
             Some(members) => {
-                let subs = self.found(members, mark_of(name.bytes()))?;
+                let subs = self.subs_of_mark(members, mark_of(name.bytes()))?;
                 Ok(subs)
             }
         }
     }
 
     /// The open ones among the members of this mark, in order.
-    fn found(&self, members: &[Member], mark: u64) -> Result<Vec<&Subscription>, AllocError>
+    fn subs_of_mark(&self, members: &[Member], mark: u64) -> Result<Vec<&Subscription>, AllocError>
         ensures { IfOk result (λ subs. lent_subs subs.items ≡ found_of self.now.subs mark members.now) }
     {
         let mut subs = Vec::new(self.alloc);

@@ -10,21 +10,21 @@ ghost use Rattle.client_frames.specs.Frames.{reply_line as line_of_reply};
 ghost use Rattle.outbox.specs.Views.{reply_entry, with_entry, with_last};
 ghost use Rattle.shard_core.specs.Boxes.{IsSettled, on_both};
 ghost use Rattle.shard_core.specs.Closings.{left_of, ended_ids};
-ghost use Rattle.shard_core.specs.Held.{DoesStep, IsLeft, Chooses, Stands, settled, serial_told, placed_chosen, ended_by_chosen};
+ghost use Rattle.shard_core.specs.Held.{DoesStep, IsLeft, Chooses, Stands, held_at_rest, serial_told, after_put_chosen, ended_by_chosen};
 ghost use Rattle.shard_core.specs.Opened.{AreApart, AreRising, with_closings};
-ghost use Rattle.shard_core.specs.Shards.{new_shard, changed, client_at, fits, is_open as opened, waits_for};
+ghost use Rattle.shard_core.specs.Shards.{new_shard, clients_with_change, client_at, fits, is_open as opened, waits_for};
 ghost use Rattle.shard_core.specs.ShardEvents.{Attach, Subscribe, Unsubscribe, Reply, Shut, Detach, Take, Begin, Claim, End, DropJob, Collect, Attached, Unsubscribed, Replied, WasShut, Detached, Taken, Finished, Dropped, Collected};
-ghost use Rattle.shard_core.specs.ShardSteps.{shard_refusal, called as call, ended_now, IsHanded};
+ghost use Rattle.shard_core.specs.ShardSteps.{shard_refusal, sub_called as call, ended_now, IsHanded};
 
 mod refusals;
 
 use crate::calls::{BeginFault, Begun, Candidate, Closed, Subscribed};
-use crate::claim::{QueueClaim, choose};
 use crate::connections::Conns;
 use crate::faults::ShardFault;
 use crate::openings::Openings;
+use crate::queue_claim::{QueueClaim, choose};
 use crate::recipients::Recipients;
-use crate::walk::{Tally, is_last, place_all, sub_ids};
+use crate::tally::{Tally, is_last, place_all, sub_ids};
 use client_frames::{ErrText, ReplyFrame, reply_line};
 use interest::Delta;
 use outbox::{Entry, LAST_LINE_TEXT};
@@ -71,7 +71,7 @@ fn put_answer(
 ) -> Result<bool, AllocError>
     requires { IsSettled conns.old }
     ensures room { IfOk result (λ put. put ≡ fits (client_at conn conns.old.shown) (reply_entry (line_of_reply frame.now))) }
-    ensures put { IfOk result (λ put. put ≡ true → conns.new ≡ on_both (changed (with_entry (reply_entry (line_of_reply frame.now))) conn) conns.old) }
+    ensures put { IfOk result (λ put. put ≡ true → conns.new ≡ on_both (clients_with_change (with_entry (reply_entry (line_of_reply frame.now))) conn) conns.old) }
     ensures full { IfOk result (λ put. put ≡ false → conns.new ≡ conns.old) }
     ensures err { OnErr result (conns.new ≡ conns.old) }
 {
@@ -90,11 +90,11 @@ fn shut_with<T: SubTable>(
     conn: ConnId,
     line: &[u8],
 ) -> Result<Vec<SubId>, AllocError>
-    requires settled { IsSettled conns.old }
+    requires held_at_rest { IsSettled conns.old }
     requires once { opened conn conns.old.shown ≡ true }
     requires small { length line.now ≤ LAST_LINE_TEXT }
     ensures ended { IfOk result (λ ended. ended.items ≡ ended_ids shard (left_of conn [] openings.old.subs)) }
-    ensures conns { OnOk result (conns.new ≡ on_both (changed (with_last line.now) conn) conns.old) }
+    ensures conns { OnOk result (conns.new ≡ on_both (clients_with_change (with_last line.now) conn) conns.old) }
     ensures openings { OnOk result (openings.new ≡ with_closings (left_of conn [] openings.old.subs) openings.old) }
     ensures err { OnErr result ((conns.new ≡ conns.old) × (openings.new ≡ openings.old)) }
 {
@@ -132,7 +132,12 @@ fn ends_now(max: Option<u64>, sub: &Subscription) -> bool
 }
 
 /// What the connection calls by this id.
-fn called<T: SubTable>(table: &T, conn: ConnId, sid: &Sid, max: Option<u64>) -> Option<CalledSub>
+fn called_sub<T: SubTable>(
+    table: &T,
+    conn: ConnId,
+    sid: &Sid,
+    max: Option<u64>,
+) -> Option<CalledSub>
     requires { AreRising (T.contents table.now) }
     ensures { result ≡ option_map (call_of max) (call conn sid.now (T.contents table.now)) }
 {
@@ -231,7 +236,7 @@ impl<T: SubTable> Shard<T> {
         requires first { 1 ≤ shard }
         requires last { shard ≤ shards }
         requires few { shards ≤ MAX_SHARDS }
-        ensures { IfOk result (λ s. s ≡ settled (new_shard shard shards)) }
+        ensures { IfOk result (λ s. s ≡ held_at_rest (new_shard shard shards)) }
     {
         let openings = Openings::new(alloc)?;
         Ok(Shard {
@@ -324,7 +329,7 @@ impl<T: SubTable> Shard<T> {
         if !self.conns.is_open(conn) {
             return Err(ShardFault::NoConn);
         }
-        let Some(called) = called(self.openings.table(), conn, sid, max) else {
+        let Some(called) = called_sub(self.openings.table(), conn, sid, max) else {
             return Ok(None);
         };
         if !called.ends {
@@ -529,7 +534,7 @@ impl<T: SubTable> Shard<T> {
     /// message of its maximum, and is given then. Takes no memory.
     pub fn place(&mut self, index: u64) -> Option<SubId>
         requires { Stands index self.old }
-        ensures placed { self.new ≡ settled (placed_chosen self.old.state self.old.state.hand self.old.chosen) }
+        ensures placed { self.new ≡ held_at_rest (after_put_chosen self.old.state self.old.state.hand self.old.chosen) }
         ensures ended { option_to_list result ≡ ended_ids self.old.state.shard (ended_by_chosen self.old.chosen) }
     {
         prove!(index < self.next_index);

@@ -23,12 +23,12 @@ pub fn publication(rt: &impl Abort) -> PubId {
     }
 }
 
-fn copied(rt: &impl Abort, alloc: Global, bytes: &[u8]) -> Vec<u8> {
+fn vec_of(rt: &impl Abort, alloc: Global, bytes: &[u8]) -> Vec<u8> {
     Vec::from_slice(alloc, bytes).ok().expect(rt, "memory")
 }
 
 pub fn reply(rt: &impl Abort, alloc: Global, line: &[u8]) -> Entry {
-    let line = copied(rt, alloc, line);
+    let line = vec_of(rt, alloc, line);
     assert!(rt; line.len() <= OUTBOX_BYTES);
     Entry::reply(line)
 }
@@ -42,7 +42,7 @@ pub fn message(
     payload: &'static [u8],
 ) -> Entry {
     let id = publication(rt);
-    let line = copied(rt, alloc, line);
+    let line = vec_of(rt, alloc, line);
     let payload = Bytes::from_static(payload);
     assert!(rt; line.len() <= OUTBOX_BYTES);
     assert!(rt; payload.len() <= MAX_PAYLOAD);
@@ -63,13 +63,13 @@ pub fn copy_of_tag(rt: &impl Abort, alloc: Global, tag: &Tag) -> Tag {
 
 /// The bytes of the entry behind these.
 pub fn behind(rt: &impl Abort, alloc: Global, before: &[u8], entry: &Entry) -> Vec<u8> {
-    let mut bytes = copied(rt, alloc, before);
+    let mut bytes = vec_of(rt, alloc, before);
     entry.append_to(&mut bytes).ok().expect(rt, "memory");
     bytes
 }
 
 /// The bytes of all the entries, in order.
-pub fn written(rt: &impl Abort, alloc: Global, entries: &[Entry]) -> Vec<u8> {
+pub fn bytes_written(rt: &impl Abort, alloc: Global, entries: &[Entry]) -> Vec<u8> {
     let mut bytes = Vec::new(alloc);
     for entry in entries {
         entry.append_to(&mut bytes).ok().expect(rt, "memory");

@@ -1,7 +1,7 @@
 //! Examples: what entries are written as, the limits to the byte, the last line, taking and staging.
 
 use crate::outbox_driver::{
-    Settled, behind, bytes_of, copy_of, copy_of_tag, message, publication, reply, written,
+    Settled, behind, bytes_of, bytes_written, copy_of, copy_of_tag, message, publication, reply,
 };
 use bytes::Bytes;
 use outbox::{Entry, LAST_LINE_TEXT, Mode, Tag};
@@ -96,7 +96,7 @@ fn copies_of_tags_keep_the_queue_name(rt: HostRuntime) -> Result<(), Fail> {
 }
 
 /// An outbox with these limits in which this many answers `+OK` wait.
-fn filled(
+fn filled_outbox(
     rt: &impl Abort,
     alloc: Global,
     max_entries: usize,
@@ -137,7 +137,7 @@ fn room_ends_at_both_limits(rt: HostRuntime) {
         (OUTBOX_ENTRIES, OUTBOX_BYTES, 1_024, 0, false),
     ];
     for (max_entries, max_bytes, count, len, room) in table {
-        let outbox = filled(&rt, rt.alloc(), max_entries, max_bytes, count);
+        let outbox = filled_outbox(&rt, rt.alloc(), max_entries, max_bytes, count);
         assert_eq!(rt; outbox.len(), count);
         assert_eq!(rt; outbox.is_empty(), count == 0);
         assert_eq!(rt;
@@ -150,7 +150,7 @@ fn room_ends_at_both_limits(rt: HostRuntime) {
 
 #[test]
 fn lines_have_room_with_their_ends(rt: HostRuntime) {
-    let outbox = filled(&rt, rt.alloc(), 3, 10, 1);
+    let outbox = filled_outbox(&rt, rt.alloc(), 3, 10, 1);
     let table: [(&[u8], bool); 3] = [(b"+O", true), (b"+OK", true), (b"PONG", false)];
     for (line, room) in table {
         assert_eq!(rt; outbox.room_for(line), room, "{line:?}");
@@ -160,7 +160,11 @@ fn lines_have_room_with_their_ends(rt: HostRuntime) {
 /// Takes so many entries, whose bytes are to be these.
 fn assert_takes(rt: &impl Abort, alloc: Global, outbox: &mut Settled, count: usize, bytes: &[u8]) {
     let taken = outbox.take(rt, count);
-    assert_eq!(rt; written(rt, alloc, &taken).as_slice(), bytes, "{count}");
+    assert_eq!(rt;
+        bytes_written(rt, alloc, &taken).as_slice(),
+        bytes,
+        "{count}"
+    );
 }
 
 /// The last line makes them so many entries, has no room behind it, and shuts.
@@ -183,7 +187,7 @@ fn assert_empties(
 ) {
     let taken = outbox.take(rt, entries);
     assert_eq!(rt; taken.len(), entries);
-    assert_eq!(rt; written(rt, alloc, &taken).as_slice(), bytes);
+    assert_eq!(rt; bytes_written(rt, alloc, &taken).as_slice(), bytes);
     assert!(rt; outbox.is_empty());
     assert!(rt; outbox.is_shut());
     assert_eq!(rt; outbox.room(0), false, "{bytes:?}");
@@ -207,7 +211,7 @@ fn the_last_line_goes_beyond_both_limits(rt: HostRuntime) {
         ),
     ];
     for (max_entries, max_bytes, count, line, bytes) in table {
-        let mut outbox = filled(&rt, rt.alloc(), max_entries, max_bytes, count);
+        let mut outbox = filled_outbox(&rt, rt.alloc(), max_entries, max_bytes, count);
         let entries = count.saturating_add(1);
         assert_shuts(&rt, &mut outbox, line, entries);
         assert_empties(&rt, rt.alloc(), &mut outbox, entries, bytes);
@@ -216,7 +220,7 @@ fn the_last_line_goes_beyond_both_limits(rt: HostRuntime) {
 
 #[test]
 fn the_last_line_stands_behind_1024_entries(rt: HostRuntime) {
-    let mut outbox = filled(
+    let mut outbox = filled_outbox(
         &rt,
         rt.alloc(),
         OUTBOX_ENTRIES,
@@ -329,7 +333,7 @@ fn staged_entries_are_unseen_until_shown(rt: HostRuntime) {
         (false, 1, true, b"+OK\r\n"),
     ];
     for (is_shown, len, room, bytes) in table {
-        let outbox = filled(&rt, alloc, 3, 100, 1);
+        let outbox = filled_outbox(&rt, alloc, 3, 100, 1);
         let mut staged = outbox.stage(&rt, reply(&rt, alloc, b"a"));
         assert_eq!(rt; staged.len(), 1);
         staged.stage(&rt, reply(&rt, alloc, b"b"));
@@ -351,7 +355,7 @@ fn a_staged_last_line_is_unseen_until_shown(rt: HostRuntime) {
         (false, b"+OK\r\n"),
     ];
     for (is_shown, bytes) in table {
-        let outbox = filled(&rt, alloc, 3, 100, 1);
+        let outbox = filled_outbox(&rt, alloc, 3, 100, 1);
         let mut staged = outbox.stage(&rt, reply(&rt, alloc, b"a"));
         assert!(rt; !staged.is_closing());
         staged.stage_last(&rt, SLOW);

@@ -7,7 +7,7 @@ use std::test::Fail;
 use subj::{Pattern, Subject};
 
 /// The values found for a subject behind a number that was there, in rising order.
-fn found(alloc: Global, trie: &PatternTrie<u64>, subject: &[u8]) -> Result<Vec<u64>, Fail> {
+fn values_for(alloc: Global, trie: &PatternTrie<u64>, subject: &[u8]) -> Result<Vec<u64>, Fail> {
     let subject = Subject::read(alloc, subject)?;
     let mut found = Vec::from_slice(alloc, &[0])?;
     trie.matching(&subject, &mut found)?;
@@ -45,7 +45,7 @@ fn assert_found(
     subject: &[u8],
     values: &[u64],
 ) -> Result<(), Fail> {
-    let found = found(alloc, trie, subject)?;
+    let found = values_for(alloc, trie, subject)?;
     assert_eq!(rt; found.as_slice(), values, "{subject:?}");
     Ok(())
 }

@@ -77,7 +77,11 @@ fn filled<T: SubTable>(rt: &impl Abort, alloc: Global) -> Result<T, Fail>
 }
 
 /// The serials of those that match.
-fn matched<T: SubTable>(alloc: Global, table: &T, subject: &[u8]) -> Result<Vec<u64>, Fail> {
+fn matching_serials<T: SubTable>(
+    alloc: Global,
+    table: &T,
+    subject: &[u8],
+) -> Result<Vec<u64>, Fail> {
     let subject = Subject::read(alloc, subject)?;
     let subs = table.matching(&subject)?;
     let mut serials = Vec::new(alloc);
@@ -88,13 +92,17 @@ fn matched<T: SubTable>(alloc: Global, table: &T, subject: &[u8]) -> Result<Vec<
 }
 
 /// The serials of a connection's, behind a number that was there.
-fn owned<T: SubTable>(alloc: Global, table: &T, conn: u64) -> Result<Vec<u64>, AllocError> {
+fn serials_of_conn<T: SubTable>(
+    alloc: Global,
+    table: &T,
+    conn: u64,
+) -> Result<Vec<u64>, AllocError> {
     let mut serials = Vec::from_slice(alloc, &[77])?;
     table.serials_of(ConnId::new(conn), &mut serials)?;
     Ok(serials)
 }
 
-fn called<T: SubTable>(
+fn called_serial<T: SubTable>(
     alloc: Global,
     table: &T,
     conn: u64,
@@ -121,7 +129,7 @@ fn finds_by_subjects<T: SubTable>(rt: &impl Abort, alloc: Global, table: &T) -> 
     ];
     for (subject, serials) in subjects {
         assert_eq!(rt;
-            matched(alloc, table, subject)?.as_slice(),
+            matching_serials(alloc, table, subject)?.as_slice(),
             serials,
             "{subject:?}"
         );
@@ -143,7 +151,11 @@ fn finds_by_ids<T: SubTable>(rt: &impl Abort, alloc: Global, table: &T) -> Resul
         (1, b"4", None),
     ];
     for (conn, sid, serial) in ids {
-        assert_eq!(rt; called(alloc, table, conn, sid)?, serial, "{conn} {sid:?}");
+        assert_eq!(rt;
+            called_serial(alloc, table, conn, sid)?,
+            serial,
+            "{conn} {sid:?}"
+        );
     }
     Ok(())
 }
@@ -161,7 +173,11 @@ fn finds_by_connections<T: SubTable>(
         (3, &[77]),
     ];
     for (conn, serials) in conns {
-        assert_eq!(rt; owned(alloc, table, conn)?.as_slice(), serials, "{conn}");
+        assert_eq!(rt;
+            serials_of_conn(alloc, table, conn)?.as_slice(),
+            serials,
+            "{conn}"
+        );
     }
     Ok(())
 }
@@ -257,9 +273,9 @@ fn closes_one<T: SubTable>(rt: &impl Abort, table: &mut T) {
 /// What is left behind it.
 fn finds_the_others<T: SubTable>(rt: &impl Abort, alloc: Global, table: &T) -> Result<(), Fail> {
     assert_eq!(rt; table.len(), 4);
-    let serials = matched(alloc, table, b"foo.bar")?;
+    let serials = matching_serials(alloc, table, b"foo.bar")?;
     assert_eq!(rt; serials.as_slice(), [2, 3, 9].as_slice());
-    assert_eq!(rt; called(alloc, table, 1, b"2")?, None);
+    assert_eq!(rt; called_serial(alloc, table, 1, b"2")?, None);
     Ok(())
 }
 
@@ -273,12 +289,18 @@ fn closes_all<T: SubTable>(rt: &impl Abort, table: &mut T) {
 
 /// What is left behind them.
 fn finds_the_last<T: SubTable>(rt: &impl Abort, alloc: Global, table: &T) -> Result<(), Fail> {
-    assert_eq!(rt; owned(alloc, table, 1)?.as_slice(), [77].as_slice());
-    assert_eq!(rt; owned(alloc, table, 2)?.as_slice(), [77, 3, 8].as_slice());
-    let serials = matched(alloc, table, b"foo.bar")?;
+    assert_eq!(rt;
+        serials_of_conn(alloc, table, 1)?.as_slice(),
+        [77].as_slice()
+    );
+    assert_eq!(rt;
+        serials_of_conn(alloc, table, 2)?.as_slice(),
+        [77, 3, 8].as_slice()
+    );
+    let serials = matching_serials(alloc, table, b"foo.bar")?;
     assert_eq!(rt; serials.as_slice(), [3].as_slice());
-    assert_eq!(rt; called(alloc, table, 1, b"1")?, None);
-    assert_eq!(rt; called(alloc, table, 2, b"1")?, Some(3));
+    assert_eq!(rt; called_serial(alloc, table, 1, b"1")?, None);
+    assert_eq!(rt; called_serial(alloc, table, 2, b"1")?, Some(3));
     Ok(())
 }
 
@@ -316,11 +338,11 @@ fn a_closed_id_is_opened_again(rt: HostRuntime) -> Result<(), Fail> {
     let mut table: ListTable = filled(&rt, alloc)?;
     let again = subscription(alloc, 10, 1, (b"foo.*", b"", b"1"))?;
     open(&rt, &mut table, 9, again)?;
-    assert_eq!(rt; called(alloc, &table, 1, b"1")?, Some(2));
+    assert_eq!(rt; called_serial(alloc, &table, 1, b"1")?, Some(2));
     assert!(rt; table.remove(2).is_some());
-    assert_eq!(rt; called(alloc, &table, 1, b"1")?, Some(10));
+    assert_eq!(rt; called_serial(alloc, &table, 1, b"1")?, Some(10));
     assert_eq!(rt;
-        matched(alloc, &table, b"foo.bar")?.as_slice(),
+        matching_serials(alloc, &table, b"foo.bar")?.as_slice(),
         [3, 5, 9, 10].as_slice()
     );
     Ok(())

@@ -8,7 +8,7 @@ use Rattle.std.proofs.lemmas.Bool.{cases_Bool, cond-true, cond-false, and_parts,
 use Rattle.std.proofs.lemmas.Bool.Decides.{nat_tests}
 use Rattle.std.proofs.lemmas.Map.Keys.{IsDistinct-head, IsDistinct-tail}
 use Rattle.sub_table.specs.declared.Subscription.{Subscription}
-use Rattle.sub_trie.specs.Rising.{BySerial, placed, in_order, rows, is_keyed}
+use Rattle.sub_trie.specs.Rising.{BySerial, rows_with, in_order, rows, is_keyed}
 
 abbrev Entry : Type 0
 Entry = ℕ × Subscription
@@ -72,16 +72,16 @@ none_above n (e ∷ es) all =
 -- ---- an entry put where it belongs
 
 module _ (e f : Entry) (es : List Entry) where
-  goes_before : nat_lt e.0 f.0 ≡ true → placed e (f ∷ es) ≡ e ∷ f ∷ es
-  goes_before lt = cond-true (nat_lt e.0 f.0) (e ∷ f ∷ es) (cond (nat_eq e.0 f.0) (e ∷ es) (f ∷ placed e es)) lt
+  goes_before : nat_lt e.0 f.0 ≡ true → rows_with e (f ∷ es) ≡ e ∷ f ∷ es
+  goes_before lt = cond-true (nat_lt e.0 f.0) (e ∷ f ∷ es) (cond (nat_eq e.0 f.0) (e ∷ es) (f ∷ rows_with e es)) lt
 
-  goes_here : nat_lt e.0 f.0 ≡ false → nat_eq e.0 f.0 ≡ true → placed e (f ∷ es) ≡ e ∷ es
-  goes_here ge so = cond-false (nat_lt e.0 f.0) (e ∷ f ∷ es) (cond (nat_eq e.0 f.0) (e ∷ es) (f ∷ placed e es)) ge ∙ cond-true (nat_eq e.0 f.0) (e ∷ es) (f ∷ placed e es) so
+  goes_here : nat_lt e.0 f.0 ≡ false → nat_eq e.0 f.0 ≡ true → rows_with e (f ∷ es) ≡ e ∷ es
+  goes_here ge so = cond-false (nat_lt e.0 f.0) (e ∷ f ∷ es) (cond (nat_eq e.0 f.0) (e ∷ es) (f ∷ rows_with e es)) ge ∙ cond-true (nat_eq e.0 f.0) (e ∷ es) (f ∷ rows_with e es) so
 
-  goes_behind : nat_lt e.0 f.0 ≡ false → nat_eq e.0 f.0 ≡ false → placed e (f ∷ es) ≡ f ∷ placed e es
-  goes_behind ge other = cond-false (nat_lt e.0 f.0) (e ∷ f ∷ es) (cond (nat_eq e.0 f.0) (e ∷ es) (f ∷ placed e es)) ge ∙ cond-false (nat_eq e.0 f.0) (e ∷ es) (f ∷ placed e es) other
+  goes_behind : nat_lt e.0 f.0 ≡ false → nat_eq e.0 f.0 ≡ false → rows_with e (f ∷ es) ≡ f ∷ rows_with e es
+  goes_behind ge other = cond-false (nat_lt e.0 f.0) (e ∷ f ∷ es) (cond (nat_eq e.0 f.0) (e ∷ es) (f ∷ rows_with e es)) ge ∙ cond-false (nat_eq e.0 f.0) (e ∷ es) (f ∷ rows_with e es) other
 
-lookup_placed : (n : ℕ) (e : Entry) (es : List Entry) → lookup (nat_eq n) (placed e es) ≡ cond (nat_eq n e.0) (Some e.1) (lookup (nat_eq n) es)
+lookup_placed : (n : ℕ) (e : Entry) (es : List Entry) → lookup (nat_eq n) (rows_with e es) ≡ cond (nat_eq n e.0) (Some e.1) (lookup (nat_eq n) es)
 lookup_placed n e [] = refl
 lookup_placed n e (f ∷ es) =
     elim (cases_Bool (nat_lt e.0 f.0)) [
@@ -103,7 +103,7 @@ lookup_order : (n : ℕ) (es : List Entry) → lookup (nat_eq n) (in_order es) �
 lookup_order n [] = refl
 lookup_order n (e ∷ es) = lookup_placed n e (in_order es) ∙ ap (λ o. cond (nat_eq n e.0) (Some e.1) o) (lookup_order n es)
 
-above_placed : (n : ℕ) (e : Entry) (es : List Entry) → nat_lt n e.0 ≡ true → keys_above n es ≡ true → keys_above n (placed e es) ≡ true
+above_placed : (n : ℕ) (e : Entry) (es : List Entry) → nat_lt n e.0 ≡ true → keys_above n es ≡ true → keys_above n (rows_with e es) ≡ true
 above_placed n e [] lt all = and_from (nat_lt n e.0) true lt refl
 above_placed n e (f ∷ es) lt all =
     let first = (and_parts (nat_lt n f.0) (keys_above n es) all).0 in
@@ -113,11 +113,11 @@ above_placed n e (f ∷ es) lt all =
       | inr ge ↦
           elim (cases_Bool (nat_eq e.0 f.0)) [
             | inl so ↦ ap (keys_above n) (goes_here e f es ge so) ∙ and_from (nat_lt n e.0) (keys_above n es) lt rest
-            | inr other ↦ ap (keys_above n) (goes_behind e f es ge other) ∙ and_from (nat_lt n f.0) (keys_above n (placed e es)) first (above_placed n e es lt rest)
+            | inr other ↦ ap (keys_above n) (goes_behind e f es ge other) ∙ and_from (nat_lt n f.0) (keys_above n (rows_with e es)) first (above_placed n e es lt rest)
           ]
     ]
 
-sorted_placed : (e : Entry) (es : List Entry) → is_sorted es ≡ true → is_sorted (placed e es) ≡ true
+sorted_placed : (e : Entry) (es : List Entry) → is_sorted es ≡ true → is_sorted (rows_with e es) ≡ true
 sorted_placed e [] sorted = refl
 sorted_placed e (f ∷ es) sorted =
     let above = (and_parts (keys_above f.0 es) (is_sorted es) sorted).0 in
@@ -127,7 +127,7 @@ sorted_placed e (f ∷ es) sorted =
       | inr ge ↦
           elim (cases_Bool (nat_eq e.0 f.0)) [
             | inl so ↦ ap is_sorted (goes_here e f es ge so) ∙ and_from (keys_above e.0 es) (is_sorted es) (ap (λ k. keys_above k es) (same e.0 f.0 so) ∙ above) rest
-            | inr other ↦ ap is_sorted (goes_behind e f es ge other) ∙ and_from (keys_above f.0 (placed e es)) (is_sorted (placed e es)) (above_placed f.0 e es (behind e.0 f.0 ge other) above) (sorted_placed e es rest)
+            | inr other ↦ ap is_sorted (goes_behind e f es ge other) ∙ and_from (keys_above f.0 (rows_with e es)) (is_sorted (rows_with e es)) (above_placed f.0 e es (behind e.0 f.0 ge other) above) (sorted_placed e es rest)
           ]
     ]
   where
@@ -302,7 +302,7 @@ rows_set n w s m k found written =
 
 -- ---- how many there are
 
-length_placed : (e : Entry) (es : List Entry) → lookup (nat_eq e.0) es ≡ None → length (placed e es) ≡ suc (length es)
+length_placed : (e : Entry) (es : List Entry) → lookup (nat_eq e.0) es ≡ None → length (rows_with e es) ≡ suc (length es)
 length_placed e [] none = refl
 length_placed e (f ∷ es) none =
     elim (cases_Bool (nat_eq e.0 f.0)) [

@@ -19,6 +19,6 @@ abbrev pub AreRight : List Subscription → ℕ → List Slot → Type 0
 AreRight subs generation slots = All (IsRight subs generation) slots
 
 -- the subscriptions of these serials
-abbrev pub looked_up : List Subscription → List ℕ → List Subscription
-looked_up subs [] = []
-looked_up subs (n ∷ ns) = option_to_list (find (has_serial n) subs) ++ looked_up subs ns
+abbrev pub subs_of_serials : List Subscription → List ℕ → List Subscription
+subs_of_serials subs [] = []
+subs_of_serials subs (n ∷ ns) = option_to_list (find (has_serial n) subs) ++ subs_of_serials subs ns

@@ -32,18 +32,18 @@ abbrev pub BySerial : Type 0
 BySerial = HashMap ℕ Subscription (BuildHasherDefault FoldHasher)
 
 -- an entry put where its serial belongs, in place of one that has it
-abbrev pub placed : ℕ × Subscription → List (ℕ × Subscription) → List (ℕ × Subscription)
-placed e [] = e ∷ []
-placed e (f ∷ es) = if nat_lt e.0 f.0 then e ∷ f ∷ es else (if nat_eq e.0 f.0 then e ∷ es else f ∷ placed e es)
+abbrev pub rows_with : ℕ × Subscription → List (ℕ × Subscription) → List (ℕ × Subscription)
+rows_with e [] = e ∷ []
+rows_with e (f ∷ es) = if nat_lt e.0 f.0 then e ∷ f ∷ es else (if nat_eq e.0 f.0 then e ∷ es else f ∷ rows_with e es)
 
 abbrev pub in_order : List (ℕ × Subscription) → List (ℕ × Subscription)
 in_order [] = []
-in_order (e ∷ es) = placed e (in_order es)
+in_order (e ∷ es) = rows_with e (in_order es)
 
 -- the entries in order of their serials
 abbrev pub rows : BySerial → List (ℕ × Subscription)
 rows subs = in_order subs.entries
 
 -- the subscriptions in order of opening
-abbrev pub listed : BySerial → List Subscription
-listed subs = values_of (rows subs)
+abbrev pub subs_in_order : BySerial → List Subscription
+subs_in_order subs = values_of (rows subs)

@@ -7,8 +7,8 @@ ghost use Rattle.std.proofs.Props.{props};
 ghost use Rattle.sub_table.specs.Subscriptions.{total_cost, gets, has_serial, without_serial, with_delivered, with_max};
 ghost use Rattle.pattern_trie.specs.Held.{Holds};
 ghost use Rattle.pattern_trie.specs.Starts.{node_count};
-ghost use Rattle.sub_trie.specs.Rising.{is_keyed, is_rising, held_of, rows, listed};
-ghost use Rattle.sub_trie.specs.Recalls.{AreRight, serials_for, looked_up};
+ghost use Rattle.sub_trie.specs.Rising.{is_keyed, is_rising, held_of, rows, subs_in_order};
+ghost use Rattle.sub_trie.specs.Recalls.{AreRight, serials_for, subs_of_serials};
 
 use crate::recent::Recent;
 use pattern_trie::PatternTrie;
@@ -27,15 +27,15 @@ pub(crate) struct Opened {
     cost: u64,
     recent: Recent,
     ghost keyed: { is_keyed (rows subs) ≡ true },
-    ghost rising: { is_rising (listed subs) ≡ true },
-    ghost held: { Holds (held_of (listed subs)) trie.nodes } by { Prim.hlevel props },
-    ghost counted: { cost ≡ total_cost (listed subs) },
-    ghost right: { AreRight (listed subs) recent.generation recent.slots.items },
+    ghost rising: { is_rising (subs_in_order subs) ≡ true },
+    ghost held: { Holds (held_of (subs_in_order subs)) trie.nodes } by { Prim.hlevel props },
+    ghost counted: { cost ≡ total_cost (subs_in_order subs) },
+    ghost right: { AreRight (subs_in_order subs) recent.generation recent.slots.items },
 }
 
 impl Opened {
     pub(crate) fn new(alloc: Global) -> Opened
-        ensures { listed result.subs ≡ [] }
+        ensures { subs_in_order result.subs ≡ [] }
     {
         Opened {
             alloc,
@@ -47,14 +47,14 @@ impl Opened {
     }
 
     pub(crate) fn len(&self) -> usize
-        ensures { result ≡ length (listed self.now.subs) }
+        ensures { result ≡ length (subs_in_order self.now.subs) }
     {
         self.subs.len()
     }
 
     /// Whether they and one more that counts so much count at most so many bytes together.
     pub(crate) fn fits(&self, cost: u64, limit: u64) -> bool
-        ensures { result ≡ nat_le (total_cost (listed self.now.subs) + cost) limit }
+        ensures { result ≡ nat_le (total_cost (subs_in_order self.now.subs) + cost) limit }
     {
         match self.cost.checked_add(cost) {
             Some(sum) => sum <= limit,
@@ -64,9 +64,9 @@ impl Opened {
 
     /// Opens one more, whose serial is above all others. Want of memory leaves all as it was.
     pub(crate) fn add(&mut self, sub: Subscription) -> Result<(), AllocError>
-        requires { All (λ other. other.serial < sub.serial) (listed self.old.subs) }
-        ensures ok { OnOk result (listed self.new.subs ≡ listed self.old.subs ++ sub ∷ []) }
-        ensures err { OnErr result (listed self.new.subs ≡ listed self.old.subs) }
+        requires { All (λ other. other.serial < sub.serial) (subs_in_order self.old.subs) }
+        ensures ok { OnOk result (subs_in_order self.new.subs ≡ subs_in_order self.old.subs ++ sub ∷ []) }
+        ensures err { OnErr result (subs_in_order self.new.subs ≡ subs_in_order self.old.subs) }
     {
         let cost = self.cost.checked_add(sub.key.cost()).ok_or(AllocError)?;
         let serial = sub.serial;
@@ -87,14 +87,14 @@ impl Opened {
 
     /// The one of this serial. Takes no memory.
     pub(crate) fn get(&self, serial: u64) -> Option<&Subscription>
-        ensures { option_copied result ≡ find_in (has_serial serial) (listed self.now.subs) }
+        ensures { option_copied result ≡ find_in (has_serial serial) (subs_in_order self.now.subs) }
     {
         self.subs.get(&serial)
     }
 
     /// The serials of those whose pattern matches the subject, in order of opening.
     fn serials_for(&self, subject: &Subject) -> Result<Vec<u64>, AllocError>
-        ensures { IfOk result (λ serials. serials.items ≡ serials_for subject.now (listed self.now.subs)) }
+        ensures { IfOk result (λ serials. serials.items ≡ serials_for subject.now (subs_in_order self.now.subs)) }
     {
         let mut serials = Vec::new(self.alloc);
         self.trie.matching(subject, &mut serials)?;
@@ -104,7 +104,7 @@ impl Opened {
 
     /// Those of these serials.
     fn look_up(&self, serials: &[u64]) -> Result<Vec<&Subscription>, AllocError>
-        ensures { IfOk result (λ subs. map (λ sub. sub.now) subs.items ≡ looked_up (listed self.now.subs) serials.now) }
+        ensures { IfOk result (λ subs. map (λ sub. sub.now) subs.items ≡ subs_of_serials (subs_in_order self.now.subs) serials.now) }
     {
         let mut subs = Vec::with_capacity(self.alloc, serials.len())?;
         for serial in serials {
@@ -117,7 +117,7 @@ impl Opened {
 
     /// Those whose pattern matches the subject, in order of opening.
     pub(crate) fn matching(&self, subject: &Subject) -> Result<Vec<&Subscription>, AllocError>
-        ensures { IfOk result (λ subs. map (λ sub. sub.now) subs.items ≡ filter (gets subject.now) (listed self.now.subs)) }
+        ensures { IfOk result (λ subs. map (λ sub. sub.now) subs.items ≡ filter (gets subject.now) (subs_in_order self.now.subs)) }
     {
         if self.len() == 0 {
             return Ok(Vec::new(self.alloc));
@@ -131,7 +131,7 @@ impl Opened {
 
     /// Keeps in mind which match the subject, where it was told often and there is memory.
     pub(crate) fn remember(&mut self, subject: &Subject)
-        ensures { listed self.new.subs ≡ listed self.old.subs }
+        ensures { subs_in_order self.new.subs ≡ subs_in_order self.old.subs }
     {
         if self.len() == 0
             || !self.recent.is_due()
@@ -146,7 +146,7 @@ impl Opened {
 
     /// Notes how many messages the one of this serial got. Takes no memory.
     pub(crate) fn set_count(&mut self, serial: u64, delivered: u64)
-        ensures { listed self.new.subs ≡ with_delivered serial delivered (listed self.old.subs) }
+        ensures { subs_in_order self.new.subs ≡ with_delivered serial delivered (subs_in_order self.old.subs) }
     {
         if let Some(sub) = self.subs.get_mut(&serial) {
             sub.delivered = delivered;
@@ -155,7 +155,7 @@ impl Opened {
 
     /// Notes how many messages the one of this serial is to get. Takes no memory.
     pub(crate) fn set_max(&mut self, serial: u64, max: Option<u64>)
-        ensures { listed self.new.subs ≡ with_max serial max (listed self.old.subs) }
+        ensures { subs_in_order self.new.subs ≡ with_max serial max (subs_in_order self.old.subs) }
     {
         if let Some(sub) = self.subs.get_mut(&serial) {
             sub.max = max;
@@ -164,8 +164,8 @@ impl Opened {
 
     /// Closes the one of this serial, and gives it. Takes no memory.
     pub(crate) fn remove(&mut self, serial: u64) -> Option<Subscription>
-        ensures closed { result ≡ find_in (has_serial serial) (listed self.old.subs) }
-        ensures rest { listed self.new.subs ≡ without_serial serial (listed self.old.subs) }
+        ensures closed { result ≡ find_in (has_serial serial) (subs_in_order self.old.subs) }
+        ensures rest { subs_in_order self.new.subs ≡ without_serial serial (subs_in_order self.old.subs) }
     {
         match self.subs.remove(&serial) {
             None => None,
@@ -180,7 +180,7 @@ impl Opened {
 
     /// How many beginnings the token lists of their patterns have, the empty one counted.
     pub(crate) fn nodes(&self) -> usize
-        ensures { result ≡ node_count (held_of (listed self.now.subs)) }
+        ensures { result ≡ node_count (held_of (subs_in_order self.now.subs)) }
     {
         self.trie.nodes()
     }

@@ -5,7 +5,7 @@ ghost use Rattle.std.specs.Bool.{nat_eq};
 ghost use Rattle.sub_table.specs.Subscriptions.{serials_of, without_serial};
 ghost use Rattle.pattern_trie.specs.Starts.{node_count};
 ghost use Rattle.sub_trie.specs.Groups.{list_at, AreCalled, without_each};
-ghost use Rattle.sub_trie.specs.Rising.{held_of, listed};
+ghost use Rattle.sub_trie.specs.Rising.{held_of, subs_in_order};
 
 use crate::groups::{copy_serials, first_serial, push_serial, take_all, take_serial};
 use crate::opened::Opened;
@@ -21,7 +21,7 @@ type Called = (u64, ArrayVec<u8, MAX_SID>);
 /// The serials of what each connection calls by an id.
 type BySid = HashMap<Called, Vec<u64>>;
 
-fn called(conn: ConnId, sid: &Sid) -> Called
+fn call_key(conn: ConnId, sid: &Sid) -> Called
     ensures conn { result.0 ≡ conn }
     ensures sid { result.1.items ≡ sid.now }
 {
@@ -30,21 +30,21 @@ fn called(conn: ConnId, sid: &Sid) -> Called
 
 /// Closes the one of this serial, and takes it away from its connection's id. Takes no memory.
 fn close_one(opened: &mut Opened, by_sid: &mut BySid, serial: u64)
-    requires { AreCalled by_sid.old (listed opened.old.subs) }
-    ensures closed { listed opened.new.subs ≡ without_serial serial (listed opened.old.subs) }
-    ensures called { AreCalled by_sid.new (listed opened.new.subs) }
+    requires { AreCalled by_sid.old (subs_in_order opened.old.subs) }
+    ensures closed { subs_in_order opened.new.subs ≡ without_serial serial (subs_in_order opened.old.subs) }
+    ensures called { AreCalled by_sid.new (subs_in_order opened.new.subs) }
 {
     match opened.remove(serial) {
         None => {}
-        Some(sub) => take_serial(by_sid, &called(sub.conn, &sub.sid), serial),
+        Some(sub) => take_serial(by_sid, &call_key(sub.conn, &sub.sid), serial),
     }
 }
 
 /// Closes those of these serials, and takes each away from its connection's id. Takes no memory.
 fn close_each(opened: &mut Opened, by_sid: &mut BySid, serials: &[u64])
-    requires { AreCalled by_sid.old (listed opened.old.subs) }
-    ensures closed { listed opened.new.subs ≡ without_each serials.now (listed opened.old.subs) }
-    ensures called { AreCalled by_sid.new (listed opened.new.subs) }
+    requires { AreCalled by_sid.old (subs_in_order opened.old.subs) }
+    ensures closed { subs_in_order opened.new.subs ≡ without_each serials.now (subs_in_order opened.old.subs) }
+    ensures called { AreCalled by_sid.new (subs_in_order opened.new.subs) }
 {
     for serial in serials {
         close_one(opened, by_sid, *serial);
@@ -61,8 +61,8 @@ pub struct TrieTable {
     by_conn: HashMap<u64, Vec<u64>>,
     /// The serials of what a connection calls by an id.
     by_sid: BySid,
-    ghost owned: { (conn : ℕ) → list_at nat_eq by_conn conn ≡ serials_of conn (listed opened.subs) },
-    ghost called: { AreCalled by_sid (listed opened.subs) },
+    ghost owned: { (conn : ℕ) → list_at nat_eq by_conn conn ≡ serials_of conn (subs_in_order opened.subs) },
+    ghost called: { AreCalled by_sid (subs_in_order opened.subs) },
 }
 
 impl TrieTable {
@@ -76,7 +76,7 @@ impl TrieTable {
 }
 
 impl SubTable for TrieTable {
-    ghost contents = { λ table. listed table.opened.subs };
+    ghost contents = { λ table. subs_in_order table.opened.subs };
 
     fn new(alloc: Global) -> Result<Self, AllocError> {
         Ok(TrieTable {
@@ -97,7 +97,7 @@ impl SubTable for TrieTable {
 
     fn add(&mut self, sub: Subscription) -> Result<(), AllocError> {
         let conn = sub.conn.get();
-        let key = called(sub.conn, &sub.sid);
+        let key = call_key(sub.conn, &sub.sid);
         let serial = sub.serial;
         self.opened.add(sub)?;
         if push_serial(self.alloc, &mut self.by_conn, conn, serial).is_err() {
@@ -117,7 +117,7 @@ impl SubTable for TrieTable {
     }
 
     fn find(&self, conn: ConnId, sid: &Sid) -> Option<u64> {
-        first_serial(&self.by_sid, &called(conn, sid))
+        first_serial(&self.by_sid, &call_key(conn, sid))
     }
 
     fn remember(&mut self, subject: &Subject) {
@@ -145,7 +145,7 @@ impl SubTable for TrieTable {
             None => None,
             Some(sub) => {
                 take_serial(&mut self.by_conn, &sub.conn.get(), serial);
-                take_serial(&mut self.by_sid, &called(sub.conn, &sub.sid), serial);
+                take_serial(&mut self.by_sid, &call_key(sub.conn, &sub.sid), serial);
                 Some(sub)
             }
         }

@@ -83,7 +83,11 @@ fn close_all<T: SubTable>(table: &mut T, last: u64, conn: u64)
 }
 
 /// The serials of those that match.
-fn matched<T: SubTable>(alloc: Global, table: &T, subject: &[u8]) -> Result<Vec<u64>, Fail> {
+fn matching_serials<T: SubTable>(
+    alloc: Global,
+    table: &T,
+    subject: &[u8],
+) -> Result<Vec<u64>, Fail> {
     let subject = Subject::read(alloc, subject)?;
     let subs = table.matching(&subject)?;
     let mut serials = Vec::new(alloc);
@@ -105,13 +109,17 @@ fn keep<T: SubTable>(alloc: Global, table: &mut T, subject: &[u8]) -> Result<(),
 }
 
 /// The serials of a connection's, behind a number that was there.
-fn owned<T: SubTable>(alloc: Global, table: &T, conn: u64) -> Result<Vec<u64>, AllocError> {
+fn serials_of_conn<T: SubTable>(
+    alloc: Global,
+    table: &T,
+    conn: u64,
+) -> Result<Vec<u64>, AllocError> {
     let mut serials = Vec::from_slice(alloc, &[77])?;
     table.serials_of(ConnId::new(conn), &mut serials)?;
     Ok(serials)
 }
 
-fn called<T: SubTable>(
+fn called_serial<T: SubTable>(
     alloc: Global,
     table: &T,
     conn: u64,
@@ -153,7 +161,7 @@ fn matches_come_in_order_of_opening(rt: HostRuntime) -> Result<(), Fail> {
     ];
     for (subject, serials) in subjects {
         assert_eq!(&rt;
-            matched(alloc, &table, subject)?.as_slice(),
+            matching_serials(alloc, &table, subject)?.as_slice(),
             serials,
             "{subject:?}"
         );
@@ -161,7 +169,7 @@ fn matches_come_in_order_of_opening(rt: HostRuntime) -> Result<(), Fail> {
     assert_eq!(&rt; table.nodes(), 8);
     assert_eq!(&rt; close_one(&mut table, 6, 3), Some(3));
     assert_eq!(&rt;
-        matched(alloc, &table, b"foo.bar")?.as_slice(),
+        matching_serials(alloc, &table, b"foo.bar")?.as_slice(),
         [1, 2, 4, 5].as_slice()
     );
     assert_eq!(&rt; table.nodes(), 7);
@@ -170,7 +178,7 @@ fn matches_come_in_order_of_opening(rt: HostRuntime) -> Result<(), Fail> {
     }
     assert_eq!(&rt; table.len(), 0);
     assert_eq!(&rt; table.nodes(), 1);
-    assert_eq!(&rt; matched(alloc, &table, b"foo.bar")?.len(), 0);
+    assert_eq!(&rt; matching_serials(alloc, &table, b"foo.bar")?.len(), 0);
     Ok(())
 }
 
@@ -179,24 +187,30 @@ fn what_a_connection_has_is_found(rt: HostRuntime) -> Result<(), Fail> {
     let alloc = rt.alloc();
     let mut table = rows(&rt, alloc)?;
     assert_eq!(&rt;
-        owned(alloc, &table, 1)?.as_slice(),
+        serials_of_conn(alloc, &table, 1)?.as_slice(),
         [77, 1, 3, 5].as_slice()
     );
     assert_eq!(&rt;
-        owned(alloc, &table, 2)?.as_slice(),
+        serials_of_conn(alloc, &table, 2)?.as_slice(),
         [77, 2, 4, 6].as_slice()
     );
-    assert_eq!(&rt; owned(alloc, &table, 3)?.as_slice(), [77].as_slice());
-    assert_eq!(&rt; called(alloc, &table, 1, b"7")?, Some(1));
-    assert_eq!(&rt; called(alloc, &table, 2, b"7")?, Some(2));
-    assert_eq!(&rt; called(alloc, &table, 1, b"77")?, None);
-    assert_eq!(&rt; called(alloc, &table, 3, b"7")?, None);
-    table.close(ConnId::new(1));
-    assert_eq!(&rt; owned(alloc, &table, 1)?.as_slice(), [77].as_slice());
-    assert_eq!(&rt; called(alloc, &table, 1, b"7")?, None);
-    assert_eq!(&rt; called(alloc, &table, 2, b"7")?, Some(2));
     assert_eq!(&rt;
-        matched(alloc, &table, b"foo.bar")?.as_slice(),
+        serials_of_conn(alloc, &table, 3)?.as_slice(),
+        [77].as_slice()
+    );
+    assert_eq!(&rt; called_serial(alloc, &table, 1, b"7")?, Some(1));
+    assert_eq!(&rt; called_serial(alloc, &table, 2, b"7")?, Some(2));
+    assert_eq!(&rt; called_serial(alloc, &table, 1, b"77")?, None);
+    assert_eq!(&rt; called_serial(alloc, &table, 3, b"7")?, None);
+    table.close(ConnId::new(1));
+    assert_eq!(&rt;
+        serials_of_conn(alloc, &table, 1)?.as_slice(),
+        [77].as_slice()
+    );
+    assert_eq!(&rt; called_serial(alloc, &table, 1, b"7")?, None);
+    assert_eq!(&rt; called_serial(alloc, &table, 2, b"7")?, Some(2));
+    assert_eq!(&rt;
+        matching_serials(alloc, &table, b"foo.bar")?.as_slice(),
         [2, 4].as_slice()
     );
     assert_eq!(&rt; table.nodes(), 5);
@@ -208,8 +222,11 @@ fn alone(rt: &impl Abort, alloc: Global, pattern: &[u8], nodes: usize) -> Result
     let mut table = TrieTable::new(alloc)?;
     let sub = subscription(alloc, 1, 1, pattern, b"1")?;
     open(rt, &mut table, 0, sub)?;
-    assert_eq!(rt; matched(alloc, &table, pattern)?.as_slice(), [1].as_slice());
-    assert_eq!(rt; matched(alloc, &table, b"b")?.len(), 0);
+    assert_eq!(rt;
+        matching_serials(alloc, &table, pattern)?.as_slice(),
+        [1].as_slice()
+    );
+    assert_eq!(rt; matching_serials(alloc, &table, b"b")?.len(), 0);
     assert_eq!(rt; table.nodes(), nodes);
     assert!(rt; table.remove(1).is_some());
     assert_eq!(rt; table.nodes(), 1);
@@ -278,19 +295,19 @@ fn compare(
     subject: &[u8],
 ) -> Result<(), Fail> {
     assert_eq!(rt;
-        matched(alloc, list, subject)?.as_slice(),
-        matched(alloc, trie, subject)?.as_slice(),
+        matching_serials(alloc, list, subject)?.as_slice(),
+        matching_serials(alloc, trie, subject)?.as_slice(),
         "{subject:?}"
     );
     let conn = 1 + drawn(random, 3);
     assert_eq!(rt;
-        owned(alloc, list, conn)?.as_slice(),
-        owned(alloc, trie, conn)?.as_slice()
+        serials_of_conn(alloc, list, conn)?.as_slice(),
+        serials_of_conn(alloc, trie, conn)?.as_slice()
     );
     let sid = drawn_sid(random);
     assert_eq!(rt;
-        called(alloc, list, conn, sid)?,
-        called(alloc, trie, conn, sid)?
+        called_serial(alloc, list, conn, sid)?,
+        called_serial(alloc, trie, conn, sid)?
     );
     let limit = drawn(random, 700);
     assert_eq!(rt; list.fits(30, limit), trie.fits(30, limit), "{limit}");

@@ -12,12 +12,12 @@ use Rattle.outbox.specs.declared.entries.Tag.{Tag}
 use Rattle.outbox.specs.declared.entries.Tag.TheVariants.{Msg}
 use Rattle.sub_table.specs.Subscriptions.{serial_of}
 use Rattle.sub_table.specs.declared.Subscription.{Subscription}
-use Rattle.shard_core.specs.Causes.{AreHeld, gone_on, IsOpening}
+use Rattle.shard_core.specs.Causes.{AreHeld, sub_after, IsOpening}
 use Rattle.shard_core.specs.Closings.{id_of}
 use Rattle.shard_core.specs.Opened.{AreRising}
-use Rattle.shard_core.specs.Owed.{candidate_of, candidate_named, claimed, first_step, is_due, is_plain, is_wanted, mode_of, placed_for, placed_one, tried, walked}
+use Rattle.shard_core.specs.Owed.{candidate_of, candidate_named, after_claim, first_step, is_due, is_plain, is_wanted, mode_of, placed_for, after_put, after_try, whole_walk}
 use Rattle.shard_core.specs.ShardEvents.{Event, Attach, Subscribe, Unsubscribe, Reply, Shut, Detach, Take, Begin, Claim, End, DropJob, Collect}
-use Rattle.shard_core.specs.ShardSteps.{IsAsked, IsHanded, answer_fits, begin_refusal, called, claim_refusal, claimed_answer, done_with, end_refusal, ended_now, new_sub, shard_refusal, shard_after, shard_answer, subscribed, subscribed_answer, unsubscribed}
+use Rattle.shard_core.specs.ShardSteps.{IsAsked, IsHanded, answer_fits, begin_refusal, sub_called, claim_refusal, claim_answer, done_with, end_refusal, ended_now, new_sub, shard_refusal, shard_after, shard_answer, after_subscribe, subscribe_answer, after_unsubscribe}
 use Rattle.shard_core.specs.Shards.{State, new_shard}
 use Rattle.shard_core.specs.declared.calls.Placed.{Placed}
 use Rattle.shard_core.specs.declared.faults.ShardFault.TheVariants.{BadIndex, JobInHand, NoJob, WrongTurn}
@@ -52,7 +52,7 @@ gave_in s (Reply conn frame) = []
 gave_in s (Shut conn text) = []
 gave_in s (Detach conn) = []
 gave_in s (Take conn count) = []
-gave_in s (Begin job) = map (plain_to job) (walked s job).given
+gave_in s (Begin job) = map (plain_to job) (whole_walk s job).given
 gave_in s (Claim index won) = gave_by_claim s.hand (candidate_of s s.hand index) won
 gave_in s End = []
 gave_in s (DropJob waiting) = []
@@ -70,7 +70,7 @@ tag_at shard g = Msg g.job.id (id_of shard g.serial) (mode_of g.queue)
 abbrev pub tags_of : List Placed → List Tag
 tags_of puts = map (λ (p : Placed). p.entry.tag) puts
 
-claim_tags : (s : State) (hand : Option Job) (u : Option Subscription) (won : Bool) → tags_of (placed_in (claimed_answer s hand u won)) ≡ map (tag_at s.shard) (gave_by_claim hand u won)
+claim_tags : (s : State) (hand : Option Job) (u : Option Subscription) (won : Bool) → tags_of (placed_in (claim_answer s hand u won)) ≡ map (tag_at s.shard) (gave_by_claim hand u won)
 claim_tags s None u won = refl
 claim_tags s (Some job) None won = refl
 claim_tags s (Some job) (Some u) true = refl
@@ -78,9 +78,9 @@ claim_tags s (Some job) (Some u) false = refl
 
 step_tags : (s : State) (e : Event) → tags_of (placed_in (shard_answer s e)) ≡ map (tag_at s.shard) (gave_in s e)
 step_tags s Attach = refl
-step_tags s (Subscribe conn key sid) = go (called conn sid s.subs)
+step_tags s (Subscribe conn key sid) = go (sub_called conn sid s.subs)
   where
-    go : (u : Option Subscription) → tags_of (placed_in (subscribed_answer s u)) ≡ []
+    go : (u : Option Subscription) → tags_of (placed_in (subscribe_answer s u)) ≡ []
     go None = refl
     go (Some u) = refl
 step_tags s (Unsubscribe conn sid max) = refl
@@ -88,7 +88,7 @@ step_tags s (Reply conn frame) = refl
 step_tags s (Shut conn text) = refl
 step_tags s (Detach conn) = refl
 step_tags s (Take conn count) = refl
-step_tags s (Begin job) = map_map (placed_for s.shard job None) (λ (p : Placed). p.entry.tag) (walked s job).given ∙ sym (map_map (plain_to job) (tag_at s.shard) (walked s job).given)
+step_tags s (Begin job) = map_map (placed_for s.shard job None) (λ (p : Placed). p.entry.tag) (whole_walk s job).given ∙ sym (map_map (plain_to job) (tag_at s.shard) (whole_walk s job).given)
 step_tags s (Claim index won) = claim_tags s s.hand (candidate_of s s.hand index) won
 step_tags s End = refl
 step_tags s (DropJob waiting) = refl
@@ -129,7 +129,7 @@ pub record Given (s : State) (gs : List Gave) (jobs : List Job) (wins : List (�
 
 key_after : (s : State) (e : Event) (g : Gave) → AreHeld s → shard_refusal s e ≡ None → g.serial ≤ s.opened → Each (λ u. u.serial ≡ g.serial → u.key.queue ≡ g.queue) s.subs → Each (λ u. u.serial ≡ g.serial → u.key.queue ≡ g.queue) (shard_after s e).subs
 key_after s e g held free low key u i same = ⊎_elim
-    (λ (x : (old : Subscription) × In old s.subs × (u ≡ gone_on s e old)). ap (λ (z : Subscription). z.key.queue) x.2 ∙ key x.0 x.1 (sym (ap (λ (z : Subscription). z.serial) x.2) ∙ same))
+    (λ (x : (old : Subscription) × In old s.subs × (u ≡ sub_after s e old)). ap (λ (z : Subscription). z.key.queue) x.2 ∙ key x.0 x.1 (sym (ap (λ (z : Subscription). z.serial) x.2) ∙ same))
     (λ (x : IsOpening s e u). let new = opens e x in absurd (omega arith))
     (subs_go_on s e held free u i)
   where
@@ -217,14 +217,14 @@ record IsPlainOpen (s : State) (u : Subscription) : Type 0 where
   among : In u s.subs
   plain : u.key.queue ≡ None
 
-walk_among : (s : State) (job : Job) → Each (IsPlainOpen s) (walked s job).given
+walk_among : (s : State) (job : Job) → Each (IsPlainOpen s) (whole_walk s job).given
 walk_among s job u i =
     let gave = walk_gives s job (filter (is_due job) s.subs) (first_step s.clients) in
     let due = in_sub gave.new (filter (is_due job) s.subs) gave.some u (subst (λ l. In u l) gave.given i) in
     let at = in_filter (is_due job) s.subs u due in
     record { among = at.0; plain = plain_none u.key.queue (and_true (is_plain u) (is_wanted job u) at.1).0 }
 
-walk_apart : (s : State) (job : Job) → AreRising s.subs → Pairs (λ (u v : Subscription). u.serial ≢ v.serial) (walked s job).given
+walk_apart : (s : State) (job : Job) → AreRising s.subs → Pairs (λ (u v : Subscription). u.serial ≢ v.serial) (whole_walk s job).given
 walk_apart s job rising =
     let gave = walk_gives s job (filter (is_due job) s.subs) (first_step s.clients) in
     subst (Pairs (λ (u v : Subscription). u.serial ≢ v.serial)) (sym gave.given)
@@ -235,7 +235,7 @@ module _ (s : State) (job : Job) (gs : List Gave) (jobs : List Job) (wins : List
   begun_to = shard_after s (Begin job)
 
   abbrev news : List Gave
-  news = map (plain_to job) (walked s job).given
+  news = map (plain_to job) (whole_walk s job).given
 
   none : s.hand ≡ None
   none = go s.hand (no_cause (is_some s.hand) JobInHand (if nat_eq job.turn (s.finished + 1) then None else Some WrongTurn) free).0
@@ -257,7 +257,7 @@ module _ (s : State) (job : Job) (gs : List Gave) (jobs : List Job) (wins : List
 
   new_fits : Each (Fits begun_to (jobs ++ job ∷ []) (wins ++ [])) news
   new_fits x i =
-      let from = in_map (plain_to job) (walked s job).given x i in
+      let from = in_map (plain_to job) (whole_walk s job).given x i in
       subst (Fits begun_to (jobs ++ job ∷ []) (wins ++ [])) (sym from.2) (fits from.0 (walk_among s job from.0 from.1))
     where
       fits : (u : Subscription) → IsPlainOpen s u → Fits begun_to (jobs ++ job ∷ []) (wins ++ []) (plain_to job u)
@@ -274,13 +274,13 @@ module _ (s : State) (job : Job) (gs : List Gave) (jobs : List Job) (wins : List
       }
 
   new_later : Pairs Later news
-  new_later = pairs_map Later (plain_to job) (walked s job).given (pairs_weaker (λ (u v : Subscription). u.serial ≢ v.serial) (λ (u v : Subscription). Later (plain_to job u) (plain_to job v)) (walked s job).given (λ u v _ _ apart same. absurd (apart same)) (walk_apart s job g.held.rising))
+  new_later = pairs_map Later (plain_to job) (whole_walk s job).given (pairs_weaker (λ (u v : Subscription). u.serial ≢ v.serial) (λ (u v : Subscription). Later (plain_to job u) (plain_to job v)) (whole_walk s job).given (λ u v _ _ apart same. absurd (apart same)) (walk_apart s job g.held.rising))
 
   new_other : Pairs Other news
-  new_other = pairs_map Other (plain_to job) (walked s job).given (pairs_weaker (λ (u v : Subscription). u.serial ≢ v.serial) (λ (u v : Subscription). Other (plain_to job u) (plain_to job v)) (walked s job).given (λ u v _ _ apart same name is also. none-some name is) (walk_apart s job g.held.rising))
+  new_other = pairs_map Other (plain_to job) (whole_walk s job).given (pairs_weaker (λ (u v : Subscription). u.serial ≢ v.serial) (λ (u v : Subscription). Other (plain_to job u) (plain_to job v)) (whole_walk s job).given (λ u v _ _ apart same name is also. none-some name is) (walk_apart s job g.held.rising))
 
   of_job : (x : Gave) → In x news → (x.job ≡ job) × (x.queue ≡ None)
-  of_job x i = let from = in_map (plain_to job) (walked s job).given x i in (ap (λ (z : Gave). z.job) from.2, ap (λ (z : Gave). z.queue) from.2)
+  of_job x i = let from = in_map (plain_to job) (whole_walk s job).given x i in (ap (λ (z : Gave). z.job) from.2, ap (λ (z : Gave). z.queue) from.2)
 
   begun_given : Given begun_to (gs ++ news) (jobs ++ job ∷ []) (wins ++ [])
   begun_given = record {
@@ -342,8 +342,8 @@ module _ (s : State) (index : ℕ) (won : Bool) (gs : List Gave) (jobs : List Jo
     }
 
   module _ (apart : Each (λ (j : Job). NoRepeat j.queues) jobs) where
-    after_is : (hand : Option Job) → s.hand ≡ hand → (u : Option Subscription) → candidate_of s s.hand index ≡ u → (w : Bool) → won ≡ w → shard_after s (Claim index won) ≡ claimed s hand u w
-    after_is hand h u q w v = λ k. claimed s (h k) (q k) (v k)
+    after_is : (hand : Option Job) → s.hand ≡ hand → (u : Option Subscription) → candidate_of s s.hand index ≡ u → (w : Bool) → won ≡ w → shard_after s (Claim index won) ≡ after_claim s hand u w
+    after_is hand h u q w v = λ k. after_claim s (h k) (q k) (v k)
 
     nothing : (t : State) → shard_after s (Claim index won) ≡ t → t.hand ≡ s.hand → t.finished ≡ s.finished → t.next_index ≡ s.next_index + 1 → Given t (gs ++ []) (jobs ++ []) (wins ++ [])
     nothing t is hand finished next = subst (λ z. Given z (gs ++ []) (jobs ++ []) (wins ++ [])) is
@@ -364,12 +364,12 @@ module _ (s : State) (index : ℕ) (won : Bool) (gs : List Gave) (jobs : List Jo
     claimed_given = go s.hand refl (candidate_of s s.hand index) refl won refl
       where
         go : (hand : Option Job) → s.hand ≡ hand → (u : Option Subscription) → candidate_of s s.hand index ≡ u → (w : Bool) → won ≡ w
-            → Given (claimed s hand u w) (gs ++ gave_by_claim hand u w) (jobs ++ []) (wins ++ (if (if true then w else not w) then pair_of (s.finished + 1) index u else []))
+            → Given (after_claim s hand u w) (gs ++ gave_by_claim hand u w) (jobs ++ []) (wins ++ (if (if true then w else not w) then pair_of (s.finished + 1) index u else []))
         go None h u q w v = absurd (none-some NoJob (sym (subst (λ o. claim_refusal s index o ≡ None) h free)))
-        go (Some job) h None q true v = nothing (tried s) (after_is (Some job) h None q true v) refl refl refl
-        go (Some job) h None q false v = nothing (tried s) (after_is (Some job) h None q false v) refl refl refl
-        go (Some job) h (Some sub) q true v = to_member job sub h (ap (λ o. candidate_of s o index) (sym h) ∙ q) (placed_one (tried s) job sub) (sym (after_is (Some job) h (Some sub) q true v)) refl refl refl
-        go (Some job) h (Some sub) q false v = nothing (tried s) (after_is (Some job) h (Some sub) q false v) refl refl refl
+        go (Some job) h None q true v = nothing (after_try s) (after_is (Some job) h None q true v) refl refl refl
+        go (Some job) h None q false v = nothing (after_try s) (after_is (Some job) h None q false v) refl refl refl
+        go (Some job) h (Some sub) q true v = to_member job sub h (ap (λ o. candidate_of s o index) (sym h) ∙ q) (after_put (after_try s) job sub) (sym (after_is (Some job) h (Some sub) q true v)) refl refl refl
+        go (Some job) h (Some sub) q false v = nothing (after_try s) (after_is (Some job) h (Some sub) q false v) refl refl refl
 
 -- ---- each step
 
@@ -411,14 +411,14 @@ module _ (s : State) (gs : List Gave) (jobs : List Job) (wins : List (ℕ × ℕ
 
   given_step : (e : Event) → shard_refusal s e ≡ None → IsAsked s e → Given (shard_after s e) (gs ++ gave_in s e) (jobs ++ job_in e) (wins ++ claimed_in s e true)
   given_step Attach free asked = calm Attach free asked (record { hand = refl; finished = refl; next = refl })
-  given_step (Subscribe conn key sid) free asked = calm (Subscribe conn key sid) free asked (go (called conn sid s.subs))
+  given_step (Subscribe conn key sid) free asked = calm (Subscribe conn key sid) free asked (go (sub_called conn sid s.subs))
     where
-      go : (u : Option Subscription) → SameHand s (subscribed s (new_sub s conn key sid) u)
+      go : (u : Option Subscription) → SameHand s (after_subscribe s (new_sub s conn key sid) u)
       go None = record { hand = refl; finished = refl; next = refl }
       go (Some u) = record { hand = refl; finished = refl; next = refl }
-  given_step (Unsubscribe conn sid max) free asked = calm (Unsubscribe conn sid max) free asked (go (called conn sid s.subs))
+  given_step (Unsubscribe conn sid max) free asked = calm (Unsubscribe conn sid max) free asked (go (sub_called conn sid s.subs))
     where
-      go : (u : Option Subscription) → SameHand s (unsubscribed s max u)
+      go : (u : Option Subscription) → SameHand s (after_unsubscribe s max u)
       go None = record { hand = refl; finished = refl; next = refl }
       go (Some u) = either s _ _ (ended_now max u) (record { hand = refl; finished = refl; next = refl }) (record { hand = refl; finished = refl; next = refl })
   given_step (Reply conn frame) free asked = calm (Reply conn frame) free asked (either s _ _ (answer_fits s conn _) (record { hand = refl; finished = refl; next = refl }) (record { hand = refl; finished = refl; next = refl }))

@@ -16,7 +16,7 @@ use Rattle.shard_core.specs.declared.calls.Placed.{Placed}
 use Rattle.node_threads.specs.Steps as of_shard
 use Rattle.node_threads.specs.Steps.{claims_of}
 use Rattle.thread_law.specs.Once.{Precedes, IsSource, IsPut, AreOnce, LegalRunsAreOnce, placed_by}
-use Rattle.thread_law.specs.Runs.{HubRun, ShardRun, IsShardRun, IsLegal, won}
+use Rattle.thread_law.specs.Runs.{HubRun, ShardRun, IsShardRun, IsLegal, claims_won}
 use Rattle.thread_law.proofs.Gives.{Gave, Given, Later, Other, gave_by, given_run, tag_at, tags_run}
 use Rattle.thread_law.proofs.Names.{names_apart}
 use Rattle.thread_law.proofs.Places.{at_in, at_map, at_same, at_unmap, in_at, pairs_at}
@@ -147,8 +147,8 @@ module _ (shards : ℕ) (hub : HubRun) (runs : List ShardRun) (legal : IsLegal s
           let y = ((given t q.run q.at).each q.gave (at_in (gave_by q.run.steps) j q.gave q.there)).won name second in
           let index : x.0 ≡ y.0 = names_apart p.gave.job.queues (legal.hub_run.named p.gave.job p.known) x.0 y.0 name x.1 (subst (λ (z : Job). slice_get z.queues y.0 ≡ Some name) (sym same) y.1) in
           let pair : (q.gave.job.turn, y.0) ≡ (p.gave.job.turn, x.0) = (λ k. ((sym same k).turn, sym index k)) in
-          let here = in_at (won p.run) (p.gave.job.turn, x.0) x.2 in
-          let there = in_at (won q.run) (p.gave.job.turn, x.0) (subst (λ (z : ℕ × ℕ). In z (won q.run)) pair y.2) in
+          let here = in_at (claims_won p.run) (p.gave.job.turn, x.0) x.2 in
+          let there = in_at (claims_won q.run) (p.gave.job.turn, x.0) (subst (λ (z : ℕ × ℕ). In z (claims_won q.run)) pair y.2) in
           (legal.once s t here.0 there.0 p.run q.run (p.gave.job.turn, x.0) p.at q.at here.1 there.1).0
 
   plain : (s t i j : ℕ) (id : PubId) (u : SubId) → IsPut runs s i id u Plain → IsPut runs t j id u Plain → (s ≡ t) × (i ≡ j)

@@ -16,13 +16,13 @@ use Rattle.route_values.specs.Frames.{Frame}
 use Rattle.route_values.specs.declared.bodies.Body.{Body}
 use Rattle.route_values.specs.declared.bodies.Body.TheVariants.{Plus, Minus, Snapshot, Msg}
 use Rattle.hub_core.specs.Events as of_hub
-use Rattle.hub_core.specs.Peers.{snapshot_to, up, cut, taken as taken_from}
-use Rattle.hub_core.specs.Publishing.{Publication, busy_fault, published as after_publish, own_job, frames_of, with_frames}
+use Rattle.hub_core.specs.Peers.{snapshot_to, up, cut, after_take as taken_from}
+use Rattle.hub_core.specs.Publishing.{Publication, busy_fault, after_publish, own_job, frames_of, with_frames}
 use Rattle.hub_core.specs.Receiving.{has_message, body_fault, routed_job, told_by}
 use Rattle.hub_core.specs.State as hub
-use Rattle.hub_core.specs.State.{Peer, known, changed_in, changed_at}
+use Rattle.hub_core.specs.State.{Peer, peer_in_life, changed_in, changed_at}
 use Rattle.hub_core.specs.Steps.{received_answer}
-use Rattle.hub_core.specs.Telling.{without_slow, count_of_changes, collected, collect_frames}
+use Rattle.hub_core.specs.Telling.{without_slow, count_of_changes, after_collect, collect_frames}
 use Rattle.hub_core.specs.declared.faults.HubFault.TheVariants as fault
 use Rattle.hub_core.proofs.Choices.Places.{named}
 use Rattle.hub_core.proofs.Steps.Receives.{FromPeer, from_peer}
@@ -46,10 +46,10 @@ abbrev known_if : Peer → ℕ → Bool → Peer
 known_if peer inc b = cond b (record { seen = inc; mark = 0; heard = nothing_heard; up = false; outbox = peer.outbox }) peer
 
 record IsKnown (peer : Peer) (inc : ℕ) : Type 0 where
-  least : inc ≤ (known peer inc).seen
-  seen : peer.seen ≤ (known peer inc).seen
-  same : peer.seen ≡ (known peer inc).seen → (known peer inc).mark ≡ peer.mark
-  again : peer.seen ≡ inc → (known peer inc).mark ≡ peer.mark
+  least : inc ≤ (peer_in_life peer inc).seen
+  seen : peer.seen ≤ (peer_in_life peer inc).seen
+  same : peer.seen ≡ (peer_in_life peer inc).seen → (peer_in_life peer inc).mark ≡ peer.mark
+  again : peer.seen ≡ inc → (peer_in_life peer inc).mark ≡ peer.mark
 
 is_known : (peer : Peer) (inc : ℕ) → IsKnown peer inc
 is_known peer inc = record { least = least (nat_lt peer.seen inc) refl; seen = seen (nat_lt peer.seen inc) refl; same = same (nat_lt peer.seen inc) refl; again = again (nat_lt peer.seen inc) refl }
@@ -70,7 +70,7 @@ is_known peer inc = record { least = least (nat_lt peer.seen inc) refl; seen = s
     again true e is = let lt = lt_true peer.seen inc e in absurd (omega arith)
     again false e is = refl
 
-known_on : (peer : Peer) (inc : ℕ) (q : Peer) → q.seen ≡ (known peer inc).seen → q.mark ≡ (known peer inc).mark → Forward peer q
+known_on : (peer : Peer) (inc : ℕ) (q : Peer) → q.seen ≡ (peer_in_life peer inc).seen → q.mark ≡ (peer_in_life peer inc).mark → Forward peer q
 known_on peer inc q s m =
     let k = is_known peer inc in
     let seen = k.seen in record { seen = omega arith; mark = λ e. let same = k.same (e ∙ s) in omega arith }
@@ -181,10 +181,10 @@ changed_there change q peers p b at e =
 -- a frame of a peer, by what it says
 module _ (s : Side) (frame : Frame) (finished : List ℕ) (x : sessions.State) (jobs : List Job) (past : Past s jobs) (from : FromPeer s.server s.hub finished frame) where
   abbrev base : Peer
-  base = known from.peer frame.inc
+  base = peer_in_life from.peer frame.inc
 
   abbrev after : Body → hub.State
-  after body = record s.hub { issued = (if has_message body then s.hub.issued + 1 else s.hub.issued); peers = changed_at (λ peer. told_by body frame.number (known peer frame.inc)) (place s.server frame.from) s.hub.peers }
+  after body = record s.hub { issued = (if has_message body then s.hub.issued + 1 else s.hub.issued); peers = changed_at (λ peer. told_by body frame.number (peer_in_life peer frame.inc)) (place s.server frame.from) s.hub.peers }
 
   message : (content : Content) (queues : List (List ℕ)) → frame.body ≡ Msg content queues → Past (side_with s (after (Msg content queues)) x) (jobs ++ routed_job s.hub frame content queues ∷ [])
   message content queues is = one_more s (after (Msg content queues)) x jobs (routed_job s.hub frame content queues) goes (omega arith) new before past
@@ -204,8 +204,8 @@ module _ (s : Side) (frame : Frame) (finished : List ℕ) (x : sessions.State) (
       goes = record {
         issued = omega arith;
         published = omega arith;
-        peers = changed_on (λ peer. told_by (Msg content queues) frame.number (known peer frame.inc)) (place s.server frame.from) s.hub.peers
-            (λ p at. subst (λ (z : Peer). Forward z (record (known z frame.inc) { mark = frame.number })) (same_Some from.peer p (sym from.at ∙ at)) forward);
+        peers = changed_on (λ peer. told_by (Msg content queues) frame.number (peer_in_life peer frame.inc)) (place s.server frame.from) s.hub.peers
+            (λ p at. subst (λ (z : Peer). Forward z (record (peer_in_life z frame.inc) { mark = frame.number })) (same_Some from.peer p (sym from.at ∙ at)) forward);
       }
 
       new : IsPast s.server (after (Msg content queues)) (routed_job s.hub frame content queues)
@@ -213,7 +213,7 @@ module _ (s : Side) (frame : Frame) (finished : List ℕ) (x : sessions.State) (
         turn = omega arith;
         own = λ e f. absurd (from.other (ap (place s.server) e ∙ named s.server past.listed s.server.me past.listed.listed));
         others = λ other peer e.
-            let b = changed_there (λ peer. told_by (Msg content queues) frame.number (known peer frame.inc)) (place s.server frame.from) s.hub.peers from.peer peer from.at e in
+            let b = changed_there (λ peer. told_by (Msg content queues) frame.number (peer_in_life peer frame.inc)) (place s.server frame.from) s.hub.peers from.peer peer from.at e in
             let seen : peer.seen ≡ base.seen = ap (λ (z : Peer). z.seen) b in
             let mark : peer.mark ≡ frame.number = ap (λ (z : Peer). z.mark) b in
             let least = k.least in
@@ -230,17 +230,17 @@ module _ (s : Side) (frame : Frame) (finished : List ℕ) (x : sessions.State) (
           let lt = above in
           omega arith
 
-  heard : (body : Body) → has_message body ≡ false → ((p : Peer) → Forward p (told_by body frame.number (known p frame.inc))) → Past (side_with s (after body) x) (jobs ++ [])
+  heard : (body : Body) → has_message body ≡ false → ((p : Peer) → Forward p (told_by body frame.number (peer_in_life p frame.inc))) → Past (side_with s (after body) x) (jobs ++ [])
   heard body none on = quiet s (after body) x jobs (record {
     issued = (let same : (after body).issued ≡ s.hub.issued = ap (λ b. if b then s.hub.issued + 1 else s.hub.issued) none in omega arith);
     published = omega arith;
-    peers = changed_on (λ peer. told_by body frame.number (known peer frame.inc)) (place s.server frame.from) s.hub.peers (λ p at. on p);
+    peers = changed_on (λ peer. told_by body frame.number (peer_in_life peer frame.inc)) (place s.server frame.from) s.hub.peers (λ p at. on p);
   }) past
 
   taken : (body : Body) → frame.body ≡ body → Past (side_with s (after body) x) (jobs ++ job_in (OfHub (received_answer s.hub frame body)))
-  taken (Plus weighted) is = heard (Plus weighted) refl (λ p. known_on p frame.inc (told_by (Plus weighted) frame.number (known p frame.inc)) refl refl)
-  taken (Minus key) is = heard (Minus key) refl (λ p. known_on p frame.inc (told_by (Minus key) frame.number (known p frame.inc)) refl refl)
-  taken (Snapshot keys) is = heard (Snapshot keys) refl (λ p. known_on p frame.inc (told_by (Snapshot keys) frame.number (known p frame.inc)) refl refl)
+  taken (Plus weighted) is = heard (Plus weighted) refl (λ p. known_on p frame.inc (told_by (Plus weighted) frame.number (peer_in_life p frame.inc)) refl refl)
+  taken (Minus key) is = heard (Minus key) refl (λ p. known_on p frame.inc (told_by (Minus key) frame.number (peer_in_life p frame.inc)) refl refl)
+  taken (Snapshot keys) is = heard (Snapshot keys) refl (λ p. known_on p frame.inc (told_by (Snapshot keys) frame.number (peer_in_life p frame.inc)) refl refl)
   taken (Msg content queues) is = message content queues is
 
 -- ---- each step
@@ -249,7 +249,7 @@ peers_go : (s : Side) (h : hub.State) → h.issued ≡ s.hub.issued → h.publis
 peers_go s h i p on = record { issued = omega arith; published = omega arith; peers = on }
 
 up_goes : (s : Side) (q inc : ℕ) → Goes s.hub (up s.server s.hub q inc)
-up_goes s q inc = peers_go s (up s.server s.hub q inc) refl refl (changed_on (λ peer. record (known peer inc) { up = true; outbox = snapshot_to s.server s.hub q inc ∷ [] }) q s.hub.peers (λ p at. known_on p inc _ refl refl))
+up_goes s q inc = peers_go s (up s.server s.hub q inc) refl refl (changed_on (λ peer. record (peer_in_life peer inc) { up = true; outbox = snapshot_to s.server s.hub q inc ∷ [] }) q s.hub.peers (λ p at. known_on p inc _ refl refl))
 
 cut_goes : (s : Side) (o : Option ℕ) → Goes s.hub (cut_if s.hub o)
 cut_goes s None = peers_go s s.hub refl refl (on_same s.hub.peers)
@@ -260,8 +260,8 @@ past_hub s (of_hub.Publish p finished) jobs past free asked = published_past s p
 past_hub s (of_hub.Receive frame finished) jobs past free asked = taken s frame finished (sessions_with s (of_hub.Receive frame finished)) jobs past (from_peer s.server past.listed s.hub finished frame free) frame.body refl
 past_hub s (of_hub.Collect shard deltas) jobs past free asked =
     let count = count_of_changes s.hub deltas in
-    quiet s (collected s.server s.hub deltas) (sessions_with s (of_hub.Collect shard deltas)) jobs
-    (peers_go s (collected s.server s.hub deltas) refl refl (on_both s.hub.peers (map (without_slow count) s.hub.peers) (with_frames s.server (collect_frames s.server s.hub deltas) 0 (map (without_slow count) s.hub.peers)) (slow_on count s.hub.peers) (frames_on s.server (collect_frames s.server s.hub deltas) 0 (map (without_slow count) s.hub.peers)))) past
+    quiet s (after_collect s.server s.hub deltas) (sessions_with s (of_hub.Collect shard deltas)) jobs
+    (peers_go s (after_collect s.server s.hub deltas) refl refl (on_both s.hub.peers (map (without_slow count) s.hub.peers) (with_frames s.server (collect_frames s.server s.hub deltas) 0 (map (without_slow count) s.hub.peers)) (slow_on count s.hub.peers) (frames_on s.server (collect_frames s.server s.hub deltas) 0 (map (without_slow count) s.hub.peers)))) past
 past_hub s (of_hub.Up q inc) jobs past free asked = absurd asked
 past_hub s (of_hub.Cut q) jobs past free asked = absurd asked
 past_hub s (of_hub.TakeFrom q count) jobs past free asked = quiet s (taken_from s.hub q count) s.sessions jobs (peers_go s (taken_from s.hub q count) refl refl (changed_on (λ peer. record peer { outbox = drop count peer.outbox }) q s.hub.peers (λ p at. stays p _ refl refl))) past

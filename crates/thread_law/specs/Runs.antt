@@ -37,11 +37,11 @@ pub record IsShardRun (shards : ℕ) (issued : List Job) (number : ℕ) (run : S
   pub given : AreFirst run.end.popped issued
 
 -- the claims that a run won, and those that it lost: each a turn and the index of a queue name
-abbrev pub won : ShardRun → List (ℕ × ℕ)
-won run = claims_of true run.steps
+abbrev pub claims_won : ShardRun → List (ℕ × ℕ)
+claims_won run = claims_of true run.steps
 
-abbrev pub lost : ShardRun → List (ℕ × ℕ)
-lost run = claims_of false run.steps
+abbrev pub claims_lost : ShardRun → List (ℕ × ℕ)
+claims_lost run = claims_of false run.steps
 
 -- The hub and each shard of a server, that of shard 1 first, did only steps of their own, over the jobs that were given. No queue name of a turn was
 -- won twice, and each that was lost was won by another shard.
@@ -49,5 +49,5 @@ pub record IsLegal (shards : ℕ) (hub : HubRun) (runs : List ShardRun) : Type 0
   pub hub_run : IsHubRun hub
   pub count : length runs ≡ shards
   pub each : (k : ℕ) (run : ShardRun) → At runs k run → IsShardRun shards hub.end.issued (k + 1) run
-  pub once : (k l i j : ℕ) (r q : ShardRun) (pair : ℕ × ℕ) → At runs k r → At runs l q → At (won r) i pair → At (won q) j pair → (k ≡ l) × (i ≡ j)
-  pub others : (k : ℕ) (r : ShardRun) (pair : ℕ × ℕ) → At runs k r → Has (lost r) pair → (l : ℕ) × (q : ShardRun) × (l ≢ k) × At runs l q × Has (won q) pair
+  pub once : (k l i j : ℕ) (r q : ShardRun) (pair : ℕ × ℕ) → At runs k r → At runs l q → At (claims_won r) i pair → At (claims_won q) j pair → (k ≡ l) × (i ≡ j)
+  pub others : (k : ℕ) (r : ShardRun) (pair : ℕ × ℕ) → At runs k r → Has (claims_lost r) pair → (l : ℕ) × (q : ShardRun) × (l ≢ k) × At runs l q × Has (claims_won q) pair

@@ -17,8 +17,8 @@ use Rattle.node_threads.specs.Tapes.{Grows, IsTape, entries_of}
 use Rattle.node_threads.specs.declared.shard_entries.ShardEntry.{ShardEntry}
 use Rattle.thread_node.specs.HubTapes.{IsHubTape, hub_entries}
 use Rattle.thread_node.specs.declared.hub_entries.HubEntry.{HubEntry}
-use Rattle.thread_law.specs.Runs.{HubRun, IsLegal, IsShardRun, ShardRun, lost, won}
-use Rattle.thread_node.specs.Reports.{AreClosed, IsKept, IsWritten, Tells, seat_of, written}
+use Rattle.thread_law.specs.Runs.{HubRun, IsLegal, IsShardRun, ShardRun, claims_lost, claims_won}
+use Rattle.thread_node.specs.Reports.{AreClosed, IsKept, IsWritten, Tells, seat_of, entries_written}
 
 at_there : {A : Type 0} (l : List A) (i : ℕ) → i < length l → (a : A) × At l i a
 at_there [] i h = absurd (omega arith)
@@ -60,13 +60,13 @@ closed_more race issued pushed kept seats tapes seat tape entries w number c n o
     let is : seat ≡ seat_of race run = (λ k. record { race = of k; part = part k }) in
     let counted : number ≡ length c.0 + 1 = n ∙ ap (λ l. length l + 1) c.1 ∙ ap (λ m. m + 1) (length-map c.0 (seat_of race)) in
     let here : IsShardRun race.shards issued number run = record { made = subst (λ s. Makes (at_start s race.shards) t.steps w) shard t.makes; given = first_of_first w.popped pushed issued popped first } in
-    let said : entries ≡ written kept run = kept_entries kept tape (entries_of t.steps) entries t.grows told in (
+    let said : entries ≡ entries_written kept run = kept_entries kept tape (entries_of t.steps) entries t.grows told in (
       c.0 ++ run ∷ [],
       ap (λ l. l ++ seat ∷ []) c.1 ∙ ap (λ s. map (seat_of race) c.0 ++ s ∷ []) is ∙ sym (map_snoc (seat_of race) c.0 run),
       (λ k r e. ⊎_elim (λ old. c.2 k r old)
           (λ (new : (k ≡ length c.0) × (run ≡ r)). subst (λ q. IsShardRun race.shards issued (k + 1) q) new.1 (subst (λ m. IsShardRun race.shards issued m run) (counted ∙ ap (λ m. m + 1) (sym new.0)) here))
           (snoc_at c.0 run r k e)),
-      ap (λ l. l ++ entries ∷ []) c.3 ∙ ap (λ es. map (written kept) c.0 ++ es ∷ []) said ∙ sym (map_snoc (written kept) c.0 run),
+      ap (λ l. l ++ entries ∷ []) c.3 ∙ ap (λ es. map (entries_written kept) c.0 ++ es ∷ []) said ∙ sym (map_snoc (entries_written kept) c.0 run),
     )
 
 -- ---- all of them
@@ -100,10 +100,10 @@ module _ (race : RaceId) (issued : List Job) (kept : Bool) (seats : List ShardSh
         let place : row run.end.part ≡ k = (let n = shard_at k run e in omega arith) in
         subst (λ n. At all n run.end.part) place there
 
-    won_of : (k : ℕ) (run : ShardRun) → At c.0 k run → run.end.part.won ≡ won run
+    won_of : (k : ℕ) (run : ShardRun) → At c.0 k run → run.end.part.won ≡ claims_won run
     won_of k run e = (c.2 k run e).made.won
 
-    lost_of : (k : ℕ) (run : ShardRun) → At c.0 k run → run.end.part.lost ≡ lost run
+    lost_of : (k : ℕ) (run : ShardRun) → At c.0 k run → run.end.part.lost ≡ claims_lost run
     lost_of k run e = (c.2 k run e).made.lost
 
     run_at : (k : ℕ) (p : ShardPart) → At all k p → (run : ShardRun) × At c.0 k run × (p ≡ run.end.part)

@@ -20,8 +20,8 @@ heard_in number (hub.Info session info) = []
 heard_in number (hub.Connect session connect) = []
 heard_in number (hub.Cut session) = []
 
-abbrev pub heard : ℕ → List HubEntry → List (List Delta)
-heard number tape = flat_map (λ entry. heard_in number entry.event) tape
+abbrev pub deltas_heard : ℕ → List HubEntry → List (List Delta)
+deltas_heard number tape = flat_map (λ entry. heard_in number entry.event) tape
 
 abbrev pub given_in : ShardEvent → List (List Delta)
 given_in shard.Attach = []
@@ -37,9 +37,9 @@ given_in shard.End = []
 given_in (shard.DropJob job) = []
 given_in (shard.Collect deltas) = deltas ∷ []
 
-abbrev pub given : List ShardEntry → List (List Delta)
-given tape = flat_map (λ entry. given_in entry.event) tape
+abbrev pub deltas_given : List ShardEntry → List (List Delta)
+deltas_given tape = flat_map (λ entry. given_in entry.event) tape
 
 -- the hub was handed just what each shard gave, the tape of shard 1 standing first
 abbrev pub AreHanded : List HubEntry → List (List ShardEntry) → Type 0
-AreHanded tape tapes = (k : ℕ) (of : List ShardEntry) → slice_get tapes k ≡ Some of → heard (k + 1) tape ≡ given of
+AreHanded tape tapes = (k : ℕ) (of : List ShardEntry) → slice_get tapes k ≡ Some of → deltas_heard (k + 1) tape ≡ deltas_given of

@@ -65,8 +65,8 @@ abbrev pub owed_by_shards : ℕ → List (List ShardEntry) → List Call
 owed_by_shards shard [] = []
 owed_by_shards shard (tape ∷ tapes) = owed_by_shard shard 0 tape ++ owed_by_shards (suc shard) tapes
 
-abbrev pub owed : List HubEntry → List (List ShardEntry) → List Call
-owed hub shards = owed_by_hub 0 hub ++ owed_by_shards 1 shards
+abbrev pub calls_owed : List HubEntry → List (List ShardEntry) → List Call
+calls_owed hub shards = owed_by_hub 0 hub ++ owed_by_shards 1 shards
 
 -- ---- what is told
 
@@ -81,4 +81,4 @@ IsInOrder calls = (j : ℕ) (d : Call) → j < length calls → All (λ c. Prece
 -- the passes tell each step that a caller made, once, and nothing else, those of one caller in order
 pub record AreTold (passes : List (Option (List Call))) (hub : List HubEntry) (shards : List (List ShardEntry)) : Type 0 where
   pub in_order : All (λ pass. IsInOrder (calls_of pass)) passes
-  pub once : IsPermutation (flat_map calls_of passes) (owed hub shards)
+  pub once : IsPermutation (flat_map calls_of passes) (calls_owed hub shards)

@@ -16,12 +16,12 @@ pub record Tells (hub : HubRun) (runs : List ShardRun) (issued : ℕ) (finished 
   pub finished_are : finished ≡ finished_list (map (λ (run : ShardRun). run.end.part.finished) runs)
 
 -- just these steps are written down, or none at all
-abbrev pub written : Bool → ShardRun → List ShardEntry
-written kept run = cond kept (entries_of run.steps) []
+abbrev pub entries_written : Bool → ShardRun → List ShardEntry
+entries_written kept run = cond kept (entries_of run.steps) []
 
 pub record IsWritten (kept : Bool) (hub : HubRun) (runs : List ShardRun) (tape : List HubEntry) (tapes : List (List ShardEntry)) : Type 0 where
   pub hub_is : tape ≡ cond kept (hub_entries hub.steps) []
-  pub shards_are : tapes ≡ map (written kept) runs
+  pub shards_are : tapes ≡ map (entries_written kept) runs
 
 -- ---- its parts
 
@@ -36,4 +36,4 @@ seat_of race run = record { race = race; part = run.end.part }
 
 -- these seats are those of the shards of this race, in their order, and these their tapes; and each shard worked a beginning of these jobs
 abbrev pub AreClosed : RaceId → List Job → Bool → List ShardShown → List (List ShardEntry) → Type 0
-AreClosed race issued kept seats tapes = (runs : List ShardRun) × (seats ≡ map (seat_of race) runs) × ((k : ℕ) (run : ShardRun) → At runs k run → IsShardRun race.shards issued (k + 1) run) × (tapes ≡ map (written kept) runs)
+AreClosed race issued kept seats tapes = (runs : List ShardRun) × (seats ≡ map (seat_of race) runs) × ((k : ℕ) (run : ShardRun) → At runs k run → IsShardRun race.shards issued (k + 1) run) × (tapes ≡ map (entries_written kept) runs)

@@ -1,7 +1,7 @@
 //! Whether the passes of all callers tell what was written down.
 
 ghost use Rattle.std.specs.Prelude.{◌≡◌, ◌++◌, true, All, IfOk, IfSome, flat_map, map};
-ghost use Rattle.thread_node.specs.Owed.{AreTold, IsInOrder, call_of_hub, call_of_shard, calls_of, owed, owed_by_hub, owed_by_shard, owed_by_shards, owed_one};
+ghost use Rattle.thread_node.specs.Owed.{AreTold, IsInOrder, call_of_hub, call_of_shard, calls_of, calls_owed, owed_by_hub, owed_by_shard, owed_by_shards, owed_one};
 
 use crate::asked::{is_of_hub, is_of_shard};
 use crate::faults::Unfinished;
@@ -68,7 +68,7 @@ fn all_calls<N: NodeName>(alloc: Global, passes: Vec<Pass<N>>) -> Result<Vec<Cal
 
 /// Whether these calls are what callers have to tell of all that was written down, in order: what was asked, and what was answered.
 fn are_owed(calls: &[Call], hub: &[HubEntry], worked: &[Vec<ShardEntry>]) -> bool
-    ensures { result ≡ true → calls.now ≡ owed hub.now (map (λ entries. entries.items) worked.now) }
+    ensures { result ≡ true → calls.now ≡ calls_owed hub.now (map (λ entries. entries.items) worked.now) }
 {
     let Some(rest) = behind_hub(calls, hub) else {
         return false;

@@ -1,7 +1,7 @@
 //! Whether the hub was handed the deltas that the shards gave.
 
 ghost use Rattle.std.specs.Prelude.{◌≡◌, true, None, IfOk, map};
-ghost use Rattle.thread_node.specs.Handing.{AreHanded, given, heard};
+ghost use Rattle.thread_node.specs.Handing.{AreHanded, deltas_given, deltas_heard};
 
 use crate::hub_entries::{HubEntry, HubEvent};
 use interest::Delta;
@@ -48,7 +48,7 @@ fn are_alike(a: &[&Deltas], b: &[&Deltas]) -> bool
 
 /// The deltas that the hub was handed by the shard of this number.
 fn heard_of(alloc: Global, hub: &[HubEntry], number: u64) -> Result<Vec<&Deltas>, AllocError>
-    ensures { IfOk result (λ all. map (λ deltas. deltas.now) all.items ≡ heard number hub.now) }
+    ensures { IfOk result (λ all. map (λ deltas. deltas.now) all.items ≡ deltas_heard number hub.now) }
 {
     let mut all = Vec::new(alloc);
     for entry in hub {
@@ -63,7 +63,7 @@ fn heard_of(alloc: Global, hub: &[HubEntry], number: u64) -> Result<Vec<&Deltas>
 
 /// The deltas that a shard handed over.
 fn given_of(alloc: Global, tape: &[ShardEntry]) -> Result<Vec<&Deltas>, AllocError>
-    ensures { IfOk result (λ all. map (λ deltas. deltas.now) all.items ≡ given tape.now) }
+    ensures { IfOk result (λ all. map (λ deltas. deltas.now) all.items ≡ deltas_given tape.now) }
 {
     let mut all = Vec::new(alloc);
     for entry in tape {

@@ -10,7 +10,7 @@
 //!
 //! In reading order: `parts` is what a server is made of, `locked_hub` and `locked_shard` what stands under its locks, `node` the
 //! server with its locks, `calls` those that take a lock for one call, `pass_calls` those whose caller keeps what it asked (`asking`) and
-//! what it was answered (`passes`), `workers` the threads that work lanes, `finish` the end. What is written down is `keeping` and
+//! what it was answered (`passes`), `workers` the threads that work lanes, `report` the end. What is written down is `keeping` and
 //! `hub_entries`; that it is what callers were told is seen by `asked`, `comparing`, `rising` and `handing`. `faults` says why there is no
 //! report.
 #![tactic(auto)]
@@ -20,7 +20,6 @@ mod asking;
 mod calls;
 mod comparing;
 mod faults;
-mod finish;
 mod handing;
 mod hub_entries;
 mod keeping;
@@ -30,11 +29,11 @@ mod node;
 mod parts;
 mod pass_calls;
 mod passes;
+mod report;
 mod rising;
 mod workers;
 
 pub use faults::Unfinished;
-pub use finish::Report;
 pub use hub_entries::{HubEntry, HubEvent, HubTold};
 pub use locked_hub::LockedHub;
 pub use locked_shard::LockedShard;
@@ -42,3 +41,4 @@ pub use node::{HubSection, ShardSection, ThreadNode};
 pub use node_threads::{Deltas, Gate, NodeName, Open, ShardEntry, ShardEvent, ShardTold, Turned};
 pub use parts::Parts;
 pub use passes::{Call, Pass, Told};
+pub use report::Report;

@@ -14,7 +14,7 @@ use std::thread::{Threads, join};
 use subj::{MAX_COUNTER, Turn, WINDOW};
 
 /// Issues a turn, for which no shard is too far behind.
-fn issued(rt: &impl Abort, cells: &Cells, hub: &mut HubSeat) -> u64
+fn issue_turn(rt: &impl Abort, cells: &Cells, hub: &mut HubSeat) -> u64
     requires { hub.old.race ≡ cells.now }
     ensures { hub.new.race ≡ hub.old.race }
 {
@@ -33,7 +33,7 @@ fn issued_by_a_look(rt: &impl Abort, cells: &Cells, hub: &mut HubSeat) -> Option
     if next > finished.of(1).get() + WINDOW || next > finished.of(2).get() + WINDOW {
         return None;
     }
-    Some(issued(rt, cells, hub))
+    Some(issue_turn(rt, cells, hub))
 }
 
 /// Which shard is too far behind, and the last turn that it finished.
@@ -52,7 +52,7 @@ fn claims_first(cells: &Cells, seat: &mut ShardSeat) -> bool
     ensures race { seat.new.race ≡ seat.old.race }
     ensures shard { seat.new.part.shard ≡ seat.old.part.shard }
 {
-    cells.seen(seat);
+    cells.see(seat);
     if !seat.has_turn() || seat.next_index() > 0 {
         return false;
     }
@@ -70,7 +70,7 @@ fn ends_turn(cells: &Cells, seat: &mut ShardSeat)
     ensures race { seat.new.race ≡ seat.old.race }
     ensures shard { seat.new.part.shard ≡ seat.old.part.shard }
 {
-    cells.seen(seat);
+    cells.see(seat);
     if seat.has_turn() {
         cells.finish(seat);
     }
@@ -86,7 +86,7 @@ fn a_window_and_one_turn(rt: &impl Abort, cells: &Cells, hub: &mut HubSeat, seat
     ensures shard { seat.new.part.shard ≡ seat.old.part.shard }
 {
     for before in 0..WINDOW + 1 {
-        assert_eq!(rt; issued(rt, cells, hub), before + 1);
+        assert_eq!(rt; issue_turn(rt, cells, hub), before + 1);
         if before % WINDOW == 0 {
             assert!(rt; claims_first(cells, seat));
         } else {
@@ -146,7 +146,7 @@ fn end_of_two(
 /// first shard won, whether the second did, and what was left.
 fn two_threads<R: Abort + Threads>(rt: &R, alloc: Global) -> Result<(bool, bool, Closed), Fail> {
     let (cells, mut hub, first, second) = two_shards(alloc)?;
-    issued(rt, &cells, &mut hub);
+    issue_turn(rt, &cells, &mut hub);
     let race = &cells;
     let ((first_won, first), (second_won, second)) = join(
         rt,
@@ -197,7 +197,7 @@ fn a_window(rt: &impl Abort, cells: &Cells, hub: &mut HubSeat, first: &mut Shard
     ensures { hub.new.race ≡ hub.old.race }
 {
     for before in 0..WINDOW {
-        assert_eq!(rt; issued(rt, cells, hub), before + 1);
+        assert_eq!(rt; issue_turn(rt, cells, hub), before + 1);
         ends_turn(cells, first);
     }
 }

@@ -27,7 +27,7 @@ pub fn subscribe<N: NodeName>(
 }
 
 /// How many entries wait for the connection; they are taken.
-pub fn taken<N: NodeName>(
+pub fn take_count<N: NodeName>(
     shard: &mut ShardState<ListTable, N>,
     conn: ConnId,
 ) -> Result<usize, Fail> {
@@ -35,7 +35,7 @@ pub fn taken<N: NodeName>(
 }
 
 /// What a turn comes to.
-pub fn turned<N: NodeName, R: Wait>(
+pub fn turn_outcome<N: NodeName, R: Wait>(
     rt: &R,
     alloc: Global,
     shard: &mut ShardState<ListTable, N>,
@@ -69,7 +69,7 @@ pub fn issue(cells: &Cells, hub: &mut HubSeat) -> bool
 }
 
 /// How many changes the hub hears of from the shard.
-pub fn collected<N: NodeName>(
+pub fn collect_count<N: NodeName>(
     hub: &mut HubState<N>,
     shard: &mut ShardState<ListTable, N>,
 ) -> Result<usize, Fail> {
@@ -77,7 +77,7 @@ pub fn collected<N: NodeName>(
 }
 
 /// The turn of the publication's job; None where a shard is a window behind.
-pub fn published<N: NodeName>(
+pub fn publish_turn<N: NodeName>(
     hub: &mut HubState<N>,
     cells: &Cells,
     conn: ConnId,

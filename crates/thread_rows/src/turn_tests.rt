@@ -4,7 +4,9 @@ ghost use Rattle.std.specs.Prelude.{◌≡◌, ◌∷◌, [], IfOk};
 ghost use Rattle.claim_cells.specs.Rule.{fresh_hub};
 ghost use Rattle.thread_rows.specs.Turns.{IsAlone};
 
-use crate::driver::{attach, collected, drop_fault, issue, published, subscribe, taken, turned};
+use crate::driver::{
+    attach, collect_count, drop_fault, issue, publish_turn, subscribe, take_count, turn_outcome,
+};
 use bytes::Bytes;
 use claim_cells::{Cells, HubSeat, ShardSeat};
 use job_lane::{LANE_CAPACITY, LaneIn, LaneOut, Run, lane};
@@ -131,10 +133,10 @@ fn waits_for_its_turn<N: NodeName, R: Abort + Wait>(
     requires race { cells.now ≡ N.race }
     requires pushed { near.old.pushed ≡ [] }
 {
-    assert_eq!(rt; turned(rt, alloc, shard, cells), Turned::Idle);
+    assert_eq!(rt; turn_outcome(rt, alloc, shard, cells), Turned::Idle);
     assert_eq!(rt; drop_fault(rt, alloc, shard, cells), 52);
     assert!(rt; hand_over(rt, alloc, near)?);
-    assert_eq!(rt; turned(rt, alloc, shard, cells), Turned::Idle);
+    assert_eq!(rt; turn_outcome(rt, alloc, shard, cells), Turned::Idle);
     assert_eq!(rt; drop_fault(rt, alloc, shard, cells), 52);
     Ok(())
 }
@@ -150,9 +152,12 @@ fn works_it<N: NodeName, R: Abort + Wait>(
     requires { cells.now ≡ N.race }
 {
     let first = Turn::new(1).ok_or("a turn")?;
-    assert_eq!(rt; turned(rt, alloc, shard, cells), Turned::Worked(first));
-    assert_eq!(rt; taken(shard, conn)?, 1);
-    assert_eq!(rt; turned(rt, alloc, shard, cells), Turned::Idle);
+    assert_eq!(rt;
+        turn_outcome(rt, alloc, shard, cells),
+        Turned::Worked(first)
+    );
+    assert_eq!(rt; take_count(shard, conn)?, 1);
+    assert_eq!(rt; turn_outcome(rt, alloc, shard, cells), Turned::Idle);
     Ok(())
 }
 
@@ -207,7 +212,7 @@ fn server(rt: &impl Abort, alloc: Global) -> Server
 }
 
 /// `hello` on `foo`, as a client says it.
-fn said(alloc: Global) -> Result<Pub, Fail> {
+fn hello_publication(alloc: Global) -> Result<Pub, Fail> {
     let message = hello(alloc)?;
     Ok(Pub {
         message,
@@ -246,9 +251,12 @@ fn reaches_the_member<N: NodeName, R: Abort + Wait>(
     requires { cells.now ≡ N.race }
 {
     let conn = member(shard, alloc)?;
-    assert_eq!(rt; collected(hub, shard)?, 1);
-    assert_eq!(rt; published(hub, cells, conn, &said(alloc)?)?, Some(1));
-    assert_eq!(rt; turned(rt, alloc, shard, cells), Turned::Idle);
+    assert_eq!(rt; collect_count(hub, shard)?, 1);
+    assert_eq!(rt;
+        publish_turn(hub, cells, conn, &hello_publication(alloc)?)?,
+        Some(1)
+    );
+    assert_eq!(rt; turn_outcome(rt, alloc, shard, cells), Turned::Idle);
     hub.push_jobs(rt);
     works_it(rt, alloc, shard, cells, conn)
 }
@@ -263,11 +271,11 @@ fn issues_a_window<N: NodeName, R: Abort + Wait>(
     requires { cells.now ≡ N.race }
 {
     for before in 0..WINDOW {
-        let turn = published(hub, cells, ConnId::new(1), said)?;
+        let turn = publish_turn(hub, cells, ConnId::new(1), said)?;
         assert_eq!(rt; turn, Some(before + 1));
     }
     hub.push_jobs(rt);
-    assert_eq!(rt; published(hub, cells, ConnId::new(1), said)?, None);
+    assert_eq!(rt; publish_turn(hub, cells, ConnId::new(1), said)?, None);
     Ok(())
 }
 
@@ -281,11 +289,14 @@ fn fills_the_window<N: NodeName, R: Abort + Wait>(
 ) -> Result<(), Fail>
     requires { cells.now ≡ N.race }
 {
-    let said = said(alloc)?;
+    let said = hello_publication(alloc)?;
     let first = Turn::new(1).ok_or("a turn")?;
     issues_a_window(rt, hub, cells, &said)?;
-    assert_eq!(rt; turned(rt, alloc, shard, cells), Turned::Worked(first));
-    let next = published(hub, cells, ConnId::new(1), &said)?;
+    assert_eq!(rt;
+        turn_outcome(rt, alloc, shard, cells),
+        Turned::Worked(first)
+    );
+    let next = publish_turn(hub, cells, ConnId::new(1), &said)?;
     assert_eq!(rt; next, Some(WINDOW + 1));
     Ok(())
 }

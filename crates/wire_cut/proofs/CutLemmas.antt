@@ -5,9 +5,9 @@ use Rattle.std.proofs.lemmas.Bool.{le-leb, lt-leb, le-ltb, lt-ltb, cases_lt}
 use Rattle.std.proofs.lemmas.List.{length-take, length-take-le, length-drop, length-append, take-append-le, drop-append-le}
 use Rattle.wire_cut.specs.declared.faults.CutFault.{CutFault}
 use Rattle.wire_cut.specs.declared.faults.CutFault.TheVariants.{LineTooLong, NoCrLfAfterPayload}
-use Rattle.wire_cut.specs.Cut.{Answer, CutterState, StreamPiece, first_cr_lf, begins_with_cr_lf, cr_lf_at, line, payload, cut_of, fed, after_next, cut_line, cut_line_at, cut_long_line, cut_payload_at, bytes_of, is_line, piece_length, IsWithinUnread}
+use Rattle.wire_cut.specs.Cut.{Answer, CutterState, StreamPiece, first_cr_lf, begins_with_cr_lf, cr_lf_at, line, payload, cut_of, after_feed, after_next, cut_line, cut_line_at, cut_long_line, cut_payload_at, bytes_of, is_line, piece_length, IsWithinUnread}
 use Rattle.wire_cut.specs.declared.piece.Piece.{Piece}
-use Rattle.wire_cut.specs.Shown.{shown, shown_piece}
+use Rattle.wire_cut.specs.Shown.{next_answer, stream_piece}
 use Rattle.wire_cut.specs.Search.{HasCrLfAt, HasNoCrLf}
 use Rattle.wire_cut.proofs.SearchLemmas.{first_cr_lf-found, first_cr_lf-none, first_cr_lf-Some, first_cr_lf-None, HasCrLfAt-take, HasCrLfAt-whole, HasCrLfAt-append, HasCrLfAt-front_part}
 
@@ -213,16 +213,16 @@ after_piece s size is = by_answer (cut_of s) refl
     by_answer (Err fault) cut = absurd (let none = rw cut at is in cc)
 
 -- the same of what `next` answers
-pub given_within : (answer : Result (Option Piece) CutFault) (s : CutterState) → shown answer ≡ cut_of s → IfOk answer (λ given. IfSome given (λ piece. IsWithinUnread (shown_piece piece) s))
+pub given_within : (answer : Result (Option Piece) CutFault) (s : CutterState) → next_answer answer ≡ cut_of s → IfOk answer (λ given. IfSome given (λ piece. IsWithinUnread (stream_piece piece) s))
 given_within (Ok None) s is = tt
-given_within (Ok (Some piece)) s is = cut_of-piece_length s (shown_piece piece) (sym is)
+given_within (Ok (Some piece)) s is = cut_of-piece_length s (stream_piece piece) (sym is)
 given_within (Err fault) s is = tt
 
 -- more bytes do not change a piece
-pub cut_of-fed_piece : (s : CutterState) (piece : StreamPiece) (more : List ℕ) → cut_of s ≡ Ok (Some piece) → cut_of (fed s more) ≡ Ok (Some piece)
+pub cut_of-fed_piece : (s : CutterState) (piece : StreamPiece) (more : List ℕ) → cut_of s ≡ Ok (Some piece) → cut_of (after_feed s more) ≡ Ok (Some piece)
 cut_of-fed_piece s piece more is = by_state s.fault s.expected refl refl
   where
-    by_state : (f : Option CutFault) (e : Option ℕ) → s.fault ≡ f → s.expected ≡ e → cut_of (fed s more) ≡ Ok (Some piece)
+    by_state : (f : Option CutFault) (e : Option ℕ) → s.fault ≡ f → s.expected ≡ e → cut_of (after_feed s more) ≡ Ok (Some piece)
     by_state (Some fault) e told awaits = absurd (let cut = rw told at is in cc)
     by_state None None told awaits = rw (told, awaits) (cut_line-append s.line_max s.unread more piece (rw (told, awaits) at is))
     by_state None (Some size) told awaits =
@@ -231,10 +231,10 @@ cut_of-fed_piece s piece more is = by_state s.fault s.expected refl refl
         rw (told, awaits, cr_lf_at-append s.unread more size true cut.0, take-append-le size s.unread more (omega arith), cut.1) refl
 
 -- nor a fault
-pub cut_of-fed_fault : (s : CutterState) (fault : CutFault) (more : List ℕ) → cut_of s ≡ Err fault → cut_of (fed s more) ≡ Err fault
+pub cut_of-fed_fault : (s : CutterState) (fault : CutFault) (more : List ℕ) → cut_of s ≡ Err fault → cut_of (after_feed s more) ≡ Err fault
 cut_of-fed_fault s fault more is = by_state s.fault s.expected refl refl
   where
-    by_state : (f : Option CutFault) (e : Option ℕ) → s.fault ≡ f → s.expected ≡ e → cut_of (fed s more) ≡ Err fault
+    by_state : (f : Option CutFault) (e : Option ℕ) → s.fault ≡ f → s.expected ≡ e → cut_of (after_feed s more) ≡ Err fault
     by_state (Some was) e told awaits = rw told (rw told at is)
     by_state None None told awaits =
         let long = is_long s.line_max s.unread fault (first_cr_lf s.unread) refl (rw (told, awaits) at is) in

@@ -3,7 +3,7 @@ use Rattle.std.proofs.Common.{◌≡◌, ℕ, zero, suc, ◌+◌, ◌<◌, ◌�
 use Rattle.std.proofs.lemmas.List.{drop-append-le}
 use Rattle.std.specs.List.{concat}
 use Rattle.wire_cut.specs.declared.faults.CutFault.{CutFault}
-use Rattle.wire_cut.specs.Cut.{Answer, CutterState, StreamPiece, bytes_of, cut_next, cut_unless, cut_of, after_answer, after_next, after_refusal, after_expect, expect_fault, fed}
+use Rattle.wire_cut.specs.Cut.{Answer, CutterState, StreamPiece, bytes_of, cut_next, cut_unless, cut_of, after_answer, after_next, after_refusal, after_expect, expect_fault, after_feed}
 use Rattle.wire_cut.specs.Reading.{Told, going_on, ending, Grammar, Found, nothing, something, the_end, size_fault, found_next, found_before, found_by, cut_awaited, found, Reading, with_items, ended_by, reading_after, reading_within, reading_of, resumed, read_on, read_parts, ReadsInParts, looked_at, ReadsByLooks, WaitsForMore, StandsAt, told_of, FollowsGrammar, ExpectsAgain, ExpectsWhenFed}
 use Rattle.wire_cut.proofs.CutLemmas.{cut_of-piece_length, cut_of-fed_piece, cut_of-fed_fault}
 
@@ -186,7 +186,7 @@ pub expects_again : ExpectsAgain
 expects_again s first second one other =
     ap (λ t. after_expect t second) (expects s first one) ∙ expects (record s { expected = Some first }) second other ∙ sym (expects s second other)
 
-fed_refusal : (s : CutterState) (size : ℕ) (bytes : List ℕ) (fault : Option CutFault) → after_refusal (fed s bytes) size fault ≡ fed (after_refusal s size fault) bytes
+fed_refusal : (s : CutterState) (size : ℕ) (bytes : List ℕ) (fault : Option CutFault) → after_refusal (after_feed s bytes) size fault ≡ after_feed (after_refusal s size fault) bytes
 fed_refusal s size bytes None = refl
 fed_refusal s size bytes (Some fault) = refl
 

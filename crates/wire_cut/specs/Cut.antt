@@ -105,8 +105,8 @@ piece_length (Ok (Some piece)) = Some (length (bytes_of piece))
 piece_length (Err fault) = None
 
 -- the state after more bytes came
-abbrev pub fed : CutterState → List ℕ → CutterState
-fed s bytes = record s { unread = s.unread ++ bytes }
+abbrev pub after_feed : CutterState → List ℕ → CutterState
+after_feed s bytes = record s { unread = s.unread ++ bytes }
 
 -- why a size cannot be expected
 abbrev pub expect_fault : Option CutFault → ℕ → ℕ → Option CutFault

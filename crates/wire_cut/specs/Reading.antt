@@ -3,7 +3,7 @@
 use Rattle.std.specs.Prelude.{◌≡◌, ℕ, zero, suc, ◌+◌, List, [], ◌∷◌, ◌++◌, length, drop, Option, None, Some, Ok, Err}
 use Rattle.std.specs.List.{concat}
 use Rattle.wire_cut.specs.declared.faults.CutFault.{CutFault}
-use Rattle.wire_cut.specs.Cut.{Answer, CutterState, bytes_of, cut_next, cut_of, after_next, after_expect, expect_fault, fed}
+use Rattle.wire_cut.specs.Cut.{Answer, CutterState, bytes_of, cut_next, cut_of, after_next, after_expect, expect_fault, after_feed}
 
 -- ---- grammars
 
@@ -154,7 +154,7 @@ pub record FollowsGrammar {Awaited Item : Type 0} (grammar : Grammar Awaited Ite
       → found grammar awaited s.unread ≡ something items next behind → StandsAt grammar next (told_of (after_next s) (grammar.size next))
   pub behind : (awaited next : Awaited) (s : CutterState) (items : List Item) (behind : List ℕ) → StandsAt grammar awaited s
       → found grammar awaited s.unread ≡ something items next behind → (told_of (after_next s) (grammar.size next)).unread ≡ behind
-  pub fed : (awaited : Awaited) (s : CutterState) (bytes : List ℕ) → StandsAt grammar awaited s → StandsAt grammar awaited (fed s bytes)
+  pub fed : (awaited : Awaited) (s : CutterState) (bytes : List ℕ) → StandsAt grammar awaited s → StandsAt grammar awaited (after_feed s bytes)
 
 -- a second announcement counts alone
 abbrev pub ExpectsAgain : Type 0
@@ -163,4 +163,4 @@ ExpectsAgain = (s : CutterState) (first second : ℕ) → expect_fault s.fault s
 
 -- bytes that are fed between a piece and the announcement lie behind both
 abbrev pub ExpectsWhenFed : Type 0
-ExpectsWhenFed = (s : CutterState) (size : ℕ) (bytes : List ℕ) → after_expect (fed s bytes) size ≡ fed (after_expect s size) bytes
+ExpectsWhenFed = (s : CutterState) (size : ℕ) (bytes : List ℕ) → after_expect (after_feed s bytes) size ≡ after_feed (after_expect s size) bytes

@@ -9,15 +9,15 @@ use Rattle.wire_cut.specs.declared.piece.Piece.TheVariants.{Line, Payload}
 use Rattle.wire_cut.specs.contracts.cutter.Cutter.{the_row}
 
 -- a piece with the bytes that it borrows
-abbrev pub shown_piece : Piece → StreamPiece
-shown_piece (Line bytes) = line bytes.now
-shown_piece (Payload bytes) = payload bytes.now
+abbrev pub stream_piece : Piece → StreamPiece
+stream_piece (Line bytes) = line bytes.now
+stream_piece (Payload bytes) = payload bytes.now
 
 -- what `next` answered
-abbrev pub shown : Result (Option Piece) CutFault → Answer
-shown (Ok None) = Ok None
-shown (Ok (Some piece)) = Ok (Some (shown_piece piece))
-shown (Err fault) = Err fault
+abbrev pub next_answer : Result (Option Piece) CutFault → Answer
+next_answer (Ok None) = Ok None
+next_answer (Ok (Some piece)) = Ok (Some (stream_piece piece))
+next_answer (Err fault) = Err fault
 
 -- the cutter is the one after `next`
 abbrev pub LeavesNext : MutBor CutterState → Fml

@@ -6,7 +6,7 @@ ghost use Rattle.std.specs.Borrow.{sem};
 ghost use Rattle.std.specs.Io.KnownBytes.{Keeps};
 ghost use Rattle.wire_cut.specs.Flow.{Gains, ReadsOnce};
 ghost use Rattle.wire_cut.specs.Search.{HasNoCrLf};
-ghost use Rattle.wire_cut.specs.Cut.{cut_of, cr_lf_at, first_cr_lf, fed};
+ghost use Rattle.wire_cut.specs.Cut.{cut_of, cr_lf_at, first_cr_lf, after_feed};
 ghost use Rattle.wire_cut.specs.Cut.{new_cutter, after_next, after_expect, expect_fault, piece_length, IsUnfinished, IsWithinUnread, IsDue};
 
 use crate::faults::{CutFault, FeedFault, FillFault};
@@ -62,7 +62,7 @@ impl Model for Cutter {
 
 impl Cutter {
     ghost use Rattle.wire_cut.specs.Answers.{FeedAnswers, FillAnswers};
-    ghost use Rattle.wire_cut.specs.Shown.{shown, shown_piece, LeavesNext};
+    ghost use Rattle.wire_cut.specs.Shown.{next_answer, stream_piece, LeavesNext};
 
     /// A cutter to which nothing was fed, for lines of up to `line_max` bytes without their CR LF
     /// and payloads of up to `payload_max` bytes. Both are below 2^32. It takes no memory before
@@ -86,7 +86,7 @@ impl Cutter {
     /// Takes the next bytes of the stream, of any number. Where a fault was told it is answered
     /// again and nothing is kept; only want of memory comes besides, and changes nothing.
     pub fn feed(&mut self, bytes: &[u8]) -> Result<(), FeedFault>
-        ensures ok { OnOk result (self.new ≡ fed self.old bytes.now) }
+        ensures ok { OnOk result (self.new ≡ after_feed self.old bytes.now) }
         ensures answer { FeedAnswers self.old.fault result }
         ensures err { OnErr result (self.new ≡ self.old) }
     {
@@ -124,11 +124,11 @@ impl Cutter {
     /// no CR LF; `NoCrLfAfterPayload`, once both bytes behind the expected payload are there and
     /// are not CR LF; and each that was told before.
     pub fn next(&mut self) -> Result<Option<Piece<'_>>, CutFault>
-        ensures answer { shown result ≡ cut_of self.old }
+        ensures answer { next_answer result ≡ cut_of self.old }
         ensures held { IfOk result (λ piece.
             IfNone piece (IsUnfinished self.old.expected self.old)) }
         ensures within { IfOk result (λ piece.
-            IfSome piece (λ piece. IsWithinUnread (shown_piece piece) self.old)) }
+            IfSome piece (λ piece. IsWithinUnread (stream_piece piece) self.old)) }
         ensures* rest { sem 𝓛 (LeavesNext self.entry) }
     {
         if let Some(fault) = self.fault {
@@ -143,7 +143,7 @@ impl Cutter {
     fn next_line(&mut self) -> Result<Option<Piece<'_>>, CutFault>
         requires no_fault { self.old.fault ≡ None }
         requires line { self.old.expected ≡ None }
-        ensures answer { shown result ≡ cut_of self.old }
+        ensures answer { next_answer result ≡ cut_of self.old }
         ensures* rest { sem 𝓛 (LeavesNext self.entry) }
     {
         let unread = self.window.unread();
@@ -165,7 +165,7 @@ impl Cutter {
         requires no_fault { self.old.fault ≡ None }
         requires payload { self.old.expected ≡ Some size }
         requires size { size < 2 ^ 32 }
-        ensures answer { shown result ≡ cut_of self.old }
+        ensures answer { next_answer result ≡ cut_of self.old }
         ensures* rest { sem 𝓛 (LeavesNext self.entry) }
     {
         match has_cr_lf_at(self.window.unread(), size) {
@@ -181,9 +181,9 @@ impl Cutter {
     /// What [`Cutter::next`] would answer, and will still: nothing is used up, and no fault is kept. A
     /// piece is of the kind that has to come, and within the cutter's limits.
     pub fn peek(&self) -> Result<Option<Piece<'_>>, CutFault>
-        ensures answer { shown result ≡ cut_of self.now }
+        ensures answer { next_answer result ≡ cut_of self.now }
         ensures due { IfOk result (λ piece.
-            IfSome piece (λ piece. IsDue (shown_piece piece) self.now)) }
+            IfSome piece (λ piece. IsDue (stream_piece piece) self.now)) }
     {
         if let Some(fault) = self.fault {
             return Err(fault);
@@ -197,9 +197,9 @@ impl Cutter {
     fn peek_line(&self) -> Result<Option<Piece<'_>>, CutFault>
         requires no_fault { self.now.fault ≡ None }
         requires line { self.now.expected ≡ None }
-        ensures answer { shown result ≡ cut_of self.now }
+        ensures answer { next_answer result ≡ cut_of self.now }
         ensures due { IfOk result (λ piece.
-            IfSome piece (λ piece. IsDue (shown_piece piece) self.now)) }
+            IfSome piece (λ piece. IsDue (stream_piece piece) self.now)) }
     {
         let unread = self.window.unread();
         let longest = self.line_max + CR_LF.len();
@@ -215,9 +215,9 @@ impl Cutter {
         requires no_fault { self.now.fault ≡ None }
         requires payload { self.now.expected ≡ Some size }
         requires size { size < 2 ^ 32 }
-        ensures answer { shown result ≡ cut_of self.now }
+        ensures answer { next_answer result ≡ cut_of self.now }
         ensures due { IfOk result (λ piece.
-            IfSome piece (λ piece. IsDue (shown_piece piece) self.now)) }
+            IfSome piece (λ piece. IsDue (stream_piece piece) self.now)) }
     {
         let unread = self.window.unread();
         match has_cr_lf_at(unread, size) {
@@ -248,7 +248,7 @@ impl Cutter {
         self.searched = 0;
         let with_cr_lf = size + CR_LF.len();
         self.window.advance(with_cr_lf);
-        self.window.used(with_cr_lf, size)
+        self.window.used_bytes(with_cr_lf, size)
     }
 
     /// Announces that a payload of `size` bytes follows the line given last, as `after_line` tells; a
@@ -272,7 +272,7 @@ impl Cutter {
 
     /// How many bytes were fed and not given. After `next` gave `None` they are fewer than the
     /// longest line and its CR LF take, or than the expected payload and its CR LF do.
-    pub fn held(&self) -> usize
+    pub fn unread_len(&self) -> usize
         ensures { result ≡ length self.now.unread }
     {
         self.window.unread().len()

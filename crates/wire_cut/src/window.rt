@@ -101,7 +101,7 @@ impl Window {
 
     /// The first `count` of the `back` bytes that were used up last.
     #[inline]
-    pub fn used(&self, back: usize, count: usize) -> &[u8]
+    pub fn used_bytes(&self, back: usize, count: usize) -> &[u8]
         requires back { back ≤ length self.now.used }
         requires count { count ≤ back }
         ensures { result.now ≡ take count (drop (length self.now.used - back) self.now.used) }

@@ -15,7 +15,7 @@ pub fn text_of<T: SubTable, R: Race>(
     let publications = world.publications();
     let lives = world.lives();
     let placements = world.placements();
-    let sent = world.sent();
+    let sent = world.sent_frames();
     Ok(format!(in alloc; "{outcomes:?} {publications:?} {lives:?} {placements:?} {sent:?}")?)
 }
 

@@ -49,7 +49,7 @@ impl Found {
     }
 
     /// How many kinds of faults were planted, and found each time.
-    pub fn found(&self) -> usize {
+    pub fn found_plants(&self) -> usize {
         let mut count = 0;
         for (planted, found) in self.plants {
             if planted > 0 && planted == found {
@@ -61,7 +61,7 @@ impl Found {
 }
 
 /// Draws and plays the list of this number.
-fn drawn<T: SubTable, R: Race>(alloc: Global, number: u64) -> anyhow::Result<Player<T, R>> {
+fn player_of<T: SubTable, R: Race>(alloc: Global, number: u64) -> anyhow::Result<Player<T, R>> {
     let mut player = Player::new(alloc, number)?;
     if number % BLIND != 1 {
         player.open()?;
@@ -111,12 +111,12 @@ fn count(lists: Lists<'_>) -> usize {
 
 /// Draws the list of this number, and looks at it.
 pub fn drill(alloc: Global, number: u64, found: &mut Found) -> anyhow::Result<()> {
-    let player: Player<ListTable, PlainRace> = drawn(alloc, number)?;
+    let player: Player<ListTable, PlainRace> = player_of(alloc, number)?;
     let lists = Lists {
         publications: player.world.publications(),
         lives: player.world.lives(),
         placements: player.world.placements(),
-        sent: player.world.sent(),
+        sent: player.world.sent_frames(),
     };
     found.lists = u64::saturating_add(found.lists, 1);
     let faults = faults_in(alloc, lists)?;

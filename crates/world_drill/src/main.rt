@@ -61,14 +61,14 @@ fn tell<R: Print>(rt: &R, found: &Found) -> anyhow::Result<()> {
     println!(rt; "lists alike on every table and race: {}", found.alike)?;
     println!(rt;
         "planted faults found: {} of {}",
-        found.found(),
+        found.found_plants(),
         PLANTS.len()
     )?;
     println!(rt; "answers that came: {} of {ANSWERS}", found.seen.answers())?;
     println!(rt;
         "refusals that came: {} of {}",
         found.seen.refusals(),
-        found.seen.wanted()
+        found.seen.wanted_count()
     )?;
     Ok(())
 }

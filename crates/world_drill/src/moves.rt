@@ -29,7 +29,7 @@ const FILLING_SUBS: u64 = 60;
 const FILLING_PUBLISHES: u64 = 18;
 
 /// A publish with this payload.
-fn said(draw: &mut Draw, payload: u64) -> Said {
+fn drawn_publication(draw: &mut Draw, payload: u64) -> Said {
     Said {
         subject: draw.text(&SUBJECTS),
         reply: draw.text(&REPLIES),
@@ -109,24 +109,24 @@ impl<T: SubTable, R: Race> Player<T, R> {
 
     fn publish(&mut self, node: usize) -> anyhow::Result<()> {
         self.said = u64::saturating_add(self.said, 1);
-        let said = said(&mut self.draw, self.said);
+        let said = drawn_publication(&mut self.draw, self.said);
         let conn = self.draw.from_one(CONNS);
         self.ask(Ask::At(node, Own::Say(conn, said)))
     }
 
     /// A server dials another; now and then the connection breaks in between.
     fn join(&mut self, node: usize, peer: usize) -> anyhow::Result<()> {
-        let Told::Session(dialed) = self.told(Ask::At(node, Own::Dial(peer)))? else {
+        let Told::Session(dialed) = self.answer_to(Ask::At(node, Own::Dial(peer)))? else {
             return Ok(());
         };
-        let Told::Session(accepted) = self.told(Ask::At(peer, Own::Accept))? else {
+        let Told::Session(accepted) = self.answer_to(Ask::At(peer, Own::Accept))? else {
             return Ok(());
         };
         let info = self.frames();
         if self.draw.is_one_in(8) {
             return Ok(());
         }
-        let told = self.told(Ask::OnInfo(node, dialed, info))?;
+        let told = self.answer_to(Ask::OnInfo(node, dialed, info))?;
         if matches!(told, Told::Refused) || self.draw.is_one_in(8) {
             return Ok(());
         }
@@ -172,7 +172,7 @@ impl<T: SubTable, R: Race> Player<T, R> {
         }
         for index in 0..4 {
             let claim = ShardWork::Claim { index };
-            let told = self.told(Ask::At(node, Own::At(shard, claim)))?;
+            let told = self.answer_to(Ask::At(node, Own::At(shard, claim)))?;
             if matches!(told, Told::Refused) {
                 break;
             }

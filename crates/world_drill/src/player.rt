@@ -115,7 +115,7 @@ impl<T: SubTable, R: Race> Player<T, R> {
     }
 
     /// Asks an event, and keeps it with its outcome.
-    pub fn told(&mut self, ask: Ask) -> anyhow::Result<Told> {
+    pub fn answer_to(&mut self, ask: Ask) -> anyhow::Result<Told> {
         let event = event_of(self.alloc, ask)?;
         let outcome = self.world.step(&event)?;
         let told = told_of(&outcome);
@@ -126,18 +126,18 @@ impl<T: SubTable, R: Race> Player<T, R> {
 
     /// The same, where it does not matter what comes of it.
     pub fn ask(&mut self, ask: Ask) -> anyhow::Result<()> {
-        let _told = self.told(ask)?;
+        let _told = self.answer_to(ask)?;
         Ok(())
     }
 
     /// How many frames were sent.
     pub fn frames(&self) -> usize {
-        count(self.world.sent())
+        count(self.world.sent_frames())
     }
 
     /// The place of the server that the numbered frame with this number is for; none for other frames.
     pub fn addressee(&self, number: usize) -> Option<usize> {
-        match frame_of(self.world.sent(), number)? {
+        match frame_of(self.world.sent_frames(), number)? {
             RouteFrame::Numbered(frame) => Some(place_of(frame.to())),
             _ => None,
         }

@@ -112,7 +112,7 @@ impl Seen {
     }
 
     /// How many refusals have to come.
-    pub fn wanted(&self) -> usize {
+    pub fn wanted_count(&self) -> usize {
         self.refusals.len()
     }
 }

@@ -4,14 +4,14 @@ use Rattle.atomic_table.proofs.Lists.{set_here, set_else}
 use Rattle.claim_cells.specs.declared.parts.HubPart.{HubPart}
 use Rattle.claim_cells.specs.declared.parts.ShardPart.{ShardPart}
 use Rattle.claim_cells.specs.Rule.{At, Has, InTurn, Law}
-use Rattle.claim_cells.specs.Steps.{looked, issued_one}
+use Rattle.claim_cells.specs.Steps.{hub_after_load, issued_one}
 use Rattle.claim_cells.proofs.Rules.Lists.{at_below, same_at, has_snoc, set_case}
 use native.Mathlib.Decide.{ℕ_discrete}
 use mathlib.Core.Logic.{dite}
 
 module _ (limit window names : ℕ) (hub : HubPart) (all : List ShardPart) (law : Law limit window names hub all) where
   -- the hub has loaded no more than the shard's finished turn
-  pub law_look : (s n : ℕ) (p : ShardPart) → At all s p → n ≤ p.finished → Law limit window names (looked hub p.shard n) all
+  pub law_look : (s n : ℕ) (p : ShardPart) → At all s p → n ≤ p.finished → Law limit window names (hub_after_load hub p.shard n) all
   law_look s n p at low = record {
     named = law.named;
     limited = law.limited;

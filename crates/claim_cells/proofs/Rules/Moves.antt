@@ -10,8 +10,8 @@ use Rattle.atomic_table.proofs.Lists.{set_else, one_turn}
 use Rattle.claim_cells.specs.declared.parts.HubPart.{HubPart}
 use Rattle.claim_cells.specs.declared.parts.ShardPart.{ShardPart}
 use Rattle.claim_cells.specs.declared.parts.View.{View}
-use Rattle.claim_cells.specs.Rule.{At, Has, Law, Words, Seated, Kept, InTurn, IsCell, cell, row, rest_of, first_of_view, joined, spent}
-use Rattle.claim_cells.specs.Steps.{looked, issued_one, seen, won_by, lost_by, finished_one, with_hub, with_part, Looks, Issues, Sees, Claims, IsFoundAt, Finishes}
+use Rattle.claim_cells.specs.Rule.{At, Has, Law, Words, Seated, Kept, InTurn, IsCell, cell, row, rest_of, first_of_view, joined_view, spent_view}
+use Rattle.claim_cells.specs.Steps.{hub_after_load, issued_one, part_after_load, won_by, lost_by, finished_one, with_hub, with_part, Looks, Issues, Sees, Claims, IsFoundAt, Finishes}
 use Rattle.claim_cells.specs.Seats.{Sighted}
 use Rattle.claim_cells.proofs.Rules.Lists.{un_some, same_at, at_there, has_snoc, has_more, has_last, snoc_at, cell_below, cell_same}
 use Rattle.claim_cells.proofs.Rules.LawKept.{law_look, law_issue, law_part}
@@ -25,8 +25,8 @@ module _ {S : Type 0} (limit window names count : ℕ) (wide : 0 < window) where
   pub splits : (id : ℕ) (v : View) → Splits Rule id v (rest_of v) (first_of_view v)
   splits id v s k at = (k.0, k.1, k.2, k.3, seated_split s.views k.0 k.1 k.4 id v at)
 
-  pub joins : (id other : ℕ) (v w : View) (h : HubPart) → v.hub ≡ Some h → Joins Rule id v other w (joined v w) spent
-  joins id other v w h has s k at apart there = (k.0, k.1, k.2, k.3, seated_join s.views k.0 k.1 k.4 id v at other w h has apart (sym (set_else s.views id other (joined v w) apart) ∙ there))
+  pub joins : (id other : ℕ) (v w : View) (h : HubPart) → v.hub ≡ Some h → Joins Rule id v other w (joined_view v w) spent_view
+  joins id other v w h has s k at apart there = (k.0, k.1, k.2, k.3, seated_join s.views k.0 k.1 k.4 id v at other w h has apart (sym (set_else s.views id other (joined_view v w) apart) ∙ there))
 
   module _ (slots id : ℕ) (m : Me S View) where
     -- the hub loads a shard's finished word
@@ -37,18 +37,18 @@ module _ {S : Type 0} (limit window names count : ℕ) (wide : 0 < window) where
         let part = at_there all s (subst (λ (n : ℕ). s < n) (sym words.shards) (omega arith)) in let p : ShardPart = part.0 in
         let named : p.shard ≡ shard = (let e = law.named s p part.1 in omega arith) in
         let word : n ≡ p.finished = ap (slice_index t.words) {x = shard} {y = s + 1} (omega arith) ∙ words.finished s p part.1 in (
-          with_hub m.0 (looked h shard n) s,
+          with_hub m.0 (hub_after_load h shard n) s,
           keeps,
           tt,
           (
-            looked h shard n,
+            hub_after_load h shard n,
             all,
-            subst (λ (z : HubPart). Law limit window names (looked z shard n) all) (sym mine) (subst (λ (k : ℕ). Law limit window names (looked hub k n) all) named (law_look limit window names hub all law s n p part.1 (omega arith))),
-            subst (λ (l : List ℕ). Words window names count l (looked h shard n) all) (sym (set-get_or t.words shard 0)) (words_look limit window names count t.words hub all wide law words (looked h shard n) (ap (λ z. z.issued) mine)),
-            seated_hub t.views hub all seated id m.0 at h (looked h shard n) s is,
+            subst (λ (z : HubPart). Law limit window names (hub_after_load z shard n) all) (sym mine) (subst (λ (k : ℕ). Law limit window names (hub_after_load hub k n) all) named (law_look limit window names hub all law s n p part.1 (omega arith))),
+            subst (λ (l : List ℕ). Words window names count l (hub_after_load h shard n) all) (sym (set-get_or t.words shard 0)) (words_look limit window names count t.words hub all wide law words (hub_after_load h shard n) (ap (λ z. z.issued) mine)),
+            seated_hub t.views hub all seated id m.0 at h (hub_after_load h shard n) s is,
           ),
           (λ g is'. let one : h ≡ g = un_some h g (sym is ∙ is') in (
-            (λ j. (with_hub m.0 (looked (one j) shard n) s, m.1)),
+            (λ j. (with_hub m.0 (hub_after_load (one j) shard n) s, m.1)),
             (let low = law.finishes s p part.1 in let most = law.limited in omega arith),
             (λ f has. let low : f ≤ p.finished = law.looks s f p (subst (λ (z : HubPart). Has z.loads (p.shard, f)) (sym one ∙ mine) (subst (λ (r : ℕ). Has g.loads (r, f)) (sym named) has)) part.1 in omega arith),
             (λ i q mine' called. word ∙ ap (λ (z : ShardPart). z.finished) (same_at all s (row q) p q (let e = called in omega arith) part.1 (my_part t.views hub all seated id m.0 at i q mine'))),
@@ -86,20 +86,20 @@ module _ {S : Type 0} (limit window names count : ℕ) (wide : 0 < window) where
     see p mine t k len at fits = let hub = k.0 in let all = k.1 in let law : Law limit window names hub all = k.2 in let words : Words window names count t.words hub all = k.3 in
         let seated : Seated t.views hub all = k.4 in let n : ℕ = slice_index t.words 0 in let s : ℕ = row p in
         let there : At all s p = my_part t.views hub all seated id m.0 at m.0.at p mine in let word : n ≡ hub.issued = words.issued in (
-          with_part m.0 (seen p n),
+          with_part m.0 (part_after_load p n),
           keeps,
           tt,
           (
             hub,
-            set all s (seen p n),
-            law_part limit window names hub all law s p there (seen p n) refl (omega arith) (law.finishes s p there) (λ f h. ⊎_elim (λ old. law.sees s f p there old) (λ new. omega arith) (has_snoc p.loads n f h))
+            set all s (part_after_load p n),
+            law_part limit window names hub all law s p there (part_after_load p n) refl (omega arith) (law.finishes s p there) (λ f h. ⊎_elim (λ old. law.sees s f p there old) (λ new. omega arith) (has_snoc p.loads n f h))
                 (law.won s p there) (law.lost s p there) (λ pair h. h) (λ i pair h. inl h) (λ pair h. inl h),
-            subst (λ (l : List ℕ). Words window names count l hub (set all s (seen p n))) (sym (set-get_or t.words 0 0))
-                (words_part limit window names count t.words hub all wide law words s p there (seen p n) t.words refl refl (words.finished s p there) (λ r ne low. refl) (λ c low. omega arith) (λ pair h. h) (λ f x h. inl h) (λ c low. inl refl)),
-            seated_part t.views hub all seated id m.0 at p (seen p n) mine refl law.named,
+            subst (λ (l : List ℕ). Words window names count l hub (set all s (part_after_load p n))) (sym (set-get_or t.words 0 0))
+                (words_part limit window names count t.words hub all wide law words s p there (part_after_load p n) t.words refl refl (words.finished s p there) (λ r ne low. refl) (λ c low. omega arith) (λ pair h. h) (λ f x h. inl h) (λ c low. inl refl)),
+            seated_part t.views hub all seated id m.0 at p (part_after_load p n) mine refl law.named,
           ),
           (λ q mine'. let one : p ≡ q = same_at m.0.shards m.0.at m.0.at p q refl mine mine' in (
-            (λ j. (with_part m.0 (seen (one j) n), m.1)),
+            (λ j. (with_part m.0 (part_after_load (one j) n), m.1)),
             (let most = law.limited in omega arith),
             (λ f has. let low : f ≤ hub.issued = law.sees s f p there (subst (λ (z : ShardPart). Has z.loads f) (sym one) has) in omega arith),
             (λ h is. word ∙ ap (λ z. z.issued) (sym (my_hub t.views hub all seated id m.0 at h is))),

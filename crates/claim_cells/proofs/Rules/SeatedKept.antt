@@ -4,7 +4,7 @@ use Rattle.atomic_table.proofs.Lists.{set_here, set_else, at_longer, at_last}
 use Rattle.claim_cells.specs.declared.parts.HubPart.{HubPart}
 use Rattle.claim_cells.specs.declared.parts.ShardPart.{ShardPart}
 use Rattle.claim_cells.specs.declared.parts.View.{View}
-use Rattle.claim_cells.specs.Rule.{At, Seated, StandsAt, row, rest_parts, first_parts, rest_of, first_of_view, joined, spent}
+use Rattle.claim_cells.specs.Rule.{At, Seated, StandsAt, row, rest_parts, first_parts, rest_of, first_of_view, joined_view, spent_view}
 use Rattle.claim_cells.specs.Steps.{with_hub, with_part}
 use Rattle.claim_cells.proofs.Rules.Lists.{un_some, no_some, at_below, same_at, set_case, snoc_at, append_at, behind_at}
 use native.Mathlib.Decide.{ℕ_discrete}
@@ -169,13 +169,13 @@ module _ (views : List View) (hub : HubPart) (all : List ShardPart) (seated : Se
       split_stands z p (no ne) e t = (t.0, at_longer (set views id (rest_of v)) (first_of_view v ∷ []) z.0 t.0 (set_else views id z.0 (rest_of v) ne ∙ t.1), t.2)
 
   -- the parts of another seat go behind those of this one, which has the hub's
-  pub seated_join : (other : ℕ) (w : View) (h : HubPart) → v.hub ≡ Some h → other ≢ id → At views other w → Seated (set (set views id (joined v w)) other spent) hub all
+  pub seated_join : (other : ℕ) (w : View) (h : HubPart) → v.hub ≡ Some h → other ≢ id → At views other w → Seated (set (set views id (joined_view v w)) other spent_view) hub all
   seated_join other w h has apart there = record {
     place = moved;
     desk = seated.desk;
-    shards = λ j i u p e. set_case (set views id (joined v w)) other spent (λ j u. (i : ℕ) (p : ShardPart) → At u.shards i p → At all (row p) p × (moved (row p) ≡ (j, i)))
+    shards = λ j i u p e. set_case (set views id (joined_view v w)) other spent_view (λ j u. (i : ℕ) (p : ShardPart) → At u.shards i p → At all (row p) p × (moved (row p) ≡ (j, i)))
         (λ i p k. absurd (some-ne-none p (sym k)))
-        (λ j u ne e. set_case views id (joined v w) (λ j u. j ≢ other → (i : ℕ) (p : ShardPart) → At u.shards i p → At all (row p) p × (moved (row p) ≡ (j, i)))
+        (λ j u ne e. set_case views id (joined_view v w) (λ j u. j ≢ other → (i : ℕ) (p : ShardPart) → At u.shards i p → At all (row p) p × (moved (row p) ≡ (j, i)))
         (λ ne i p k. ⊎_elim
         (λ mine. stay id ne i p (seated.shards id i v p here mine))
         (λ t. let now = seated.shards other t.0 w p there t.2 in (now.0, join_moves id other (length v.shards) t.0 (seated.place (row p)) (ℕ_discrete _ _) now.1 ∙ (λ m. (id, sym t.1 m))))
@@ -183,25 +183,25 @@ module _ (views : List View) (hub : HubPart) (all : List ShardPart) (seated : Se
         (λ j u ne' e ne i p k. stay j ne i p (seated.shards j i u p e k))
         j u e ne)
         j u e i p;
-    hubs = λ j u h e. set_case (set views id (joined v w)) other spent (λ j u. (h : HubPart) → u.hub ≡ Some h → (h ≡ hub) × (j ≡ seated.desk))
+    hubs = λ j u h e. set_case (set views id (joined_view v w)) other spent_view (λ j u. (h : HubPart) → u.hub ≡ Some h → (h ≡ hub) × (j ≡ seated.desk))
         (λ h is. absurd (no_some h is))
-        (λ j u ne e. set_case views id (joined v w) (λ j u. (h : HubPart) → u.hub ≡ Some h → (h ≡ hub) × (j ≡ seated.desk)) (λ h is. seated.hubs id v h here is) (λ j u ne e h is. seated.hubs j u h e is) j u e)
+        (λ j u ne e. set_case views id (joined_view v w) (λ j u. (h : HubPart) → u.hub ≡ Some h → (h ≡ hub) × (j ≡ seated.desk)) (λ h is. seated.hubs id v h here is) (λ j u ne e h is. seated.hubs j u h e is) j u e)
         j u e h;
     each = λ s p e. join_stands (seated.place s) p (ℕ_discrete _ _) (seated.each s p e);
-    one = (both, subst (λ (k : ℕ). At (set (set views id both) other spent) k both) (seated.hubs id v h here has).1 joined_here, has ∙ ap Some (seated.hubs id v h here has).0);
+    one = (both, subst (λ (k : ℕ). At (set (set views id both) other spent_view) k both) (seated.hubs id v h here has).1 joined_here, has ∙ ap Some (seated.hubs id v h here has).0);
   }
     where
       both : View
-      both = joined v w
+      both = joined_view v w
 
-      joined_here : At (set (set views id both) other spent) id both
-      joined_here = set_else (set views id both) other id spent (λ e. apart (sym e)) ∙ here_now both id refl
+      joined_here : At (set (set views id both) other spent_view) id both
+      joined_here = set_else (set views id both) other id spent_view (λ e. apart (sym e)) ∙ here_now both id refl
 
-      join_stands : (z : ℕ × ℕ) (p : ShardPart) (d : Dec (z.0 ≡ other)) → StandsAt views z p → StandsAt (set (set views id both) other spent) (join_place id other (length v.shards) z d) p
+      join_stands : (z : ℕ × ℕ) (p : ShardPart) (d : Dec (z.0 ≡ other)) → StandsAt views z p → StandsAt (set (set views id both) other spent_view) (join_place id other (length v.shards) z d) p
       join_stands z p (yes is) t = (both, joined_here, behind_at v.shards w.shards z.1 p (subst (λ (u : View). At u.shards z.1 p) (same_at views z.0 other t.0 w is t.1 there) t.2))
       join_stands z p (no ne) t = dite (ℕ_discrete z.0 id)
-          (λ is. (both, subst (λ (k : ℕ). At (set (set views id both) other spent) k both) (sym is) joined_here, at_longer v.shards w.shards z.1 p (mine_at z p is t)))
-          (λ far. (t.0, set_else (set views id both) other z.0 spent ne ∙ set_else views id z.0 both far ∙ t.1, t.2))
+          (λ is. (both, subst (λ (k : ℕ). At (set (set views id both) other spent_view) k both) (sym is) joined_here, at_longer v.shards w.shards z.1 p (mine_at z p is t)))
+          (λ far. (t.0, set_else (set views id both) other z.0 spent_view ne ∙ set_else views id z.0 both far ∙ t.1, t.2))
 
       moved : ℕ → ℕ × ℕ
       moved s = join_place id other (length v.shards) (seated.place s) (ℕ_discrete _ _)

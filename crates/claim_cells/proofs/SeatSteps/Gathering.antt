@@ -11,7 +11,7 @@ use Rattle.subj.specs.declared.limits.TheConstants.{MAX_COUNTER, MAX_QUEUE_NAMES
 use Rattle.claim_cells.specs.declared.parts.HubPart.{HubPart}
 use Rattle.claim_cells.specs.declared.parts.ShardPart.{ShardPart}
 use Rattle.claim_cells.specs.declared.parts.View.{View}
-use Rattle.claim_cells.specs.Rule.{At, Has, Law, Words, Kept, IsCell, joined, row, cell}
+use Rattle.claim_cells.specs.Rule.{At, Has, Law, Words, Kept, IsCell, joined_view, row, cell}
 use Rattle.claim_cells.specs.Steps.{part_of}
 use Rattle.claim_cells.specs.Seats.{RaceId, ShardShown, IsShard}
 use Rattle.claim_cells.specs.Calls.{AllOf, Gathers, HasEach, IsGathered, IsPartsOf, IsClosed, finished_list}
@@ -22,7 +22,7 @@ pub gather_start : (hub : HubPart) (seats : List ShardShown) (view : View) → v
 gather_start hub seats view is = (is, (λ i seat at. inl at))
 
 pub gather_step : {S : Type 0} (hub : HubPart) (seats left rest : List ShardShown) (seat : ShardShown) (view : View) (m : Me S View) → left ≡ rest ++ seat ∷ [] → IsShard m → part_of m ≡ seat.part → Gathers hub seats left view
-    → Gathers hub seats rest (joined view m.0)
+    → Gathers hub seats rest (joined_view view m.0)
 gather_step hub seats left rest seat view m is whole mine old = (
   old.0,
   (λ i o at. ⊎_elim

@@ -6,7 +6,7 @@ use Rattle.claim_cells.specs.declared.parts.HubPart.{HubPart}
 use Rattle.claim_cells.specs.declared.parts.ShardPart.{ShardPart}
 use Rattle.claim_cells.specs.declared.parts.View.{View}
 use Rattle.claim_cells.specs.Rule.{Has}
-use Rattle.claim_cells.specs.Steps.{hub_of, part_of, HasHub, HasPart, with_hub, with_part, seen, won_by, lost_by, finished_one, IsClaimedAt}
+use Rattle.claim_cells.specs.Steps.{hub_of, part_of, HasHub, HasPart, with_hub, with_part, part_after_load, won_by, lost_by, finished_one, IsClaimedAt}
 use Rattle.claim_cells.specs.Seats.{hub_view, shard_view, IsShard, IsHub, IsShardSeat, last_from, last_load, HasTurn, Sighted}
 
 module _ {S : Type 0} (m : Me S View) where
@@ -44,8 +44,8 @@ module _ {S : Type 0} (m k : Me S View) (shard finished next sight : ℕ) (is : 
   keeps_names : (p : ShardPart) → k ≡ (with_part m.0 p, m.1) → p.shard ≡ (part_of m).shard → ((part_of k).shard ≡ shard) × (shard ≤ k.0.count)
   keeps_names p e same = let now = part_now m k p is.whole e in (ap (λ (p : ShardPart). p.shard) now.1 ∙ same ∙ is.named, (let last = is.last in let count = now.2 in omega arith))
 
-  pub seat_saw : (n : ℕ) → k ≡ (with_part m.0 (seen (part_of m) n), m.1) → IsShardSeat k shard finished next n
-  seat_saw n e = let p = seen (part_of m) n in let now = part_now m k p is.whole e in let names = keeps_names p e refl in record {
+  pub seat_saw : (n : ℕ) → k ≡ (with_part m.0 (part_after_load (part_of m) n), m.1) → IsShardSeat k shard finished next n
+  seat_saw n e = let p = part_after_load (part_of m) n in let now = part_now m k p is.whole e in let names = keeps_names p e refl in record {
     whole = now.0;
     named = names.0;
     first = is.first;

@@ -15,10 +15,10 @@ use Rattle.claim_cells.specs.declared.parts.HubPart.{HubPart}
 use Rattle.claim_cells.specs.declared.parts.ShardPart.{ShardPart}
 use Rattle.claim_cells.specs.declared.parts.View.{View}
 use Rattle.claim_cells.specs.Rule.{At, Has, newcomer, newcomers, whole_view}
-use Rattle.claim_cells.specs.Steps.{hub_of, part_of, HasPart, Won, with_hub, with_part, with_loads, seen, won_by, lost_by, finished_one, looked, IsLookedAt, IsSeenAt, IsClaimedAt, IsFinishedAt}
+use Rattle.claim_cells.specs.Steps.{hub_of, part_of, HasPart, Won, with_hub, with_part, with_loads, part_after_load, won_by, lost_by, finished_one, hub_after_load, IsLookedAt, IsSeenAt, IsClaimedAt, IsFinishedAt}
 use Rattle.claim_cells.specs.Seats.{Sighted}
 use Rattle.claim_cells.specs.Calls.{finished_list, IsRoundAt, IsIssueAt}
-use Rattle.claim_cells.specs.OneSeat.{finished_in, next_in, wins_in, shown, IsWhole}
+use Rattle.claim_cells.specs.OneSeat.{finished_in, next_in, wins_in, race_of_seat, IsWhole}
 use Rattle.claim_cells.proofs.Rules.Lists.{at_below, at_there, same_at, read_at, set_case, has_last}
 use Rattle.claim_cells.proofs.Rules.Opening.{is_new, newcomers_length}
 use Rattle.claim_cells.proofs.SeatSteps.Wins.{wins_kept, other_pair, this_pair, nobody, somebody}
@@ -60,7 +60,7 @@ module _ {S : Type 0} (m k : Me S View) (whole : IsWhole m) where
 pub record IsReady {S : Type 0} (m k : Me S View) (shard turn : ℕ) : Type 0 where
   pub whole : IsWhole k
   pub count : k.0.count ≡ m.0.count
-  pub shows : shown k ≡ shown m
+  pub shows : race_of_seat k ≡ race_of_seat m
   pub part : HasPart k
   pub place : k.0.at ≡ shard - 1
   pub named : (part_of k).shard ≡ shard
@@ -68,7 +68,7 @@ pub record IsReady {S : Type 0} (m k : Me S View) (shard turn : ℕ) : Type 0 wh
   pub turn_is : turn ≡ (part_of k).finished + 1
   pub sighted : Sighted (part_of k)
 
-module _ {S : Type 0} (m k : Me S View) (whole : IsWhole m) (shard turn : ℕ) (on_turn : IsInTurn (shown m) shard turn) (limit n : ℕ) (look : IsLookedAt limit shard (hub_of m) m n k) where
+module _ {S : Type 0} (m k : Me S View) (whole : IsWhole m) (shard turn : ℕ) (on_turn : IsInTurn (race_of_seat m) shard turn) (limit n : ℕ) (look : IsLookedAt limit shard (hub_of m) m n k) where
   abbrev s : ℕ
   s = shard - 1
 
@@ -86,7 +86,7 @@ module _ {S : Type 0} (m k : Me S View) (whole : IsWhole m) (shard turn : ℕ) (
     p = part_of k
 
     abbrev q : ShardPart
-    q = seen (part_of k) load
+    q = part_after_load (part_of k) load
 
     at_place : k.0.at ≡ s
     at_place = ap (λ k. k.0.at) look.0
@@ -95,16 +95,16 @@ module _ {S : Type 0} (m k : Me S View) (whole : IsWhole m) (shard turn : ℕ) (
     same_shards = ap (λ k. k.0.shards) look.0
 
     whole_k : IsWhole k
-    whole_k = (whole_hub m k whole (looked (hub_of m) shard n) s look.0).0
+    whole_k = (whole_hub m k whole (hub_after_load (hub_of m) shard n) s look.0).0
 
     part_j : part_of j ≡ q
     part_j = ap part_of see.0 ∙ or_at (set k.0.shards k.0.at q) k.0.at (newcomer 0) q (set_here k.0.shards k.0.at q (at_below k.0.shards k.0.at p looked_part))
 
-    shows_k : shown k ≡ shown m
-    shows_k = ap shown look.0
+    shows_k : race_of_seat k ≡ race_of_seat m
+    shows_k = ap race_of_seat look.0
 
-    shows_j : shown j ≡ shown k
-    shows_j = ap shown see.0 ∙ (λ i. record {
+    shows_j : race_of_seat j ≡ race_of_seat k
+    shows_j = ap race_of_seat see.0 ∙ (λ i. record {
       issued = (hub_of k).issued;
       finished = same_field (λ (p : ShardPart). p.finished) k.0.shards k.0.at p q looked_part refl i;
       next = same_field (λ (p : ShardPart). p.next) k.0.shards k.0.at p q looked_part refl i;
@@ -177,9 +177,9 @@ module _ {S : Type 0} (m k j : Me S View) (shard turn x : ℕ) (is : IsReady m k
   none_won : ¬ Won k.0 (mine.finished + 1, x) → find (is_of_pair turn x) (wins_in k.0.shards) ≡ None
   none_won free = nobody turn x k.0.shards (λ i p at has. free (i, p, at, subst (λ (n : ℕ). Has p.won (n, x)) is.turn_is has))
 
-  won_claim : k.0.at ≡ shard - 1 → j ≡ (with_part k.0 (won_by mine x), k.1) → ¬ Won k.0 (mine.finished + 1, x) → IsClaimed (shown k) shard turn x true (shown j)
+  won_claim : k.0.at ≡ shard - 1 → j ≡ (with_part k.0 (won_by mine x), k.1) → ¬ Won k.0 (mine.finished + 1, x) → IsClaimed (race_of_seat k) shard turn x true (race_of_seat j)
   unfolding winner
-  won_claim place e free = subst (λ (r : RaceState). IsClaimed (shown k) shard turn x true r) (sym (ap shown e)) (record {
+  won_claim place e free = subst (λ (r : RaceState). IsClaimed (race_of_seat k) shard turn x true r) (sym (ap race_of_seat e)) (record {
     decided = sym (ap (λ o. is_none (shard_of o)) (none_won free));
     issued = refl;
     finished = same_field (λ (p : ShardPart). p.finished) k.0.shards k.0.at mine (won_by mine x) is.part refl;
@@ -188,10 +188,10 @@ module _ {S : Type 0} (m k j : Me S View) (shard turn x : ℕ) (is : IsReady m k
     winners = λ t i _. winners_won k.0.shards k.0.at shard turn x mine is.part is.named is.turn_is (none_won free) t i;
   })
 
-  lost_claim : k.0.at ≡ shard - 1 → j ≡ (with_part k.0 (lost_by mine x), k.1) → Won k.0 (mine.finished + 1, x) → IsClaimed (shown k) shard turn x false (shown j)
+  lost_claim : k.0.at ≡ shard - 1 → j ≡ (with_part k.0 (lost_by mine x), k.1) → Won k.0 (mine.finished + 1, x) → IsClaimed (race_of_seat k) shard turn x false (race_of_seat j)
   unfolding winner
   lost_claim place e taken = let wins = wins_kept k.0.shards k.0.at mine (lost_by mine x) is.part refl refl in
-      subst (λ (r : RaceState). IsClaimed (shown k) shard turn x false r) (sym (ap shown e)) (record {
+      subst (λ (r : RaceState). IsClaimed (race_of_seat k) shard turn x false r) (sym (ap race_of_seat e)) (record {
         decided = sym (somebody turn x k.0.shards taken.0 taken.1 taken.2 (subst (λ (n : ℕ). Has taken.1.won (n, x)) (sym is.turn_is) taken.3));
         issued = refl;
         finished = same_field (λ (p : ShardPart). p.finished) k.0.shards k.0.at mine (lost_by mine x) is.part refl;
@@ -200,36 +200,36 @@ module _ {S : Type 0} (m k j : Me S View) (shard turn x : ℕ) (is : IsReady m k
         winners = λ t i _. ap (λ l. shard_of (find (is_of_pair t i) l)) wins;
       })
 
-  claimed_either : (won : Bool) → IsClaimedAt mine x k won j → IsWhole j × (j.0.count ≡ k.0.count) × IsClaimed (shown k) shard turn x won (shown j) × ((hub_of j).issued ≡ (hub_of k).issued) × (finished_in j.0.shards ≡ finished_in k.0.shards)
+  claimed_either : (won : Bool) → IsClaimedAt mine x k won j → IsWhole j × (j.0.count ≡ k.0.count) × IsClaimed (race_of_seat k) shard turn x won (race_of_seat j) × ((hub_of j).issued ≡ (hub_of k).issued) × (finished_in j.0.shards ≡ finished_in k.0.shards)
   claimed_either true told = let did = told.0 refl in let kept = whole_part k j is.whole (won_by mine x) refl is.part did.0 in
       (kept.0, kept.1, won_claim is.place did.0 did.1, ap (λ j. (hub_of j).issued) did.0, ap (λ j. finished_in j.0.shards) did.0 ∙ same_field (λ (p : ShardPart). p.finished) k.0.shards k.0.at mine (won_by mine x) is.part refl)
   claimed_either false told = let did = told.1 refl in let kept = whole_part k j is.whole (lost_by mine x) refl is.part did.0 in
       (kept.0, kept.1, lost_claim is.place did.0 (did.1 is.whole.0), ap (λ j. (hub_of j).issued) did.0, ap (λ j. finished_in j.0.shards) did.0 ∙ same_field (λ (p : ShardPart). p.finished) k.0.shards k.0.at mine (lost_by mine x) is.part refl)
 
   pub claims : (won : Bool) → IsClaimedAt mine x k won j
-      → IsWhole j × (j.0.count ≡ m.0.count) × IsClaimed (shown m) shard turn x won (shown j) × ((hub_of j).issued ≡ (hub_of m).issued) × (finished_in j.0.shards ≡ finished_in m.0.shards)
+      → IsWhole j × (j.0.count ≡ m.0.count) × IsClaimed (race_of_seat m) shard turn x won (race_of_seat j) × ((hub_of j).issued ≡ (hub_of m).issued) × (finished_in j.0.shards ≡ finished_in m.0.shards)
   claims won told = let did = claimed_either won told in (
     did.0,
     did.1 ∙ is.count,
-    subst (λ (r : RaceState). IsClaimed r shard turn x won (shown j)) is.shows did.2,
+    subst (λ (r : RaceState). IsClaimed r shard turn x won (race_of_seat j)) is.shows did.2,
     did.3 ∙ ap (λ (r : RaceState). r.issued) is.shows,
     did.4 ∙ ap (λ (r : RaceState). r.finished) is.shows,
   )
 
   -- ---- a finish
 
-  finished_claim : j ≡ (with_part k.0 (finished_one mine), k.1) → IsFinished (shown k) shard turn (shown j)
+  finished_claim : j ≡ (with_part k.0 (finished_one mine), k.1) → IsFinished (race_of_seat k) shard turn (race_of_seat j)
   unfolding winner
-  finished_claim e = subst (λ (r : RaceState). IsFinished (shown k) shard turn r) (sym (ap shown e)) (record {
+  finished_claim e = subst (λ (r : RaceState). IsFinished (race_of_seat k) shard turn r) (sym (ap race_of_seat e)) (record {
     issued = refl;
     finished = map-set (λ (p : ShardPart). p.finished) k.0.shards k.0.at (finished_one mine) ∙ ap (λ (s : ℕ). set (finished_in k.0.shards) s (mine.finished + 1)) is.place ∙ ap (set (finished_in k.0.shards) (shard - 1)) (sym is.turn_is);
     next = map-set (λ (p : ShardPart). p.next) k.0.shards k.0.at (finished_one mine) ∙ ap (λ (s : ℕ). set (next_in k.0.shards) s 0) is.place;
     kept = record { winners = λ t i _. ap (λ l. shard_of (find (is_of_pair t i) l)) (wins_kept k.0.shards k.0.at mine (finished_one mine) is.part refl refl) };
   })
 
-  pub finishes : IsFinishedAt mine k j → IsWhole j × (j.0.count ≡ m.0.count) × IsFinished (shown m) shard turn (shown j)
+  pub finishes : IsFinishedAt mine k j → IsWhole j × (j.0.count ≡ m.0.count) × IsFinished (race_of_seat m) shard turn (race_of_seat j)
   finishes e = let kept = whole_part k j is.whole (finished_one mine) refl is.part e in
-      (kept.0, kept.1 ∙ is.count, subst (λ (r : RaceState). IsFinished r shard turn (shown j)) is.shows (finished_claim e))
+      (kept.0, kept.1 ∙ is.count, subst (λ (r : RaceState). IsFinished r shard turn (race_of_seat j)) is.shows (finished_claim e))
 
 -- a shard's turn is noted among the last finished ones
 pub noted_finish : (found : List ℕ) (shard turn : ℕ) → shard - 1 < length found → set (finished_list found) (shard - 1) turn ≡ finished_list (set found (shard - 1) turn)
@@ -245,14 +245,14 @@ module _ {S : Type 0} (m k : Me S View) (whole : IsWhole m) (shards : ℕ) (coun
       let there = at_there m.0.shards s (let a = round.0.0 in let b = whole.0.0 in let d = counted in omega arith) in
       sym (read_at found s f.0 f.1) ∙ round.2 s f.0 s there.0 f.1 there.1 (whole.0.1 s there.0 there.1) ∙ read_at (finished_in m.0.shards) s there.0.finished (at_map (λ (p : ShardPart). p.finished) m.0.shards s there.0 there.1))
 
-  pub round_shows : shown k ≡ shown m
-  round_shows = ap shown round.1.1
+  pub round_shows : race_of_seat k ≡ race_of_seat m
+  round_shows = ap race_of_seat round.1.1
 
   pub round_whole : IsWhole k × (k.0.count ≡ m.0.count)
   round_whole = whole_hub m k whole (with_loads (hub_of m) found) round.1.0 round.1.1
 
 pub issues : {S : Type 0} (m k : Me S View) (shards : ℕ) (result : Result ℕ Busy) → IsWhole m → m.0.count ≡ shards → IsIssueAt shards m result k
-    → IsWhole k × (k.0.count ≡ m.0.count) × (finished_in k.0.shards ≡ finished_in m.0.shards) × IsDecided (busy_of (shown m).issued (shown m).finished) (λ turn. IsIssued (shown m) turn (shown k)) (shown k ≡ shown m) result
+    → IsWhole k × (k.0.count ≡ m.0.count) × (finished_in k.0.shards ≡ finished_in m.0.shards) × IsDecided (busy_of (race_of_seat m).issued (race_of_seat m).finished) (λ turn. IsIssued (race_of_seat m) turn (race_of_seat k)) (race_of_seat k ≡ race_of_seat m) result
 unfolding winner
 issues {S} m k shards (Ok turn) whole counted told = let between = told.1 in let round = told.2 in let shows = round_shows m between whole shards counted told.0 round in let whole_b = round_whole m between whole shards counted told.0 round in
     let did = told.3.1.1 in let kept = whole_hub between k whole_b.0 _ _ did.0 in
@@ -262,7 +262,7 @@ issues {S} m k shards (Ok turn) whole counted told = let between = told.1 in let
       ap (λ k. finished_in k.0.shards) did.0 ∙ ap (λ (r : RaceState). r.finished) shows,
       (
         ap (busy_of (hub_of m).issued) (sym (round_is m between whole shards counted told.0 round)) ∙ told.3.0,
-        subst (λ (r : RaceState). IsIssued (shown m) turn r) (sym (ap shown did.0)) (record {
+        subst (λ (r : RaceState). IsIssued (race_of_seat m) turn r) (sym (ap race_of_seat did.0)) (record {
           after = told.3.1.0;
           issued = ap (λ (n : ℕ). n + 1) issued_is ∙ sym told.3.1.0;
           finished = ap (λ (r : RaceState). r.finished) shows;
@@ -276,7 +276,7 @@ issues {S} m k shards (Err busy) whole counted told = let between = told.1 in le
   subst IsWhole (sym told.3.1) whole_b.0,
   ap (λ k. k.0.count) told.3.1 ∙ whole_b.1,
   ap (λ k. finished_in k.0.shards) told.3.1 ∙ ap (λ (r : RaceState). r.finished) shows,
-  (ap (busy_of (hub_of m).issued) (sym (round_is m between whole shards counted told.0 round)) ∙ told.3.0, ap shown told.3.1 ∙ shows),
+  (ap (busy_of (hub_of m).issued) (sym (round_is m between whole shards counted told.0 round)) ∙ told.3.0, ap race_of_seat told.3.1 ∙ shows),
 )
 
 -- ---- the start
@@ -289,11 +289,11 @@ no_wins : (s n : ℕ) → wins_in (newcomers s n) ≡ []
 no_wins s zero = refl
 no_wins s (suc n) = no_wins (suc s) n
 
-pub begins : {S : Type 0} (m : Me S View) (shards : ℕ) → m ≡ (whole_view shards, []) → IsWhole m × (m.0.count ≡ shards) × IsNew shards (shown m)
+pub begins : {S : Type 0} (m : Me S View) (shards : ℕ) → m ≡ (whole_view shards, []) → IsWhole m × (m.0.count ≡ shards) × IsNew shards (race_of_seat m)
 begins m shards e = (
   subst IsWhole (sym e) ((newcomers_length 1 shards, (λ s p at. ap (λ (p : ShardPart). p.shard) (is_new 0 0 0 shards s p at))), refl, refl),
   ap (λ m. m.0.count) e,
-  subst (λ (r : RaceState). IsNew shards r) (sym (ap shown e)) (record {
+  subst (λ (r : RaceState). IsNew shards r) (sym (ap race_of_seat e)) (record {
     issued = refl;
     finished = zeros (λ (p : ShardPart). p.finished) (λ s. refl) 1 shards;
     next = zeros (λ (p : ShardPart). p.next) (λ s. refl) 1 shards;

@@ -9,7 +9,7 @@ use Rattle.subj.specs.declared.limits.TheConstants.{MAX_SHARDS, WINDOW}
 use Rattle.claim_cells.specs.declared.parts.HubPart.{HubPart}
 use Rattle.claim_cells.specs.declared.parts.View.{View}
 use Rattle.claim_cells.specs.Rule.{At, Has, newcomer, rest_of, first_of_view}
-use Rattle.claim_cells.specs.Steps.{hub_of, part_of, HasHub, looked, with_hub, loads_from, with_loads, Rises, IsLookedAt}
+use Rattle.claim_cells.specs.Steps.{hub_of, part_of, HasHub, hub_after_load, with_hub, loads_from, with_loads, Rises, IsLookedAt}
 use Rattle.claim_cells.specs.Seats.{RaceId, ShardShown, left_from, IsShard}
 use Rattle.claim_cells.specs.Calls.{AllNew, finished_list, IsRoundAt}
 use Rattle.claim_race.specs.Race.{busy_of}
@@ -48,7 +48,7 @@ pub was_loaded : (before : HubPart) (found : List ℕ) (s f : ℕ) → At found 
 was_loaded before found s f at = has_behind before.loads (loads_from 1 found) (s + 1, f) (subst (λ (k : ℕ). Has (loads_from 1 found) (k, f)) (omega arith) (loads_at 1 s f found at))
 
 module _ (before : HubPart) (found : List ℕ) (b n : ℕ) (counted : length found ≡ b) where
-  with_one : looked (with_loads before found) (b + 1) n ≡ with_loads before (found ++ n ∷ [])
+  with_one : hub_after_load (with_loads before found) (b + 1) n ≡ with_loads before (found ++ n ∷ [])
   with_one = λ j. record {
     issued = before.issued;
     loads = (append_assoc before.loads (loads_from 1 found) ((b + 1, n) ∷ []) ∙ ap (λ l. before.loads ++ l) (sym (loads_snoc 1 n found ∙ (λ j. loads_from 1 found ++ ((let e : 1 + length found ≡ b + 1 = omega arith in e j), n) ∷ [])))) j;
@@ -86,7 +86,7 @@ module _ {S : Type 0} (m : Me S View) where
       ),
       (
         b + 1 - 1,
-        told.0 ∙ (λ j. (with_hub (round.1.1 j).0 (looked (round_loads j) (b + 1) n) (b + 1 - 1), (round.1.1 j).1)) ∙ (λ j. (with_hub m.0 (with_one (hub_of m) found b n round.0.0 j) (b + 1 - 1), m.1)),
+        told.0 ∙ (λ j. (with_hub (round.1.1 j).0 (hub_after_load (round_loads j) (b + 1) n) (b + 1 - 1), (round.1.1 j).1)) ∙ (λ j. (with_hub m.0 (with_one (hub_of m) found b n round.0.0 j) (b + 1 - 1), m.1)),
       ),
       (λ s f i p at mine named. ⊎_elim (λ old. round.2 s f i p old mine named)
           (λ (t : (s ≡ length found) × (n ≡ f)). sym t.1 ∙ told.3 i p (subst (λ (k : Me S View). At k.0.shards i p) (sym round.1.1) mine) (let a = t.0 in let e = round.0.0 in omega arith))

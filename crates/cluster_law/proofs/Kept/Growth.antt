@@ -8,7 +8,7 @@ use Rattle.cluster_law.specs.Config.{Config, every_rule}
 use Rattle.cluster_law.specs.History.{Job, Output}
 use Rattle.cluster_law.specs.Race.{Race}
 use Rattle.cluster_law.specs.Shard.{Shard, ShardEvent, Subscribe, Close, Begin, Claim, End, Drop, ShardStep, Wins, Passes}
-use Rattle.cluster_law.specs.Node.{Node, NodeEvent, Publish, Receive, Announce, OnShard, NodeStep, queued}
+use Rattle.cluster_law.specs.Node.{Node, NodeEvent, Publish, Receive, Announce, OnShard, NodeStep, shard_with_job}
 use Rattle.cluster_law.specs.Cluster.{World, Event, Start, Stop, Hand, At, Acts, Happens, Step, Run, Reached, begin, new_node, no_node}
 use Rattle.cluster_law.specs.Runs.{TurnsStay, Follows, Path}
 use Rattle.list_laws.proofs.Lists.{in_left, read_set, read_map}
@@ -29,9 +29,9 @@ stays_also old mid new h k s y e =
 same_shards : (old new : List Shard) → new ≡ old → ShardsStay old new
 same_shards old new is s y e = (y, ap (λ (l : List Shard). slice_get l s) (sym is) ∙ e, omega arith)
 
-all_queued : (j : Job) (old new : List Shard) → new ≡ map (queued j) old → ShardsStay old new
+all_queued : (j : Job) (old new : List Shard) → new ≡ map (shard_with_job j) old → ShardsStay old new
 all_queued j old new is s y e =
-    let m = read_map (queued j) old s y (ap (λ (l : List Shard). slice_get l s) (sym is) ∙ e) in
+    let m = read_map (shard_with_job j) old s y (ap (λ (l : List Shard). slice_get l s) (sym is) ∙ e) in
     let same = ap (λ (z : Shard). z.finished) m.2 in
     (m.0, m.1, omega arith)
 

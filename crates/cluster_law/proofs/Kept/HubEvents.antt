@@ -6,7 +6,7 @@ use Rattle.cluster_law.specs.Names.{Bytes, PubId}
 use Rattle.cluster_law.specs.Messages.{Content, Routed, messages}
 use Rattle.cluster_law.specs.Config.{Config, every_rule}
 use Rattle.cluster_law.specs.History.{Job, Output}
-use Rattle.cluster_law.specs.Hub.{Peer, Hub, unheard, Known, HubReceives, next_id}
+use Rattle.cluster_law.specs.Hub.{Peer, Hub, new_peer, Known, HubReceives, next_id}
 use Rattle.cluster_law.specs.Node.{Node, next_publication, next_job, Publishes, Receives}
 use Rattle.cluster_law.specs.Cluster.{World}
 use Rattle.list_laws.proofs.Lists.{each_one, in_left, in_right, each_append, pairs_cases, read_set, moved}
@@ -79,14 +79,14 @@ publishes c w n a content out b s h k =
 pub passed_known : (peer base : Peer) (inc : ℕ) (id : PubId) → Known every_rule peer inc base → Passed peer id → Passed base id
 passed_known peer base inc id known p =
     ⊎_elim
-    (λ (k : (inc ≢ peer.seen) × (peer.seen < inc) × (base ≡ unheard inc)).
+    (λ (k : (inc ≢ peer.seen) × (peer.seen < inc) × (base ≡ new_peer inc)).
     let lt = k.1 in
     subst (λ (x : Peer). Passed x id) (sym k.2) (inl (⊎_elim (λ (v : id.inc < peer.seen). omega arith) (λ (v : (id.inc ≡ peer.seen) × (id.number ≤ peer.mark)). omega arith) p)))
     (λ (k : (inc ≡ peer.seen) × (base ≡ peer)). subst (λ (x : Peer). Passed x id) (sym k.1) p)
     known
 
 pub known_seen : (peer base : Peer) (inc : ℕ) → Known every_rule peer inc base → base.seen ≡ inc
-known_seen peer base inc known = ⊎_elim (λ (k : (inc ≢ peer.seen) × (peer.seen < inc) × (base ≡ unheard inc)). ap (λ (x : Peer). x.seen) k.2) (λ (k : (inc ≡ peer.seen) × (base ≡ peer)). ap (λ (x : Peer). x.seen) k.1 ∙ sym k.0) known
+known_seen peer base inc known = ⊎_elim (λ (k : (inc ≢ peer.seen) × (peer.seen < inc) × (base ≡ new_peer inc)). ap (λ (x : Peer). x.seen) k.2) (λ (k : (inc ≡ peer.seen) × (base ≡ peer)). ap (λ (x : Peer). x.seen) k.1 ∙ sym k.0) known
 
 -- a greater mark passes no less
 pub passed_mark : (base : Peer) (mark heard : ℕ) (id : PubId) → base.mark ≤ mark → Passed base id → Passed (record base { mark = mark }) id

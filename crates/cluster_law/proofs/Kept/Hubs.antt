@@ -7,7 +7,7 @@ use Rattle.cluster_law.specs.Messages.{Content, Publication, Routed, Frame, Mess
 use Rattle.cluster_law.specs.History.{Job, Output}
 use Rattle.cluster_law.specs.Hub.{Peer, Hub}
 use Rattle.cluster_law.specs.Node.{Node}
-use Rattle.cluster_law.specs.Cluster.{World, applied, no_node}
+use Rattle.cluster_law.specs.Cluster.{World, world_with, no_node}
 use Rattle.list_laws.proofs.Lists.{in_left, each_append, pairs_append, read_set}
 use Rattle.cluster_law.proofs.Kept.Invariants.{HasPublication, RoutedOk, RoutedApart, Local, Remote, JobOk, JobsApart, PublicationOk, Passed, HubOk, Hubs}
 
@@ -28,7 +28,7 @@ job_more : (limit : ℕ) (pubs new : List Publication) (used : List (ℕ × ℕ)
 job_more limit pubs new used sent frames j apart h = record { published = has_pub_more pubs new j.id j.content h.published; once = h.once; few = h.few; started = h.started; source = source_more sent frames j apart h.source }
 
 -- a node that did not step, or whose hub did nothing
-pub hub_more : (w : World) (n m : ℕ) (a b : Node) (out : Output) → HubOk w n a → Each (λ p. p.id.origin ≡ n → p.id.inc ≡ a.inc → p.id.number ≤ a.hub.published) out.publications → Each (λ j. j.node ≢ n) out.jobs → HubOk (applied w m b out) n a
+pub hub_more : (w : World) (n m : ℕ) (a b : Node) (out : Output) → HubOk w n a → Each (λ p. p.id.origin ≡ n → p.id.inc ≡ a.inc → p.id.number ≤ a.hub.published) out.publications → Each (λ j. j.node ≢ n) out.jobs → HubOk (world_with w m b out) n a
 hub_more w n m a b out h pubs jobs = record {
   started = h.started;
   numbers = each_append (λ p. p.id.origin ≡ n → p.id.inc ≡ a.inc → p.id.number ≤ a.hub.published) w.past.publications out.publications h.numbers pubs;
@@ -60,9 +60,9 @@ pub record Adds (limit : ℕ) (w : World) (n : ℕ) (b : Node) (out : Output) (f
   pub jobs_apart : Pairs JobsApart out.jobs
   pub jobs_cross : (i j : Job) → In i w.past.jobs → In j out.jobs → JobsApart i j
   pub local : (j : Job) (f : Routed) → In j w.past.jobs → In f frames → f.id ≡ j.id → Disjoint f.names j.names
-  pub hub : b.up ≡ true → HubOk (applied w n b out) n b
+  pub hub : b.up ≡ true → HubOk (world_with w n b out) n b
 
-pub hubs_kept : (limit : ℕ) (w : World) (n : ℕ) (b : Node) (out : Output) (frames : List Routed) → Hubs limit w → Adds limit w n b out frames → Hubs limit (applied w n b out)
+pub hubs_kept : (limit : ℕ) (w : World) (n : ℕ) (b : Node) (out : Output) (frames : List Routed) → Hubs limit w → Adds limit w n b out frames → Hubs limit (world_with w n b out)
 hubs_kept limit w n b out frames h d =
     let old = messages w.past.sent in
     let is : old ++ frames ≡ messages (w.past.sent ++ out.frames) = sym (messages_append w.past.sent out.frames ∙ ap (λ l. old ++ l) d.frames_are) in
@@ -74,7 +74,7 @@ hubs_kept limit w n b out frames h d =
       ids = pairs_append (λ p q. p.id ≢ q.id) w.past.publications out.publications h.ids d.ids d.ids_cross;
       frames_apart = subst (Pairs RoutedApart) is (pairs_append RoutedApart old frames h.frames_apart d.frames_apart d.frames_cross);
       jobs_apart = pairs_append JobsApart w.past.jobs out.jobs h.jobs_apart d.jobs_apart d.jobs_cross;
-      nodes = read_set (λ m x. x.up ≡ true → HubOk (applied w n b out) m x) w.nodes n b
+      nodes = read_set (λ m x. x.up ≡ true → HubOk (world_with w n b out) m x) w.nodes n b
           (λ m x apart e up. hub_more w m n x b out (h.nodes m x e up) (λ p i at. absurd (apart (sym at ∙ (d.pubs p i).0))) (λ j i at. apart (sym at ∙ (d.jobs j i).0)))
           d.hub;
     }

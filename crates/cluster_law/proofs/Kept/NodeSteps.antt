@@ -9,7 +9,7 @@ use Rattle.cluster_law.specs.History.{Job, Life, Closing, Placement, Output, not
 use Rattle.cluster_law.specs.Hub.{Peer, Hub, IsTold, next_id}
 use Rattle.cluster_law.specs.Race.{Race, KeptOver, Keeps}
 use Rattle.cluster_law.specs.Shard.{Subscription, Shard, life_id, closings_of, Wins, Passes, ShardEvent, Subscribe, Close, Begin, Claim, End, Drop, ShardStep}
-use Rattle.cluster_law.specs.Node.{Node, queued, next_job, Publishes, Receives, Hears, Meets, Announces, AtShard}
+use Rattle.cluster_law.specs.Node.{Node, shard_with_job, next_job, Publishes, Receives, Hears, Meets, Announces, AtShard}
 use Rattle.cluster_law.specs.Cluster.{World, no_node, all_closings}
 use Rattle.list_laws.proofs.Lists.{in_append, in_left, pairs_append, pairs_map, pairs_weaker, read_map, moved, in_map}
 use Rattle.cluster_law.proofs.Kept.Invariants.{HubOk, Hubs, Passed, ShardOk, SubscriptionOk, NodeOk, Rest, LineIs}
@@ -24,10 +24,10 @@ pub record Both (c : Config) (w : World) (n : ℕ) (b : Node) (out : Output) : T
   pub places : Places c w n b out
 
 -- each shard's line after a new job
-all_queued : (c : Config) (w : World) (n : ℕ) (a b : Node) (out : Output) (j : Job) → NodeOk c w n a → j.node ≡ n → j.inc ≡ a.inc → j.turn ≡ suc a.race.issued → b.shards ≡ map (queued j) a.shards → b.inc ≡ a.inc → b.race.issued ≡ suc a.race.issued → out.jobs ≡ j ∷ []
+all_queued : (c : Config) (w : World) (n : ℕ) (a b : Node) (out : Output) (j : Job) → NodeOk c w n a → j.node ≡ n → j.inc ≡ a.inc → j.turn ≡ suc a.race.issued → b.shards ≡ map (shard_with_job j) a.shards → b.inc ≡ a.inc → b.race.issued ≡ suc a.race.issued → out.jobs ≡ j ∷ []
     → (s : ℕ) (sh : Shard) → slice_get b.shards s ≡ Some sh → Queued w n a b out s sh
 all_queued c w n a b out j nk at my turn shards inc issued jobs s sh e =
-    let m = read_map (queued j) a.shards s sh (ap (λ (l : List Shard). slice_get l s) (sym shards) ∙ e) in
+    let m = read_map (shard_with_job j) a.shards s sh (ap (λ (l : List Shard). slice_get l s) (sym shards) ∙ e) in
     record {
       old = m.0;
       old_is = m.1;

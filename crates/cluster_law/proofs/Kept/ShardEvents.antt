@@ -8,9 +8,9 @@ use Rattle.cluster_law.specs.Names.{Bytes, PubId, LifeId}
 use Rattle.cluster_law.specs.Config.{Config, every_rule}
 use Rattle.cluster_law.specs.History.{Job, Life, Closing, Placement, Output, nothing}
 use Rattle.cluster_law.specs.Race.{Race, WinsPair}
-use Rattle.cluster_law.specs.Shard.{Subscription, Shard, life_id, has, without, closings_of, AreOpen, placement, IsOwedPlain}
+use Rattle.cluster_law.specs.Shard.{Subscription, Shard, life_id, has, subs_without, closings_of, AreOpen, placement, IsOwedPlain}
 use Rattle.cluster_law.specs.Node.{Node}
-use Rattle.cluster_law.specs.Cluster.{World, applied}
+use Rattle.cluster_law.specs.Cluster.{World, world_with}
 use Rattle.cluster_law.specs.Headline.{InOrder, OneMember, IsClosing}
 use Rattle.list_laws.proofs.Lists.{in_nil, each_one, in_append, in_left, in_right, each_append, pairs_append, pairs_cases, read_set, in_map, in_read, pairs_map, pairs_weaker}
 use Rattle.cluster_law.proofs.Kept.Invariants.{JobsApart, HubOk, Hubs, ForJob, PlacedOk, SubscriptionOk, ShardOk, NodeOk, Rest, begun, LineIs, IsMine}
@@ -22,19 +22,19 @@ has_in : (k : ℕ) (xs : List ℕ) → In k xs → has k xs ≡ true
 has_in k [] i = absurd i
 has_in k (x ∷ xs) i = ⊎_elim (λ (e : k ≡ x). grind (arith, nat_tests, e)) (λ (l : In k xs). let h = has_in k xs l in grind (arith, nat_tests, h)) i
 
-in_without : (closed : List ℕ) (us : List Subscription) (u : Subscription) → In u (without closed us) → In u us × (has u.serial closed ≡ false)
+in_without : (closed : List ℕ) (us : List Subscription) (u : Subscription) → In u (subs_without closed us) → In u us × (has u.serial closed ≡ false)
 in_without closed [] u i = absurd i
 in_without closed (v ∷ us) u i = go (in_without closed us u) (has v.serial closed) refl i
   where
-    go : (In u (without closed us) → In u us × (has u.serial closed ≡ false)) → (b : Bool) → has v.serial closed ≡ b → In u (cond b (without closed us) (v ∷ without closed us)) → In u (v ∷ us) × (has u.serial closed ≡ false)
+    go : (In u (subs_without closed us) → In u us × (has u.serial closed ≡ false)) → (b : Bool) → has v.serial closed ≡ b → In u (cond b (subs_without closed us) (v ∷ subs_without closed us)) → In u (v ∷ us) × (has u.serial closed ≡ false)
     go below true e l = let h = below l in (inr h.0, h.1)
-    go below false e l = ⊎_elim (λ (s : u ≡ v). (inl s, subst (λ (x : Subscription). has x.serial closed ≡ false) (sym s) e)) (λ (m : In u (without closed us)). let h = below m in (inr h.0, h.1)) l
+    go below false e l = ⊎_elim (λ (s : u ≡ v). (inl s, subst (λ (x : Subscription). has x.serial closed ≡ false) (sym s) e)) (λ (m : In u (subs_without closed us)). let h = below m in (inr h.0, h.1)) l
 
-pairs_without : (closed : List ℕ) (us : List Subscription) → Pairs (λ u v. u.serial ≢ v.serial) us → Pairs (λ u v. u.serial ≢ v.serial) (without closed us)
+pairs_without : (closed : List ℕ) (us : List Subscription) → Pairs (λ u v. u.serial ≢ v.serial) us → Pairs (λ u v. u.serial ≢ v.serial) (subs_without closed us)
 pairs_without closed [] p = tt
 pairs_without closed (v ∷ us) p = go (pairs_without closed us p.1) (has v.serial closed)
   where
-    go : Pairs (λ u v. u.serial ≢ v.serial) (without closed us) → (b : Bool) → Pairs (λ u v. u.serial ≢ v.serial) (cond b (without closed us) (v ∷ without closed us))
+    go : Pairs (λ u v. u.serial ≢ v.serial) (subs_without closed us) → (b : Bool) → Pairs (λ u v. u.serial ≢ v.serial) (cond b (subs_without closed us) (v ∷ subs_without closed us))
     go below true = below
     go below false = ((λ u i. p.0 u (in_without closed us u i).0), below)
 
@@ -51,7 +51,7 @@ abbrev pub shard_out : List Life → List Closing → List Placement → Output
 shard_out lives closings placements = record nothing { lives = lives; closings = closings; placements = placements }
 
 pub record ShardAdds (c : Config) (w : World) (n s : ℕ) (a : Node) (new : Shard) (race : Race) (lives : List Life) (closings : List Closing) (placements : List Placement) : Type 0 where
-  pub placed : Each (λ p. IsAt n a.inc s p.life × PlacedOk c (applied w n a (shard_out lives closings placements)) p) placements
+  pub placed : Each (λ p. IsAt n a.inc s p.life × PlacedOk c (world_with w n a (shard_out lives closings placements)) p) placements
   pub opened : Each (λ l. IsAt n a.inc s l.id × (l.opened ≡ suc w.step)) lives
   pub closed : Each (λ x. IsAt n a.inc s x.life × (x.step ≡ suc w.step) × IsClosing (w.past.lives ++ lives) x) closings
   pub closed_once : Pairs (λ x y. x.life ≢ y.life) closings
@@ -62,7 +62,7 @@ pub record ShardAdds (c : Config) (w : World) (n s : ℕ) (a : Node) (new : Shar
   pub in_order_cross : (p q : Placement) → In p w.past.placements → In q placements → InOrder p q
   pub one_member : Pairs OneMember placements
   pub one_member_cross : (p q : Placement) → In p w.past.placements → In q placements → OneMember p q
-  pub shard : ShardOk c (applied w n a (shard_out lives closings placements)) n a.inc a.race.issued s new
+  pub shard : ShardOk c (world_with w n a (shard_out lives closings placements)) n a.inc a.race.issued s new
   pub issued : race.issued ≡ a.race.issued
   pub won_kept : (t x : ℕ) → a.race.issued < t + c.window → In (t, x) a.race.won → In (t, x) race.won
   pub won_new : (j : Job) (p : Placement) (x : ℕ) (q : Bytes) → In j (w.past.jobs ++ []) → In p placements → j.node ≡ n → j.inc ≡ a.inc → p.id ≡ j.id → p.mode ≡ Some q → slice_get j.names x ≡ Some q → a.race.issued < j.turn + c.window → In (j.turn, x) race.won
@@ -90,7 +90,7 @@ shard_places c w n s a new race lives closings placements k h d =
       one_member = d.one_member;
       one_member_cross = d.one_member_cross;
       node = λ up. record {
-        shards = subst (λ (v : ℕ). (t : ℕ) (sh : Shard) → slice_get (set a.shards s new) t ≡ Some sh → ShardOk c (applied w n b out) n a.inc v t sh) (sym d.issued) (read_set (λ t sh. ShardOk c (applied w n b out) n a.inc a.race.issued t sh) a.shards s new
+        shards = subst (λ (v : ℕ). (t : ℕ) (sh : Shard) → slice_get (set a.shards s new) t ≡ Some sh → ShardOk c (world_with w n b out) n a.inc v t sh) (sym d.issued) (read_set (λ t sh. ShardOk c (world_with w n b out) n a.inc a.race.issued t sh) a.shards s new
             (λ t sh apart e. shard_more c w n b out n a.inc a.race.issued t sh
             (record {
               jobs = λ j i at. i;
@@ -113,7 +113,7 @@ shard_places c w n s a new race lives closings placements k h d =
 shard_closing : (c : Config) (w : World) (n s now : ℕ) (a : Node) (sh : Shard) (closed : List ℕ) (placements : List Placement) (finished next : ℕ) (hand : Option Job) (waiting : List Job) → ShardOk c w n a.inc a.race.issued s sh → AreOpen sh.subscriptions closed
     → LineIs w.past.jobs n a.inc a.race.issued finished hand waiting → sh.finished ≤ finished
     → ((j : Job) (p : Placement) → In j (w.past.jobs ++ []) → In p (w.past.placements ++ placements) → j.node ≡ n → j.inc ≡ a.inc → p.life.node ≡ n → p.life.inc ≡ a.inc → p.life.shard ≡ s → p.id ≡ j.id → j.turn ≤ begun hand finished)
-    → ShardOk c (applied w n a (shard_out [] (closings_of n a.inc s now closed) placements)) n a.inc a.race.issued s (record { finished = finished; hand = hand; next = next; waiting = waiting; serials = sh.serials; subscriptions = without closed sh.subscriptions })
+    → ShardOk c (world_with w n a (shard_out [] (closings_of n a.inc s now closed) placements)) n a.inc a.race.issued s (record { finished = finished; hand = hand; next = next; waiting = waiting; serials = sh.serials; subscriptions = subs_without closed sh.subscriptions })
 shard_closing c w n s now a sh closed placements finished next hand waiting k are_open line later begun_ok = record {
   line = line_more w.past.jobs [] n a.inc a.race.issued a.race.issued finished hand waiting (omega arith) line;
   room = let r = k.room in omega arith;
@@ -244,7 +244,7 @@ order_of limit w h p q f j jj at my id bound other life o i =
 -- what is placed for the job in hand
 placed_now : (c : Config) (w : World) (n s : ℕ) (a : Node) (sh : Shard) (job : Job) (u : Subscription) (closed : List ℕ) (placements : List Placement) → Hubs c.queue_names w → Rest c w → HubOk w n a → ShardOk c w n a.inc a.race.issued s sh → IsMine w.past.jobs n a.inc job → In u sh.subscriptions → c.matches u.pattern job.content.subject ≡ true
     → ((q : Bytes) → u.queue ≡ Some q → In q job.names)
-    → PlacedOk c (applied w n a (shard_out [] (closings_of n a.inc s (suc w.step) closed) placements)) (placement n a.inc s (suc w.step) job u)
+    → PlacedOk c (world_with w n a (shard_out [] (closings_of n a.inc s (suc w.step) closed) placements)) (placement n a.inc s (suc w.step) job u)
 placed_now c w n s a sh job u closed placements h r k sk m u_in matches named =
     let pub_of = (h.jobs job m.0).published in
     let so = sk.subscriptions u u_in in
@@ -345,7 +345,7 @@ subscribe_step c w n s a sh connection sid pattern queue k =
     }
 
 pub close_step : (c : Config) (w : World) (n s : ℕ) (a : Node) (sh : Shard) (closed : List ℕ) → Rest c w → ShardOk c w n a.inc a.race.issued s sh → AreOpen sh.subscriptions closed
-    → ShardAdds c w n s a (record sh { subscriptions = without closed sh.subscriptions }) a.race [] (closings_of n a.inc s (suc w.step) closed) []
+    → ShardAdds c w n s a (record sh { subscriptions = subs_without closed sh.subscriptions }) a.race [] (closings_of n a.inc s (suc w.step) closed) []
 close_step c w n s a sh closed r k are_open = let ok = closed_ok c w n s a sh closed r k are_open in record {
   placed = λ p i. absurd i;
   opened = λ l i. absurd i;
@@ -375,7 +375,7 @@ begun_with c w n s a sh job placements h hk k m turn its j p i l at my pat pmy o
 
 pub begin_step : (c : Config) (w : World) (n s : ℕ) (a : Node) (sh : Shard) (job : Job) (rest : List Job) (placed : List Subscription) (closed : List ℕ) → Hubs c.queue_names w → Rest c w → HubOk w n a → ShardOk c w n a.inc a.race.issued s sh → sh.hand ≡ None → sh.waiting ≡ job ∷ rest → job.turn ≡ suc sh.finished
     → Each (IsOwedPlain c sh job) placed → Pairs (λ u v. u.serial ≢ v.serial) placed → AreOpen sh.subscriptions closed
-    → ShardAdds c w n s a (record sh { hand = Some job; next = 0; waiting = rest; subscriptions = without closed sh.subscriptions }) a.race [] (closings_of n a.inc s (suc w.step) closed) (map (placement n a.inc s (suc w.step) job) placed)
+    → ShardAdds c w n s a (record sh { hand = Some job; next = 0; waiting = rest; subscriptions = subs_without closed sh.subscriptions }) a.race [] (closings_of n a.inc s (suc w.step) closed) (map (placement n a.inc s (suc w.step) job) placed)
 begin_step c w n s a sh job rest placed closed h r hk k free first turn owed once are_open =
     let ok = closed_ok c w n s a sh closed r k are_open in
     let put = placement n a.inc s (suc w.step) job in
@@ -384,7 +384,7 @@ begin_step c w n s a sh job rest placed closed h r hk k free first turn owed onc
     let o = in_map put placed p i in
     none-some q (sym (ap (λ (y : Placement). y.mode) o.2 ∙ (owed o.0 o.1).plain) ∙ e) in
     record {
-      placed = λ p i. let o = in_map put placed p i in subst (λ (y : Placement). IsAt n a.inc s y.life × PlacedOk c (applied w n a (shard_out [] (closings_of n a.inc s (suc w.step) closed) (map put placed))) y) (sym o.2)
+      placed = λ p i. let o = in_map put placed p i in subst (λ (y : Placement). IsAt n a.inc s y.life × PlacedOk c (world_with w n a (shard_out [] (closings_of n a.inc s (suc w.step) closed) (map put placed))) y) (sym o.2)
           ((refl, refl, refl), placed_now c w n s a sh job o.0 closed (map put placed) h r hk k m (owed o.0 o.1).is_open (owed o.0 o.1).matches (λ q e. absurd (none-some q (sym (owed o.0 o.1).plain ∙ e))));
       opened = λ l i. absurd i;
       closed = ok.ok;
@@ -410,7 +410,7 @@ begin_step c w n s a sh job rest placed closed h r hk k free first turn owed onc
 
 pub claim_step : (c : Config) (w : World) (n s : ℕ) (a : Node) (sh : Shard) (job : Job) (name : Bytes) (u : Subscription) (race : Race) (closed : List ℕ) → Hubs c.queue_names w → Rest c w → HubOk w n a → NodeOk c w n a → ShardOk c w n a.inc a.race.issued s sh → sh.hand ≡ Some job → slice_get job.names sh.next ≡ Some name → WinsPair every_rule c.window a.race job.turn sh.next race
     → In u sh.subscriptions → u.queue ≡ Some name → c.matches u.pattern job.content.subject ≡ true → AreOpen sh.subscriptions closed
-    → ShardAdds c w n s a (record sh { next = suc sh.next; subscriptions = without closed sh.subscriptions }) race [] (closings_of n a.inc s (suc w.step) closed) (placement n a.inc s (suc w.step) job u ∷ [])
+    → ShardAdds c w n s a (record sh { next = suc sh.next; subscriptions = subs_without closed sh.subscriptions }) race [] (closings_of n a.inc s (suc w.step) closed) (placement n a.inc s (suc w.step) job u ∷ [])
 claim_step c w n s a sh job name u race closed h r hk nk k in_hand name_is wins u_in member matches are_open =
     let ok = closed_ok c w n s a sh closed r k are_open in
     let now = placement n a.inc s (suc w.step) job u in
@@ -421,7 +421,7 @@ claim_step c w n s a sh job name u race closed h r hk nk k in_hand name_is wins 
     let before : (p : Placement) → In p w.past.placements → p.life.node ≡ n → p.life.inc ≡ a.inc → p.id ≡ job.id → p.mode ≡ Some name → ⊥ = λ p i pat pmy e mode. wins.unwon (nk.won job p sh.next name m.0 i m.1 m.2 pat pmy e mode name_is window) in
     let so = k.subscriptions u u_in in
     record {
-      placed = each_one (λ y. IsAt n a.inc s y.life × PlacedOk c (applied w n a (shard_out [] (closings_of n a.inc s (suc w.step) closed) (now ∷ []))) y) now
+      placed = each_one (λ y. IsAt n a.inc s y.life × PlacedOk c (world_with w n a (shard_out [] (closings_of n a.inc s (suc w.step) closed) (now ∷ []))) y) now
           ((refl, refl, refl), placed_now c w n s a sh job u closed (now ∷ []) h r hk k m u_in matches (λ q e. subst (λ (y : Bytes). In y job.names) (same_Some name q (sym member ∙ e)) (in_read job.names sh.next name name_is)));
       opened = λ l i. absurd i;
       closed = ok.ok;

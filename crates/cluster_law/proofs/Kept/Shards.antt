@@ -10,13 +10,13 @@ use Rattle.cluster_law.specs.History.{Job, Life, Closing, Placement, Output}
 use Rattle.cluster_law.specs.Race.{Race, KeptOver, Issues}
 use Rattle.cluster_law.specs.Shard.{Subscription, Shard, life_id}
 use Rattle.cluster_law.specs.Node.{Node, finished_turns}
-use Rattle.cluster_law.specs.Cluster.{World, applied}
+use Rattle.cluster_law.specs.Cluster.{World, world_with}
 use Rattle.cluster_law.specs.Headline.{InOrder, OneMember}
 use Rattle.list_laws.proofs.Lists.{each_one, in_append, in_left, in_right, each_append, pairs_append, read_set}
 use Rattle.cluster_law.proofs.Kept.Invariants.{ShardIs, JobsApart, PlacedOk, LifeOk, ClosingOk, SubscriptionOk, ShardOk, WonAll, NodeOk, Rest, LineIs, IsMine, begun}
 
 -- what was placed stays as it was
-pub placed_more : (c : Config) (w : World) (n : ℕ) (b : Node) (out : Output) (p : Placement) → Each (λ x. w.step ≤ x.step) out.closings → PlacedOk c w p → PlacedOk c (applied w n b out) p
+pub placed_more : (c : Config) (w : World) (n : ℕ) (b : Node) (out : Output) (p : Placement) → Each (λ x. w.step ≤ x.step) out.closings → PlacedOk c w p → PlacedOk c (world_with w n b out) p
 placed_more c w n b out p late h =
     let before = h.before in
     record {
@@ -59,7 +59,7 @@ line_push jobs n inc issued finished hand waiting j at my turn h =
       reached = k.reached;
     }
 
-pub shard_more : (c : Config) (w : World) (m : ℕ) (b : Node) (out : Output) (n inc issued s : ℕ) (sh : Shard) → Elsewhere n inc s out → ShardOk c w n inc issued s sh → ShardOk c (applied w m b out) n inc issued s sh
+pub shard_more : (c : Config) (w : World) (m : ℕ) (b : Node) (out : Output) (n inc issued s : ℕ) (sh : Shard) → Elsewhere n inc s out → ShardOk c w n inc issued s sh → ShardOk c (world_with w m b out) n inc issued s sh
 shard_more c w m b out n inc issued s sh d h = record {
   line = line_more w.past.jobs out.jobs n inc issued issued sh.finished sh.hand sh.waiting (omega arith) h.line;
   room = h.room;
@@ -90,7 +90,7 @@ won_more window jobs more placements new n inc issued later won now le kept none
 -- what a step adds
 pub record Places (c : Config) (w : World) (n : ℕ) (b : Node) (out : Output) : Type 0 where
   pub late : Each (λ x. w.step ≤ x.step) out.closings
-  pub placed : Each (λ p. (p.life.node ≡ n) × PlacedOk c (applied w n b out) p) out.placements
+  pub placed : Each (λ p. (p.life.node ≡ n) × PlacedOk c (world_with w n b out) p) out.placements
   pub lives : Each (λ l. (l.id.node ≡ n) × LifeOk w.past.started (suc w.step) l) out.lives
   pub closings : Each (λ x. (x.life.node ≡ n) × ClosingOk w.past.started (w.past.lives ++ out.lives) x) out.closings
   pub closed_once : Pairs (λ x y. x.life ≢ y.life) out.closings
@@ -102,10 +102,10 @@ pub record Places (c : Config) (w : World) (n : ℕ) (b : Node) (out : Output) :
   pub in_order_cross : (p q : Placement) → In p w.past.placements → In q out.placements → InOrder p q
   pub one_member : Pairs OneMember out.placements
   pub one_member_cross : (p q : Placement) → In p w.past.placements → In q out.placements → OneMember p q
-  pub node : b.up ≡ true → NodeOk c (applied w n b out) n b
+  pub node : b.up ≡ true → NodeOk c (world_with w n b out) n b
 
 -- another node
-node_more : (c : Config) (w : World) (n m : ℕ) (a b : Node) (out : Output) → m ≢ n → Places c w n b out → NodeOk c w m a → NodeOk c (applied w n b out) m a
+node_more : (c : Config) (w : World) (n m : ℕ) (a b : Node) (out : Output) → m ≢ n → Places c w n b out → NodeOk c w m a → NodeOk c (world_with w n b out) m a
 node_more c w n m a b out apart d h = record {
   shards = λ s sh e. shard_more c w n b out m a.inc a.race.issued s sh
       (record {
@@ -121,16 +121,16 @@ node_more c w n m a b out apart d h = record {
       h.won;
 }
 
-pub rest_kept : (c : Config) (w : World) (n : ℕ) (b : Node) (out : Output) → Rest c w → Places c w n b out → Rest c (applied w n b out)
+pub rest_kept : (c : Config) (w : World) (n : ℕ) (b : Node) (out : Output) → Rest c w → Places c w n b out → Rest c (world_with w n b out)
 rest_kept c w n b out h d = record {
-  placed = each_append (PlacedOk c (applied w n b out)) w.past.placements out.placements (λ p i. placed_more c w n b out p d.late (h.placed p i)) (λ p i. (d.placed p i).1);
+  placed = each_append (PlacedOk c (world_with w n b out)) w.past.placements out.placements (λ p i. placed_more c w n b out p d.late (h.placed p i)) (λ p i. (d.placed p i).1);
   lives = each_append (LifeOk w.past.started (suc w.step)) w.past.lives out.lives (λ l i. let k = h.lives l i in record { started = k.started; before = let le = k.before in omega arith }) (λ l i. (d.lives l i).1);
   closings = each_append (ClosingOk w.past.started (w.past.lives ++ out.lives)) w.past.closings out.closings (λ x i. let o = h.closings x i in record { started = o.started; opened = (o.opened.0, in_left o.opened.0 w.past.lives out.lives o.opened.1, o.opened.2, o.opened.3) }) (λ x i. (d.closings x i).1);
   closed_once = pairs_append (λ x y. x.life ≢ y.life) w.past.closings out.closings h.closed_once d.closed_once d.closed_once_cross;
   life_ids = pairs_append (λ l m. l.id ≢ m.id) w.past.lives out.lives h.life_ids d.life_ids d.life_ids_cross;
   in_order = pairs_append InOrder w.past.placements out.placements h.in_order d.in_order d.in_order_cross;
   one_member = pairs_append OneMember w.past.placements out.placements h.one_member d.one_member d.one_member_cross;
-  nodes = read_set (λ m a. a.up ≡ true → NodeOk c (applied w n b out) m a) w.nodes n b (λ m a apart e up. node_more c w n m a b out apart d (h.nodes m a e up)) d.node;
+  nodes = read_set (λ m a. a.up ≡ true → NodeOk c (world_with w n b out) m a) w.nodes n b (λ m a apart e up. node_more c w n m a b out apart d (h.nodes m a e up)) d.node;
 }
 
 -- A step of the hub

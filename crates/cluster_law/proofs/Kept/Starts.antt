@@ -5,7 +5,7 @@ use Rattle.list_laws.specs.Lists.{In}
 use Rattle.cluster_law.specs.Interest.{changes_of}
 use Rattle.cluster_law.specs.Messages.{Frame, Message, Interest, Greeting}
 use Rattle.cluster_law.specs.Config.{Config}
-use Rattle.cluster_law.specs.Hub.{Peer, unheard}
+use Rattle.cluster_law.specs.Hub.{Peer, new_peer}
 use Rattle.cluster_law.specs.Cluster.{World, new_shard, new_node}
 use Rattle.cluster_law.specs.Headline.{IsView}
 use Rattle.list_laws.proofs.Lists.{in_left, in_right, read_set, read_replicate}
@@ -73,7 +73,7 @@ started c w n inc unused h =
               started = in_right (n, inc) w.past.started ((n, inc) ∷ []) (inl refl);
               changed = ap length (sym none);
               interest = sym (view_none c.follow (changes_of w.past.changes n inc) []);
-              peers = λ o p e. subst (IsView c (record w.past { started = used }) o) (sym (read_replicate c.nodes (unheard 0) p o e)) (record { seen = inl refl; reached = omega arith; view = sym (view_none c.follow (changes_of w.past.changes o 0) []) });
+              peers = λ o p e. subst (IsView c (record w.past { started = used }) o) (sym (read_replicate c.nodes (new_peer 0) p o e)) (record { seen = inl refl; reached = omega arith; view = sym (view_none c.follow (changes_of w.past.changes o 0) []) });
             });
       };
     }

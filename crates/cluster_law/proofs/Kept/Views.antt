@@ -6,10 +6,10 @@ use Rattle.list_laws.specs.Lists.{In, Each}
 use Rattle.cluster_law.specs.Interest.{View, Change, Noted, changes_of, view_after}
 use Rattle.cluster_law.specs.Messages.{Routed, Body, Changed, Snapshot, News, Frame, Message, Interest, Greeting}
 use Rattle.cluster_law.specs.Config.{Config, every_rule}
-use Rattle.cluster_law.specs.History.{History, Output, grown}
-use Rattle.cluster_law.specs.Hub.{Peer, Hub, unheard, Known, Taken, Says, IsTold, HubReceives, HubHears, HubMeets, HubAnnounces}
-use Rattle.cluster_law.specs.Node.{Node, noted}
-use Rattle.cluster_law.specs.Cluster.{World, applied}
+use Rattle.cluster_law.specs.History.{History, Output, history_with}
+use Rattle.cluster_law.specs.Hub.{Peer, Hub, new_peer, Known, Taken, Says, IsTold, HubReceives, HubHears, HubMeets, HubAnnounces}
+use Rattle.cluster_law.specs.Node.{Node, note_of}
+use Rattle.cluster_law.specs.Cluster.{World, world_with}
 use Rattle.cluster_law.specs.Headline.{IsView}
 use Rattle.list_laws.proofs.Lists.{in_map, each_append, read_set}
 use Rattle.cluster_law.proofs.Kept.HubEvents.{known_seen}
@@ -25,7 +25,7 @@ changes_append (x ∷ xs) ys n inc = go (nat_eq x.node n && nat_eq x.inc inc) (c
     go true h = ap (λ l. x.change ∷ l) h
     go false h = h
 
-changes_own : (cs : List Change) (n inc : ℕ) → changes_of (map (noted n inc) cs) n inc ≡ cs
+changes_own : (cs : List Change) (n inc : ℕ) → changes_of (map (note_of n inc) cs) n inc ≡ cs
 changes_own [] n inc = refl
 changes_own (c ∷ cs) n inc = let a = eq-eqb n n refl in let b = eq-eqb inc inc refl in rw (a, b) (ap (λ l. c ∷ l) (changes_own cs n inc))
 
@@ -85,7 +85,7 @@ frame_more c starts xs more (Message m) h = tt
 frame_more c starts xs more (Interest t) h = (h.0, subst (λ l. Told c.follow l t.number t.body) (sym (changes_append xs more t.origin t.inc)) (told_more c.follow (changes_of xs t.origin t.inc) (changes_of more t.origin t.inc) t.number t.body h.1))
 frame_more c starts xs more (Greeting o v) h = h
 
-pub view_kept : (c : Config) (past : History) (out : Output) (o : ℕ) (p : Peer) → IsView c past o p → IsView c (grown past out) o p
+pub view_kept : (c : Config) (past : History) (out : Output) (o : ℕ) (p : Peer) → IsView c past o p → IsView c (history_with past out) o p
 view_kept c past out o p h =
     let l = changes_of past.changes o p.seen in
     let more = changes_of out.changes o p.seen in
@@ -98,7 +98,7 @@ view_kept c past out o p h =
     }
 
 -- the same incarnation, with no change of its own added
-interest_more : (c : Config) (past : History) (out : Output) (n inc : ℕ) (old new : Hub) → changes_of out.changes n inc ≡ [] → new.changed ≡ old.changed → new.interest ≡ old.interest → ((o : ℕ) (p : Peer) → slice_get new.peers o ≡ Some p → IsView c past o p) → InterestIs c past n inc old → InterestIs c (grown past out) n inc new
+interest_more : (c : Config) (past : History) (out : Output) (n inc : ℕ) (old new : Hub) → changes_of out.changes n inc ≡ [] → new.changed ≡ old.changed → new.interest ≡ old.interest → ((o : ℕ) (p : Peer) → slice_get new.peers o ≡ Some p → IsView c past o p) → InterestIs c past n inc old → InterestIs c (history_with past out) n inc new
 interest_more c past out n inc old new none changed interest peers h =
     let l = changes_of past.changes n inc in
     let is : changes_of (past.changes ++ out.changes) n inc ≡ l ++ [] = changes_append past.changes out.changes n inc ∙ ap (λ y. l ++ y) none in
@@ -115,13 +115,13 @@ interest_more c past out n inc old new none changed interest peers h =
 pub record Tells (c : Config) (w : World) (n : ℕ) (b : Node) (out : Output) : Type 0 where
   pub changes : Each (λ x. (x.node ≡ n) × In (x.node, x.inc) w.past.started) out.changes
   pub frames : Each (FrameOk c w.past.started (w.past.changes ++ out.changes)) out.frames
-  pub hub : b.up ≡ true → InterestIs c (grown w.past out) n b.inc b.hub
+  pub hub : b.up ≡ true → InterestIs c (history_with w.past out) n b.inc b.hub
 
-pub interests_kept : (c : Config) (w : World) (n : ℕ) (b : Node) (out : Output) → Interests c w → Tells c w n b out → Interests c (applied w n b out)
+pub interests_kept : (c : Config) (w : World) (n : ℕ) (b : Node) (out : Output) → Interests c w → Tells c w n b out → Interests c (world_with w n b out)
 interests_kept c w n b out h d = record {
   changes = each_append (λ x. In (x.node, x.inc) w.past.started) w.past.changes out.changes h.changes (λ x i. (d.changes x i).1);
   frames = each_append (FrameOk c w.past.started (w.past.changes ++ out.changes)) w.past.sent out.frames (λ t i. frame_more c w.past.started w.past.changes out.changes t (h.frames t i)) d.frames;
-  nodes = read_set (λ m x. x.up ≡ true → InterestIs c (grown w.past out) m x.inc x.hub) w.nodes n b
+  nodes = read_set (λ m x. x.up ≡ true → InterestIs c (history_with w.past out) m x.inc x.hub) w.nodes n b
       (λ m x apart e up. let o = h.nodes m x e up in interest_more c w.past out m x.inc x.hub x.hub (changes_none out.changes m x.inc (λ y i at my. apart (sym at ∙ (d.changes y i).0))) refl refl o.peers o)
       d.hub;
 }
@@ -138,7 +138,7 @@ nothing_is_told c w n b out old h none frames changed interest peers = record {
 known_view : (c : Config) (past : History) (o inc : ℕ) (peer base : Peer) → In (o, inc) past.started → Known every_rule peer inc base → IsView c past o peer → IsView c past o base
 known_view c past o inc peer base started known h =
     ⊎_elim
-    (λ (k : (inc ≢ peer.seen) × (peer.seen < inc) × (base ≡ unheard inc)). subst (IsView c past o) (sym k.2) (record { seen = inr started; reached = omega arith; view = sym (view_none c.follow (changes_of past.changes o inc) []) }))
+    (λ (k : (inc ≢ peer.seen) × (peer.seen < inc) × (base ≡ new_peer inc)). subst (IsView c past o) (sym k.2) (record { seen = inr started; reached = omega arith; view = sym (view_none c.follow (changes_of past.changes o inc) []) }))
     (λ (k : (inc ≡ peer.seen) × (base ≡ peer)). subst (IsView c past o) (sym k.1) h)
     known
 
@@ -185,14 +185,14 @@ after_greeting c w n own_inc hub origin inc new started h q =
 
 -- frames of its own, where the hub's number and interest are those of its changes
 pub own_frames : (c : Config) (past : History) (n inc : ℕ) (hub : Hub) (changes : List Change) (new : Hub) → In (n, inc) past.started → hub.changed ≡ length (changes_of past.changes n inc) → new.changed ≡ hub.changed + length changes → new.interest ≡ view_after c.follow (changes_of past.changes n inc ++ changes) (length (changes_of past.changes n inc) + length changes) []
-    → (t : Frame) → IsTold n inc hub changes new t → FrameOk c past.started (past.changes ++ map (noted n inc) changes) t
+    → (t : Frame) → IsTold n inc hub changes new t → FrameOk c past.started (past.changes ++ map (note_of n inc) changes) t
 own_frames c past n inc hub changes new started count later all (Message m) h = tt
 own_frames c past n inc hub changes new started count later all (Greeting o v) h = subst (λ (y : ℕ × ℕ). In y past.started) (λ i. (sym h.0 i, sym h.1 i)) started
 own_frames c past n inc hub changes new started count later all (Interest t) h =
     let l = changes_of past.changes n inc in
-    let is : changes_of (past.changes ++ map (noted n inc) changes) n inc ≡ l ++ changes = changes_append past.changes (map (noted n inc) changes) n inc ∙ ap (λ y. l ++ y) (changes_own changes n inc) in
+    let is : changes_of (past.changes ++ map (note_of n inc) changes) n inc ≡ l ++ changes = changes_append past.changes (map (note_of n inc) changes) n inc ∙ ap (λ y. l ++ y) (changes_own changes n inc) in
     let there = subst (λ (y : ℕ × ℕ). In y past.started) (λ i. (sym h.origin i, sym h.inc i)) started in
-    (there, subst (λ (y : ℕ × ℕ). Told c.follow (changes_of (past.changes ++ map (noted n inc) changes) y.0 y.1) t.number t.body) (λ i. (sym h.origin i, sym h.inc i)) (subst (λ y. Told c.follow y t.number t.body) (sym is) (go t.body h.says)))
+    (there, subst (λ (y : ℕ × ℕ). Told c.follow (changes_of (past.changes ++ map (note_of n inc) changes) y.0 y.1) t.number t.body) (λ i. (sym h.origin i, sym h.inc i)) (subst (λ y. Told c.follow y t.number t.body) (sym is) (go t.body h.says)))
   where
     go : (b : Body) → Says hub changes new t.number b → Told c.follow (changes_of past.changes n inc ++ changes) t.number b
     go (Changed d) s = let l = changes_of past.changes n inc in let at = s.2 in (length l + s.0, omega arith, read_after l changes s.0 ∙ s.1)
@@ -203,10 +203,10 @@ own_frames c past n inc hub changes new started count later all (Interest t) h =
         let number : length l + length changes ≡ t.number = omega arith in
         (omega arith, s.1 ∙ all ∙ ap (λ k. view_after c.follow (l ++ changes) k []) number)
 
-pub after_announcement : (c : Config) (w : World) (n : ℕ) (a b : Node) (changes : List Change) (frames : List Frame) (out : Output) → InterestIs c w.past n a.inc a.hub → HubAnnounces c n a.inc a.hub changes frames b.hub → b.inc ≡ a.inc → out.changes ≡ map (noted n a.inc) changes → out.frames ≡ frames → Tells c w n b out
+pub after_announcement : (c : Config) (w : World) (n : ℕ) (a b : Node) (changes : List Change) (frames : List Frame) (out : Output) → InterestIs c w.past n a.inc a.hub → HubAnnounces c n a.inc a.hub changes frames b.hub → b.inc ≡ a.inc → out.changes ≡ map (note_of n a.inc) changes → out.frames ≡ frames → Tells c w n b out
 after_announcement c w n a b changes frames out h q inc changes_are frames_are =
     let l = changes_of w.past.changes n a.inc in
-    let more = map (noted n a.inc) changes in
+    let more = map (note_of n a.inc) changes in
     let count = h.changed in
     let later : b.hub.changed ≡ a.hub.changed + length changes = ap (λ (x : Hub). x.changed) q.after in
     let all : b.hub.interest ≡ view_after c.follow (l ++ changes) (length l + length changes) [] = ap (λ (x : Hub). x.interest) q.after ∙ ap (view_after c.follow changes (length changes)) (h.interest ∙ ap (λ k. view_after c.follow l k []) h.changed) ∙ sym (view_both c.follow l changes []) in
@@ -218,7 +218,7 @@ after_announcement c w n a b changes frames out h q inc changes_are frames_are =
     (subst (λ (v : ℕ). (b.hub.changed ≡ length (changes_of (w.past.changes ++ more) n v)) × (b.hub.interest ≡ view_after c.follow (changes_of (w.past.changes ++ more) n v) b.hub.changed [])) (sym f)
     (subst (λ (z : List Change). (b.hub.changed ≡ length z) × (b.hub.interest ≡ view_after c.follow z b.hub.changed [])) (sym is) (number, all ∙ ap (λ k. view_after c.follow (l ++ changes) k []) (sym (number ∙ sum))))) in
     record {
-      changes = λ x i. let m = in_map (noted n a.inc) changes x (subst (In x) changes_are i) in (ap (λ (y : Noted). y.node) m.2, subst (λ (y : ℕ × ℕ). In y w.past.started) (λ i. ((sym m.2 i).node, (sym m.2 i).inc)) h.started);
+      changes = λ x i. let m = in_map (note_of n a.inc) changes x (subst (In x) changes_are i) in (ap (λ (y : Noted). y.node) m.2, subst (λ (y : ℕ × ℕ). In y w.past.started) (λ i. ((sym m.2 i).node, (sym m.2 i).inc)) h.started);
       frames = λ t i. subst (λ y. FrameOk c w.past.started (w.past.changes ++ y) t) (sym changes_are) (own_frames c w.past n a.inc a.hub changes b.hub h.started h.changed later all t (q.told t (subst (In t) frames_are i)));
       hub = λ up.
           let o = hub out.changes changes_are b.inc inc in

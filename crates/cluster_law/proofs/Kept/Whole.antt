@@ -10,7 +10,7 @@ use Rattle.cluster_law.specs.Interest.{Noted, changes_of, view_after}
 use Rattle.cluster_law.specs.Hub.{Hub, Peer, HubAnnounces}
 use Rattle.cluster_law.specs.Shard.{Shard, ShardEvent, Subscribe, Close, Begin, Claim, End, Drop, ShardStep, Wins, Passes}
 use Rattle.cluster_law.specs.Node.{Node, NodeEvent, Publish, Receive, Announce, OnShard, NodeStep, AtShard}
-use Rattle.cluster_law.specs.Cluster.{World, Event, Start, Stop, Hand, At, Acts, Happens, Step, Run, Reached, IsOwn, applied, all_closings, begin, no_node}
+use Rattle.cluster_law.specs.Cluster.{World, Event, Start, Stop, Hand, At, Acts, Happens, Step, Run, Reached, IsOwn, world_with, all_closings, begin, no_node}
 use Rattle.cluster_law.specs.Headline.{Headline, PlainOnce, InOrder, OneFrame, AcceptedOnce, Unique, Routing, IsLine, EachShard, EachView}
 use Rattle.list_laws.proofs.Lists.{in_read, pairs_weaker, each_cons, read_replicate}
 use Rattle.cluster_law.proofs.Kept.Invariants.{HubOk, NodeOk, InterestIs, FrameOk, Holds, RoutedApart, JobsApart, Local, Remote, LineIs}
@@ -32,7 +32,7 @@ at_first c = record {
 
 -- A node's step
 
-made : (c : Config) (w : World) (n : ℕ) (b : Node) (out : Output) (w' : World) → w' ≡ applied w n b out → Both c w n b out → Tells c w n b out → Holds c w → Holds c w'
+made : (c : Config) (w : World) (n : ℕ) (b : Node) (out : Output) (w' : World) → w' ≡ world_with w n b out → Both c w n b out → Tells c w n b out → Holds c w → Holds c w'
 made c w n b out w' after both tells h = subst (Holds c) (sym after) (record { hubs = hubs_kept c.queue_names w n b out both.frames h.hubs both.adds; rest = rest_kept c w n b out h.rest both.places; interests = interests_kept c w n b out h.interests tells })
 
 -- the frames of a publish

@@ -4,7 +4,7 @@ use Rattle.std.specs.Prelude.{slice_get}
 use Rattle.std.proofs.lemmas.Option.{same_Some}
 use Rattle.cluster_law.specs.Messages.{Routed, Frame, Message, Greeting}
 use Rattle.cluster_law.specs.Config.{every_rule}
-use Rattle.cluster_law.specs.Hub.{Peer, Hub, unheard, RoutedOf, HubReceives}
+use Rattle.cluster_law.specs.Hub.{Peer, Hub, new_peer, RoutedOf, HubReceives}
 use Rattle.cluster_law.specs.Node.{Node, Receive}
 use Rattle.cluster_law.specs.Cluster.{World, Hand, Acts, begin}
 use Rattle.cluster_law.specs.Example.{two_nodes, workers, Refuses, Witness}
@@ -19,7 +19,7 @@ for_plain = routed 1 2 1 []
 
 abbrev script : List Line
 script =
-    Starts 0 1 ∷ Starts 1 1 ∷ Tells 1 [] (Greeting 1 1) ∷ Greets 0 0 1 1 ∷ Opens 1 0 (Some workers) ∷ Opens 1 1 None ∷ Sends 0 [] (for_member ∷ []) [] ∷ Sends 0 [] (for_plain ∷ []) [] ∷ Takes 1 1 for_member (unheard 1)
+    Starts 0 1 ∷ Starts 1 1 ∷ Tells 1 [] (Greeting 1 1) ∷ Greets 0 0 1 1 ∷ Opens 1 0 (Some workers) ∷ Opens 1 1 None ∷ Sends 0 [] (for_member ∷ []) [] ∷ Sends 0 [] (for_plain ∷ []) [] ∷ Takes 1 1 for_member (new_peer 1)
     ∷ Begins 1 0 [] ∷ Wins 1 0 workers member ∷ Begins 1 1 (plain ∷ []) ∷ []
 
 abbrev restart : List Line
@@ -94,7 +94,7 @@ repeated hub r =
     let mark : 1 ≡ r.peer.mark = ap (λ (p : Peer). p.mark) is in
     let above = r.above in
     ⊎_elim
-    (λ (k : (1 ≢ r.peer.seen) × (r.peer.seen < 1) × (r.base ≡ unheard 1)). k.0 seen)
+    (λ (k : (1 ≢ r.peer.seen) × (r.peer.seen < 1) × (r.base ≡ new_peer 1)). k.0 seen)
     (λ (k : (1 ≡ r.peer.seen) × (r.base ≡ r.peer)). let same = ap (λ (p : Peer). p.mark) k.1 in omega arith)
     r.known
 

@@ -10,11 +10,11 @@ use Rattle.cluster_law.specs.Messages.{Content, Routed, News, Frame, Message, In
 use Rattle.cluster_law.specs.Config.{Config, Rules}
 use Rattle.cluster_law.specs.History.{Job, Output, nothing}
 use Rattle.cluster_law.proofs.Scripts.Races.{same_race}
-use Rattle.cluster_law.specs.Hub.{Peer, Hub, unheard, RoutedOf, Known, IsForMe, Taken, IsTold, next_id}
+use Rattle.cluster_law.specs.Hub.{Peer, Hub, new_peer, RoutedOf, Known, IsForMe, Taken, IsTold, next_id}
 use Rattle.cluster_law.specs.Race.{Race, KeptOver}
-use Rattle.cluster_law.specs.Shard.{Subscription, Shard, life_id, without, closings_of, placement, IsOwedPlain, Subscribe, Close, Begin, Claim, End}
-use Rattle.cluster_law.specs.Node.{Node, finished_turns, queued, next_publication, next_job, noted, Publish, Announce, OnShard}
-use Rattle.cluster_law.specs.Cluster.{World, Event, Start, Stop, Hand, At, Happens, Run, Reached, applied, begin, all_closings, no_node, new_node, new_shard}
+use Rattle.cluster_law.specs.Shard.{Subscription, Shard, life_id, subs_without, closings_of, placement, IsOwedPlain, Subscribe, Close, Begin, Claim, End}
+use Rattle.cluster_law.specs.Node.{Node, finished_turns, shard_with_job, next_publication, next_job, note_of, Publish, Announce, OnShard}
+use Rattle.cluster_law.specs.Cluster.{World, Event, Start, Stop, Hand, At, Happens, Run, Reached, world_with, begin, all_closings, no_node, new_node, new_shard}
 
 abbrev nth : {A : Type 0} → List A → ℕ → A → A
 nth [] k d = d
@@ -28,7 +28,7 @@ abbrev pub shard : World → ℕ → ℕ → Shard
 shard w n s = nth (node w n).shards s new_shard
 
 abbrev pub peer : World → ℕ → ℕ → Peer
-peer w n o = nth (node w n).hub.peers o (unheard 0)
+peer w n o = nth (node w n).hub.peers o (new_peer 0)
 
 abbrev pub no_job : Job
 no_job = record { node = 0; inc = 0; turn = 0; id = record { origin = 0; inc = 0; number = 0 }; content = record { subject = []; reply = None; payload = [] }; names = [] }
@@ -81,26 +81,26 @@ event_of (Wins n s name chosen) = At n (OnShard s Claim)
 event_of (Ends n s) = At n (OnShard s End)
 
 abbrev with_shard : World → ℕ → ℕ → Race → Shard → Output → World
-with_shard w n s race new out = applied w n (record (node w n) { race = race; shards = set (node w n).shards s new }) out
+with_shard w n s race new out = world_with w n (record (node w n) { race = race; shards = set (node w n).shards s new }) out
 
 abbrev with_job : World → ℕ → Hub → List (ℕ × ℕ) → Job → Output → World
-with_job w n hub won job out = applied w n (record (node w n) { hub = hub; race = record { issued = suc (node w n).race.issued; won = won }; shards = map (queued job) (node w n).shards }) out
+with_job w n hub won job out = world_with w n (record (node w n) { hub = hub; race = record { issued = suc (node w n).race.issued; won = won }; shards = map (shard_with_job job) (node w n).shards }) out
 
 abbrev with_peer : World → ℕ → ℕ → Peer → World
-with_peer w n origin known = applied w n (record (node w n) { hub = record (node w n).hub { peers = set (node w n).hub.peers origin known } }) nothing
+with_peer w n origin known = world_with w n (record (node w n) { hub = record (node w n).hub { peers = set (node w n).hub.peers origin known } }) nothing
 
 -- what the line makes of the world
 abbrev pub next : Config → World → Line → World
 next c w (Starts n inc) = record { nodes = set w.nodes n (new_node c inc); step = suc w.step; past = record w.past { started = w.past.started ++ (n, inc) ∷ [] } }
-next c w (Stops n) = applied w n no_node (record nothing { closings = all_closings n (node w n).inc (suc w.step) 0 (node w n).shards })
-next c w (Tells n changes frame) = applied w n (record (node w n) { hub = record (node w n).hub { changed = (node w n).hub.changed + length changes; interest = view_after c.follow changes (length changes) (node w n).hub.interest } }) (record nothing { frames = frame ∷ []; changes = map (noted n (node w n).inc) changes })
-next c w (Greets n k origin inc) = with_peer w n origin (unheard inc)
+next c w (Stops n) = world_with w n no_node (record nothing { closings = all_closings n (node w n).inc (suc w.step) 0 (node w n).shards })
+next c w (Tells n changes frame) = world_with w n (record (node w n) { hub = record (node w n).hub { changed = (node w n).hub.changed + length changes; interest = view_after c.follow changes (length changes) (node w n).hub.interest } }) (record nothing { frames = frame ∷ []; changes = map (note_of n (node w n).inc) changes })
+next c w (Greets n k origin inc) = with_peer w n origin (new_peer inc)
 next c w (Hears n k news base view) = with_peer w n news.origin (record base { heard = news.number; view = view })
 next c w (Opens n s queue) =
     with_shard w n s (node w n).race (record (shard w n s) { serials = suc (shard w n s).serials; subscriptions = (shard w n s).subscriptions ++ record { serial = suc (shard w n s).serials; connection = 1; sid = 1 ∷ []; pattern = 1 ∷ []; queue = queue } ∷ [] })
     (record nothing { lives = record { id = life_id n (node w n).inc s (suc (shard w n s).serials); connection = 1; sid = 1 ∷ []; pattern = 1 ∷ []; queue = queue; opened = suc w.step } ∷ [] })
 next c w (Shuts n s serial) =
-    with_shard w n s (node w n).race (record (shard w n s) { subscriptions = without (serial ∷ []) (shard w n s).subscriptions }) (record nothing { closings = closings_of n (node w n).inc s (suc w.step) (serial ∷ []) })
+    with_shard w n s (node w n).race (record (shard w n s) { subscriptions = subs_without (serial ∷ []) (shard w n s).subscriptions }) (record nothing { closings = closings_of n (node w n).inc s (suc w.step) (serial ∷ []) })
 next c w (Sends n names frames won) =
     with_job w n (record (node w n).hub { published = suc (node w n).hub.published }) won (next_job n (node w n) (next_id n (node w n).inc (node w n).hub) hello names)
     (record nothing { publications = next_publication n (suc w.step) (node w n) hello ∷ []; frames = map Message frames; jobs = next_job n (node w n) (next_id n (node w n).inc (node w n).hub) hello names ∷ [] })
@@ -108,10 +108,10 @@ next c w (Takes n k m base) =
     with_job w n (record (node w n).hub { peers = set (node w n).hub.peers m.id.origin (record base { mark = m.id.number }) }) (node w n).race.won (next_job n (node w n) m.id m.content m.names) (record nothing { jobs = next_job n (node w n) m.id m.content m.names ∷ [] })
 next c w (Begins n s placed) =
     let job = nth (shard w n s).waiting 0 no_job in
-    with_shard w n s (node w n).race (record (shard w n s) { hand = Some job; next = 0; waiting = rest_of (shard w n s).waiting; subscriptions = without [] (shard w n s).subscriptions }) (record nothing { placements = map (placement n (node w n).inc s (suc w.step) job) placed })
+    with_shard w n s (node w n).race (record (shard w n s) { hand = Some job; next = 0; waiting = rest_of (shard w n s).waiting; subscriptions = subs_without [] (shard w n s).subscriptions }) (record nothing { placements = map (placement n (node w n).inc s (suc w.step) job) placed })
 next c w (Wins n s name chosen) =
     let job = in_hand (shard w n s).hand in
-    with_shard w n s (record { issued = (node w n).race.issued; won = (job.turn, (shard w n s).next) ∷ (node w n).race.won }) (record (shard w n s) { next = suc (shard w n s).next; subscriptions = without [] (shard w n s).subscriptions }) (record nothing { placements = placement n (node w n).inc s (suc w.step) job chosen ∷ [] })
+    with_shard w n s (record { issued = (node w n).race.issued; won = (job.turn, (shard w n s).next) ∷ (node w n).race.won }) (record (shard w n s) { next = suc (shard w n s).next; subscriptions = subs_without [] (shard w n s).subscriptions }) (record nothing { placements = placement n (node w n).inc s (suc w.step) job chosen ∷ [] })
 next c w (Ends n s) = with_shard w n s (node w n).race (record (shard w n s) { finished = suc (shard w n s).finished; hand = None; next = 0 }) nothing
 
 -- the node is up
@@ -129,7 +129,7 @@ abbrev pub IsLegal : Rules → Config → World → Line → Type 0
 IsLegal rules c w (Starts n inc) = (slice_get w.nodes n ≡ Some (node w n)) × ((node w n).up ≡ false) × (0 < inc) × Where rules.fresh (In (n, inc) w.past.started → ⊥)
 IsLegal rules c w (Stops n) = IsUp w n
 IsLegal rules c w (Tells n changes frame) = IsUp w n × IsTold n (node w n).inc (node w n).hub changes (record (node w n).hub { changed = (node w n).hub.changed + length changes; interest = view_after c.follow changes (length changes) (node w n).hub.interest }) frame
-IsLegal rules c w (Greets n k origin inc) = IsUp w n × Where rules.sent (slice_get w.past.sent k ≡ Some (Greeting origin inc)) × (origin ≢ n) × (slice_get (node w n).hub.peers origin ≡ Some (peer w n origin)) × Known rules (peer w n origin) inc (unheard inc)
+IsLegal rules c w (Greets n k origin inc) = IsUp w n × Where rules.sent (slice_get w.past.sent k ≡ Some (Greeting origin inc)) × (origin ≢ n) × (slice_get (node w n).hub.peers origin ≡ Some (peer w n origin)) × Known rules (peer w n origin) inc (new_peer inc)
 IsLegal rules c w (Hears n k t base view) = IsUp w n × Where rules.sent (slice_get w.past.sent k ≡ Some (Interest t)) × IsForMe rules n (node w n).inc t.to t.to_inc t.origin × (slice_get (node w n).hub.peers t.origin ≡ Some (peer w n t.origin)) × Known rules (peer w n t.origin) t.inc base × Taken rules c t.body t.number base.heard base.view view
 IsLegal rules c w (Opens n s queue) = HasShard w n s
 IsLegal rules c w (Shuts n s serial) = HasShard w n s × (u : Subscription) × In u (shard w n s).subscriptions × (u.serial ≡ serial)
@@ -176,7 +176,7 @@ is_event rules c w (Greets n k origin inc) h = (record {
     out = _;
     new = _;
     after = refl;
-    steps = record { hub = _; meets = record { other = h.2; peer = peer w n origin; peer_is = h.3; base = unheard inc; known = h.4; after = refl }; frames = []; told = λ f i. absurd i; out_is = refl; after = refl };
+    steps = record { hub = _; meets = record { other = h.2; peer = peer w n origin; peer_is = h.3; base = new_peer inc; known = h.4; after = refl }; frames = []; told = λ f i. absurd i; out_is = refl; after = refl };
   };
 })
 is_event rules c w (Hears n k t base view) h = (record {

@@ -7,7 +7,7 @@ use Rattle.cluster_law.specs.Names.{Bytes, PubId}
 use Rattle.cluster_law.specs.Interest.{View, Change, Up, Gone, Cleared}
 use Rattle.cluster_law.specs.Messages.{Publication, Routed}
 use Rattle.cluster_law.specs.Config.{Config}
-use Rattle.cluster_law.specs.Hub.{Hub, unheard, RoutedOf}
+use Rattle.cluster_law.specs.Hub.{Hub, new_peer, RoutedOf}
 use Rattle.cluster_law.specs.Race.{KeptOver}
 use Rattle.cluster_law.specs.Shard.{Subscription, Shard, IsOwedPlain}
 use Rattle.cluster_law.specs.History.{Job}
@@ -67,8 +67,8 @@ pub other_inc : (n inc m v : ℕ) (l : List (ℕ × ℕ)) → inc ≢ v → (In 
 other_inc n inc m v l ne h i = ⊎_elim (λ (e : (n, inc) ≡ (m, v)). ne (ap (λ (y : ℕ × ℕ). y.1) e)) (λ (k : In (n, inc) l). h k) i
 
 -- a frame of a publication for node 1, which the hub has seen at its incarnation 1
-pub of_publication : (hub : Hub) (p : Publication) (m : Routed) → m.id ≡ p.id → m.content ≡ p.content → m.to ≡ 1 → slice_get hub.peers m.to ≡ Some (unheard 1) → m.to_inc ≡ 1 → NoRepeat m.names → RoutedOf 0 hub p m
-of_publication hub p m id content to known to_inc once = record { id = id; content = content; other = λ e. absurd (omega arith); peer = unheard 1; peer_is = known; to_inc = to_inc; once = once }
+pub of_publication : (hub : Hub) (p : Publication) (m : Routed) → m.id ≡ p.id → m.content ≡ p.content → m.to ≡ 1 → slice_get hub.peers m.to ≡ Some (new_peer 1) → m.to_inc ≡ 1 → NoRepeat m.names → RoutedOf 0 hub p m
+of_publication hub p m id content to known to_inc once = record { id = id; content = content; other = λ e. absurd (omega arith); peer = new_peer 1; peer_is = known; to_inc = to_inc; once = once }
 
 pub only : {A : Type 0} (P : A → Type 0) (x : A) → P x → Each P (x ∷ [])
 only P x p y i = ⊎_elim (λ (e : y ≡ x). subst P (sym e) p) (λ (k : ⊥). absurd k) i

@@ -4,7 +4,7 @@ use Rattle.list_laws.specs.Lists.{Disjoint}
 use Rattle.cluster_law.specs.Interest.{Weighted, Up}
 use Rattle.cluster_law.specs.Messages.{Routed, News, Changed, Interest, Greeting}
 use Rattle.cluster_law.specs.Config.{every_rule}
-use Rattle.cluster_law.specs.Hub.{Peer, unheard, RoutedOf}
+use Rattle.cluster_law.specs.Hub.{Peer, new_peer, RoutedOf}
 use Rattle.cluster_law.specs.Cluster.{begin}
 use Rattle.cluster_law.specs.Counterexamples.{AddresseeIsNeeded, IncarnationIsNeeded, MarkIsNeeded, OriginIsNeeded, SentIsNeeded, ApartIsNeeded, OneFrameIsNeeded, NextIsNeeded}
 use Rattle.list_laws.proofs.Lists.{each_cons}
@@ -26,7 +26,7 @@ heard_one = record { seen = 1; mark = 1; heard = 0; view = [] }
 -- node 2 takes the frame for node 1
 abbrev two_takers : List Line
 two_takers =
-    Starts 0 1 ∷ Starts 1 1 ∷ Starts 2 1 ∷ Tells 1 [] (Greeting 1 1) ∷ Greets 0 0 1 1 ∷ Opens 1 0 (Some queue) ∷ Opens 2 0 (Some queue) ∷ Sends 0 [] (for_one ∷ []) [] ∷ Takes 1 1 for_one (unheard 1) ∷ Takes 2 1 for_one (unheard 1)
+    Starts 0 1 ∷ Starts 1 1 ∷ Starts 2 1 ∷ Tells 1 [] (Greeting 1 1) ∷ Greets 0 0 1 1 ∷ Opens 1 0 (Some queue) ∷ Opens 2 0 (Some queue) ∷ Sends 0 [] (for_one ∷ []) [] ∷ Takes 1 1 for_one (new_peer 1) ∷ Takes 2 1 for_one (new_peer 1)
     ∷ Begins 1 0 [] ∷ Wins 1 0 queue member ∷ Begins 2 0 [] ∷ Wins 2 0 queue member ∷ []
 
 pub addressee_is_needed : AddresseeIsNeeded
@@ -82,8 +82,8 @@ addressee_is_needed = (
 -- node 1 takes the frame, starts again, and takes it once more
 abbrev two_incarnations : List Line
 two_incarnations =
-    Starts 0 1 ∷ Starts 1 1 ∷ Tells 1 [] (Greeting 1 1) ∷ Greets 0 0 1 1 ∷ Opens 1 0 (Some queue) ∷ Sends 0 [] (for_one ∷ []) [] ∷ Takes 1 1 for_one (unheard 1) ∷ Begins 1 0 [] ∷ Wins 1 0 queue member
-    ∷ Stops 1 ∷ Starts 1 2 ∷ Opens 1 0 (Some queue) ∷ Takes 1 1 for_one (unheard 1) ∷ Begins 1 0 [] ∷ Wins 1 0 queue member ∷ []
+    Starts 0 1 ∷ Starts 1 1 ∷ Tells 1 [] (Greeting 1 1) ∷ Greets 0 0 1 1 ∷ Opens 1 0 (Some queue) ∷ Sends 0 [] (for_one ∷ []) [] ∷ Takes 1 1 for_one (new_peer 1) ∷ Begins 1 0 [] ∷ Wins 1 0 queue member
+    ∷ Stops 1 ∷ Starts 1 2 ∷ Opens 1 0 (Some queue) ∷ Takes 1 1 for_one (new_peer 1) ∷ Begins 1 0 [] ∷ Wins 1 0 queue member ∷ []
 
 pub incarnation_is_needed : IncarnationIsNeeded
 incarnation_is_needed = (
@@ -141,7 +141,7 @@ incarnation_is_needed = (
 -- node 1 takes the frame twice
 abbrev repeated : List Line
 repeated =
-    Starts 0 1 ∷ Starts 1 1 ∷ Tells 1 [] (Greeting 1 1) ∷ Greets 0 0 1 1 ∷ Opens 1 0 None ∷ Sends 0 [] (bare ∷ []) [] ∷ Takes 1 1 bare (unheard 1) ∷ Takes 1 1 bare heard_one
+    Starts 0 1 ∷ Starts 1 1 ∷ Tells 1 [] (Greeting 1 1) ∷ Greets 0 0 1 1 ∷ Opens 1 0 None ∷ Sends 0 [] (bare ∷ []) [] ∷ Takes 1 1 bare (new_peer 1) ∷ Takes 1 1 bare heard_one
     ∷ Begins 1 0 (plain ∷ []) ∷ Ends 1 0 ∷ Begins 1 0 (plain ∷ []) ∷ []
 
 pub mark_is_needed : MarkIsNeeded
@@ -188,7 +188,7 @@ mark_is_needed = (
 -- node 1 takes the frame, hears of the next incarnation of node 0, and takes the old frame once more
 abbrev late : List Line
 late =
-    Starts 0 1 ∷ Starts 1 1 ∷ Tells 1 [] (Greeting 1 1) ∷ Greets 0 0 1 1 ∷ Opens 1 0 None ∷ Sends 0 [] (bare ∷ []) [] ∷ Takes 1 1 bare (unheard 1) ∷ Stops 0 ∷ Starts 0 2 ∷ Tells 0 [] (Greeting 0 2) ∷ Greets 1 2 0 2 ∷ Takes 1 1 bare (unheard 1)
+    Starts 0 1 ∷ Starts 1 1 ∷ Tells 1 [] (Greeting 1 1) ∷ Greets 0 0 1 1 ∷ Opens 1 0 None ∷ Sends 0 [] (bare ∷ []) [] ∷ Takes 1 1 bare (new_peer 1) ∷ Stops 0 ∷ Starts 0 2 ∷ Tells 0 [] (Greeting 0 2) ∷ Greets 1 2 0 2 ∷ Takes 1 1 bare (new_peer 1)
     ∷ Begins 1 0 (plain ∷ []) ∷ Ends 1 0 ∷ Begins 1 0 (plain ∷ []) ∷ []
 
 pub origin_is_needed : OriginIsNeeded
@@ -246,7 +246,7 @@ origin_is_needed = (
 
 -- node 1 takes a frame that nobody sent
 abbrev invented : List Line
-invented = Starts 1 1 ∷ Opens 1 0 None ∷ Takes 1 0 bare (unheard 1) ∷ Begins 1 0 (plain ∷ []) ∷ []
+invented = Starts 1 1 ∷ Opens 1 0 None ∷ Takes 1 0 bare (new_peer 1) ∷ Begins 1 0 (plain ∷ []) ∷ []
 
 pub sent_is_needed : SentIsNeeded
 sent_is_needed = (
@@ -271,7 +271,7 @@ sent_is_needed = (
 -- the queue name goes to node 1, and is served by node 0 too
 abbrev shared : List Line
 shared =
-    Starts 0 1 ∷ Starts 1 1 ∷ Tells 1 [] (Greeting 1 1) ∷ Greets 0 0 1 1 ∷ Opens 0 0 (Some queue) ∷ Opens 1 0 (Some queue) ∷ Sends 0 (queue ∷ []) (for_one ∷ []) [] ∷ Takes 1 1 for_one (unheard 1)
+    Starts 0 1 ∷ Starts 1 1 ∷ Tells 1 [] (Greeting 1 1) ∷ Greets 0 0 1 1 ∷ Opens 0 0 (Some queue) ∷ Opens 1 0 (Some queue) ∷ Sends 0 (queue ∷ []) (for_one ∷ []) [] ∷ Takes 1 1 for_one (new_peer 1)
     ∷ Begins 0 0 [] ∷ Wins 0 0 queue member ∷ Begins 1 0 [] ∷ Wins 1 0 queue member ∷ []
 
 pub apart_is_needed : ApartIsNeeded
@@ -353,7 +353,7 @@ news k = record { origin = 0; inc = 1; to = 1; to_inc = 1; number = k; body = Ch
 
 -- node 1 takes the second change without the first
 abbrev gap : List Line
-gap = Starts 0 1 ∷ Starts 1 1 ∷ Tells 0 (Up (weighted 1) ∷ []) (Interest (news 1)) ∷ Tells 0 (Up (weighted 2) ∷ []) (Interest (news 2)) ∷ Hears 1 1 (news 2) (unheard 1) (weighted 2 ∷ []) ∷ []
+gap = Starts 0 1 ∷ Starts 1 1 ∷ Tells 0 (Up (weighted 1) ∷ []) (Interest (news 1)) ∷ Tells 0 (Up (weighted 2) ∷ []) (Interest (news 2)) ∷ Hears 1 1 (news 2) (new_peer 1) (weighted 2 ∷ []) ∷ []
 
 pub next_is_needed : NextIsNeeded
 next_is_needed = (

@@ -7,7 +7,7 @@ use Rattle.subj.specs.Servers.{Server}
 use Rattle.node_law.specs.Answers.{Nothing}
 use Rattle.node_law.specs.Events.{NodeEvent}
 use Rattle.node_core.specs.InCode.{answer_of}
-use Rattle.node_core.specs.Served.{Served, started}
+use Rattle.node_core.specs.Served.{Served, new_server}
 use Rattle.cluster_world.specs.declared.faults.WorldFault.{WorldFault}
 use Rattle.cluster_world.specs.declared.nodes.Made.{Made}
 use Rattle.cluster_world.specs.Events.{Event, Start, Stop, event_for}
@@ -17,7 +17,7 @@ use Rattle.cluster_world.specs.Play.{PutsArePlaced}
 use Rattle.cluster_world.specs.Refusals.{world_refusal, start_refusal, stop_refusal}
 use Rattle.cluster_world.specs.State.{Cluster, World, server_at}
 use Rattle.cluster_world.specs.Steps.{WorldStep, Carried}
-use Rattle.cluster_world.specs.Value.{Listed, added, with_start, with_closed, inc_in, running_in, slot_refusal, IsMade, Shown, shown, world_of, cluster_of, IsFor, IsKept, IsStepped, LivesAreOpen}
+use Rattle.cluster_world.specs.Value.{Listed, listed_with, with_start, with_closed, inc_in, running_in, slot_refusal, IsMade, Shown, value_of_parts, world_of, cluster_of, IsFor, IsKept, IsStepped, LivesAreOpen}
 use Rattle.cluster_world.proofs.Clusters.Making.{cause_is, made_step, size_set}
 use Rattle.cluster_world.proofs.Clusters.Starting.{refused_step, free_at, up_at, start_step, start_places, stop_step, stop_places}
 
@@ -27,7 +27,7 @@ CarriedOn = (c : Cluster) (w : World) (e : Event) (outcome : Outcome) (w' : Worl
 abbrev pub CarriedOpen : Type 0
 CarriedOpen = (c : Cluster) → IsCluster c → (w : World) → Carried c w → LivesAreOpen w
 
-module _ (server : Server) (step : ℕ) (nodes : List (Option Served)) (l : Listed) (v : Shown) (view_is : shown server step nodes l ≡ v) (kept : IsKept server nodes (world_of step nodes l)) where
+module _ (server : Server) (step : ℕ) (nodes : List (Option Served)) (l : Listed) (v : Shown) (view_is : value_of_parts server step nodes l ≡ v) (kept : IsKept server nodes (world_of step nodes l)) where
   abbrev c : Cluster
   c = cluster_of server
 
@@ -40,11 +40,11 @@ module _ (server : Server) (step : ℕ) (nodes : List (Option Served)) (l : List
   now_here : (now : ℕ) → now ≡ v.world.step + 1 → now ≡ step + 1
   now_here now is = is ∙ ap (λ (s : Shown). s.world.step + 1) (sym view_is)
 
-  stepped : (e : Event) (o : Outcome) (now : ℕ) (new : List (Option Served)) (l' : Listed) → WorldStep c w e o (world_of now new l') → IsStepped v e o (shown server now new l')
-  stepped e o now new l' s = subst (λ t. IsStepped t e o (shown server now new l')) view_is (record { cluster = refl; step = s })
+  stepped : (e : Event) (o : Outcome) (now : ℕ) (new : List (Option Served)) (l' : Listed) → WorldStep c w e o (world_of now new l') → IsStepped v e o (value_of_parts server now new l')
+  stepped e o now new l' s = subst (λ t. IsStepped t e o (value_of_parts server now new l')) view_is (record { cluster = refl; step = s })
 
   -- a refusal
-  pub refused_steps : (e : Event) (why : WorldFault) (now : ℕ) → now ≡ v.world.step + 1 → world_refusal v.cluster v.world e ≡ Some why → IsStepped v e (Refused why) (shown server now nodes l)
+  pub refused_steps : (e : Event) (why : WorldFault) (now : ℕ) → now ≡ v.world.step + 1 → world_refusal v.cluster v.world e ≡ Some why → IsStepped v e (Refused why) (value_of_parts server now nodes l)
   refused_steps e why now next cause = stepped e (Refused why) now nodes l (refused_step c w e why now (now_here now next) (cause_here e (Some why) cause))
 
   pub refused_keeps : CarriedOn → (e : Event) (why : WorldFault) (now : ℕ) → now ≡ v.world.step + 1 → world_refusal v.cluster v.world e ≡ Some why → IsKept server nodes (world_of now nodes l)
@@ -71,13 +71,13 @@ module _ (server : Server) (step : ℕ) (nodes : List (Option Served)) (l : List
 
   -- a server's step
   pub made_steps : PutsArePlaced → CarriedOpen → (n now : ℕ) (new : List (Option Served)) (l' : Listed) (e : Event) (found : Option NodeEvent) (made : Made) → now ≡ v.world.step + 1 → IsFor n e → found ≡ event_for w e → world_refusal v.cluster v.world e ≡ None
-      → IsMade n now found nodes made new → l' ≡ added (record { step = now; node = n; inc = made.inc }) made.noted made.did l → IsStepped v e (Done (answer_of made.did.answer)) (shown server now new l')
+      → IsMade n now found nodes made new → l' ≡ listed_with (record { step = now; node = n; inc = made.inc }) made.noted made.did l → IsStepped v e (Done (answer_of made.did.answer)) (value_of_parts server now new l')
   made_steps puts opens n now new l' e found made next at is cause m lists =
       stepped e (Done (answer_of made.did.answer)) now new l' (subst (λ t. WorldStep c w e (Done (answer_of made.did.answer)) (world_of now new t)) (sym lists)
       (made_step puts server step now n nodes new l e found made (now_here now next) kept.places (opens c kept.apart w kept.carried) at is (cause_here e None cause) m).0)
 
   pub made_keeps : PutsArePlaced → CarriedOpen → CarriedOn → (n now : ℕ) (new : List (Option Served)) (l' : Listed) (e : Event) (found : Option NodeEvent) (made : Made) → now ≡ v.world.step + 1 → IsFor n e → found ≡ event_for w e → world_refusal v.cluster v.world e ≡ None
-      → IsMade n now found nodes made new → l' ≡ added (record { step = now; node = n; inc = made.inc }) made.noted made.did l → IsKept server new (world_of now new l')
+      → IsMade n now found nodes made new → l' ≡ listed_with (record { step = now; node = n; inc = made.inc }) made.noted made.did l → IsKept server new (world_of now new l')
   made_keeps puts opens on n now new l' e found made next at is cause m lists =
       let s = made_step puts server step now n nodes new l e found made (now_here now next) kept.places (opens c kept.apart w kept.carried) at is (cause_here e None cause) m in
       record {
@@ -95,11 +95,11 @@ module _ (server : Server) (step : ℕ) (nodes : List (Option Served)) (l : List
   pub start_within : (n inc : ℕ) → world_refusal v.cluster v.world (Start n inc) ≡ None → n < length server.names
   start_within n inc cause = subst (λ k. n < k) kept.size (slice_get_within nodes n None (start_at n inc cause))
 
-  pub start_steps : (n inc now : ℕ) (made : Server) (y : Served) (l' : Listed) → now ≡ v.world.step + 1 → 1 ≤ inc → world_refusal v.cluster v.world (Start n inc) ≡ None → made ≡ server_at c n inc → y ≡ started made → l' ≡ with_start n inc l
-      → IsStepped v (Start n inc) (Done Nothing) (shown server now (set nodes n (Some y)) l')
+  pub start_steps : (n inc now : ℕ) (made : Server) (y : Served) (l' : Listed) → now ≡ v.world.step + 1 → 1 ≤ inc → world_refusal v.cluster v.world (Start n inc) ≡ None → made ≡ server_at c n inc → y ≡ new_server made → l' ≡ with_start n inc l
+      → IsStepped v (Start n inc) (Done Nothing) (value_of_parts server now (set nodes n (Some y)) l')
   start_steps n inc now made y l' next some cause made_is y_is lists = stepped (Start n inc) (Done Nothing) now (set nodes n (Some y)) l' (start_step server made step now n inc nodes l l' y (now_here now next) some (cause_here (Start n inc) None cause) made_is y_is lists)
 
-  pub start_keeps : CarriedOn → (n inc now : ℕ) (made : Server) (y : Served) (l' : Listed) → now ≡ v.world.step + 1 → 1 ≤ inc → world_refusal v.cluster v.world (Start n inc) ≡ None → made ≡ server_at c n inc → y ≡ started made → l' ≡ with_start n inc l
+  pub start_keeps : CarriedOn → (n inc now : ℕ) (made : Server) (y : Served) (l' : Listed) → now ≡ v.world.step + 1 → 1 ≤ inc → world_refusal v.cluster v.world (Start n inc) ≡ None → made ≡ server_at c n inc → y ≡ new_server made → l' ≡ with_start n inc l
       → IsKept server (set nodes n (Some y)) (world_of now (set nodes n (Some y)) l')
   start_keeps on n inc now made y l' next some cause made_is y_is lists = record {
     apart = kept.apart;
@@ -114,7 +114,7 @@ module _ (server : Server) (step : ℕ) (nodes : List (Option Served)) (l : List
   stop_at n cause = up_at c step n nodes l (cause_here (Stop n) None cause)
 
   pub stop_steps : CarriedOpen → (n inc now : ℕ) (l' : Listed) → now ≡ v.world.step + 1 → world_refusal v.cluster v.world (Stop n) ≡ None → Some inc ≡ inc_in (slice_get nodes n) → l' ≡ with_closed (record { step = now; node = n; inc = inc }) l
-      → IsStepped v (Stop n) (Done Nothing) (shown server now (set nodes n None) l')
+      → IsStepped v (Stop n) (Done Nothing) (value_of_parts server now (set nodes n None) l')
   stop_steps opens n inc now l' next cause inc_is lists = stepped (Stop n) (Done Nothing) now (set nodes n None) l' (stop_step server step now n inc nodes l l' (now_here now next) (opens c kept.apart w kept.carried) (cause_here (Stop n) None cause) inc_is lists)
 
   pub stop_keeps : CarriedOpen → CarriedOn → (n inc now : ℕ) (l' : Listed) → now ≡ v.world.step + 1 → world_refusal v.cluster v.world (Stop n) ≡ None → Some inc ≡ inc_in (slice_get nodes n) → l' ≡ with_closed (record { step = now; node = n; inc = inc }) l

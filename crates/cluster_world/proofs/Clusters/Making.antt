@@ -14,7 +14,7 @@ use Rattle.sub_table.specs.declared.Subscription.{Subscription}
 use Rattle.subj.specs.declared.identities.SubId.{SubId}
 use Rattle.subj.specs.Servers.{Server}
 use Rattle.shard_core.specs.declared.calls.Placed.{Placed}
-use Rattle.shard_core.specs.ShardSteps.{called, subscribed_answer}
+use Rattle.shard_core.specs.ShardSteps.{sub_called, subscribe_answer}
 use Rattle.hub_core.specs.Publishing.{next_id}
 use Rattle.node_law.specs.declared.events.ConnEvent.{ConnEvent}
 use Rattle.node_law.specs.declared.events.ConnEvent.TheVariants.{Subscribe, Unsubscribe, Reply, Shut, Detach, Take}
@@ -40,7 +40,7 @@ use Rattle.cluster_world.specs.Play.{puts, placements_put, PutsArePlaced}
 use Rattle.cluster_world.specs.Refusals.{world_refusal, refusal_at}
 use Rattle.cluster_world.specs.State.{Cluster, Life, Placement, Running, World, server_at}
 use Rattle.cluster_world.specs.Steps.{Acts, Happens, Decided, WorldStep}
-use Rattle.cluster_world.specs.Value.{Listed, added, running_in, slot_refusal, IsMade, world_of, cluster_of, InPlace, IsFor, LivesAreOpen}
+use Rattle.cluster_world.specs.Value.{Listed, listed_with, running_in, slot_refusal, IsMade, world_of, cluster_of, InPlace, IsFor, LivesAreOpen}
 use Rattle.cluster_world.proofs.Subscriptions.Ended.{server_agrees}
 use Rattle.cluster_world.proofs.Runs.Plays.{put_of, puts_are}
 use Rattle.cluster_world.proofs.Seen.Worlds.{set_size}
@@ -64,9 +64,9 @@ published_are server now a (OnConnect session connect) = refl
 
 opened_at : (server : Server) (now conn : ℕ) (event : ConnEvent) (o : Option Line) → opened_lives server.me server.inc now (opening_of conn event) (told_at o (λ line. Some (conn_event conn event))) ≡ conn_lives server now conn event o
 opened_at server now conn (Subscribe key sid) None = refl
-opened_at server now conn (Subscribe key sid) (Some line) = go (called conn sid line.shard.subs)
+opened_at server now conn (Subscribe key sid) (Some line) = go (sub_called conn sid line.shard.subs)
   where
-    go : (o : Option Subscription) → opened_lives server.me server.inc now (Some (record { conn = conn; key = key; sid = sid })) (told_of_shard (subscribed_answer line.shard o)) ≡ new_life server now conn key sid line o
+    go : (o : Option Subscription) → opened_lives server.me server.inc now (Some (record { conn = conn; key = key; sid = sid })) (told_of_shard (subscribe_answer line.shard o)) ≡ new_life server now conn key sid line o
     go None = refl
     go (Some u) = refl
 opened_at server now conn (Unsubscribe sid max) None = refl
@@ -219,7 +219,7 @@ module _ (puts_placed : PutsArePlaced) (c : Cluster) (step n inc : ℕ) (nodes :
   acts : (x y : Served) (e : NodeEvent) (won : Bool) (race : RaceState) (made : Made)
       → LivesAreOpen w → slice_get nodes n ≡ Some (Some x) → x.server.inc ≡ inc → SoundNode server x.node → made.inc ≡ inc → AreNoted (next_id server x.node.hub) (suc step) e made.noted
       → y.server.inc ≡ inc → NodeStep server x.node e won race y.node → did_of made.did ≡ of_server.outcome_of server x.node e won
-      → Acts c w n (Some e) (Done (answer_of made.did.answer)) (world_of (suc step) (set nodes n (Some y)) (added (record { step = suc step; node = n; inc = made.inc }) made.noted made.did l))
+      → Acts c w n (Some e) (Done (answer_of made.did.answer)) (world_of (suc step) (set nodes n (Some y)) (listed_with (record { step = suc step; node = n; inc = made.inc }) made.noted made.did l))
   acts x y e won race made opens at own sound made_inc noted y_inc steps told = record {
     e = e;
     is = refl;
@@ -275,9 +275,9 @@ pub made_step : PutsArePlaced → (server : Server) (step now n : ℕ) (nodes ne
     → now ≡ step + 1 → InPlace (cluster_of server) nodes → LivesAreOpen (world_of step nodes l) → IsFor n e → found ≡ event_for (world_of step nodes l) e
     → world_refusal (cluster_of server) (world_of step nodes l) e ≡ None
     → IsMade n now found nodes made new
-    → WorldStep (cluster_of server) (world_of step nodes l) e (Done (answer_of made.did.answer)) (world_of now new (added (record { step = now; node = n; inc = made.inc }) made.noted made.did l)) × InPlace (cluster_of server) new × (length new ≡ length nodes)
+    → WorldStep (cluster_of server) (world_of step nodes l) e (Done (answer_of made.did.answer)) (world_of now new (listed_with (record { step = now; node = n; inc = made.inc }) made.noted made.did l)) × InPlace (cluster_of server) new × (length new ≡ length nodes)
 made_step puts_placed server step now n nodes new l e found made now_is places opens at found_is cause m = (
-  subst (λ k. WorldStep c w e out (world_of k new (added (record { step = k; node = n; inc = made.inc }) made.noted made.did l))) (sym next)
+  subst (λ k. WorldStep c w e out (world_of k new (listed_with (record { step = k; node = n; inc = made.inc }) made.noted made.did l))) (sym next)
       (subst (λ o. Decided c w e o out w') (sym cause) (happens_for c w w' n e out at (subst (λ o. Acts c w n o out w') (sym m.is ∙ found_is) there))),
   subst (InPlace c) (sym m.after) (in_place_set c nodes n (Some m.x) (Some m.y) places m.x_is (λ s is. subst (λ (t : Served). t.server ≡ server_at c n t.server.inc) (same_Some m.y s is) (m.does.step.server ∙ placed ∙ ap (λ (t : Server). server_at c n t.inc) (sym m.does.step.server)))),
   ap length m.after ∙ size_set nodes n (Some m.y),
@@ -296,7 +296,7 @@ made_step puts_placed server step now n nodes new l e found made now_is places o
     next = omega (arith, now_is)
 
     w' : World
-    w' = world_of (suc step) new (added (record { step = suc step; node = n; inc = made.inc }) made.noted made.did l)
+    w' = world_of (suc step) new (listed_with (record { step = suc step; node = n; inc = made.inc }) made.noted made.did l)
 
     inc : ℕ
     inc = m.x.server.inc
@@ -305,7 +305,7 @@ made_step puts_placed server step now n nodes new l e found made now_is places o
     placed = places n m.x m.x_is
 
     there : Acts c w n (Some m.e) out w'
-    there = subst (λ t. Acts c w n (Some m.e) out (world_of (suc step) t (added (record { step = suc step; node = n; inc = made.inc }) made.noted made.did l))) (sym m.after)
+    there = subst (λ t. Acts c w n (Some m.e) out (world_of (suc step) t (listed_with (record { step = suc step; node = n; inc = made.inc }) made.noted made.did l))) (sym m.after)
         (acts puts_placed c step n inc nodes l m.x m.y m.e m.does.won m.does.step.race made opens m.x_is refl
         (subst (λ s. SoundNode s m.x.node) placed m.sound)
         m.inc

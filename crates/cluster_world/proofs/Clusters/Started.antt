@@ -1,7 +1,7 @@
 -- A server that has just started.
 use Rattle.std.proofs.Common.{◌≡◌, ℕ, zero, suc, true, [], ◌∷◌, map, replicate, length, refl, ap}
 use Rattle.cluster_law.specs.Cluster as cluster
-use Rattle.cluster_law.specs.Hub.{unheard}
+use Rattle.cluster_law.specs.Hub.{new_peer}
 use Rattle.subj.specs.Servers.{Server}
 use Rattle.hub_core.specs.AsLaw as hub
 use Rattle.hub_core.specs.State.{unknown_peer}
@@ -13,9 +13,9 @@ lines_seen : (server : Server) (first count : ℕ) → map (line_of server) (lin
 lines_seen server first zero = refl
 lines_seen server first (suc count) = ap (λ t. cluster.new_shard ∷ t) (lines_seen server (suc first) count)
 
-peers_seen : (count : ℕ) → map hub.peer_of (replicate count unknown_peer) ≡ replicate count (unheard 0)
+peers_seen : (count : ℕ) → map hub.peer_of (replicate count unknown_peer) ≡ replicate count (new_peer 0)
 peers_seen zero = refl
-peers_seen (suc count) = ap (λ t. unheard 0 ∷ t) (peers_seen count)
+peers_seen (suc count) = ap (λ t. new_peer 0 ∷ t) (peers_seen count)
 
 pub is_started : (server : Server) → IsStarted server
 is_started server = record {

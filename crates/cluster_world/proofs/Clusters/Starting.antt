@@ -8,7 +8,7 @@ use Rattle.list_laws.proofs.Tests.{lt_false}
 use Rattle.list_laws.proofs.Changes.{map_set}
 use Rattle.subj.specs.Servers.{Server, IsListed, is_server, server_of}
 use Rattle.node_law.specs.Answers.{Nothing}
-use Rattle.node_core.specs.Served.{Served, started}
+use Rattle.node_core.specs.Served.{Served, new_server}
 use Rattle.cluster_world.specs.declared.faults.WorldFault.{WorldFault}
 use Rattle.cluster_world.specs.declared.faults.WorldFault.TheVariants as fault
 use Rattle.cluster_world.specs.Events.{Event, Start, Stop}
@@ -96,26 +96,26 @@ pub free_at : (c : Cluster) (step n inc : ℕ) (nodes : List (Option Served)) (l
 free_at c step n inc nodes l cause = free_of n inc l.started (slice_get nodes n) (ap (start_refusal n inc l.started) (sym (slice_get-map running_in nodes n)) ∙ cause)
 
 pub start_step : (server made : Server) (step now n inc : ℕ) (nodes : List (Option Served)) (l l' : Listed) (y : Served)
-    → now ≡ step + 1 → 1 ≤ inc → world_refusal (cluster_of server) (world_of step nodes l) (Start n inc) ≡ None → made ≡ server_at (cluster_of server) n inc → y ≡ started made → l' ≡ with_start n inc l
+    → now ≡ step + 1 → 1 ≤ inc → world_refusal (cluster_of server) (world_of step nodes l) (Start n inc) ≡ None → made ≡ server_at (cluster_of server) n inc → y ≡ new_server made → l' ≡ with_start n inc l
     → WorldStep (cluster_of server) (world_of step nodes l) (Start n inc) (Done Nothing) (world_of now (set nodes n (Some y)) l')
 start_step server made step now n inc nodes l l' y now_is some cause made_is y_is lists =
     subst (λ o. Decided (cluster_of server) (world_of step nodes l) (Start n inc) o (Done Nothing) (world_of now (set nodes n (Some y)) l')) (sym cause) (record {
       some = omega (arith, some);
       down = shown_at nodes n None (free_at (cluster_of server) step n inc nodes l cause);
       told = refl;
-      after = (λ i. world_of (next i) (set nodes n (Some (is i))) (lists i)) ∙ (λ i. record { step = suc step; nodes = map_set running_in nodes n (Some (started (server_at (cluster_of server) n inc))) i; started = l.started ++ (n, inc) ∷ []; publications = l.publications; lives = l.lives; placements = l.placements; sent = l.sent });
+      after = (λ i. world_of (next i) (set nodes n (Some (is i))) (lists i)) ∙ (λ i. record { step = suc step; nodes = map_set running_in nodes n (Some (new_server (server_at (cluster_of server) n inc))) i; started = l.started ++ (n, inc) ∷ []; publications = l.publications; lives = l.lives; placements = l.placements; sent = l.sent });
     })
   where
     next : now ≡ suc step
     next = omega (arith, now_is)
 
-    is : y ≡ started (server_at (cluster_of server) n inc)
-    is = y_is ∙ ap started made_is
+    is : y ≡ new_server (server_at (cluster_of server) n inc)
+    is = y_is ∙ ap new_server made_is
 
-pub start_places : (server made : Server) (n inc step : ℕ) (nodes : List (Option Served)) (l : Listed) (y : Served) → InPlace (cluster_of server) nodes → world_refusal (cluster_of server) (world_of step nodes l) (Start n inc) ≡ None → made ≡ server_at (cluster_of server) n inc → y ≡ started made → InPlace (cluster_of server) (set nodes n (Some y))
+pub start_places : (server made : Server) (n inc step : ℕ) (nodes : List (Option Served)) (l : Listed) (y : Served) → InPlace (cluster_of server) nodes → world_refusal (cluster_of server) (world_of step nodes l) (Start n inc) ≡ None → made ≡ server_at (cluster_of server) n inc → y ≡ new_server made → InPlace (cluster_of server) (set nodes n (Some y))
 start_places server made n inc step nodes l y places cause made_is y_is =
     in_place_set (cluster_of server) nodes n None (Some y) places (free_at (cluster_of server) step n inc nodes l cause)
-    (λ s is. subst (λ (t : Served). t.server ≡ server_at (cluster_of server) n t.server.inc) (same_Some y s is) (subst (λ (t : Served). t.server ≡ server_at (cluster_of server) n t.server.inc) (sym (y_is ∙ ap started made_is)) refl))
+    (λ s is. subst (λ (t : Served). t.server ≡ server_at (cluster_of server) n t.server.inc) (same_Some y s is) (subst (λ (t : Served). t.server ≡ server_at (cluster_of server) n t.server.inc) (sym (y_is ∙ ap new_server made_is)) refl))
 
 -- ---- a server that stops
 

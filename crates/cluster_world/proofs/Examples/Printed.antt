@@ -12,7 +12,7 @@ use Rattle.cluster_world.specs.Headline.{IsCluster}
 use Rattle.cluster_world.specs.State.{Cluster, new_world}
 use Rattle.cluster_world.specs.Events.{Event, Start, Stop}
 use Rattle.cluster_world.specs.Steps.{Answers}
-use Rattle.cluster_world.specs.Play.{answered, played}
+use Rattle.cluster_world.specs.Play.{outcomes_of_events, world_after_events}
 use Rattle.cluster_world.specs.Scripts.{pair, alone, a_restart, two_shards, a_full_window, a_lower_incarnation}
 use Rattle.cluster_world.specs.Printed.{WritesARestart, WritesStartsAndStops, WritesCrossedDials, WritesClaims, WritesOwnMessages, WritesConnections, WritesTwoWords, WritesAStaleMessage, WritesACut, ScriptsAreRuns, starts_and_stops, crossed_dials, claims_of_a_turn, own_messages, connections, two_words, a_stale_message, a_cut}
 
@@ -62,7 +62,7 @@ pair_apart = record {
   apart = AllPairs-cons (λ a b. a ≢ b) (codes "n1") (codes "n2" ∷ []) (All-cons (λ other. codes "n1" ≢ other) (codes "n2") [] (λ same. true≢false (sym ((bytes_eq-Decides (codes "n1") (codes "n2")).1 same))) (All-nil (λ other. codes "n1" ≢ other))) (only (codes "n2"));
 }
 
-pub all_runs : ((c : Cluster) → IsCluster c → (events : List Event) → Answers c (new_world c) events (answered c (new_world c) events) (played c (new_world c) events)) → ScriptsAreRuns
+pub all_runs : ((c : Cluster) → IsCluster c → (events : List Event) → Answers c (new_world c) events (outcomes_of_events c (new_world c) events) (world_after_events c (new_world c) events)) → ScriptsAreRuns
 all_runs run = record {
   restart = run pair pair_apart a_restart;
   shards = run alone alone_apart two_shards;

@@ -39,7 +39,7 @@ use Rattle.cluster_world.specs.Refusals.{world_refusal, is_used, start_refusal, 
 use Rattle.cluster_world.specs.Changes.{placement_of, placements_of, is_on, new_entries, entries_at, open_subs}
 use Rattle.cluster_world.specs.Steps.{Acts, Starts, Stops, Happens, Decided, WorldStep}
 use Rattle.cluster_world.specs.Headline.{EachUp}
-use Rattle.cluster_world.specs.Play.{NoneAhead, issued_next, claimed_next, finished_next, with_win, is_free, wins, race_after_claim, work_wins, race_after_work, node_wins, race_after_body, node_race, put_if, put_at, puts, placements_put, PutsArePlaced, next_node, next_act, happened, next_of, next, slot_answer, answer_of, outcome_of, outcome}
+use Rattle.cluster_world.specs.Play.{NoneAhead, issued_next, claimed_next, finished_next, with_win, is_free, wins, race_after_claim, work_wins, race_after_work, node_wins, race_after_body, node_race, put_if, put_at, puts, placements_put, PutsArePlaced, next_node, next_act, world_after_event, next_of, next, slot_answer, answer_of, outcome_of, outcome}
 use Rattle.cluster_world.proofs.Seen.Gained.{news, nothing_new, new_at, part_line}
 use Rattle.cluster_world.proofs.Seen.Given.{entries_of_step}
 use Rattle.cluster_world.proofs.Seen.Order.{in_lines, event_order}
@@ -218,7 +218,7 @@ above_none : (inc : ℕ) → nat_eq inc 0 ≡ false → 0 < inc
 above_none zero e = absurd (eq_false zero 0 e refl)
 above_none (suc inc) e = omega arith
 
-starts : (c : Cluster) (w : World) (n inc : ℕ) (o : Option (Option Running)) → slice_get w.nodes n ≡ o → start_refusal n inc w.started o ≡ None → Starts c w n inc (Done Nothing) (happened c w (Start n inc))
+starts : (c : Cluster) (w : World) (n inc : ℕ) (o : Option (Option Running)) → slice_get w.nodes n ≡ o → start_refusal n inc w.started o ≡ None → Starts c w n inc (Done Nothing) (world_after_event c w (Start n inc))
 starts c w n inc None at cause = absurd (none-some fault.NoSuch (sym cause))
 starts c w n inc (Some (Some a)) at cause = absurd (none-some fault.NodeUp (sym cause))
 starts c w n inc (Some None) at cause = record {
@@ -228,12 +228,12 @@ starts c w n inc (Some None) at cause = record {
   after = refl;
 }
 
-stops : (c : Cluster) (w : World) (n : ℕ) (o : Option (Option Running)) → slice_get w.nodes n ≡ o → stop_refusal o ≡ None → Stops w n (Done Nothing) (happened c w (Stop n))
+stops : (c : Cluster) (w : World) (n : ℕ) (o : Option (Option Running)) → slice_get w.nodes n ≡ o → stop_refusal o ≡ None → Stops w n (Done Nothing) (world_after_event c w (Stop n))
 stops c w n None at cause = absurd (none-some fault.NoSuch (sym cause))
 stops c w n (Some None) at cause = absurd (none-some fault.NodeDown (sym cause))
 stops c w n (Some (Some a)) at cause = record { a = a; a_is = at; told = refl; after = refl }
 
-happens : Puts → (c : Cluster) (w : World) (e : Event) → EachUp (λ k a. NoneAhead a.node.race) w → world_refusal c w e ≡ None → Happens c w e (Done (answer_of c w e)) (happened c w e)
+happens : Puts → (c : Cluster) (w : World) (e : Event) → EachUp (λ k a. NoneAhead a.node.race) w → world_refusal c w e ≡ None → Happens c w e (Done (answer_of c w e)) (world_after_event c w e)
 happens h c w (Start n inc) ahead cause = starts c w n inc (slice_get w.nodes n) refl cause
 happens h c w (Stop n) ahead cause = stops c w n (slice_get w.nodes n) refl cause
 happens h c w (of_world.Receive n k) ahead cause = acts h c w n (event_for w (of_world.Receive n k)) ahead (slice_get w.nodes n) refl cause

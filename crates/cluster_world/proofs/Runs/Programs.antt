@@ -28,7 +28,7 @@ use Rattle.cluster_world.specs.Events as of_world
 use Rattle.cluster_world.specs.Refusals.{world_refusal}
 use Rattle.cluster_world.specs.Steps.{Acts, Happens, Decided, WorldStep, Run, Answers}
 use Rattle.cluster_world.specs.Headline.{IsCluster, EachUp}
-use Rattle.cluster_world.specs.Play.{NoneAhead, next, outcome, answered, played}
+use Rattle.cluster_world.specs.Play.{NoneAhead, next, outcome, outcomes_of_events, world_after_events}
 use Rattle.cluster_world.specs.Outcomes.{Outcome}
 use Rattle.cluster_world.proofs.Runs.Plays.{Puts, has_step}
 use Rattle.cluster_world.proofs.Seen.Worlds.{NodeLaws}
@@ -154,7 +154,7 @@ over_ahead laws c set_up w v (e ∷ es) w' r h ahead =
 pub reached_step : Puts → NodeLaws → (c : Cluster) → IsCluster c → (es : List Event) (w : World) → Run c (new_world c) es w → (e : Event) → WorldStep c w e (outcome c w e) (next c w e)
 reached_step puts laws c set_up es w r e = has_step puts c w e (over_ahead laws c set_up (new_world c) (cluster.begin (law_for c)) es w r (first_seen c) (first_ahead c))
 
-over_played : Puts → NodeLaws → (c : Cluster) → IsCluster c → (w : World) (v : cluster.World) (es : List Event) → Sees c w v → Ahead w.nodes → Answers c w es (answered c w es) (played c w es)
+over_played : Puts → NodeLaws → (c : Cluster) → IsCluster c → (w : World) (v : cluster.World) (es : List Event) → Sees c w v → Ahead w.nodes → Answers c w es (outcomes_of_events c w es) (world_after_events c w es)
 over_played puts laws c set_up w v [] h ahead = (refl, refl)
 over_played puts laws c set_up w v (e ∷ es) h ahead =
     let step = has_step puts c w e ahead in
@@ -162,5 +162,5 @@ over_played puts laws c set_up w v (e ∷ es) h ahead =
     let rest = over_played puts laws c set_up (next c w e) first.seen es first.sees (step_ahead c w (next c w e) e (outcome c w e) (sound_of c w v h) ahead step) in
     ((next c w e, outcome c w e, step, rest.0), ap (λ t. outcome c w e ∷ t) rest.1)
 
-pub played_run : Puts → NodeLaws → (c : Cluster) → IsCluster c → (es : List Event) → Answers c (new_world c) es (answered c (new_world c) es) (played c (new_world c) es)
+pub played_run : Puts → NodeLaws → (c : Cluster) → IsCluster c → (es : List Event) → Answers c (new_world c) es (outcomes_of_events c (new_world c) es) (world_after_events c (new_world c) es)
 played_run puts laws c set_up es = over_played puts laws c set_up (new_world c) (cluster.begin (law_for c)) es (first_seen c) (first_ahead c)

@@ -13,7 +13,7 @@ use Rattle.cluster_law.specs.Messages as messages
 use Rattle.cluster_law.specs.Runs as law_runs
 use Rattle.cluster_law.specs.Values.{content_of}
 use Rattle.interest.specs.declared.changes.Change.{Change}
-use Rattle.interest.specs.Views.{View, followed, view_after, view_at}
+use Rattle.interest.specs.Views.{View, view_with_change, view_after, view_at}
 use Rattle.subj.specs.declared.jobs.Job.{Job}
 use Rattle.subj.specs.declared.limits.TheConstants.{WINDOW}
 use Rattle.subj.specs.Servers.{place_in}
@@ -27,7 +27,7 @@ use Rattle.hub_core.proofs.Neighbours.Views.{view_back, follows}
 use Rattle.shard_core.specs.Lines.{SoundLine, Turns, begun_turn}
 use Rattle.node_law.specs.AsLaw.{node_of, line_of}
 use Rattle.node_law.specs.State.{Line}
-use Rattle.cluster_world.specs.Made.{Passed, passed, MadeChange, is_change_of, changes_in_life, jobs_made, changes_made}
+use Rattle.cluster_world.specs.Made.{Passed, passed_events, MadeChange, is_change_of, changes_in_life, jobs_made, changes_made}
 use Rattle.cluster_world.specs.RestsOn.{Message, message_in, messages_in, OneMessage, TakenOnce, IsViewOf, in_line, IsLine, RestsOn, FinishedStays}
 use Rattle.cluster_world.specs.State.{Cluster, World, new_world, server_at}
 use Rattle.cluster_world.proofs.Runs.MadeOf.{AllMade}
@@ -70,7 +70,7 @@ after_first : (changes : List Change) (count : ℕ) (view : View) → interest.v
 after_first [] zero view = refl
 after_first [] (suc count) view = refl
 after_first (change ∷ changes) zero view = refl
-after_first (change ∷ changes) (suc count) view = ap (interest.view_after follow (map change_of changes) count) (follows change view) ∙ after_first changes count (followed change view)
+after_first (change ∷ changes) (suc count) view = ap (interest.view_after follow (map change_of changes) count) (follows change view) ∙ after_first changes count (view_with_change change view)
 
 same_length : (changes : List Change) → length (map change_of changes) ≡ length changes
 same_length [] = refl
@@ -140,6 +140,6 @@ pub finished_stays : NodeLaws → LawTurns → FinishedStays
 finished_stays laws turns c set_up before after w w' r r' n a b at at' inc place x y is is' =
     let first = seen_over laws c set_up before w r in
     let then = over laws c set_up w first.seen after w' r' first.sees in
-    turns (law_for c) first.seen then.events then.seen (is_reached c w (passed c (new_world c) before w r) first) then.run
+    turns (law_for c) first.seen then.events then.seen (is_reached c w (passed_events c (new_world c) before w r) first) then.run
     n (node_of (server_at c n a.inc) a.node) (node_of (server_at c n b.inc) b.node) (first.sees.nodes n (Some a) at) (then.sees.nodes n (Some b) at') refl refl inc
     place (line_of (server_at c n a.inc) x) (line_of (server_at c n b.inc) y) (get_map (line_of (server_at c n a.inc)) a.node.lines place x is) (get_map (line_of (server_at c n b.inc)) b.node.lines place y is')

@@ -13,7 +13,7 @@ use Rattle.route_values.specs.declared.bodies.Body.TheVariants.{Plus, Minus, Sna
 use Rattle.route_values.specs.declared.frames.RouteFrame.{RouteFrame}
 use Rattle.route_values.specs.declared.frames.RouteFrame.TheVariants as route
 use Rattle.hub_core.specs.State as hub
-use Rattle.hub_core.specs.State.{Peer, unknown_peer, known, is_new_life, changed_in, changed_at}
+use Rattle.hub_core.specs.State.{Peer, unknown_peer, peer_in_life, is_new_life, changed_in, changed_at}
 use Rattle.hub_core.specs.Publishing.{frames_of, is_to, with_frames}
 use Rattle.hub_core.specs.Receiving.{told_by}
 use Rattle.hub_core.specs.Telling.{collect_frames, count_of_changes, without_slow}
@@ -74,7 +74,7 @@ in_take zero frames f i = absurd i
 in_take (suc k) [] f i = i
 in_take (suc k) (x ∷ frames) f i = ⊎_elim (λ e. inl e) (λ j. inr (in_take k frames f j)) i
 
-known_out : (sent : List RouteFrame) (peer : Peer) (inc : ℕ) → Out sent peer → Out sent (known peer inc)
+known_out : (sent : List RouteFrame) (peer : Peer) (inc : ℕ) → Out sent peer → Out sent (peer_in_life peer inc)
 known_out sent peer inc h = go (is_new_life peer inc)
   where
     go : (b : Bool) → Out sent (cond b (record { seen = inc; mark = 0; heard = unknown_peer.heard; up = false; outbox = peer.outbox }) peer)
@@ -104,15 +104,15 @@ after_waits sent server a (Own (Dial q)) won race h = more_sent sent [] a.hub.pe
 after_waits sent server a (Own Accept) won race h = more_sent sent (node_frames server a (Own Accept)) a.hub.peers h
 after_waits sent server a (Own (CutSession session)) won race h = cut_waits (sent ++ []) a.hub (peer_of_session session a.sessions.standing) (more_sent sent [] a.hub.peers h)
 after_waits sent server a (Own (TakeFrames q count)) won race h = changed_waits (sent ++ []) (λ peer. record peer { outbox = drop count peer.outbox }) q a.hub.peers (λ peer k f i. k f (in_drop count peer.outbox f i)) (more_sent sent [] a.hub.peers h)
-after_waits sent server a (Receive frame) won race h = changed_waits (sent ++ []) (λ peer. told_by frame.body frame.number (known peer frame.inc)) (place server frame.from) a.hub.peers (λ peer k. told_out (sent ++ []) frame.body frame.number (known peer frame.inc) (known_out (sent ++ []) peer frame.inc k)) (more_sent sent [] a.hub.peers h)
+after_waits sent server a (Receive frame) won race h = changed_waits (sent ++ []) (λ peer. told_by frame.body frame.number (peer_in_life peer frame.inc)) (place server frame.from) a.hub.peers (λ peer k. told_out (sent ++ []) frame.body frame.number (peer_in_life peer frame.inc) (known_out (sent ++ []) peer frame.inc k)) (more_sent sent [] a.hub.peers h)
 after_waits sent server a (OnInfo session info) won race h =
     let new = node_frames server a (OnInfo session info) in
     let first = snapshot_to server a.hub (place server info.server_name) info.inc in
-    changed_waits (sent ++ new) (λ peer. record (known peer info.inc) { up = true; outbox = first ∷ [] }) (place server info.server_name) a.hub.peers (λ peer k f i. ⊎_elim (λ e. in_right (route.Numbered f) sent new (inr (inl (ap route.Numbered e)))) (λ j. absurd j) i) (more_sent sent new a.hub.peers h)
+    changed_waits (sent ++ new) (λ peer. record (peer_in_life peer info.inc) { up = true; outbox = first ∷ [] }) (place server info.server_name) a.hub.peers (λ peer k f i. ⊎_elim (λ e. in_right (route.Numbered f) sent new (inr (inl (ap route.Numbered e)))) (λ j. absurd j) i) (more_sent sent new a.hub.peers h)
 after_waits sent server a (OnConnect session connect) won race h =
     let new = node_frames server a (OnConnect session connect) in
     let first = snapshot_to server a.hub (place server connect.server_name) connect.inc in
-    changed_waits (sent ++ new) (λ peer. record (known peer connect.inc) { up = true; outbox = first ∷ [] }) (place server connect.server_name) a.hub.peers (λ peer k f i. ⊎_elim (λ e. in_right (route.Numbered f) sent new (inl (ap route.Numbered e))) (λ j. absurd j) i) (more_sent sent new a.hub.peers h)
+    changed_waits (sent ++ new) (λ peer. record (peer_in_life peer connect.inc) { up = true; outbox = first ∷ [] }) (place server connect.server_name) a.hub.peers (λ peer k f i. ⊎_elim (λ e. in_right (route.Numbered f) sent new (inl (ap route.Numbered e))) (λ j. absurd j) i) (more_sent sent new a.hub.peers h)
 
 -- ---- a cluster
 

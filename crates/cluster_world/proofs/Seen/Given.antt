@@ -18,7 +18,7 @@ use Rattle.route_values.specs.declared.bodies.Body.{Body}
 use Rattle.route_values.specs.declared.bodies.Body.TheVariants.{Plus, Minus, Snapshot, Msg}
 use Rattle.shard_core.specs.declared.calls.Placed.{Placed}
 use Rattle.shard_core.specs.AsLaw.{given_by, job_by, given_by_claim}
-use Rattle.shard_core.specs.Owed.{due_entry, placed_for, walked, first_step, is_due, is_plain, is_wanted, candidate_of, slow_consumer}
+use Rattle.shard_core.specs.Owed.{due_entry, placed_for, whole_walk, first_step, is_due, is_plain, is_wanted, candidate_of, slow_consumer}
 use Rattle.shard_core.specs.Puts.{put_by, put_by_claim, put_line, entries_for, kept_of, ArePut}
 use Rattle.shard_core.specs.ShardEvents as of_shard
 use Rattle.shard_core.specs.ShardSteps.{shard_refusal, shard_after, answer_fits}
@@ -32,7 +32,7 @@ use Rattle.node_law.specs.declared.events.ConnEvent.{ConnEvent}
 use Rattle.node_law.specs.declared.events.ShardWork.{ShardWork}
 use Rattle.node_law.specs.Events.{OfConn, AtShard, Publish, Collect, Dial, Accept, CutSession, TakeFrames, NodeEvent, Own, Receive, OnInfo, OnConnect}
 use Rattle.node_law.specs.State.{Line, Node}
-use Rattle.node_law.specs.Steps.{NodeStep, conn_place, conn_line, shard_line, conn_event, work_event, conn_refusal, no_job, event_refusal, work_refusal, line_after, line_after_if, set_line, queued, node_after, lines_after_body}
+use Rattle.node_law.specs.Steps.{NodeStep, conn_place, conn_line, shard_line, conn_event, work_event, conn_refusal, no_job, event_refusal, work_refusal, line_after, line_after_if, set_line, line_with_job, node_after, lines_after_body}
 use Rattle.hub_core.specs.Publishing.{own_job}
 use Rattle.hub_core.proofs.Steps.Rooms.{map_none}
 use Rattle.node_law.proofs.Moves.LineEvents.{found, same_refusal}
@@ -83,7 +83,7 @@ none_plain : (q : Option (List ℕ)) → is_none q ≡ true → q ≡ None
 none_plain None e = refl
 none_plain (Some name) e = absurd (true≢false (sym e))
 
-given_plain : (s : State) (job : Job) → Each (λ u. u.key.queue ≡ None) (walked s job).given
+given_plain : (s : State) (job : Job) → Each (λ u. u.key.queue ≡ None) (whole_walk s job).given
 given_plain s job u i =
     let g = walk_gives s job (filter (is_due job) s.subs) (first_step s.clients) in
     let at = in_filter (is_due job) s.subs u (in_sub g.new (filter (is_due job) s.subs) g.some u (subst (In u) g.given i)) in
@@ -114,11 +114,11 @@ shard_messages s (of_shard.Shut j text) conn = no_messages conn (err_line text) 
 shard_messages s (of_shard.Detach j) conn = refl
 shard_messages s (of_shard.Take j count) conn = refl
 shard_messages s (of_shard.Begin job) conn =
-    ap (filter is_message) (entries_append conn (map (placed_for s.shard job None) (walked s job).given) (map (put_line slow_consumer) (walked s job).shut))
-    ∙ filter_append is_message (entries_for conn (map (placed_for s.shard job None) (walked s job).given)) (entries_for conn (map (put_line slow_consumer) (walked s job).shut))
-    ∙ ap (λ t. filter is_message (entries_for conn (map (placed_for s.shard job None) (walked s job).given)) ++ t) (no_messages conn slow_consumer (walked s job).shut)
-    ∙ append_nil (filter is_message (entries_for conn (map (placed_for s.shard job None) (walked s job).given)))
-    ∙ plain_messages s.shard conn job (walked s job).given (given_plain s job)
+    ap (filter is_message) (entries_append conn (map (placed_for s.shard job None) (whole_walk s job).given) (map (put_line slow_consumer) (whole_walk s job).shut))
+    ∙ filter_append is_message (entries_for conn (map (placed_for s.shard job None) (whole_walk s job).given)) (entries_for conn (map (put_line slow_consumer) (whole_walk s job).shut))
+    ∙ ap (λ t. filter is_message (entries_for conn (map (placed_for s.shard job None) (whole_walk s job).given)) ++ t) (no_messages conn slow_consumer (whole_walk s job).shut)
+    ∙ append_nil (filter is_message (entries_for conn (map (placed_for s.shard job None) (whole_walk s job).given)))
+    ∙ plain_messages s.shard conn job (whole_walk s job).given (given_plain s job)
 shard_messages s (of_shard.Claim index won) conn = claim_messages s conn s.hand (candidate_of s s.hand index) won
 shard_messages s of_shard.End conn = refl
 shard_messages s (of_shard.DropJob waiting) conn = refl
@@ -201,7 +201,7 @@ module _ (puts : (s : State) (e : of_shard.Event) (conn : ℕ) → ArePut s e co
       go None f = absurd (none-some (no_job line.shard.hand) (sym f))
       go (Some e) f = line_entries a.lines (shard - 1) line (line_after e line) e place j (found (nat_eq shard 0) (slice_get a.lines (shard - 1)) line at) (map_none Shard (shard_refusal line.shard e) f) refl
 
-  queued_waits : (job : Job) (lines : List Line) (place j : ℕ) → waits_in j (slice_get (map (queued job) lines) place) ≡ waits_in j (slice_get lines place)
+  queued_waits : (job : Job) (lines : List Line) (place j : ℕ) → waits_in j (slice_get (map (line_with_job job) lines) place) ≡ waits_in j (slice_get lines place)
   queued_waits job [] place j = refl
   queued_waits job (line ∷ lines) zero j = refl
   queued_waits job (line ∷ lines) (suc place) j = queued_waits job lines place j

@@ -89,4 +89,4 @@ abbrev pub law_job : Cluster → MadeJob → history.Job
 law_job c made = job_of (pub_of c) made.node made.inc made.job
 
 abbrev pub law_change : MadeChange → interest.Noted
-law_change made = law.noted made.node made.inc (change_of made.change)
+law_change made = law.note_of made.node made.inc (change_of made.change)

@@ -15,7 +15,7 @@ use Rattle.subj.specs.declared.jobs.Job.{Job}
 use Rattle.subj.specs.Servers.{Server}
 use Rattle.shard_core.specs.declared.calls.Placed.{Placed}
 use Rattle.shard_core.specs.Closings.{id_of, serials_of}
-use Rattle.shard_core.specs.Owed.{placed_for, walked, first_step, is_due, candidate_of, candidate_named, is_candidate, slow_consumer}
+use Rattle.shard_core.specs.Owed.{placed_for, whole_walk, first_step, is_due, candidate_of, candidate_named, is_candidate, slow_consumer}
 use Rattle.shard_core.specs.Puts.{put_by, put_by_claim, put_line}
 use Rattle.shard_core.specs.ShardEvents as of_shard
 use Rattle.shard_core.specs.ShardSteps.{answer_fits}
@@ -118,10 +118,10 @@ module _ (server : Server) (now : ℕ) where
   event_order s (of_shard.Take conn count) = tt
   event_order s (of_shard.Begin job) =
       let g = walk_gives s job (filter (is_due job) s.subs) (first_step s.clients) in
-      let due : SubList (walked s job).given s.subs = subst (λ t. SubList t s.subs) (sym g.given) (sub_then g.new (filter (is_due job) s.subs) s.subs g.some (sub_filter (is_due job) s.subs)) in
+      let due : SubList (whole_walk s job).given s.subs = subst (λ t. SubList t s.subs) (sym g.given) (sub_then g.new (filter (is_due job) s.subs) s.subs g.some (sub_filter (is_due job) s.subs)) in
       subst (λ t. SubList t (map (id_of s.shard) (serials_of s.subs)))
-      (sym (ids_append (map (placed_for s.shard job None) (walked s job).given) (map (put_line slow_consumer) (walked s job).shut) ∙ (λ i. ids_of_given s.shard job None (walked s job).given i ++ ids_of_lines slow_consumer (walked s job).shut i) ∙ append_nil (map (id_of s.shard) (serials_of (walked s job).given))))
-      (given_in_order s (walked s job).given due)
+      (sym (ids_append (map (placed_for s.shard job None) (whole_walk s job).given) (map (put_line slow_consumer) (whole_walk s job).shut) ∙ (λ i. ids_of_given s.shard job None (whole_walk s job).given i ++ ids_of_lines slow_consumer (whole_walk s job).shut i) ∙ append_nil (map (id_of s.shard) (serials_of (whole_walk s job).given))))
+      (given_in_order s (whole_walk s job).given due)
   event_order s (of_shard.Claim index won) = claim_in_order s s.hand (candidate_of s s.hand index) won (go s.hand)
     where
       go : (hand : Option Job) (job : Job) (sub : Subscription) → hand ≡ Some job → candidate_of s hand index ≡ Some sub → In sub s.subs

@@ -20,7 +20,7 @@ use Rattle.hub_core.specs.Receiving.{routed_job}
 use Rattle.node_law.specs.AsLaw.{Part, part_of, waits_in}
 use Rattle.node_law.specs.Events.{OfConn, AtShard, Publish, Collect, Dial, Accept, CutSession, TakeFrames, NodeEvent, Own, Receive, OnInfo, OnConnect}
 use Rattle.node_law.specs.State.{Line, Node}
-use Rattle.node_law.specs.Steps.{NodeStep, conn_place, conn_line, shard_line, conn_event, work_event, line_after, line_after_if, set_line, queued, lines_after_body, node_after}
+use Rattle.node_law.specs.Steps.{NodeStep, conn_place, conn_line, shard_line, conn_event, work_event, line_after, line_after_if, set_line, line_with_job, lines_after_body, node_after}
 use Rattle.node_law.proofs.Runs.EachShard.{Goes, step_goes}
 use Rattle.cluster_world.specs.Changes.{entries_at}
 use Rattle.cluster_world.specs.Waiting.{kept_at, WaitsAreKept}
@@ -36,12 +36,12 @@ body_length : (a : Node) (frame : Frame) (body : Body) → length (lines_after_b
 body_length a frame (Plus weighted) = refl
 body_length a frame (Minus key) = refl
 body_length a frame (Snapshot keys) = refl
-body_length a frame (Msg content queues) = map_length (queued (routed_job a.hub frame content queues)) a.lines
+body_length a frame (Msg content queues) = map_length (line_with_job (routed_job a.hub frame content queues)) a.lines
 
 after_length : (server : Server) (a : Node) (e : NodeEvent) (won : Bool) (race : RaceState) → length (node_after server a e won race).lines ≡ length a.lines
 after_length server a (Own (OfConn conn event)) won race = set_line_length a.lines (conn_place server conn) (line_after (conn_event conn event)) (conn_line server a conn)
 after_length server a (Own (AtShard shard work)) won race = set_line_length a.lines _ (λ line. line_after_if (work_event work won line) line) (shard_line a shard)
-after_length server a (Own (Publish p)) won race = map_length (queued (own_job server a.hub p)) a.lines
+after_length server a (Own (Publish p)) won race = map_length (line_with_job (own_job server a.hub p)) a.lines
 after_length server a (Own (Collect shard)) won race = set_line_length a.lines _ (line_after of_shard.Collect) (shard_line a shard)
 after_length server a (Own (Dial q)) won race = refl
 after_length server a (Own Accept) won race = refl

@@ -7,7 +7,7 @@ use Rattle.list_laws.proofs.Lists.{in_map, in_left, in_right, read_replicate, pa
 use Rattle.list_laws.proofs.Tests.{true_eq, has_in, or_false, no_cause}
 use Rattle.list_laws.proofs.Changes.{append_nil, append_assoc, map_append, get_set_there, in_mapped, along_in, along_pairs, pairs_map_back}
 use Rattle.cluster_law.specs.Cluster as cluster
-use Rattle.cluster_law.specs.Cluster.{Step, Reached, applied, all_closings}
+use Rattle.cluster_law.specs.Cluster.{Step, Reached, world_with, all_closings}
 use Rattle.cluster_law.specs.Config.{every_rule}
 use Rattle.cluster_law.specs.Headline as law_headline
 use Rattle.cluster_law.specs.History as history
@@ -41,7 +41,7 @@ use Rattle.cluster_world.specs.Changes.{is_open, is_open_at}
 use Rattle.cluster_world.specs.Events.{Event, Start, Stop, Receive, OnInfo, OnConnect, At, event_for}
 use Rattle.cluster_world.specs.Headline.{IsCluster, Headline, IsOwed, PlainOnce, OneMember, InOrder, Names, EachUp}
 use Rattle.cluster_world.specs.Refusals.{world_refusal, start_refusal, is_used, is_start}
-use Rattle.cluster_world.specs.Made.{Passed, acting_in, acting_if, acting, passed, jobs_of, jobs_made, changes_of, changes_made}
+use Rattle.cluster_world.specs.Made.{Passed, acting_in, acting_if, acting_server, passed_events, jobs_of, jobs_made, changes_of, changes_made}
 use Rattle.cluster_world.specs.Outcomes.{Outcome}
 use Rattle.cluster_world.specs.State.{Cluster, LifeId, Placement, Running, World, server_at, new_world}
 use Rattle.cluster_world.specs.Steps.{Starts, Stops, Happens, Decided, WorldStep, Run, set_node}
@@ -130,12 +130,12 @@ stop_next : (c : Cluster) → (w : World) (v : cluster.World) (n : ℕ) (outcome
 stop_next c w v n outcome w' s h =
     let before = node_of (server_at c n s.a.inc) s.a.node in
     let out : Output = record nothing { closings = all_closings n before.inc (suc v.step) 0 before.shards } in record {
-      seen = applied v n cluster.no_node out;
+      seen = world_with v n cluster.no_node out;
       event = cluster.Stop n;
       steps = inl (record { before = before; before_is = h.nodes n (Some s.a) s.a_is; was_up = refl; after = refl });
       jobs = refl;
       changes = refl;
-      sees = subst (λ x. Sees c x (applied v n cluster.no_node out)) (sym s.after) (record {
+      sees = subst (λ x. Sees c x (world_with v n cluster.no_node out)) (sym s.after) (record {
         step = ap suc h.step;
         size = set_size w.nodes n None ∙ h.size;
         nodes = seen_set c w.nodes v.nodes n (Some s.a) None s.a_is h.nodes;
@@ -176,7 +176,7 @@ happens_next laws c set_up w v (OnInfo n session k) outcome w' cause s h = acts_
 happens_next laws c set_up w v (OnConnect n session k) outcome w' cause s h = acts_next laws c set_up w v n (event_for w (OnConnect n session k)) outcome w' (given_connect w session k) s h
 happens_next laws c set_up w v (At n e) outcome w' cause s h = acts_next laws c set_up w v n (Some (Own e)) outcome w' (λ x is. subst (λ (y : NodeEvent). Given w y) (same_Some (Own e) x is) tt) s h
 
-pub step_next : NodeLaws → (c : Cluster) → IsCluster c → (w : World) (v : cluster.World) (e : Event) (outcome : Outcome) (w' : World) → WorldStep c w e outcome w' → Sees c w v → Next c v w' (acting c w e)
+pub step_next : NodeLaws → (c : Cluster) → IsCluster c → (w : World) (v : cluster.World) (e : Event) (outcome : Outcome) (w' : World) → WorldStep c w e outcome w' → Sees c w v → Next c v w' (acting_server c w e)
 step_next laws c set_up w v e outcome w' s h = go (world_refusal c w e) refl s
   where
     go : (o : Option WorldFault) → world_refusal c w e ≡ o → Decided c w e o outcome w' → Next c v w' (acting_if w e o)
@@ -203,7 +203,7 @@ pub record Over (c : Cluster) (v : cluster.World) (w' : World) (steps : List Pas
 both_add : {A B : Type 0} (f : A → B) (old mid new : List B) (here later : List A) → mid ≡ old ++ map f here → new ≡ mid ++ map f later → new ≡ old ++ map f (here ++ later)
 both_add f old mid new here later first second = second ∙ ap (λ t. t ++ map f later) first ∙ append_assoc old (map f here) (map f later) ∙ ap (λ t. old ++ t) (sym (map_append f here later))
 
-pub over : NodeLaws → (c : Cluster) → IsCluster c → (w : World) (v : cluster.World) (es : List Event) (w' : World) (r : Run c w es w') → Sees c w v → Over c v w' (passed c w es w' r)
+pub over : NodeLaws → (c : Cluster) → IsCluster c → (w : World) (v : cluster.World) (es : List Event) (w' : World) (r : Run c w es w') → Sees c w v → Over c v w' (passed_events c w es w' r)
 over laws c set_up w v [] w' r h = record {
   seen = v;
   events = [];
@@ -220,8 +220,8 @@ over laws c set_up w v (e ∷ es) w' r h =
       events = first.event ∷ rest.events;
       run = (first.seen, first.steps, rest.run);
       sees = rest.sees;
-      jobs = both_add (law_job c) v.past.jobs first.seen.past.jobs rest.seen.past.jobs (jobs_of c (acting c w e)) (jobs_made c (passed c r.0 es w' r.3)) first.jobs rest.jobs;
-      changes = both_add law_change v.past.changes first.seen.past.changes rest.seen.past.changes (changes_of (acting c w e)) (changes_made c (passed c r.0 es w' r.3)) first.changes rest.changes;
+      jobs = both_add (law_job c) v.past.jobs first.seen.past.jobs rest.seen.past.jobs (jobs_of c (acting_server c w e)) (jobs_made c (passed_events c r.0 es w' r.3)) first.jobs rest.jobs;
+      changes = both_add law_change v.past.changes first.seen.past.changes rest.seen.past.changes (changes_of (acting_server c w e)) (changes_made c (passed_events c r.0 es w' r.3)) first.changes rest.changes;
     }
 
 replicate_size : {A : Type 0} (k : ℕ) (x : A) → length (replicate k x) ≡ k
@@ -250,7 +250,7 @@ first_seen c = record {
   placements = tt;
 }
 
-pub seen_over : NodeLaws → (c : Cluster) → IsCluster c → (es : List Event) (w : World) (r : Run c (new_world c) es w) → Over c (cluster.begin (law_for c)) w (passed c (new_world c) es w r)
+pub seen_over : NodeLaws → (c : Cluster) → IsCluster c → (es : List Event) (w : World) (r : Run c (new_world c) es w) → Over c (cluster.begin (law_for c)) w (passed_events c (new_world c) es w r)
 seen_over laws c set_up es w r = over laws c set_up (new_world c) (cluster.begin (law_for c)) es w r (first_seen c)
 
 pub is_reached : (c : Cluster) (w : World) (steps : List Passed) (o : Over c (cluster.begin (law_for c)) w steps) → Reached every_rule (law_for c) o.seen

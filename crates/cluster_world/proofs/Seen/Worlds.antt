@@ -7,7 +7,7 @@ use Rattle.list_laws.proofs.Lists.{read_set, in_map, in_left, in_right, each_app
 use Rattle.list_laws.proofs.Tests.{eq_true, eq_false, true_eq, false_eq, and_true}
 use Rattle.list_laws.proofs.Changes.{get_set_here, get_set_there, get_map, in_mapped, map_append, map_map, map_same, along_append}
 use Rattle.cluster_law.specs.Cluster as cluster
-use Rattle.cluster_law.specs.Cluster.{Step, applied}
+use Rattle.cluster_law.specs.Cluster.{Step, world_with}
 use Rattle.cluster_law.specs.Config.{every_rule}
 use Rattle.cluster_law.specs.History.{Closing}
 use Rattle.cluster_law.specs.Names as names
@@ -21,7 +21,7 @@ use Rattle.hub_core.proofs.Choices.Places.{named}
 use Rattle.hub_core.specs.AsLaw.{change_of}
 use Rattle.interest.specs.declared.changes.Change.{Change}
 use Rattle.shard_core.specs.AsLaw as of_shard
-use Rattle.shard_core.specs.ShardSteps.{called}
+use Rattle.shard_core.specs.ShardSteps.{sub_called}
 use Rattle.node_law.specs.AsLaw.{Shown, IsOpenAt, NodeFollows, StaysSound, IsStarted, MessagesAreGiven, node_of, jobs_by, changes_by}
 use Rattle.node_law.specs.AsLaw as node
 use Rattle.node_law.specs.declared.events.ConnEvent.{ConnEvent}
@@ -32,7 +32,7 @@ use Rattle.node_law.specs.State.{Line, Node}
 use Rattle.node_law.specs.Steps.{node_frames, conn_line, conn_place, shard_line}
 use Rattle.node_law.specs.AsLaw.{is_open_in}
 use Rattle.cluster_world.specs.Changes.{publication, publications_of, lives_of, conn_lives, new_life, looked_at, is_open, is_open_at}
-use Rattle.cluster_world.specs.Events.{frame_at, numbered, info_on, connect_on}
+use Rattle.cluster_world.specs.Events.{frame_at, numbered_event, info_on, connect_on}
 use Rattle.cluster_world.specs.Headline.{IsCluster}
 use Rattle.cluster_world.specs.Made.{Acting, acting_at, jobs_of, changes_of}
 use Rattle.cluster_world.specs.Outcomes.{Outcome}
@@ -158,11 +158,11 @@ Given w (Receive frame) = (j : ℕ) × (slice_get w.sent j ≡ Some (route.Numbe
 Given w (OnInfo session info) = (j : ℕ) × (slice_get w.sent j ≡ Some (route.Info info))
 Given w (OnConnect session connect) = (j : ℕ) × (slice_get w.sent j ≡ Some (route.Connect connect))
 
-pub given_numbered : (w : World) (k : ℕ) (e : NodeEvent) → numbered (frame_at k w.sent) ≡ Some e → Given w e
+pub given_numbered : (w : World) (k : ℕ) (e : NodeEvent) → numbered_event (frame_at k w.sent) ≡ Some e → Given w e
 given_numbered w zero e is = absurd (none-some e is)
 given_numbered w (suc k) e is = go (slice_get w.sent k) refl is
   where
-    go : (o : Option RouteFrame) → slice_get w.sent k ≡ o → numbered o ≡ Some e → Given w e
+    go : (o : Option RouteFrame) → slice_get w.sent k ≡ o → numbered_event o ≡ Some e → Given w e
     go None at f = absurd (none-some e f)
     go (Some (route.Numbered frame)) at f = subst (Given w) (same_Some (Receive frame) e f) (k, at)
     go (Some (route.Info info)) at f = absurd (none-some e f)
@@ -203,7 +203,7 @@ step_of c w v v' n inc (OnConnect session connect) x sent given shown acts = han
 new_at : (c : Cluster) (n inc now conn : ℕ) (event : ConnEvent) (a : Node) (place : ℕ) (o : Option Line) → ((line : Line) → o ≡ Some line → line.shard.shard ≡ suc place)
     → Each (λ l. (l.closed ≡ None) × (l.id.sub.shard ≡ suc place) × (l.id.node ≡ n) × (l.id.inc ≡ inc)) (conn_lives (server_at c n inc) now conn event o)
 new_at c n inc now conn event a place None h l i = absurd i
-new_at c n inc now conn (Subscribe key sid) a place (Some line) h l i = go (called conn sid line.shard.subs) i
+new_at c n inc now conn (Subscribe key sid) a place (Some line) h l i = go (sub_called conn sid line.shard.subs) i
   where
     go : (u : Option Subscription) → In l (new_life (server_at c n inc) now conn key sid line u) → (l.closed ≡ None) × (l.id.sub.shard ≡ suc place) × (l.id.node ≡ n) × (l.id.inc ≡ inc)
     go (Some u) j = absurd j
@@ -246,7 +246,7 @@ new_lives c n inc now a (OnConnect session connect) sound l i = absurd i
 lives_are_at : (c : Cluster) (n inc now conn : ℕ) (event : ConnEvent) (place : ℕ) (o : Option Line) → place ≡ conn_place (server_at c n inc) conn → ((line : Line) → o ≡ Some line → line.shard.shard ≡ suc place)
     → node.conn_lives (server_at c n inc) now conn event o ≡ map life_of (conn_lives (server_at c n inc) now conn event o)
 lives_are_at c n inc now conn event place None same h = refl
-lives_are_at c n inc now conn (Subscribe key sid) place (Some line) same h = go (called conn sid line.shard.subs)
+lives_are_at c n inc now conn (Subscribe key sid) place (Some line) same h = go (sub_called conn sid line.shard.subs)
   where
     less : (k place : ℕ) → k ≡ suc place → place ≡ k - 1
     less k place e = omega arith
@@ -311,8 +311,8 @@ server_is c set_up n inc lt = record { apart = set_up.apart; listed = lt }
 
 -- ---- a step of a server
 
-changes_seen : (n inc : ℕ) (changes : List Change) → map (law.noted n inc) (map change_of changes) ≡ map law_change (map (λ change. record { node = n; inc = inc; change = change }) changes)
-changes_seen n inc changes = map_map change_of (law.noted n inc) changes ∙ sym (map_map (λ change. record { node = n; inc = inc; change = change }) law_change changes)
+changes_seen : (n inc : ℕ) (changes : List Change) → map (law.note_of n inc) (map change_of changes) ≡ map law_change (map (λ change. record { node = n; inc = inc; change = change }) changes)
+changes_seen n inc changes = map_map change_of (law.note_of n inc) changes ∙ sym (map_map (λ change. record { node = n; inc = inc; change = change }) law_change changes)
 
 abbrev pub after_act : World → ℕ → ℕ → Node → List (Option Running)
 after_act w n inc b = set_node w n (Some (record { inc = inc; node = b }))
@@ -327,7 +327,7 @@ acts_next laws c set_up w v n event outcome w' given s h =
     let gives = node_gives laws.given c n s.a.inc (suc w.step) s.a.node s.b s.e s.won s.race s.gained sound s.steps s.are_gained in
     let moves = laws.follows (server_at c n s.a.inc) (suc w.step) s.a.node s.e s.won s.race s.b gives.subs is sound s.steps gives.these in
     let m = moves.2 in
-    let acts : cluster.Acts every_rule (law_for c) v n moves.0 (applied v n (node_of (server_at c n s.a.inc) s.b) m.out) = record {
+    let acts : cluster.Acts every_rule (law_for c) v n moves.0 (world_with v n (node_of (server_at c n s.a.inc) s.b) m.out) = record {
       before = node_of (server_at c n s.a.inc) s.a.node;
       before_is = h.nodes n (Some s.a) s.a_is;
       up = refl;
@@ -336,14 +336,14 @@ acts_next laws c set_up w v n event outcome w' given s h =
       steps = subst (λ k. law.NodeStep every_rule (law_for c) n (suc k) (node_of (server_at c n s.a.inc) s.a.node) moves.0 m.out (node_of (server_at c n s.a.inc) s.b)) (sym h.step) m.steps;
       after = refl;
     } in
-    let stepped = step_of c w v (applied v n (node_of (server_at c n s.a.inc) s.b) m.out) n s.a.inc s.e moves.0 h.sent (given s.e s.is) moves.1 acts in
+    let stepped = step_of c w v (world_with v n (node_of (server_at c n s.a.inc) s.b) m.out) n s.a.inc s.e moves.0 h.sent (given s.e s.is) moves.1 acts in
     subst (Next c v w') (sym (λ i. acting_at n (s.a_is i) (s.is i))) (record {
-      seen = applied v n (node_of (server_at c n s.a.inc) s.b) m.out;
+      seen = world_with v n (node_of (server_at c n s.a.inc) s.b) m.out;
       event = stepped.0;
       steps = stepped.1;
       jobs = ap (λ t. v.past.jobs ++ t) (m.jobs_are ∙ sym (map_map (λ job. record { node = n; inc = s.a.inc; job = job }) (law_job c) (jobs_by (server_at c n s.a.inc) s.a.node s.e)));
       changes = ap (λ t. v.past.changes ++ t) (m.changes_are ∙ changes_seen n s.a.inc (changes_by s.a.node s.e));
-      sees = subst (λ x. Sees c x (applied v n (node_of (server_at c n s.a.inc) s.b) m.out)) (sym s.after) (record {
+      sees = subst (λ x. Sees c x (world_with v n (node_of (server_at c n s.a.inc) s.b) m.out)) (sym s.after) (record {
         step = ap suc h.step;
         size = set_size w.nodes n new ∙ h.size;
         nodes = seen_set c w.nodes v.nodes n (Some s.a) new s.a_is h.nodes;

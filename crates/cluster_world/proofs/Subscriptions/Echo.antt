@@ -13,7 +13,7 @@ use Rattle.subj.specs.Servers.{Server, IsListed}
 use Rattle.subj.specs.declared.jobs.Job.{Job}
 use Rattle.shard_core.specs.declared.calls.Placed.{Placed}
 use Rattle.shard_core.specs.Lines.{first_of}
-use Rattle.shard_core.specs.Owed.{placed_for, is_due, is_plain, is_wanted, is_permitted, is_publisher, is_candidate, candidate_of, candidate_named, walked, first_step, slow_consumer, due_entry}
+use Rattle.shard_core.specs.Owed.{placed_for, is_due, is_plain, is_wanted, is_permitted, is_publisher, is_candidate, candidate_of, candidate_named, whole_walk, first_step, slow_consumer, due_entry}
 use Rattle.shard_core.specs.Puts.{put_by, put_by_walk, put_by_claim, put_line}
 use Rattle.shard_core.specs.ShardSteps.{answer_fits}
 use Rattle.shard_core.specs.Shards.{State, client_at, fits}
@@ -66,16 +66,16 @@ put_more : (server : Server) (now : ℕ) (xs ys : List Placed) → placements_pu
 put_more server now [] ys = refl
 put_more server now (x ∷ xs) ys = ap (λ t. placement_of server now x.conn x.entry.bytes x.entry.tag ++ t) (put_more server now xs ys) ∙ sym (append_assoc (placement_of server now x.conn x.entry.bytes x.entry.tag) (placements_put server now xs) (placements_put server now ys))
 
-given_permitted : (s : State) (job : Job) → Each (λ u. is_permitted job u ≡ true) (walked s job).given
+given_permitted : (s : State) (job : Job) → Each (λ u. is_permitted job u ≡ true) (whole_walk s job).given
 given_permitted s job u i =
     let g = walk_gives s job (filter (is_due job) s.subs) (first_step s.clients) in
     let at = in_filter (is_due job) s.subs u (in_sub g.new (filter (is_due job) s.subs) g.some u (subst (In u) g.given i)) in
     (and_true (gets job.message.subject u) (is_permitted job u) (and_true (is_plain u) (is_wanted job u) at.1).1).1
 
-begin_gives : (server : Server) (now : ℕ) (s : State) (job : Job) → Each (IsOf server job) (placements_put server now (put_by_walk s job (walked s job)))
+begin_gives : (server : Server) (now : ℕ) (s : State) (job : Job) → Each (IsOf server job) (placements_put server now (put_by_walk s job (whole_walk s job)))
 begin_gives server now s job p i =
-    ⊎_elim (λ j. placed_of server now s.shard job None (walked s job).given (given_permitted s job) p j) (λ j. absurd (subst (In p) (no_lines server now slow_consumer (walked s job).shut) j))
-    (in_append p (placements_put server now (map (placed_for s.shard job None) (walked s job).given)) (placements_put server now (map (put_line slow_consumer) (walked s job).shut)) (subst (In p) (put_more server now (map (placed_for s.shard job None) (walked s job).given) (map (put_line slow_consumer) (walked s job).shut)) i))
+    ⊎_elim (λ j. placed_of server now s.shard job None (whole_walk s job).given (given_permitted s job) p j) (λ j. absurd (subst (In p) (no_lines server now slow_consumer (whole_walk s job).shut) j))
+    (in_append p (placements_put server now (map (placed_for s.shard job None) (whole_walk s job).given)) (placements_put server now (map (put_line slow_consumer) (whole_walk s job).shut)) (subst (In p) (put_more server now (map (placed_for s.shard job None) (whole_walk s job).given) (map (put_line slow_consumer) (whole_walk s job).shut)) i))
 
 candidate_permitted : (s : State) (job : Job) (name : Option (List ℕ)) (u : Subscription) → candidate_named s job name ≡ Some u → is_permitted job u ≡ true
 candidate_permitted s job None u e = absurd (none-some u e)

@@ -21,11 +21,11 @@ use Rattle.route_values.specs.Frames.{Frame}
 use Rattle.hub_core.specs.Publishing.{own_job}
 use Rattle.hub_core.specs.Receiving.{routed_job}
 use Rattle.shard_core.specs.AsLaw.{is_open_serial}
-use Rattle.shard_core.specs.Closings.{serials_of, is_left, left_of, without, ended_ids}
-use Rattle.shard_core.specs.Owed.{walked, counted, ended_by, candidate_of, claimed, slow_consumer}
+use Rattle.shard_core.specs.Closings.{serials_of, is_left, left_of, without_subs, ended_ids}
+use Rattle.shard_core.specs.Owed.{whole_walk, sub_with_count, ended_by, candidate_of, after_claim, slow_consumer}
 use Rattle.shard_core.specs.ShardEvents.{Event, Attach, Subscribe, Unsubscribe, Reply, Shut, Detach, Take, Begin, Claim, End, DropJob, Collect}
-use Rattle.shard_core.specs.ShardSteps.{called, new_sub, subscribed, subscribed_answer, ended_now, unsubscribed, ended_by_unsubscribe, answer_fits, ended_by_reply, was_shut, done_with, claimed_answer, shard_after, shard_answer, ended_of}
-use Rattle.shard_core.specs.Shards.{State, changed}
+use Rattle.shard_core.specs.ShardSteps.{sub_called, new_sub, after_subscribe, subscribe_answer, ended_now, after_unsubscribe, ended_by_unsubscribe, answer_fits, ended_by_reply, was_shut, done_with, claim_answer, shard_after, shard_answer, ended_of}
+use Rattle.shard_core.specs.Shards.{State, clients_with_change}
 use Rattle.shard_core.proofs.Closings.Closed.{counted_serials, max_serials}
 use Rattle.node_law.specs.AsLaw.{part_if, part_at, part_of}
 use Rattle.node_law.specs.Events as of_node
@@ -33,7 +33,7 @@ use Rattle.node_law.specs.Events.{OfConn, AtShard, Publish, Dial, Accept, CutSes
 use Rattle.node_core.specs.Outcome.{ended_at}
 use Rattle.node_law.specs.Sound.{SoundNode}
 use Rattle.node_law.specs.State.{Line, Node}
-use Rattle.node_law.specs.Steps.{conn_place, conn_line, shard_line, conn_event, work_event, line_after, line_after_if, set_line, queued, lines_after_body, node_after}
+use Rattle.node_law.specs.Steps.{conn_place, conn_line, shard_line, conn_event, work_event, line_after, line_after_if, set_line, line_with_job, lines_after_body, node_after}
 use Rattle.node_law.specs.AsLaw.{is_open_in}
 use Rattle.cluster_world.specs.Adding.{is_sub}
 
@@ -49,12 +49,12 @@ ended_by_claim (Some job) (Some u) false = []
 abbrev ended_serials : State → Event → List ℕ
 ended_serials s Attach = []
 ended_serials s (Subscribe conn key sid) = []
-ended_serials s (Unsubscribe conn sid max) = ended_by_unsubscribe max (called conn sid s.subs)
+ended_serials s (Unsubscribe conn sid max) = ended_by_unsubscribe max (sub_called conn sid s.subs)
 ended_serials s (Reply conn frame) = ended_by_reply s conn (reply_line frame)
 ended_serials s (Shut conn text) = left_of conn [] s.subs
 ended_serials s (Detach conn) = left_of conn [] s.subs
 ended_serials s (Take conn count) = []
-ended_serials s (Begin job) = (walked s job).ended
+ended_serials s (Begin job) = (whole_walk s job).ended
 ended_serials s (Claim index won) = ended_by_claim s.hand (candidate_of s s.hand index) won
 ended_serials s End = []
 ended_serials s (DropJob waiting) = []
@@ -62,9 +62,9 @@ ended_serials s Collect = []
 
 told : (s : State) (e : Event) → ended_of (shard_answer s e) ≡ ended_ids s.shard (ended_serials s e)
 told s Attach = refl
-told s (Subscribe conn key sid) = go (called conn sid s.subs)
+told s (Subscribe conn key sid) = go (sub_called conn sid s.subs)
   where
-    go : (o : Option Subscription) → ended_of (subscribed_answer s o) ≡ []
+    go : (o : Option Subscription) → ended_of (subscribe_answer s o) ≡ []
     go None = refl
     go (Some u) = refl
 told s (Unsubscribe conn sid max) = refl
@@ -75,7 +75,7 @@ told s (Take conn count) = refl
 told s (Begin job) = refl
 told s (Claim index won) = go s.hand (candidate_of s s.hand index) won
   where
-    go : (hand : Option Job) (u : Option Subscription) (won : Bool) → ended_of (claimed_answer s hand u won) ≡ ended_ids s.shard (ended_by_claim hand u won)
+    go : (hand : Option Job) (u : Option Subscription) (won : Bool) → ended_of (claim_answer s hand u won) ≡ ended_ids s.shard (ended_by_claim hand u won)
     go None u won = refl
     go (Some job) None won = refl
     go (Some job) (Some u) true = refl
@@ -122,35 +122,35 @@ one_more us u k is = ap not (sym (ap (list_any (nat_eq k)) (map_append serial_of
 
 shard_agrees : (s : State) (e : Event) → Agrees (ended_serials s e) s.subs (shard_after s e).subs
 shard_agrees s Attach = nothing s.subs s.subs refl
-shard_agrees s (Subscribe conn key sid) = go (called conn sid s.subs)
+shard_agrees s (Subscribe conn key sid) = go (sub_called conn sid s.subs)
   where
-    go : (o : Option Subscription) → Agrees [] s.subs (subscribed s (new_sub s conn key sid) o).subs
+    go : (o : Option Subscription) → Agrees [] s.subs (after_subscribe s (new_sub s conn key sid) o).subs
     go None = one_more s.subs (new_sub s conn key sid)
     go (Some u) = nothing s.subs s.subs refl
-shard_agrees s (Unsubscribe conn sid max) = go (called conn sid s.subs)
+shard_agrees s (Unsubscribe conn sid max) = go (sub_called conn sid s.subs)
   where
-    of : (u : Subscription) (b : Bool) → Agrees (cond b (u.serial ∷ []) []) s.subs (cond b (without (u.serial ∷ []) s) (record s { subs = with_max u.serial max s.subs })).subs
+    of : (u : Subscription) (b : Bool) → Agrees (cond b (u.serial ∷ []) []) s.subs (cond b (without_subs (u.serial ∷ []) s) (record s { subs = with_max u.serial max s.subs })).subs
     of u true = left_agrees (u.serial ∷ []) s.subs s.subs refl
     of u false = nothing s.subs (with_max u.serial max s.subs) (max_serials u.serial max s.subs)
 
-    go : (o : Option Subscription) → Agrees (ended_by_unsubscribe max o) s.subs (unsubscribed s max o).subs
+    go : (o : Option Subscription) → Agrees (ended_by_unsubscribe max o) s.subs (after_unsubscribe s max o).subs
     go None = nothing s.subs s.subs refl
     go (Some u) = of u (ended_now max u)
 shard_agrees s (Reply conn frame) = go (answer_fits s conn (reply_line frame))
   where
-    go : (b : Bool) → Agrees (cond b [] (left_of conn [] s.subs)) s.subs (cond b (record s { clients = changed (with_entry (reply_entry (reply_line frame))) conn s.clients }) (was_shut s conn slow_consumer)).subs
+    go : (b : Bool) → Agrees (cond b [] (left_of conn [] s.subs)) s.subs (cond b (record s { clients = clients_with_change (with_entry (reply_entry (reply_line frame))) conn s.clients }) (was_shut s conn slow_consumer)).subs
     go true = nothing s.subs s.subs refl
     go false = left_agrees (left_of conn [] s.subs) s.subs s.subs refl
 shard_agrees s (Shut conn text) = left_agrees (left_of conn [] s.subs) s.subs s.subs refl
 shard_agrees s (Detach conn) = left_agrees (left_of conn [] s.subs) s.subs s.subs refl
 shard_agrees s (Take conn count) = nothing s.subs s.subs refl
-shard_agrees s (Begin job) = left_agrees (walked s job).ended s.subs (map (counted (serials_of (walked s job).given)) s.subs) (counted_serials (serials_of (walked s job).given) s.subs)
+shard_agrees s (Begin job) = left_agrees (whole_walk s job).ended s.subs (map (sub_with_count (serials_of (whole_walk s job).given)) s.subs) (counted_serials (serials_of (whole_walk s job).given) s.subs)
 shard_agrees s (Claim index won) = go s.hand (candidate_of s s.hand index) won
   where
-    go : (hand : Option Job) (u : Option Subscription) (won : Bool) → Agrees (ended_by_claim hand u won) s.subs (claimed s hand u won).subs
+    go : (hand : Option Job) (u : Option Subscription) (won : Bool) → Agrees (ended_by_claim hand u won) s.subs (after_claim s hand u won).subs
     go None u won = nothing s.subs s.subs refl
     go (Some job) None won = nothing s.subs s.subs refl
-    go (Some job) (Some u) true = left_agrees (ended_by u) s.subs (map (counted (u.serial ∷ [])) s.subs) (counted_serials (u.serial ∷ []) s.subs)
+    go (Some job) (Some u) true = left_agrees (ended_by u) s.subs (map (sub_with_count (u.serial ∷ [])) s.subs) (counted_serials (u.serial ∷ []) s.subs)
     go (Some job) (Some u) false = nothing s.subs s.subs refl
 shard_agrees s End = go s.hand
   where
@@ -215,10 +215,10 @@ same_open sub lines after same = go (nat_eq sub.shard 0)
     go true is = absurd (true≢false (sym is))
     go false is = ap not (sym (same (sub.shard - 1) ∙ is))
 
-queued_same : (sub : SubId) (job : Job) (lines : List Line) (q : ℕ) → is_open_in sub.serial (slice_get (map (queued job) lines) q) ≡ is_open_in sub.serial (slice_get lines q)
-queued_same sub job lines q = ap (is_open_in sub.serial) (slice_get-map (queued job) lines q) ∙ go (slice_get lines q)
+queued_same : (sub : SubId) (job : Job) (lines : List Line) (q : ℕ) → is_open_in sub.serial (slice_get (map (line_with_job job) lines) q) ≡ is_open_in sub.serial (slice_get lines q)
+queued_same sub job lines q = ap (is_open_in sub.serial) (slice_get-map (line_with_job job) lines q) ∙ go (slice_get lines q)
   where
-    go : (o : Option Line) → is_open_in sub.serial (option_map (queued job) o) ≡ is_open_in sub.serial o
+    go : (o : Option Line) → is_open_in sub.serial (option_map (line_with_job job) o) ≡ is_open_in sub.serial o
     go None = refl
     go (Some line) = refl
 
@@ -253,7 +253,7 @@ module _ (server : Server) (a : Node) (sound : SoundNode server a) (sub : SubId)
   on_body frame (Plus weighted) = same_open sub a.lines a.lines (λ q. refl) is
   on_body frame (Minus key) = same_open sub a.lines a.lines (λ q. refl) is
   on_body frame (Snapshot keys) = same_open sub a.lines a.lines (λ q. refl) is
-  on_body frame (Msg content queues) = let job = routed_job a.hub frame content queues in same_open sub a.lines (map (queued job) a.lines) (queued_same sub job a.lines) is
+  on_body frame (Msg content queues) = let job = routed_job a.hub frame content queues in same_open sub a.lines (map (line_with_job job) a.lines) (queued_same sub job a.lines) is
 
   here : (k q : ℕ) (line : Line) → cond (nat_eq k 0) None (slice_get a.lines q) ≡ Some line → slice_get a.lines q ≡ Some line
   here k q line e = found_at (nat_eq k 0) (slice_get a.lines q) line e
@@ -261,7 +261,7 @@ module _ (server : Server) (a : Node) (sound : SoundNode server a) (sub : SubId)
   pub server_agrees : (e : NodeEvent) (won : Bool) (race : RaceState) → list_any (is_sub sub) (ended_at (part_of server a e won)) ≡ not (open_in sub (node_after server a e won race).lines)
   server_agrees (Own (OfConn conn event)) won race = on_line (conn_place server conn) (λ line. Some (conn_event conn event)) (conn_line server a conn) (here conn (conn_place server conn))
   server_agrees (Own (AtShard shard work)) won race = on_line (shard - 1) (work_event work won) (shard_line a shard) (here shard (shard - 1))
-  server_agrees (Own (Publish p)) won race = let job = own_job server a.hub p in same_open sub a.lines (map (queued job) a.lines) (queued_same sub job a.lines) is
+  server_agrees (Own (Publish p)) won race = let job = own_job server a.hub p in same_open sub a.lines (map (line_with_job job) a.lines) (queued_same sub job a.lines) is
   server_agrees (Own (of_node.Collect shard)) won race = on_collect (shard - 1) (shard_line a shard) (here shard (shard - 1))
   server_agrees (Own (Dial q)) won race = same_open sub a.lines a.lines (λ q. refl) is
   server_agrees (Own Accept) won race = same_open sub a.lines a.lines (λ q. refl) is

@@ -11,11 +11,11 @@ use Rattle.sub_table.specs.declared.Subscription.{Subscription}
 use Rattle.subj.specs.Servers.{Server, IsListed}
 use Rattle.subj.specs.declared.keys.Key.{Key}
 use Rattle.shard_core.specs.AsLaw.{is_open_serial}
-use Rattle.shard_core.specs.Causes.{AreHeld, gone_on, IsOpening}
+use Rattle.shard_core.specs.Causes.{AreHeld, sub_after, IsOpening}
 use Rattle.shard_core.specs.Closings.{id_of, serials_of}
 use Rattle.shard_core.specs.Shards.{State}
 use Rattle.shard_core.specs.ShardEvents as of_shard
-use Rattle.shard_core.specs.ShardSteps.{called, new_sub, subscribed, shard_refusal, shard_after}
+use Rattle.shard_core.specs.ShardSteps.{sub_called, new_sub, after_subscribe, shard_refusal, shard_after}
 use Rattle.shard_core.proofs.Closings.Causes.{one, subs_go_on, closes_by_cause, fixed}
 use Rattle.node_law.specs.AsLaw.{Part, part_at, part_of}
 use Rattle.node_law.specs.EachShard.{ShardsStayHeld}
@@ -189,7 +189,7 @@ module _ (c : Cluster) (w : World) (n : ℕ) (event : Option NodeEvent) (told : 
   -- what is open afterwards under the serial of one that was open is that one
   same_sub : (place : ℕ) (x y : Line) (held : AreHeld x.shard) → Goes (part_of (server_at c n s.a.inc) s.a.node s.e s.won) place x y → (u v : Subscription) → In u x.shard.subs → In v y.shard.subs → v.serial ≡ u.serial → (v.conn ≡ u.conn) × (v.key ≡ u.key) × (v.sid ≡ u.sid)
   same_sub place x y held (inl (e, is, cause, after)) u v i j same = ⊎_elim
-      (λ (f : (old : Subscription) × In old x.shard.subs × (v ≡ gone_on x.shard e old)).
+      (λ (f : (old : Subscription) × In old x.shard.subs × (v ≡ sub_after x.shard e old)).
       let it : f.0 ≡ u = one x.shard.subs held.rising f.0 u f.1 i (sym (ap (λ (z : Subscription). z.serial) f.2) ∙ same) in
       (ap (λ (z : Subscription). z.conn) f.2 ∙ ap (λ (z : Subscription). z.conn) it, ap (λ (z : Subscription). z.key) f.2 ∙ ap (λ (z : Subscription). z.key) it, ap (λ (z : Subscription). z.sid) f.2 ∙ ap (λ (z : Subscription). z.sid) it))
       (λ f. absurd (fresh e f))
@@ -271,7 +271,7 @@ module _ (c : Cluster) (w : World) (n : ℕ) (event : Option NodeEvent) (told : 
   -- what opens is open
   opens_at : (conn : ℕ) (key : Key) (sid : List ℕ) (o : Option Line) → conn_line (server_at c n s.a.inc) s.a.node conn ≡ o → part_of (server_at c n s.a.inc) s.a.node s.e s.won ≡ opened_part (server_at c n s.a.inc) conn key sid o → (l : Life) → In l (conn_lives (server_at c n s.a.inc) (suc w.step) conn (Subscribe key sid) o) → IsOpenLife w' l
   opens_at conn key sid None is part l i = absurd i
-  opens_at conn key sid (Some line) is part l i = go (called conn sid line.shard.subs) refl i
+  opens_at conn key sid (Some line) is part l i = go (sub_called conn sid line.shard.subs) refl i
     where
       at : slice_get s.a.node.lines (conn_place (server_at c n s.a.inc) conn) ≡ Some line
       at = conn_line_at (server_at c n s.a.inc) s.a.node conn line is
@@ -283,12 +283,12 @@ module _ (c : Cluster) (w : World) (n : ℕ) (event : Option NodeEvent) (told : 
       after_is (inl (e, f, cause, after)) = after ∙ ap (shard_after line.shard) (ap (λ (p : Part). p.event) (same_Some _ _ (sym f ∙ part)))
       after_is (inr (rests, apart)) = absurd (apart _ part refl)
 
-      go : (u : Option Subscription) → called conn sid line.shard.subs ≡ u → In l (new_life (server_at c n s.a.inc) (suc w.step) conn key sid line u) → IsOpenLife w' l
+      go : (u : Option Subscription) → sub_called conn sid line.shard.subs ≡ u → In l (new_life (server_at c n s.a.inc) (suc w.step) conn key sid line u) → IsOpenLife w' l
       go (Some u) f j = absurd j
       go None f j = ⊎_elim (λ (e : l ≡ record { id = record { node = n; inc = s.a.inc; sub = id_of line.shard.shard (line.shard.opened + 1) }; conn = conn; key = key; sid = sid; opened = suc w.step; closed = None }). subst (IsOpenLife w') (sym e) made) (λ k. absurd k) j
         where
-          after : y.0.shard ≡ subscribed line.shard (new_sub line.shard conn key sid) None
-          after = after_is (step_goes (server_at c n s.a.inc) s.a.node s.e s.won s.race s.b s.steps (conn_place (server_at c n s.a.inc) conn) line y.0 at y.1) ∙ ap (subscribed line.shard (new_sub line.shard conn key sid)) f
+          after : y.0.shard ≡ after_subscribe line.shard (new_sub line.shard conn key sid) None
+          after = after_is (step_goes (server_at c n s.a.inc) s.a.node s.e s.won s.race s.b s.steps (conn_place (server_at c n s.a.inc) conn) line y.0 at y.1) ∙ ap (after_subscribe line.shard (new_sub line.shard conn key sid)) f
 
           made : IsOpenLife w' (record { id = record { node = n; inc = s.a.inc; sub = id_of line.shard.shard (line.shard.opened + 1) }; conn = conn; key = key; sid = sid; opened = suc w.step; closed = None })
           made = record {

@@ -8,11 +8,11 @@ use Rattle.cluster_law.specs.Hub.{Known}
 use Rattle.route_values.specs.Frames.{Frame}
 use Rattle.subj.specs.Servers.{Server}
 use Rattle.interest.specs.Heard.{nothing_heard}
-use Rattle.hub_core.specs.State.{Peer, known, changed_in, changed_at}
+use Rattle.hub_core.specs.State.{Peer, peer_in_life, changed_in, changed_at}
 use Rattle.hub_core.specs.Publishing.{with_frames}
 use Rattle.hub_core.specs.AsLaw.{peer_of}
 
-pub known_is : (peer : Peer) (inc : ℕ) → peer.seen ≤ inc → Known every_rule (peer_of peer) inc (peer_of (known peer inc))
+pub known_is : (peer : Peer) (inc : ℕ) → peer.seen ≤ inc → Known every_rule (peer_of peer) inc (peer_of (peer_in_life peer inc))
 known_is peer inc le = go (nat_lt peer.seen inc) refl
   where
     go : (b : Bool) → nat_lt peer.seen inc ≡ b → Known every_rule (peer_of peer) inc (peer_of (cond b (record { seen = inc; mark = 0; heard = nothing_heard; up = false; outbox = peer.outbox }) peer))

@@ -17,9 +17,9 @@ use Rattle.route_values.specs.declared.bodies.Body.TheVariants.{Plus, Minus, Sna
 use Rattle.route_values.specs.Frames.{Frame}
 use Rattle.hub_core.specs.declared.faults.HubFault.{HubFault}
 use Rattle.hub_core.specs.declared.faults.HubFault.TheVariants.{StaleOrigin, Late, Spent}
-use Rattle.hub_core.specs.State.{State, Peer, known, changed_at}
+use Rattle.hub_core.specs.State.{State, Peer, peer_in_life, changed_at}
 use Rattle.hub_core.specs.Publishing.{busy_fault}
-use Rattle.hub_core.specs.Receiving.{message_fault, body_fault, origin_fault, receive_refusal, told_by, has_message, received}
+use Rattle.hub_core.specs.Receiving.{message_fault, body_fault, origin_fault, receive_refusal, told_by, has_message, after_receive}
 use Rattle.hub_core.specs.Calls.{interest_fault}
 use Rattle.hub_core.specs.Events.{Receive}
 use Rattle.hub_core.specs.Hubs.{Hub, IsKept}
@@ -54,20 +54,20 @@ abbrev turn_refusal : Server → State → List ℕ → Option HubFault
 turn_refusal server hub finished = option_or (busy_fault server hub finished) (if nat_le MAX_COUNTER hub.issued then Some Spent else None)
 
 module _ (server : Server) (hub : State) (finished : List ℕ) (frame : Frame) (q : ℕ) (x : Peer) (within : q < length hub.peers) (at : x ≡ get_or hub.peers q x) (fresh : x.seen ≤ frame.inc) where
-  by_body : origin_fault server hub finished frame (slice_get hub.peers q) ≡ body_fault server hub (known x frame.inc) frame.number finished frame.body
+  by_body : origin_fault server hub finished frame (slice_get hub.peers q) ≡ body_fault server hub (peer_in_life x frame.inc) frame.number finished frame.body
   by_body = ap (origin_fault server hub finished frame) (slice_get-get_or hub.peers q x within ∙ ap (λ (p : Peer). let o : Option Peer = Some p in o) (sym at))
-      ∙ ap (λ (b : Bool). if b then Some StaleOrigin else body_fault server hub (known x frame.inc) frame.number finished frame.body) (not_below frame.inc x.seen fresh)
+      ∙ ap (λ (b : Bool). if b then Some StaleOrigin else body_fault server hub (peer_in_life x frame.inc) frame.number finished frame.body) (not_below frame.inc x.seen fresh)
 
-  pub of_news : has_message frame.body ≡ false → interest_fault (known x frame.inc).heard frame.number frame.body ≡ origin_fault server hub finished frame (slice_get hub.peers q)
-  of_news e = sym (by_body ∙ news_are server hub (known x frame.inc) frame.number finished frame.body e)
+  pub of_news : has_message frame.body ≡ false → interest_fault (peer_in_life x frame.inc).heard frame.number frame.body ≡ origin_fault server hub finished frame (slice_get hub.peers q)
+  of_news e = sym (by_body ∙ news_are server hub (peer_in_life x frame.inc) frame.number finished frame.body e)
 
-  pub of_late : has_message frame.body ≡ true → frame.number ≤ (known x frame.inc).mark → Some Late ≡ origin_fault server hub finished frame (slice_get hub.peers q)
-  of_late e late = sym (by_body ∙ message_is server hub (known x frame.inc) frame.number finished frame.body e
-      ∙ ap (λ (b : Bool). if b then Some Late else turn_refusal server hub finished) (at_most frame.number (known x frame.inc).mark late))
+  pub of_late : has_message frame.body ≡ true → frame.number ≤ (peer_in_life x frame.inc).mark → Some Late ≡ origin_fault server hub finished frame (slice_get hub.peers q)
+  of_late e late = sym (by_body ∙ message_is server hub (peer_in_life x frame.inc) frame.number finished frame.body e
+      ∙ ap (λ (b : Bool). if b then Some Late else turn_refusal server hub finished) (at_most frame.number (peer_in_life x frame.inc).mark late))
 
-  pub of_turn : has_message frame.body ≡ true → (known x frame.inc).mark < frame.number → turn_refusal server hub finished ≡ origin_fault server hub finished frame (slice_get hub.peers q)
-  of_turn e later = sym (by_body ∙ message_is server hub (known x frame.inc) frame.number finished frame.body e
-      ∙ ap (λ (b : Bool). if b then Some Late else turn_refusal server hub finished) (above frame.number (known x frame.inc).mark later))
+  pub of_turn : has_message frame.body ≡ true → (peer_in_life x frame.inc).mark < frame.number → turn_refusal server hub finished ≡ origin_fault server hub finished frame (slice_get hub.peers q)
+  of_turn e later = sym (by_body ∙ message_is server hub (peer_in_life x frame.inc) frame.number finished frame.body e
+      ∙ ap (λ (b : Bool). if b then Some Late else turn_refusal server hub finished) (above frame.number (peer_in_life x frame.inc).mark later))
 
 -- ---- a frame that is taken
 
@@ -84,30 +84,30 @@ module _ (old : Hub) (finished : List ℕ) (frame : Frame) (kept : IsKept old) (
   -- of a message there is a turn
   pub has_turn : has_message frame.body ≡ true → old.state.issued < MAX_COUNTER
   has_turn e =
-      let none = sym (message_is old.server old.state (known from.peer frame.inc) frame.number finished frame.body e) ∙ from.none in
-      let f = no_cause (nat_le frame.number (known from.peer frame.inc).mark) Late (turn_refusal old.server old.state finished) none in
+      let none = sym (message_is old.server old.state (peer_in_life from.peer frame.inc) frame.number finished frame.body e) ∙ from.none in
+      let f = no_cause (nat_le frame.number (peer_in_life from.peer frame.inc).mark) Late (turn_refusal old.server old.state finished) none in
       let g = or_none (busy_fault old.server old.state finished) (if nat_le MAX_COUNTER old.state.issued then Some Spent else None) f.1 in
       le_false MAX_COUNTER old.state.issued (no_cause (nat_le MAX_COUNTER old.state.issued) Spent None g.1).0
 
   -- and of news no cause
-  pub news_heard : (q : ℕ) (x : Peer) → q ≡ place old.server frame.from → x ≡ get_or old.state.peers q x → has_message frame.body ≡ false → interest_fault (known x frame.inc).heard frame.number frame.body ≡ None
+  pub news_heard : (q : ℕ) (x : Peer) → q ≡ place old.server frame.from → x ≡ get_or old.state.peers q x → has_message frame.body ≡ false → interest_fault (peer_in_life x frame.inc).heard frame.number frame.body ≡ None
   news_heard q x q_is at e =
       let within : q < length old.state.peers = subst (λ n. n < length old.state.peers) (sym q_is) origin_within in
       let same : from.peer ≡ x = same_Some from.peer x (sym from.at ∙ ap (slice_get old.state.peers) (sym q_is) ∙ slice_get-get_or old.state.peers q x within ∙ ap (λ (p : Peer). let o : Option Peer = Some p in o) (sym at)) in
-      ap (λ (p : Peer). interest_fault (known p frame.inc).heard frame.number frame.body) (sym same) ∙ sym (news_are old.server old.state (known from.peer frame.inc) frame.number finished frame.body e) ∙ from.none
+      ap (λ (p : Peer). interest_fault (peer_in_life p frame.inc).heard frame.number frame.body) (sym same) ∙ sym (news_are old.server old.state (peer_in_life from.peer frame.inc) frame.number finished frame.body e) ∙ from.none
 
-  module _ (found : Option ℕ) (q : ℕ) (x new : Peer) (look : found ≡ (if is_peer old.server (place old.server frame.from) then Some (place old.server frame.from) else None)) (there : found ≡ Some q) (at : x ≡ get_or old.state.peers q x) (told : new ≡ told_by frame.body frame.number (known x frame.inc)) where
+  module _ (found : Option ℕ) (q : ℕ) (x new : Peer) (look : found ≡ (if is_peer old.server (place old.server frame.from) then Some (place old.server frame.from) else None)) (there : found ≡ Some q) (at : x ≡ get_or old.state.peers q x) (told : new ≡ told_by frame.body frame.number (peer_in_life x frame.inc)) where
     q_is : q ≡ place old.server frame.from
     q_is = sym (cond_some (is_peer old.server (place old.server frame.from)) (place old.server frame.from) q (sym look ∙ there)).1
 
-    peers_are : slice_set old.state.peers q new ≡ changed_at (λ (peer : Peer). told_by frame.body frame.number (known peer frame.inc)) (place old.server frame.from) old.state.peers
-    peers_are = changed_is (λ (peer : Peer). told_by frame.body frame.number (known peer frame.inc)) old.state.peers q x new (subst (λ n. n < length old.state.peers) (sym q_is) origin_within) at told
-        ∙ ap (λ n. changed_at (λ (peer : Peer). told_by frame.body frame.number (known peer frame.inc)) n old.state.peers) q_is
+    peers_are : slice_set old.state.peers q new ≡ changed_at (λ (peer : Peer). told_by frame.body frame.number (peer_in_life peer frame.inc)) (place old.server frame.from) old.state.peers
+    peers_are = changed_is (λ (peer : Peer). told_by frame.body frame.number (peer_in_life peer frame.inc)) old.state.peers q x new (subst (λ n. n < length old.state.peers) (sym q_is) origin_within) at told
+        ∙ ap (λ n. changed_at (λ (peer : Peer). told_by frame.body frame.number (peer_in_life peer frame.inc)) n old.state.peers) q_is
 
     abbrev pub later : ℕ → State
     later issued = record old.state { issued = issued; peers = slice_set old.state.peers q new }
 
-    pub received_is : (issued : ℕ) → issued ≡ (if has_message frame.body then old.state.issued + 1 else old.state.issued) → later issued ≡ received old.server old.state frame
+    pub received_is : (issued : ℕ) → issued ≡ (if has_message frame.body then old.state.issued + 1 else old.state.issued) → later issued ≡ after_receive old.server old.state frame
     received_is issued turn = ap (λ (n : ℕ). later n) turn ∙ ap (λ (peers : List Peer). record old.state { issued = (if has_message frame.body then old.state.issued + 1 else old.state.issued); peers = peers }) peers_are
 
     pub received_kept : (issued : ℕ) → issued ≡ (if has_message frame.body then old.state.issued + 1 else old.state.issued) → IsKept (record { server = old.server; state = later issued })
@@ -137,16 +137,16 @@ module _ (old : Hub) (finished : List ℕ) (frame : Frame) (kept : IsKept old) (
   same : new ≡ x → slice_set old.state.peers q new ≡ old.state.peers
   same e = ap (slice_set old.state.peers q) (e ∙ at) ∙ set-get_or old.state.peers q x
 
-  none : interest_fault (known x frame.inc).heard frame.number frame.body ≡ None
+  none : interest_fault (peer_in_life x frame.inc).heard frame.number frame.body ≡ None
   none = news_heard old finished frame kept cause q x its_place at news
 
-  pub heard_kept : (r : Result (Unit {0}) (Failure HubFault)) → IsAnswered (interest_fault (known x frame.inc).heard frame.number frame.body) (λ _. new ≡ told_by frame.body frame.number (known x frame.inc)) (new ≡ x) r → IsKept (record { server = old.server; state = changed })
+  pub heard_kept : (r : Result (Unit {0}) (Failure HubFault)) → IsAnswered (interest_fault (peer_in_life x frame.inc).heard frame.number frame.body) (λ _. new ≡ told_by frame.body frame.number (peer_in_life x frame.inc)) (new ≡ x) r → IsKept (record { server = old.server; state = changed })
   heard_kept (Ok done) e = received_kept old finished frame kept cause found q x new look there at e.1 old.state.issued (no_turn old.state.issued frame.body news)
   heard_kept (Err OutOfMemory) e = subst (λ (peers : List Peer). IsKept (record { server = old.server; state = record old.state { peers = peers } })) (sym (same e.1)) kept
   heard_kept (Err (Refused why)) e = absurd (none-some why (sym none ∙ e.0))
 
-  pub heard_done : (r : Result (Unit {0}) (Failure HubFault)) → IsAnswered (interest_fault (known x frame.inc).heard frame.number frame.body) (λ _. new ≡ told_by frame.body frame.number (known x frame.inc)) (new ≡ x) r
-      → IsAnswered {R = HubFault} {T = Unit {0}} None (λ _. record { server = old.server; state = changed } ≡ record old { state = received old.server old.state frame }) (record { server = old.server; state = changed } ≡ old) r
+  pub heard_done : (r : Result (Unit {0}) (Failure HubFault)) → IsAnswered (interest_fault (peer_in_life x frame.inc).heard frame.number frame.body) (λ _. new ≡ told_by frame.body frame.number (peer_in_life x frame.inc)) (new ≡ x) r
+      → IsAnswered {R = HubFault} {T = Unit {0}} None (λ _. record { server = old.server; state = changed } ≡ record old { state = after_receive old.server old.state frame }) (record { server = old.server; state = changed } ≡ old) r
   heard_done (Ok done) e = (refl, ap (λ (state : State). record old { state = state }) (received_is old finished frame kept cause found q x new look there at e.1 old.state.issued (no_turn old.state.issued frame.body news)))
   heard_done (Err OutOfMemory) e = (refl, ap (λ (peers : List Peer). record old { state = record old.state { peers = peers } }) (same e.1))
   heard_done (Err (Refused why)) e = absurd (none-some why (sym none ∙ e.0))

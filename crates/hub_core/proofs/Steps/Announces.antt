@@ -16,12 +16,12 @@ use Rattle.interest.specs.declared.changes.Delta.{Delta}
 use Rattle.interest.specs.declared.faults.InterestFault.{InterestFault}
 use Rattle.interest.specs.Counts.{Counts, counts_after, delta_fault}
 use Rattle.interest.specs.Told.{counts_told, changes_told, are_refused, AreTaken}
-use Rattle.interest.specs.Views.{View, told_view, followed, view_after}
+use Rattle.interest.specs.Views.{View, told_view, view_with_change, view_after}
 use Rattle.interest.proofs.Counting.Agreement.{run, run_within}
 use Rattle.route_values.specs.Frames.{Frame}
 use Rattle.hub_core.specs.declared.faults.HubFault.TheVariants.{BadInterest, Spent}
 use Rattle.hub_core.specs.State.{Peer}
-use Rattle.hub_core.specs.Telling.{changes_of, count_of_changes, is_told, body_of, frames_of_change, frames_behind, collect_frames, without_slow, collected}
+use Rattle.hub_core.specs.Telling.{changes_of, count_of_changes, is_told, body_of, frames_of_change, frames_behind, collect_frames, without_slow, after_collect}
 use Rattle.hub_core.specs.AsLaw.{view_of, change_of, frame_of, hub_of, peer_of, follow, AnnouncesInLaw}
 use Rattle.hub_core.proofs.Choices.Places.{named}
 use Rattle.hub_core.proofs.Neighbours.Views.{follows}
@@ -42,7 +42,7 @@ are_taken (delta ∷ deltas) counts e =
 -- changes act in the law as they do here
 after_all : (changes : List Change) (view : View) → law_after follow (map change_of changes) (length (map change_of changes)) (view_of view) ≡ view_of (view_after changes view)
 after_all [] view = refl
-after_all (change ∷ changes) view = ap (law_after follow (map change_of changes) (length (map change_of changes))) (follows change view) ∙ after_all changes (followed change view)
+after_all (change ∷ changes) view = ap (law_after follow (map change_of changes) (length (map change_of changes))) (follows change view) ∙ after_all changes (view_with_change change view)
 
 -- ---- the peers
 
@@ -90,8 +90,8 @@ module _ (server : Server) (is : IsListed server) (old : law.Hub) (new : law.Hub
 pub announces_in_law : AnnouncesInLaw
 announces_in_law c server hub deltas is size within cause = record {
   announces = record {
-    told = λ frame i. (let x = in_map (frame_of server) (collect_frames server hub deltas) frame i in subst (IsTold server.me server.inc (hub_of hub) (map change_of (changes_of hub deltas)) (hub_of (collected server hub deltas))) (sym x.2)
-        (behind server is (hub_of hub) (hub_of (collected server hub deltas)) (changes_of hub deltas) (count_of_changes hub deltas) 0 hub.changed (changes_of hub deltas) (λ j. ap (slice_get (changes_of hub deltas)) (none_more j)) (omega arith) hub.peers x.0 x.1));
+    told = λ frame i. (let x = in_map (frame_of server) (collect_frames server hub deltas) frame i in subst (IsTold server.me server.inc (hub_of hub) (map change_of (changes_of hub deltas)) (hub_of (after_collect server hub deltas))) (sym x.2)
+        (behind server is (hub_of hub) (hub_of (after_collect server hub deltas)) (changes_of hub deltas) (count_of_changes hub deltas) 0 hub.changed (changes_of hub deltas) (λ j. ap (slice_get (changes_of hub deltas)) (none_more j)) (omega arith) hub.peers x.0 x.1));
     after = λ i. record {
       published = hub.published;
       changed = hub.changed + sym (map_length change_of (changes_of hub deltas)) i;

@@ -9,9 +9,9 @@ use Rattle.interest.specs.declared.changes.Delta.{Delta}
 use Rattle.interest.specs.Told.{are_refused, counts_told}
 use Rattle.hub_core.specs.declared.faults.HubFault.TheVariants.{BadInterest, Spent}
 use Rattle.hub_core.specs.State.{State, Peer}
-use Rattle.hub_core.specs.Telling.{is_slow, slow_from, without_slow, count_of_changes, changes_of, collect_refusal, collect_frames, collected}
+use Rattle.hub_core.specs.Telling.{is_slow, slow_from, without_slow, count_of_changes, changes_of, collect_refusal, collect_frames, after_collect}
 use Rattle.hub_core.specs.Events.{Collect, Collected}
-use Rattle.hub_core.specs.Calls.{HasRoomFor, AreCounted, told_out}
+use Rattle.hub_core.specs.Calls.{HasRoomFor, AreCounted, after_changes}
 use Rattle.hub_core.specs.Hubs.{Hub, IsKept, DoesStep}
 use Rattle.hub_core.proofs.Steps.Kept.{kept_after}
 use Rattle.hub_core.proofs.Neighbours.Known.{map_length}
@@ -34,11 +34,11 @@ module _ (old : Hub) (deltas : List Delta) (count : ℕ) (frames : List Frame) (
       let most = lt_false MAX_COUNTER (old.state.changed + count_of_changes old.state deltas) (no_cause (nat_lt MAX_COUNTER (old.state.changed + count_of_changes old.state deltas)) Spent None f.1).0 in
       let same = plan.count_is in omega arith
 
-  told_is : told_out old.server old.state (counts_told old.state.counts deltas) count frames ≡ collected old.server old.state deltas
-  told_is = ap (λ n. told_out old.server old.state (counts_told old.state.counts deltas) n frames) plan.count_is
-      ∙ ap (told_out old.server old.state (counts_told old.state.counts deltas) (count_of_changes old.state deltas)) plan.frames_are
+  told_is : after_changes old.server old.state (counts_told old.state.counts deltas) count frames ≡ after_collect old.server old.state deltas
+  told_is = ap (λ n. after_changes old.server old.state (counts_told old.state.counts deltas) n frames) plan.count_is
+      ∙ ap (after_changes old.server old.state (counts_told old.state.counts deltas) (count_of_changes old.state deltas)) plan.frames_are
 
-  pub told_kept : (new : State) → new ≡ told_out old.server old.state (counts_told old.state.counts deltas) count frames → IsKept (record { server = old.server; state = new })
+  pub told_kept : (new : State) → new ≡ after_changes old.server old.state (counts_told old.state.counts deltas) count frames → IsKept (record { server = old.server; state = new })
   told_kept new is = kept_after old.server old.state (Collect 1 deltas) new kept tt (is ∙ told_is)
       (subst (λ n. n ≤ MAX_COUNTER) (sym (ap (λ (s : State). s.published) is)) kept.published)
       (let n = ap (λ (s : State). s.changed) is in let left = numbers_left in omega arith)
@@ -84,7 +84,7 @@ module _ (hub : Hub) (kept : IsKept hub) where
       let within : nat_lt MAX_COUNTER (hub.state.changed + 0) ≡ false = grind (arith, nat_tests, most) in
       ap (λ b. if b then Some Spent else None) within
 
-  same : collected hub.server hub.state [] ≡ hub.state
+  same : after_collect hub.server hub.state [] ≡ hub.state
   same = λ i. record hub.state {
     changed = add-zero hub.state.changed i;
     peers = (nothing_put hub.server 0 (map (without_slow 0) hub.state.peers) ∙ all_stay hub.state.peers room) i;

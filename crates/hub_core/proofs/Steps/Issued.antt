@@ -11,7 +11,7 @@ use Rattle.hub_core.specs.declared.faults.HubFault.TheVariants.{Spent, TooManyQu
 use Rattle.hub_core.specs.State.{State, Peer}
 use Rattle.hub_core.specs.Publishing.{publish_fault, busy_fault, names_of, choice_of, with_frames}
 use Rattle.hub_core.specs.Events.{Publish}
-use Rattle.hub_core.specs.Calls.{HasRoomFor, IsPlanned, put_out}
+use Rattle.hub_core.specs.Calls.{HasRoomFor, IsPlanned, after_frames}
 use Rattle.hub_core.specs.Hubs.{Hub, IsKept}
 use Rattle.hub_core.proofs.Steps.Kept.{kept_after}
 use Rattle.hub_core.proofs.Neighbours.Known.{frames_length}
@@ -45,14 +45,14 @@ module _ (old : Hub) (frames : List Frame) (kept : IsKept old) (plan : IsPlanned
   pub turn_left : old.state.issued < MAX_COUNTER
   turn_left = counters.1
 
-  pub issued_kept : (new : State) → new ≡ put_out old.server old.state frames → IsKept (record { server = old.server; state = new })
+  pub issued_kept : (new : State) → new ≡ after_frames old.server old.state frames → IsKept (record { server = old.server; state = new })
   issued_kept new is = kept_after old.server old.state (Publish plan.publication plan.finished) new kept tt
-      (is ∙ ap (put_out old.server old.state) plan.frames_are)
+      (is ∙ ap (after_frames old.server old.state) plan.frames_are)
       (let n = ap (λ (s : State). s.published) is in let left = counters.0 in omega arith)
       (subst (λ n. n ≤ MAX_COUNTER) (sym (ap (λ (s : State). s.changed) is)) kept.changed)
 
   pub issued_is : (issued len : ℕ) (next : Option ℕ) (peers : List Peer) → next ≡ next_turn old.state.issued → next ≡ Some issued → len ≡ length old.state.peers → peers ≡ with_frames old.server frames 0 old.state.peers
-      → record old.state { issued = issued; published = old.state.published + 1; peers = take len (peers ++ drop (length peers) old.state.peers) } ≡ put_out old.server old.state frames
+      → record old.state { issued = issued; published = old.state.published + 1; peers = take len (peers ++ drop (length peers) old.state.peers) } ≡ after_frames old.server old.state frames
   issued_is issued len next peers next_is is whole peers_are =
       let same : length peers ≡ length old.state.peers = ap length peers_are ∙ frames_length old.server frames 0 old.state.peers in
       let turn : old.state.issued + 1 ≡ issued = next_turn_is (nat_lt MAX_COUNTER (old.state.issued + 1)) (old.state.issued + 1) issued (sym next_is ∙ is) in

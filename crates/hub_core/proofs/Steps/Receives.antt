@@ -12,13 +12,13 @@ use Rattle.subj.specs.Servers.{Server, IsListed, own_name, place, is_peer}
 use Rattle.interest.specs.declared.changes.Change.{Change}
 use Rattle.interest.specs.declared.changes.Change.TheVariants.{Up, Gone}
 use Rattle.interest.specs.declared.faults.InterestFault.TheVariants as interest
-use Rattle.interest.specs.Views.{View, followed, follow_fault, change_fault, snapshot_fault}
+use Rattle.interest.specs.Views.{View, view_with_change, follow_fault, change_fault, snapshot_fault}
 use Rattle.route_values.specs.declared.bodies.Body.{Body}
 use Rattle.route_values.specs.declared.bodies.Body.TheVariants.{Plus, Minus, Snapshot, Msg}
 use Rattle.route_values.specs.Frames.{Frame}
 use Rattle.hub_core.specs.declared.faults.HubFault.TheVariants.{NotMe, OtherMe, NotInCluster, StaleOrigin, Late, Spent}
 use Rattle.hub_core.specs.Faults.{fault_of_interest}
-use Rattle.hub_core.specs.State.{State, Peer, known, peer_of as named_peer}
+use Rattle.hub_core.specs.State.{State, Peer, peer_in_life, peer_of as named_peer}
 use Rattle.hub_core.specs.Publishing.{busy_fault}
 use Rattle.hub_core.specs.Receiving.{body_fault, origin_fault, receive_refusal, told_by}
 use Rattle.hub_core.specs.Peers.{snapshot_to}
@@ -37,7 +37,7 @@ pub record FromPeer (server : Server) (hub : State) (finished : List ℕ) (frame
   pub peer : Peer
   pub at : slice_get hub.peers (place server frame.from) ≡ Some peer
   pub fresh : peer.seen ≤ frame.inc
-  pub none : body_fault server hub (known peer frame.inc) frame.number finished frame.body ≡ None
+  pub none : body_fault server hub (peer_in_life peer frame.inc) frame.number finished frame.body ≡ None
 
 pub from_peer : (server : Server) → IsListed server → (hub : State) (finished : List ℕ) (frame : Frame) → receive_refusal server hub finished frame ≡ None → FromPeer server hub finished frame
 from_peer server is hub finished frame e =
@@ -49,7 +49,7 @@ from_peer server is hub finished frame e =
     by false f o at k l h = absurd (none-some NotInCluster (sym h))
     by true f None at k l h = absurd (none-some NotInCluster (sym h))
     by true f (Some peer) at k l h =
-        let g = no_cause (nat_lt frame.inc peer.seen) StaleOrigin (body_fault server hub (known peer frame.inc) frame.number finished frame.body) h in
+        let g = no_cause (nat_lt frame.inc peer.seen) StaleOrigin (body_fault server hub (peer_in_life peer frame.inc) frame.number finished frame.body) h in
         record { me_is = k; inc_is = l; is = f; other = not_own server (place server frame.from) f; peer = peer; at = at; fresh = lt_false frame.inc peer.seen g.0; none = g.1 }
 
 -- a change that is taken is the next one
@@ -65,52 +65,52 @@ taken_as : (c : Config) (server : Server) → IsListed server → (hub : State) 
     → FromPeer server hub finished (record { from = from; inc = inc; to = to; to_inc = to_inc; number = number; body = body })
     → TakenAs c server hub finished (record { from = from; inc = inc; to = to; to_inc = to_inc; number = number; body = body }) (frame_of server (record { from = from; inc = inc; to = to; to_inc = to_inc; number = number; body = body }))
 taken_as c server is hub finished from inc to to_inc number (Plus weighted) f =
-    let base = known f.peer inc in
+    let base = peer_in_life f.peer inc in
     let none = map_none fault_of_interest (change_fault base.heard.mark base.heard.keys number (Up weighted)) f.none in record {
       for_me = record { me = f.me_is; my_inc = f.inc_is; other = f.other };
       peer = peer_of f.peer;
       peer_is = get_map peer_of hub.peers (place server from) f.peer f.at;
-      base = peer_of (known f.peer inc);
+      base = peer_of (peer_in_life f.peer inc);
       known = known_is f.peer inc f.fresh;
-      view = view_of (followed (Up weighted) (known f.peer inc).heard.keys);
-      taken = (next base.heard.mark number base.heard.keys (Up weighted) none, sym (follows (Up weighted) (known f.peer inc).heard.keys));
-      after = λ i. record (hub_of hub) { peers = peer_set (place server from) (λ peer. told_by (Plus weighted) number (known peer inc)) f.peer hub.peers f.at i };
+      view = view_of (view_with_change (Up weighted) (peer_in_life f.peer inc).heard.keys);
+      taken = (next base.heard.mark number base.heard.keys (Up weighted) none, sym (follows (Up weighted) (peer_in_life f.peer inc).heard.keys));
+      after = λ i. record (hub_of hub) { peers = peer_set (place server from) (λ peer. told_by (Plus weighted) number (peer_in_life peer inc)) f.peer hub.peers f.at i };
     }
 taken_as c server is hub finished from inc to to_inc number (Minus key) f =
-    let base = known f.peer inc in
+    let base = peer_in_life f.peer inc in
     let none = map_none fault_of_interest (change_fault base.heard.mark base.heard.keys number (Gone key)) f.none in record {
       for_me = record { me = f.me_is; my_inc = f.inc_is; other = f.other };
       peer = peer_of f.peer;
       peer_is = get_map peer_of hub.peers (place server from) f.peer f.at;
-      base = peer_of (known f.peer inc);
+      base = peer_of (peer_in_life f.peer inc);
       known = known_is f.peer inc f.fresh;
-      view = view_of (followed (Gone key) (known f.peer inc).heard.keys);
-      taken = (next base.heard.mark number base.heard.keys (Gone key) none, sym (follows (Gone key) (known f.peer inc).heard.keys));
-      after = λ i. record (hub_of hub) { peers = peer_set (place server from) (λ peer. told_by (Minus key) number (known peer inc)) f.peer hub.peers f.at i };
+      view = view_of (view_with_change (Gone key) (peer_in_life f.peer inc).heard.keys);
+      taken = (next base.heard.mark number base.heard.keys (Gone key) none, sym (follows (Gone key) (peer_in_life f.peer inc).heard.keys));
+      after = λ i. record (hub_of hub) { peers = peer_set (place server from) (λ peer. told_by (Minus key) number (peer_in_life peer inc)) f.peer hub.peers f.at i };
     }
 taken_as c server is hub finished from inc to to_inc number (Snapshot keys) f =
-    let base = known f.peer inc in
+    let base = peer_in_life f.peer inc in
     let none = map_none fault_of_interest (snapshot_fault base.heard.mark number keys) f.none in record {
       for_me = record { me = f.me_is; my_inc = f.inc_is; other = f.other };
       peer = peer_of f.peer;
       peer_is = get_map peer_of hub.peers (place server from) f.peer f.at;
-      base = peer_of (known f.peer inc);
+      base = peer_of (peer_in_life f.peer inc);
       known = known_is f.peer inc f.fresh;
       view = view_of keys;
       taken = (lt_false number base.heard.mark (no_cause (nat_lt number base.heard.mark) interest.Late (if nat_lt MAX_KEYS (length keys) then Some interest.TooManyKeys else None) none).0, refl);
-      after = λ i. record (hub_of hub) { peers = peer_set (place server from) (λ peer. told_by (Snapshot keys) number (known peer inc)) f.peer hub.peers f.at i };
+      after = λ i. record (hub_of hub) { peers = peer_set (place server from) (λ peer. told_by (Snapshot keys) number (peer_in_life peer inc)) f.peer hub.peers f.at i };
     }
 taken_as c server is hub finished from inc to to_inc number (Msg content queues) f =
-    let base = known f.peer inc in
+    let base = peer_in_life f.peer inc in
     let late = no_cause (nat_le number base.mark) Late (option_or (busy_fault server hub finished) (if nat_le MAX_COUNTER hub.issued then Some Spent else None)) f.none in (
       record {
         for_me = record { me = f.me_is; my_inc = f.inc_is; other = f.other };
         peer = peer_of f.peer;
         peer_is = get_map peer_of hub.peers (place server from) f.peer f.at;
-        base = peer_of (known f.peer inc);
+        base = peer_of (peer_in_life f.peer inc);
         known = known_is f.peer inc f.fresh;
         above = le_false number base.mark late.0;
-        after = λ i. record (hub_of hub) { peers = peer_set (place server from) (λ peer. told_by (Msg content queues) number (known peer inc)) f.peer hub.peers f.at i };
+        after = λ i. record (hub_of hub) { peers = peer_set (place server from) (λ peer. told_by (Msg content queues) number (peer_in_life peer inc)) f.peer hub.peers f.at i };
       },
       has_room server hub finished (or_none (busy_fault server hub finished) (if nat_le MAX_COUNTER hub.issued then Some Spent else None) late.1).0,
     )
@@ -118,7 +118,7 @@ taken_as c server is hub finished from inc to to_inc number (Msg content queues)
 pub receives_in_law : ReceivesInLaw
 receives_in_law c server hub finished frame is size cause = (
   taken_as c server is hub finished frame.from frame.inc frame.to frame.to_inc frame.number frame.body (from_peer server is hub finished frame cause),
-  changed_length (λ peer. told_by frame.body frame.number (known peer frame.inc)) (place server frame.from) (slice_get hub.peers (place server frame.from)) hub.peers ∙ size,
+  changed_length (λ peer. told_by frame.body frame.number (peer_in_life peer frame.inc)) (place server frame.from) (slice_get hub.peers (place server frame.from)) hub.peers ∙ size,
 )
 
 -- ---- sessions
@@ -129,7 +129,7 @@ meets_in_law server hub q inc peer is size other at fresh = record {
     other = other;
     peer = peer_of peer;
     peer_is = get_map peer_of hub.peers q peer at;
-    base = peer_of (known peer inc);
+    base = peer_of (peer_in_life peer inc);
     known = known_is peer inc fresh;
     after = λ i. record (hub_of hub) { peers = peer_set q comes_up peer hub.peers at i };
   };
@@ -137,7 +137,7 @@ meets_in_law server hub q inc peer is size other at fresh = record {
   peers = changed_length comes_up q (slice_get hub.peers q) hub.peers ∙ size;
 } where
   comes_up : Peer → Peer
-  comes_up peer = record (known peer inc) { up = true; outbox = snapshot_to server hub q inc ∷ [] }
+  comes_up peer = record (peer_in_life peer inc) { up = true; outbox = snapshot_to server hub q inc ∷ [] }
 
 -- ---- what is not seen
 

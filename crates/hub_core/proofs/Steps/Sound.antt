@@ -15,11 +15,11 @@ use Rattle.route_values.specs.declared.bodies.Body.{Body}
 use Rattle.route_values.specs.declared.bodies.Body.TheVariants.{Plus, Minus, Snapshot, Msg}
 use Rattle.route_values.specs.Frames.{Frame}
 use Rattle.hub_core.specs.declared.faults.HubFault.{HubFault}
-use Rattle.hub_core.specs.State.{State, Peer, IsSound, IsSoundAt, known, changed_in, changed_at, unknown_peer}
+use Rattle.hub_core.specs.State.{State, Peer, IsSound, IsSoundAt, peer_in_life, changed_in, changed_at, unknown_peer}
 use Rattle.hub_core.specs.Choice.{is_eligible, names_for}
-use Rattle.hub_core.specs.Publishing.{Publication, is_to, is_owed, names_of, choice_of, frames_from, frames_of, with_frames, published}
+use Rattle.hub_core.specs.Publishing.{Publication, is_to, is_owed, names_of, choice_of, frames_from, frames_of, with_frames, after_publish}
 use Rattle.hub_core.specs.Receiving.{told_by}
-use Rattle.hub_core.specs.Telling.{changes_of, count_of_changes, has_room_for, is_told, body_of, frames_of_change, frames_behind, collect_frames, without_slow, collected}
+use Rattle.hub_core.specs.Telling.{changes_of, count_of_changes, has_room_for, is_told, body_of, frames_of_change, frames_behind, collect_frames, without_slow, after_collect}
 use Rattle.hub_core.specs.Peers.{snapshot_to}
 use Rattle.hub_core.specs.Events.{Event, Publish, Receive, Collect, Up, Cut, TakeFrom, Answer}
 use Rattle.hub_core.specs.Steps.{IsAsked, HubStep, StaysSound, hub_after}
@@ -42,7 +42,7 @@ changed_sound server f q peers sound stays = go (slice_get peers q) refl
 changed_hub : (server : Server) (old : State) (f : Peer → Peer) (q : ℕ) → IsSound server old → ((peer : Peer) → IsSoundAt server q peer → IsSoundAt server q (f peer)) → (length (changed_at f q old.peers) ≡ length server.names) × AllSound server (changed_at f q old.peers)
 changed_hub server old f q sound stays = (changed_length f q (slice_get old.peers q) old.peers ∙ sound.placed, changed_sound server f q old.peers sound.peers stays)
 
-known_sound : (server : Server) (q inc : ℕ) (peer : Peer) → IsSoundAt server q peer → IsSoundAt server q (known peer inc)
+known_sound : (server : Server) (q inc : ℕ) (peer : Peer) → IsSoundAt server q peer → IsSoundAt server q (peer_in_life peer inc)
 known_sound server q inc peer sound = go (nat_lt peer.seen inc)
   where
     go : (b : Bool) → IsSoundAt server q (cond b (record { seen = inc; mark = 0; heard = nothing_heard; up = false; outbox = peer.outbox }) peer)
@@ -56,7 +56,7 @@ told_sound server q number (Snapshot keys) peer sound = record { other = sound.o
 told_sound server q number (Msg content queues) peer sound = record { other = sound.other; seen = sound.seen; room = sound.room }
 
 -- an incarnation from 1 on was seen
-seen_now : (peer : Peer) (inc : ℕ) → 1 ≤ inc → 1 ≤ (known peer inc).seen
+seen_now : (peer : Peer) (inc : ℕ) → 1 ≤ inc → 1 ≤ (peer_in_life peer inc).seen
 seen_now peer inc some = go (nat_lt peer.seen inc) refl
   where
     go : (b : Bool) → nat_lt peer.seen inc ≡ b → 1 ≤ (cond b (record { seen = inc; mark = 0; heard = nothing_heard; up = false; outbox = peer.outbox }) peer).seen
@@ -168,7 +168,7 @@ collect_fits server old deltas is sound q new at =
     subst (λ (peer : Peer). length peer.outbox + length (filter (is_to server q) (collect_frames server old deltas)) ≤ ROUTE_FRAMES) (sym x.2)
     (told_fits server is (count_of_changes old deltas) x.0 (length (filter (is_to server q) (collect_frames server old deltas))) (sound.peers q x.0 x.1).room (changes_few server is (count_of_changes old deltas) old.changed (changes_of old deltas) old.peers sound.placed q x.0 x.1))
 
-collect_sound : (server : Server) (old : State) (deltas : List Delta) → IsListed server → IsSound server old → IsSound server (collected server old deltas)
+collect_sound : (server : Server) (old : State) (deltas : List Delta) → IsListed server → IsSound server old → IsSound server (after_collect server old deltas)
 collect_sound server old deltas is sound = record {
   placed = frames_length server frames 0 (map (without_slow count) old.peers) ∙ map_length (without_slow count) old.peers ∙ sound.placed;
   peers = put_sound server frames (map (without_slow count) old.peers) (slow_sound server is count old.peers sound.peers) (collect_fits server old deltas is sound);
@@ -186,7 +186,7 @@ changes_listed server is count number (change ∷ changes) peers placed = All-ap
     (subst (λ (frames : List Frame). All (λ (frame : Frame). place server frame.to < length server.names) frames) (sym (walked_change server is count (number + 1) change 0 peers)) (all_listed server is (λ q peer. is_told count peer) (change_to server is count (number + 1) change) (λ q peer. refl) 0 peers (omega arith)))
     (changes_listed server is count (number + 1) changes peers placed)
 
-publish_sound : (server : Server) (old : State) (p : Publication) → IsListed server → IsSound server old → IsSound server (published server old p)
+publish_sound : (server : Server) (old : State) (p : Publication) → IsListed server → IsSound server old → IsSound server (after_publish server old p)
 publish_sound server old p is sound = record {
   placed = frames_length server (frames_of server old p) 0 old.peers ∙ sound.placed;
   peers = put_sound server (frames_of server old p) old.peers sound.peers (frames_fit server is (old.published + 1) p.said.message (choice_of server old p) (names_of server old p) old.peers sound.placed sound.peers);
@@ -198,11 +198,11 @@ pub after_sound : (server : Server) (old : State) (event : Event) → IsListed s
 after_sound server old (Publish p finished) is sound asked = publish_sound server old p is sound
 after_sound server old (Receive frame finished) is sound asked =
     let q = place server frame.from in
-    let c = changed_hub server old (λ peer. told_by frame.body frame.number (known peer frame.inc)) q sound (λ peer at. told_sound server q frame.number frame.body (known peer frame.inc) (known_sound server q frame.inc peer at)) in
+    let c = changed_hub server old (λ peer. told_by frame.body frame.number (peer_in_life peer frame.inc)) q sound (λ peer at. told_sound server q frame.number frame.body (peer_in_life peer frame.inc) (known_sound server q frame.inc peer at)) in
     record { placed = c.0; peers = c.1 }
 after_sound server old (Collect shard deltas) is sound asked = collect_sound server old deltas is sound
 after_sound server old (Up q inc) is sound asked =
-    let c = changed_hub server old (λ peer. record (known peer inc) { up = true; outbox = snapshot_to server old q inc ∷ [] }) q sound (λ peer at. record { other = λ e. not_own server q asked.other; seen = λ e. seen_now peer inc asked.first; room = lit≤ tt }) in
+    let c = changed_hub server old (λ peer. record (peer_in_life peer inc) { up = true; outbox = snapshot_to server old q inc ∷ [] }) q sound (λ peer at. record { other = λ e. not_own server q asked.other; seen = λ e. seen_now peer inc asked.first; room = lit≤ tt }) in
     record { placed = c.0; peers = c.1 }
 after_sound server old (Cut q) is sound asked =
     let c = changed_hub server old (λ peer. record peer { up = false }) q sound (λ peer at. record { other = λ e. absurd (true≢false (sym e)); seen = λ e. absurd (true≢false (sym e)); room = at.room }) in

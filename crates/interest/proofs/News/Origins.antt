@@ -7,15 +7,15 @@ use Rattle.std.proofs.lemmas.Option.{none-some, same_Some, slice_get_within}
 use Rattle.interest.specs.declared.changes.Change.{Change}
 use Rattle.interest.specs.declared.faults.InterestFault.{InterestFault}
 use Rattle.interest.specs.declared.faults.InterestFault.TheVariants.{Late, Gap}
-use Rattle.interest.specs.Views.{View, followed, view_after, view_at, follow_fault}
+use Rattle.interest.specs.Views.{View, view_with_change, view_after, view_at, follow_fault}
 use Rattle.interest.specs.Heard.{Heard, News, Changed, Whole, nothing_heard, news_fault, heard_after, heard_of, heard_all}
 use Rattle.interest.specs.Laws.{IsNewsOf, ViewsAreOfOrigin}
 
 -- one change more
-more : (changes : List Change) (count : ℕ) (change : Change) (view : View) → slice_get changes count ≡ Some change → view_after (take (suc count) changes) view ≡ followed change (view_after (take count changes) view)
+more : (changes : List Change) (count : ℕ) (change : Change) (view : View) → slice_get changes count ≡ Some change → view_after (take (suc count) changes) view ≡ view_with_change change (view_after (take count changes) view)
 more [] count change view at = absurd (none-some change at)
-more (c ∷ cs) zero change view at = ap (λ c. followed c view) (same_Some c change at)
-more (c ∷ cs) (suc count) change view at = more cs count change (followed c view) at
+more (c ∷ cs) zero change view at = ap (λ c. view_with_change c view) (same_Some c change at)
+more (c ∷ cs) (suc count) change view at = more cs count change (view_with_change c view) at
 
 -- what a view keeps
 record IsOf (changes : List Change) (heard : Heard) : Type 0 where
@@ -38,7 +38,7 @@ after changes heard (Changed number change) is made taken =
     let at : slice_get changes heard.mark ≡ Some change = ap (slice_get changes) (sym before) ∙ made in
     let below = slice_get_within changes heard.mark change at in record {
       most = omega arith;
-      keys = ap (followed change) is.keys ∙ sym (more changes heard.mark change [] at) ∙ ap (λ n. view_at changes n) (sym next);
+      keys = ap (view_with_change change) is.keys ∙ sym (more changes heard.mark change [] at) ∙ ap (λ n. view_at changes n) (sym next);
     }
 after changes heard (Whole number keys) is made taken = record { most = made.0; keys = made.1 }
 

@@ -24,7 +24,7 @@ use Rattle.node_law.specs.declared.events.ConnEvent.{ConnEvent}
 use Rattle.node_law.specs.declared.events.ConnEvent.TheVariants.{Reply, Take}
 use Rattle.node_law.specs.declared.events.ShardWork.TheVariants.{Attach, Begin, Claim}
 use Rattle.node_law.specs.Events.{OfConn, AtShard, Own}
-use Rattle.node_core.specs.Served.{Served, ConnStep, WorkStep, answer_at, refusal, started}
+use Rattle.node_core.specs.Served.{Served, ConnStep, WorkStep, answer_at, refusal, new_server}
 use Rattle.node_law.specs.Steps.{conn_line, conn_event, begin_of, event_refusal}
 use Rattle.node_core.specs.TakesBytes.{TakesBytes}
 use Rattle.mesh_pipe.specs.PipeText.{at_rest, at_first}
@@ -82,10 +82,10 @@ opens_not old new conn event why told serving is refused tells same =
 
 -- ---- the start
 
-started_serving : IsServing (started pipe_server)
+started_serving : IsServing (new_server pipe_server)
 started_serving = record { server = refl; line = refl; alone = refl; published = refl; changed = omega arith; opened = omega arith; ran = ([], refl) }
 
-pub cannot_attach : (s : Served) (why : NodeFault) → s ≡ started pipe_server → refusal s (Own (AtShard 1 Attach)) ≡ Some why → ⊥
+pub cannot_attach : (s : Served) (why : NodeFault) → s ≡ new_server pipe_server → refusal s (Own (AtShard 1 Attach)) ≡ Some why → ⊥
 cannot_attach s why is refused = none-some why (sym (ap (λ (t : Served). refusal t (Own (AtShard 1 Attach))) is) ∙ refused)
 
 pub record IsFirst (node : Served) : Type 0 where
@@ -93,7 +93,7 @@ pub record IsFirst (node : Served) : Type 0 where
   pub shard : shard_in node ≡ at_rest at_first
   pub waiting : waiting_in node ≡ []
 
-pub attaches : (old new : Served) (answer : of_shard.Answer) → old ≡ started pipe_server → WorkStep old 1 Attach false answer new → IsFirst new
+pub attaches : (old new : Served) (answer : of_shard.Answer) → old ≡ new_server pipe_server → WorkStep old 1 Attach false answer new → IsFirst new
 attaches old new answer is does =
     let serving : IsServing old = subst IsServing (sym is) started_serving in
     let w = works old new Attach false of_shard.Attach serving refl refl does.step in

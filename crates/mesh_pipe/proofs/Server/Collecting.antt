@@ -13,7 +13,7 @@ use Rattle.hub_core.specs.State as hub
 use Rattle.hub_core.specs.State.{Peer, unknown_peer}
 use Rattle.hub_core.specs.declared.faults.HubFault.TheVariants.{BadInterest, Spent}
 use Rattle.hub_core.specs.Publishing.{with_frames}
-use Rattle.hub_core.specs.Telling.{count_of_changes, changes_of, collect_refusal, collected, frames_behind, without_slow}
+use Rattle.hub_core.specs.Telling.{count_of_changes, changes_of, collect_refusal, after_collect, frames_behind, without_slow}
 use Rattle.shard_core.specs.ShardEvents as of_shard
 use Rattle.node_law.specs.declared.faults.NodeFault.{NodeFault}
 use Rattle.node_law.specs.declared.faults.NodeFault.TheVariants.{Hub}
@@ -39,7 +39,7 @@ no_frames : (count number : ℕ) (changes : List Change) → frames_behind pipe_
 no_frames count number [] = refl
 no_frames count number (c ∷ cs) = no_frames count (number + 1) cs
 
-still_alone : (h : hub.State) (ds : List Delta) → h.peers ≡ unknown_peer ∷ [] → (collected pipe_server h ds).peers ≡ unknown_peer ∷ []
+still_alone : (h : hub.State) (ds : List Delta) → h.peers ≡ unknown_peer ∷ [] → (after_collect pipe_server h ds).peers ≡ unknown_peer ∷ []
 still_alone h ds alone =
     let n = count_of_changes h ds in
     ap (λ (ps : List Peer). with_frames pipe_server (frames_behind pipe_server n h.changed (changes_of h ds) ps) 0 (map (without_slow n) ps)) alone
@@ -101,5 +101,5 @@ collect_steps old new serving does = record {
     here : line_in new ≡ line_after of_shard.Collect (line_in old)
     here = ap first_line lines
 
-    hub_is : new.node.hub ≡ collected pipe_server old.node.hub ds
-    hub_is = ap (λ (a : Node). a.hub) does.step.after ∙ ap (λ (server : Server). collected server old.node.hub (deltas_at (shard_line old.node 1))) serving.server ∙ ap (λ (o : Option Line). collected pipe_server old.node.hub (deltas_at o)) (shard_there old serving)
+    hub_is : new.node.hub ≡ after_collect pipe_server old.node.hub ds
+    hub_is = ap (λ (a : Node). a.hub) does.step.after ∙ ap (λ (server : Server). after_collect server old.node.hub (deltas_at (shard_line old.node 1))) serving.server ∙ ap (λ (o : Option Line). after_collect pipe_server old.node.hub (deltas_at o)) (shard_there old serving)

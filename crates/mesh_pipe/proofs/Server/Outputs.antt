@@ -13,12 +13,12 @@ use Rattle.outbox.specs.Views.{Written, Backlog, reply_entry, with_entry, with_l
 use Rattle.subj.specs.QueueNames.{is_named}
 use Rattle.sub_table.specs.Subscriptions.{with_max}
 use Rattle.sub_table.specs.declared.Subscription.{Subscription}
-use Rattle.shard_core.specs.Owed.{Walk, walk, walked, put_one, shut_slow, is_due, is_wanted, is_candidate, due_entry, slow_consumer, candidate_of, candidate_named, claimed, tried, placed_one, give, first_step}
-use Rattle.shard_core.specs.Closings.{without}
+use Rattle.shard_core.specs.Owed.{Walk, walk, whole_walk, walk_after_put, walk_with_shut, is_due, is_wanted, is_candidate, due_entry, slow_consumer, candidate_of, candidate_named, after_claim, after_try, after_put, walk_with_entry, first_step}
+use Rattle.shard_core.specs.Closings.{without_subs}
 use Rattle.shard_core.specs.ShardEvents.{Take, Begin, Claim, Collect}
-use Rattle.shard_core.specs.ShardSteps.{new_client, shard_after, was_shut, subscribed, unsubscribed, ended_now, done_with}
-use Rattle.shard_core.specs.Shards.{State, Client, client_at, is_open, is_known, changed, fits, with_outbox, takes_events, waits_for}
-use Rattle.mesh_pipe.specs.PipeText.{Served, at_rest, served_by, output_of, claimed_first, worked_off}
+use Rattle.shard_core.specs.ShardSteps.{new_client, shard_after, was_shut, after_subscribe, after_unsubscribe, ended_now, done_with}
+use Rattle.shard_core.specs.Shards.{State, Client, client_at, is_open, is_known, clients_with_change, fits, with_outbox, takes_events, waits_for}
+use Rattle.mesh_pipe.specs.PipeText.{Served, at_rest, served_by, output_of, after_claims, after_job}
 use Rattle.mesh_pipe.specs.PipeServing.{all_entries, waiting_bytes, has_any}
 
 -- the connection, for which these entries wait
@@ -57,7 +57,7 @@ behind_take t entries shut alone = record {
   shard = alone.shard;
   shards = alone.shards;
   next = alone.next;
-  clients = ap (changed (without_first all_entries) 1) alone.clients ∙ ap (λ (rest : List Written). one rest shut ∷ []) (drops_all entries alone.few);
+  clients = ap (clients_with_change (without_first all_entries) 1) alone.clients ∙ ap (λ (rest : List Written). one rest shut ∷ []) (drops_all entries alone.few);
   few = omega arith;
 }
 
@@ -102,13 +102,13 @@ settled_at_rest t s is = record { hand = ap (λ (u : State). u.hand) is; index =
 -- ---- lines
 
 -- the connection with a change to what waits for it
-on_one : (t u : State) (entries more : List Written) (shut after : Bool) (change : Backlog → Backlog) → IsAlone t entries shut → u.shard ≡ t.shard → u.shards ≡ t.shards → u.next_conn ≡ t.next_conn → u.clients ≡ changed change 1 t.clients
+on_one : (t u : State) (entries more : List Written) (shut after : Bool) (change : Backlog → Backlog) → IsAlone t entries shut → u.shard ≡ t.shard → u.shards ≡ t.shards → u.next_conn ≡ t.next_conn → u.clients ≡ clients_with_change change 1 t.clients
     → change (record { entries = entries; shut = shut }) ≡ record { entries = more; shut = after } → length more ≤ OUTBOX_ENTRIES + 1 → IsAlone u more after
 on_one t u entries more shut after change alone shard shards next clients is few = record {
   shard = shard ∙ alone.shard;
   shards = shards ∙ alone.shards;
   next = next ∙ alone.next;
-  clients = clients ∙ ap (changed change 1) alone.clients ∙ ap (λ (s : Backlog). (record (new_client 1) { outbox = s }) ∷ []) is;
+  clients = clients ∙ ap (clients_with_change change 1) alone.clients ∙ ap (λ (s : Backlog). (record (new_client 1) { outbox = s }) ∷ []) is;
   few = few;
 }
 
@@ -121,10 +121,10 @@ pub record IsReplied (t u : State) (shut : Bool) : Type 0 where
   pub alone : IsAlone u entries shut
   pub settled : shut ≡ false → IsSettled t → IsSettled u
 
-pub replied_alone : (t : State) (line : List ℕ) (fit : Bool) → IsAlone t [] false → IsReplied t (cond fit (record t { clients = changed (with_entry (reply_entry line)) 1 t.clients }) (was_shut t 1 slow_consumer)) (not fit)
+pub replied_alone : (t : State) (line : List ℕ) (fit : Bool) → IsAlone t [] false → IsReplied t (cond fit (record t { clients = clients_with_change (with_entry (reply_entry line)) 1 t.clients }) (was_shut t 1 slow_consumer)) (not fit)
 replied_alone t line true alone = record {
   entries = reply_entry line ∷ [];
-  alone = on_one t (record t { clients = changed (with_entry (reply_entry line)) 1 t.clients }) [] (reply_entry line ∷ []) false false (with_entry (reply_entry line)) alone refl refl refl refl refl (omega arith);
+  alone = on_one t (record t { clients = clients_with_change (with_entry (reply_entry line)) 1 t.clients }) [] (reply_entry line ∷ []) false false (with_entry (reply_entry line)) alone refl refl refl refl refl (omega arith);
   settled = λ kept s. record { hand = s.hand; index = s.index; deltas = s.deltas };
 }
 replied_alone t line false alone = record { entries = reply_entry slow_consumer ∷ []; alone = behind_shut t slow_consumer alone; settled = λ shut s. absurd (true≢false shut) }
@@ -145,15 +145,15 @@ pub record IsQuiet (t u : State) : Type 0 where
 quiet : (t : State) → IsQuiet t t
 quiet t = record { shard = refl; shards = refl; next = refl; clients = refl; hand = refl; index = refl }
 
-pub subscribe_quiet : (t : State) (sub : Subscription) (o : Option Subscription) → IsQuiet t (subscribed t sub o)
+pub subscribe_quiet : (t : State) (sub : Subscription) (o : Option Subscription) → IsQuiet t (after_subscribe t sub o)
 subscribe_quiet t sub None = record { shard = refl; shards = refl; next = refl; clients = refl; hand = refl; index = refl }
 subscribe_quiet t sub (Some same) = quiet t
 
-pub unsubscribe_quiet : (t : State) (max : Option ℕ) (o : Option Subscription) → IsQuiet t (unsubscribed t max o)
+pub unsubscribe_quiet : (t : State) (max : Option ℕ) (o : Option Subscription) → IsQuiet t (after_unsubscribe t max o)
 unsubscribe_quiet t max None = quiet t
 unsubscribe_quiet t max (Some sub) = go (ended_now max sub)
   where
-    go : (b : Bool) → IsQuiet t (cond b (without (sub.serial ∷ []) t) (record t { subs = with_max sub.serial max t.subs }))
+    go : (b : Bool) → IsQuiet t (cond b (without_subs (sub.serial ∷ []) t) (record t { subs = with_max sub.serial max t.subs }))
     go true = record { shard = refl; shards = refl; next = refl; clients = refl; hand = refl; index = refl }
     go false = record { shard = refl; shards = refl; next = refl; clients = refl; hand = refl; index = refl }
 
@@ -196,7 +196,7 @@ fits_here conn entries shut entry is = go (nat_eq 1 conn) refl is
         record { at = record { here = e; still = not_so shut parts.0 }; room = ltb-true _ _ limits.0 }
     go false e f = absurd (true≢false (sym f))
 
-changed_here : (conn : ℕ) (entries : List Written) (shut : Bool) (change : Backlog → Backlog) → nat_eq 1 conn ≡ true → changed change conn (one entries shut ∷ []) ≡ with_outbox change (one entries shut) ∷ []
+changed_here : (conn : ℕ) (entries : List Written) (shut : Bool) (change : Backlog → Backlog) → nat_eq 1 conn ≡ true → clients_with_change change conn (one entries shut ∷ []) ≡ with_outbox change (one entries shut) ∷ []
 changed_here conn entries shut change here = ap (λ b. cond b (with_outbox change (one entries shut) ∷ []) (one entries shut ∷ [])) here
 
 -- ---- a walk
@@ -206,46 +206,46 @@ pub data Walked (w : Walk) : Type 0 where
   shut_since : (entries : List Written) → w.clients ≡ one entries true ∷ [] → has_any w.shut ≡ true → length entries ≤ OUTBOX_ENTRIES + 1 → Walked w
 
 put_if : (s : State) (job : Job) (w : Walk) (sub : Subscription) (o r : Bool) → is_open sub.conn w.clients ≡ o → fits (client_at sub.conn w.clients) (due_entry s.shard job None sub) ≡ r
-    → put_one s job w sub ≡ cond o (cond r (give (due_entry s.shard job None sub) sub w) (shut_slow s.subs sub.conn w)) w
-put_if s job w sub o r e f = λ k. cond (e k) (cond (f k) (give (due_entry s.shard job None sub) sub w) (shut_slow s.subs sub.conn w)) w
+    → walk_after_put s job w sub ≡ cond o (cond r (walk_with_entry (due_entry s.shard job None sub) sub w) (walk_with_shut s.subs sub.conn w)) w
+put_if s job w sub o r e f = λ k. cond (e k) (cond (f k) (walk_with_entry (due_entry s.shard job None sub) sub w) (walk_with_shut s.subs sub.conn w)) w
 
 put_open : (s : State) (job : Job) (w : Walk) (sub : Subscription) (entries : List Written) → w.clients ≡ one entries false ∷ [] → w.shut ≡ [] → length entries ≤ OUTBOX_ENTRIES
-    → (o : Bool) → is_open sub.conn w.clients ≡ o → (r : Bool) → fits (client_at sub.conn w.clients) (due_entry s.shard job None sub) ≡ r → Walked (put_one s job w sub)
+    → (o : Bool) → is_open sub.conn w.clients ≡ o → (r : Bool) → fits (client_at sub.conn w.clients) (due_entry s.shard job None sub) ≡ r → Walked (walk_after_put s job w sub)
 put_open s job w sub entries is none few false e r f = subst Walked (sym (put_if s job w sub false r e f)) (open_still entries is none few)
 put_open s job w sub entries is none few true e true f =
     let entry = due_entry s.shard job None sub in
     let room = fits_here sub.conn entries false entry (ap (λ (cs : List Client). fits (client_at sub.conn cs) (due_entry s.shard job None sub)) (sym is) ∙ f) in
     subst Walked (sym (put_if s job w sub true true e f))
-    (open_still (entries ++ entry ∷ []) (ap (changed (with_entry entry) sub.conn) is ∙ changed_here sub.conn entries false (with_entry entry) room.at.here) none (let more = length-append entries (entry ∷ []) in let below = room.room in omega (arith, more, below)))
+    (open_still (entries ++ entry ∷ []) (ap (clients_with_change (with_entry entry) sub.conn) is ∙ changed_here sub.conn entries false (with_entry entry) room.at.here) none (let more = length-append entries (entry ∷ []) in let below = room.room in omega (arith, more, below)))
 put_open s job w sub entries is none few true e false f =
     let here = open_here sub.conn entries false (ap (is_open sub.conn) (sym is) ∙ e) in
     subst Walked (sym (put_if s job w sub true false e f))
-    (shut_since (entries ++ reply_entry slow_consumer ∷ []) (ap (changed (with_last slow_consumer) sub.conn) is ∙ changed_here sub.conn entries false (with_last slow_consumer) here.here)
+    (shut_since (entries ++ reply_entry slow_consumer ∷ []) (ap (clients_with_change (with_last slow_consumer) sub.conn) is ∙ changed_here sub.conn entries false (with_last slow_consumer) here.here)
     (ap (λ (l : List ℕ). has_any (l ++ sub.conn ∷ [])) none) (let more = length-append entries (reply_entry slow_consumer ∷ []) in omega (arith, more, few)))
 
 put_shut : (s : State) (job : Job) (w : Walk) (sub : Subscription) (entries : List Written) → w.clients ≡ one entries true ∷ [] → has_any w.shut ≡ true → length entries ≤ OUTBOX_ENTRIES + 1
-    → (o : Bool) → is_open sub.conn w.clients ≡ o → (r : Bool) → fits (client_at sub.conn w.clients) (due_entry s.shard job None sub) ≡ r → Walked (put_one s job w sub)
+    → (o : Bool) → is_open sub.conn w.clients ≡ o → (r : Bool) → fits (client_at sub.conn w.clients) (due_entry s.shard job None sub) ≡ r → Walked (walk_after_put s job w sub)
 put_shut s job w sub entries is some few false e r f = subst Walked (sym (put_if s job w sub false r e f)) (shut_since entries is some few)
 put_shut s job w sub entries is some few true e r f = absurd (true≢false ((open_here sub.conn entries true (ap (is_open sub.conn) (sym is) ∙ e)).still))
 
-step_walked : (s : State) (job : Job) (w : Walk) (sub : Subscription) → Walked w → Walked (put_one s job w sub)
+step_walked : (s : State) (job : Job) (w : Walk) (sub : Subscription) → Walked w → Walked (walk_after_put s job w sub)
 step_walked s job w sub (open_still entries is none few) = put_open s job w sub entries is none few (is_open sub.conn w.clients) refl (fits (client_at sub.conn w.clients) (due_entry s.shard job None sub)) refl
 step_walked s job w sub (shut_since entries is some few) = put_shut s job w sub entries is some few (is_open sub.conn w.clients) refl (fits (client_at sub.conn w.clients) (due_entry s.shard job None sub)) refl
 
 all_walked : (s : State) (job : Job) (subs : List Subscription) (w : Walk) → Walked w → Walked (walk s job subs w)
 all_walked s job [] w so_far = so_far
-all_walked s job (sub ∷ subs) w so_far = all_walked s job subs (put_one s job w sub) (step_walked s job w sub so_far)
+all_walked s job (sub ∷ subs) w so_far = all_walked s job subs (walk_after_put s job w sub) (step_walked s job w sub so_far)
 
 -- the connection alone, with some entries
 pub record IsStill (t : State) (shut : Bool) : Type 0 where
   pub entries : List Written
   pub alone : IsAlone t entries shut
 
-begun_by : (t : State) (job : Job) → IsAlone t [] false → Walked (walked t job) → IsStill (shard_after t (Begin job)) (has_any (walked t job).shut)
+begun_by : (t : State) (job : Job) → IsAlone t [] false → Walked (whole_walk t job) → IsStill (shard_after t (Begin job)) (has_any (whole_walk t job).shut)
 begun_by t job alone (open_still entries is none few) = subst (IsStill (shard_after t (Begin job))) (sym (ap has_any none)) (record { entries = entries; alone = record { shard = alone.shard; shards = alone.shards; next = alone.next; clients = is; few = omega (arith, few) } })
 begun_by t job alone (shut_since entries is some few) = subst (IsStill (shard_after t (Begin job))) (sym some) (record { entries = entries; alone = record { shard = alone.shard; shards = alone.shards; next = alone.next; clients = is; few = few } })
 
-pub begun_still : (t : State) (job : Job) → IsAlone t [] false → IsStill (shard_after t (Begin job)) (has_any (walked t job).shut)
+pub begun_still : (t : State) (job : Job) → IsAlone t [] false → IsStill (shard_after t (Begin job)) (has_any (whole_walk t job).shut)
 begun_still t job alone = begun_by t job alone (all_walked t job (filter (is_due job) t.subs) (first_step t.clients) (open_still [] alone.clients refl (omega arith)))
 
 -- ---- claims
@@ -260,7 +260,7 @@ candidate_fits t job (Some name) sub is =
 claim_still : (t : State) (n : ℕ) (shut : Bool) → IsStill t shut → IsStill (shard_after t (Claim n true)) shut
 claim_still t n shut still = go t.hand refl (candidate_of t t.hand n) refl
   where
-    placed : (job : Job) (sub : Subscription) → HasRoom sub.conn still.entries shut → IsStill (placed_one (tried t) job sub) shut
+    placed : (job : Job) (sub : Subscription) → HasRoom sub.conn still.entries shut → IsStill (after_put (after_try t) job sub) shut
     placed job sub room =
         let entry = due_entry t.shard job sub.key.queue sub in
         record {
@@ -269,42 +269,42 @@ claim_still t n shut still = go t.hand refl (candidate_of t t.hand n) refl
             shard = still.alone.shard;
             shards = still.alone.shards;
             next = still.alone.next;
-            clients = ap (changed (with_entry entry) sub.conn) still.alone.clients ∙ changed_here sub.conn still.entries shut (with_entry entry) room.at.here;
+            clients = ap (clients_with_change (with_entry entry) sub.conn) still.alone.clients ∙ changed_here sub.conn still.entries shut (with_entry entry) room.at.here;
             few = let more = length-append still.entries (entry ∷ []) in let below = room.room in omega (arith, more, below);
           };
         }
 
-    go : (hand : Option Job) → t.hand ≡ hand → (sub : Option Subscription) → candidate_of t t.hand n ≡ sub → IsStill (claimed t t.hand (candidate_of t t.hand n) true) shut
-    go None e sub f = subst (λ (h : Option Job). IsStill (claimed t h (candidate_of t t.hand n) true) shut) (sym e) still
-    go (Some job) e None f = subst (λ (h : Option Job). IsStill (claimed t h (candidate_of t t.hand n) true) shut) (sym e) (subst (λ c. IsStill (claimed t (Some job) c true) shut) (sym f) (record { entries = still.entries; alone = same_alone t (tried t) still.entries shut still.alone refl refl refl refl }))
+    go : (hand : Option Job) → t.hand ≡ hand → (sub : Option Subscription) → candidate_of t t.hand n ≡ sub → IsStill (after_claim t t.hand (candidate_of t t.hand n) true) shut
+    go None e sub f = subst (λ (h : Option Job). IsStill (after_claim t h (candidate_of t t.hand n) true) shut) (sym e) still
+    go (Some job) e None f = subst (λ (h : Option Job). IsStill (after_claim t h (candidate_of t t.hand n) true) shut) (sym e) (subst (λ c. IsStill (after_claim t (Some job) c true) shut) (sym f) (record { entries = still.entries; alone = same_alone t (after_try t) still.entries shut still.alone refl refl refl refl }))
     go (Some job) e (Some sub) f =
         let found = candidate_fits t job (slice_get job.queues n) sub (ap (λ (h : Option Job). candidate_of t h n) (sym e) ∙ f) in
         let room = fits_here sub.conn still.entries shut found.0 (ap (λ (cs : List Client). fits (client_at sub.conn cs) found.0) (sym still.alone.clients) ∙ found.1) in
-        subst (λ (h : Option Job). IsStill (claimed t h (candidate_of t t.hand n) true) shut) (sym e) (subst (λ c. IsStill (claimed t (Some job) c true) shut) (sym f) (placed job sub room))
+        subst (λ (h : Option Job). IsStill (after_claim t h (candidate_of t t.hand n) true) shut) (sym e) (subst (λ c. IsStill (after_claim t (Some job) c true) shut) (sym f) (placed job sub room))
 
-pub claimed_still : (n : ℕ) (t : State) (shut : Bool) → IsStill t shut → IsStill (claimed_first n t) shut
+pub claimed_still : (n : ℕ) (t : State) (shut : Bool) → IsStill t shut → IsStill (after_claims n t) shut
 claimed_still zero t shut still = still
-claimed_still (suc n) t shut still = claim_still (claimed_first n t) n shut (claimed_still n t shut still)
+claimed_still (suc n) t shut still = claim_still (after_claims n t) n shut (claimed_still n t shut still)
 
-claim_hand : (t : State) (hand : Option Job) (sub : Option Subscription) → (claimed t hand sub true).hand ≡ t.hand
+claim_hand : (t : State) (hand : Option Job) (sub : Option Subscription) → (after_claim t hand sub true).hand ≡ t.hand
 claim_hand t None sub = refl
 claim_hand t (Some job) None = refl
 claim_hand t (Some job) (Some sub) = refl
 
-pub claimed_hand : (n : ℕ) (t : State) → (claimed_first n t).hand ≡ t.hand
+pub claimed_hand : (n : ℕ) (t : State) → (after_claims n t).hand ≡ t.hand
 claimed_hand zero t = refl
-claimed_hand (suc n) t = let u = claimed_first n t in claim_hand u u.hand (candidate_of u u.hand n) ∙ claimed_hand n t
+claimed_hand (suc n) t = let u = after_claims n t in claim_hand u u.hand (candidate_of u u.hand n) ∙ claimed_hand n t
 
-claim_index : (t : State) (job : Job) (sub : Option Subscription) → (claimed t (Some job) sub true).next_index ≡ t.next_index + 1
+claim_index : (t : State) (job : Job) (sub : Option Subscription) → (after_claim t (Some job) sub true).next_index ≡ t.next_index + 1
 claim_index t job None = refl
 claim_index t job (Some sub) = refl
 
-pub claimed_index : (n : ℕ) (t : State) (job : Job) → t.hand ≡ Some job → t.next_index ≡ 0 → (claimed_first n t).next_index ≡ n
+pub claimed_index : (n : ℕ) (t : State) (job : Job) → t.hand ≡ Some job → t.next_index ≡ 0 → (after_claims n t).next_index ≡ n
 claimed_index zero t job hand none = none
 claimed_index (suc n) t job hand none =
-    let u = claimed_first n t in
+    let u = after_claims n t in
     let at = claimed_index n t job hand none in
-    ap (λ (h : Option Job). (claimed u h (candidate_of u u.hand n) true).next_index) (claimed_hand n t ∙ hand) ∙ claim_index u job (candidate_of u u.hand n) ∙ (omega (arith, at))
+    ap (λ (h : Option Job). (after_claim u h (candidate_of u u.hand n) true).next_index) (claimed_hand n t ∙ hand) ∙ claim_index u job (candidate_of u u.hand n) ∙ (omega (arith, at))
 
 -- ---- End
 
@@ -312,14 +312,14 @@ end_still : (t : State) (hand : Option Job) (shut : Bool) → IsStill t shut →
 end_still t None shut still = still
 end_still t (Some job) shut still = record { entries = still.entries; alone = same_alone t (done_with t (Some job)) still.entries shut still.alone refl refl refl refl }
 
-pub worked_still : (job : Job) (t : State) → IsAlone t [] false → IsStill (worked_off job t) (has_any (walked t job).shut)
+pub worked_still : (job : Job) (t : State) → IsAlone t [] false → IsStill (after_job job t) (has_any (whole_walk t job).shut)
 worked_still job t alone =
-    let u = claimed_first (length job.queues) (shard_after t (Begin job)) in
-    end_still u u.hand (has_any (walked t job).shut) (claimed_still (length job.queues) (shard_after t (Begin job)) (has_any (walked t job).shut) (begun_still t job alone))
+    let u = after_claims (length job.queues) (shard_after t (Begin job)) in
+    end_still u u.hand (has_any (whole_walk t job).shut) (claimed_still (length job.queues) (shard_after t (Begin job)) (has_any (whole_walk t job).shut) (begun_still t job alone))
 
 -- nothing is in hand behind it
-pub worked_done : (job : Job) (t : State) → ((worked_off job t).hand ≡ None) × ((worked_off job t).next_index ≡ 0)
+pub worked_done : (job : Job) (t : State) → ((after_job job t).hand ≡ None) × ((after_job job t).next_index ≡ 0)
 worked_done job t =
-    let u = claimed_first (length job.queues) (shard_after t (Begin job)) in
+    let u = after_claims (length job.queues) (shard_after t (Begin job)) in
     let hand : u.hand ≡ Some job = claimed_hand (length job.queues) (shard_after t (Begin job)) in
     (ap (λ (h : Option Job). (done_with u h).hand) hand, ap (λ (h : Option Job). (done_with u h).next_index) hand)

@@ -10,7 +10,7 @@ use Rattle.subj.specs.Servers.{Server, own_name}
 use Rattle.subj.specs.declared.jobs.Job.{Job}
 use Rattle.subj.specs.declared.keys.Key.{Key}
 use Rattle.subj.specs.declared.limits.TheConstants.{MAX_COUNTER, MAX_QUEUE_NAMES, MAX_SERIAL, WINDOW}
-use Rattle.pick.specs.Pick.{units, picked}
+use Rattle.pick.specs.Pick.{units, pick_of}
 use Rattle.claim_race.specs.Race.{RaceState, IsIssued, busy_of, busy_at, is_behind, winner}
 use Rattle.client_conn.specs.declared.ask.Refusal.TheVariants as refusal
 use Rattle.interest.specs.Matches.{names_in, weight_in}
@@ -22,7 +22,7 @@ use Rattle.hub_core.specs.declared.faults.HubFault.{HubFault}
 use Rattle.hub_core.specs.declared.faults.HubFault.TheVariants as hub_fault
 use Rattle.hub_core.specs.State.{Peer}
 use Rattle.hub_core.specs.Choice.{names_for, names_from, weights_from}
-use Rattle.hub_core.specs.Publishing.{Publication, names_of, choice_of, publish_fault, publish_refusal, own_job, frames_from, with_frames, published}
+use Rattle.hub_core.specs.Publishing.{Publication, names_of, choice_of, publish_fault, publish_refusal, own_job, frames_from, with_frames, after_publish}
 use Rattle.hub_core.specs.Wanted.{NamesAreWanted}
 use Rattle.shard_core.specs.Lines.{begun_turn, Turns}
 use Rattle.node_law.specs.declared.faults.NodeFault.TheVariants.{Hub}
@@ -31,7 +31,7 @@ use Rattle.node_law.specs.Events.{Publish, Own}
 use Rattle.node_core.specs.Served.{Served, DoesStep}
 use Rattle.node_core.specs.Served as of_node
 use Rattle.node_law.specs.State.{Line, Node, finished_turns}
-use Rattle.node_law.specs.Steps.{queued, node_refusal}
+use Rattle.node_law.specs.Steps.{line_with_job, node_refusal}
 use Rattle.mesh_pipe.specs.PipeText.{names_wanted, job_of, served_by}
 use Rattle.mesh_pipe.specs.PipeServing.{pipe_server, first_line, line_in, shard_in, waiting_in, refusal_of, placing_refused, IsServing, HasIssued}
 use Rattle.mesh_pipe.proofs.Server.Alone.{listed, sound, sound_line, run_more}
@@ -70,7 +70,7 @@ names_are wanted law s p at =
     ap (λ (ps : List Peer). names_from pipe_server p.said.message.subject 0 ps (names_in p.said.message.subject s.node.hub.counts [])) at.serving.alone
     ∙ names_are_open wanted p.said.message.subject (shard_in s).subs s.node.hub.counts (counts_of law s at)
 
-only_pick : (name : List ℕ) (w : ℕ) → 1 ≤ w → picked ((name, w) ∷ []) 0 ≡ Some name
+only_pick : (name : List ℕ) (w : ℕ) → 1 ≤ w → pick_of ((name, w) ∷ []) 0 ≡ Some name
 only_pick name zero some = absurd (omega (arith, some))
 only_pick name (suc w) some = let above : 0 < suc (length (replicate w name ++ [])) = omega arith in ap (slice_get (units ((name, suc w) ∷ []))) (mod-eq_of_lt {n = 0} above)
 
@@ -86,8 +86,8 @@ all_own wanted s p serving word = filter_all (λ name. is_named (own_name pipe_s
     own z i =
         let some = has_weight p.said.message.subject z s.node.hub.counts (sound s serving).counts (wants_named wanted p.said.message.subject z s.node.hub.counts i) in
         ap (is_named (own_name pipe_server))
-        (ap (λ (ps : List Peer). picked (weights_from pipe_server s.node.hub.counts p.said.message.subject z 0 ps) p.word) serving.alone
-        ∙ ap (picked ((codes "n1", weight_in p.said.message.subject z s.node.hub.counts) ∷ [])) word
+        (ap (λ (ps : List Peer). pick_of (weights_from pipe_server s.node.hub.counts p.said.message.subject z 0 ps) p.word) serving.alone
+        ∙ ap (pick_of ((codes "n1", weight_in p.said.message.subject z s.node.hub.counts) ∷ [])) word
         ∙ only_pick (codes "n1") (weight_in p.said.message.subject z s.node.hub.counts) some)
         ∙ (bytes_eq-Decides (codes "n1") (codes "n1")).1 refl
 
@@ -114,8 +114,8 @@ twice false = refl
 refuses : NamesAreWanted → CountsStayOpen → (s : Served) (p : Publication) → IsIdle s → of_node.refusal s (Own (Publish p)) ≡ option_map Hub (cause_by (nat_le MAX_COUNTER (shard_in s).finished) (nat_lt MAX_QUEUE_NAMES (length (names_wanted p.said.message.subject (shard_in s).subs))))
 refuses wanted law s p at =
     let issued = issued_is s at in
-    let published = at.serving.published ∙ issued in
-    let spent : (nat_le MAX_COUNTER s.node.hub.published || nat_le MAX_COUNTER s.node.hub.issued) ≡ nat_le MAX_COUNTER (shard_in s).finished = (λ k. nat_le MAX_COUNTER (published k) || nat_le MAX_COUNTER (issued k)) ∙ twice (nat_le MAX_COUNTER (shard_in s).finished) in
+    let after_publish = at.serving.published ∙ issued in
+    let spent : (nat_le MAX_COUNTER s.node.hub.published || nat_le MAX_COUNTER s.node.hub.issued) ≡ nat_le MAX_COUNTER (shard_in s).finished = (λ k. nat_le MAX_COUNTER (after_publish k) || nat_le MAX_COUNTER (issued k)) ∙ twice (nat_le MAX_COUNTER (shard_in s).finished) in
     let idle : busy_of s.node.hub.issued ((shard_in s).finished ∷ []) ≡ None = busy_none s.node.hub.issued (shard_in s).finished (not_behind s.node.hub.issued (shard_in s).finished issued) in
     ap (λ (server : Server). node_refusal server s.node (Own (Publish p))) at.serving.server
     ∙ ap (λ (ls : List Line). option_map Hub (publish_refusal pipe_server s.node.hub p (finished_turns ls))) at.serving.line
@@ -137,9 +137,9 @@ publish_told wanted law s p at =
 job_is : NamesAreWanted → CountsStayOpen → (s : Served) (p : Publication) → IsIdle s → p.conn ≡ 1 → p.word ≡ 0 → own_job pipe_server s.node.hub p ≡ job_of p.said (served_by (shard_in s))
 job_is wanted law s p at conn word =
     let issued = issued_is s at in
-    let published = at.serving.published ∙ issued in
+    let after_publish = at.serving.published ∙ issued in
     let names = all_own wanted s p at.serving word ∙ names_are wanted law s p at in
-    λ k. record { turn = issued k + 1; id = record { origin = codes "n1"; inc = 1; number = published k + 1 }; message = p.said.message; publisher = Some (conn k); echo = p.said.echo; queues = names k }
+    λ k. record { turn = issued k + 1; id = record { origin = codes "n1"; inc = 1; number = after_publish k + 1 }; message = p.said.message; publisher = Some (conn k); echo = p.said.echo; queues = names k }
 
 pub has_issued : NamesAreWanted → CountsStayOpen → (old new : Served) (p : Publication) → IsIdle old → p.conn ≡ 1 → p.word ≡ 0 → DoesStep old (Own (Publish p)) false new → HasIssued p.said old new
 has_issued wanted law old new p at conn word does = record {
@@ -161,14 +161,14 @@ has_issued wanted law old new p at conn word does = record {
     serving : IsServing old
     serving = at.serving
 
-    lines : new.node.lines ≡ queued (own_job pipe_server old.node.hub p) (line_in old) ∷ []
-    lines = ap (λ (a : Node). a.lines) does.step.after ∙ ap (λ (server : Server). map (queued (own_job server old.node.hub p)) old.node.lines) serving.server ∙ ap (λ (ls : List Line). map (queued (own_job pipe_server old.node.hub p)) ls) serving.line
+    lines : new.node.lines ≡ line_with_job (own_job pipe_server old.node.hub p) (line_in old) ∷ []
+    lines = ap (λ (a : Node). a.lines) does.step.after ∙ ap (λ (server : Server). map (line_with_job (own_job server old.node.hub p)) old.node.lines) serving.server ∙ ap (λ (ls : List Line). map (line_with_job (own_job pipe_server old.node.hub p)) ls) serving.line
 
-    here : line_in new ≡ queued (own_job pipe_server old.node.hub p) (line_in old)
+    here : line_in new ≡ line_with_job (own_job pipe_server old.node.hub p) (line_in old)
     here = ap first_line lines
 
-    hub_is : new.node.hub ≡ published pipe_server old.node.hub p
-    hub_is = ap (λ (a : Node). a.hub) does.step.after ∙ ap (λ (server : Server). published server old.node.hub p) serving.server
+    hub_is : new.node.hub ≡ after_publish pipe_server old.node.hub p
+    hub_is = ap (λ (a : Node). a.hub) does.step.after ∙ ap (λ (server : Server). after_publish server old.node.hub p) serving.server
 
     race_is : new.node.race ≡ does.race
     race_is = ap (λ (a : Node). a.race) does.step.after

@@ -5,7 +5,7 @@ use Rattle.std.proofs.Math.Seq.{drop-nil, take-nil}
 use Rattle.std.proofs.lemmas.Bool.{eqb-true}
 use Rattle.outbox.specs.Views.{Written, bytes_of_all, without_first}
 use Rattle.shard_core.specs.ShardEvents as of_shard
-use Rattle.shard_core.specs.Shards.{Client, client_at, changed, entries_of, has_number, waits_for, with_outbox}
+use Rattle.shard_core.specs.Shards.{Client, client_at, clients_with_change, entries_of, has_number, waits_for, with_outbox}
 use Rattle.node_core.specs.Served.{Served}
 use Rattle.mesh_pipe.specs.PipeServing.{shard_in, all_entries, waiting_bytes, IsServing, Steps}
 
@@ -18,11 +18,11 @@ none_left : {A : Type 0} (xs : List A) → (length xs == 0) ≡ true → xs ≡ 
 none_left [] e = refl
 none_left (x ∷ xs) e = absurd (let none = eqb-true (length (x ∷ xs)) 0 e in omega (arith, none))
 
-same_clients : (count : ℕ) (clients : List Client) → waits_for 1 clients ≡ [] → changed (without_first count) 1 clients ≡ clients
+same_clients : (count : ℕ) (clients : List Client) → waits_for 1 clients ≡ [] → clients_with_change (without_first count) 1 clients ≡ clients
 same_clients count [] none = refl
 same_clients count (c ∷ cs) none = go (same_clients count cs) (has_number 1 c) none
   where
-    go : (waits_for 1 cs ≡ [] → changed (without_first count) 1 cs ≡ cs) → (b : Bool) → entries_of (cond b (Some c) (client_at 1 cs)) ≡ [] → cond b (with_outbox (without_first count) c ∷ cs) (c ∷ changed (without_first count) 1 cs) ≡ c ∷ cs
+    go : (waits_for 1 cs ≡ [] → clients_with_change (without_first count) 1 cs ≡ cs) → (b : Bool) → entries_of (cond b (Some c) (client_at 1 cs)) ≡ [] → cond b (with_outbox (without_first count) c ∷ cs) (c ∷ clients_with_change (without_first count) 1 cs) ≡ c ∷ cs
     go rest true e =
         let same : drop count c.outbox.entries ≡ c.outbox.entries = ap (drop count) e ∙ drop-nil count ∙ sym e in
         λ k. (record c { outbox = record c.outbox { entries = same k } }) ∷ cs

@@ -12,7 +12,7 @@ use Rattle.shard_core.specs.declared.calls.Begun.{Begun}
 use Rattle.shard_core.specs.declared.faults.ShardFault.{ShardFault}
 use Rattle.shard_core.specs.declared.faults.ShardFault.TheVariants.{BadIndex, NotAllTried}
 use Rattle.shard_core.specs.Lines.{first_of, begun_turn, Turns}
-use Rattle.shard_core.specs.Owed.{candidate_of, claimed}
+use Rattle.shard_core.specs.Owed.{candidate_of, after_claim}
 use Rattle.shard_core.specs.ShardEvents as of_shard
 use Rattle.shard_core.specs.ShardEvents.{Event}
 use Rattle.shard_core.specs.ShardSteps.{shard_refusal, shard_after, claim_refusal, end_refusal}
@@ -29,7 +29,7 @@ use Rattle.node_law.specs.State.{Line, Node}
 use Rattle.node_law.specs.Steps.{work_event, begin_of, event_refusal, line_after, line_after_if, WorkRace, ClaimRace}
 use Rattle.node_law.proofs.Moves.LineEvents.{same_refusal}
 use Rattle.node_law.proofs.Interest.CountsOpen.{is_collect}
-use Rattle.mesh_pipe.specs.PipeText.{claimed_first}
+use Rattle.mesh_pipe.specs.PipeText.{after_claims}
 use Rattle.mesh_pipe.specs.PipeServing.{line_in, shard_in, waiting_in, queues_in, queues_of, IsServing, Steps, AreFree, HasBegun, HasClaimed, HasClaimedAll, HasEnded, has_any}
 use Rattle.mesh_pipe.proofs.Server.Balance.{event_balance}
 use Rattle.mesh_pipe.proofs.Server.Outputs.{claimed_hand, claimed_index}
@@ -92,7 +92,7 @@ has_begun old new begun shut serving one begins is =
 
 -- where the hand is empty or nobody is a candidate, winning changes nothing
 abbrev Decided : State → Option Job → Option Subscription → Bool → Type 0
-Decided t hand sub won = claimed t hand sub won ≡ claimed t hand sub true
+Decided t hand sub won = after_claim t hand sub won ≡ after_claim t hand sub true
 
 turn_is : (old : Served) (serving : IsServing old) (job : Job) → waiting_in old ≡ [] → (shard_in old).hand ≡ Some job → job.turn ≡ old.node.race.issued
 turn_is old serving job none hand =
@@ -131,7 +131,7 @@ claim_decided old t (Some job) None index won after newest free moves = (refl, s
 claim_decided old t (Some job) (Some sub) index won after newest free moves =
     let turn = newest job refl in
     let wins : won ≡ true = moves.decided ∙ ap (λ n. is_none (winner old.node.race n index)) turn ∙ ap is_none (free index (omega arith)) in
-    (ap (claimed t (Some job) (Some sub)) wins, free_behind old.node.race after job.turn index won turn free moves)
+    (ap (after_claim t (Some job) (Some sub)) wins, free_behind old.node.race after job.turn index won turn free moves)
 
 pub has_claimed : (old new : Served) (index : ℕ) (claimed_as : Claimed) → IsServing old → waiting_in old ≡ [] → AreFree index old.node.race → ClaimStep false old 1 index claimed_as new → HasClaimed index old new
 has_claimed old new index claimed_as serving none free claims =
@@ -177,7 +177,7 @@ all_there : (index len : ℕ) (b : Bool) → nat_eq index len ≡ b → cond b N
 all_there index len true is e = eq_true index len is
 all_there index len false is e = absurd (none-some NotAllTried (sym e))
 
-pub claim_due : (index : ℕ) (t0 t : State) (fault : ShardFault) → is_some t0.hand ≡ true → t0.next_index ≡ 0 → t ≡ claimed_first index t0 → index ≤ queues_of t0.hand → shard_refusal t of_shard.End ≡ Some fault → Due index t (queues_of t0.hand)
+pub claim_due : (index : ℕ) (t0 t : State) (fault : ShardFault) → is_some t0.hand ≡ true → t0.next_index ≡ 0 → t ≡ after_claims index t0 → index ≤ queues_of t0.hand → shard_refusal t of_shard.End ≡ Some fault → Due index t (queues_of t0.hand)
 claim_due index t0 t fault some fresh is within tried = go t0.hand refl some within
   where
     lt_true_is : (a b : ℕ) → a < b → nat_lt a b ≡ true
@@ -199,7 +199,7 @@ claim_due index t0 t fault some fresh is within tried = go t0.hand refl some wit
         let within = lt_true_is index (length job.queues) below in
         record { free = claims ∙ (λ k. cond (here k && within k) None (Some BadIndex)); below = below }
 
-pub all_claimed : (index : ℕ) (t0 t : State) → is_some t0.hand ≡ true → t0.next_index ≡ 0 → t ≡ claimed_first index t0 → shard_refusal t of_shard.End ≡ None → index ≡ queues_of t0.hand
+pub all_claimed : (index : ℕ) (t0 t : State) → is_some t0.hand ≡ true → t0.next_index ≡ 0 → t ≡ after_claims index t0 → shard_refusal t of_shard.End ≡ None → index ≡ queues_of t0.hand
 all_claimed index t0 t some fresh is done = go t0.hand refl some
   where
     go : (h : Option Job) → t0.hand ≡ h → is_some h ≡ true → index ≡ queues_of h
@@ -231,7 +231,7 @@ ended_now cause old new false is ends = absurd (true≢false (sym is))
 -- the loop's steps
 pub record IsClaiming (first : Served) (index : ℕ) (node : Served) : Type 0 where
   pub serving : IsServing node
-  pub shard : shard_in node ≡ claimed_first index (shard_in first)
+  pub shard : shard_in node ≡ after_claims index (shard_in first)
   pub waiting : waiting_in node ≡ []
   pub free : AreFree index node.node.race
   pub within : index ≤ queues_in first
@@ -240,7 +240,7 @@ pub claims_next : (first node tried new : Served) (index : ℕ) (ended : Bool) �
 claims_next first node tried new index ended some fresh at is ends claims =
     let was = still_in_hand _ node tried ended is ends in
     let due = claim_due index (shard_in first) (shard_in node) was.fault some fresh at.shard at.within was.why in
-    let tried_is : shard_in tried ≡ claimed_first index (shard_in first) = ap shard_in was.same ∙ at.shard in
+    let tried_is : shard_in tried ≡ after_claims index (shard_in first) = ap shard_in was.same ∙ at.shard in
     record {
       serving = claims.steps.serving;
       shard = claims.steps.shard ∙ ap (λ (t : State). shard_after t (of_shard.Claim index true)) tried_is ∙ one_more index (shard_in first);
@@ -249,8 +249,8 @@ claims_next first node tried new index ended some fresh at is ends claims =
       within = let below = due.below in omega (arith, below);
     }
   where
-    one_more : (n : ℕ) (t : State) → shard_after (claimed_first n t) (of_shard.Claim n true) ≡ claimed_first (n + 1) t
-    one_more n t = let e : suc n ≡ n + 1 = omega arith in ap (λ m. claimed_first m t) e
+    one_more : (n : ℕ) (t : State) → shard_after (after_claims n t) (of_shard.Claim n true) ≡ after_claims (n + 1) t
+    one_more n t = let e : suc n ≡ n + 1 = omega arith in ap (λ m. after_claims m t) e
 
 pub claims_all : (first node new : Served) (index : ℕ) (ended : Bool) → is_some (shard_in first).hand ≡ true → (shard_in first).next_index ≡ 0 → IsClaiming first index node → ended ≡ true → HasEnded (shard_refusal (shard_in node) of_shard.End) node ended new → HasClaimedAll first new
 claims_all first node new index ended some fresh at is ends =
@@ -258,6 +258,6 @@ claims_all first node new index ended some fresh at is ends =
     let all = all_claimed index (shard_in first) (shard_in node) some fresh at.shard was.free in
     record {
       serving = was.steps.serving;
-      shard = was.steps.shard ∙ ap (λ (t : State). shard_after t of_shard.End) (at.shard ∙ ap (λ n. claimed_first n (shard_in first)) all);
+      shard = was.steps.shard ∙ ap (λ (t : State). shard_after t of_shard.End) (at.shard ∙ ap (λ n. after_claims n (shard_in first)) all);
       waiting = was.steps.waiting ∙ at.waiting;
     }

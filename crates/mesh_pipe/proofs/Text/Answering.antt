@@ -16,25 +16,25 @@ use Rattle.client_conn.specs.declared.ask.Refusal.TheVariants as refusal
 use Rattle.outbox.specs.Views.{reply_entry}
 use Rattle.shard_core.specs.declared.faults.ShardFault.{ShardFault}
 use Rattle.shard_core.specs.declared.faults.ShardFault.TheVariants.{TooManySubs, Spent}
-use Rattle.shard_core.specs.Owed.{walked}
+use Rattle.shard_core.specs.Owed.{whole_walk}
 use Rattle.shard_core.specs.ShardEvents.{Event, Subscribe, Unsubscribe, Reply, Shut, Take, Collect}
-use Rattle.shard_core.specs.ShardSteps.{called, is_full, new_sub, answer_fits, shard_refusal, shard_after}
+use Rattle.shard_core.specs.ShardSteps.{sub_called, is_full, new_sub, answer_fits, shard_refusal, shard_after}
 use Rattle.shard_core.specs.Shards.{State, is_known}
 use Rattle.node_core.specs.Served as of_node
 use Rattle.mesh_pipe.specs.declared.pipe_server.Outcome.{Outcome}
 use Rattle.mesh_pipe.specs.declared.pipe_server.Outcome.TheVariants.{Answered, Closed}
 use Rattle.mesh_pipe.specs.declared.pipe_server.PipeServer.{PipeServer}
-use Rattle.mesh_pipe.specs.PipeText.{Served, Output, at_rest, served_by, output_of, error_told, after_event, opening, opened_or_not, opening_refused, job_of, names_wanted, worked_off, placing}
+use Rattle.mesh_pipe.specs.PipeText.{Served, Output, at_rest, served_by, output_of, error_told, after_event, output_of_subscribe, opened_or_not, opening_refused, job_of, names_wanted, after_job, output_of_publish}
 use Rattle.mesh_pipe.specs.PipeServing.{IsServing, Steps, HasIssued, HasWorkedOff, shard_in, waiting_in, all_entries, waiting_bytes, placing_refused, has_any}
 use Rattle.client_refusals.specs.Refusals.{refusal_of_shard}
-use Rattle.mesh_pipe.specs.PipeStates.{served, outcome_by, IsReady, HasServed, IsTold}
+use Rattle.mesh_pipe.specs.PipeStates.{served_state, outcome_by, IsReady, HasServed, IsTold}
 use Rattle.mesh_pipe.proofs.Server.Outputs.{known_there, IsAlone, IsSettled, IsQuiet, IsStill, all_taken, behind_take, output_text, output_closed, rests, alone_at_rest, settled_at_rest, replied_alone, behind_shut, subscribe_quiet, unsubscribe_quiet, quiet_alone, quiet_settled, worked_still, worked_done}
 
 -- ---- the server behind an ask
 
 pub record Rests (server : PipeServer) (t : State) : Type 0 where
   pub ready : IsReady server
-  pub same : served server ≡ served_by t
+  pub same : served_state server ≡ served_by t
 
 rests_at : (server : PipeServer) (t : State) → IsServing server.node → server.conn ≡ 1 → waiting_in server.node ≡ [] → shard_in server.node ≡ t → IsAlone t [] false → IsSettled t → Rests server t
 rests_at server t serving conn waiting is alone settled = record {
@@ -43,19 +43,19 @@ rests_at server t serving conn waiting is alone settled = record {
 }
 
 alone_of : (server : PipeServer) → IsReady server → IsAlone (shard_in server.node) [] false
-alone_of server ready = alone_at_rest (shard_in server.node) (served server) ready.shard
+alone_of server ready = alone_at_rest (shard_in server.node) (served_state server) ready.shard
 
 settled_of : (server : PipeServer) → IsReady server → IsSettled (shard_in server.node)
-settled_of server ready = settled_at_rest (shard_in server.node) (served server) ready.shard
+settled_of server ready = settled_at_rest (shard_in server.node) (served_state server) ready.shard
 
 -- what is put by an event at rest
-output_at : (server : PipeServer) (event : Event) → IsReady server → after_event event (served server) ≡ output_of (shard_after (shard_in server.node) event)
+output_at : (server : PipeServer) (event : Event) → IsReady server → after_event event (served_state server) ≡ output_of (shard_after (shard_in server.node) event)
 output_at server event ready = ap (λ (t : State). output_of (shard_after t event)) (sym ready.shard)
 
 -- ---- lines
 
 pub reply_served : (old new : PipeServer) (mid : of_node.Served) (frame : ReplyFrame) (shut : Bool) → IsReady old → Steps old.node (Reply 1 frame) mid → shut ≡ not (answer_fits (shard_in old.node) 1 (reply_line frame)) → Steps mid (Take 1 all_entries) new.node
-    → new.output.items ≡ old.output.items ++ waiting_bytes (shard_in mid) → new.conn ≡ old.conn → HasServed (outcome_by shut) (after_event (Reply 1 frame) (served old)) old new
+    → new.output.items ≡ old.output.items ++ waiting_bytes (shard_in mid) → new.conn ≡ old.conn → HasServed (outcome_by shut) (after_event (Reply 1 frame) (served_state old)) old new
 reply_served old new mid frame shut ready replies is takes put conn = go shut is
   where
     t : State
@@ -68,7 +68,7 @@ reply_served old new mid frame shut ready replies is takes put conn = go shut is
     fit = answer_fits t 1 (reply_line frame)
 
     said : Output
-    said = after_event (Reply 1 frame) (served old)
+    said = after_event (Reply 1 frame) (served_state old)
 
     said_is : said ≡ output_of u
     said_is = output_at old (Reply 1 frame) ready
@@ -91,7 +91,7 @@ reply_served old new mid frame shut ready replies is takes put conn = go shut is
         let at = rests_at new (shard_after u (Take 1 all_entries)) takes.serving (conn ∙ ready.conn) (takes.waiting ∙ replies.waiting ∙ ready.waiting) shard alone (record { hand = settled.hand; index = settled.index; deltas = settled.deltas }) in
         (closed ∙ sym e, record { text = text; ready = at.ready; same = at.same ∙ sym (ap (λ (r : Output). r.served) said_is) })
 
-pub shut_served : (old new : PipeServer) (mid : of_node.Served) (why : ErrText) → IsReady old → Steps old.node (Shut 1 why) mid → new.output.items ≡ old.output.items ++ waiting_bytes (shard_in mid) → HasServed Closed (after_event (Shut 1 why) (served old)) old new
+pub shut_served : (old new : PipeServer) (mid : of_node.Served) (why : ErrText) → IsReady old → Steps old.node (Shut 1 why) mid → new.output.items ≡ old.output.items ++ waiting_bytes (shard_in mid) → HasServed Closed (after_event (Shut 1 why) (served_state old)) old new
 shut_served old new mid why ready shuts put =
     let alone = behind_shut (shard_in old.node) (err_line why) (alone_of old ready) in
     let said_is = output_at old (Shut 1 why) ready in (
@@ -104,7 +104,7 @@ shut_served old new mid why ready shuts put =
 
 -- an event that leaves the connection, and then a collect
 quiet_served : (old new : PipeServer) (mid : of_node.Served) (event : Event) → IsReady old → IsQuiet (shard_in old.node) (shard_after (shard_in old.node) event) → Steps old.node event mid → waiting_in mid ≡ waiting_in old.node → Steps mid Collect new.node → new.output.items ≡ old.output.items → new.conn ≡ old.conn
-    → HasServed (Answered (Ok tt)) (after_event event (served old)) old new
+    → HasServed (Answered (Ok tt)) (after_event event (served_state old)) old new
 quiet_served old new mid event ready quiet steps waiting collects put conn =
     let t = shard_in old.node in
     let u = shard_after t event in
@@ -121,17 +121,17 @@ quiet_served old new mid event ready quiet steps waiting collects put conn =
     )
 
 pub unsubscribe_served : (old new : PipeServer) (mid : of_node.Served) (sid : List ℕ) (max : Option ℕ) → IsReady old → Steps old.node (Unsubscribe 1 sid max) mid → Steps mid Collect new.node → new.output.items ≡ old.output.items → new.conn ≡ old.conn
-    → HasServed (Answered (Ok tt)) (after_event (Unsubscribe 1 sid max) (served old)) old new
+    → HasServed (Answered (Ok tt)) (after_event (Unsubscribe 1 sid max) (served_state old)) old new
 unsubscribe_served old new mid sid max ready steps collects put conn =
-    quiet_served old new mid (Unsubscribe 1 sid max) ready (unsubscribe_quiet (shard_in old.node) max (called 1 sid (shard_in old.node).subs)) steps steps.waiting collects put conn
+    quiet_served old new mid (Unsubscribe 1 sid max) ready (unsubscribe_quiet (shard_in old.node) max (sub_called 1 sid (shard_in old.node).subs)) steps steps.waiting collects put conn
 
 pub subscribe_served : (old new : PipeServer) (mid : of_node.Served) (key : Key) (sid : List ℕ) → IsReady old → shard_refusal (shard_in old.node) (Subscribe 1 key sid) ≡ None → Steps old.node (Subscribe 1 key sid) mid → Steps mid Collect new.node → new.output.items ≡ old.output.items → new.conn ≡ old.conn
-    → HasServed (Answered (Ok tt)) (opening key sid (served old)) old new
+    → HasServed (Answered (Ok tt)) (output_of_subscribe key sid (served_state old)) old new
 subscribe_served old new mid key sid ready free steps collects put conn =
     let t = shard_in old.node in
-    let done = quiet_served old new mid (Subscribe 1 key sid) ready (subscribe_quiet t (new_sub t 1 key sid) (called 1 sid t.subs)) steps steps.waiting collects put conn in
-    let cause : shard_refusal (at_rest (served old)) (Subscribe 1 key sid) ≡ None = ap (λ (u : State). shard_refusal u (Subscribe 1 key sid)) (sym ready.shard) ∙ free in
-    subst (λ (said : Output). HasServed (Answered (Ok tt)) said old new) (sym (ap (opened_or_not key sid (served old)) cause)) done
+    let done = quiet_served old new mid (Subscribe 1 key sid) ready (subscribe_quiet t (new_sub t 1 key sid) (sub_called 1 sid t.subs)) steps steps.waiting collects put conn in
+    let cause : shard_refusal (at_rest (served_state old)) (Subscribe 1 key sid) ≡ None = ap (λ (u : State). shard_refusal u (Subscribe 1 key sid)) (sym ready.shard) ∙ free in
+    subst (λ (said : Output). HasServed (Answered (Ok tt)) said old new) (sym (ap (opened_or_not key sid (served_state old)) cause)) done
 
 -- the two causes for which a subscription is refused
 told_of_opening : (s : Served) (full spent there : Bool) (fault : ShardFault) → (cond there None (cond full (Some TooManySubs) (cond spent (Some Spent) None))) ≡ Some fault → IsTold (refusal_of_shard fault) s (opening_refused fault s)
@@ -140,11 +140,11 @@ told_of_opening s true spent false fault e = subst (λ (f : ShardFault). IsTold 
 told_of_opening s false true false fault e = subst (λ (f : ShardFault). IsTold (refusal_of_shard f) s (opening_refused f s)) (same_Some Spent fault e) refl
 told_of_opening s false false false fault e = absurd (none-some fault e)
 
-pub opening_told : (old : PipeServer) (key : Key) (sid : List ℕ) (fault : ShardFault) → IsReady old → shard_refusal (shard_in old.node) (Subscribe 1 key sid) ≡ Some fault → HasServed (Answered (Err (refusal_of_shard fault))) (opening key sid (served old)) old old
+pub opening_told : (old : PipeServer) (key : Key) (sid : List ℕ) (fault : ShardFault) → IsReady old → shard_refusal (shard_in old.node) (Subscribe 1 key sid) ≡ Some fault → HasServed (Answered (Err (refusal_of_shard fault))) (output_of_subscribe key sid (served_state old)) old old
 opening_told old key sid fault ready why =
-    let s = served old in
+    let s = served_state old in
     let cause : shard_refusal (at_rest s) (Subscribe 1 key sid) ≡ Some fault = ap (λ (u : State). shard_refusal u (Subscribe 1 key sid)) (sym ready.shard) ∙ why in (
-      subst (IsTold (refusal_of_shard fault) s) (sym (ap (opened_or_not key sid s) cause)) (told_of_opening s (is_full (at_rest s) key) (nat_le MAX_SERIAL s.opened) (is_some (called 1 sid s.subs)) fault cause),
+      subst (IsTold (refusal_of_shard fault) s) (sym (ap (opened_or_not key sid s) cause)) (told_of_opening s (is_full (at_rest s) key) (nat_le MAX_SERIAL s.opened) (is_some (sub_called 1 sid s.subs)) fault cause),
       refl,
     )
 
@@ -160,10 +160,10 @@ told_of_placing s true many said why e = subst (λ (r : Refusal). IsTold r s (er
 told_of_placing s false true said why e = subst (λ (r : Refusal). IsTold r s (error_told text.TooManyQueueGroups s)) (same_Some refusal.TooManyQueueGroups why e) refl
 told_of_placing s false false said why e = absurd (none-some why e)
 
-pub placing_told : (old : PipeServer) (p : Pub) (why : Refusal) → placing_refused p (shard_in old.node) ≡ Some why → HasServed (Answered (Err why)) (placing p (served old)) old old
+pub placing_told : (old : PipeServer) (p : Pub) (why : Refusal) → placing_refused p (shard_in old.node) ≡ Some why → HasServed (Answered (Err why)) (output_of_publish p (served_state old)) old old
 placing_told old p why cause =
-    let s = served old in
-    (told_of_placing s (nat_le MAX_COUNTER s.jobs) (nat_lt MAX_QUEUE_NAMES (length (names_wanted p.message.subject s.subs))) (output_of (worked_off (job_of p s) (at_rest s))) why cause, refl)
+    let s = served_state old in
+    (told_of_placing s (nat_le MAX_COUNTER s.jobs) (nat_lt MAX_QUEUE_NAMES (length (names_wanted p.message.subject s.subs))) (output_of (after_job (job_of p s) (at_rest s))) why cause, refl)
 
 same_first : (j k : Job) → (j ∷ []) ≡ k ∷ [] → j ≡ k
 same_first j k e = ap (λ (jobs : List Job). first j jobs) e
@@ -173,11 +173,11 @@ same_first j k e = ap (λ (jobs : List Job). first j jobs) e
     first d (x ∷ xs) = x
 
 pub publish_served : (old new : PipeServer) (issued worked counted : of_node.Served) (p : Pub) (shut : Bool) → IsReady old → placing_refused p (shard_in old.node) ≡ None → HasIssued p old.node issued → HasWorkedOff issued shut worked → Steps worked Collect counted → Steps counted (Take 1 all_entries) new.node
-    → new.output.items ≡ old.output.items ++ waiting_bytes (shard_in counted) → new.conn ≡ old.conn → HasServed (outcome_by shut) (placing p (served old)) old new
+    → new.output.items ≡ old.output.items ++ waiting_bytes (shard_in counted) → new.conn ≡ old.conn → HasServed (outcome_by shut) (output_of_publish p (served_state old)) old new
 publish_served old new issued worked counted p shut ready free issues works counts takes put conn = go shut works.is_shut
   where
     s : Served
-    s = served old
+    s = served_state old
 
     job : Job
     job = job_of p s
@@ -186,34 +186,34 @@ publish_served old new issued worked counted p shut ready free issues works coun
     t = shard_in old.node
 
     u : State
-    u = worked_off job t
+    u = after_job job t
 
     job_is : works.job ≡ job
     job_is = same_first works.job job (sym works.first ∙ issues.waiting)
 
-    shut_is : has_any (walked (shard_in issued) works.job).shut ≡ has_any (walked t job).shut
-    shut_is = λ k. has_any (walked (issues.shard k) (job_is k)).shut
+    shut_is : has_any (whole_walk (shard_in issued) works.job).shut ≡ has_any (whole_walk t job).shut
+    shut_is = λ k. has_any (whole_walk (issues.shard k) (job_is k)).shut
 
     worked_is : shard_in worked ≡ u
-    worked_is = works.shard ∙ (λ k. worked_off (job_is k) (issues.shard k))
+    worked_is = works.shard ∙ (λ k. after_job (job_is k) (issues.shard k))
 
-    still : IsStill u (has_any (walked t job).shut)
+    still : IsStill u (has_any (whole_walk t job).shut)
     still = worked_still job t (alone_of old ready)
 
     said : Output
-    said = placing p s
+    said = output_of_publish p s
 
     said_is : said ≡ output_of u
-    said_is = placing_done s p (nat_le MAX_COUNTER s.jobs) (nat_lt MAX_QUEUE_NAMES (length (names_wanted p.message.subject s.subs))) (output_of (worked_off job (at_rest s))) free ∙ ap (λ (v : State). output_of (worked_off job v)) (sym ready.shard)
+    said_is = placing_done s p (nat_le MAX_COUNTER s.jobs) (nat_lt MAX_QUEUE_NAMES (length (names_wanted p.message.subject s.subs))) (output_of (after_job job (at_rest s))) free ∙ ap (λ (v : State). output_of (after_job job v)) (sym ready.shard)
 
     text : new.output.items ≡ old.output.items ++ said.text
     text = put ∙ ap (λ (v : State). old.output.items ++ waiting_bytes v) (counts.shard ∙ ap (λ (v : State). shard_after v Collect) worked_is)
-        ∙ ap (λ l. old.output.items ++ l) (all_taken u still.entries (has_any (walked t job).shut) still.alone ∙ sym (ap (λ (r : Output). r.text) said_is))
+        ∙ ap (λ l. old.output.items ++ l) (all_taken u still.entries (has_any (whole_walk t job).shut) still.alone ∙ sym (ap (λ (r : Output). r.text) said_is))
 
-    closed : said.closed ≡ has_any (walked t job).shut
-    closed = ap (λ (r : Output). r.closed) said_is ∙ output_closed u still.entries (has_any (walked t job).shut) still.alone
+    closed : said.closed ≡ has_any (whole_walk t job).shut
+    closed = ap (λ (r : Output). r.closed) said_is ∙ output_closed u still.entries (has_any (whole_walk t job).shut) still.alone
 
-    go : (b : Bool) → b ≡ has_any (walked (shard_in issued) works.job).shut → HasServed (outcome_by b) said old new
+    go : (b : Bool) → b ≡ has_any (whole_walk (shard_in issued) works.job).shut → HasServed (outcome_by b) said old new
     go true e = (closed ∙ sym (e ∙ shut_is), text)
     go false e =
         let open_still : IsAlone u still.entries false = subst (IsAlone u still.entries) (sym (e ∙ shut_is)) still.alone in
@@ -227,9 +227,9 @@ publish_served old new issued worked counted p shut ready free issues works coun
 pub published_known : (old : PipeServer) (issued worked counted : of_node.Served) (p : Pub) (shut : Bool) → IsReady old → HasIssued p old.node issued → HasWorkedOff issued shut worked → Steps worked Collect counted → is_known 1 (shard_in counted).clients ≡ true
 published_known old issued worked counted p shut ready issues works counts =
     let still = worked_still works.job (shard_in issued) (subst (λ (t : State). IsAlone t [] false) (sym issues.shard) (alone_of old ready)) in
-    ap (λ (t : State). is_known 1 t.clients) (counts.shard ∙ ap (λ (t : State). shard_after t Collect) works.shard) ∙ known_there (worked_off works.job (shard_in issued)) still.entries _ still.alone
+    ap (λ (t : State). is_known 1 t.clients) (counts.shard ∙ ap (λ (t : State). shard_after t Collect) works.shard) ∙ known_there (after_job works.job (shard_in issued)) still.entries _ still.alone
 
 pub publish_outcome : (outcome : Outcome) (old new : PipeServer) (issued worked counted : of_node.Served) (p : Pub) (shut : Bool) → outcome ≡ outcome_by shut → IsReady old → placing_refused p (shard_in old.node) ≡ None → HasIssued p old.node issued → HasWorkedOff issued shut worked → Steps worked Collect counted → Steps counted (Take 1 all_entries) new.node
-    → new.output.items ≡ old.output.items ++ waiting_bytes (shard_in counted) → new.conn ≡ old.conn → HasServed outcome (placing p (served old)) old new
+    → new.output.items ≡ old.output.items ++ waiting_bytes (shard_in counted) → new.conn ≡ old.conn → HasServed outcome (output_of_publish p (served_state old)) old new
 publish_outcome outcome old new issued worked counted p shut is ready free issues works counts takes put conn =
-    subst (λ (o : Outcome). HasServed o (placing p (served old)) old new) (sym is) (publish_served old new issued worked counted p shut ready free issues works counts takes put conn)
+    subst (λ (o : Outcome). HasServed o (output_of_publish p (served_state old)) old new) (sym is) (publish_served old new issued worked counted p shut ready free issues works counts takes put conn)

@@ -4,14 +4,14 @@ use Rattle.std.specs.Prelude.{IsErr}
 use Rattle.std.specs.Io.KnownBytes.{Appends}
 use Rattle.std.proofs.KnownBytes.{Appends-nil, Appends-trans}
 use Rattle.wire_cut.specs.Flow.{AppendsFront}
-use Rattle.client_conn.specs.Asks.{Asking, ConnState, fed}
+use Rattle.client_conn.specs.Asks.{Asking, ConnState, asks_after_bytes}
 use Rattle.client_conn.specs.Shuts.{AsksToShut}
 use Rattle.mesh_pipe.specs.declared.faults.PipeFault.{PipeFault}
 use Rattle.mesh_pipe.specs.declared.pipe.Flow.{Flow}
 use Rattle.mesh_pipe.specs.declared.pipe.Flow.TheVariants.{Open, Closed}
 use Rattle.mesh_pipe.specs.declared.pipe_server.PipeServer.{PipeServer}
 use Rattle.mesh_pipe.specs.PipeText.{Output}
-use Rattle.mesh_pipe.specs.PipeStates.{IsReady, served}
+use Rattle.mesh_pipe.specs.PipeStates.{IsReady, served_state}
 use Rattle.mesh_pipe.specs.PipeRuns.{said_from, state_of, GoesOn, IsInStep, HasWorked, HasClosed, NeedsBytes, IsFlushed, HasMoved, HasAnsweredAll, HasEnded, HasBegun, Works, HasAnswered, HasFinished, HasFronted, AnswersAll}
 use Rattle.mesh_pipe.proofs.Text.Said.{goes_nowhere, goes_further, ends_further}
 
@@ -70,10 +70,10 @@ moved_to_lack first_conn mid_conn new_conn first mid new was is moved starved =
         text = moved.text;
         in_step = record {
           ready = moved.in_step.ready;
-          settled = ap (fed []) starved.asking ∙ moved.in_step.settled ∙ sym starved.asking;
+          settled = ap (asks_after_bytes []) starved.asking ∙ moved.in_step.settled ∙ sym starved.asking;
           shuts = λ ends. subst (λ (s : Asking). AsksToShut s.asks) (sym starved.asking) (moved.in_step.shuts (sym (ap (λ (s : Asking). s.onward) starved.asking) ∙ ends));
         };
-        goes = subst (λ (s : Asking). GoesOn (state_of first_conn first) moved.said (record { asking = s; served = served mid })) (sym starved.asking) moved.goes;
+        goes = subst (λ (s : Asking). GoesOn (state_of first_conn first) moved.said (record { asking = s; served = served_state mid })) (sym starved.asking) moved.goes;
       };
       none = ap (λ (s : Asking). s.asks) starved.asking ∙ starved.none;
     })

@@ -11,14 +11,14 @@ use Rattle.client_conn.specs.declared.ask.Ask.{Ask}
 use Rattle.client_conn.specs.declared.ask.Ask.TheVariants as ask
 use Rattle.client_conn.specs.declared.ask.Refusal.{Refusal}
 use Rattle.client_conn.specs.declared.ask.Refusal.TheVariants.{Busy, TooManySubscriptions, NumbersSpent, TooManyQueueGroups, Other}
-use Rattle.client_conn.specs.Asks.{Asking, Answer, ConnState, Onward, fed, read_onward, answered, answered_first}
+use Rattle.client_conn.specs.Asks.{Asking, Answer, ConnState, Onward, asks_after_bytes, read_onward, asks_after_answer, answered_first}
 use Rattle.client_conn.specs.Shuts.{AsksToShut}
 use Rattle.client_conn.proofs.Following.{in_any_order}
 use Rattle.outbox.specs.Views.{reply_entry}
 use Rattle.mesh_pipe.specs.declared.pipe_server.Outcome.TheVariants.{Answered, Closed}
 use Rattle.mesh_pipe.specs.declared.pipe_server.PipeServer.{PipeServer}
 use Rattle.mesh_pipe.specs.PipeText.{Served, Output, at_rest, no_output, text_before, and_then, ask_said, asks_said, error_told}
-use Rattle.mesh_pipe.specs.PipeStates.{served, asks_of, HasServed, MayBeTold}
+use Rattle.mesh_pipe.specs.PipeStates.{served_state, asks_of, HasServed, MayBeTold}
 use Rattle.mesh_pipe.specs.PipeRuns.{PipeState, said_from, state_of, left_of, Waits, GoesOn, Ends, IsInStep, HasWorked, HasClosed}
 use Rattle.mesh_pipe.proofs.Server.Outputs.{alone_at_rest, behind_shut, output_closed}
 
@@ -56,7 +56,7 @@ ends_further from mid front text first second = record {
 }
 
 -- nothing is said where nothing stands to be asked
-pub waits_there : (at : PipeState) → fed [] at.asking ≡ at.asking → at.asking.asks ≡ [] → Waits at
+pub waits_there : (at : PipeState) → asks_after_bytes [] at.asking ≡ at.asking → at.asking.asks ≡ [] → Waits at
 waits_there at settled none = ap (λ (a : Asking). asks_said a.asks at.served) settled ∙ ap (λ (asks : List Ask). asks_said asks at.served) none ∙ said_none at.served
 
 -- ---- the first ask
@@ -127,7 +127,7 @@ record Goes (conn : ConnState) (server : PipeServer) (next : Asking) (new : Pipe
   said : List ℕ
   put : new.output.items ≡ server.output.items ++ said
   ready : IsInStep (record conn { asking = next }) new
-  goes : GoesOn (state_of conn server) said (record { asking = next; served = served new })
+  goes : GoesOn (state_of conn server) said (record { asking = next; served = served_state new })
   fewer : sum_by asks_of next.asks < left_of conn
 
 some_ask : (a : Ask) (rest : List Ask) → ¬ ((a ∷ rest) ≡ [])
@@ -143,15 +143,15 @@ pos (ask.Subscribe key sid) = omega arith
 pos (ask.Unsubscribe sid max) = omega arith
 pos (ask.Publish p) = omega arith
 
-settled_behind : (answer : Answer) (a : Ask) (rest : List Ask) (onward : Onward) → (let s : Asking = record { asks = a ∷ rest; onward = onward } in fed [] s ≡ s)
-    → fed [] (answered_first answer (a ∷ rest) onward) ≡ answered_first answer (a ∷ rest) onward
-settled_behind answer a rest onward settled = in_any_order answer (record { asks = a ∷ rest; onward = onward }) [] (some_ask a rest) ∙ ap (answered answer) settled
+settled_behind : (answer : Answer) (a : Ask) (rest : List Ask) (onward : Onward) → (let s : Asking = record { asks = a ∷ rest; onward = onward } in asks_after_bytes [] s ≡ s)
+    → asks_after_bytes [] (answered_first answer (a ∷ rest) onward) ≡ answered_first answer (a ∷ rest) onward
+settled_behind answer a rest onward settled = in_any_order answer (record { asks = a ∷ rest; onward = onward }) [] (some_ask a rest) ∙ ap (asks_after_answer answer) settled
 
 abbrev conn_at : Ask → List Ask → Onward → Bool → ConnState
 conn_at a rest onward given = record { asking = record { asks = a ∷ rest; onward = onward }; given = given }
 
-telling_goes : (a : Ask) (rest : List Ask) (onward : Onward) (given : Bool) (server : PipeServer) (refusal : Refusal) (why : ErrText) → IsInStep (conn_at a rest onward given) server → asks_of a ≡ 2 → ask_said a (served server) ≡ error_told why (served server)
-    → fed [] (answered_first (Err refusal) (a ∷ rest) onward) ≡ answered_first (Err refusal) (a ∷ rest) onward
+telling_goes : (a : Ask) (rest : List Ask) (onward : Onward) (given : Bool) (server : PipeServer) (refusal : Refusal) (why : ErrText) → IsInStep (conn_at a rest onward given) server → asks_of a ≡ 2 → ask_said a (served_state server) ≡ error_told why (served_state server)
+    → asks_after_bytes [] (answered_first (Err refusal) (a ∷ rest) onward) ≡ answered_first (Err refusal) (a ∷ rest) onward
     → answered_first (Err refusal) (a ∷ rest) onward ≡ record { asks = ask.Reply (reply.Err why) ∷ rest; onward = onward }
     → Goes (conn_at a rest onward given) server (record { asks = ask.Reply (reply.Err why) ∷ rest; onward = onward }) server
 telling_goes a rest onward given server refusal why step two is settled same = record {
@@ -159,24 +159,24 @@ telling_goes a rest onward given server refusal why step two is settled same = r
   put = sym (append-nil server.output.items);
   ready = record {
     ready = step.ready;
-    settled = subst (λ (s : Asking). fed [] s ≡ s) same settled;
+    settled = subst (λ (s : Asking). asks_after_bytes [] s ≡ s) same settled;
     shuts = λ ends. one_more (ask.Reply (reply.Err why)) rest (shuts_later a rest (λ t shut. no_shut a t two shut) (step.shuts ends));
   };
-  goes = goes_by_telling a rest onward (served server) why is;
+  goes = goes_by_telling a rest onward (served_state server) why is;
   fewer = let before = weigh a rest in let after = weigh (ask.Reply (reply.Err why)) rest in omega (arith, before, after, two);
 }
 
-answer_goes : (answer : Answer) (a : Ask) (rest : List Ask) (onward : Onward) (given : Bool) (old new : PipeServer) → IsInStep (conn_at a rest onward given) old → HasServed (Answered answer) (ask_said a (served old)) old new → MayBeTold (Answered answer) a
+answer_goes : (answer : Answer) (a : Ask) (rest : List Ask) (onward : Onward) (given : Bool) (old new : PipeServer) → IsInStep (conn_at a rest onward given) old → HasServed (Answered answer) (ask_said a (served_state old)) old new → MayBeTold (Answered answer) a
     → Goes (conn_at a rest onward given) old (answered_first answer (a ∷ rest) onward) new
 answer_goes (Ok done) a rest onward given old new step serves may = record {
-  said = (ask_said a (served old)).text;
+  said = (ask_said a (served_state old)).text;
   put = serves.1.text;
   ready = record {
     ready = serves.1.ready;
     settled = settled_behind (Ok done) a rest onward step.settled;
-    shuts = λ ends. shuts_later a rest (λ t shut. true≢false (sym (ap (λ x. (ask_said x (served old)).closed) shut ∙ shut_closes t (served old)) ∙ serves.0)) (step.shuts ends);
+    shuts = λ ends. shuts_later a rest (λ t shut. true≢false (sym (ap (λ x. (ask_said x (served_state old)).closed) shut ∙ shut_closes t (served_state old)) ∙ serves.0)) (step.shuts ends);
   };
-  goes = subst (λ (s : Served). GoesOn (at_ask a rest onward (served old)) (ask_said a (served old)).text (behind_ask rest onward s)) (sym serves.1.same) (goes_by_ask a rest onward (served old) serves.0);
+  goes = subst (λ (s : Served). GoesOn (at_ask a rest onward (served_state old)) (ask_said a (served_state old)).text (behind_ask rest onward s)) (sym serves.1.same) (goes_by_ask a rest onward (served_state old) serves.0);
   fewer = let before = weigh a rest in let some = pos a in omega (arith, before, some);
 }
 answer_goes (Err Busy) a rest onward given old new step serves may = absurd serves.0
@@ -195,32 +195,32 @@ asking_is conn a rest is = λ k. record { asking = record { asks = is k; onward 
 in_step_again : (conn : ConnState) (next : Asking) (new_conn : ConnState) (new : PipeServer) → new_conn.asking ≡ next → IsInStep (record conn { asking = next }) new → IsInStep new_conn new
 in_step_again conn next new_conn new is step = record {
   ready = step.ready;
-  settled = ap (fed []) is ∙ step.settled ∙ sym is;
+  settled = ap (asks_after_bytes []) is ∙ step.settled ∙ sym is;
   shuts = λ ends. subst (λ (s : Asking). AsksToShut s.asks) (sym is) (step.shuts (sym (ap (λ (s : Asking). s.onward) is) ∙ ends));
 }
 
-pub ask_worked : (answer : Answer) (a : Ask) (conn mid new_conn : ConnState) (old new : PipeServer) → IsInStep conn old → slice_get conn.asking.asks 0 ≡ Some a → HasServed (Answered answer) (ask_said a (served old)) old new → MayBeTold (Answered answer) a
-    → mid.asking ≡ conn.asking → new_conn.asking ≡ answered answer mid.asking → HasWorked conn old new_conn new
+pub ask_worked : (answer : Answer) (a : Ask) (conn mid new_conn : ConnState) (old new : PipeServer) → IsInStep conn old → slice_get conn.asking.asks 0 ≡ Some a → HasServed (Answered answer) (ask_said a (served_state old)) old new → MayBeTold (Answered answer) a
+    → mid.asking ≡ conn.asking → new_conn.asking ≡ asks_after_answer answer mid.asking → HasWorked conn old new_conn new
 ask_worked answer a conn mid new_conn old new step is serves may same next =
     let begins = starts a conn.asking.asks is in
     let at = asking_is conn a begins.rest begins.are in
     let goes = answer_goes answer a begins.rest conn.asking.onward conn.given old new (subst (λ (c : ConnState). IsInStep c old) at step) serves may in
-    let next_is : new_conn.asking ≡ answered_first answer (a ∷ begins.rest) conn.asking.onward = next ∙ ap (answered answer) (same ∙ ap (λ (c : ConnState). c.asking) at) in
+    let next_is : new_conn.asking ≡ answered_first answer (a ∷ begins.rest) conn.asking.onward = next ∙ ap (asks_after_answer answer) (same ∙ ap (λ (c : ConnState). c.asking) at) in
     record {
       said = goes.said;
       put = goes.put;
       in_step = in_step_again (conn_at a begins.rest conn.asking.onward conn.given) _ new_conn new next_is goes.ready;
       goes = subst (λ (c : ConnState). GoesOn (state_of c old) goes.said (state_of new_conn new)) (sym at)
-          (subst (λ (s : Asking). GoesOn (state_of (conn_at a begins.rest conn.asking.onward conn.given) old) goes.said (record { asking = s; served = served new })) (sym next_is) goes.goes);
+          (subst (λ (s : Asking). GoesOn (state_of (conn_at a begins.rest conn.asking.onward conn.given) old) goes.said (record { asking = s; served = served_state new })) (sym next_is) goes.goes);
       fewer = let fewer = goes.fewer in let here = ap (λ (s : Asking). sum_by asks_of s.asks) next_is in let there = ap left_of at in omega (arith, fewer, here, there);
     }
 
-pub ask_closed : (a : Ask) (conn : ConnState) (old new : PipeServer) → slice_get conn.asking.asks 0 ≡ Some a → HasServed Closed (ask_said a (served old)) old new → HasClosed conn old new
+pub ask_closed : (a : Ask) (conn : ConnState) (old new : PipeServer) → slice_get conn.asking.asks 0 ≡ Some a → HasServed Closed (ask_said a (served_state old)) old new → HasClosed conn old new
 ask_closed a conn old new is serves =
     let begins = starts a conn.asking.asks is in
     let at = asking_is conn a begins.rest begins.are in
     record {
-      said = (ask_said a (served old)).text;
+      said = (ask_said a (served_state old)).text;
       put = serves.1;
-      ends = subst (λ (c : ConnState). Ends (state_of c old) (ask_said a (served old)).text) (sym at) (ends_by_ask a begins.rest conn.asking.onward (served old) serves.0);
+      ends = subst (λ (c : ConnState). Ends (state_of c old) (ask_said a (served_state old)).text) (sym at) (ends_by_ask a begins.rest conn.asking.onward (served_state old) serves.0);
     }

@@ -4,7 +4,7 @@ use Rattle.std.specs.Result.{IsErrAnd}
 use Rattle.std.specs.Io.KnownBytes.{Appends, Consumes}
 use Rattle.std.proofs.KnownBytes.{Appends-nil, Appends-trans, Consumes-nil, Consumes-trans}
 use Rattle.client_conn.specs.declared.ask.Ask.{Ask}
-use Rattle.client_conn.specs.Asks.{Asking, ConnState, Onward, listens, over, begun, fed, read_onward}
+use Rattle.client_conn.specs.Asks.{Asking, ConnState, Onward, listens, over, begun, asks_after_bytes, read_onward}
 use Rattle.client_conn.specs.Feeding.{HasRead as Gains}
 use Rattle.client_conn.specs.Shuts.{AsksToShut}
 use Rattle.client_conn.proofs.Closing.{shuts_at_the_end, shut_behind}
@@ -14,7 +14,7 @@ use Rattle.mesh_pipe.specs.declared.faults.PipeFault.{PipeFault}
 use Rattle.mesh_pipe.specs.declared.faults.PipeFault.TheVariants.{Read, Write, OutOfMemory}
 use Rattle.mesh_pipe.specs.declared.pipe_server.PipeServer.{PipeServer}
 use Rattle.mesh_pipe.specs.PipeText.{Served, Output, at_first, text_before, asks_said, pipe_info, pipe_said, pipe_text, pipe_closes}
-use Rattle.mesh_pipe.specs.PipeStates.{IsNew, served}
+use Rattle.mesh_pipe.specs.PipeStates.{IsNew, served_state}
 use Rattle.mesh_pipe.specs.PipeRuns.{PipeState, said_from, state_of, Waits, GoesOn, IsInStep, HasAnswered, HasFinished, HasFronted, CountsWrites}
 use Rattle.mesh_pipe.specs.PipeTheorem.{AppendsBeginning, WritesText, Pipes, CountsReads, CountsFailedWrites}
 use Rattle.mesh_pipe.proofs.Text.Said.{waits_there, text_before_twice}
@@ -30,7 +30,7 @@ tells_further read text said at to tells goes = record {
 }
 
 abbrev fed_at : PipeState → List ℕ → PipeState
-fed_at at bytes = record at { asking = fed bytes at.asking }
+fed_at at bytes = record at { asking = asks_after_bytes bytes at.asking }
 
 tells_fed : (read text bytes : List ℕ) (at : PipeState) → Tells read text at → Tells (read ++ bytes) text (fed_at at bytes)
 tells_fed read text bytes at tells = record {
@@ -82,10 +82,10 @@ read_first conn server before was begins new = record {
   empty = new.empty;
   in_step = record {
     ready = new.ready;
-    settled = ap (fed []) begins ∙ settled_begun pipe_info ∙ sym begins;
+    settled = ap (asks_after_bytes []) begins ∙ settled_begun pipe_info ∙ sym begins;
     shuts = λ ends. absurd (not_over (sym (ap (λ (s : Asking). s.onward) begins) ∙ ends));
   };
-  tells = record { whatever_follows = λ more. ap (λ (s : Asking). asks_said (fed more s).asks at_first) (sym begins) ∙ ap (asks_said (fed more conn.asking).asks) (sym new.same) };
+  tells = record { whatever_follows = λ more. ap (λ (s : Asking). asks_said (asks_after_bytes more s).asks at_first) (sym begins) ∙ ap (asks_said (asks_after_bytes more conn.asking).asks) (sym new.same) };
 }
   where
     not_over : (begun pipe_info).onward ≡ over → ⊥
@@ -93,7 +93,7 @@ read_first conn server before was begins new = record {
 
 -- ---- a read
 
-fed_shuts : (s : Asking) (bytes : List ℕ) → (s.onward ≡ over → AsksToShut s.asks) → (fed bytes s).onward ≡ over → AsksToShut (fed bytes s).asks
+fed_shuts : (s : Asking) (bytes : List ℕ) → (s.onward ≡ over → AsksToShut s.asks) → (asks_after_bytes bytes s).onward ≡ over → AsksToShut (asks_after_bytes bytes s).asks
 fed_shuts s bytes shuts ends = go s.onward refl ends
   where
     go : (onward : Onward) → s.onward ≡ onward → (read_onward s.onward bytes).onward ≡ over → AsksToShut (s.asks ++ (read_onward s.onward bytes).asks)
@@ -112,10 +112,10 @@ read_on conn new server before left now was is asked n serves gains =
       empty = reads.empty;
       in_step = record {
         ready = reads.in_step.ready;
-        settled = ap (fed []) gains.came ∙ settled_fed conn.asking gains.bytes ∙ sym gains.came;
+        settled = ap (asks_after_bytes []) gains.came ∙ settled_fed conn.asking gains.bytes ∙ sym gains.came;
         shuts = λ ends. subst (λ (s : Asking). AsksToShut s.asks) (sym gains.came) (fed_shuts conn.asking gains.bytes reads.in_step.shuts (sym (ap (λ (s : Asking). s.onward) gains.came) ∙ ends));
       };
-      tells = subst (λ (s : Asking). Tells (reads.read ++ gains.bytes) reads.put (record { asking = s; served = served server })) (sym gains.came) (tells_fed reads.read reads.put gains.bytes (state_of conn server) reads.tells);
+      tells = subst (λ (s : Asking). Tells (reads.read ++ gains.bytes) reads.put (record { asking = s; served = served_state server })) (sym gains.came) (tells_fed reads.read reads.put gains.bytes (state_of conn server) reads.tells);
     }
 
 -- the connection reads on: nothing stands to be asked

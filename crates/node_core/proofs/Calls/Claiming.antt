@@ -16,7 +16,7 @@ use Rattle.node_law.specs.Steps.{event_refusal, work_refusal}
 use Rattle.node_law.specs.Sound.{tried_of}
 use Rattle.node_parts.specs.Lines.{LineClaims, MayClaim, is_won}
 use Rattle.node_parts.specs.Sides.{Side}
-use Rattle.node_core.specs.Served.{IsClaimToldAt, ClaimStep, Served, IsKept, seen, refusal, work_answer}
+use Rattle.node_core.specs.Served.{IsClaimToldAt, ClaimStep, Served, IsKept, served_of_parts, refusal, work_answer}
 
 pub may_claim : (s : Served) (shard place : ℕ) (line : Line) → IsKept s → IsShard s.node shard place line → slice_get s.node.lines place ≡ Some line → MayClaim line s.node.race shard
 may_claim s shard place line kept p here = record {
@@ -25,22 +25,22 @@ may_claim s shard place line kept p here = record {
 }
 
 pub claim_call : (copies : Bool) (side : Side) (race new_race : RaceState) (lines : List Line) (shard place index : ℕ) (line after : Line) (r : Result Claimed (Failure NodeFault))
-    → IsKept (seen side race lines) → IsShard (seen side race lines).node shard place line → slice_get lines place ≡ Some line
+    → IsKept (served_of_parts side race lines) → IsShard (served_of_parts side race lines).node shard place line → slice_get lines place ≡ Some line
     → IsAnswered (event_refusal line (Some (of_shard.Claim index false))) (λ claimed. LineClaims copies line race shard index claimed after new_race) ((after ≡ line) × (new_race ≡ race)) r
-    → Called Claimed (seen side race lines) (seen side new_race (set lines place after)) (Own (AtShard shard (Claim index))) (λ claimed. ClaimStep copies (seen side race lines) shard index claimed (seen side new_race (set lines place after))) r
+    → Called Claimed (served_of_parts side race lines) (served_of_parts side new_race (set lines place after)) (Own (AtShard shard (Claim index))) (λ claimed. ClaimStep copies (served_of_parts side race lines) shard index claimed (served_of_parts side new_race (set lines place after))) r
 claim_call copies side race new_race lines shard place index line after r kept p here h = record { keeps = keep r (go r h); answers = go r h }
   where
     old : Served
-    old = seen side race lines
+    old = served_of_parts side race lines
 
     new : Served
-    new = seen side new_race (set lines place after)
+    new = served_of_parts side new_race (set lines place after)
 
     cause : (c : Option NodeFault) → event_refusal line (Some (of_shard.Claim index false)) ≡ c → refusal old (Own (AtShard shard (Claim index))) ≡ c
     cause c e = ap (work_refusal (Claim index)) p.is ∙ e
 
     same : (after ≡ line) × (new_race ≡ race) → new ≡ old
-    same e = λ k. seen side (e.1 k) (lines_same lines place line after here e.0 k)
+    same e = λ k. served_of_parts side (e.1 k) (lines_same lines place line after here e.0 k)
 
     done : (claimed : Claimed) → event_refusal line (Some (of_shard.Claim index false)) ≡ None → LineClaims copies line race shard index claimed after new_race → ClaimStep copies old shard index claimed new
     done claimed free d = record {

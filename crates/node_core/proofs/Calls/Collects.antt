@@ -17,14 +17,14 @@ use Rattle.hub_core.specs.State.{Peer}
 use Rattle.hub_core.specs.Events as of_hub
 use Rattle.hub_core.specs.AsLaw.{HasPeers}
 use Rattle.hub_core.specs.Publishing.{is_to, with_frames}
-use Rattle.hub_core.specs.Telling.{is_told, has_room_for, without_slow, body_of, changes_of, count_of_changes, frames_of_change, frames_behind, collect_frames, collected, slow_peers}
+use Rattle.hub_core.specs.Telling.{is_told, has_room_for, without_slow, body_of, changes_of, count_of_changes, frames_of_change, frames_behind, collect_frames, after_collect, slow_peers}
 use Rattle.node_parts.specs.Sides.{Side, ByHub, OfHub, IsDone, side_after}
 use Rattle.shard_core.specs.ShardEvents as of_shard
 use Rattle.node_law.specs.declared.faults.NodeFault.TheVariants as node_fault
 use Rattle.node_law.specs.Answers as answer
 use Rattle.node_law.specs.State.{Line, Node}
 use Rattle.node_law.specs.Steps.{shard_line, line_after, set_line, deltas_at, collect_refusal_at}
-use Rattle.node_core.specs.Served.{CollectStep, seen}
+use Rattle.node_core.specs.Served.{CollectStep, served_of_parts}
 use Rattle.node_core.proofs.Calls.Composed.{IsShard, lines_same}
 
 -- ---- how many frames
@@ -71,10 +71,10 @@ up_told count [] = refl
 up_told count (peer ∷ peers) =
     counted is_up (without_slow count peer) (map (without_slow count) peers) ∙ ap (λ n. cond (is_told count peer) 1 0 + n) (up_told count peers) ∙ sym (counted (is_told count) peer peers)
 
-pub told_is : (server : Server) (hub : hub.State) (deltas : List Delta) → count_by is_up (collected server hub deltas).peers ≡ count_by (is_told (count_of_changes hub deltas)) hub.peers
+pub told_is : (server : Server) (hub : hub.State) (deltas : List Delta) → count_by is_up (after_collect server hub deltas).peers ≡ count_by (is_told (count_of_changes hub deltas)) hub.peers
 told_is server hub deltas = up_with server (collect_frames server hub deltas) 0 (map (without_slow (count_of_changes hub deltas)) hub.peers) ∙ up_told (count_of_changes hub deltas) hub.peers
 
-pub frames_told : (server : Server) (hub : hub.State) (deltas : List Delta) → count_of_changes hub deltas * count_by is_up (collected server hub deltas).peers ≡ length (collect_frames server hub deltas)
+pub frames_told : (server : Server) (hub : hub.State) (deltas : List Delta) → count_of_changes hub deltas * count_by is_up (after_collect server hub deltas).peers ≡ length (collect_frames server hub deltas)
 frames_told server hub deltas = ap (λ n. count_of_changes hub deltas * n) (told_is server hub deltas) ∙ sym (of_changes server (count_of_changes hub deltas) hub.changed (changes_of hub deltas) hub.peers)
 
 -- a peer that is told has room for all of them
@@ -96,11 +96,11 @@ few_told count (peer ∷ peers) = go (few_told count peers) (is_told count peer)
         let none : count * count_by (is_told count) (peer ∷ peers) ≡ count * count_by (is_told count) peers = ap (λ n. count * n) (counted (is_told count) peer peers ∙ ap (λ b. cond b 1 0 + count_by (is_told count) peers) e ∙ drop_none) in
         omega arith
 
-pub frames_few : (server : Server) (hub : hub.State) (deltas : List Delta) → count_of_changes hub deltas * count_by is_up (collected server hub deltas).peers ≤ ROUTE_FRAMES * length hub.peers
+pub frames_few : (server : Server) (hub : hub.State) (deltas : List Delta) → count_of_changes hub deltas * count_by is_up (after_collect server hub deltas).peers ≤ ROUTE_FRAMES * length hub.peers
 frames_few server hub deltas = subst (λ n. count_of_changes hub deltas * n ≤ ROUTE_FRAMES * length hub.peers) (sym (told_is server hub deltas)) (few_told (count_of_changes hub deltas) hub.peers)
 
 -- so the number of frames is no great one
-pub frames_within : (server : Server) (hub : hub.State) (deltas : List Delta) (count ups : ℕ) → HasPeers server hub → length server.names ≤ MAX_NODES → count ≡ count_of_changes hub deltas → ups ≡ count_by is_up (collected server hub deltas).peers → count * ups ≤ ROUTE_FRAMES * MAX_NODES
+pub frames_within : (server : Server) (hub : hub.State) (deltas : List Delta) (count ups : ℕ) → HasPeers server hub → length server.names ≤ MAX_NODES → count ≡ count_of_changes hub deltas → ups ≡ count_by is_up (after_collect server hub deltas).peers → count * ups ≤ ROUTE_FRAMES * MAX_NODES
 frames_within server hub deltas count ups size few count_is ups_are =
     let bound : count * ups ≤ ROUTE_FRAMES * length hub.peers = subst (λ n. n ≤ ROUTE_FRAMES * length hub.peers) (sym (λ k. count_is k * ups_are k)) (frames_few server hub deltas) in
     let most : ROUTE_FRAMES * length hub.peers ≤ ROUTE_FRAMES * MAX_NODES = mul-le-mul_left {m = length hub.peers} {n = MAX_NODES} ROUTE_FRAMES (omega arith) in
@@ -128,11 +128,11 @@ cut_told old new shard line after changes ups cut told =
     let is : cut ≡ slow_peers old.hub d = cc (e) in
     is
 
-pub ups_told : (old new : Side) (shard : ℕ) (line after : Line) (changes : List Change) (ups : ℕ) (cut : List ℕ) → IsToldOf old new shard line after changes ups cut → ups ≡ count_by is_up (collected old.server old.hub line.shard.deltas).peers
+pub ups_told : (old new : Side) (shard : ℕ) (line after : Line) (changes : List Change) (ups : ℕ) (cut : List ℕ) → IsToldOf old new shard line after changes ups cut → ups ≡ count_by is_up (after_collect old.server old.hub line.shard.deltas).peers
 ups_told old new shard line after changes ups cut told = told.ups_are ∙ ap (λ (s : Side). count_by is_up s.hub.peers) told.done.after
 
-pub collect_done : (old new : Side) (race : RaceState) (lines : List Line) (shard place : ℕ) (line after : Line) (changes : List Change) (ups : ℕ) (cut : List ℕ) → IsShard (seen old race lines).node shard place line → IsToldOf old new shard line after changes ups cut
-    → CollectStep (seen old race lines) shard (length changes) (length changes * ups) cut (seen new race (set lines place after))
+pub collect_done : (old new : Side) (race : RaceState) (lines : List Line) (shard place : ℕ) (line after : Line) (changes : List Change) (ups : ℕ) (cut : List ℕ) → IsShard (served_of_parts old race lines).node shard place line → IsToldOf old new shard line after changes ups cut
+    → CollectStep (served_of_parts old race lines) shard (length changes) (length changes * ups) cut (served_of_parts new race (set lines place after))
 collect_done old new race lines shard place line after changes ups cut p told = record {
   step = record {
     race = race;
@@ -140,13 +140,13 @@ collect_done old new race lines shard place line after changes ups cut p told = 
     step = record {
       cause = ap (collect_refusal_at old.hub) p.is ∙ ap (option_map node_fault.Hub) told.done.free;
       moves = refl;
-      after = λ k. (seen (side_is k) race (lines_are k)).node;
+      after = λ k. (served_of_parts (side_is k) race (lines_are k)).node;
     };
   };
   answered = λ k. answer.Collected (changes_length k) (frames_are k) (cut_are k);
 } where
   a : Node
-  a = (seen old race lines).node
+  a = (served_of_parts old race lines).node
 
   side_is : new ≡ side_after old (ByHub (of_hub.Collect shard (deltas_at (shard_line a shard))))
   side_is = told.done.after ∙ ap (λ o. side_after old (ByHub (of_hub.Collect shard (deltas_at o)))) (sym p.is)
@@ -177,5 +177,5 @@ told_of old new shard line after deltas changes ups cut same done ups_are after_
 }
 
 -- a collect that is refused leaves all as it was
-pub collect_left : (old new : Side) (race : RaceState) (lines : List Line) (place : ℕ) (line : Line) → new ≡ old → slice_get lines place ≡ Some line → seen new race (set lines place line) ≡ seen old race lines
-collect_left old new race lines place line left here = λ k. seen (left k) race (lines_same lines place line line here refl k)
+pub collect_left : (old new : Side) (race : RaceState) (lines : List Line) (place : ℕ) (line : Line) → new ≡ old → slice_get lines place ≡ Some line → served_of_parts new race (set lines place line) ≡ served_of_parts old race lines
+collect_left old new race lines place line left here = λ k. served_of_parts (left k) race (lines_same lines place line line here refl k)

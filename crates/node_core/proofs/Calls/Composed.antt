@@ -18,7 +18,7 @@ use Rattle.node_law.specs.declared.events.ShardWork.TheVariants.{End, DropJob}
 use Rattle.node_law.specs.State.{Line, Node}
 use Rattle.node_law.specs.Steps.{conn_place, conn_line, shard_line, conn_event, work_event, conn_refusal, event_refusal, work_refusal, WorkRace, line_after, line_after_if, set_line}
 use Rattle.node_parts.specs.Sides.{Side}
-use Rattle.node_core.specs.Served.{Served, LineStep, LineEnds, LineDrops, DropStep, WaitsNext, dropped_job, dropped_turn, DoesStep, ConnStep, WorkStep, work_answer, IsKept, seen, refusal, answer_at, place_of_conn, place_of_shard}
+use Rattle.node_core.specs.Served.{Served, LineStep, LineEnds, LineDrops, DropStep, WaitsNext, dropped_job, dropped_turn, DoesStep, ConnStep, WorkStep, work_answer, IsKept, served_of_parts, refusal, answer_at, place_of_conn, place_of_shard}
 use Rattle.subj.specs.declared.jobs.Job.{Job}
 use Rattle.subj.specs.declared.limits.TheConstants.{WINDOW}
 use Rattle.shard_core.specs.Lines.{SoundLine, Turns, begun_turn, first_of}
@@ -118,8 +118,8 @@ pub lines_same : (lines : List Line) (place : ℕ) (line after : Line) → slice
 lines_same lines place line after here same = ap (set lines place) same ∙ write_same lines place line here
 
 conn_done : (side : Side) (race : RaceState) (lines : List Line) (conn place : ℕ) (event : ConnEvent) (line after : Line) (answer : of_shard.Answer)
-    → IsPlace side.server (seen side race lines).node conn place line → event_refusal line (Some (conn_event conn event)) ≡ None → LineStep line (conn_event conn event) answer after
-    → ConnStep (seen side race lines) conn event answer (seen side race (set lines place after))
+    → IsPlace side.server (served_of_parts side race lines).node conn place line → event_refusal line (Some (conn_event conn event)) ≡ None → LineStep line (conn_event conn event) answer after
+    → ConnStep (served_of_parts side race lines) conn event answer (served_of_parts side race (set lines place after))
 conn_done side race lines conn place event line after answer p free does = record {
   step = record {
     race = race;
@@ -128,24 +128,24 @@ conn_done side race lines conn place event line after answer p free does = recor
       cause = ap (conn_refusal event conn) p.is ∙ free;
       moves = refl;
       after =
-          let written : set lines place after ≡ set_line lines (conn_place side.server conn) (line_after (conn_event conn event)) (conn_line side.server (seen side race lines).node conn) = ap (set lines place) does.after ∙ sym (λ k. set_line lines (p.at k) (line_after (conn_event conn event)) (p.is k)) in
-          λ k. (seen side race (written k)).node;
+          let written : set lines place after ≡ set_line lines (conn_place side.server conn) (line_after (conn_event conn event)) (conn_line side.server (served_of_parts side race lines).node conn) = ap (set lines place) does.after ∙ sym (λ k. set_line lines (p.at k) (line_after (conn_event conn event)) (p.is k)) in
+          λ k. (served_of_parts side race (written k)).node;
     };
   };
   answered = ap Some does.answered ∙ sym (ap (answer_at (Some (conn_event conn event))) p.is);
 }
 
 pub conn_call : {X : Type 0} (side : Side) (race : RaceState) (lines : List Line) (conn count place : ℕ) (o : Option ℕ) (event : ConnEvent) (line after : Line) (answer : X → of_shard.Answer) (r : Result X (Failure NodeFault))
-    → IsKept (seen side race lines) → count ≡ length lines → o ≡ place_of_conn count conn → o ≡ Some place → slice_get lines place ≡ Some line
+    → IsKept (served_of_parts side race lines) → count ≡ length lines → o ≡ place_of_conn count conn → o ≡ Some place → slice_get lines place ≡ Some line
     → IsAnswered (event_refusal line (Some (conn_event conn event))) (λ x. LineStep line (conn_event conn event) (answer x) after) (after ≡ line) r
-    → Called X (seen side race lines) (seen side race (set lines place after)) (Own (OfConn conn event)) (λ x. ConnStep (seen side race lines) conn event (answer x) (seen side race (set lines place after))) r
+    → Called X (served_of_parts side race lines) (served_of_parts side race (set lines place after)) (Own (OfConn conn event)) (λ x. ConnStep (served_of_parts side race lines) conn event (answer x) (served_of_parts side race (set lines place after))) r
 conn_call {X = X} side race lines conn count place o event line after answer r kept is_count given some here h = record { keeps = answer_keeps old new (Own (OfConn conn event)) false (λ x. ConnStep old conn event (answer x) new) r kept (λ x d. d.step) (go r h); answers = go r h }
   where
     old : Served
-    old = seen side race lines
+    old = served_of_parts side race lines
 
     new : Served
-    new = seen side race (set lines place after)
+    new = served_of_parts side race (set lines place after)
 
     p : IsPlace side.server old.node conn place line
     p = conn_found side.server old.node conn count place o line kept.sound.size is_count given some here
@@ -154,7 +154,7 @@ conn_call {X = X} side race lines conn count place o event line after answer r k
     cause c e = ap (conn_refusal event conn) p.is ∙ e
 
     same : after ≡ line → new ≡ old
-    same e = ap (seen side race) (lines_same lines place line after here e)
+    same e = ap (served_of_parts side race) (lines_same lines place line after here e)
 
     go : (r : Result X (Failure NodeFault)) → IsAnswered (event_refusal line (Some (conn_event conn event))) (λ x. LineStep line (conn_event conn event) (answer x) after) (after ≡ line) r → IsAnswered (refusal old (Own (OfConn conn event))) (λ x. ConnStep old conn event (answer x) new) (new ≡ old) r
     go (Ok x) g = (cause None g.0, conn_done side race lines conn place event line after (answer x) p g.0 g.1)
@@ -162,16 +162,16 @@ conn_call {X = X} side race lines conn count place o event line after answer r k
     go (Err OutOfMemory) g = (cause None g.0, same g.1)
 
 pub conn_decision : {X : Type 0} (side : Side) (race : RaceState) (lines : List Line) (conn count place : ℕ) (o : Option ℕ) (event : ConnEvent) (line after : Line) (answer : X → of_shard.Answer) (r : Result X NodeFault)
-    → IsKept (seen side race lines) → count ≡ length lines → o ≡ place_of_conn count conn → o ≡ Some place → slice_get lines place ≡ Some line
+    → IsKept (served_of_parts side race lines) → count ≡ length lines → o ≡ place_of_conn count conn → o ≡ Some place → slice_get lines place ≡ Some line
     → IsDecided (event_refusal line (Some (conn_event conn event))) (λ x. LineStep line (conn_event conn event) (answer x) after) (after ≡ line) r
-    → Decided X (seen side race lines) (seen side race (set lines place after)) (Own (OfConn conn event)) (λ x. ConnStep (seen side race lines) conn event (answer x) (seen side race (set lines place after))) r
+    → Decided X (served_of_parts side race lines) (served_of_parts side race (set lines place after)) (Own (OfConn conn event)) (λ x. ConnStep (served_of_parts side race lines) conn event (answer x) (served_of_parts side race (set lines place after))) r
 conn_decision {X = X} side race lines conn count place o event line after answer r kept is_count given some here h = record { keeps = decision_keeps old new (Own (OfConn conn event)) false (λ x. ConnStep old conn event (answer x) new) r kept (λ x d. d.step) (go r h); answers = go r h }
   where
     old : Served
-    old = seen side race lines
+    old = served_of_parts side race lines
 
     new : Served
-    new = seen side race (set lines place after)
+    new = served_of_parts side race (set lines place after)
 
     p : IsPlace side.server old.node conn place line
     p = conn_found side.server old.node conn count place o line kept.sound.size is_count given some here
@@ -181,16 +181,16 @@ conn_decision {X = X} side race lines conn count place o event line after answer
 
     go : (r : Result X NodeFault) → IsDecided (event_refusal line (Some (conn_event conn event))) (λ x. LineStep line (conn_event conn event) (answer x) after) (after ≡ line) r → IsDecided (refusal old (Own (OfConn conn event))) (λ x. ConnStep old conn event (answer x) new) (new ≡ old) r
     go (Ok x) g = (cause None g.0, conn_done side race lines conn place event line after (answer x) p g.0 g.1)
-    go (Err why) g = (cause (Some why) g.0, ap (seen side race) (lines_same lines place line after here g.1))
+    go (Err why) g = (cause (Some why) g.0, ap (served_of_parts side race) (lines_same lines place line after here g.1))
 
 -- ---- shards
 
 -- the step of a shard's work, with the race after it
 pub work_done : (side : Side) (race new_race : RaceState) (lines : List Line) (shard place : ℕ) (work : ShardWork) (won : Bool) (line after : Line)
-    → IsShard (seen side race lines).node shard place line → event_refusal line (work_event work false line) ≡ None → after ≡ line_after_if (work_event work won line) line → WorkRace race shard work (Some line) won new_race
-    → DoesStep (seen side race lines) (Own (AtShard shard work)) won (seen side new_race (set lines place after))
+    → IsShard (served_of_parts side race lines).node shard place line → event_refusal line (work_event work false line) ≡ None → after ≡ line_after_if (work_event work won line) line → WorkRace race shard work (Some line) won new_race
+    → DoesStep (served_of_parts side race lines) (Own (AtShard shard work)) won (served_of_parts side new_race (set lines place after))
 work_done side race new_race lines shard place work won line after p free does moves =
-    let a : Node = (seen side race lines).node in
+    let a : Node = (served_of_parts side race lines).node in
     record {
       race = new_race;
       server = refl;
@@ -199,24 +199,24 @@ work_done side race new_race lines shard place work won line after p free does m
         moves = subst (λ o. WorkRace race shard work o won new_race) (sym p.is) moves;
         after =
             let written : set lines place after ≡ set_line lines (shard - 1) (λ line. line_after_if (work_event work won line) line) (shard_line a shard) = ap (set lines place) does ∙ sym (λ k. set_line lines (p.at k) (λ line. line_after_if (work_event work won line) line) (p.is k)) in
-            λ k. (seen side new_race (written k)).node;
+            λ k. (served_of_parts side new_race (written k)).node;
       };
     }
 
 -- of work that moves no race
 pub work_call : {X : Type 0} (side : Side) (race : RaceState) (lines : List Line) (shard count place : ℕ) (o : Option ℕ) (work : ShardWork) (line after : Line) (done : X → Type 0) (fact : X → Type 0) (r : Result X (Failure NodeFault))
-    → IsKept (seen side race lines) → count ≡ length lines → o ≡ place_of_shard count shard → o ≡ Some place → slice_get lines place ≡ Some line
+    → IsKept (served_of_parts side race lines) → count ≡ length lines → o ≡ place_of_shard count shard → o ≡ Some place → slice_get lines place ≡ Some line
     → WorkRace race shard work (Some line) false race → ((x : X) → done x → after ≡ line_after_if (work_event work false line) line)
-    → (shard_line (seen side race lines).node shard ≡ Some line → (x : X) → done x → fact x)
+    → (shard_line (served_of_parts side race lines).node shard ≡ Some line → (x : X) → done x → fact x)
     → IsAnswered (event_refusal line (work_event work false line)) done (after ≡ line) r
-    → Called X (seen side race lines) (seen side race (set lines place after)) (Own (AtShard shard work)) (λ x. DoesStep (seen side race lines) (Own (AtShard shard work)) false (seen side race (set lines place after)) × fact x) r
+    → Called X (served_of_parts side race lines) (served_of_parts side race (set lines place after)) (Own (AtShard shard work)) (λ x. DoesStep (served_of_parts side race lines) (Own (AtShard shard work)) false (served_of_parts side race (set lines place after)) × fact x) r
 work_call {X = X} side race lines shard count place o work line after done fact r kept is_count given some here moves does told h = record { keeps = answer_keeps old new (Own (AtShard shard work)) false (λ x. DoesStep old (Own (AtShard shard work)) false new × fact x) r kept (λ x d. d.0) (go r h); answers = go r h }
   where
     old : Served
-    old = seen side race lines
+    old = served_of_parts side race lines
 
     new : Served
-    new = seen side race (set lines place after)
+    new = served_of_parts side race (set lines place after)
 
     p : IsShard old.node shard place line
     p = shard_found old.node shard count place o line is_count given some here
@@ -225,7 +225,7 @@ work_call {X = X} side race lines shard count place o work line after done fact 
     cause c e = ap (work_refusal work) p.is ∙ e
 
     same : after ≡ line → new ≡ old
-    same e = ap (seen side race) (lines_same lines place line after here e)
+    same e = ap (served_of_parts side race) (lines_same lines place line after here e)
 
     go : (r : Result X (Failure NodeFault)) → IsAnswered (event_refusal line (work_event work false line)) done (after ≡ line) r → IsAnswered (refusal old (Own (AtShard shard work))) (λ x. DoesStep old (Own (AtShard shard work)) false new × fact x) (new ≡ old) r
     go (Ok x) g = (cause None g.0, (work_done side race race lines shard place work false line after p g.0 (does x g.1) moves, told p.is x g.1))
@@ -278,10 +278,10 @@ held_turn s shard place turn line kept p held = go line.shard.hand refl held
         (omega arith, record { first = p.first; last = omega arith; behind = omega arith; issued = omega arith })
 
 pub end_done : (side : Side) (race new_race : RaceState) (lines : List Line) (shard place turn : ℕ) (line after : Line)
-    → IsKept (seen side race lines) → IsShard (seen side race lines).node shard place line → event_refusal line (Some of_shard.End) ≡ None → LineEnds line turn after → IsFinished race shard turn new_race
-    → WorkStep (seen side race lines) shard End false of_shard.Finished (seen side new_race (set lines place after))
+    → IsKept (served_of_parts side race lines) → IsShard (served_of_parts side race lines).node shard place line → event_refusal line (Some of_shard.End) ≡ None → LineEnds line turn after → IsFinished race shard turn new_race
+    → WorkStep (served_of_parts side race lines) shard End false of_shard.Finished (served_of_parts side new_race (set lines place after))
 end_done side race new_race lines shard place turn line after kept p free ends over = record {
-  step = work_done side race new_race lines shard place End false line after p free ends.after (subst (λ t. IsFinished race shard t new_race) (held_turn (seen side race lines) shard place turn line kept p ends.held).0 over);
+  step = work_done side race new_race lines shard place End false line after p free ends.after (subst (λ t. IsFinished race shard t new_race) (held_turn (served_of_parts side race lines) shard place turn line kept p ends.held).0 over);
   answered = sym (ap (work_answer End false) p.is);
 }
 
@@ -320,9 +320,9 @@ waits_next s shard place line kept p job free first =
     omega arith
 
 pub drop_done : (side : Side) (race new_race : RaceState) (lines : List Line) (shard place turn : ℕ) (line after : Line)
-    → IsKept (seen side race lines) → IsShard (seen side race lines).node shard place line → event_refusal line (work_event DropJob false line) ≡ None → LineDrops line turn after → IsFinished race shard turn new_race
-    → DropStep (seen side race lines) shard turn (seen side new_race (set lines place after))
+    → IsKept (served_of_parts side race lines) → IsShard (served_of_parts side race lines).node shard place line → event_refusal line (work_event DropJob false line) ≡ None → LineDrops line turn after → IsFinished race shard turn new_race
+    → DropStep (served_of_parts side race lines) shard turn (served_of_parts side new_race (set lines place after))
 drop_done side race new_race lines shard place turn line after kept p free drops over = record {
-  step = work_done side race new_race lines shard place DropJob false line after p free drops.after (subst (λ t. IsFinished race shard t new_race) (dropped_held (seen side race lines) shard place turn line kept p drops.held).0 over);
+  step = work_done side race new_race lines shard place DropJob false line after p free drops.after (subst (λ t. IsFinished race shard t new_race) (dropped_held (served_of_parts side race lines) shard place turn line kept p drops.held).0 over);
   answered = ap dropped_turn p.is ∙ drops.held;
 }

@@ -15,10 +15,10 @@ use Rattle.claim_race.specs.Race.{RaceState, busy_of, shards_of}
 use Rattle.route_values.specs.Frames.{Frame}
 use Rattle.hub_core.specs.State as hub
 use Rattle.hub_core.specs.Chosen.{IsPlanOf}
-use Rattle.hub_core.specs.Calls.{put_out}
+use Rattle.hub_core.specs.Calls.{after_frames}
 use Rattle.hub_core.specs.declared.faults.HubFault.{HubFault}
 use Rattle.hub_core.specs.declared.faults.HubFault.TheVariants.{Busy, Spent, TooManyQueues}
-use Rattle.hub_core.specs.Publishing.{Publication, busy_fault, names_of, publish_fault, publish_refusal, published, own_job, frames_of}
+use Rattle.hub_core.specs.Publishing.{Publication, busy_fault, names_of, publish_fault, publish_refusal, after_publish, own_job, frames_of}
 use Rattle.hub_core.proofs.Neighbours.Known.{map_length}
 use Rattle.hub_core.proofs.Steps.Rooms.{or_none, map_none, has_room}
 use Rattle.shard_core.specs.Lines.{Turns, begun_turn}
@@ -26,9 +26,9 @@ use Rattle.node_law.specs.declared.faults.NodeFault.{NodeFault}
 use Rattle.node_law.specs.declared.faults.NodeFault.TheVariants.{Hub}
 use Rattle.node_law.specs.State.{Line, finished_turns}
 use Rattle.node_law.specs.Answers.{Issued}
-use Rattle.node_law.specs.Steps.{queued}
+use Rattle.node_law.specs.Steps.{line_with_job}
 use Rattle.node_parts.specs.Sides.{Side}
-use Rattle.node_core.specs.Served.{Served, IsKept, MayIssue, AreGiven, PublishStep, failure_of_hub, seen}
+use Rattle.node_core.specs.Served.{Served, IsKept, MayIssue, AreGiven, PublishStep, failure_of_hub, served_of_parts}
 use Rattle.node_law.proofs.Moves.Hubs.{all_room}
 
 -- ---- what the hub answers
@@ -123,7 +123,7 @@ publish_ready s p kept cause =
 
 -- there are as many lines as before
 pub given_length : (race new_race : RaceState) (lines new_lines : List Line) (jobs : List Job) (job : Job) → AreGiven race lines jobs new_race new_lines → jobs ≡ replicate (length lines) job → length new_lines ≡ length lines
-given_length race new_race lines new_lines jobs job given alike = ap length (given.given job alike) ∙ map_length (queued job) lines
+given_length race new_race lines new_lines jobs job given alike = ap length (given.given job alike) ∙ map_length (line_with_job job) lines
 
 -- ---- what is done
 
@@ -135,12 +135,12 @@ pub record IsPublished (old new : Side) (race new_race : RaceState) (lines new_l
   pub plan : IsPlanOf old.server old.hub p job sent
   pub turn_is : turn ≡ job.turn
   pub frames_are : frames ≡ length sent
-  pub side : new ≡ record old { hub = put_out old.server old.hub sent }
+  pub side : new ≡ record old { hub = after_frames old.server old.hub sent }
   pub alike : jobs ≡ replicate (length lines) job
   pub given : AreGiven race lines jobs new_race new_lines
 
 pub publish_done : (old new : Side) (race new_race : RaceState) (lines new_lines : List Line) (p : Publication) (turn frames : ℕ) → publish_refusal old.server old.hub p (finished_turns lines) ≡ None → IsPublished old new race new_race lines new_lines p turn frames
-    → PublishStep (seen old race lines) p turn frames (seen new new_race new_lines)
+    → PublishStep (served_of_parts old race lines) p turn frames (served_of_parts new new_race new_lines)
 publish_done old new race new_race lines new_lines p turn frames cause done = record {
   step = record {
     race = new_race;
@@ -149,9 +149,9 @@ publish_done old new race new_race lines new_lines p turn frames cause done = re
       cause = ap (option_map Hub) cause;
       moves = done.given.issued;
       after =
-          let side_is : new ≡ record old { hub = published old.server old.hub p } = done.side ∙ ap (λ fs. record old { hub = put_out old.server old.hub fs }) done.plan.frames in
-          let lines_are : new_lines ≡ map (queued (own_job old.server old.hub p)) lines = done.given.given done.job done.alike ∙ ap (λ (job : Job). map (queued job) lines) done.plan.job in
-          λ k. (seen (side_is k) new_race (lines_are k)).node;
+          let side_is : new ≡ record old { hub = after_publish old.server old.hub p } = done.side ∙ ap (λ fs. record old { hub = after_frames old.server old.hub fs }) done.plan.frames in
+          let lines_are : new_lines ≡ map (line_with_job (own_job old.server old.hub p)) lines = done.given.given done.job done.alike ∙ ap (λ (job : Job). map (line_with_job job) lines) done.plan.job in
+          λ k. (served_of_parts (side_is k) new_race (lines_are k)).node;
     };
   };
   answered =

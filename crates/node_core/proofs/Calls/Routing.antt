@@ -14,7 +14,7 @@ use Rattle.route_values.specs.Frames.{Frame}
 use Rattle.route_values.specs.declared.bodies.Body.{Body}
 use Rattle.route_values.specs.declared.bodies.Body.TheVariants.{Plus, Minus, Snapshot, Msg}
 use Rattle.hub_core.specs.State as hub
-use Rattle.hub_core.specs.State.{Peer, known, peer_of}
+use Rattle.hub_core.specs.State.{Peer, peer_in_life, peer_of}
 use Rattle.hub_core.specs.Events as of_hub
 use Rattle.hub_core.specs.Steps.{received_answer}
 use Rattle.hub_core.specs.declared.faults.HubFault.TheVariants as fault
@@ -30,7 +30,7 @@ use Rattle.node_law.specs.Answers.{told_of_hub}
 use Rattle.node_law.specs.Events.{Receive}
 use Rattle.node_law.specs.State.{Line, Node, finished_turns}
 use Rattle.node_law.specs.Steps.{BodyRace, lines_after_body}
-use Rattle.node_core.specs.Served.{Served, IsKept, MayIssue, MayRoute, AreRouted, IsReceived, ReceiveStep, told_of_received, seen}
+use Rattle.node_core.specs.Served.{Served, IsKept, MayIssue, MayRoute, AreRouted, IsReceived, ReceiveStep, told_of_received, served_of_parts}
 use Rattle.node_core.proofs.Calls.GivenJobs.{are_counted, busy_same, may_issue, given_length}
 
 -- which turns are finished matters only by who is a window behind
@@ -45,7 +45,7 @@ receive_same server hub x y frame e = ap (λ o. if not (bytes_eq frame.to (own_n
 
     origin : (o : Option Peer) → origin_fault server hub x frame o ≡ origin_fault server hub y frame o
     origin None = refl
-    origin (Some peer) = ap (λ o. if nat_lt frame.inc peer.seen then Some fault.StaleOrigin else o) (of_body frame.body (known peer frame.inc))
+    origin (Some peer) = ap (λ o. if nat_lt frame.inc peer.seen then Some fault.StaleOrigin else o) (of_body frame.body (peer_in_life peer frame.inc))
 
 -- so a frame is refused just as the hub says
 pub receive_heard : (s : Served) (frame : Frame) (count : ℕ) (finished : List ℕ) → IsKept s → count ≡ length s.node.lines → take count finished ≡ s.node.race.finished
@@ -58,7 +58,7 @@ message_ready s frame content queues kept cause is =
     let hub = s.node.hub in
     let finished = finished_turns s.node.lines in
     let f = from_peer s.server kept.listed hub finished frame cause in
-    let base = known f.peer frame.inc in
+    let base = peer_in_life f.peer frame.inc in
     let none : body_fault s.server hub base frame.number finished (Msg content queues) ≡ None = subst (λ b. body_fault s.server hub base frame.number finished b ≡ None) is f.none in
     let late = no_cause (nat_le frame.number base.mark) fault.Late (option_or (busy_fault s.server hub finished) (if nat_le MAX_COUNTER hub.issued then Some fault.Spent else None)) none in
     let o = or_none (busy_fault s.server hub finished) (if nat_le MAX_COUNTER hub.issued then Some fault.Spent else None) late.1 in
@@ -93,7 +93,7 @@ pub record IsRouted (old new : Side) (race new_race : RaceState) (lines new_line
   pub routed : AreRouted (has_message frame.body) race lines jobs new_race new_lines
 
 pub receive_done : (old new : Side) (race new_race : RaceState) (lines new_lines : List Line) (frame : Frame) (received : Received) (jobs : List Job) → receive_refusal old.server old.hub (finished_turns lines) frame ≡ None
-    → IsRouted old new race new_race lines new_lines frame received jobs → ReceiveStep (seen old race lines) frame received (seen new new_race new_lines)
+    → IsRouted old new race new_race lines new_lines frame received jobs → ReceiveStep (served_of_parts old race lines) frame received (served_of_parts new new_race new_lines)
 receive_done old new race new_race lines new_lines frame received jobs cause done = record {
   step = record {
     race = new_race;
@@ -101,13 +101,13 @@ receive_done old new race new_race lines new_lines frame received jobs cause don
     step = record {
       cause = ap (option_map node_fault.Hub) cause;
       moves = moves frame.body done.routed;
-      after = λ k. (seen (done.side k) new_race (lines_are frame.body done.received_is done.routed k)).node;
+      after = λ k. (served_of_parts (done.side k) new_race (lines_are frame.body done.received_is done.routed k)).node;
     };
   };
   answered = answers frame.body done.received_is;
 } where
   a : Node
-  a = (seen old race lines).node
+  a = (served_of_parts old race lines).node
 
   moves : (b : Body) → AreRouted (has_message b) race lines jobs new_race new_lines → BodyRace a b new_race
   moves (Plus weighted) r = r.0

@@ -2,7 +2,7 @@
 use Rattle.std.proofs.Common.{◌≡◌, ℕ, zero, suc, ◌+◌, List, [], ◌∷◌, ◌++◌, ap, ◌∙◌, arith}
 use Rattle.claim_race.specs.Race.{RaceState, IsNew}
 use Rattle.subj.specs.Servers.{Server, IsServer}
-use Rattle.node_core.specs.Served.{started, IsKept, seen}
+use Rattle.node_core.specs.Served.{new_server, IsKept, served_of_parts}
 use Rattle.node_law.specs.State.{Line, new_line, lines_from}
 use Rattle.node_parts.specs.Sides.{Side, new_side}
 use Rattle.node_law.proofs.Runs.Sound.{starts_sound}
@@ -24,8 +24,8 @@ lines_more shards count = ap (lines_from shards 1) (one count) ∙ more shards 1
     one m = omega arith
 
 -- a server of new parts
-pub starts_as : (server : Server) (side : Side) (race : RaceState) (lines : List Line) → side ≡ new_side server → IsNew server.shards race → lines ≡ lines_from server.shards 1 server.shards → seen side race lines ≡ started server
-starts_as server side race lines side_is new lines_are = λ i. seen (side_is i) (record { issued = new.issued i; finished = new.finished i; next = new.next i; won = new.won i }) (lines_are i)
+pub starts_as : (server : Server) (side : Side) (race : RaceState) (lines : List Line) → side ≡ new_side server → IsNew server.shards race → lines ≡ lines_from server.shards 1 server.shards → served_of_parts side race lines ≡ new_server server
+starts_as server side race lines side_is new lines_are = λ i. served_of_parts (side_is i) (record { issued = new.issued i; finished = new.finished i; next = new.next i; won = new.won i }) (lines_are i)
 
-pub starts_kept : (server : Server) → IsServer server → IsKept (started server)
+pub starts_kept : (server : Server) → IsServer server → IsKept (new_server server)
 starts_kept server is = record { listed = is.known; some = is.first_shard; few = is.last_shard; sound = starts_sound server }

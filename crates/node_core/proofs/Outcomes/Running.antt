@@ -9,7 +9,7 @@ use Rattle.node_law.specs.declared.events.NodeEvent as code
 use Rattle.node_core.specs.declared.refused.Refused.{Refused}
 use Rattle.node_core.specs.declared.refused.Refused.TheVariants.{Fault, OutOfMemory}
 use Rattle.node_law.specs.Events.{NodeEvent}
-use Rattle.node_core.specs.InCode.{answered, event_of}
+use Rattle.node_core.specs.InCode.{result_in_code, event_of}
 use Rattle.node_core.specs.OneRun.{GoesOn, IsRun, Follows, OneServerKeeps, done_with, is_short, outcome_told}
 use Rattle.node_core.specs.Outcome.{Outcome, Does, did_of}
 use Rattle.node_law.specs.Runs.{Done, Ran}
@@ -23,7 +23,7 @@ IsBegun start all rs here rest = (more : List (Result Outcome Refused)) (new : S
 
 -- the step of this event is answered so
 abbrev pub IsStepped : Served → NodeEvent → Result Outcome Refused → Served → Type 0
-IsStepped here e r next = IsAnswered (refusal here e) (λ did. Does here e did next) (next ≡ here) (answered r)
+IsStepped here e r next = IsAnswered (refusal here e) (λ did. Does here e did next) (next ≡ here) (result_in_code r)
 
 pub one_more : (start : Served) (all : List NodeEvent) (rs : List (Result Outcome Refused)) (here : Served) (e : NodeEvent) (rest : List NodeEvent) (r : Result Outcome Refused) (next : Served) → IsBegun start all rs here (e ∷ rest) → IsStepped here e r next → is_short r ≡ false → IsBegun start all (rs ++ r ∷ []) next rest
 one_more start all rs here e rest r next begun step long more new run =
@@ -43,7 +43,7 @@ all_made start all rs here rest none begun =
 
 -- ---- the answers as told
 
-pub as_told : (here : Served) (e : NodeEvent) (r : Result Did Refused) (next : Served) → IsAnswered (refusal here e) (λ did. Does here e (did_of did) next) (next ≡ here) (answered r) → IsStepped here e (outcome_told r) next
+pub as_told : (here : Served) (e : NodeEvent) (r : Result Did Refused) (next : Served) → IsAnswered (refusal here e) (λ did. Does here e (did_of did) next) (next ≡ here) (result_in_code r) → IsStepped here e (outcome_told r) next
 as_told here e (Ok did) next a = a
 as_told here e (Err why) next a = a
 
@@ -60,12 +60,12 @@ next_event events i e within is = at_drop_more (map event_of) events i e within 
 one_answer : (answers more : List (Result Did Refused)) (r : Result Did Refused) → more ≡ answers ++ r ∷ [] → map outcome_told answers ++ outcome_told r ∷ [] ≡ map outcome_told more
 one_answer answers more r is = sym (ap (map outcome_told) is ∙ map_append outcome_told answers (r ∷ []))
 
-pub goes_one_on : (start here next : Served) (events : List code.NodeEvent) (i : ℕ) (e : code.NodeEvent) (answers more : List (Result Did Refused)) (r : Result Did Refused) → i < length events → e ≡ get_or events i e → more ≡ answers ++ r ∷ [] → IsBegun start (map event_of events) (map outcome_told answers) here (map event_of (drop i events)) → IsAnswered (refusal here (event_of e)) (λ did. Does here (event_of e) (did_of did) next) (next ≡ here) (answered r) → is_short r ≡ false → IsBegun start (map event_of events) (map outcome_told more) next (map event_of (drop (i + 1) events))
+pub goes_one_on : (start here next : Served) (events : List code.NodeEvent) (i : ℕ) (e : code.NodeEvent) (answers more : List (Result Did Refused)) (r : Result Did Refused) → i < length events → e ≡ get_or events i e → more ≡ answers ++ r ∷ [] → IsBegun start (map event_of events) (map outcome_told answers) here (map event_of (drop i events)) → IsAnswered (refusal here (event_of e)) (λ did. Does here (event_of e) (did_of did) next) (next ≡ here) (result_in_code r) → is_short r ≡ false → IsBegun start (map event_of events) (map outcome_told more) next (map event_of (drop (i + 1) events))
 goes_one_on start here next events i e answers more r within is put begun step long =
     subst (λ l. IsBegun start (map event_of events) l next (map event_of (drop (i + 1) events))) (one_answer answers more r put)
     (one_more start (map event_of events) (map outcome_told answers) here (event_of e) (map event_of (drop (i + 1) events)) (outcome_told r) next (subst (IsBegun start (map event_of events) (map outcome_told answers) here) (next_event events i e within is) begun) (as_told here (event_of e) r next step) (short_told r ∙ long))
 
-pub ends_here : (start here next : Served) (events : List code.NodeEvent) (i : ℕ) (e : code.NodeEvent) (answers more : List (Result Did Refused)) (r : Result Did Refused) → i < length events → e ≡ get_or events i e → more ≡ answers ++ r ∷ [] → IsBegun start (map event_of events) (map outcome_told answers) here (map event_of (drop i events)) → IsAnswered (refusal here (event_of e)) (λ did. Does here (event_of e) (did_of did) next) (next ≡ here) (answered r) → is_short r ≡ true → IsRun start (map event_of events) (map outcome_told more) next
+pub ends_here : (start here next : Served) (events : List code.NodeEvent) (i : ℕ) (e : code.NodeEvent) (answers more : List (Result Did Refused)) (r : Result Did Refused) → i < length events → e ≡ get_or events i e → more ≡ answers ++ r ∷ [] → IsBegun start (map event_of events) (map outcome_told answers) here (map event_of (drop i events)) → IsAnswered (refusal here (event_of e)) (λ did. Does here (event_of e) (did_of did) next) (next ≡ here) (result_in_code r) → is_short r ≡ true → IsRun start (map event_of events) (map outcome_told more) next
 ends_here start here next events i e answers more r within is put begun step short =
     subst (λ l. IsRun start (map event_of events) l next) (one_answer answers more r put)
     (the_last start (map event_of events) (map outcome_told answers) here (event_of e) (map event_of (drop (i + 1) events)) (outcome_told r) next (subst (IsBegun start (map event_of events) (map outcome_told answers) here) (next_event events i e within is) begun) (as_told here (event_of e) r next step) (short_told r ∙ short))

@@ -15,7 +15,7 @@ use Rattle.sub_table.specs.declared.Subscription.{Subscription}
 use Rattle.route_values.specs.declared.frames.RouteFrame.{RouteFrame}
 use Rattle.shard_core.specs.Answers.{IsTold}
 use Rattle.shard_core.specs.Lines.{first_of}
-use Rattle.shard_core.specs.ShardSteps.{shard_answer, shut_by, ended_of, answer_fits, called, subscribed_answer, claimed_answer}
+use Rattle.shard_core.specs.ShardSteps.{shard_answer, shut_by, ended_of, answer_fits, sub_called, subscribe_answer, claim_answer}
 use Rattle.shard_core.specs.Shards.{State}
 use Rattle.shard_core.specs.Owed.{slow_consumer, candidate_of}
 use Rattle.shard_core.specs.Puts.{put_by, put_by_claim, put_line}
@@ -164,7 +164,7 @@ placed_of of_shard.Finished = []
 placed_of (of_shard.Dropped job) = []
 placed_of (of_shard.Collected deltas) = []
 
-claim_put : (s : State) (hand : Option Job) (sub : Option Subscription) (won : Bool) → placed_of (claimed_answer s hand sub won) ≡ put_by_claim s hand sub won
+claim_put : (s : State) (hand : Option Job) (sub : Option Subscription) (won : Bool) → placed_of (claim_answer s hand sub won) ≡ put_by_claim s hand sub won
 claim_put s None sub won = refl
 claim_put s (Some job) None won = refl
 claim_put s (Some job) (Some sub) true = refl
@@ -227,13 +227,13 @@ alone_does old new event answer frames quiet sent d =
     let told = d.told in
     record { won = d.won; step = d.step; told = λ k. record { answer = told k; entries = q.put k; frames = sent k; shut = q.closed k; ended = q.over k } }
 
-subscribe_ends : (s : State) (sub : Option Subscription) → [] ≡ ended_of (subscribed_answer s sub)
+subscribe_ends : (s : State) (sub : Option Subscription) → [] ≡ ended_of (subscribe_answer s sub)
 subscribe_ends s None = refl
 subscribe_ends s (Some sub) = refl
 
 quiet_subscribe : (place conn : ℕ) (key : Key) (sid : List ℕ) (o : Option Line) → Putting place [] [] [] (part_at place (λ line. Some (of_shard.Subscribe conn key sid)) o)
 quiet_subscribe place conn key sid None = record { put = refl; closed = refl; over = refl }
-quiet_subscribe place conn key sid (Some line) = record { put = refl; closed = refl; over = subscribe_ends line.shard (called conn sid line.shard.subs) }
+quiet_subscribe place conn key sid (Some line) = record { put = refl; closed = refl; over = subscribe_ends line.shard (sub_called conn sid line.shard.subs) }
 
 pub subscribe_does : (old new : Served) (conn : ℕ) (key : Key) (sid : List ℕ) (answer : Answer) → Answers old (Own (OfConn conn (Subscribe key sid))) answer new → Does old (Own (OfConn conn (Subscribe key sid))) (record { answer = answer; entries = []; frames = []; shut = []; ended = [] }) new
 subscribe_does old new conn key sid answer d =

@@ -4,7 +4,7 @@ ghost use Rattle.std.specs.Prelude.{◌≡◌};
 ghost use Rattle.subj.specs.Answers.{IsAnswered};
 ghost use Rattle.node_law.specs.Events.{Own, OfConn, AtShard, OnInfo, OnConnect};
 ghost use Rattle.node_law.specs.declared.events.ConnEvent.TheVariants.{Subscribe};
-ghost use Rattle.node_core.specs.InCode.{answer_of, answered, event_of, own_event_of};
+ghost use Rattle.node_core.specs.InCode.{answer_of, result_in_code, event_of, own_event_of};
 ghost use Rattle.node_core.specs.Outcome.{Answers, told_of_claim};
 ghost use Rattle.node_core.specs.Served.{refusal};
 
@@ -211,7 +211,7 @@ impl<T: SubTable, R: Race> Node<T, R> {
     /// and of what closes. It is refused as the call for the event is, and by the first cause; want of
     /// memory comes only where there is no cause. Both leave all as it was.
     pub fn apply(&mut self, event: &NodeEvent) -> Result<Answer, Refused>
-        ensures { IsAnswered (refusal self.old (event_of event.now)) (λ answer. Answers self.old (event_of event.now) (answer_of answer) self.new) (self.new ≡ self.old) (answered result) }
+        ensures { IsAnswered (refusal self.old (event_of event.now)) (λ answer. Answers self.old (event_of event.now) (answer_of answer) self.new) (self.new ≡ self.old) (result_in_code result) }
     {
         as_refused(self.answer(event))
     }

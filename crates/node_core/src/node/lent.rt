@@ -5,7 +5,7 @@ ghost use Rattle.std.specs.Option.{option_copied};
 ghost use Rattle.subj.specs.Answers.{IsAnswered};
 ghost use Rattle.hub_core.specs.Publishing.{next_id as id_of_next};
 ghost use Rattle.node_law.specs.Events.{Receive};
-ghost use Rattle.node_core.specs.InCode.{answered};
+ghost use Rattle.node_core.specs.InCode.{result_in_code};
 ghost use Rattle.node_core.specs.Lent.{asked_of};
 ghost use Rattle.node_core.specs.Outcome.{Does, did_of};
 ghost use Rattle.node_core.specs.Served.{refusal};
@@ -86,7 +86,7 @@ impl<T: SubTable, R: Race> Node<T, R> {
 
     /// Makes the step of an event: [`Node::step`], where the parts of the event are lent.
     pub fn step_of(&mut self, asked: &Asked<'_>) -> Result<Did, Refused>
-        ensures { IsAnswered (refusal self.old (asked_of asked.now)) (λ did. Does self.old (asked_of asked.now) (did_of did) self.new) (self.new ≡ self.old) (answered result) }
+        ensures { IsAnswered (refusal self.old (asked_of asked.now)) (λ did. Does self.old (asked_of asked.now) (did_of did) self.new) (self.new ≡ self.old) (result_in_code result) }
     {
         as_refused(self.did_asked(asked))
     }

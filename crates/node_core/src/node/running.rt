@@ -9,7 +9,7 @@ use super::Node;
 use crate::did::Did;
 use crate::refused::Refused;
 use claim_race::Race;
-use node_law::{NodeEvent, one_server_keeps};
+use node_law::{NodeEvent, servers_keep_their_promises};
 use std::alloc::AllocError;
 use sub_table::SubTable;
 
@@ -28,13 +28,13 @@ impl<T: SubTable, R: Race> Node<T, R> {
     /// events, and what stands is the run of as many of the first events.
     ///
     /// Whatever the server had done since its start, it keeps the promises of one server of all of it together: see
-    /// [`one_server_keeps`].
+    /// [`servers_keep_their_promises`].
     pub fn run(&mut self, events: &[NodeEvent]) -> Result<Vec<Result<Did, Refused>>, AllocError>
         ensures run { IfOk result (λ answers. IsRun self.old (map event_of events.now) (map outcome_told answers.items) self.new) }
         ensures promises { IfOk result (λ answers. (h : List Done) → Ran self.old.server h self.old.node → GoesOn (done_with (map event_of events.now) (map outcome_told answers.items)) h self.new) }
         ensures short { OnErr result (self.new ≡ self.old) }
     {
-        one_server_keeps();
+        servers_keep_their_promises();
         let mut answers = Vec::with_capacity(self.alloc, events.len())?;
         for event in events {
             let answer = self.step(event);

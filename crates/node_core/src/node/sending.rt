@@ -5,7 +5,7 @@ ghost use Rattle.route_values.specs.declared.frames.RouteFrame.TheVariants.{Conn
 ghost use Rattle.subj.specs.Answers.{IsAnswered};
 ghost use Rattle.hub_core.specs.Chosen.{publication};
 ghost use Rattle.node_law.specs.Events.{Own, Publish, Collect, Accept, OnInfo, OnConnect};
-ghost use Rattle.node_core.specs.InCode.{answered, event_of, own_event_of};
+ghost use Rattle.node_core.specs.InCode.{result_in_code, event_of, own_event_of};
 ghost use Rattle.node_core.specs.Outcome.{Does, did_of};
 ghost use Rattle.node_core.specs.Served.{refusal};
 ghost use Rattle.node_law.specs.Steps.{node_frames};
@@ -201,7 +201,7 @@ impl<T: SubTable, R: Race> Node<T, R> {
     /// what closes; all copies are made before anything changes. It is refused as the call for the event is,
     /// and by the first cause; want of memory comes only where there is no cause. Both leave all as it was.
     pub fn step(&mut self, event: &NodeEvent) -> Result<Did, Refused>
-        ensures { IsAnswered (refusal self.old (event_of event.now)) (λ did. Does self.old (event_of event.now) (did_of did) self.new) (self.new ≡ self.old) (answered result) }
+        ensures { IsAnswered (refusal self.old (event_of event.now)) (λ did. Does self.old (event_of event.now) (did_of did) self.new) (self.new ≡ self.old) (result_in_code result) }
     {
         as_refused(self.did(event))
     }

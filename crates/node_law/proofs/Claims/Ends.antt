@@ -19,17 +19,17 @@ use Rattle.route_values.specs.Frames.{Frame}
 use Rattle.route_values.specs.declared.bodies.Body.{Body}
 use Rattle.route_values.specs.declared.bodies.Body.TheVariants.{Plus, Minus, Snapshot, Msg}
 use Rattle.shard_core.specs.Lines.{SoundLine, Turns, begun_turn, first_of}
-use Rattle.shard_core.specs.Owed.{candidate_of, claimed}
+use Rattle.shard_core.specs.Owed.{candidate_of, after_claim}
 use Rattle.shard_core.specs.ShardEvents as of_shard
 use Rattle.shard_core.specs.Shards as shards
-use Rattle.shard_core.specs.ShardSteps.{called, new_sub, subscribed, ended_now, unsubscribed, answer_fits, done_with, shard_refusal, claim_refusal, end_refusal, shard_after}
+use Rattle.shard_core.specs.ShardSteps.{sub_called, new_sub, after_subscribe, ended_now, after_unsubscribe, answer_fits, done_with, shard_refusal, claim_refusal, end_refusal, shard_after}
 use Rattle.node_law.specs.declared.faults.NodeFault.TheVariants.{Shard}
 use Rattle.node_law.specs.Events.{ConnEvent, Subscribe, Unsubscribe, Reply, Shut, Detach, Take, ShardWork, Attach, Begin, Claim, End, DropJob, OfConn, AtShard, Publish, Collect, Dial, Accept, CutSession, TakeFrames, NodeEvent, Own, Receive, OnInfo, OnConnect}
 use Rattle.node_law.specs.OneServer.{Claimed, is_of_pair, is_of_shard, claimed_at, claimed_with, work_claims, claims_by, claims_of, Ended, ended_with, ended_at, work_ends, ends_by, ends_of, EndedAll}
 use Rattle.node_law.specs.Runs.{Done, Ran}
 use Rattle.node_law.specs.Sound.{SoundNode}
 use Rattle.node_law.specs.State.{Line, Node, lines_from}
-use Rattle.node_law.specs.Steps.{conn_place, conn_line, shard_line, conn_event, begin_of, drop_of, work_event, event_refusal, work_refusal, line_after, line_after_if, set_line, queued, lines_after_body, node_refusal, node_after}
+use Rattle.node_law.specs.Steps.{conn_place, conn_line, shard_line, conn_event, begin_of, drop_of, work_event, event_refusal, work_refusal, line_after, line_after_if, set_line, line_with_job, lines_after_body, node_refusal, node_after}
 use Rattle.node_law.proofs.Moves.LineEvents.{found}
 use Rattle.node_law.proofs.Claims.OneWinner.{line_sound}
 use Rattle.node_law.proofs.Runs.Sound.{run_sound}
@@ -57,9 +57,9 @@ line_case : (place : ℕ) (change : Line → Line) (lines : List Line) (o : Opti
 line_case place change lines None claims ends at step k = k
 line_case place change lines (Some line) claims ends at step k = set_counts lines place (change line) claims ends k (step line refl (k.each place line (at line refl)))
 
-queue_counts : (job : Job) (lines : List Line) (claims : List Claimed) (ends : List Ended) → Counts lines claims ends → Counts (map (queued job) lines) claims ends
+queue_counts : (job : Job) (lines : List Line) (claims : List Claimed) (ends : List Ended) → Counts lines claims ends → Counts (map (line_with_job job) lines) claims ends
 queue_counts job lines claims ends k = record {
-  each = λ s line e. let m = read_map (queued job) lines s line e in subst (λ (l : Line). CountedLine (suc s) l claims ends) (sym m.2) (k.each s m.0 m.1);
+  each = λ s line e. let m = read_map (line_with_job job) lines s line e in subst (λ (l : Line). CountedLine (suc s) l claims ends) (sym m.2) (k.each s m.0 m.1);
   all = k.all;
 }
 
@@ -75,14 +75,14 @@ either s x y true f g = f
 either s x y false f g = g
 
 conn_stays : (s : shards.State) (conn : ℕ) (e : ConnEvent) → Stays s (shard_after s (conn_event conn e))
-conn_stays s conn (Subscribe key sid) = go (called conn sid s.subs)
+conn_stays s conn (Subscribe key sid) = go (sub_called conn sid s.subs)
   where
-    go : (u : Option Subscription) → Stays s (subscribed s (new_sub s conn key sid) u)
+    go : (u : Option Subscription) → Stays s (after_subscribe s (new_sub s conn key sid) u)
     go None = record { finished = refl; hand = refl; next = refl }
     go (Some u) = record { finished = refl; hand = refl; next = refl }
-conn_stays s conn (Unsubscribe sid max) = go (called conn sid s.subs)
+conn_stays s conn (Unsubscribe sid max) = go (sub_called conn sid s.subs)
   where
-    go : (u : Option Subscription) → Stays s (unsubscribed s max u)
+    go : (u : Option Subscription) → Stays s (after_unsubscribe s max u)
     go None = record { finished = refl; hand = refl; next = refl }
     go (Some u) = either s _ _ (ended_now max u) (record { finished = refl; hand = refl; next = refl }) (record { finished = refl; hand = refl; next = refl })
 conn_stays s conn (Reply frame) = either s _ _ (answer_fits s conn _) (record { finished = refl; hand = refl; next = refl }) (record { finished = refl; hand = refl; next = refl })
@@ -234,7 +234,7 @@ claim_counted s finished job next u won claims ends turn k = record {
         lemma : (m n : ℕ) → n ≢ m → n ≤ m → m < suc n → ⊥
         lemma m n f g h = f (omega arith)
 
-claimed_next : (sh : shards.State) (job : Job) (u : Option Subscription) (won : Bool) → ((claimed sh (Some job) u won).finished ≡ sh.finished) × ((claimed sh (Some job) u won).hand ≡ sh.hand) × ((claimed sh (Some job) u won).next_index ≡ suc sh.next_index)
+claimed_next : (sh : shards.State) (job : Job) (u : Option Subscription) (won : Bool) → ((after_claim sh (Some job) u won).finished ≡ sh.finished) × ((after_claim sh (Some job) u won).hand ≡ sh.hand) × ((after_claim sh (Some job) u won).next_index ≡ suc sh.next_index)
 claimed_next sh job None won = (refl, refl, add-one sh.next_index)
 claimed_next sh job (Some u) true = (refl, refl, add-one sh.next_index)
 claimed_next sh job (Some u) false = (refl, refl, add-one sh.next_index)
@@ -261,14 +261,14 @@ claim_case issued p index won lines line claims ends at so cause k = go line.sha
         at_next : index ≡ line.shard.next_index
         at_next = eq_true index line.shard.next_index (and_true (nat_eq index line.shard.next_index) (nat_lt index (length job.queues)) (no_end _ _ e)).0
 
-        shard_is : claimed line.shard (Some job) u won ≡ claimed line.shard line.shard.hand (candidate_of line.shard line.shard.hand index) won
-        shard_is = λ j. claimed line.shard (sym is j) (sym cand j) won
+        shard_is : after_claim line.shard (Some job) u won ≡ after_claim line.shard line.shard.hand (candidate_of line.shard line.shard.hand index) won
+        shard_is = λ j. after_claim line.shard (sym is j) (sym cand j) won
 
-        here : Counted s (claimed line.shard (Some job) u won).finished (claimed line.shard (Some job) u won).hand (claimed line.shard (Some job) u won).next_index (x ∷ claims) ends
+        here : Counted s (after_claim line.shard (Some job) u won).finished (after_claim line.shard (Some job) u won).hand (after_claim line.shard (Some job) u won).next_index (x ∷ claims) ends
         here =
             let m = claimed_next line.shard job u won in
-            subst (λ n. Counted s n (claimed line.shard (Some job) u won).hand (claimed line.shard (Some job) u won).next_index (x ∷ claims) ends) (sym m.0)
-            (subst (λ h. Counted s line.shard.finished h (claimed line.shard (Some job) u won).next_index (x ∷ claims) ends) (sym (m.1 ∙ is))
+            subst (λ n. Counted s n (after_claim line.shard (Some job) u won).hand (after_claim line.shard (Some job) u won).next_index (x ∷ claims) ends) (sym m.0)
+            (subst (λ h. Counted s line.shard.finished h (after_claim line.shard (Some job) u won).next_index (x ∷ claims) ends) (sym (m.1 ∙ is))
             (subst (λ n. Counted s line.shard.finished (Some job) n (x ∷ claims) ends) (sym m.2)
             (subst (λ n. Counted s line.shard.finished (Some job) (suc line.shard.next_index) (record { shard = s; job = job; index = n; candidate = u; won = won } ∷ claims) ends) (sym at_next)
             (claim_counted s line.shard.finished job line.shard.next_index u won claims ends (so.hand job is) (subst (λ h. Counted s line.shard.finished h line.shard.next_index claims ends) is (k.each p line at))))))
@@ -324,5 +324,5 @@ run_counts server (d ∷ earlier) a listed ran =
     subst (λ (x : Node). Counts x.lines (claims_of (d ∷ earlier)) (ends_of (d ∷ earlier))) (sym ran.0.after)
     (step_counts server d.before d.event d.won d.race (claims_of earlier) (ends_of earlier) (run_sound server earlier d.before listed ran.1) ran.0.cause (run_counts server earlier d.before listed ran.1))
 
-pub ended_turns : (server : Server) (h : List Done) (a : Node) → IsListed server → Ran server h a → EndedAll (claims_of h) (ends_of h)
-ended_turns server h a listed ran = (run_counts server h a listed ran).all
+pub ended_turns_have_each_claim_once : (server : Server) (h : List Done) (a : Node) → IsListed server → Ran server h a → EndedAll (claims_of h) (ends_of h)
+ended_turns_have_each_claim_once server h a listed ran = (run_counts server h a listed ran).all

@@ -15,17 +15,17 @@ use Rattle.route_values.specs.Frames.{Frame}
 use Rattle.route_values.specs.declared.bodies.Body.{Body}
 use Rattle.route_values.specs.declared.bodies.Body.TheVariants.{Plus, Minus, Snapshot, Msg}
 use Rattle.shard_core.specs.Lines.{first_of, rest_of, waiting_after}
-use Rattle.shard_core.specs.Owed.{candidate_of, claimed}
+use Rattle.shard_core.specs.Owed.{candidate_of, after_claim}
 use Rattle.shard_core.specs.ShardEvents as of_shard
 use Rattle.shard_core.specs.Shards as shards
-use Rattle.shard_core.specs.ShardSteps.{called, new_sub, subscribed, ended_now, unsubscribed, answer_fits, done_with, shard_after}
+use Rattle.shard_core.specs.ShardSteps.{sub_called, new_sub, after_subscribe, ended_now, after_unsubscribe, answer_fits, done_with, shard_after}
 use Rattle.node_law.specs.AsLaw.{jobs_by, body_jobs}
 use Rattle.node_law.specs.Events.{ConnEvent, Subscribe, Unsubscribe, Reply, Shut, Detach, Take, ShardWork, Attach, Begin, Claim, End, DropJob, OfConn, AtShard, Publish, Collect, Dial, Accept, CutSession, TakeFrames, NodeEvent, Own, Receive, OnInfo, OnConnect}
 use Rattle.node_law.specs.OneServer.{Claimed, claimed_at, claimed_with, work_claims, claims_by, claims_of, Ended, ended_with, ended_at, work_ends, ends_by, ends_of, jobs_of, HasOneJob}
 use Rattle.node_law.specs.Runs.{Done, Ran}
 use Rattle.node_law.specs.Sound.{SoundNode}
 use Rattle.node_law.specs.State.{Line, Node, lines_from}
-use Rattle.node_law.specs.Steps.{conn_place, conn_line, shard_line, conn_event, begin_of, drop_of, work_event, BodyRace, NodeRace, line_after, line_after_if, set_line, queued, lines_after_body, node_after}
+use Rattle.node_law.specs.Steps.{conn_place, conn_line, shard_line, conn_event, begin_of, drop_of, work_event, BodyRace, NodeRace, line_after, line_after_if, set_line, line_with_job, lines_after_body, node_after}
 use Rattle.node_law.proofs.Moves.LineEvents.{found}
 use Rattle.node_law.proofs.Claims.OneWinner.{work_issued}
 use Rattle.node_law.proofs.Runs.Sound.{run_sound}
@@ -40,14 +40,14 @@ either s x y true f g = f
 either s x y false f g = g
 
 conn_keeps : (s : shards.State) (conn : ℕ) (e : ConnEvent) → KeepsHand s (shard_after s (conn_event conn e))
-conn_keeps s conn (Subscribe key sid) = go (called conn sid s.subs)
+conn_keeps s conn (Subscribe key sid) = go (sub_called conn sid s.subs)
   where
-    go : (u : Option Subscription) → KeepsHand s (subscribed s (new_sub s conn key sid) u)
+    go : (u : Option Subscription) → KeepsHand s (after_subscribe s (new_sub s conn key sid) u)
     go None = refl
     go (Some u) = refl
-conn_keeps s conn (Unsubscribe sid max) = go (called conn sid s.subs)
+conn_keeps s conn (Unsubscribe sid max) = go (sub_called conn sid s.subs)
   where
-    go : (u : Option Subscription) → KeepsHand s (unsubscribed s max u)
+    go : (u : Option Subscription) → KeepsHand s (after_unsubscribe s max u)
     go None = refl
     go (Some u) = either s _ _ (ended_now max u) refl refl
 conn_keeps s conn (Reply frame) = either s _ _ (answer_fits s conn _) refl refl
@@ -55,7 +55,7 @@ conn_keeps s conn (Shut text) = refl
 conn_keeps s conn Detach = refl
 conn_keeps s conn (Take count) = refl
 
-claim_keeps : (s : shards.State) (hand : Option Job) (u : Option Subscription) (won : Bool) → KeepsHand s (claimed s hand u won)
+claim_keeps : (s : shards.State) (hand : Option Job) (u : Option Subscription) (won : Bool) → KeepsHand s (after_claim s hand u won)
 claim_keeps s None u won = refl
 claim_keeps s (Some job) None won = refl
 claim_keeps s (Some job) (Some u) true = refl
@@ -160,9 +160,9 @@ work_ends_known a s End jobs ends known k = more_ended s jobs ends (shard_line a
 work_ends_known a s DropJob jobs ends known k = k
 
 -- a new job
-queue_known : (issued issued' : ℕ) (lines : List Line) (job : Job) (jobs : List Job) (claims : List Claimed) (ends : List Ended) → job.turn ≡ suc issued → issued' ≡ suc issued → Jobs issued lines jobs claims ends → Jobs issued' (map (queued job) lines) (job ∷ jobs) claims ends
+queue_known : (issued issued' : ℕ) (lines : List Line) (job : Job) (jobs : List Job) (claims : List Claimed) (ends : List Ended) → job.turn ≡ suc issued → issued' ≡ suc issued → Jobs issued lines jobs claims ends → Jobs issued' (map (line_with_job job) lines) (job ∷ jobs) claims ends
 queue_known issued issued' lines job jobs claims ends turn is k = record {
-  lines_known = λ s line e. let m = read_map (queued job) lines s line e in let h = k.lines_known s m.0 m.1 in subst (Known (job ∷ jobs)) (sym m.2) (record {
+  lines_known = λ s line e. let m = read_map (line_with_job job) lines s line e in let h = k.lines_known s m.0 m.1 in subst (Known (job ∷ jobs)) (sym m.2) (record {
     hand = λ j f. inr (h.hand j f);
     waiting = λ j i. ⊎_elim (λ (x : In j m.0.waiting). inr (h.waiting j x)) (λ (x : In j (job ∷ [])). ⊎_elim (λ (f : j ≡ job). inl f) (λ (z : ⊥). absurd z) x) (in_append j m.0.waiting (job ∷ []) i);
   });
@@ -224,5 +224,5 @@ run_known server (d ∷ earlier) a listed ran =
     subst (λ (x : Node). Jobs x.race.issued x.lines (jobs_of server (d ∷ earlier)) (claims_of (d ∷ earlier)) (ends_of (d ∷ earlier))) (sym ran.0.after)
     (step_jobs server d.before d.event d.won d.race (jobs_of server earlier) (claims_of earlier) (ends_of earlier) (run_sound server earlier d.before listed ran.1) ran.0.moves (run_known server earlier d.before listed ran.1))
 
-pub one_job : (server : Server) (h : List Done) (a : Node) → IsListed server → Ran server h a → HasOneJob server h
-one_job server h a listed ran = let k = run_known server h a listed ran in record { turns = k.turns; claims = k.claims_known; ends = k.ends_known }
+pub turns_have_one_job : (server : Server) (h : List Done) (a : Node) → IsListed server → Ran server h a → HasOneJob server h
+turns_have_one_job server h a listed ran = let k = run_known server h a listed ran in record { turns = k.turns; claims = k.claims_known; ends = k.ends_known }

@@ -23,7 +23,7 @@ use Rattle.node_law.specs.Runs.{Done, Ran}
 use Rattle.node_law.specs.OneServer.{Claimed, claims_by, claims_of, work_claims, claimed_at, claimed_with, is_tried, is_win, HasOneWinner}
 use Rattle.node_law.proofs.Moves.LineEvents.{found}
 use Rattle.node_law.proofs.Runs.Sound.{run_sound}
-use Rattle.node_law.proofs.Claims.Winners.{race_follows}
+use Rattle.node_law.proofs.Claims.Winners.{races_follow_the_law}
 
 -- over the window a pair is won just where a Claim of it had a candidate
 abbrev RaceSays : Race → List Claimed → Type 0
@@ -112,8 +112,8 @@ claim_case s index b old new claims (Some line) sound is w = go line.shard.hand 
     go : (hand : Option Job) (u : Option Subscription) (b : Bool) → ((job : Job) → hand ≡ Some job → old.issued < job.turn + WINDOW) → ClaimRace old s index hand u b new → Winners (race_of new) (claimed_with s index b hand u ++ claims)
     go None u b lt k = same_says old new claims k w
     go (Some job) None b lt k = none_claimed (race_of new) s index b job claims (same_says old new claims k w)
-    go (Some job) (Some u) true lt k = won (race_of old) (race_of new) s index job u claims (lt job refl) (race_follows.claims old s job.turn index true new k) w
-    go (Some job) (Some u) false lt k = lost (race_of old) (race_of new) s index job u claims (lt job refl) (race_follows.claims old s job.turn index false new k) w
+    go (Some job) (Some u) true lt k = won (race_of old) (race_of new) s index job u claims (lt job refl) (races_follow_the_law.claims old s job.turn index true new k) w
+    go (Some job) (Some u) false lt k = lost (race_of old) (race_of new) s index job u claims (lt job refl) (races_follow_the_law.claims old s job.turn index false new k) w
 
 pub line_sound : (server : Server) (a : Node) → SoundNode server a → (shard : ℕ) (line : Line) → shard_line a shard ≡ Some line → SoundLine WINDOW a.race.issued line.shard line.waiting
 line_sound server a sound shard line e = (sound.lines (shard - 1) line (found (nat_eq shard 0) (slice_get a.lines (shard - 1)) line e)).sound
@@ -126,19 +126,19 @@ work_case s End b a new claims None at sound is w = same_says a.race new claims 
 work_case s DropJob b a new claims None at sound is w = same_says a.race new claims is w
 work_case s Attach b a new claims (Some line) at sound is w = same_says a.race new claims is w
 work_case s Begin b a new claims (Some line) at sound is w = same_says a.race new claims is w
-work_case s End b a new claims (Some line) at sound is w = keeps_says (race_of a.race) (race_of new) claims (race_follows.finishes a.race s (line.shard.finished + 1) new is) w
-work_case s DropJob b a new claims (Some line) at sound is w = keeps_says (race_of a.race) (race_of new) claims (race_follows.finishes a.race s (line.shard.finished + 1) new is) w
+work_case s End b a new claims (Some line) at sound is w = keeps_says (race_of a.race) (race_of new) claims (races_follow_the_law.finishes a.race s (line.shard.finished + 1) new is) w
+work_case s DropJob b a new claims (Some line) at sound is w = keeps_says (race_of a.race) (race_of new) claims (races_follow_the_law.finishes a.race s (line.shard.finished + 1) new is) w
 
 body_case : (a : Node) (body : Body) (r : RaceState) (claims : List Claimed) → BodyRace a body r → Winners (race_of a.race) claims → Winners (race_of r) claims
 body_case a (Plus weighted) r claims is w = same_says a.race r claims is w
 body_case a (Minus key) r claims is w = same_says a.race r claims is w
 body_case a (Snapshot keys) r claims is w = same_says a.race r claims is w
-body_case a (Msg content queues) r claims is w = issues_says (race_of a.race) (race_of r) claims (race_follows.issues a.race (a.race.issued + 1) r is) w
+body_case a (Msg content queues) r claims is w = issues_says (race_of a.race) (race_of r) claims (races_follow_the_law.issues a.race (a.race.issued + 1) r is) w
 
 step_winners : (server : Server) (a : Node) (e : NodeEvent) (b : Bool) (r : RaceState) (claims : List Claimed) → SoundNode server a → NodeRace a e b r → Winners (race_of a.race) claims → Winners (race_of (node_after server a e b r).race) (claims_by a e b ++ claims)
 step_winners server a (Own (OfConn conn event)) b r claims sound race w = w
 step_winners server a (Own (AtShard s work)) b r claims sound race w = work_case s work b a r claims (shard_line a s) refl (line_sound server a sound s) race w
-step_winners server a (Own (Publish p)) b r claims sound race w = issues_says (race_of a.race) (race_of r) claims (race_follows.issues a.race (a.race.issued + 1) r race) w
+step_winners server a (Own (Publish p)) b r claims sound race w = issues_says (race_of a.race) (race_of r) claims (races_follow_the_law.issues a.race (a.race.issued + 1) r race) w
 step_winners server a (Own (Collect s)) b r claims sound race w = w
 step_winners server a (Own (Dial q)) b r claims sound race w = w
 step_winners server a (Own Accept) b r claims sound race w = w
@@ -154,8 +154,8 @@ run_winners server (d ∷ earlier) a listed ran =
     subst (λ (x : Node). Winners (race_of x.race) (claims_of (d ∷ earlier))) (sym ran.0.after)
     (step_winners server d.before d.event d.won d.race (claims_of earlier) (run_sound server earlier d.before listed ran.1) ran.0.moves (run_winners server earlier d.before listed ran.1))
 
-pub one_winner : (server : Server) (h : List Done) (a : Node) → IsListed server → Ran server h a → HasOneWinner (claims_of h)
-one_winner server h a listed ran = (run_winners server h a listed ran).one
+pub queue_names_have_one_winner : (server : Server) (h : List Done) (a : Node) → IsListed server → Ran server h a → HasOneWinner (claims_of h)
+queue_names_have_one_winner server h a listed ran = (run_winners server h a listed ran).one
 
 -- ---- no Claim is of a turn that was not issued
 

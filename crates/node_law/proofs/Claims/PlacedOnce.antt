@@ -18,7 +18,7 @@ use Rattle.shard_core.specs.declared.calls.Placed.{Placed}
 use Rattle.shard_core.specs.Shards as shards
 use Rattle.shard_core.specs.AsLaw.{job_by}
 use Rattle.shard_core.specs.Lines.{first_of}
-use Rattle.shard_core.specs.Owed.{walked, slow_consumer, candidate_of, candidate_named, placed_for, mode_of}
+use Rattle.shard_core.specs.Owed.{whole_walk, slow_consumer, candidate_of, candidate_named, placed_for, mode_of}
 use Rattle.shard_core.specs.Puts.{put_line, put_by, put_by_claim}
 use Rattle.shard_core.specs.ShardEvents as of_shard
 use Rattle.shard_core.proofs.Steps.LawEvents.{candidate_is}
@@ -26,12 +26,12 @@ use Rattle.node_law.specs.AsLaw.{part_if, part_at, part_of}
 use Rattle.node_law.specs.Events as of_node
 use Rattle.node_law.specs.Events.{ConnEvent, ShardWork, NodeEvent, Own, Receive, OnInfo, OnConnect}
 use Rattle.node_law.specs.OneServer.{Claimed, claims_of, claims_by, work_claims, claimed_at, claimed_with, is_of_pair, is_tried, is_win, placed_with}
-use Rattle.node_law.specs.PlacedOnce.{placed_of, all_placed, PlacesOnce, mode_name, is_for, is_of_turn, put_for, all_put, StandsAt, PutsOnce}
+use Rattle.node_law.specs.PlacedOnce.{placed_of, all_placed, PlacesOnce, mode_name, is_for, is_of_turn, put_for, entries_put, StandsAt, PutsOnce}
 use Rattle.node_law.specs.Runs.{Done}
 use Rattle.node_law.specs.State.{Line, Node}
 use Rattle.node_law.specs.Steps.{conn_place, conn_line, shard_line, conn_event, begin_of, drop_of, work_event}
-use Rattle.node_law.proofs.Claims.OneWinner.{one_winner}
-use Rattle.node_law.proofs.Claims.OneJob.{one_job}
+use Rattle.node_law.proofs.Claims.OneWinner.{queue_names_have_one_winner}
+use Rattle.node_law.proofs.Claims.OneJob.{turns_have_one_job}
 
 -- a Claim places one message where it won
 places_one : (turn index : ℕ) (x : Claimed) → length (placed_of turn index x) ≡ cond (is_win turn index x) 1 0
@@ -56,8 +56,8 @@ as_many turn index (x ∷ claims) = length-append (placed_of turn index x) (flat
     go true one below = omega arith
     go false one below = omega arith
 
-pub places_once : PlacesOnce
-places_once server h a listed ran turn index = as_many turn index (claims_of h) ∙ one_winner server h a listed ran turn index
+pub queue_messages_are_placed_once : PlacesOnce
+queue_messages_are_placed_once server h a listed ran turn index = as_many turn index (claims_of h) ∙ queue_names_have_one_winner server h a listed ran turn index
 
 -- ---- by outboxes
 
@@ -89,9 +89,9 @@ none_else turn name s (of_shard.Begin job) other = go (nat_eq job.turn turn)
   where
     none : filter (is_for name) (put_by s (of_shard.Begin job)) ≡ []
     none =
-        filter_append (is_for name) (map (placed_for s.shard job None) (walked s job).given) (map (put_line slow_consumer) (walked s job).shut)
-        ∙ ap (λ t. t ++ filter (is_for name) (map (put_line slow_consumer) (walked s job).shut)) (no_plain_for name s.shard job (walked s job).given)
-        ∙ no_line_for name slow_consumer (walked s job).shut
+        filter_append (is_for name) (map (placed_for s.shard job None) (whole_walk s job).given) (map (put_line slow_consumer) (whole_walk s job).shut)
+        ∙ ap (λ t. t ++ filter (is_for name) (map (put_line slow_consumer) (whole_walk s job).shut)) (no_plain_for name s.shard job (whole_walk s job).given)
+        ∙ no_line_for name slow_consumer (whole_walk s job).shut
 
     go : (b : Bool) → cond b (filter (is_for name) (put_by s (of_shard.Begin job))) [] ≡ []
     go true = none
@@ -190,12 +190,12 @@ module _ (turn index : ℕ) (name : List ℕ) where
   step_less server a (OnInfo session info) won stands = omega arith
   step_less server a (OnConnect session connect) won stands = omega arith
 
-  run_less : (server : Server) (h : List Done) → Each (Stands turn name index) (claims_of h) → length (all_put server turn name h) ≤ length (all_placed turn index h)
+  run_less : (server : Server) (h : List Done) → Each (Stands turn name index) (claims_of h) → length (entries_put server turn name h) ≤ length (all_placed turn index h)
   run_less server [] stands = omega arith
   run_less server (d ∷ earlier) stands =
       let here = step_less server d.before d.event d.won (λ x i. stands x (in_left x (claims_by d.before d.event d.won) (claims_of earlier) i)) in
       let later = run_less server earlier (λ x i. stands x (in_right x (claims_by d.before d.event d.won) (claims_of earlier) i)) in
-      let p = length-append (put_for turn name (part_of server d.before d.event d.won)) (all_put server turn name earlier) in
+      let p = length-append (put_for turn name (part_of server d.before d.event d.won)) (entries_put server turn name earlier) in
       let q = ap length (flat_map-append (placed_of turn index) (claims_by d.before d.event d.won) (claims_of earlier)) ∙ length-append (flat_map (placed_of turn index) (claims_by d.before d.event d.won)) (all_placed turn index earlier) in
       omega arith
 
@@ -203,8 +203,8 @@ at_most_one : (n : ℕ) (b : Bool) → n ≡ cond b 1 0 → n ≤ 1
 at_most_one n true e = omega arith
 at_most_one n false e = omega arith
 
-pub puts_once : PutsOnce
-puts_once server h a listed ran turn index name stands =
-    let less = run_less turn index name server h (λ x i. stands x.job ((one_job server h a listed ran).claims x i)) in
-    let one = at_most_one (length (all_placed turn index h)) (list_any (is_tried turn index) (claims_of h)) (places_once server h a listed ran turn index) in
+pub queue_messages_are_put_once : PutsOnce
+queue_messages_are_put_once server h a listed ran turn index name stands =
+    let less = run_less turn index name server h (λ x i. stands x.job ((turns_have_one_job server h a listed ran).claims x i)) in
+    let one = at_most_one (length (all_placed turn index h)) (list_any (is_tried turn index) (claims_of h)) (queue_messages_are_placed_once server h a listed ran turn index) in
     omega arith

@@ -19,14 +19,14 @@ use Rattle.hub_core.specs.Receiving.{routed_job}
 use Rattle.hub_core.proofs.Steps.Rooms.{map_none}
 use Rattle.shard_core.specs.Shards.{State}
 use Rattle.shard_core.specs.Lines.{SoundLine, Turns, begun_turn, first_of}
-use Rattle.shard_core.specs.Owed.{candidate_of, claimed, placed_one, tried}
+use Rattle.shard_core.specs.Owed.{candidate_of, after_claim, after_put, after_try}
 use Rattle.shard_core.specs.ShardEvents as of_shard
-use Rattle.shard_core.specs.ShardSteps.{called, new_sub, subscribed, ended_now, unsubscribed, answer_fits, claim_refusal, end_refusal, begin_refusal, done_with, shard_after}
+use Rattle.shard_core.specs.ShardSteps.{sub_called, new_sub, after_subscribe, ended_now, after_unsubscribe, answer_fits, claim_refusal, end_refusal, begin_refusal, done_with, shard_after}
 use Rattle.shard_core.specs.declared.faults.ShardFault.TheVariants.{JobInHand, WrongTurn, BadIndex}
 use Rattle.node_law.specs.declared.faults.NodeFault.TheVariants.{Shard}
 use Rattle.node_law.specs.State.{Line, Node}
 use Rattle.node_law.specs.Events.{ConnEvent, Subscribe, Unsubscribe, Reply, Shut, Detach, Take, ShardWork, Attach, Begin, Claim, End, DropJob, OfConn, AtShard, Publish, Collect, Dial, Accept, CutSession, TakeFrames, NodeEvent, Own, Receive, OnInfo, OnConnect}
-use Rattle.node_law.specs.Steps.{conn_place, conn_line, shard_line, conn_event, begin_of, drop_of, work_event, conn_refusal, event_refusal, work_refusal, collect_refusal_at, ClaimRace, WorkRace, NodeRace, node_refusal, node_after, line_after, line_after_if, set_line, queued, lines_after_body, BodyRace}
+use Rattle.node_law.specs.Steps.{conn_place, conn_line, shard_line, conn_event, begin_of, drop_of, work_event, conn_refusal, event_refusal, work_refusal, collect_refusal_at, ClaimRace, WorkRace, NodeRace, node_refusal, node_after, line_after, line_after_if, set_line, line_with_job, lines_after_body, BodyRace}
 use Rattle.node_law.specs.Sound.{SoundNode, IsRaced, tried_of}
 use Rattle.node_law.proofs.Moves.LineEvents.{found, same_refusal}
 
@@ -41,14 +41,14 @@ either s x y true f g = f
 either s x y false f g = g
 
 conn_tracks : (conn : ℕ) (event : ConnEvent) (s : State) → Tracks s (shard_after s (conn_event conn event))
-conn_tracks conn (Subscribe key sid) s = go (called conn sid s.subs)
+conn_tracks conn (Subscribe key sid) s = go (sub_called conn sid s.subs)
   where
-    go : (u : Option Subscription) → Tracks s (subscribed s (new_sub s conn key sid) u)
+    go : (u : Option Subscription) → Tracks s (after_subscribe s (new_sub s conn key sid) u)
     go None = record { finished = refl; hand = refl; next = refl }
     go (Some u) = record { finished = refl; hand = refl; next = refl }
-conn_tracks conn (Unsubscribe sid max) s = go (called conn sid s.subs)
+conn_tracks conn (Unsubscribe sid max) s = go (sub_called conn sid s.subs)
   where
-    go : (u : Option Subscription) → Tracks s (unsubscribed s max u)
+    go : (u : Option Subscription) → Tracks s (after_unsubscribe s max u)
     go None = record { finished = refl; hand = refl; next = refl }
     go (Some u) = either s _ _ (ended_now max u) (record { finished = refl; hand = refl; next = refl }) (record { finished = refl; hand = refl; next = refl })
 conn_tracks conn (Reply frame) s = either s _ _ (answer_fits s conn _) (record { finished = refl; hand = refl; next = refl }) (record { finished = refl; hand = refl; next = refl })
@@ -97,11 +97,11 @@ got_map f [] n b e = absurd (none-some b e)
 got_map f (x ∷ xs) zero b e = (x, refl, sym (same_Some (f x) b e))
 got_map f (x ∷ xs) (suc n) b e = got_map f xs n b e
 
-issued : (race new : RaceState) (turn : ℕ) (job : Job) (lines : List Line) → IsRaced race lines → IsIssued race turn new → IsRaced new (map (queued job) lines)
+issued : (race new : RaceState) (turn : ℕ) (job : Job) (lines : List Line) → IsRaced race lines → IsIssued race turn new → IsRaced new (map (line_with_job job) lines)
 issued race new turn job lines raced is = record {
-  finished = is.finished ∙ raced.finished ∙ sym (map_map (queued job) (λ (line : Line). line.shard.finished) lines);
+  finished = is.finished ∙ raced.finished ∙ sym (map_map (line_with_job job) (λ (line : Line). line.shard.finished) lines);
   next = λ p l e.
-      let g = got_map (queued job) lines p l e in
+      let g = got_map (line_with_job job) lines p l e in
       subst (λ (t : Line). slice_index new.next p ≤ tried_of t.shard.hand t.shard.next_index) (sym g.2) (subst (λ t. slice_index t p ≤ tried_of g.0.shard.hand g.0.shard.next_index) (sym is.next) (raced.next p g.0 g.1));
 }
 
@@ -156,10 +156,10 @@ work_raced race new lines shard k Begin won line at raced sound cause h = subst 
 work_raced race new lines shard k (Claim index) won line at raced sound cause h = go line.shard.hand refl (candidate_of line.shard line.shard.hand index) (map_none Shard (claim_refusal line.shard index line.shard.hand) cause) h
   where
     go : (hand : Option Job) → line.shard.hand ≡ hand → (u : Option Subscription) → claim_refusal line.shard index hand ≡ None → ClaimRace race shard index hand u won new
-        → IsRaced new (set lines (shard - 1) (record { shard = claimed line.shard hand u won; waiting = line.waiting }))
+        → IsRaced new (set lines (shard - 1) (record { shard = after_claim line.shard hand u won; waiting = line.waiting }))
     go None is u c m = absurd (none-some _ (sym c))
-    go (Some job) is None c m = subst (λ r. IsRaced r (set lines (shard - 1) (record { shard = tried line.shard; waiting = line.waiting }))) (sym m)
-        (stayed race race lines (shard - 1) line (record { shard = tried line.shard; waiting = line.waiting }) at raced refl refl (λ p apart. refl) (let z = raced.next (shard - 1) line at in subst (λ t. slice_index race.next (shard - 1) ≤ tried_of t (line.shard.next_index + 1)) (sym is) (let y = subst (λ t. slice_index race.next (shard - 1) ≤ tried_of t line.shard.next_index) is z in omega arith)))
+    go (Some job) is None c m = subst (λ r. IsRaced r (set lines (shard - 1) (record { shard = after_try line.shard; waiting = line.waiting }))) (sym m)
+        (stayed race race lines (shard - 1) line (record { shard = after_try line.shard; waiting = line.waiting }) at raced refl refl (λ p apart. refl) (let z = raced.next (shard - 1) line at in subst (λ t. slice_index race.next (shard - 1) ≤ tried_of t (line.shard.next_index + 1)) (sym is) (let y = subst (λ t. slice_index race.next (shard - 1) ≤ tried_of t line.shard.next_index) is z in omega arith)))
     go (Some job) is (Some u) c m = both won m
       where
         here : (s : State) → new.next ≡ set race.next (shard - 1) (index + 1) → s.hand ≡ line.shard.hand → s.next_index ≡ line.shard.next_index + 1 → slice_index new.next (shard - 1) ≤ tried_of s.hand s.next_index
@@ -167,9 +167,9 @@ work_raced race new lines shard k (Claim index) won line at raced sound cause h 
             (let e = eq_true index line.shard.next_index (and_left (nat_eq index line.shard.next_index) (nat_lt index (length job.queues)) (if_not BadIndex (nat_eq index line.shard.next_index && nat_lt index (length job.queues)) c)) in
             let g = subst (λ t. slice_index t (shard - 1) ≤ index + 1) (sym written) (set_at race.next (shard - 1) (index + 1)) in omega arith)
 
-        both : (b : Bool) → ClaimRace race shard index (Some job) (Some u) b new → IsRaced new (set lines (shard - 1) (record { shard = claimed line.shard (Some job) (Some u) b; waiting = line.waiting }))
-        both true m' = stayed race new lines (shard - 1) line (record { shard = placed_one (tried line.shard) job u; waiting = line.waiting }) at raced m'.finished refl (λ p apart. ap (λ t. slice_index t p) m'.next ∙ set_off race.next (shard - 1) (index + 1) p apart) (here (placed_one (tried line.shard) job u) m'.next refl refl)
-        both false m' = stayed race new lines (shard - 1) line (record { shard = tried line.shard; waiting = line.waiting }) at raced m'.finished refl (λ p apart. ap (λ t. slice_index t p) m'.next ∙ set_off race.next (shard - 1) (index + 1) p apart) (here (tried line.shard) m'.next refl refl)
+        both : (b : Bool) → ClaimRace race shard index (Some job) (Some u) b new → IsRaced new (set lines (shard - 1) (record { shard = after_claim line.shard (Some job) (Some u) b; waiting = line.waiting }))
+        both true m' = stayed race new lines (shard - 1) line (record { shard = after_put (after_try line.shard) job u; waiting = line.waiting }) at raced m'.finished refl (λ p apart. ap (λ t. slice_index t p) m'.next ∙ set_off race.next (shard - 1) (index + 1) p apart) (here (after_put (after_try line.shard) job u) m'.next refl refl)
+        both false m' = stayed race new lines (shard - 1) line (record { shard = after_try line.shard; waiting = line.waiting }) at raced m'.finished refl (λ p apart. ap (λ t. slice_index t p) m'.next ∙ set_off race.next (shard - 1) (index + 1) p apart) (here (after_try line.shard) m'.next refl refl)
 work_raced race new lines shard k End won line at raced sound cause h = go line.shard.hand refl (map_none Shard (end_refusal line.shard line.shard.hand) cause)
   where
     go : (hand : Option Job) → line.shard.hand ≡ hand → end_refusal line.shard hand ≡ None → IsRaced new (set lines (shard - 1) (record { shard = done_with line.shard hand; waiting = line.waiting }))

@@ -72,5 +72,5 @@ claims old shard turn index true new s = record {
         go true e y = tt
         go false e y = ⊎_elim (λ z. (won_has old t i).0 z) (λ (z : (t ≡ turn) × (i ≡ index)). absurd (true≢false (sym (ap (λ b. b && nat_eq i index) (true_eq t turn z.0) ∙ true_eq i index z.1) ∙ e))) y
 
-pub race_follows : RaceFollows
-race_follows = record { issues = issues; claims = claims; finishes = finishes }
+pub races_follow_the_law : RaceFollows
+races_follow_the_law = record { issues = issues; claims = claims; finishes = finishes }

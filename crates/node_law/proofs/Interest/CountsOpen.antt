@@ -27,11 +27,11 @@ use Rattle.interest.specs.Laws.{IsCounting, StaysWithin, opening, closing, times
 use Rattle.client_frames.specs.Frames.{reply_line}
 use Rattle.outbox.specs.Views.{with_entry, with_last, reply_entry}
 use Rattle.shard_core.specs.declared.faults.ShardFault.TheVariants.{NoConn, TooManySubs, Spent as Used}
-use Rattle.shard_core.specs.Shards.{State, is_open, changed}
-use Rattle.shard_core.specs.Closings.{serials_of, left_of, without}
-use Rattle.shard_core.specs.Owed.{Walk, walked, give, due_entry, first_step, slow_consumer, after_walk, counted, candidate_of, claimed, tried, reaches}
+use Rattle.shard_core.specs.Shards.{State, is_open, clients_with_change}
+use Rattle.shard_core.specs.Closings.{serials_of, left_of, without_subs}
+use Rattle.shard_core.specs.Owed.{Walk, whole_walk, walk_with_entry, due_entry, first_step, slow_consumer, after_walk, sub_with_count, candidate_of, after_claim, after_try, reaches}
 use Rattle.shard_core.specs.ShardEvents.{Event, Attach, Subscribe, Unsubscribe, Reply, Shut, Detach, Take, Begin, Claim, End, DropJob, Collect}
-use Rattle.shard_core.specs.ShardSteps.{called, is_full, new_sub, subscribed, ended_now, unsubscribed, answer_fits, done_with, shard_refusal, shard_after}
+use Rattle.shard_core.specs.ShardSteps.{sub_called, is_full, new_sub, after_subscribe, ended_now, after_unsubscribe, answer_fits, done_with, shard_refusal, shard_after}
 use Rattle.shard_core.specs.Lines.{first_of}
 use Rattle.route_values.specs.declared.bodies.Body.{Body}
 use Rattle.route_values.specs.declared.bodies.Body.TheVariants.{Plus, Minus, Snapshot, Msg}
@@ -47,7 +47,7 @@ use Rattle.node_law.specs.declared.faults.NodeFault.TheVariants.{Hub, Shard}
 use Rattle.node_law.specs.State.{Line, Node, new_node, lines_from}
 use Rattle.node_law.specs.Events as of_node
 use Rattle.node_law.specs.Events.{ConnEvent, ShardWork, NodeEvent, Own, Receive, OnInfo, OnConnect}
-use Rattle.node_law.specs.Steps.{conn_place, conn_line, shard_line, conn_event, begin_of, drop_of, work_event, conn_refusal, event_refusal, work_refusal, collect_refusal_at, line_after, line_after_if, set_line, queued, deltas_at, cut_if, lines_after_body, node_refusal, node_after}
+use Rattle.node_law.specs.Steps.{conn_place, conn_line, shard_line, conn_event, begin_of, drop_of, work_event, conn_refusal, event_refusal, work_refusal, collect_refusal_at, line_after, line_after_if, set_line, line_with_job, deltas_at, cut_if, lines_after_body, node_refusal, node_after}
 use Rattle.node_law.specs.Runs.{Done, Ran}
 use Rattle.node_law.specs.Sound.{SoundNode}
 use Rattle.node_law.specs.CountsOpen.{keys_of, open_keys, pending, CountsAreOpen, CountsStayOpen}
@@ -67,8 +67,8 @@ record ShardTold (few small : ℕ) (ks : List Key) (s : State) : Type 0 where
 same_told : (few small : ℕ) (ks : List Key) (s after : State) → keys_of after.subs ≡ keys_of s.subs → after.deltas ≡ s.deltas → ShardTold few small ks s → ShardTold few small ks after
 same_told few small ks s after e d t = record { base = t.base; fits = subst (Fits few small) (sym e) t.fits; replays = subst (λ x. Replays few small ks x (keys_of after.subs)) (sym d) (subst (Replays few small ks s.deltas) (sym e) t.replays) }
 
-pub counted_keys : (given : List ℕ) (us : List Subscription) → keys_of (map (counted given) us) ≡ keys_of us
-counted_keys given us = map_map (counted given) (λ (u : Subscription). u.key) us ∙ map_same (λ u. (counted given u).key) (λ (u : Subscription). u.key) us (λ u. go u (list_any (nat_eq u.serial) given))
+pub counted_keys : (given : List ℕ) (us : List Subscription) → keys_of (map (sub_with_count given) us) ≡ keys_of us
+counted_keys given us = map_map (sub_with_count given) (λ (u : Subscription). u.key) us ∙ map_same (λ u. (sub_with_count given u).key) (λ (u : Subscription). u.key) us (λ u. go u (list_any (nat_eq u.serial) given))
   where
     go : (u : Subscription) (b : Bool) → (cond b (record u { delivered = u.delivered + 1 }) u).key ≡ u.key
     go u true = refl
@@ -83,13 +83,13 @@ max_keys serial max (u ∷ us) = go (has_serial serial u) (max_keys serial max u
     go false below = ap (λ t. u.key ∷ t) below
 
 -- some subscriptions close
-ended_told : (few small : ℕ) (ks : List Key) (s : State) (ended : List ℕ) → Distinct ended → ShardTold few small ks s → ShardTold few small ks (without ended s)
+ended_told : (few small : ℕ) (ks : List Key) (s : State) (ended : List ℕ) → Distinct ended → ShardTold few small ks s → ShardTold few small ks (without_subs ended s)
 ended_told few small ks s ended d t =
     let h = replays_ended few small ks s.deltas s.subs ended d t.fits t.replays in
     record { base = t.base; fits = h.1; replays = h.0 }
 
 walk_told : (few small : ℕ) (ks : List Key) (s : State) (w : Walk) → Distinct w.ended → ShardTold few small ks s → ShardTold few small ks (after_walk s w)
-walk_told few small ks s w d t = ended_told few small ks (record s { clients = w.clients; subs = map (counted (serials_of w.given)) s.subs }) w.ended d (same_told few small ks s _ (counted_keys (serials_of w.given) s.subs) refl t)
+walk_told few small ks s w d t = ended_told few small ks (record s { clients = w.clients; subs = map (sub_with_count (serials_of w.given)) s.subs }) w.ended d (same_told few small ks s _ (counted_keys (serials_of w.given) s.subs) refl t)
 
 pub size_of_keys : (us : List Subscription) → size (keys_of us) ≡ length us
 size_of_keys [] = refl
@@ -99,7 +99,7 @@ cost_of_keys : (us : List Subscription) → cost (keys_of us) ≡ total_cost us
 cost_of_keys [] = refl
 cost_of_keys (u ∷ us) = ap (λ n. cost_of u.key + n) (cost_of_keys us) ∙ sym (sum_by-cons (λ (v : Subscription). cost_of v.key) u us)
 
-opened_told : (ks : List Key) (s : State) (u : Subscription) → is_full s u.key ≡ false → ShardTold (SUBSCRIPTIONS / s.shards) (SUBSCRIPTION_BYTES / s.shards) ks s → ShardTold (SUBSCRIPTIONS / s.shards) (SUBSCRIPTION_BYTES / s.shards) ks (subscribed s u None)
+opened_told : (ks : List Key) (s : State) (u : Subscription) → is_full s u.key ≡ false → ShardTold (SUBSCRIPTIONS / s.shards) (SUBSCRIPTION_BYTES / s.shards) ks s → ShardTold (SUBSCRIPTIONS / s.shards) (SUBSCRIPTION_BYTES / s.shards) ks (after_subscribe s u None)
 opened_told ks s u full t = by (SUBSCRIPTIONS / s.shards) (SUBSCRIPTION_BYTES / s.shards) full t
   where
     more : (f : Key → ℕ) → total f (keys_of (s.subs ++ u ∷ [])) ≡ f u.key + total f (keys_of s.subs)
@@ -108,7 +108,7 @@ opened_told ks s u full t = by (SUBSCRIPTIONS / s.shards) (SUBSCRIPTION_BYTES / 
         let z : total f (u.key ∷ []) ≡ f u.key + 0 = refl in
         omega arith
 
-    by : (few small : ℕ) → (nat_le few (length s.subs) || not (nat_le (total_cost s.subs + cost_of u.key) small)) ≡ false → ShardTold few small ks s → ShardTold few small ks (subscribed s u None)
+    by : (few small : ℕ) → (nat_le few (length s.subs) || not (nat_le (total_cost s.subs + cost_of u.key) small)) ≡ false → ShardTold few small ks s → ShardTold few small ks (after_subscribe s u None)
     by few small full t =
         let e = or_false (nat_le few (length s.subs)) (not (nat_le (total_cost s.subs + cost_of u.key) small)) full in
         let room = le_false few (length s.subs) e.0 in
@@ -142,12 +142,12 @@ done_told few small ks s (Some job) t = record { base = t.base; fits = t.fits; r
 
 shard_told : (ks : List Key) (s : State) (e : Event) → Distinct (serials_of s.subs) → shard_refusal s e ≡ None → is_collect e ≡ false → ShardTold (SUBSCRIPTIONS / s.shards) (SUBSCRIPTION_BYTES / s.shards) ks s → ShardTold (SUBSCRIPTIONS / s.shards) (SUBSCRIPTION_BYTES / s.shards) ks (shard_after s e)
 shard_told ks s Attach apart cause told_not t = record { base = t.base; fits = t.fits; replays = t.replays }
-shard_told ks s (Subscribe conn key sid) apart cause told_not t = go (called conn sid s.subs) (no_cause (not (is_open conn s.clients)) NoConn _ cause).1
+shard_told ks s (Subscribe conn key sid) apart cause told_not t = go (sub_called conn sid s.subs) (no_cause (not (is_open conn s.clients)) NoConn _ cause).1
   where
-    go : (o : Option Subscription) → (if is_some o then None else (if is_full s key then Some TooManySubs else (if nat_le MAX_SERIAL s.opened then Some Used else None))) ≡ None → ShardTold (SUBSCRIPTIONS / s.shards) (SUBSCRIPTION_BYTES / s.shards) ks (subscribed s (new_sub s conn key sid) o)
+    go : (o : Option Subscription) → (if is_some o then None else (if is_full s key then Some TooManySubs else (if nat_le MAX_SERIAL s.opened then Some Used else None))) ≡ None → ShardTold (SUBSCRIPTIONS / s.shards) (SUBSCRIPTION_BYTES / s.shards) ks (after_subscribe s (new_sub s conn key sid) o)
     go (Some u) f = t
     go None f = opened_told ks s (new_sub s conn key sid) (no_cause (is_full s key) TooManySubs _ f).0 t
-shard_told ks s (Unsubscribe conn sid max) apart cause told_not t = go (called conn sid s.subs)
+shard_told ks s (Unsubscribe conn sid max) apart cause told_not t = go (sub_called conn sid s.subs)
   where
     few : ℕ
     few = SUBSCRIPTIONS / s.shards
@@ -155,33 +155,33 @@ shard_told ks s (Unsubscribe conn sid max) apart cause told_not t = go (called c
     small : ℕ
     small = SUBSCRIPTION_BYTES / s.shards
 
-    by : (u : Subscription) (b : Bool) → ShardTold (SUBSCRIPTIONS / s.shards) (SUBSCRIPTION_BYTES / s.shards) ks (cond b (without (u.serial ∷ []) s) (record s { subs = with_max u.serial max s.subs }))
+    by : (u : Subscription) (b : Bool) → ShardTold (SUBSCRIPTIONS / s.shards) (SUBSCRIPTION_BYTES / s.shards) ks (cond b (without_subs (u.serial ∷ []) s) (record s { subs = with_max u.serial max s.subs }))
     by u true = ended_told few small ks s (u.serial ∷ []) (one_distinct u.serial) t
     by u false = same_told few small ks s _ (max_keys u.serial max s.subs) refl t
 
-    go : (u : Option Subscription) → ShardTold (SUBSCRIPTIONS / s.shards) (SUBSCRIPTION_BYTES / s.shards) ks (unsubscribed s max u)
+    go : (u : Option Subscription) → ShardTold (SUBSCRIPTIONS / s.shards) (SUBSCRIPTION_BYTES / s.shards) ks (after_unsubscribe s max u)
     go None = t
     go (Some u) = by u (ended_now max u)
 shard_told ks s (Reply conn frame) apart cause told_not t = go (answer_fits s conn (reply_line frame))
   where
-    go : (b : Bool) → ShardTold (SUBSCRIPTIONS / s.shards) (SUBSCRIPTION_BYTES / s.shards) ks (cond b (record s { clients = changed (with_entry (reply_entry (reply_line frame))) conn s.clients }) (without (left_of conn [] s.subs) (record s { clients = changed (with_last slow_consumer) conn s.clients })))
+    go : (b : Bool) → ShardTold (SUBSCRIPTIONS / s.shards) (SUBSCRIPTION_BYTES / s.shards) ks (cond b (record s { clients = clients_with_change (with_entry (reply_entry (reply_line frame))) conn s.clients }) (without_subs (left_of conn [] s.subs) (record s { clients = clients_with_change (with_last slow_consumer) conn s.clients })))
     go true = record { base = t.base; fits = t.fits; replays = t.replays }
     go false = ended_told _ _ ks (record s { clients = _ }) (left_of conn [] s.subs) (left_distinct conn [] s.subs apart) (record { base = t.base; fits = t.fits; replays = t.replays })
 shard_told ks s (Shut conn text) apart cause told_not t = ended_told _ _ ks (record s { clients = _ }) (left_of conn [] s.subs) (left_distinct conn [] s.subs apart) (record { base = t.base; fits = t.fits; replays = t.replays })
 shard_told ks s (Detach conn) apart cause told_not t = ended_told _ _ ks (record s { clients = _ }) (left_of conn [] s.subs) (left_distinct conn [] s.subs apart) (record { base = t.base; fits = t.fits; replays = t.replays })
 shard_told ks s (Take conn count) apart cause told_not t = record { base = t.base; fits = t.fits; replays = t.replays }
-shard_told ks s (Begin job) apart cause told_not t = walk_told _ _ ks (record s { hand = Some job; next_index = 0 }) (walked s job) (walked_distinct s job apart) (record { base = t.base; fits = t.fits; replays = t.replays })
+shard_told ks s (Begin job) apart cause told_not t = walk_told _ _ ks (record s { hand = Some job; next_index = 0 }) (whole_walk s job) (walked_distinct s job apart) (record { base = t.base; fits = t.fits; replays = t.replays })
 shard_told ks s (Claim index won) apart cause told_not t = go s.hand (candidate_of s s.hand index) won
   where
     ended : (u : Subscription) (b : Bool) → Distinct ([] ++ cond b (u.serial ∷ []) [])
     ended u true = one_distinct u.serial
     ended u false = tt
 
-    go : (hand : Option Job) (u : Option Subscription) (b : Bool) → ShardTold (SUBSCRIPTIONS / s.shards) (SUBSCRIPTION_BYTES / s.shards) ks (claimed s hand u b)
+    go : (hand : Option Job) (u : Option Subscription) (b : Bool) → ShardTold (SUBSCRIPTIONS / s.shards) (SUBSCRIPTION_BYTES / s.shards) ks (after_claim s hand u b)
     go None u b = t
     go (Some job) None b = record { base = t.base; fits = t.fits; replays = t.replays }
     go (Some job) (Some u) false = record { base = t.base; fits = t.fits; replays = t.replays }
-    go (Some job) (Some u) true = walk_told _ _ ks (tried s) (give (due_entry s.shard job u.key.queue u) u (first_step s.clients)) (ended u (reaches u.max (u.delivered + 1))) (record { base = t.base; fits = t.fits; replays = t.replays })
+    go (Some job) (Some u) true = walk_told _ _ ks (after_try s) (walk_with_entry (due_entry s.shard job u.key.queue u) u (first_step s.clients)) (ended u (reaches u.max (u.delivered + 1))) (record { base = t.base; fits = t.fits; replays = t.replays })
 shard_told ks s End apart cause told_not t = done_told _ _ ks s s.hand t
 shard_told ks s (DropJob waiting) apart cause told_not t = done_told _ _ ks s (option_or s.hand waiting) t
 shard_told ks s Collect apart cause told_not t = absurd (true≢false told_not)
@@ -229,10 +229,10 @@ at_told shards few small counts lines place line after at step t =
     let b = along_read (LineTold few small) t.bases lines t.each place line at in
     record { bases = t.bases; size = t.size; each = along_set (LineTold few small) t.bases lines t.each place b.0 after b.1 (step b.0 b.2); within = t.within; weights = t.weights }
 
-queue_told : (shards few small : ℕ) (counts : Counts) (job : Job) (lines : List Line) → Told shards few small counts lines → Told shards few small counts (map (queued job) lines)
+queue_told : (shards few small : ℕ) (counts : Counts) (job : Job) (lines : List Line) → Told shards few small counts lines → Told shards few small counts (map (line_with_job job) lines)
 queue_told shards few small counts job lines t = record { bases = t.bases; size = t.size; each = go t.bases lines t.each; within = t.within; weights = t.weights }
   where
-    go : (bs : List (List Key)) (ls : List Line) → Along (LineTold few small) bs ls → Along (LineTold few small) bs (map (queued job) ls)
+    go : (bs : List (List Key)) (ls : List Line) → Along (LineTold few small) bs ls → Along (LineTold few small) bs (map (line_with_job job) ls)
     go [] [] a = tt
     go [] (l ∷ ls) a = absurd a
     go (b ∷ bs) [] a = absurd a

@@ -12,9 +12,9 @@ use Rattle.subj.specs.Keys.{cost_of}
 use Rattle.sub_table.specs.Subscriptions.{is_of, has_serial, serial_of}
 use Rattle.sub_table.specs.declared.Subscription.{Subscription}
 use Rattle.interest.specs.declared.changes.Delta.{Delta}
-use Rattle.shard_core.specs.Shards.{State, is_open, client_at, changed, fits}
+use Rattle.shard_core.specs.Shards.{State, is_open, client_at, clients_with_change, fits}
 use Rattle.shard_core.specs.Closings.{serials_of, is_left, left_of, closing, closings_of}
-use Rattle.shard_core.specs.Owed.{Walk, walk, walked, is_due, first_step, put_one, give, shut_slow, reaches, due_entry, slow_consumer}
+use Rattle.shard_core.specs.Owed.{Walk, walk, whole_walk, is_due, first_step, walk_after_put, walk_with_entry, walk_with_shut, reaches, due_entry, slow_consumer}
 use Rattle.shard_core.proofs.Clients.Outboxes.{shuts, stays_open, stays_shut}
 use Rattle.node_law.specs.CountsOpen.{keys_of}
 use Rattle.outbox.specs.Views.{with_last}
@@ -154,7 +154,7 @@ Apart us = Pairs (λ u v. u.serial ≢ v.serial) us
 same_serial : (us : List Subscription) → Apart us → (u v : Subscription) → In u us → In v us → u.serial ≡ v.serial → u ≡ v
 same_serial us p u v i j e = ⊎_elim (λ (x : u ≡ v). x) (λ (x : (u.serial ≢ v.serial) ⊎ (v.serial ≢ u.serial)). ⊎_elim (λ (y : u.serial ≢ v.serial). absurd (y e)) (λ (y : v.serial ≢ u.serial). absurd (y (sym e))) x) (pairs_cases (λ (u v : Subscription). u.serial ≢ v.serial) us p u v i j)
 
-put_closes : (s : State) (job : Job) (u : Subscription) (due : List Subscription) (w : Walk) → Apart s.subs → In u s.subs → Each (λ v. In v s.subs) due → Each (λ (v : Subscription). u.serial ≢ v.serial) due → Closes s.subs (u ∷ due) w → Closes s.subs due (put_one s job w u)
+put_closes : (s : State) (job : Job) (u : Subscription) (due : List Subscription) (w : Walk) → Apart s.subs → In u s.subs → Each (λ v. In v s.subs) due → Each (λ (v : Subscription). u.serial ≢ v.serial) due → Closes s.subs (u ∷ due) w → Closes s.subs due (walk_after_put s job w u)
 put_closes s job u due w apart here those other k = go (is_open u.conn w.clients) (fits (client_at u.conn w.clients) (due_entry s.shard job None u)) (reaches u.max (u.delivered + 1)) refl
   where
     quiet : Closes s.subs due w
@@ -163,7 +163,7 @@ put_closes s job u due w apart here those other k = go (is_open u.conn w.clients
     fresh : is_open u.conn w.clients ≡ true → In u.serial w.ended → ⊥
     fresh open_it i = true≢false (sym open_it ∙ k.shut u (inl refl) i)
 
-    kept : (v : Subscription) → is_open v.conn w.clients ≡ false → is_open v.conn (give (due_entry s.shard job None u) u w).clients ≡ false
+    kept : (v : Subscription) → is_open v.conn w.clients ≡ false → is_open v.conn (walk_with_entry (due_entry s.shard job None u) u w).clients ≡ false
     kept v e = stays_open (due_entry s.shard job None u) v.conn u.conn w.clients ∙ e
 
     ended : (b : Bool) → is_open u.conn w.clients ≡ true → Distinct (w.ended ++ cond b (u.serial ∷ []) [])
@@ -174,7 +174,7 @@ put_closes s job u due w apart here those other k = go (is_open u.conn w.clients
     later true v i j = ⊎_elim (λ (x : In v.serial w.ended). x) (λ (x : In v.serial (u.serial ∷ [])). ⊎_elim (λ (e : v.serial ≡ u.serial). absurd (other v i (sym e))) (λ (z : ⊥). absurd z) x) (in_append v.serial w.ended (u.serial ∷ []) j)
     later false v i j = subst (In v.serial) (append_nil w.ended) j
 
-    go : (o r m : Bool) → is_open u.conn w.clients ≡ o → Closes s.subs due (cond o (cond r (record w { clients = (give (due_entry s.shard job None u) u w).clients; given = w.given ++ u ∷ []; ended = w.ended ++ cond m (u.serial ∷ []) [] }) (shut_slow s.subs u.conn w)) w)
+    go : (o r m : Bool) → is_open u.conn w.clients ≡ o → Closes s.subs due (cond o (cond r (record w { clients = (walk_with_entry (due_entry s.shard job None u) u w).clients; given = w.given ++ u ∷ []; ended = w.ended ++ cond m (u.serial ∷ []) [] }) (walk_with_shut s.subs u.conn w)) w)
     go false r m e = quiet
     go true true m e = record { distinct = ended m e; shut = λ v i j. kept v (k.shut v (inr i) (later m v i j)) }
     go true false m e = record {
@@ -183,15 +183,15 @@ put_closes s job u due w apart here those other k = go (is_open u.conn w.clients
           (λ (x : In v.serial (left_of u.conn w.ended s.subs)).
           let l = left_in u.conn w.ended s.subs v.serial x in
           let same = same_serial s.subs apart l.sub v l.there (those v i) l.is in
-          subst (λ m. is_open m (changed (with_last slow_consumer) u.conn w.clients) ≡ false) (sym l.conn ∙ ap (λ (y : Subscription). y.conn) same) (shuts slow_consumer u.conn w.clients))
+          subst (λ m. is_open m (clients_with_change (with_last slow_consumer) u.conn w.clients) ≡ false) (sym l.conn ∙ ap (λ (y : Subscription). y.conn) same) (shuts slow_consumer u.conn w.clients))
           (in_append v.serial w.ended (left_of u.conn w.ended s.subs) j);
     }
 
 walk_closes : (s : State) (job : Job) (due : List Subscription) (w : Walk) → Apart s.subs → Each (λ v. In v s.subs) due → Apart due → Closes s.subs due w → Distinct (walk s job due w).ended
 walk_closes s job [] w apart those once k = k.distinct
-walk_closes s job (u ∷ due) w apart those once k = walk_closes s job due (put_one s job w u) apart (λ v i. those v (inr i)) once.1 (put_closes s job u due w apart (those u (inl refl)) (λ v i. those v (inr i)) once.0 k)
+walk_closes s job (u ∷ due) w apart those once k = walk_closes s job due (walk_after_put s job w u) apart (λ v i. those v (inr i)) once.1 (put_closes s job u due w apart (those u (inl refl)) (λ v i. those v (inr i)) once.0 k)
 
-pub walked_distinct : (s : State) (job : Job) → Distinct (serials_of s.subs) → Distinct (walked s job).ended
+pub walked_distinct : (s : State) (job : Job) → Distinct (serials_of s.subs) → Distinct (whole_walk s job).ended
 walked_distinct s job apart =
     let p = pairs_map_back (λ i j. i ≢ j) serial_of s.subs apart in
     walk_closes s job (filter (is_due job) s.subs) (first_step s.clients) p (λ v i. (in_filter (is_due job) s.subs v i).0) (pairs_filter (λ (u v : Subscription). u.serial ≢ v.serial) (is_due job) s.subs p) (record { distinct = tt; shut = λ u i e. absurd e })

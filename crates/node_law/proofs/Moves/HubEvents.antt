@@ -23,9 +23,9 @@ use Rattle.route_values.specs.declared.bodies.Body.TheVariants.{Plus, Minus, Sna
 use Rattle.route_values.specs.declared.frames.RouteFrame.TheVariants as route
 use Rattle.hub_core.specs.State as hub
 use Rattle.hub_core.specs.State.{Peer, seen_of}
-use Rattle.hub_core.specs.Publishing.{Publication, publish_refusal, published, own_job, frames_of}
-use Rattle.hub_core.specs.Receiving.{receive_refusal, received, routed_job}
-use Rattle.hub_core.specs.Telling.{collect_refusal, collected, collect_frames, changes_of}
+use Rattle.hub_core.specs.Publishing.{Publication, publish_refusal, after_publish, own_job, frames_of}
+use Rattle.hub_core.specs.Receiving.{receive_refusal, after_receive, routed_job}
+use Rattle.hub_core.specs.Telling.{collect_refusal, after_collect, collect_frames, changes_of}
 use Rattle.hub_core.specs.Peers.{up, snapshot_to}
 use Rattle.hub_core.specs.AsLaw.{hub_of, id_of, frame_of, IsPublished}
 use Rattle.hub_core.proofs.Choices.Places.{named}
@@ -36,14 +36,14 @@ use Rattle.hub_core.proofs.Steps.Receives.{receives_in_law, meets_in_law}
 use Rattle.hub_core.proofs.Steps.Announces.{announces_in_law}
 use Rattle.route_session.specs.State as sessions
 use Rattle.route_session.specs.State.{Session, kept_for}
-use Rattle.route_session.specs.Steps.{against, info_offer, connect_offer, info_fault, info_refusal, connect_fault, connect_refusal}
+use Rattle.route_session.specs.Steps.{duplicate_fault, info_offer, connect_offer, info_fault, info_refusal, connect_fault, connect_refusal}
 use Rattle.route_session.specs.declared.faults.SessionFault.TheVariants.{WrongName, OldIncarnation, UnknownSession}
 use Rattle.shard_core.specs.AsLaw.{job_of}
 use Rattle.shard_core.specs.ShardEvents as of_shard
 use Rattle.node_law.specs.declared.faults.NodeFault.TheVariants.{Hub}
 use Rattle.node_law.specs.Race.{race_of}
 use Rattle.node_law.specs.State.{Line, Node, finished_turns}
-use Rattle.node_law.specs.Steps.{shard_line, line_after, set_line, queued, deltas_at, collect_refusal_at, seen_name, BodyRace, lines_after_body}
+use Rattle.node_law.specs.Steps.{shard_line, line_after, set_line, line_with_job, deltas_at, collect_refusal_at, seen_name, BodyRace, lines_after_body}
 use Rattle.node_law.specs.Sound.{LineAt, SoundNode}
 use Rattle.node_law.specs.AsLaw.{law_at, line_of, node_of, sent_of, is_open_in, publication_of, body_jobs}
 use Rattle.node_law.proofs.Moves.Lines.{Steps}
@@ -57,20 +57,20 @@ numbered_seen server frames = map_map route.Numbered (sent_of server) frames
 
 pub publish_steps : (server : Server) (now : ℕ) (a : Node) (p : Publication) (race : RaceState)
     → IsListed server → SoundNode server a → publish_refusal server a.hub p (finished_turns a.lines) ≡ None → IsIssued a.race (a.race.issued + 1) race
-    → Steps server now a (record { hub = published server a.hub p; sessions = a.sessions; race = race; lines = map (queued (own_job server a.hub p)) a.lines }) (law.Publish (content_of p.said.message)) (publication_of server now a p ∷ []) (map (sent_of server) (map route.Numbered (frames_of server a.hub p))) [] (own_job server a.hub p ∷ []) [] []
+    → Steps server now a (record { hub = after_publish server a.hub p; sessions = a.sessions; race = race; lines = map (line_with_job (own_job server a.hub p)) a.lines }) (law.Publish (content_of p.said.message)) (publication_of server now a p ∷ []) (map (sent_of server) (map route.Numbered (frames_of server a.hub p))) [] (own_job server a.hub p ∷ []) [] []
 publish_steps server now a p race is sound cause issue =
     hub_steps server now a _ (law.Publish (content_of p.said.message)) _ (publication_of server now a p ∷ []) (map (sent_of server) (map route.Numbered (frames_of server a.hub p))) [] (own_job server a.hub p ∷ [])
     (queued_open (own_job server a.hub p) a.lines)
-    (issued_sound server a (published server a.hub p) a.sessions race (a.race.issued + 1) (own_job server a.hub p) sound issue refl r.peers refl refl (all_room server a sound r.room))
+    (issued_sound server a (after_publish server a.hub p) a.sessions race (a.race.issued + 1) (own_job server a.hub p) sound issue refl r.peers refl refl (all_room server a sound r.room))
     (record {
       names = (own_job server a.hub p).queues;
       frames = r.frames;
-      hub = hub_of (published server a.hub p);
+      hub = hub_of (after_publish server a.hub p);
       race = race_of race;
       publishes = r.publishes;
       issues = law_issues server a race (a.race.issued + 1) sound issue (all_room server a sound r.room);
       out_is = refl;
-      after = λ i. record (node_of server a) { hub = hub_of (published server a.hub p); race = race_of race; shards = queued_seen server (own_job server a.hub p) job a.lines job_is i };
+      after = λ i. record (node_of server a) { hub = hub_of (after_publish server a.hub p); race = race_of race; shards = queued_seen server (own_job server a.hub p) job a.lines job_is i };
     })
     (λ i. record { id = sym r.id_is i; content = content_of p.said.message; step = now } ∷ [])
     (sym r.frames_are ∙ sym (numbered_seen server (frames_of server a.hub p)))
@@ -92,7 +92,7 @@ publish_steps server now a p race is sound cause issue =
 
 pub receive_steps : (server : Server) (now : ℕ) (a : Node) (from : List ℕ) (inc : ℕ) (to : List ℕ) (to_inc number : ℕ) (body : Body) (sessions : sessions.State) (race : RaceState)
     → IsListed server → SoundNode server a → receive_refusal server a.hub (finished_turns a.lines) (record { from = from; inc = inc; to = to; to_inc = to_inc; number = number; body = body }) ≡ None → BodyRace a body race
-    → Steps server now a (record { hub = received server a.hub (record { from = from; inc = inc; to = to; to_inc = to_inc; number = number; body = body }); sessions = sessions; race = race; lines = lines_after_body a (record { from = from; inc = inc; to = to; to_inc = to_inc; number = number; body = body }) body })
+    → Steps server now a (record { hub = after_receive server a.hub (record { from = from; inc = inc; to = to; to_inc = to_inc; number = number; body = body }); sessions = sessions; race = race; lines = lines_after_body a (record { from = from; inc = inc; to = to; to_inc = to_inc; number = number; body = body }) body })
     (law.Receive (frame_of server (record { from = from; inc = inc; to = to; to_inc = to_inc; number = number; body = body }))) [] [] [] (body_jobs a (record { from = from; inc = inc; to = to; to_inc = to_inc; number = number; body = body }) body) [] []
 receive_steps server now a from inc to to_inc number (Plus weighted) sessions race is sound cause same =
     let r = receives_in_law (law_at server) server a.hub (finished_turns a.lines) (record { from = from; inc = inc; to = to; to_inc = to_inc; number = number; body = Plus weighted }) is sound.peers cause in
@@ -106,14 +106,14 @@ receive_steps server now a from inc to to_inc number (Snapshot keys) sessions ra
 receive_steps server now a from inc to to_inc number (Msg content queues) sessions race is sound cause issue =
     let r = receives_in_law (law_at server) server a.hub (finished_turns a.lines) (record { from = from; inc = inc; to = to; to_inc = to_inc; number = number; body = Msg content queues }) is sound.peers cause in
     hub_steps server now a _ _ _ [] [] [] (job ∷ []) (queued_open job a.lines)
-    (issued_sound server a (received server a.hub frame) sessions race (a.race.issued + 1) job sound issue refl r.1 refl refl (all_room server a sound r.0.1))
+    (issued_sound server a (after_receive server a.hub frame) sessions race (a.race.issued + 1) job sound issue refl r.1 refl refl (all_room server a sound r.0.1))
     (record {
-      hub = hub_of (received server a.hub frame);
+      hub = hub_of (after_receive server a.hub frame);
       race = race_of race;
       receives = r.0.0;
       issues = law_issues server a race (a.race.issued + 1) sound issue (all_room server a sound r.0.1);
       out_is = refl;
-      after = λ i. record (node_of server a) { hub = hub_of (received server a.hub frame); race = race_of race; shards = queued_seen server job law_job a.lines job_is i };
+      after = λ i. record (node_of server a) { hub = hub_of (after_receive server a.hub frame); race = race_of race; shards = queued_seen server job law_job a.lines job_is i };
     }) refl refl refl (λ i. sym job_is i ∷ []) refl refl
   where
     frame : Frame
@@ -147,7 +147,7 @@ collect_open lines p line at place serial = go (nat_eq place p) refl
 
 pub collect_steps : (server : Server) (now shard : ℕ) (a : Node) (o : Option Line) (sessions : sessions.State)
     → IsListed server → SoundNode server a → shard_line a shard ≡ o → collect_refusal_at a.hub o ≡ None
-    → (x : law.NodeEvent) × IsOwn x × Steps server now a (record { hub = collected server a.hub (deltas_at o); sessions = sessions; race = a.race; lines = set_line a.lines (shard - 1) (line_after of_shard.Collect) o }) x [] (map (sent_of server) (map route.Numbered (collect_frames server a.hub (deltas_at o)))) (changes_of a.hub (deltas_at o)) [] [] []
+    → (x : law.NodeEvent) × IsOwn x × Steps server now a (record { hub = after_collect server a.hub (deltas_at o); sessions = sessions; race = a.race; lines = set_line a.lines (shard - 1) (line_after of_shard.Collect) o }) x [] (map (sent_of server) (map route.Numbered (collect_frames server a.hub (deltas_at o)))) (changes_of a.hub (deltas_at o)) [] [] []
 collect_steps server now shard a None sessions is sound at cause = absurd (none-some _ (sym cause))
 collect_steps server now shard a (Some line) sessions is sound at cause =
     let there = found (nat_eq shard 0) (slice_get a.lines (shard - 1)) line at in
@@ -166,11 +166,11 @@ collect_steps server now shard a (Some line) sessions is sound at cause =
             counts = r.within;
           })
           (record {
-            hub = hub_of (collected server a.hub line.shard.deltas);
+            hub = hub_of (after_collect server a.hub line.shard.deltas);
             frames = map (frame_of server) (collect_frames server a.hub line.shard.deltas);
             announces = r.announces;
             out_is = refl;
-            after = λ i. record (node_of server a) { hub = hub_of (collected server a.hub line.shard.deltas); shards = map_set_same (line_of server) a.lines (shard - 1) line (line_after of_shard.Collect line) there refl i };
+            after = λ i. record (node_of server a) { hub = hub_of (after_collect server a.hub line.shard.deltas); shards = map_set_same (line_of server) a.lines (shard - 1) line (line_after of_shard.Collect line) there refl i };
           }) refl (sym (numbered_seen server (collect_frames server a.hub line.shard.deltas))) refl refl refl refl,
     )
 
@@ -195,10 +195,10 @@ info_greets server s (Some x) info least e = go x.dialed (no_cause (is_some x.ke
     go : (d : Option ℕ) → info_fault server s x info least d ≡ None → Greets server info.server_name info.inc least
     go None f = absurd (none-some UnknownSession (sym f))
     go (Some q) f =
-        let g = no_cause (not (nat_eq (place server info.server_name) q && is_peer server q)) WrongName (if nat_lt info.inc least then Some OldIncarnation else against (info_offer server x info) (kept_for q s.standing)) f in
+        let g = no_cause (not (nat_eq (place server info.server_name) q && is_peer server q)) WrongName (if nat_lt info.inc least then Some OldIncarnation else duplicate_fault (info_offer server x info) (kept_for q s.standing)) f in
         let b = and_true (nat_eq (place server info.server_name) q) (is_peer server q) (not_false (nat_eq (place server info.server_name) q && is_peer server q) g.0) in
         let here = eq_true (place server info.server_name) q b.0 in
-        peer_greets server info.server_name info.inc least (ap (is_peer server) here ∙ b.1) (no_cause (nat_lt info.inc least) OldIncarnation (against (info_offer server x info) (kept_for q s.standing)) g.1).0
+        peer_greets server info.server_name info.inc least (ap (is_peer server) here ∙ b.1) (no_cause (nat_lt info.inc least) OldIncarnation (duplicate_fault (info_offer server x info) (kept_for q s.standing)) g.1).0
 
 pub connect_greets : (server : Server) (s : sessions.State) (o : Option Session) (connect : Connect) (least : ℕ) → connect_refusal server s o connect least ≡ None → Greets server connect.server_name connect.inc least
 connect_greets server s None connect least e = absurd (none-some UnknownSession (sym e))
@@ -207,9 +207,9 @@ connect_greets server s (Some x) connect least e = go x.dialed (no_cause (is_som
     go : (d : Option ℕ) → connect_fault server s connect least d ≡ None → Greets server connect.server_name connect.inc least
     go (Some q) f = absurd (none-some UnknownSession (sym f))
     go None f =
-        let g = no_cause (not (nat_eq (place server connect.to) server.me && is_peer server (place server connect.server_name))) WrongName (if nat_lt connect.inc least || not (nat_eq connect.to_inc server.inc) then Some OldIncarnation else against (connect_offer server connect) (kept_for (place server connect.server_name) s.standing)) f in
+        let g = no_cause (not (nat_eq (place server connect.to) server.me && is_peer server (place server connect.server_name))) WrongName (if nat_lt connect.inc least || not (nat_eq connect.to_inc server.inc) then Some OldIncarnation else duplicate_fault (connect_offer server connect) (kept_for (place server connect.server_name) s.standing)) f in
         let b = and_true (nat_eq (place server connect.to) server.me) (is_peer server (place server connect.server_name)) (not_false (nat_eq (place server connect.to) server.me && is_peer server (place server connect.server_name)) g.0) in
-        peer_greets server connect.server_name connect.inc least b.1 (or_false (nat_lt connect.inc least) (not (nat_eq connect.to_inc server.inc)) (no_cause (nat_lt connect.inc least || not (nat_eq connect.to_inc server.inc)) OldIncarnation (against (connect_offer server connect) (kept_for (place server connect.server_name) s.standing)) g.1).0).0
+        peer_greets server connect.server_name connect.inc least b.1 (or_false (nat_lt connect.inc least) (not (nat_eq connect.to_inc server.inc)) (no_cause (nat_lt connect.inc least || not (nat_eq connect.to_inc server.inc)) OldIncarnation (duplicate_fault (connect_offer server connect) (kept_for (place server connect.server_name) s.standing)) g.1).0).0
 
 -- a peer of this server, at no incarnation below the one seen
 seen_at : (server : Server) (a : Node) (name : List ℕ) (peer : Peer) → is_peer server (place server name) ≡ true → slice_get a.hub.peers (place server name) ≡ Some peer → seen_name server a name ≡ peer.seen

@@ -26,24 +26,24 @@ use Rattle.shard_core.specs.AsLaw.{job_of}
 use Rattle.shard_core.specs.Lines.{Turns, begun_turn}
 use Rattle.node_law.specs.Race.{race_of}
 use Rattle.node_law.specs.State.{Line, Node, finished_turns}
-use Rattle.node_law.specs.Steps.{queued}
+use Rattle.node_law.specs.Steps.{line_with_job}
 use Rattle.node_law.specs.Sound.{LineAt, SoundNode}
 use Rattle.node_law.specs.AsLaw.{law_at, line_of, node_of, is_open_in}
-use Rattle.node_law.proofs.Claims.Winners.{race_follows}
+use Rattle.node_law.proofs.Claims.Winners.{races_follow_the_law}
 use Rattle.node_law.proofs.Moves.Lines.{InOrder, Steps}
 
 -- what is open stays so, and nothing else is
 abbrev pub SameOpen : List Line → List Line → Type 0
 SameOpen old new = (place serial : ℕ) → is_open_in serial (slice_get new place) ≡ is_open_in serial (slice_get old place)
 
-pub queued_open : (job : Job) (lines : List Line) → SameOpen lines (map (queued job) lines)
+pub queued_open : (job : Job) (lines : List Line) → SameOpen lines (map (line_with_job job) lines)
 queued_open job [] place serial = refl
 queued_open job (line ∷ lines) zero serial = refl
 queued_open job (line ∷ lines) (suc place) serial = queued_open job lines place serial
 
 pub hub_steps : (server : Server) (now : ℕ) (a b : Node) (x : law.NodeEvent) (out : history.Output) (publications : List messages.Publication) (frames : List messages.Frame) (changes : List Change) (jobs : List Job)
     → SameOpen a.lines b.lines → InOrder server b → law.NodeStep every_rule (law_at server) server.me now (node_of server a) x out (node_of server b)
-    → out.publications ≡ publications → out.frames ≡ frames → out.changes ≡ map (law.noted server.me server.inc) (map change_of changes) → out.jobs ≡ map (job_of (id_of server) server.me server.inc) jobs → out.lives ≡ [] → out.placements ≡ []
+    → out.publications ≡ publications → out.frames ≡ frames → out.changes ≡ map (law.note_of server.me server.inc) (map change_of changes) → out.jobs ≡ map (job_of (id_of server) server.me server.inc) jobs → out.lives ≡ [] → out.placements ≡ []
     → Steps server now a b x publications frames changes jobs [] []
 hub_steps server now a b x out publications frames changes jobs same sound steps publications_are frames_are changes_are jobs_are lives_are placements_are = record {
   moves = record {
@@ -110,7 +110,7 @@ turns_more : (begun : ℕ) (waiting : List Job) (issued : ℕ) (job : Job) → j
 turns_more begun [] issued job turn t = (turn ∙ ap suc (sym t), ap suc t)
 turns_more begun (x ∷ waiting) issued job turn t = (t.0, turns_more (suc begun) waiting issued job turn t.1)
 
-pub queued_seen : (server : Server) (job : Job) (j : history.Job) (lines : List Line) → job_of (id_of server) server.me server.inc job ≡ j → map (line_of server) (map (queued job) lines) ≡ map (law.queued j) (map (line_of server) lines)
+pub queued_seen : (server : Server) (job : Job) (j : history.Job) (lines : List Line) → job_of (id_of server) server.me server.inc job ≡ j → map (line_of server) (map (line_with_job job) lines) ≡ map (law.shard_with_job j) (map (line_of server) lines)
 queued_seen server job j [] e = refl
 queued_seen server job j (line ∷ lines) e = λ i. record (line_of server line) { waiting = (map_append seen line.waiting (job ∷ []) ∙ ap (λ t. map seen line.waiting ++ t ∷ []) e) i } ∷ queued_seen server job j lines e i
   where
@@ -119,12 +119,12 @@ queued_seen server job j (line ∷ lines) e = λ i. record (line_of server line)
 
 pub issued_sound : (server : Server) (a : Node) (hub : hub.State) (sessions : sessions.State) (race : RaceState) (turn : ℕ) (job : Job)
     → SoundNode server a → IsIssued a.race turn race → hub.issued ≡ a.hub.issued + 1 → HasPeers server hub → hub.counts ≡ a.hub.counts → job.turn ≡ a.hub.issued + 1 → AllRoom a
-    → InOrder server (record { hub = hub; sessions = sessions; race = race; lines = map (queued job) a.lines })
+    → InOrder server (record { hub = hub; sessions = sessions; race = race; lines = map (line_with_job job) a.lines })
 issued_sound server a hub sessions race turn job sound issue issued peers counts job_turn room = record {
   issued = let r = next in let h = sound.issued in omega arith;
-  size = map_length (queued job) a.lines ∙ sound.size;
+  size = map_length (line_with_job job) a.lines ∙ sound.size;
   lines = λ place line e.
-      let m = read_map (queued job) a.lines place line e in
+      let m = read_map (line_with_job job) a.lines place line e in
       let at = sound.lines place m.0 m.1 in
       let old = at.sound in
       let h = sound.issued in
@@ -144,7 +144,7 @@ issued_sound server a hub sessions race turn job sound issue issued peers counts
 }
   where
     next : race.issued ≡ suc a.race.issued
-    next = (race_follows.issues a.race turn race issue).issued
+    next = (races_follow_the_law.issues a.race turn race issue).issued
 
     LineIs : ℕ → Line → Type 0
     LineIs place line = LineAt server race.issued place line
@@ -154,7 +154,7 @@ law_finished server lines = map_map (line_of server) (λ (x : law_shard.Shard). 
 
 pub law_issues : (server : Server) (a : Node) (race : RaceState) (turn : ℕ) → SoundNode server a → IsIssued a.race turn race → AllRoom a → law_race.Issues every_rule WINDOW (law.finished_turns (map (line_of server) a.lines)) (race_of a.race) (race_of race)
 law_issues server a race turn sound issue room =
-    let r = race_follows.issues a.race turn race issue in record {
+    let r = races_follow_the_law.issues a.race turn race issue in record {
       room = λ s done e. let x = room s done (sym (ap (λ t. slice_get t s) (law_finished server a.lines)) ∙ e) in let z = sound.issued in omega arith;
       issued = r.issued;
       kept = r.kept;

@@ -17,7 +17,7 @@ use Rattle.shard_core.specs.ShardEvents as of_shard
 use Rattle.shard_core.specs.ShardSteps.{shard_refusal}
 use Rattle.shard_core.specs.Lines.{HasJob, first_of}
 use Rattle.shard_core.specs.AsLaw.{RaceMoves, ClaimMoves, AreThese, lives_by}
-use Rattle.shard_core.proofs.Steps.LawEvents.{shard_follows}
+use Rattle.shard_core.proofs.Steps.LawEvents.{shards_follow_the_law}
 use Rattle.node_law.specs.declared.faults.NodeFault.TheVariants.{Shard}
 use Rattle.node_law.specs.Race.{race_of}
 use Rattle.node_law.specs.State.{Line, Node}
@@ -25,7 +25,7 @@ use Rattle.node_law.specs.Events.{ConnEvent, Subscribe, Unsubscribe, Reply, Shut
 use Rattle.node_law.specs.Steps.{conn_place, conn_line, shard_line, conn_event, begin_of, drop_of, work_event, conn_refusal, event_refusal, work_refusal, ClaimRace, WorkRace, line_after, line_after_if, set_line}
 use Rattle.node_law.specs.Sound.{SoundNode}
 use Rattle.node_law.specs.AsLaw.{law_at, part_if, part_at, given_at, placements_at, conn_lives}
-use Rattle.node_law.proofs.Claims.Winners.{race_follows}
+use Rattle.node_law.proofs.Claims.Winners.{races_follow_the_law}
 use Rattle.node_law.proofs.Moves.ShardKeeps.{keeps_number, lives_open}
 use Rattle.node_law.proofs.Moves.Lines.{Steps, line_steps}
 
@@ -42,7 +42,7 @@ pub event_steps : (server : Server) (now place : ℕ) (a : Node) (line : Line) (
     → SoundNode server a → slice_get a.lines place ≡ Some line → shard_refusal line.shard e ≡ None → Ready line e a.race race → AreThese (given_at (Some (record { place = place; line = line; event = e }))) subs
     → (x : law.NodeEvent) × IsOwn x × Steps server now a (record a { lines = set a.lines place (line_after e line); race = race }) x [] [] [] [] (lives_by server.me server.inc now place line.shard e) (placements_at server now (Some (record { place = place; line = line; event = e })) subs)
 event_steps server now place a line e race subs sound at cause ready these =
-    let m = shard_follows (law_at server) (id_of server) server.me server.inc now place a.race.issued (race_of a.race) (race_of race) line.shard line.waiting e subs (sound.lines place line at).sound cause ready.has ready.moves these in
+    let m = shards_follow_the_law (law_at server) (id_of server) server.me server.inc now place a.race.issued (race_of a.race) (race_of race) line.shard line.waiting e subs (sound.lines place line at).sound cause ready.has ready.moves these in
     (law.OnShard place m.event, tt, line_steps server now place a line (line_after e line) race _ _ sound at ready.issued (keeps_number line.shard e) m (lives_open server.me server.inc now place line.shard e))
 
 -- ---- connections
@@ -72,8 +72,8 @@ conn_steps server now conn a event (Some line) race subs sound at cause same the
 claim_ready : (line : Line) (shard index : ℕ) (hand : Option Job) (u : Option Subscription) (won : Bool) (old new : RaceState) → ClaimRace old shard index hand u won new → ClaimMoves WINDOW index hand u won (race_of old) (race_of new) × (new.issued ≡ old.issued)
 claim_ready line shard index None u won old new h = (subst (λ r. Keeps WINDOW (race_of old) (race_of r)) (sym h) (same_race old), ap (λ (r : RaceState). r.issued) h)
 claim_ready line shard index (Some job) None won old new h = (subst (λ r. Keeps WINDOW (race_of old) (race_of r)) (sym h) (same_race old), ap (λ (r : RaceState). r.issued) h)
-claim_ready line shard index (Some job) (Some u) true old new h = (race_follows.claims old shard job.turn index true new h, h.issued)
-claim_ready line shard index (Some job) (Some u) false old new h = ((race_follows.claims old shard job.turn index false new h).1, h.issued)
+claim_ready line shard index (Some job) (Some u) true old new h = (races_follow_the_law.claims old shard job.turn index true new h, h.issued)
+claim_ready line shard index (Some job) (Some u) false old new h = ((races_follow_the_law.claims old shard job.turn index false new h).1, h.issued)
 
 -- the events that a shard's work may be, each ready
 work_ready : (shard : ℕ) (work : ShardWork) (line : Line) (won : Bool) (old new : RaceState) → WorkRace old shard work (Some line) won new → (e : of_shard.Event) → work_event work won line ≡ Some e → Ready line e old new
@@ -86,13 +86,13 @@ work_ready shard Begin line won old new h e is = go (first_of line.waiting) refl
 work_ready shard (Claim index) line won old new h e is =
     let c = claim_ready line shard index line.shard.hand (candidate_of line.shard line.shard.hand index) won old new h in
     subst (λ x. Ready line x old new) (same_Some (of_shard.Claim index won) e is) (record { has = tt; moves = c.0; issued = c.1 })
-work_ready shard End line won old new h e is = subst (λ x. Ready line x old new) (same_Some of_shard.End e is) (record { has = tt; moves = race_follows.finishes old shard (line.shard.finished + 1) new h; issued = h.issued })
+work_ready shard End line won old new h e is = subst (λ x. Ready line x old new) (same_Some of_shard.End e is) (record { has = tt; moves = races_follow_the_law.finishes old shard (line.shard.finished + 1) new h; issued = h.issued })
 work_ready shard DropJob line won old new h e is = go line.shard.hand refl (first_of line.waiting) refl is
   where
     go : (hand : Option Job) → line.shard.hand ≡ hand → (f : Option Job) → first_of line.waiting ≡ f → drop_of hand f ≡ Some e → Ready line e old new
     go None in_hand None at g = absurd (none-some e g)
-    go None in_hand (Some job) at g = subst (λ x. Ready line x old new) (same_Some (of_shard.DropJob (Some job)) e g) (record { has = subst (λ m. HasJob m (of_shard.DropJob (Some job)) line.waiting) (sym in_hand) (job, refl, at); moves = race_follows.finishes old shard (line.shard.finished + 1) new h; issued = h.issued })
-    go (Some job) in_hand f at g = subst (λ x. Ready line x old new) (same_Some (of_shard.DropJob None) e g) (record { has = subst (λ m. HasJob m (of_shard.DropJob None) line.waiting) (sym in_hand) refl; moves = race_follows.finishes old shard (line.shard.finished + 1) new h; issued = h.issued })
+    go None in_hand (Some job) at g = subst (λ x. Ready line x old new) (same_Some (of_shard.DropJob (Some job)) e g) (record { has = subst (λ m. HasJob m (of_shard.DropJob (Some job)) line.waiting) (sym in_hand) (job, refl, at); moves = races_follow_the_law.finishes old shard (line.shard.finished + 1) new h; issued = h.issued })
+    go (Some job) in_hand f at g = subst (λ x. Ready line x old new) (same_Some (of_shard.DropJob None) e g) (record { has = subst (λ m. HasJob m (of_shard.DropJob None) line.waiting) (sym in_hand) refl; moves = races_follow_the_law.finishes old shard (line.shard.finished + 1) new h; issued = h.issued })
 
 no_lives : (work : ShardWork) (line : Line) (won : Bool) (e : of_shard.Event) → work_event work won line ≡ Some e → (n inc now place : ℕ) → lives_by n inc now place line.shard e ≡ []
 no_lives Attach line won e is n inc now place = subst (λ x. lives_by n inc now place line.shard x ≡ []) (same_Some of_shard.Attach e is) refl

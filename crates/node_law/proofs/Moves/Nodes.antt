@@ -9,7 +9,7 @@ use Rattle.claim_race.specs.Race.{RaceState}
 use Rattle.hub_core.specs.State as hub
 use Rattle.hub_core.specs.Publishing.{publish_refusal}
 use Rattle.hub_core.specs.Receiving.{receive_refusal}
-use Rattle.hub_core.specs.Peers.{taken, snapshot_to}
+use Rattle.hub_core.specs.Peers.{after_take, snapshot_to}
 use Rattle.hub_core.specs.AsLaw.{hub_of, frame_of, HasPeers}
 use Rattle.hub_core.proofs.Steps.Rooms.{map_none}
 use Rattle.hub_core.proofs.Steps.Receives.{cuts_unseen, takes_unseen}
@@ -57,7 +57,7 @@ node_steps server now a (Own (CutSession session)) won race subs is sound cause 
     (law.Announce [], tt, told_steps server now a (cut_if a.hub (peer_of_session session a.sessions.standing)) _ a.race [] sound refl u.hub_is u.issued u.peers u.counts (λ f i. absurd i))
 node_steps server now a (Own (TakeFrames q count)) won race subs is sound cause moves these =
     let u = takes_unseen server a.hub q count sound.peers in
-    (law.Announce [], tt, told_steps server now a (taken a.hub q count) a.sessions a.race [] sound refl u.hub_is refl u.peers refl (λ f i. absurd i))
+    (law.Announce [], tt, told_steps server now a (after_take a.hub q count) a.sessions a.race [] sound refl u.hub_is refl u.peers refl (λ f i. absurd i))
 node_steps server now a (Receive frame) won race subs is sound cause moves these =
     (_, refl, receive_steps server now a frame.from frame.inc frame.to frame.to_inc frame.number frame.body _ race is sound (map_none Hub (receive_refusal server a.hub (finished_turns a.lines) frame) cause) moves)
 node_steps server now a (OnInfo session info) won race subs is sound cause moves these = (

@@ -11,9 +11,9 @@ use Rattle.sub_table.specs.declared.Subscription.{Subscription}
 use Rattle.subj.specs.declared.jobs.Job.{Job}
 use Rattle.shard_core.specs.Shards.{State}
 use Rattle.shard_core.specs.Closings.{serials_of}
-use Rattle.shard_core.specs.Owed.{candidate_of, claimed, placed_one, tried}
+use Rattle.shard_core.specs.Owed.{candidate_of, after_claim, after_put, after_try}
 use Rattle.shard_core.specs.ShardEvents.{Event, Attach, Subscribe, Unsubscribe, Reply, Shut, Detach, Take, Begin, Claim, End, DropJob, Collect}
-use Rattle.shard_core.specs.ShardSteps.{called, new_sub, subscribed, ended_now, unsubscribed, answer_fits, done_with, shard_after}
+use Rattle.shard_core.specs.ShardSteps.{sub_called, new_sub, after_subscribe, ended_now, after_unsubscribe, answer_fits, done_with, shard_after}
 use Rattle.shard_core.specs.AsLaw.{is_open_serial, opened_by, lives_by}
 
 pub record Same (s after : State) : Type 0 where
@@ -26,14 +26,14 @@ either s x y false f g = g
 
 pub keeps_number : (s : State) (e : Event) → Same s (shard_after s e)
 keeps_number s Attach = record { shard = refl; shards = refl }
-keeps_number s (Subscribe conn key sid) = go (called conn sid s.subs)
+keeps_number s (Subscribe conn key sid) = go (sub_called conn sid s.subs)
   where
-    go : (u : Option Subscription) → Same s (subscribed s (new_sub s conn key sid) u)
+    go : (u : Option Subscription) → Same s (after_subscribe s (new_sub s conn key sid) u)
     go None = record { shard = refl; shards = refl }
     go (Some u) = record { shard = refl; shards = refl }
-keeps_number s (Unsubscribe conn sid max) = go (called conn sid s.subs)
+keeps_number s (Unsubscribe conn sid max) = go (sub_called conn sid s.subs)
   where
-    go : (u : Option Subscription) → Same s (unsubscribed s max u)
+    go : (u : Option Subscription) → Same s (after_unsubscribe s max u)
     go None = record { shard = refl; shards = refl }
     go (Some u) = either s _ _ (ended_now max u) (record { shard = refl; shards = refl }) (record { shard = refl; shards = refl })
 keeps_number s (Reply conn frame) = either s _ _ (answer_fits s conn _) (record { shard = refl; shards = refl }) (record { shard = refl; shards = refl })
@@ -43,10 +43,10 @@ keeps_number s (Take conn count) = record { shard = refl; shards = refl }
 keeps_number s (Begin job) = record { shard = refl; shards = refl }
 keeps_number s (Claim index won) = go s.hand (candidate_of s s.hand index)
   where
-    go : (hand : Option Job) (u : Option Subscription) → Same s (claimed s hand u won)
+    go : (hand : Option Job) (u : Option Subscription) → Same s (after_claim s hand u won)
     go None u = record { shard = refl; shards = refl }
     go (Some job) None = record { shard = refl; shards = refl }
-    go (Some job) (Some u) = either s (placed_one (tried s) job u) (tried s) won (record { shard = refl; shards = refl }) (record { shard = refl; shards = refl })
+    go (Some job) (Some u) = either s (after_put (after_try s) job u) (after_try s) won (record { shard = refl; shards = refl }) (record { shard = refl; shards = refl })
 keeps_number s End = go s.hand
   where
     go : (hand : Option Job) → Same s (done_with s hand)
@@ -68,11 +68,11 @@ pub record OpenHere (n inc place : ℕ) (after : State) (life : history.Life) : 
 
 pub lives_open : (n inc now place : ℕ) (s : State) (e : Event) → Each (OpenHere n inc place (shard_after s e)) (lives_by n inc now place s e)
 lives_open n inc now place s Attach = λ life i. absurd i
-lives_open n inc now place s (Subscribe conn key sid) = go (called conn sid s.subs)
+lives_open n inc now place s (Subscribe conn key sid) = go (sub_called conn sid s.subs)
   where
-    go : (u : Option Subscription) → Each (OpenHere n inc place (subscribed s (new_sub s conn key sid) u)) (opened_by n inc now place s conn key sid u)
+    go : (u : Option Subscription) → Each (OpenHere n inc place (after_subscribe s (new_sub s conn key sid) u)) (opened_by n inc now place s conn key sid u)
     go (Some u) life i = absurd i
-    go None life i = ⊎_elim (λ e. subst (OpenHere n inc place (subscribed s (new_sub s conn key sid) None)) (sym e) (record {
+    go None life i = ⊎_elim (λ e. subst (OpenHere n inc place (after_subscribe s (new_sub s conn key sid) None)) (sym e) (record {
       node = refl;
       inc_is = refl;
       shard = refl;

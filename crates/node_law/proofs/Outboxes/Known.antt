@@ -19,7 +19,7 @@ use Rattle.node_law.specs.declared.faults.NodeFault.TheVariants.{NoShard, Shard}
 use Rattle.node_law.specs.AsLaw.{part_if, part_at, part_of, waits_in, waits_at}
 use Rattle.node_law.specs.Events.{ConnEvent, ShardWork, OfConn, AtShard, Publish, Collect, Dial, Accept, CutSession, TakeFrames, NodeEvent, Own, Receive, OnInfo, OnConnect}
 use Rattle.node_law.specs.State.{Line, Node, lines_from}
-use Rattle.node_law.specs.Steps.{conn_place, conn_line, shard_line, conn_event, work_event, conn_refusal, no_job, event_refusal, work_refusal, line_after, line_after_if, set_line, queued, lines_after_body, node_refusal, node_after}
+use Rattle.node_law.specs.Steps.{conn_place, conn_line, shard_line, conn_event, work_event, conn_refusal, no_job, event_refusal, work_refusal, line_after, line_after_if, set_line, line_with_job, lines_after_body, node_refusal, node_after}
 use Rattle.node_law.specs.Outboxes.{History, no_history, after_event, after_part, history_of, shut_in, is_shut_at, IsKnown, OutboxesAreKnown}
 use Rattle.node_law.proofs.Moves.LineEvents.{found, same_refusal}
 use Rattle.node_law.proofs.Outboxes.LastLines.{event_known}
@@ -60,15 +60,15 @@ module _ (place conn : ℕ) (x : History) where
       go None f = absurd (none-some (no_job line.shard.hand) (sym f))
       go (Some e) f = line_known a.lines (shard - 1) line e (found (nat_eq shard 0) (slice_get a.lines (shard - 1)) line at) (map_none Shard (shard_refusal line.shard e) f) known
 
-  queued_known : (job : Job) (lines : List Line) → KnownIn x conn (slice_get lines place) → KnownIn x conn (slice_get (map (queued job) lines) place)
-  queued_known job lines known = same_known lines (map (queued job) lines) (waits lines place) (shuts lines place) known
+  queued_known : (job : Job) (lines : List Line) → KnownIn x conn (slice_get lines place) → KnownIn x conn (slice_get (map (line_with_job job) lines) place)
+  queued_known job lines known = same_known lines (map (line_with_job job) lines) (waits lines place) (shuts lines place) known
     where
-      waits : (lines : List Line) (place : ℕ) → waits_in conn (slice_get (map (queued job) lines) place) ≡ waits_in conn (slice_get lines place)
+      waits : (lines : List Line) (place : ℕ) → waits_in conn (slice_get (map (line_with_job job) lines) place) ≡ waits_in conn (slice_get lines place)
       waits [] place = refl
       waits (line ∷ lines) zero = refl
       waits (line ∷ lines) (suc place) = waits lines place
 
-      shuts : (lines : List Line) (place : ℕ) → shut_in conn (slice_get (map (queued job) lines) place) ≡ shut_in conn (slice_get lines place)
+      shuts : (lines : List Line) (place : ℕ) → shut_in conn (slice_get (map (line_with_job job) lines) place) ≡ shut_in conn (slice_get lines place)
       shuts [] place = refl
       shuts (line ∷ lines) zero = refl
       shuts (line ∷ lines) (suc place) = shuts lines place

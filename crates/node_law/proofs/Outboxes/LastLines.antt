@@ -11,11 +11,11 @@ use Rattle.client_frames.specs.Frames.{reply_line}
 use Rattle.outbox.specs.Views.{Written, Backlog, with_entry, with_last, without_first, reply_entry}
 use Rattle.subj.specs.declared.jobs.Job.{Job}
 use Rattle.sub_table.specs.declared.Subscription.{Subscription}
-use Rattle.shard_core.specs.Shards.{State, Client, client_at, is_open, takes_events, with_outbox, changed, detached, fits, entries_of, waits_for}
-use Rattle.shard_core.specs.Owed.{Walk, walk, walked, is_due, first_step, put_one, give, shut_slow, due_entry, placed_for, slow_consumer, candidate_of, candidate_named, claimed}
+use Rattle.shard_core.specs.Shards.{State, Client, client_at, is_open, takes_events, with_outbox, clients_with_change, without_client, fits, entries_of, waits_for}
+use Rattle.shard_core.specs.Owed.{Walk, walk, whole_walk, is_due, first_step, walk_after_put, walk_with_entry, walk_with_shut, due_entry, placed_for, slow_consumer, candidate_of, candidate_named, after_claim}
 use Rattle.shard_core.specs.Puts.{put_line, put_by, put_by_claim, entries_for, kept_of}
 use Rattle.shard_core.specs.ShardEvents.{Event, Attach, Subscribe, Unsubscribe, Reply, Shut, Detach, Take, Begin, Claim, End, DropJob, Collect}
-use Rattle.shard_core.specs.ShardSteps.{called, new_client, new_sub, subscribed, ended_now, unsubscribed, answer_fits, was_shut, done_with, shard_refusal, shard_after}
+use Rattle.shard_core.specs.ShardSteps.{sub_called, new_client, new_sub, after_subscribe, ended_now, after_unsubscribe, answer_fits, was_shut, done_with, shard_refusal, shard_after}
 use Rattle.shard_core.proofs.Steps.LawEvents.{candidate_is}
 use Rattle.shard_core.proofs.Clients.Outboxes.{changed_here, changed_there, gone, stays, entries_append, entries_here, entries_there, are_put}
 use Rattle.node_law.specs.Outboxes.{due_by, last_by, taken_by, is_detach, History, no_history, after_event, is_shut_client, is_shut, IsKnown}
@@ -23,15 +23,15 @@ use Rattle.node_law.specs.Outboxes.{due_by, last_by, taken_by, is_detach, Histor
 -- ---- whether a connection is shut, after a change
 
 -- a change that leaves whether it is
-shut_kept : (change : Backlog → Backlog) → ((backlog : Backlog) → (change backlog).shut ≡ backlog.shut) → (k j : ℕ) (xs : List Client) → is_shut k (changed change j xs) ≡ is_shut k xs
+shut_kept : (change : Backlog → Backlog) → ((backlog : Backlog) → (change backlog).shut ≡ backlog.shut) → (k j : ℕ) (xs : List Client) → is_shut k (clients_with_change change j xs) ≡ is_shut k xs
 shut_kept change same k j xs = go (nat_eq k j) refl
   where
     by : (x : Option Client) → is_shut_client (option_map (with_outbox change) x) ≡ is_shut_client x
     by None = refl
     by (Some x) = same x.outbox
 
-    go : (b : Bool) → nat_eq k j ≡ b → is_shut k (changed change j xs) ≡ is_shut k xs
-    go true e = subst (λ m. is_shut m (changed change j xs) ≡ is_shut m xs) (sym (eq_true k j e)) (ap is_shut_client (changed_here change j xs) ∙ by (client_at j xs))
+    go : (b : Bool) → nat_eq k j ≡ b → is_shut k (clients_with_change change j xs) ≡ is_shut k xs
+    go true e = subst (λ m. is_shut m (clients_with_change change j xs) ≡ is_shut m xs) (sym (eq_true k j e)) (ap is_shut_client (changed_here change j xs) ∙ by (client_at j xs))
     go false e = ap is_shut_client (changed_there change k j xs (eq_false k j e))
 
 open_not_shut : (k : ℕ) (xs : List Client) → is_open k xs ≡ true → is_shut k xs ≡ false
@@ -41,7 +41,7 @@ open_not_shut k xs e = go (client_at k xs) e
     go None f = refl
     go (Some x) f = not_true x.outbox.shut f
 
-shut_now : (line : List ℕ) (k : ℕ) (xs : List Client) → is_open k xs ≡ true → is_shut k (changed (with_last line) k xs) ≡ true
+shut_now : (line : List ℕ) (k : ℕ) (xs : List Client) → is_open k xs ≡ true → is_shut k (clients_with_change (with_last line) k xs) ≡ true
 shut_now line k xs e = ap is_shut_client (changed_here (with_last line) k xs) ∙ go (client_at k xs) e
   where
     go : (x : Option Client) → takes_events x ≡ true → is_shut_client (option_map (with_outbox (with_last line)) x) ≡ true
@@ -90,21 +90,21 @@ apart : (k j : ℕ) (xs : List Client) → is_open j xs ≡ true → is_shut k x
 apart k j xs e f g = true≢false (sym f ∙ ap (λ m. is_shut m xs) g ∙ open_not_shut j xs e)
 
 -- an entry for connection j, which is open
-one_entry : (entry : Written) (j : ℕ) (xs : List Client) → is_open j xs ≡ true → (k : ℕ) → Gets (is_shut k xs) (is_shut k (changed (with_entry entry) j xs)) (entries_for k (record { conn = j; entry = entry } ∷ [])) []
+one_entry : (entry : Written) (j : ℕ) (xs : List Client) → is_open j xs ≡ true → (k : ℕ) → Gets (is_shut k xs) (is_shut k (clients_with_change (with_entry entry) j xs)) (entries_for k (record { conn = j; entry = entry } ∷ [])) []
 one_entry entry j xs e k = record {
   shut = λ f. (entries_there k j entry (apart k j xs e f), refl, shut_kept (with_entry entry) (λ backlog. refl) k j xs ∙ f);
   other = λ f. sym (ap (λ b. cond b 1 0) (shut_kept (with_entry entry) (λ backlog. refl) k j xs ∙ f));
 }
 
 -- a last line for it
-one_line : (line : List ℕ) (j : ℕ) (xs : List Client) → is_open j xs ≡ true → (k : ℕ) → Gets (is_shut k xs) (is_shut k (changed (with_last line) j xs)) [] (entries_for k (put_line line j ∷ []))
+one_line : (line : List ℕ) (j : ℕ) (xs : List Client) → is_open j xs ≡ true → (k : ℕ) → Gets (is_shut k xs) (is_shut k (clients_with_change (with_last line) j xs)) [] (entries_for k (put_line line j ∷ []))
 one_line line j xs e k = record {
   shut = λ f. let far = apart k j xs e f in (refl, entries_there k j (reply_entry line) far, ap is_shut_client (changed_there (with_last line) k j xs far) ∙ f);
   other = λ f. go f (nat_eq k j) refl;
 }
   where
-    go : is_shut k xs ≡ false → (b : Bool) → nat_eq k j ≡ b → length (entries_for k (put_line line j ∷ [])) ≡ cond (is_shut k (changed (with_last line) j xs)) 1 0
-    go f true g = subst (λ m. length (entries_for m (put_line line j ∷ [])) ≡ cond (is_shut m (changed (with_last line) j xs)) 1 0) (sym (eq_true k j g)) (ap length (entries_here j (reply_entry line)) ∙ sym (ap (λ b. cond b 1 0) (shut_now line j xs e)))
+    go : is_shut k xs ≡ false → (b : Bool) → nat_eq k j ≡ b → length (entries_for k (put_line line j ∷ [])) ≡ cond (is_shut k (clients_with_change (with_last line) j xs)) 1 0
+    go f true g = subst (λ m. length (entries_for m (put_line line j ∷ [])) ≡ cond (is_shut m (clients_with_change (with_last line) j xs)) 1 0) (sym (eq_true k j g)) (ap length (entries_here j (reply_entry line)) ∙ sym (ap (λ b. cond b 1 0) (shut_now line j xs e)))
     go f false g = let far = eq_false k j g in ap length (entries_there k j (reply_entry line) far) ∙ sym (ap (λ b. cond b 1 0) (ap is_shut_client (changed_there (with_last line) k j xs far) ∙ f))
 
 -- ---- the walk of Begin
@@ -112,7 +112,7 @@ one_line line j xs e k = record {
 abbrev WalkGets : State → Job → ℕ → Walk → Type 0
 WalkGets s job k w = Gets (is_shut k s.clients) (is_shut k w.clients) (entries_for k (map (placed_for s.shard job None) w.given)) (entries_for k (map (put_line slow_consumer) w.shut))
 
-put_gets : (s : State) (job : Job) (k : ℕ) (w : Walk) (u : Subscription) → WalkGets s job k w → WalkGets s job k (put_one s job w u)
+put_gets : (s : State) (job : Job) (k : ℕ) (w : Walk) (u : Subscription) → WalkGets s job k w → WalkGets s job k (walk_after_put s job w u)
 put_gets s job k w u g = go (is_open u.conn w.clients) (fits (client_at u.conn w.clients) (due_entry s.shard job None u)) refl
   where
     given : List Written
@@ -127,20 +127,20 @@ put_gets s job k w u g = go (is_open u.conn w.clients) (fits (client_at u.conn w
     one_more : entries_for k (map (put_line slow_consumer) (w.shut ++ u.conn ∷ [])) ≡ lines ++ entries_for k (put_line slow_consumer u.conn ∷ [])
     one_more = ap (entries_for k) (map_append (put_line slow_consumer) w.shut (u.conn ∷ [])) ∙ entries_append k (map (put_line slow_consumer) w.shut) (put_line slow_consumer u.conn ∷ [])
 
-    go : (o r : Bool) → is_open u.conn w.clients ≡ o → WalkGets s job k (cond o (cond r (give (due_entry s.shard job None u) u w) (shut_slow s.subs u.conn w)) w)
+    go : (o r : Bool) → is_open u.conn w.clients ≡ o → WalkGets s job k (cond o (cond r (walk_with_entry (due_entry s.shard job None u) u w) (walk_with_shut s.subs u.conn w)) w)
     go false r e = g
     go true true e =
-        let h = both (is_shut k s.clients) (is_shut k w.clients) (is_shut k (changed (with_entry (due_entry s.shard job None u)) u.conn w.clients)) given lines (entries_for k (placed_for s.shard job None u ∷ [])) [] g (one_entry (due_entry s.shard job None u) u.conn w.clients e k) in
-        subst (λ t. Gets (is_shut k s.clients) (is_shut k (changed (with_entry (due_entry s.shard job None u)) u.conn w.clients)) t lines) (sym more)
-        (subst (λ t. Gets (is_shut k s.clients) (is_shut k (changed (with_entry (due_entry s.shard job None u)) u.conn w.clients)) (given ++ entries_for k (placed_for s.shard job None u ∷ [])) t) (append_nil lines) h)
+        let h = both (is_shut k s.clients) (is_shut k w.clients) (is_shut k (clients_with_change (with_entry (due_entry s.shard job None u)) u.conn w.clients)) given lines (entries_for k (placed_for s.shard job None u ∷ [])) [] g (one_entry (due_entry s.shard job None u) u.conn w.clients e k) in
+        subst (λ t. Gets (is_shut k s.clients) (is_shut k (clients_with_change (with_entry (due_entry s.shard job None u)) u.conn w.clients)) t lines) (sym more)
+        (subst (λ t. Gets (is_shut k s.clients) (is_shut k (clients_with_change (with_entry (due_entry s.shard job None u)) u.conn w.clients)) (given ++ entries_for k (placed_for s.shard job None u ∷ [])) t) (append_nil lines) h)
     go true false e =
-        let h = both (is_shut k s.clients) (is_shut k w.clients) (is_shut k (changed (with_last slow_consumer) u.conn w.clients)) given lines [] (entries_for k (put_line slow_consumer u.conn ∷ [])) g (one_line slow_consumer u.conn w.clients e k) in
-        subst (λ t. Gets (is_shut k s.clients) (is_shut k (changed (with_last slow_consumer) u.conn w.clients)) given t) (sym one_more)
-        (subst (λ t. Gets (is_shut k s.clients) (is_shut k (changed (with_last slow_consumer) u.conn w.clients)) t (lines ++ entries_for k (put_line slow_consumer u.conn ∷ []))) (append_nil given) h)
+        let h = both (is_shut k s.clients) (is_shut k w.clients) (is_shut k (clients_with_change (with_last slow_consumer) u.conn w.clients)) given lines [] (entries_for k (put_line slow_consumer u.conn ∷ [])) g (one_line slow_consumer u.conn w.clients e k) in
+        subst (λ t. Gets (is_shut k s.clients) (is_shut k (clients_with_change (with_last slow_consumer) u.conn w.clients)) given t) (sym one_more)
+        (subst (λ t. Gets (is_shut k s.clients) (is_shut k (clients_with_change (with_last slow_consumer) u.conn w.clients)) t (lines ++ entries_for k (put_line slow_consumer u.conn ∷ []))) (append_nil given) h)
 
 walk_gets : (s : State) (job : Job) (k : ℕ) (due : List Subscription) (w : Walk) → WalkGets s job k w → WalkGets s job k (walk s job due w)
 walk_gets s job k [] w g = g
-walk_gets s job k (u ∷ due) w g = walk_gets s job k due (put_one s job w u) (put_gets s job k w u g)
+walk_gets s job k (u ∷ due) w g = walk_gets s job k due (walk_after_put s job w u) (put_gets s job k w u g)
 
 -- ---- each event
 
@@ -153,18 +153,18 @@ done_gets s (Some job) k = nothing _ _ refl
 
 event_gets : (s : State) (e : Event) → shard_refusal s e ≡ None → (k : ℕ) → is_detach k e ≡ false → EventGets s e k
 event_gets s Attach cause k here = nothing _ _ (attached_shut k s.next_conn s.clients)
-event_gets s (Subscribe conn key sid) cause k here = go (called conn sid s.subs)
+event_gets s (Subscribe conn key sid) cause k here = go (sub_called conn sid s.subs)
   where
-    go : (u : Option Subscription) → Gets (is_shut k s.clients) (is_shut k (subscribed s (new_sub s conn key sid) u).clients) [] []
+    go : (u : Option Subscription) → Gets (is_shut k s.clients) (is_shut k (after_subscribe s (new_sub s conn key sid) u).clients) [] []
     go None = nothing _ _ refl
     go (Some u) = nothing _ _ refl
-event_gets s (Unsubscribe conn sid max) cause k here = go (called conn sid s.subs)
+event_gets s (Unsubscribe conn sid max) cause k here = go (sub_called conn sid s.subs)
   where
     at : (b : Bool) (x y : State) → x.clients ≡ s.clients → y.clients ≡ s.clients → Gets (is_shut k s.clients) (is_shut k (cond b x y).clients) [] []
     at true x y e f = nothing _ _ (ap (is_shut k) e)
     at false x y e f = nothing _ _ (ap (is_shut k) f)
 
-    go : (u : Option Subscription) → Gets (is_shut k s.clients) (is_shut k (unsubscribed s max u).clients) [] []
+    go : (u : Option Subscription) → Gets (is_shut k s.clients) (is_shut k (after_unsubscribe s max u).clients) [] []
     go None = nothing _ _ refl
     go (Some u) = at (ended_now max u) _ _ refl refl
 event_gets s (Reply conn frame) cause k here = go (answer_fits s conn (reply_line frame))
@@ -172,7 +172,7 @@ event_gets s (Reply conn frame) cause k here = go (answer_fits s conn (reply_lin
     open_now : is_open conn s.clients ≡ true
     open_now = no_end (is_open conn s.clients) _ cause
 
-    go : (b : Bool) → Gets (is_shut k s.clients) (is_shut k (cond b (record s { clients = changed (with_entry (reply_entry (reply_line frame))) conn s.clients }) (was_shut s conn slow_consumer)).clients) (entries_for k (cond b (put_line (reply_line frame) conn ∷ []) [])) (entries_for k (cond b [] (put_line slow_consumer conn ∷ [])))
+    go : (b : Bool) → Gets (is_shut k s.clients) (is_shut k (cond b (record s { clients = clients_with_change (with_entry (reply_entry (reply_line frame))) conn s.clients }) (was_shut s conn slow_consumer)).clients) (entries_for k (cond b (put_line (reply_line frame) conn ∷ []) [])) (entries_for k (cond b [] (put_line slow_consumer conn ∷ [])))
     go true = one_entry (reply_entry (reply_line frame)) conn s.clients open_now k
     go false = one_line slow_consumer conn s.clients open_now k
 event_gets s (Shut conn text) cause k here = one_line (err_line text) conn s.clients (no_end (is_open conn s.clients) _ cause) k
@@ -188,15 +188,15 @@ event_gets s (Claim index won) cause k here = go s.hand (candidate_of s s.hand i
         at None f = absurd (true≢false (sym f))
         at (Some x) f = (and_true (not x.outbox.shut) _ f).0
 
-    by : (job : Job) (u : Subscription) → candidate_of s (Some job) index ≡ Some u → (b : Bool) → Gets (is_shut k s.clients) (is_shut k (claimed s (Some job) (Some u) b).clients) (entries_for k (put_by_claim s (Some job) (Some u) b)) []
+    by : (job : Job) (u : Subscription) → candidate_of s (Some job) index ≡ Some u → (b : Bool) → Gets (is_shut k s.clients) (is_shut k (after_claim s (Some job) (Some u) b).clients) (entries_for k (put_by_claim s (Some job) (Some u) b)) []
     by job u is false = nothing _ _ refl
     by job u is true = named (slice_get job.queues index) is
       where
-        named : (name : Option (List ℕ)) → candidate_named s job name ≡ Some u → Gets (is_shut k s.clients) (is_shut k (changed (with_entry (due_entry s.shard job u.key.queue u)) u.conn s.clients)) (entries_for k (placed_for s.shard job u.key.queue u ∷ [])) []
+        named : (name : Option (List ℕ)) → candidate_named s job name ≡ Some u → Gets (is_shut k s.clients) (is_shut k (clients_with_change (with_entry (due_entry s.shard job u.key.queue u)) u.conn s.clients)) (entries_for k (placed_for s.shard job u.key.queue u ∷ [])) []
         named None e = absurd (none-some u e)
         named (Some name) e = one_entry (due_entry s.shard job u.key.queue u) u.conn s.clients (fits_open u (due_entry s.shard job (Some name) u) (candidate_is s job name u e).3) k
 
-    go : (hand : Option Job) (u : Option Subscription) → candidate_of s hand index ≡ u → Gets (is_shut k s.clients) (is_shut k (claimed s hand u won).clients) (entries_for k (put_by_claim s hand u won)) []
+    go : (hand : Option Job) (u : Option Subscription) → candidate_of s hand index ≡ u → Gets (is_shut k s.clients) (is_shut k (after_claim s hand u won).clients) (entries_for k (put_by_claim s hand u won)) []
     go None u is = nothing _ _ refl
     go (Some job) None is = nothing _ _ refl
     go (Some job) (Some u) is = by job u is won
@@ -217,7 +217,7 @@ puts_are s (Reply conn frame) k = go (answer_fits s conn (reply_line frame))
 puts_are s (Shut conn text) k = refl
 puts_are s (Detach conn) k = refl
 puts_are s (Take conn count) k = refl
-puts_are s (Begin job) k = entries_append k (map (placed_for s.shard job None) (walked s job).given) (map (put_line slow_consumer) (walked s job).shut)
+puts_are s (Begin job) k = entries_append k (map (placed_for s.shard job None) (whole_walk s job).given) (map (put_line slow_consumer) (whole_walk s job).shut)
 puts_are s (Claim index won) k = sym (append_nil _)
 puts_are s End k = refl
 puts_are s (DropJob waiting) k = refl
@@ -281,7 +281,7 @@ pub event_known : (s : State) (e : Event) → shard_refusal s e ≡ None → (k 
 event_known s e cause k x known = go (is_detach k e) refl
   where
     gone_now : (e : Event) → is_detach k e ≡ true → client_at k (shard_after s e).clients ≡ None
-    gone_now (Detach conn) f = subst (λ m. client_at m (detached conn s.clients) ≡ None) (eq_true conn k f) (gone conn s.clients)
+    gone_now (Detach conn) f = subst (λ m. client_at m (without_client conn s.clients) ≡ None) (eq_true conn k f) (gone conn s.clients)
     gone_now Attach f = absurd (true≢false (sym f))
     gone_now (Subscribe conn key sid) f = absurd (true≢false (sym f))
     gone_now (Unsubscribe conn sid max) f = absurd (true≢false (sym f))

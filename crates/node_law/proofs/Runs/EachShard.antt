@@ -28,7 +28,7 @@ use Rattle.node_law.specs.EachShard.{ShardsStayHeld}
 use Rattle.node_law.specs.Events.{ConnEvent, ShardWork, OfConn, AtShard, Publish, Collect, Dial, Accept, CutSession, TakeFrames, NodeEvent, Own, Receive, OnInfo, OnConnect}
 use Rattle.node_law.specs.Runs.{Done, Ran}
 use Rattle.node_law.specs.State.{Line, Node, lines_from, new_line}
-use Rattle.node_law.specs.Steps.{conn_place, conn_line, shard_line, conn_event, work_event, conn_refusal, no_job, event_refusal, work_refusal, line_after, line_after_if, set_line, queued, lines_after_body, node_refusal, node_after, NodeStep}
+use Rattle.node_law.specs.Steps.{conn_place, conn_line, shard_line, conn_event, work_event, conn_refusal, no_job, event_refusal, work_refusal, line_after, line_after_if, set_line, line_with_job, lines_after_body, node_refusal, node_after, NodeStep}
 use Rattle.node_law.proofs.Moves.LineEvents.{found, same_refusal}
 use Rattle.node_law.proofs.Runs.Sound.{run_sound}
 
@@ -76,9 +76,9 @@ module _ (place : ℕ) where
       go None f = absurd (none-some (no_job line.shard.hand) (sym f))
       go (Some e) f = line_goes a.lines (shard - 1) line e (found (nat_eq shard 0) (slice_get a.lines (shard - 1)) line at) (map_none Shard (shard_refusal line.shard e) f)
 
-  queued_goes : (job : Job) (lines : List Line) → Follows None place (slice_get lines place) (slice_get (map (queued job) lines) place)
+  queued_goes : (job : Job) (lines : List Line) → Follows None place (slice_get lines place) (slice_get (map (line_with_job job) lines) place)
   queued_goes job lines x y f g =
-      let m = read_map (queued job) lines place y g in
+      let m = read_map (line_with_job job) lines place y g in
       inr (inl (ap (λ (l : Line). l.shard) m.2 ∙ ap (λ (l : Line). l.shard) (same_Some m.0 x (sym m.1 ∙ f))), λ p e. absurd (none-some p e))
 
   collected_goes : (lines : List Line) (p : ℕ) (o : Option Line) → ((line : Line) → o ≡ Some line → slice_get lines p ≡ Some line) → Follows None place (slice_get lines place) (slice_get (set_line lines p (line_after of_shard.Collect) o) place)

@@ -13,14 +13,14 @@ use Rattle.hub_core.specs.State.{IsSound, seen_of}
 use Rattle.hub_core.specs.Events as of_hub
 use Rattle.hub_core.specs.Publishing.{publish_refusal}
 use Rattle.hub_core.specs.Receiving.{receive_refusal}
-use Rattle.hub_core.specs.Telling.{slow_peers, collected, collect_refusal}
+use Rattle.hub_core.specs.Telling.{slow_peers, after_collect, collect_refusal}
 use Rattle.hub_core.specs.Peers.{take_refusal}
 use Rattle.hub_core.specs.Steps as hub_steps
 use Rattle.hub_core.proofs.Steps.Rooms.{map_none}
 use Rattle.route_session.specs.Best.{Offer}
 use Rattle.route_session.specs.State as sessions
 use Rattle.route_session.specs.State.{Session, session_at, peer_of_session}
-use Rattle.route_session.specs.Steps.{info_offer, connect_offer, info_refusal, connect_refusal, is_not_of_peer, is_another, dropped, all_dropped, kept_at, completed, completed_by_info}
+use Rattle.route_session.specs.Steps.{info_offer, connect_offer, info_refusal, connect_refusal, is_not_of_peer, is_another, without_peer, without_peers, kept_at, after_completion, after_info}
 use Rattle.node_law.specs.declared.faults.NodeFault.TheVariants.{Hub, Session as OfSession, NoShard}
 use Rattle.node_law.specs.State.{Line, Node, finished_turns}
 use Rattle.node_law.specs.Events.{OfConn, AtShard, Publish, Collect, Dial, Accept, CutSession, TakeFrames, NodeEvent, Own, Receive, OnInfo, OnConnect}
@@ -45,7 +45,7 @@ filter_others server test standing h x i = h x (in_filter test standing x i).0
 more_others : (server : Server) (standing : List Session) (y : Session) → y.kept ≡ None → OfOthers server standing → OfOthers server (standing ++ y ∷ [])
 more_others server standing y none h x i = ⊎_elim (h x) (λ (j : In x (y ∷ [])). ⊎_elim (λ (e : x ≡ y). λ offer f. absurd (none-some offer (sym none ∙ ap (λ (z : Session). z.kept) (sym e) ∙ f))) (λ (z : ⊥). absurd z) j) (in_append x standing (y ∷ []) i)
 
-completed_others : (server : Server) (k : ℕ) (offer : Offer) (s : sessions.State) → is_peer server offer.peer ≡ true → OfOthers server s.standing → OfOthers server (completed k offer s).standing
+completed_others : (server : Server) (k : ℕ) (offer : Offer) (s : sessions.State) → is_peer server offer.peer ≡ true → OfOthers server s.standing → OfOthers server (after_completion k offer s).standing
 completed_others server k offer s other h x i =
     let m = in_map (kept_at k offer) (filter (is_not_of_peer offer.peer) s.standing) x i in
     λ o e. go m.0 (h m.0 (in_filter (is_not_of_peer offer.peer) s.standing m.0 m.1).0) (nat_eq m.0.number k) o (sym (ap (λ (z : Session). z.kept) m.2) ∙ e)
@@ -54,9 +54,9 @@ completed_others server k offer s other h x i =
     go y was true o e = ap (λ (z : Offer). is_peer server z.peer) (sym (same_Some offer o e)) ∙ other
     go y was false o e = was o e
 
-all_others : (server : Server) (qs : List ℕ) (s : sessions.State) → OfOthers server s.standing → OfOthers server (all_dropped qs s).standing
+all_others : (server : Server) (qs : List ℕ) (s : sessions.State) → OfOthers server s.standing → OfOthers server (without_peers qs s).standing
 all_others server [] s h = h
-all_others server (q ∷ qs) s h = all_others server qs (dropped q s) (filter_others server (is_not_of_peer q) s.standing h)
+all_others server (q ∷ qs) s h = all_others server qs (without_peer q s) (filter_others server (is_not_of_peer q) s.standing h)
 
 -- the peer that is cut with a session
 cut_other : (server : Server) (k : ℕ) (standing : List Session) → OfOthers server standing → (q : ℕ) → peer_of_session k standing ≡ Some q → is_peer server q ≡ true
@@ -92,7 +92,7 @@ module _ (law : hub_steps.StaysSound) (server : Server) (listed : IsListed serve
   step_sound a (Own (Publish p)) won race spelt cause s = record { sound = done a.hub (of_hub.Publish p (finished_turns a.lines)) tt (map_none Hub (publish_refusal server a.hub p (finished_turns a.lines)) cause) s.sound; others = s.others }
   step_sound a (Own (Collect shard)) won race spelt cause s = record { sound = go (shard_line a shard) cause; others = all_others server (slow_peers a.hub (deltas_at (shard_line a shard))) a.sessions s.others }
     where
-      go : (o : Option Line) → collect_refusal_at a.hub o ≡ None → IsSound server (collected server a.hub (deltas_at o))
+      go : (o : Option Line) → collect_refusal_at a.hub o ≡ None → IsSound server (after_collect server a.hub (deltas_at o))
       go None f = absurd (none-some NoShard (sym f))
       go (Some line) f = done a.hub (of_hub.Collect shard line.shard.deltas) tt (map_none Hub (collect_refusal a.hub line.shard.deltas) f) s.sound
   step_sound a (Own (Dial q)) won race spelt cause s = record { sound = s.sound; others = more_others server a.sessions.standing (record { number = a.sessions.numbers + 1; dialed = Some q; serial = a.sessions.dials + 1; kept = None }) refl s.others }
@@ -105,7 +105,7 @@ module _ (law : hub_steps.StaysSound) (server : Server) (listed : IsListed serve
   step_sound a (Own (TakeFrames q count)) won race spelt cause s = record { sound = done a.hub (of_hub.TakeFrom q count) tt (map_none Hub (take_refusal server q) cause) s.sound; others = s.others }
   step_sound a (Receive frame) won race spelt cause s = record { sound = done a.hub (of_hub.Receive frame (finished_turns a.lines)) tt (map_none Hub (receive_refusal server a.hub (finished_turns a.lines) frame) cause) s.sound; others = go (nat_lt (seen_name server a frame.from) frame.inc) }
     where
-      go : (b : Bool) → OfOthers server (cond b (dropped (place server frame.from) a.sessions) a.sessions).standing
+      go : (b : Bool) → OfOthers server (cond b (without_peer (place server frame.from) a.sessions) a.sessions).standing
       go true = filter_others server (is_not_of_peer (place server frame.from)) a.sessions.standing s.others
       go false = s.others
   step_sound a (OnInfo session info) won race spelt cause s =
@@ -113,7 +113,7 @@ module _ (law : hub_steps.StaysSound) (server : Server) (listed : IsListed serve
       let greets = info_greets server a.sessions (session_at session a.sessions.standing) info (seen_name server a info.server_name) allowed in
       record { sound = meets a info.server_name info.inc spelt greets s.sound; others = go greets.peer (session_at session a.sessions.standing) }
     where
-      go : is_peer server (place server info.server_name) ≡ true → (o : Option Session) → OfOthers server (completed_by_info server a.sessions info o).standing
+      go : is_peer server (place server info.server_name) ≡ true → (o : Option Session) → OfOthers server (after_info server a.sessions info o).standing
       go other None = s.others
       go other (Some x) = completed_others server x.number (info_offer server x info) a.sessions other s.others
   step_sound a (OnConnect session connect) won race spelt cause s =

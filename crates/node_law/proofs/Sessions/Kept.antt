@@ -9,11 +9,11 @@ use Rattle.list_laws.proofs.Tests.{eq_true, eq_false, true_eq, false_eq, lt_true
 use Rattle.list_laws.proofs.Changes.{get_set_here, get_set_there, in_mapped, in_filter, filter_in, pairs_filter}
 use Rattle.interest.specs.Heard.{nothing_heard}
 use Rattle.hub_core.specs.State as hub
-use Rattle.hub_core.specs.State.{Peer, known, changed_in, changed_at}
+use Rattle.hub_core.specs.State.{Peer, peer_in_life, changed_in, changed_at}
 use Rattle.route_session.specs.Best.{Offer}
 use Rattle.route_session.specs.State as sessions
 use Rattle.route_session.specs.State.{Session, session_at, is_of_peer, peer_of_session}
-use Rattle.route_session.specs.Steps.{cut_refusal, is_not_of_peer, is_another, dropped, kept_at, completed, ended}
+use Rattle.route_session.specs.Steps.{cut_refusal, is_not_of_peer, is_another, without_peer, kept_at, after_completion, after_cut}
 use Rattle.route_session.specs.declared.faults.SessionFault.TheVariants.{UnknownSession}
 use Rattle.node_law.specs.Steps.{cut_if}
 use Rattle.node_law.specs.PeersKept.{KeptAt, IsGreatest}
@@ -170,25 +170,25 @@ data Begun (p : Peer) (inc : ℕ) (after : Peer) : Type 0 where
   Same : p.seen ≡ inc → after ≡ p → Begun p inc after
   Anew : p.seen < inc → after.up ≡ false → after.seen ≡ inc → Begun p inc after
 
-begun : (p : Peer) (inc : ℕ) → p.seen ≤ inc → Begun p inc (known p inc)
+begun : (p : Peer) (inc : ℕ) → p.seen ≤ inc → Begun p inc (peer_in_life p inc)
 begun p inc le = go (nat_lt p.seen inc) refl
   where
     go : (b : Bool) → nat_lt p.seen inc ≡ b → Begun p inc (cond b (record { seen = inc; mark = 0; heard = nothing_heard; up = false; outbox = p.outbox }) p)
     go true e = Anew (lt_true p.seen inc e) refl refl
     go false e = Same (let h = lt_false p.seen inc e in omega arith) refl
 
-pub known_seen : (p : Peer) (inc : ℕ) → p.seen ≤ inc → (known p inc).seen ≡ inc
-known_seen p inc le = go (known p inc) (begun p inc le)
+pub known_seen : (p : Peer) (inc : ℕ) → p.seen ≤ inc → (peer_in_life p inc).seen ≡ inc
+known_seen p inc le = go (peer_in_life p inc) (begun p inc le)
   where
     go : (after : Peer) → Begun p inc after → after.seen ≡ inc
     go after (Same same is) = ap (λ (x : Peer). x.seen) is ∙ same
     go after (Anew less up seen) = seen
 
 pub frame_kept : (peers : List Peer) (s : sessions.State) (seen : List (ℕ × ℕ)) (q inc : ℕ) (g : Peer → Peer) (p : Peer) → ((x : Peer) → (g x).up ≡ x.up) → ((x : Peer) → (g x).seen ≡ x.seen) → slice_get peers q ≡ Some p → p.seen ≤ inc → Kept peers s seen
-    → Kept (changed_in (λ x. g (known x inc)) q (Some p) peers) (cond (nat_lt p.seen inc) (dropped q s) s) ((q, inc) ∷ seen)
-frame_kept peers s seen q inc g p up_is seen_is at le k = go (known p inc) (begun p inc le) (nat_lt p.seen inc) refl
+    → Kept (changed_in (λ x. g (peer_in_life x inc)) q (Some p) peers) (cond (nat_lt p.seen inc) (without_peer q s) s) ((q, inc) ∷ seen)
+frame_kept peers s seen q inc g p up_is seen_is at le k = go (peer_in_life p inc) (begun p inc le) (nat_lt p.seen inc) refl
   where
-    go : (after : Peer) → Begun p inc after → (b : Bool) → nat_lt p.seen inc ≡ b → Kept (set peers q (g after)) (cond b (dropped q s) s) ((q, inc) ∷ seen)
+    go : (after : Peer) → Begun p inc after → (b : Bool) → nat_lt p.seen inc ≡ b → Kept (set peers q (g after)) (cond b (without_peer q s) s) ((q, inc) ∷ seen)
     go after (Same same is) true f = let y = lt_true p.seen inc f in absurd (omega arith)
     go after (Same same is) false f =
         let up = up_is after ∙ ap (λ (x : Peer). x.up) is in
@@ -284,25 +284,25 @@ module _ (standing : List Session) (apart : Pairs Differ standing) (k : ℕ) (of
   all_differ = pairs_map Differ (kept_at k offer) left (pairs_weaker Differ (λ y z. Differ (kept_at k offer y) (kept_at k offer z)) left differs (pairs_filter Differ (is_not_of_peer offer.peer) standing apart))
 
 pub complete_kept : (peers : List Peer) (s : sessions.State) (seen : List (ℕ × ℕ)) (k : ℕ) (offer : Offer) (x : Session) (g : Peer → Peer) (p : Peer) → session_at k s.standing ≡ Some x → is_some x.kept ≡ false → slice_get peers offer.peer ≡ Some p → p.seen ≤ offer.inc
-    → ((y : Peer) → (g y).up ≡ true) → ((y : Peer) → (g y).seen ≡ y.seen) → Kept peers s seen → Kept (changed_in (λ y. g (known y offer.inc)) offer.peer (Some p) peers) (completed k offer s) ((offer.peer, offer.inc) ∷ seen)
+    → ((y : Peer) → (g y).up ≡ true) → ((y : Peer) → (g y).seen ≡ y.seen) → Kept peers s seen → Kept (changed_in (λ y. g (peer_in_life y offer.inc)) offer.peer (Some p) peers) (after_completion k offer s) ((offer.peer, offer.inc) ∷ seen)
 complete_kept peers s seen k offer x g p found new at le up_is seen_is kept = record {
-  ups = set_ups peers offer.peer p (g (known p offer.inc)) s.standing (now s.standing kept.apart.differ k offer x x_in.0 x_in.1 new) at kept.ups
+  ups = set_ups peers offer.peer p (g (peer_in_life p offer.inc)) s.standing (now s.standing kept.apart.differ k offer x x_in.0 x_in.1 new) at kept.ups
       (λ r i apart h. old r i apart (complete_back s.standing k offer r i h))
       (λ r i apart h. on s.standing kept.apart.differ k offer x x_in.0 x_in.1 new r i (drop_on s.standing offer.peer r i apart h))
       (λ up. subst (KeptAt (now s.standing kept.apart.differ k offer x x_in.0 x_in.1 new) offer.peer) (sym seen_now) (mine s.standing kept.apart.differ k offer x x_in.0 x_in.1 new))
-      (λ i h. (up_is (known p offer.inc), seen_now ∙ own i (complete_back s.standing k offer offer.peer i h)));
+      (λ i h. (up_is (peer_in_life p offer.inc), seen_now ∙ own i (complete_back s.standing k offer offer.peer i h)));
   apart = record {
     differ = all_differ s.standing kept.apart.differ k offer x x_in.0 x_in.1 new;
     below = λ y i. let m = in_map (kept_at k offer) (filter (is_not_of_peer offer.peer) s.standing) y i in let b = kept.apart.below m.0 (in_filter (is_not_of_peer offer.peer) s.standing m.0 m.1).0 in let e = ap (λ (z : Session). z.number) m.2 ∙ kept_number k offer m.0 in omega arith;
   };
-  greatest = set_greatest peers offer.peer offer.inc p (g (known p offer.inc)) seen at le seen_now kept.greatest;
+  greatest = set_greatest peers offer.peer offer.inc p (g (peer_in_life p offer.inc)) seen at le seen_now kept.greatest;
 }
   where
     x_in : In x s.standing × (x.number ≡ k)
     x_in = session_in k s.standing x found
 
-    seen_now : (g (known p offer.inc)).seen ≡ offer.inc
-    seen_now = seen_is (known p offer.inc) ∙ known_seen p offer.inc le
+    seen_now : (g (peer_in_life p offer.inc)).seen ≡ offer.inc
+    seen_now = seen_is (peer_in_life p offer.inc) ∙ known_seen p offer.inc le
 
     old : (r i : ℕ) → r ≢ offer.peer → KeptAfter s.standing offer r i → KeptAt s.standing r i
     old r i apart (New e f) = absurd (apart e)
@@ -326,13 +326,13 @@ end_back standing k r inc h =
 end_on : (standing : List Session) (k r inc : ℕ) (h : KeptAt standing r inc) → h.session.number ≢ k → KeptAt (filter (is_another k) standing) r inc
 end_on standing k r inc h apart = record { session = h.session; stands = filter_in (is_another k) standing h.session h.stands (ap not (false_eq h.session.number k apart)); offer = h.offer; kept = h.kept; peer = h.peer; inc_is = h.inc_is }
 
-pub cut_kept : (hub : hub.State) (s : sessions.State) (seen : List (ℕ × ℕ)) (k : ℕ) → cut_refusal (session_at k s.standing) ≡ None → Kept hub.peers s seen → Kept (cut_if hub (peer_of_session k s.standing)).peers (ended k s) seen
+pub cut_kept : (hub : hub.State) (s : sessions.State) (seen : List (ℕ × ℕ)) (k : ℕ) → cut_refusal (session_at k s.standing) ≡ None → Kept hub.peers s seen → Kept (cut_if hub (peer_of_session k s.standing)).peers (after_cut k s) seen
 cut_kept hub s seen k cause kept = find (session_at k s.standing) refl cause
   where
-    apart : Apart (ended k s)
+    apart : Apart (after_cut k s)
     apart = filter_apart (is_another k) s kept.apart
 
-    found : (x : Session) → session_at k s.standing ≡ Some x → (offer : Option Offer) → x.kept ≡ offer → Kept (cut_if hub (option_map (λ (o : Offer). o.peer) offer)).peers (ended k s) seen
+    found : (x : Session) → session_at k s.standing ≡ Some x → (offer : Option Offer) → x.kept ≡ offer → Kept (cut_if hub (option_map (λ (o : Offer). o.peer) offer)).peers (after_cut k s) seen
     found x at offer kept_is_offer = go offer kept_is_offer
       where
         x_in : In x s.standing × (x.number ≡ k)
@@ -341,7 +341,7 @@ cut_kept hub s seen k cause kept = find (session_at k s.standing) refl cause
         is_x : (r inc : ℕ) (h : KeptAt s.standing r inc) → h.session.number ≡ k → h.session ≡ x
         is_x r inc h e = same_session s.standing kept.apart.differ h.session x h.stands x_in.0 (e ∙ sym x_in.1)
 
-        go : (offer : Option Offer) → x.kept ≡ offer → Kept (cut_if hub (option_map (λ (o : Offer). o.peer) offer)).peers (ended k s) seen
+        go : (offer : Option Offer) → x.kept ≡ offer → Kept (cut_if hub (option_map (λ (o : Offer). o.peer) offer)).peers (after_cut k s) seen
         go None none = record {
           ups = record {
             has = λ q p at up. let h = kept.ups.has q p at up in end_on s.standing k q p.seen h (λ e. none-some h.offer (sym none ∙ ap (λ (z : Session). z.kept) (sym (is_x q p.seen h e)) ∙ h.kept));
@@ -353,7 +353,7 @@ cut_kept hub s seen k cause kept = find (session_at k s.standing) refl cause
         go (Some offer) some =
             let here : KeptAt s.standing offer.peer offer.inc = record { session = x; stands = x_in.0; offer = offer; kept = some; peer = refl; inc_is = refl } in
             let p = kept.ups.is offer.peer offer.inc here in
-            subst (λ t. Kept (changed_in (λ (y : Peer). record y { up = false }) offer.peer t hub.peers) (ended k s) seen) (sym p.at) (record {
+            subst (λ t. Kept (changed_in (λ (y : Peer). record y { up = false }) offer.peer t hub.peers) (after_cut k s) seen) (sym p.at) (record {
               ups = set_ups hub.peers offer.peer p.peer (record p.peer { up = false }) s.standing (filter (is_another k) s.standing) p.at kept.ups
                   (λ r i far h. (end_back s.standing k r i h).kept)
                   (λ r i far h. end_on s.standing k r i h (λ e. far (sym h.peer ∙ ap (λ (z : Offer). z.peer) (same_Some h.offer offer (sym h.kept ∙ ap (λ (z : Session). z.kept) (is_x r i h e) ∙ some)))))
@@ -363,6 +363,6 @@ cut_kept hub s seen k cause kept = find (session_at k s.standing) refl cause
               greatest = set_seen hub.peers offer.peer p.peer (record p.peer { up = false }) seen p.at refl kept.greatest;
             })
 
-    find : (o : Option Session) → session_at k s.standing ≡ o → cut_refusal o ≡ None → Kept (cut_if hub (peer_of_session k s.standing)).peers (ended k s) seen
+    find : (o : Option Session) → session_at k s.standing ≡ o → cut_refusal o ≡ None → Kept (cut_if hub (peer_of_session k s.standing)).peers (after_cut k s) seen
     find None at f = absurd (none-some UnknownSession (sym f))
-    find (Some x) at f = subst (λ o. Kept (cut_if hub (option_map (λ (o : Offer). o.peer) (option_and_then (λ (z : Session). z.kept) o))).peers (ended k s) seen) (sym at) (found x at x.kept refl)
+    find (Some x) at f = subst (λ o. Kept (cut_if hub (option_map (λ (o : Offer). o.peer) (option_and_then (λ (z : Session). z.kept) o))).peers (after_cut k s) seen) (sym at) (found x at x.kept refl)

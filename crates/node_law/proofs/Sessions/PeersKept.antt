@@ -15,7 +15,7 @@ use Rattle.route_values.specs.Records.{Info, Connect}
 use Rattle.route_values.specs.declared.bodies.Body.{Body}
 use Rattle.route_values.specs.declared.bodies.Body.TheVariants.{Plus, Minus, Snapshot, Msg}
 use Rattle.hub_core.specs.State as hub
-use Rattle.hub_core.specs.State.{Peer, unknown_peer, peer_of, seen_of, known, changed_in}
+use Rattle.hub_core.specs.State.{Peer, unknown_peer, peer_of, seen_of, peer_in_life, changed_in}
 use Rattle.hub_core.specs.Publishing.{frames_of, with_frames}
 use Rattle.hub_core.specs.Receiving.{body_fault, origin_fault, receive_refusal, told_by}
 use Rattle.hub_core.specs.Telling.{count_of_changes, has_room_for, is_slow, slow_from, collect_frames, without_slow}
@@ -24,7 +24,7 @@ use Rattle.hub_core.specs.declared.faults.HubFault.TheVariants.{NotMe, OtherMe, 
 use Rattle.hub_core.proofs.Steps.Rooms.{map_none}
 use Rattle.route_session.specs.State as sessions
 use Rattle.route_session.specs.State.{Session, session_at}
-use Rattle.route_session.specs.Steps.{info_offer, connect_offer, info_fault, info_refusal, connect_fault, connect_refusal, cut_refusal, is_not_of_peer, dropped, all_dropped, completed_by_info}
+use Rattle.route_session.specs.Steps.{info_offer, connect_offer, info_fault, info_refusal, connect_fault, connect_refusal, cut_refusal, is_not_of_peer, without_peer, without_peers, after_info}
 use Rattle.route_session.specs.declared.faults.SessionFault.TheVariants.{UnknownSession}
 use Rattle.node_law.specs.declared.faults.NodeFault.TheVariants.{Hub, Session as OfSession}
 use Rattle.node_law.specs.State.{Node, new_node, finished_turns}
@@ -54,20 +54,20 @@ frames_same server frames k peers = record { back = back k peers; on = on k peer
 
 -- ---- a collect cuts those without room
 
-without_all : (qs : List ℕ) (s : sessions.State) → Apart s → Apart (all_dropped qs s)
+without_all : (qs : List ℕ) (s : sessions.State) → Apart s → Apart (without_peers qs s)
 without_all [] s a = a
-without_all (q ∷ qs) s a = without_all qs (dropped q s) (filter_apart (is_not_of_peer q) s a)
+without_all (q ∷ qs) s a = without_all qs (without_peer q s) (filter_apart (is_not_of_peer q) s a)
 
-all_back : (qs : List ℕ) (s : sessions.State) (r inc : ℕ) → KeptAt (all_dropped qs s).standing r inc → KeptAt s.standing r inc × (In r qs → ⊥)
+all_back : (qs : List ℕ) (s : sessions.State) (r inc : ℕ) → KeptAt (without_peers qs s).standing r inc → KeptAt s.standing r inc × (In r qs → ⊥)
 all_back [] s r inc h = (h, λ i. i)
 all_back (q ∷ qs) s r inc h =
-    let b = all_back qs (dropped q s) r inc h in
+    let b = all_back qs (without_peer q s) r inc h in
     let d = drop_back s.standing q r inc b.0 in
     (d.0, λ i. ⊎_elim (λ (e : r ≡ q). d.1 e) (λ (j : In r qs). b.1 j) i)
 
-all_on : (qs : List ℕ) (s : sessions.State) (r inc : ℕ) → (In r qs → ⊥) → KeptAt s.standing r inc → KeptAt (all_dropped qs s).standing r inc
+all_on : (qs : List ℕ) (s : sessions.State) (r inc : ℕ) → (In r qs → ⊥) → KeptAt s.standing r inc → KeptAt (without_peers qs s).standing r inc
 all_on [] s r inc out h = h
-all_on (q ∷ qs) s r inc out h = all_on qs (dropped q s) r inc (λ i. out (inr i)) (drop_on s.standing q r inc (λ e. out (inl e)) h)
+all_on (q ∷ qs) s r inc out h = all_on qs (without_peer q s) r inc (λ i. out (inr i)) (drop_on s.standing q r inc (λ e. out (inl e)) h)
 
 one_on : (m n : ℕ) → suc m + n ≡ m + suc n
 one_on m n = omega arith
@@ -103,7 +103,7 @@ in_slow count k (x ∷ peers) r i =
     go true e j = ⊎_elim (λ (f : r ≡ k). record { place = 0; peer = x; is = f ∙ zero_right k; at = refl; slow = e }) (λ (z : ⊥). absurd z) j
     go false e j = absurd j
 
-slow_kept : (count : ℕ) (peers : List Peer) (s : sessions.State) (seen : List (ℕ × ℕ)) → Kept peers s seen → Kept (map (without_slow count) peers) (all_dropped (slow_from count 0 peers) s) seen
+slow_kept : (count : ℕ) (peers : List Peer) (s : sessions.State) (seen : List (ℕ × ℕ)) → Kept peers s seen → Kept (map (without_slow count) peers) (without_peers (slow_from count 0 peers) s) seen
 slow_kept count peers s seen k = record {
   ups = record {
     has = λ q p at up.
@@ -147,7 +147,7 @@ frame_fresh server hub finished frame e =
   where
     by : (o : Option Peer) → slice_get hub.peers (place server frame.from) ≡ o → seen_of (peer_of server hub frame.from) ≡ seen_of o → origin_fault server hub finished frame o ≡ None → Fresh server hub frame.from frame.inc
     by None at same f = absurd (none-some NotInCluster (sym f))
-    by (Some p) at same f = record { peer = p; at = at; seen = same; fresh = lt_false frame.inc p.seen (no_cause (nat_lt frame.inc p.seen) StaleOrigin (body_fault server hub (known p frame.inc) frame.number finished frame.body) f).0 }
+    by (Some p) at same f = record { peer = p; at = at; seen = same; fresh = lt_false frame.inc p.seen (no_cause (nat_lt frame.inc p.seen) StaleOrigin (body_fault server hub (peer_in_life p frame.inc) frame.number finished frame.body) f).0 }
 
     go : (b : Bool) → is_peer server (place server frame.from) ≡ b → origin_fault server hub finished frame (cond b (slice_get hub.peers (place server frame.from)) None) ≡ None → Fresh server hub frame.from frame.inc
     go true is f = by (slice_get hub.peers (place server frame.from)) refl (ap (λ b. seen_of (cond b (slice_get hub.peers (place server frame.from)) None)) is) f
@@ -196,8 +196,8 @@ step_kept server a (Own (AtShard shard work)) won race seen sound cause k = k
 step_kept server a (Own (Publish p)) won race seen sound cause k = same_all a.hub.peers _ a.sessions seen (frames_same server (frames_of server a.hub p) 0 a.hub.peers) k
 step_kept server a (Own (Collect shard)) won race seen sound cause k = go (deltas_at (shard_line a shard))
   where
-    go : (deltas : List Delta) → Kept (with_frames server (collect_frames server a.hub deltas) 0 (map (without_slow (count_of_changes a.hub deltas)) a.hub.peers)) (all_dropped (slow_from (count_of_changes a.hub deltas) 0 a.hub.peers) a.sessions) seen
-    go deltas = same_all (map (without_slow (count_of_changes a.hub deltas)) a.hub.peers) _ (all_dropped (slow_from (count_of_changes a.hub deltas) 0 a.hub.peers) a.sessions) seen
+    go : (deltas : List Delta) → Kept (with_frames server (collect_frames server a.hub deltas) 0 (map (without_slow (count_of_changes a.hub deltas)) a.hub.peers)) (without_peers (slow_from (count_of_changes a.hub deltas) 0 a.hub.peers) a.sessions) seen
+    go deltas = same_all (map (without_slow (count_of_changes a.hub deltas)) a.hub.peers) _ (without_peers (slow_from (count_of_changes a.hub deltas) 0 a.hub.peers) a.sessions) seen
         (frames_same server (collect_frames server a.hub deltas) 0 (map (without_slow (count_of_changes a.hub deltas)) a.hub.peers))
         (slow_kept (count_of_changes a.hub deltas) a.hub.peers a.sessions seen k)
 step_kept server a (Own (Dial q)) won race seen sound cause k = added a.hub.peers a.sessions (a.sessions.dials + 1) seen (record { number = a.sessions.numbers + 1; dialed = Some q; serial = a.sessions.dials + 1; kept = None }) refl refl k
@@ -209,24 +209,24 @@ step_kept server a (Receive frame) won race seen sound cause k =
     by f (frame_kept a.hub.peers a.sessions seen (place server frame.from) frame.inc (told_by frame.body frame.number) f.peer (told_up frame.body frame.number) (told_seen frame.body frame.number) f.at f.fresh k)
   where
     told : Peer → Peer
-    told peer = told_by frame.body frame.number (known peer frame.inc)
+    told peer = told_by frame.body frame.number (peer_in_life peer frame.inc)
 
-    by : (f : Fresh server a.hub frame.from frame.inc) → Kept (changed_in told (place server frame.from) (Some f.peer) a.hub.peers) (cond (nat_lt f.peer.seen frame.inc) (dropped (place server frame.from) a.sessions) a.sessions) ((place server frame.from, frame.inc) ∷ seen)
+    by : (f : Fresh server a.hub frame.from frame.inc) → Kept (changed_in told (place server frame.from) (Some f.peer) a.hub.peers) (cond (nat_lt f.peer.seen frame.inc) (without_peer (place server frame.from) a.sessions) a.sessions) ((place server frame.from, frame.inc) ∷ seen)
         → Kept (changed_in told (place server frame.from) (slice_get a.hub.peers (place server frame.from)) a.hub.peers) (sessions_after_frame server a frame) ((place server frame.from, frame.inc) ∷ seen)
     by f h = subst (λ o. Kept (changed_in told (place server frame.from) o a.hub.peers) (sessions_after_frame server a frame) ((place server frame.from, frame.inc) ∷ seen)) (sym f.at)
-        (subst (λ n. Kept (changed_in told (place server frame.from) (Some f.peer) a.hub.peers) (cond (nat_lt n frame.inc) (dropped (place server frame.from) a.sessions) a.sessions) ((place server frame.from, frame.inc) ∷ seen)) (sym f.seen) h)
+        (subst (λ n. Kept (changed_in told (place server frame.from) (Some f.peer) a.hub.peers) (cond (nat_lt n frame.inc) (without_peer (place server frame.from) a.sessions) a.sessions) ((place server frame.from, frame.inc) ∷ seen)) (sym f.seen) h)
 step_kept server a (OnInfo session info) won race seen sound cause k =
     let allowed = map_none OfSession (info_refusal server a.sessions (session_at session a.sessions.standing) info (seen_name server a info.server_name)) cause in
     let h = info_completes server a.sessions (session_at session a.sessions.standing) info (seen_name server a info.server_name) allowed in
     let f = greeting_fresh server a info.server_name info.inc sound (info_greets server a.sessions (session_at session a.sessions.standing) info (seen_name server a info.server_name) allowed) in
     let number = (session_in session a.sessions.standing h.session h.is).1 in
-    subst (λ o. Kept (changed_in meets (place server info.server_name) o a.hub.peers) (completed_by_info server a.sessions info (session_at session a.sessions.standing)) ((place server info.server_name, info.inc) ∷ seen)) (sym f.at)
-    (subst (λ o. Kept (changed_in meets (place server info.server_name) (Some f.peer) a.hub.peers) (completed_by_info server a.sessions info o) ((place server info.server_name, info.inc) ∷ seen)) (sym h.is)
+    subst (λ o. Kept (changed_in meets (place server info.server_name) o a.hub.peers) (after_info server a.sessions info (session_at session a.sessions.standing)) ((place server info.server_name, info.inc) ∷ seen)) (sym f.at)
+    (subst (λ o. Kept (changed_in meets (place server info.server_name) (Some f.peer) a.hub.peers) (after_info server a.sessions info o) ((place server info.server_name, info.inc) ∷ seen)) (sym h.is)
     (complete_kept a.hub.peers a.sessions seen h.session.number (info_offer server h.session info) h.session (λ peer. record peer { up = true; outbox = snapshot_to server a.hub (place server info.server_name) info.inc ∷ [] }) f.peer
     (ap (λ n. session_at n a.sessions.standing) number ∙ h.is) h.new f.at f.fresh (λ y. refl) (λ y. refl) k))
   where
     meets : Peer → Peer
-    meets peer = record (known peer info.inc) { up = true; outbox = snapshot_to server a.hub (place server info.server_name) info.inc ∷ [] }
+    meets peer = record (peer_in_life peer info.inc) { up = true; outbox = snapshot_to server a.hub (place server info.server_name) info.inc ∷ [] }
 step_kept server a (OnConnect session connect) won race seen sound cause k =
     let allowed = map_none OfSession (connect_refusal server a.sessions (session_at session a.sessions.standing) connect (seen_name server a connect.server_name)) cause in
     let h = connect_completes server a.sessions (session_at session a.sessions.standing) connect (seen_name server a connect.server_name) allowed in
@@ -236,7 +236,7 @@ step_kept server a (OnConnect session connect) won race seen sound cause k =
     h.is h.new f.at f.fresh (λ y. refl) (λ y. refl) k)
   where
     meets : Peer → Peer
-    meets peer = record (known peer connect.inc) { up = true; outbox = snapshot_to server a.hub (place server connect.server_name) connect.inc ∷ [] }
+    meets peer = record (peer_in_life peer connect.inc) { up = true; outbox = snapshot_to server a.hub (place server connect.server_name) connect.inc ∷ [] }
 
 -- ---- runs
 

@@ -16,7 +16,7 @@ use Rattle.claim_cells.specs.Steps.{loads_from}
 use Rattle.claim_cells.specs.Calls.{AreLoads, ShowsRoom, IsIssuedOrBusy}
 use Rattle.hub_core.specs.Events as of_hub
 use Rattle.hub_core.specs.Chosen.{IsPlanOf}
-use Rattle.hub_core.specs.Calls.{put_out}
+use Rattle.hub_core.specs.Calls.{after_frames}
 use Rattle.hub_core.specs.Publishing.{Publication, busy_fault, names_of, publish_fault, publish_refusal, own_job, frames_of}
 use Rattle.hub_core.specs.declared.faults.HubFault.TheVariants.{Spent, TooManyQueues}
 use Rattle.hub_core.proofs.Steps.Rooms.{or_none, has_room}
@@ -116,11 +116,11 @@ issues shards w side part e answer job i d h issued gives turn names =
 
 -- a publication is issued
 pub published_done : (w : AtHub) (p : Publication) (job : Job) (sent : List Frame) (side : Side) → publish_refusal w.side.server w.side.hub p w.finished ≡ None → IsPlanOf w.side.server w.side.hub p job sent
-    → side ≡ record w.side { hub = put_out w.side.server w.side.hub sent }
+    → side ≡ record w.side { hub = after_frames w.side.server w.side.hub sent }
     → IsDone w.side (ByHub (of_hub.Publish p w.finished)) (OfHub (of_hub.Issued (own_job w.side.server w.side.hub p) (frames_of w.side.server w.side.hub p))) side
 published_done w p job sent side free plan is = record {
   free = free;
   asked = tt;
   answered = refl;
-  after = is ∙ ap (λ fs. record { server = w.side.server; hub = put_out w.side.server w.side.hub fs; sessions = w.side.sessions }) plan.frames;
+  after = is ∙ ap (λ fs. record { server = w.side.server; hub = after_frames w.side.server w.side.hub fs; sessions = w.side.sessions }) plan.frames;
 }

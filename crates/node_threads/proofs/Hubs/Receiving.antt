@@ -11,13 +11,13 @@ use Rattle.route_values.specs.Frames.{Frame}
 use Rattle.route_values.specs.declared.bodies.Body.{Body}
 use Rattle.route_values.specs.declared.bodies.Body.TheVariants.{Plus, Minus, Snapshot, Msg}
 use Rattle.hub_core.specs.State as hub
-use Rattle.hub_core.specs.State.{known}
+use Rattle.hub_core.specs.State.{peer_in_life}
 use Rattle.hub_core.specs.Events as of_hub
 use Rattle.hub_core.specs.Steps.{received_answer}
 use Rattle.hub_core.specs.declared.faults.HubFault.TheVariants as fault
 use Rattle.hub_core.specs.Publishing.{busy_fault}
 use Rattle.hub_core.specs.Calls.{job_of}
-use Rattle.hub_core.specs.Receiving.{has_message, body_fault, receive_refusal, received, routed_job}
+use Rattle.hub_core.specs.Receiving.{has_message, body_fault, receive_refusal, after_receive, routed_job}
 use Rattle.hub_core.proofs.Steps.Receives.{from_peer}
 use Rattle.hub_core.proofs.Steps.Rooms.{or_none}
 use Rattle.node_parts.specs.Sides.{Side, ByHub, OfHub, job_in}
@@ -58,7 +58,7 @@ may_route shards w frame listed i free message = go frame.body message refl
     go (Snapshot keys) e is = absurd (true≢false (sym e))
     go (Msg content queues) e is =
         let f = from_peer w.side.server listed w.side.hub w.finished frame free in
-        let base = known f.peer frame.inc in
+        let base = peer_in_life f.peer frame.inc in
         let none : body_fault w.side.server w.side.hub base frame.number w.finished (Msg content queues) ≡ None = subst (λ b. body_fault w.side.server w.side.hub base frame.number w.finished b ≡ None) is f.none in
         let late = no_cause (nat_le frame.number base.mark) fault.Late (option_or (busy_fault w.side.server w.side.hub w.finished) (if nat_le MAX_COUNTER w.side.hub.issued then Some fault.Spent else None)) none in
         let o = or_none (busy_fault w.side.server w.side.hub w.finished) (if nat_le MAX_COUNTER w.side.hub.issued then Some fault.Spent else None) late.1 in
@@ -66,7 +66,7 @@ may_route shards w frame listed i free message = go frame.body message refl
         let same = i.turns in
         record { limit = omega arith; room = shows_room shards w i o.0 }
 
-pub issued_more : (server : Server) (h : hub.State) (frame : Frame) → has_message frame.body ≡ true → (received server h frame).issued ≡ h.issued + 1
+pub issued_more : (server : Server) (h : hub.State) (frame : Frame) → has_message frame.body ≡ true → (after_receive server h frame).issued ≡ h.issued + 1
 issued_more server h frame e = ap (λ b. if b then h.issued + 1 else h.issued) e
 
 pub quiet_news : (s : Side) (frame : Frame) (finished : List ℕ) → has_message frame.body ≡ false → Quiet s (ByHub (of_hub.Receive frame finished))

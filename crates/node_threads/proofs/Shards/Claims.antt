@@ -13,8 +13,8 @@ use Rattle.claim_cells.specs.declared.parts.ShardPart.{ShardPart}
 use Rattle.claim_cells.specs.Seats.{HasTurn, last_load}
 use Rattle.claim_cells.specs.Steps.{won_by, lost_by, finished_one}
 use Rattle.shard_core.specs.declared.calls.Candidate.{Candidate}
-use Rattle.shard_core.specs.Held.{Held, Chooses, ClaimsAreWhole, settled, placed_chosen, told_of}
-use Rattle.shard_core.specs.Owed.{candidate_of, claimed, tried}
+use Rattle.shard_core.specs.Held.{Held, Chooses, ClaimsAreWhole, held_at_rest, after_put_chosen, told_of}
+use Rattle.shard_core.specs.Owed.{candidate_of, after_claim, after_try}
 use Rattle.shard_core.specs.ShardEvents.{Claim, End}
 use Rattle.shard_core.specs.ShardSteps.{shard_refusal, shard_after, done_with, claim_refusal, end_refusal}
 use Rattle.shard_core.specs.Shards.{State}
@@ -123,10 +123,10 @@ chooses_some s index job told hand e = go (candidate_of s s.hand index) refl (e 
     go None is e = absurd (none-some told (sym e))
     go (Some sub) is e = (sub, is)
 
-tried_only : (s t : State) → t ≡ tried s → Tried s t
+tried_only : (s t : State) → t ≡ after_try s → Tried s t
 tried_only s t e = record { hand = ap (λ (x : State). x.hand) e; finished = ap (λ (x : State). x.finished) e; next = ap (λ (x : State). x.next_index) e }
 
-mid_tried : (old mid : Held) (index : ℕ) (found : Option Candidate) → Chooses false old index found mid → mid.state ≡ tried old.state
+mid_tried : (old mid : Held) (index : ℕ) (found : Option Candidate) → Chooses false old index found mid → mid.state ≡ after_try old.state
 mid_tried old mid index found c = ap (λ (h : Held). h.state) c.after
 
 pub claims_nobody : ClaimsAreWhole → (w : AtWork) (old mid : Held) (index : ℕ) (found : Option Candidate) → w.state ≡ old.state → MayClaim index w.state → w.part.next ≤ index → Chooses false old index found mid → found ≡ None
@@ -138,7 +138,7 @@ claims_nobody law w old mid index found is m low c none =
     record {
       free = free;
       after = whole.not_won ∙ ap (λ s. shard_after s (Claim index false)) (sym is);
-      tried = tried_only w.state mid.state (mid_tried old mid index found c ∙ ap tried (sym is));
+      tried = tried_only w.state mid.state (mid_tried old mid index found c ∙ ap after_try (sym is));
       shard = refl;
       loads = refl;
       finished = refl;
@@ -156,7 +156,7 @@ claims_lost law w old mid index found told part is finished m c some lost =
     record {
       free = free;
       after = whole.not_won ∙ ap (λ s. shard_after s (Claim index false)) (sym is);
-      tried = tried_only w.state mid.state (mid_tried old mid index found c ∙ ap tried (sym is));
+      tried = tried_only w.state mid.state (mid_tried old mid index found c ∙ ap after_try (sym is));
       shard = ap (λ (p : ShardPart). p.shard) lost;
       loads = ap (λ (p : ShardPart). p.loads) lost;
       finished = ap (λ (p : ShardPart). p.finished) lost;
@@ -167,10 +167,10 @@ claims_lost law w old mid index found told part is finished m c some lost =
 
 -- one that is won
 won_tried : (s : State) (index : ℕ) (job : Job) (sub : Subscription) → s.hand ≡ Some job → candidate_of s s.hand index ≡ Some sub → Tried s (shard_after s (Claim index true))
-won_tried s index job sub hand chosen = subst (Tried s) (sym (λ k. claimed s (hand k) (chosen k) true)) (record { hand = refl; finished = refl; next = refl })
+won_tried s index job sub hand chosen = subst (Tried s) (sym (λ k. after_claim s (hand k) (chosen k) true)) (record { hand = refl; finished = refl; next = refl })
 
 pub claims_won : ClaimsAreWhole → (w : AtWork) (old mid new : Held) (index : ℕ) (found : Option Candidate) (told : Candidate) (part : ShardPart) → w.state ≡ old.state → w.part.finished ≡ w.state.finished → MayClaim index w.state → Chooses false old index found mid → found ≡ Some told → part ≡ won_by w.part index
-    → new ≡ settled (placed_chosen mid.state mid.state.hand mid.chosen) → Claims index true w new.state part
+    → new ≡ held_at_rest (after_put_chosen mid.state mid.state.hand mid.chosen) → Claims index true w new.state part
 claims_won law w old mid new index found told part is finished m c some won placed =
     let free = may_claim w.state index m in
     let whole = law false old mid index found (subst (λ s. shard_refusal s (Claim index false) ≡ None) is free) c in

@@ -9,7 +9,7 @@ use Rattle.subj.specs.declared.failures.Failure.TheVariants.{Refused, OutOfMemor
 use Rattle.shard_core.specs.Answers as of_shard
 use Rattle.shard_core.specs.Held.{Held, DoesStep, IsLeft}
 use Rattle.shard_core.specs.ShardEvents.{Event, Attach, Subscribe, Unsubscribe, Reply, Shut, Detach, Take, Begin, Claim, End, DropJob, Collect, Answer, Taken}
-use Rattle.shard_core.specs.ShardSteps.{IsAsked, called, new_sub, subscribed, ended_now, unsubscribed, answer_fits, shard_refusal, shard_answer, shard_after}
+use Rattle.shard_core.specs.ShardSteps.{IsAsked, sub_called, new_sub, after_subscribe, ended_now, after_unsubscribe, answer_fits, shard_refusal, shard_answer, shard_after}
 use Rattle.shard_core.specs.Shards.{State, waits_for}
 use Rattle.shard_core.specs.declared.faults.ShardFault.{ShardFault}
 use Rattle.node_law.specs.Sound.{tried_of}
@@ -66,14 +66,14 @@ either s x y false f g = g
 
 rests : (s : State) (e : Event) → is_client e ≡ true → Rests s (shard_after s e)
 rests s Attach c = still s _ refl refl refl
-rests s (Subscribe conn key sid) c = go (called conn sid s.subs)
+rests s (Subscribe conn key sid) c = go (sub_called conn sid s.subs)
   where
-    go : (u : Option Subscription) → Rests s (subscribed s (new_sub s conn key sid) u)
+    go : (u : Option Subscription) → Rests s (after_subscribe s (new_sub s conn key sid) u)
     go None = still s _ refl refl refl
     go (Some u) = still s _ refl refl refl
-rests s (Unsubscribe conn sid max) c = go (called conn sid s.subs)
+rests s (Unsubscribe conn sid max) c = go (sub_called conn sid s.subs)
   where
-    go : (u : Option Subscription) → Rests s (unsubscribed s max u)
+    go : (u : Option Subscription) → Rests s (after_unsubscribe s max u)
     go None = still s _ refl refl refl
     go (Some u) = either s _ _ (ended_now max u) (still s _ refl refl refl) (still s _ refl refl refl)
 rests s (Reply conn frame) c = either s _ _ (answer_fits s conn _) (still s _ refl refl refl) (still s _ refl refl refl)
@@ -179,11 +179,11 @@ took_bytes shards next_index w held held' conn count before bytes r is i h = go 
     go : (r : Result ℕ (Failure ShardFault)) → IsAnswered (shard_refusal held.state (Take conn count)) (λ taken. of_shard.TakesBytes held conn count taken before bytes held') (IsLeft held held' × (bytes ≡ before)) r
         → TookBytes shards next_index w (with_state w held'.state) conn count before bytes r
     go (Ok n) g =
-        let called = client_call {T = Unit {0}} shards next_index w held held' (Take conn count) (λ _. Taken given) (Ok tt) refl is i (g.0, record { answered = refl; after = g.1.after }) in
-        record { works = called.works; answers = (called.answers.0, record { entries = given; does = called.answers.1; told = g.1.told; bytes_are = g.1.bytes_are }) }
+        let sub_called = client_call {T = Unit {0}} shards next_index w held held' (Take conn count) (λ _. Taken given) (Ok tt) refl is i (g.0, record { answered = refl; after = g.1.after }) in
+        record { works = sub_called.works; answers = (sub_called.answers.0, record { entries = given; does = sub_called.answers.1; told = g.1.told; bytes_are = g.1.bytes_are }) }
     go (Err (Refused why)) g =
-        let called = client_call {T = Unit {0}} shards next_index w held held' (Take conn count) (λ _. Taken given) (Err (Refused why)) refl is i (g.0, g.1.0) in
-        record { works = called.works; answers = (called.answers.0, (called.answers.1, g.1.1)) }
+        let sub_called = client_call {T = Unit {0}} shards next_index w held held' (Take conn count) (λ _. Taken given) (Err (Refused why)) refl is i (g.0, g.1.0) in
+        record { works = sub_called.works; answers = (sub_called.answers.0, (sub_called.answers.1, g.1.1)) }
     go (Err OutOfMemory) g =
-        let called = client_call {T = Unit {0}} shards next_index w held held' (Take conn count) (λ _. Taken given) (Err OutOfMemory) refl is i (g.0, g.1.0) in
-        record { works = called.works; answers = (called.answers.0, (called.answers.1, g.1.1)) }
+        let sub_called = client_call {T = Unit {0}} shards next_index w held held' (Take conn count) (λ _. Taken given) (Err OutOfMemory) refl is i (g.0, g.1.0) in
+        record { works = sub_called.works; answers = (sub_called.answers.0, (sub_called.answers.1, g.1.1)) }

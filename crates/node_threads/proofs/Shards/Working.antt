@@ -8,7 +8,7 @@ use Rattle.subj.specs.declared.jobs.Job.{Job}
 use Rattle.claim_cells.specs.declared.parts.ShardPart.{ShardPart}
 use Rattle.claim_cells.specs.Rule.{newcomer}
 use Rattle.claim_cells.specs.Seats.{HasTurn}
-use Rattle.claim_cells.specs.Steps.{seen}
+use Rattle.claim_cells.specs.Steps.{part_after_load}
 use Rattle.shard_core.specs.Answers.{IsHandedBack}
 use Rattle.shard_core.specs.ShardEvents.{Event, Begin}
 use Rattle.shard_core.specs.ShardSteps.{IsAsked, shard_refusal, shard_answer, shard_after}
@@ -84,10 +84,10 @@ handed_back cause job back same OutOfMemory h = h.2
 abbrev pub with_part : AtWork → ShardPart → AtWork
 with_part w part = record w { part = part }
 
-pub seen_makes : (w : AtWork) (n : ℕ) → Makes w [] (with_part w (seen w.part n))
+pub seen_makes : (w : AtWork) (n : ℕ) → Makes w [] (with_part w (part_after_load w.part n))
 seen_makes w n = record { got = []; led = refl; popped = sym (append-nil w.popped); taken = append-nil (option_to_list w.waiting); shard = refl; won = sym (append-nil w.part.won); lost = sym (append-nil w.part.lost) }
 
-pub seen_at_work : (shards next_index n : ℕ) (w : AtWork) → IsAtWork shards next_index w → w.state.hand ≡ None → IsAtWork shards next_index (with_part w (seen w.part n))
+pub seen_at_work : (shards next_index n : ℕ) (w : AtWork) → IsAtWork shards next_index w → w.state.hand ≡ None → IsAtWork shards next_index (with_part w (part_after_load w.part n))
 seen_at_work shards next_index n w i free = record {
   index = i.index;
   finished = i.finished;
@@ -95,7 +95,7 @@ seen_at_work shards next_index n w i free = record {
   hand = λ job h. absurd (none-some job (sym free ∙ h));
   waits = i.waits;
   count = i.count;
-  done = done_join shards w (with_part w (seen w.part n)) [] i.done (seen_makes w n);
+  done = done_join shards w (with_part w (part_after_load w.part n)) [] i.done (seen_makes w n);
 }
 
 -- ---- a job is begun

@@ -16,17 +16,17 @@ use Rattle.line_fields.specs.Spelling.{IsField, FieldsFollow}
 use Rattle.subj.specs.declared.limits.TheConstants.{MAX_SUBJECT, MAX_QUEUE_NAME, MAX_NODE_NAME}
 use Rattle.subj.specs.declared.faults.NameFault.TheVariants.{TooLong, BadByte}
 use Rattle.subj.specs.Names as names
-use Rattle.route_frames.specs.Canonical.{spaced}
+use Rattle.route_frames.specs.Canonical.{fields_with_spaces}
 
 abbrev pub AreFields : List (List ℕ) → Type 0
 AreFields [] = Unit {0}
 AreFields (field ∷ fields) = IsField field × AreFields fields
 
-pub follow_spaced : (fields : List (List ℕ)) → AreFields fields → FieldsFollow fields (spaced fields)
+pub follow_spaced : (fields : List (List ℕ)) → AreFields fields → FieldsFollow fields (fields_with_spaces fields)
 follow_spaced [] are = refl
 follow_spaced (field ∷ fields) are = record {
   gap = 32 ∷ [];
-  rest = spaced fields;
+  rest = fields_with_spaces fields;
   whole = refl;
   is_gap = (refl, refl);
   is_field = are.0;

@@ -14,7 +14,7 @@ use Rattle.route_values.specs.Snapshots.{Weighted, queue_fields, key_line, snaps
 use Rattle.route_values.specs.Valid.{IsWeighted, AreWeighted, IsBody, IsFrame}
 use Rattle.route_frames.specs.declared.common.TheConstants.{INCARNATION_DIGITS, NUMBER_DIGITS}
 use Rattle.route_frames.specs.declared.line_reading.TheConstants.{WEIGHT_DIGITS, SIZE_DIGITS}
-use Rattle.route_frames.specs.Canonical.{spaced, operation_word, common_of, member_fields, body_fields, numbered_line, body_payload, info_json, connect_json}
+use Rattle.route_frames.specs.Canonical.{fields_with_spaces, operation_word, common_of, member_fields, body_fields, numbered_line, body_payload, info_json, connect_json}
 use Rattle.route_frames.specs.Spelling.{HasCommon, SpellsWeight, SpellsBody, SpellsKey, SpellsKeys, SpellsBehind, body_announces, Spells, SpellsNumbered}
 use Rattle.route_frames.specs.Laws.{CanonicalIsSpelt}
 use Rattle.route_frames.proofs.Canonical.Fields.{follow_spaced, append_fields, number_again}
@@ -79,7 +79,7 @@ common_spelt frame behind is most =
       is_number = number_again NUMBER_DIGITS frame.number (omega arith) (omega arith) (omega arith);
     }
 
-fields_of_text : (frame : Frame) → IsFrame frame → frame.number ≤ MAX_COUNTER → fields (spaced (common_of frame) ++ spaced (body_fields frame.body)) ≡ common_of frame ++ body_fields frame.body
+fields_of_text : (frame : Frame) → IsFrame frame → frame.number ≤ MAX_COUNTER → fields (fields_with_spaces (common_of frame) ++ fields_with_spaces (body_fields frame.body)) ≡ common_of frame ++ body_fields frame.body
 fields_of_text frame is most =
     ap fields (sym (spaced-append (common_of frame) (body_fields frame.body)))
     ∙ (fields_follow (common_of frame ++ body_fields frame.body) _ (follow_spaced (common_of frame ++ body_fields frame.body) (append_fields (common_of frame) (body_fields frame.body) (common_are frame is most) (body_are frame.body is.body)))).0
@@ -97,7 +97,7 @@ numbered_spelt frame is =
     let Says : List (List ℕ) → Type 0 = λ all. SpellsNumbered frame (body_announces frame.body (unwrap_or (body_payload frame.body) [])) all in record {
       in_line = record {
         word = operation_word frame.body;
-        text = spaced (common_of frame) ++ spaced (body_fields frame.body);
+        text = fields_with_spaces (common_of frame) ++ fields_with_spaces (body_fields frame.body);
         whole = refl;
         names = named frame.body;
         is_behind = refl;

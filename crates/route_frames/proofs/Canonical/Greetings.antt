@@ -16,7 +16,7 @@ use Rattle.subj.specs.declared.limits.TheConstants.{MAX_COUNTER, MAX_INCARNATION
 use Rattle.subj.specs.Names.{is_node_name_byte, has_no_name_byte, node_name_fault}
 use Rattle.route_values.specs.Records.{Info, Connect, is_serial}
 use Rattle.route_values.specs.Valid.{IsInfo, IsConnect}
-use Rattle.route_frames.specs.Canonical.{counted, info_json, connect_json}
+use Rattle.route_frames.specs.Canonical.{number_data, info_json, connect_json}
 use Rattle.route_frames.proofs.Canonical.Fields.{all_digits, node_short, node_plain}
 use Rattle.route_frames.proofs.Cuts.Spaces.{digits_lack, none_in_both}
 
@@ -142,8 +142,8 @@ info_text info is =
     let most = (is.inc).most in
     let named : Members = member (codes "server_name") (string info.server_name) no_members in
     let name_is = member_is_plain true 34 1 60 (codes "server_name") (string info.server_name) no_members keys.server_name (quoted_is_plain info.server_name is.server_name) end_is_plain (omega arith) in
-    both_plain 6 100 200 (codes "INFO " ++ 123 ∷ []) (members_text false (member (codes "inc") (counted info.inc) named)) (record { plain = refl; short = omega arith })
-    (member_is_plain false 16 60 100 (codes "inc") (counted info.inc) named keys.inc (incarnation_is_plain info.inc most) name_is (omega arith)) (omega arith)
+    both_plain 6 100 200 (codes "INFO " ++ 123 ∷ []) (members_text false (member (codes "inc") (number_data info.inc) named)) (record { plain = refl; short = omega arith })
+    (member_is_plain false 16 60 100 (codes "inc") (number_data info.inc) named keys.inc (incarnation_is_plain info.inc most) name_is (omega arith)) (omega arith)
 
 pub serial_range : (serial : ℕ) → is_serial serial ≡ true → (1 ≤ serial) × (serial ≤ MAX_COUNTER)
 serial_range serial is = grind (arith, nat_tests)
@@ -153,13 +153,13 @@ connect_text connect is =
     let most = (is.inc).most in
     let to_most = (is.to_inc).most in
     let serial_most = (serial_range connect.serial is.serial).1 in
-    let from_to_inc : Members = member (codes "to_inc") (counted connect.to_inc) no_members in
+    let from_to_inc : Members = member (codes "to_inc") (number_data connect.to_inc) no_members in
     let from_to : Members = member (codes "to") (string connect.to) from_to_inc in
     let from_name : Members = member (codes "server_name") (string connect.server_name) from_to in
-    let from_serial : Members = member (codes "serial") (counted connect.serial) from_name in
-    let to_inc_is = member_is_plain true 16 1 40 (codes "to_inc") (counted connect.to_inc) no_members keys.to_inc (incarnation_is_plain connect.to_inc to_most) end_is_plain (omega arith) in
+    let from_serial : Members = member (codes "serial") (number_data connect.serial) from_name in
+    let to_inc_is = member_is_plain true 16 1 40 (codes "to_inc") (number_data connect.to_inc) no_members keys.to_inc (incarnation_is_plain connect.to_inc to_most) end_is_plain (omega arith) in
     let to_is = member_is_plain true 34 40 90 (codes "to") (string connect.to) from_to_inc keys.to (quoted_is_plain connect.to is.to) to_inc_is (omega arith) in
     let name_is = member_is_plain true 34 90 140 (codes "server_name") (string connect.server_name) from_to keys.server_name (quoted_is_plain connect.server_name is.server_name) to_is (omega arith) in
-    let serial_is = member_is_plain true 16 140 180 (codes "serial") (counted connect.serial) from_name keys.serial (number_is_plain connect.serial (omega arith)) name_is (omega arith) in
-    both_plain 9 220 300 (codes "CONNECT " ++ 123 ∷ []) (members_text false (member (codes "inc") (counted connect.inc) from_serial)) (record { plain = refl; short = omega arith })
-    (member_is_plain false 16 180 220 (codes "inc") (counted connect.inc) from_serial keys.inc (incarnation_is_plain connect.inc most) serial_is (omega arith)) (omega arith)
+    let serial_is = member_is_plain true 16 140 180 (codes "serial") (number_data connect.serial) from_name keys.serial (number_is_plain connect.serial (omega arith)) name_is (omega arith) in
+    both_plain 9 220 300 (codes "CONNECT " ++ 123 ∷ []) (members_text false (member (codes "inc") (number_data connect.inc) from_serial)) (record { plain = refl; short = omega arith })
+    (member_is_plain false 16 180 220 (codes "inc") (number_data connect.inc) from_serial keys.inc (incarnation_is_plain connect.inc most) serial_is (omega arith)) (omega arith)

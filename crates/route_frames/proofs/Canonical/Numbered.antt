@@ -10,14 +10,14 @@ use Rattle.route_values.specs.declared.bodies.Body.TheVariants.{Plus, Minus, Sna
 use Rattle.route_values.specs.Frames.{Frame}
 use Rattle.route_values.specs.Snapshots.{are_rising, snapshot_text}
 use Rattle.route_values.specs.Valid.{IsKey, IsWeighted, AreNames, IsReply, IsMessage, IsFrame, IsBody}
-use Rattle.route_frames.specs.Canonical.{spaced, common_of, member_fields, form_fields, body_fields}
+use Rattle.route_frames.specs.Canonical.{fields_with_spaces, common_of, member_fields, form_fields, body_fields}
 use Rattle.route_frames.proofs.Canonical.Fields.{AreFields, append_fields, queue_is_field, subject_is_field, pattern_is_field, node_is_field, number_is_field}
 
 -- ---- the fields of a line
 
-pub spaced-append : (front behind : List (List ℕ)) → spaced (front ++ behind) ≡ spaced front ++ spaced behind
+pub spaced-append : (front behind : List (List ℕ)) → fields_with_spaces (front ++ behind) ≡ fields_with_spaces front ++ fields_with_spaces behind
 spaced-append [] behind = refl
-spaced-append (field ∷ front) behind = ap (λ rest. (32 ∷ field) ++ rest) (spaced-append front behind) ∙ sym (append_assoc (32 ∷ field) (spaced front) (spaced behind))
+spaced-append (field ∷ front) behind = ap (λ rest. (32 ∷ field) ++ rest) (spaced-append front behind) ∙ sym (append_assoc (32 ∷ field) (fields_with_spaces front) (fields_with_spaces behind))
 
 pub common_are : (frame : Frame) → IsFrame frame → frame.number ≤ MAX_COUNTER → AreFields (common_of frame)
 common_are frame is most =

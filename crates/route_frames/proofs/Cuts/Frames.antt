@@ -18,7 +18,7 @@ use Rattle.route_values.specs.declared.bodies.Body.TheVariants.{Plus, Minus, Sna
 use Rattle.route_values.specs.Frames.{Frame}
 use Rattle.route_values.specs.Snapshots.{snapshot_text}
 use Rattle.route_values.specs.Valid.{IsKey, IsWeighted, AreNames, IsReply, IsMessage, IsBody, IsFrame}
-use Rattle.route_frames.specs.Canonical.{spaced, operation_word, common_of, member_fields, form_fields, body_fields, numbered_line}
+use Rattle.route_frames.specs.Canonical.{fields_with_spaces, operation_word, common_of, member_fields, form_fields, body_fields, numbered_line}
 use Rattle.route_frames.specs.Laws.{IsPayloadCutAgain}
 use Rattle.route_frames.proofs.Cuts.Behind.{drop_front}
 use Rattle.route_frames.proofs.Canonical.Fields.{all_digits, queue_plain, pattern_plain, subject_plain, subject_short, pattern_short, queue_short, node_short, node_without_cr}
@@ -81,27 +81,27 @@ pub record IsShortLine (text : List ℕ) : Type 0 where
 -- ---- fields, each with a blank in front: they hold no CR, and take so many bytes at most
 
 pub record AreShort (most : ℕ) (fields : List (List ℕ)) : Type 0 where
-  pub plain : list_any is_cr (spaced fields) ≡ false
-  pub short : length (spaced fields) ≤ most
+  pub plain : list_any is_cr (fields_with_spaces fields) ≡ false
+  pub short : length (fields_with_spaces fields) ≤ most
 
 none_short : (most : ℕ) → AreShort most []
 none_short most = record { plain = refl; short = omega arith }
 
 one_more : (most rest all : ℕ) (field : List ℕ) (fields : List (List ℕ)) → list_any is_cr field ≡ false → length field ≤ most → AreShort rest fields → suc most + rest ≤ all → AreShort all (field ∷ fields)
 one_more most rest all field fields plain short are fits =
-    let len = length-append (32 ∷ field) (spaced fields) in
+    let len = length-append (32 ∷ field) (fields_with_spaces fields) in
     let others = are.short in
-    record { plain = none_in_both is_cr (32 ∷ field) (spaced fields) plain are.plain; short = omega (arith, len) }
+    record { plain = none_in_both is_cr (32 ∷ field) (fields_with_spaces fields) plain are.plain; short = omega (arith, len) }
 
 both_short : (most rest all : ℕ) (front behind : List (List ℕ)) → AreShort most front → AreShort rest behind → most + rest ≤ all → AreShort all (front ++ behind)
 both_short most rest all front behind are are_too fits =
     let same = spaced-append front behind in
-    let len = length-append (spaced front) (spaced behind) in
+    let len = length-append (fields_with_spaces front) (fields_with_spaces behind) in
     let first = are.short in
     let second = are_too.short in
     record {
-      plain = ap (list_any is_cr) same ∙ none_in_both is_cr (spaced front) (spaced behind) are.plain are_too.plain;
-      short = let whole : length (spaced (front ++ behind)) ≡ length (spaced front) + length (spaced behind) = ap length same ∙ len in omega arith;
+      plain = ap (list_any is_cr) same ∙ none_in_both is_cr (fields_with_spaces front) (fields_with_spaces behind) are.plain are_too.plain;
+      short = let whole : length (fields_with_spaces (front ++ behind)) ≡ length (fields_with_spaces front) + length (fields_with_spaces behind) = ap length same ∙ len in omega arith;
     }
 
 number_plain : (n : ℕ) → n < 2 ^ 64 → list_any is_cr (decimal n) ≡ false
@@ -198,12 +198,12 @@ line_short frame is =
     let word = word_short frame.body in
     let common = common_short frame is (counted frame.number _ is.number) in
     let body = body_short frame.body is.body in
-    let first = length-append (operation_word frame.body) (spaced (common_of frame) ++ spaced (body_fields frame.body)) in
-    let second = length-append (spaced (common_of frame)) (spaced (body_fields frame.body)) in
+    let first = length-append (operation_word frame.body) (fields_with_spaces (common_of frame) ++ fields_with_spaces (body_fields frame.body)) in
+    let second = length-append (fields_with_spaces (common_of frame)) (fields_with_spaces (body_fields frame.body)) in
     let one = word.short in
     let two = common.short in
     let three = body.short in
     record {
-      plain = none_in_both is_cr (operation_word frame.body) (spaced (common_of frame) ++ spaced (body_fields frame.body)) word.plain (none_in_both is_cr (spaced (common_of frame)) (spaced (body_fields frame.body)) common.plain body.plain);
+      plain = none_in_both is_cr (operation_word frame.body) (fields_with_spaces (common_of frame) ++ fields_with_spaces (body_fields frame.body)) word.plain (none_in_both is_cr (fields_with_spaces (common_of frame)) (fields_with_spaces (body_fields frame.body)) common.plain body.plain);
       short = omega (arith, first, second);
     }

@@ -12,7 +12,7 @@ use Rattle.route_values.specs.Valid.{IsIncarnation, IsInfo, IsConnect}
 use Rattle.route_frames.specs.declared.faults.RouteFault.TheVariants.{BadArgs, BadNumber}
 use Rattle.route_frames.specs.declared.greetings.Whole.TheVariants as whole
 use Rattle.route_frames.specs.Meaning.{◌>>=◌}
-use Rattle.route_frames.specs.Canonical.{counted}
+use Rattle.route_frames.specs.Canonical.{number_data}
 use Rattle.route_frames.specs.Greetings.{json_of, object_of, whole_of, whole_at, whole_in_range, incarnation_in, node_at, info_in, dial_in, connect_in, info_of, connect_text_of}
 use Rattle.route_frames.specs.Spelling.{HasInfo, HasConnect}
 use Rattle.route_frames.proofs.Canonical.Greetings.{serial_range}
@@ -38,7 +38,7 @@ object_means text key json value is has = rw is (ap (λ b. cond b (Ok json) (Err
 in_range : (n most : ℕ) (fits : Bool) → (nat_le 1 n && nat_le n most) ≡ fits → 1 ≤ n → n ≤ most → fits ≡ true
 in_range n most fits is low high = grind (arith, nat_tests)
 
-number_means : (key : List ℕ) (json : Data) (most n : ℕ) → Has key json (counted n) → 1 ≤ n → n ≤ most → whole_in_range most (whole_at key json) ≡ Ok (whole.Number n)
+number_means : (key : List ℕ) (json : Data) (most n : ℕ) → Has key json (number_data n) → 1 ≤ n → n ≤ most → whole_in_range most (whole_at key json) ≡ Ok (whole.Number n)
 number_means key json most n has low high =
     ap (λ found. whole_in_range most (whole_of (option_and_then as_number found))) has ∙ ap (λ b. cond b (Ok (whole.Number n)) (Err BadNumber)) (in_range n most _ refl low high)
 
@@ -62,7 +62,7 @@ info_found json info has is =
 
 pub info_means : (text : List ℕ) (json : Data) (info : Info) → json_of text ≡ Some json → HasInfo info json → IsInfo info → info_of text ≡ Ok info
 info_means text json info is has valid =
-    ap (λ read. read >>= info_in) (object_means text (codes "inc") json (counted info.inc) is has.inc) ∙ info_found json info has valid
+    ap (λ read. read >>= info_in) (object_means text (codes "inc") json (number_data info.inc) is has.inc) ∙ info_found json info has valid
 
 -- ---- CONNECT
 
@@ -85,4 +85,4 @@ connect_found json connect has is =
 
 pub connect_means : (text : List ℕ) (json : Data) (connect : Connect) → json_of text ≡ Some json → HasConnect connect json → IsConnect connect → connect_text_of text ≡ Ok connect
 connect_means text json connect is has valid =
-    ap (λ read. read >>= connect_in) (object_means text (codes "inc") json (counted connect.inc) is has.inc) ∙ connect_found json connect has valid
+    ap (λ read. read >>= connect_in) (object_means text (codes "inc") json (number_data connect.inc) is has.inc) ∙ connect_found json connect has valid

@@ -25,8 +25,8 @@ use Rattle.route_frames.specs.Meaning.{Meaning, ◌>>=◌}
 use Rattle.route_frames.specs.Operations.{word_of}
 use Rattle.route_frames.specs.CommonFields.{CommonFields}
 use Rattle.route_frames.specs.NumberedLines.{plus_line, minus_line, snapshot_line, message_line}
-use Rattle.route_frames.specs.Lines.{numbered, operation_meaning, fields_meaning, line_meaning, announced_size}
-use Rattle.route_frames.specs.Decoding.{sized, body_meaning, frame_behind, frame_meaning, numbered_meaning}
+use Rattle.route_frames.specs.Lines.{line_of_fields, operation_meaning, fields_meaning, line_meaning, announced_size}
+use Rattle.route_frames.specs.Decoding.{payload_meaning, body_meaning, frame_behind, frame_meaning, numbered_meaning}
 use Rattle.route_frames.specs.Canonical.{operation_for, form_fields}
 use Rattle.route_frames.specs.Spelling.{SpellsBody, SpellsBehind, body_announces, frame_word, SpellsText, SpellsLine, SpellsPayload, announces}
 use Rattle.route_frames.specs.Laws.{SpeltIsRead, AnnouncedIsTold}
@@ -67,7 +67,7 @@ read_frame from to inc to_inc number said body payload read is =
 of_size : (n : ℕ) (same : Bool) → nat_eq n n ≡ same → same ≡ true
 of_size n same is = grind (arith, nat_tests)
 
-has_size : (payload : List ℕ) → sized (Some (length payload)) payload ≡ Ok tt
+has_size : (payload : List ℕ) → payload_meaning (Some (length payload)) payload ≡ Ok tt
 has_size payload = ap (λ b. cond b (Ok tt) (Err BadArgs)) (of_size (length payload) _ refl)
 
 numbered_from_one : (n : ℕ) → (nat_le n MAX_COUNTER && (nat_le 1 n || false)) ≡ true → (1 ≤ n) × (n ≤ MAX_COUNTER)
@@ -90,9 +90,9 @@ abbrev spelt_fields : List ℕ → List ℕ → (inc to_inc number : ℕ) → Ar
 spelt_fields from to inc to_inc number are behind = from ∷ are.inc_digits ∷ to ∷ are.to_inc_digits ∷ are.number_digits ∷ behind
 
 numbered_by : (behind_common : CommonFields → List (List ℕ) → Meaning NumberedLine) (from to : List ℕ) (inc to_inc number : ℕ) (are : AreDigits inc to_inc number) (all behind spelt : List (List ℕ)) (read : NumberedLine)
-    → all ≡ spelt_fields from to inc to_inc number are behind → behind ≡ spelt → behind_common (common_with from to inc to_inc number are) spelt ≡ Ok read → numbered behind_common all ≡ Ok (line.Numbered read)
+    → all ≡ spelt_fields from to inc to_inc number are behind → behind ≡ spelt → behind_common (common_with from to inc to_inc number are) spelt ≡ Ok read → line_of_fields behind_common all ≡ Ok (line.Numbered read)
 numbered_by behind_common from to inc to_inc number are all behind spelt read whole is says =
-    ap (numbered behind_common) whole ∙ ap (λ fields. behind_common (common_with from to inc to_inc number are) fields >>= λ read. Ok (line.Numbered read)) is ∙ ap (λ read. read >>= λ read. Ok (line.Numbered read)) says
+    ap (line_of_fields behind_common) whole ∙ ap (λ fields. behind_common (common_with from to inc to_inc number are) fields >>= λ read. Ok (line.Numbered read)) is ∙ ap (λ read. read >>= λ read. Ok (line.Numbered read)) says
 
 body_by : (text : List ℕ) (all behind : List (List ℕ)) (from to : List ℕ) (inc to_inc number : ℕ) (body : Body) (size : Option ℕ) (are : AreDigits inc to_inc number) → all ≡ spelt_fields from to inc to_inc number are behind → IsFrame (frame_with from inc to to_inc number body) → SpellsBody body size behind
     → BodyMeans text all (frame_with from inc to to_inc number body) size
@@ -167,22 +167,22 @@ line_by text word behind (route.Numbered frame) size whole names ends spelt is =
 line_means : (text : List ℕ) (frame : RouteFrame) (size : Option ℕ) → SpellsLine frame size text → LineMeans text frame size
 line_means text frame size spelt = line_by text spelt.word spelt.text frame size spelt.whole spelt.names spelt.is_behind spelt.says spelt.valid
 
-body_sized : (body : Body) (payload : List ℕ) → SpellsBehind body payload → sized (body_announces body payload) payload ≡ Ok tt
-body_sized (Plus weighted) payload is = ap (λ payload. sized None payload) is
-body_sized (Minus key) payload is = ap (λ payload. sized None payload) is
+body_sized : (body : Body) (payload : List ℕ) → SpellsBehind body payload → payload_meaning (body_announces body payload) payload ≡ Ok tt
+body_sized (Plus weighted) payload is = ap (λ payload. payload_meaning None payload) is
+body_sized (Minus key) payload is = ap (λ payload. payload_meaning None payload) is
 body_sized (Snapshot keys) payload is = has_size payload
 body_sized (Msg message queues) payload is = has_size payload
 
-payload_sized : (frame : RouteFrame) (payload : List ℕ) → SpellsPayload frame payload → sized (announces frame payload) payload ≡ Ok tt
-payload_sized (route.Info info) payload is = ap (λ payload. sized None payload) is
-payload_sized (route.Connect connect) payload is = ap (λ payload. sized None payload) is
+payload_sized : (frame : RouteFrame) (payload : List ℕ) → SpellsPayload frame payload → payload_meaning (announces frame payload) payload ≡ Ok tt
+payload_sized (route.Info info) payload is = ap (λ payload. payload_meaning None payload) is
+payload_sized (route.Connect connect) payload is = ap (λ payload. payload_meaning None payload) is
 payload_sized (route.Numbered frame) payload is = body_sized frame.body payload is
 
 pub spelt_is_read : SpeltIsRead
 unfolding frame_meaning
 spelt_is_read frame text payload spelt =
     let means = line_means text frame (announces frame payload) spelt.in_line in
-    let fits : sized (announced_size means.read) payload ≡ Ok tt = ap (λ size. sized size payload) means.told ∙ payload_sized frame payload spelt.behind in
+    let fits : payload_meaning (announced_size means.read) payload ≡ Ok tt = ap (λ size. payload_meaning size payload) means.told ∙ payload_sized frame payload spelt.behind in
     let made = means.makes payload spelt.behind refl in
     rw (means.says, fits, made) refl
 

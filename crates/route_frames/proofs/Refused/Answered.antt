@@ -14,8 +14,8 @@ use Rattle.subj.specs.declared.failures.Failure.TheVariants.{Refused, OutOfMemor
 use Rattle.route_values.specs.declared.frames.RouteFrame.{RouteFrame}
 use Rattle.route_frames.specs.declared.faults.RouteFault.{RouteFault}
 use Rattle.route_frames.specs.declared.faults.RouteFault.TheVariants.{BadArgs}
-use Rattle.route_frames.specs.Meaning.{Meaning, Means, MeansBy, ◌>>=◌}
-use Rattle.route_frames.specs.Decoding.{size_meaning, frame_meaning, sized, joined, takes_memory, is_snapshot_body, is_snapshot_behind, body_has_payload, line_has_payload, frame_behind, JoinsBy, Joins, failure_of}
+use Rattle.route_frames.specs.Meaning.{Meaning, RouteMeans, MeansBy, ◌>>=◌}
+use Rattle.route_frames.specs.Decoding.{size_meaning, frame_meaning, payload_meaning, frame_of_line, takes_memory, is_snapshot_body, is_snapshot_behind, body_has_payload, line_has_payload, frame_behind, JoinsBy, Joins, failure_of}
 use Rattle.route_frames.specs.Operations.{is_json_line}
 use Rattle.route_frames.specs.declared.lines.Unjoined.{Unjoined}
 use Rattle.route_frames.specs.declared.lines.Unjoined.TheVariants as back
@@ -47,7 +47,7 @@ or_so : {A B C : Type 0} → A ⊎ B → (B → C) → A ⊎ C
 or_so (inl x) so = inl x
 or_so (inr y) so = inr (so y)
 
-pub size_answered : (line : List ℕ) (answer : Result (Option ℕ) (Failure RouteFault)) → Means (is_json_line line) (size_meaning line) answer → IsSizeOf line answer
+pub size_answered : (line : List ℕ) (answer : Result (Option ℕ) (Failure RouteFault)) → RouteMeans (is_json_line line) (size_meaning line) answer → IsSizeOf line answer
 size_answered line (Ok size) means = told_is_announced line size means
 size_answered line (Err (Refused fault)) means =
     (cause_told (line_cause line) (size_meaning line) fault (size_agrees line) means, λ spelt. not_both (size_meaning line) spelt.0 fault (announced_is_told line spelt.0 spelt.1) means)
@@ -65,13 +65,13 @@ abbrev size_behind : Meaning RouteLine → Meaning (Option ℕ)
 size_behind read = read >>= λ read. Ok (announced_size read)
 
 pub copy_means : (line : List ℕ) (text : LineText) (answer : Result RouteLine (Failure RouteFault)) → line_meaning line ≡ text_meaning text → is_json_line line ≡ is_json text
-    → Means (is_json text) (text_meaning text) answer → Means (is_json_line line) (line_meaning line) answer
+    → RouteMeans (is_json text) (text_meaning text) answer → RouteMeans (is_json_line line) (line_meaning line) answer
 copy_means line text (Ok read) is json means = is ∙ means
 copy_means line text (Err (Refused fault)) is json means = is ∙ means
 copy_means line text (Err OutOfMemory) is json means = ap (λ json. json || is_ok (line_meaning line)) json ∙ ap (λ read. is_json text || is_ok read) is ∙ means
 
 pub size_means : (line : List ℕ) (text : LineText) (answer : Result (Option ℕ) (Failure RouteFault)) → line_meaning line ≡ text_meaning text → is_json_line line ≡ is_json text
-    → Means (is_json text) (size_in text) answer → Means (is_json_line line) (size_meaning line) answer
+    → RouteMeans (is_json text) (size_in text) answer → RouteMeans (is_json_line line) (size_meaning line) answer
 size_means line text (Ok size) is json means = ap size_behind is ∙ means
 size_means line text (Err (Refused fault)) is json means = ap size_behind is ∙ means
 size_means line text (Err OutOfMemory) is json means = ap (λ json. json || is_ok (size_meaning line)) json ∙ ap (λ read. is_json text || is_ok (size_behind read)) is ∙ means
@@ -79,13 +79,13 @@ size_means line text (Err OutOfMemory) is json means = ap (λ json. json || is_o
 pub size_fault : (line : List ℕ) (fault : RouteFault) → line_meaning line ≡ Err fault → size_meaning line ≡ Err fault
 size_fault line fault is = ap size_behind is
 
-pub line_answered : (line : List ℕ) (answer : Result RouteLine (Failure RouteFault)) → Means (is_json_line line) (line_meaning line) answer → IsReadOf line answer
+pub line_answered : (line : List ℕ) (answer : Result RouteLine (Failure RouteFault)) → RouteMeans (is_json_line line) (line_meaning line) answer → IsReadOf line answer
 line_answered line (Ok read) means = told_is_announced line (announced_size read) (told_of (line_meaning line) read announced_size means)
 line_answered line (Err (Refused fault)) means = size_answered line (Err (Refused fault)) (told_fault (line_meaning line) fault (λ read. Ok (announced_size read)) means)
 line_answered line (Err OutOfMemory) means =
     or_so (or_ok (is_json_line line) (line_meaning line) means) (λ told. (announced_size told.0, told_is_announced line (announced_size told.0) (told_of (line_meaning line) told.0 announced_size told.1)))
 
-pub frame_answered : (line payload : List ℕ) (answer : Result RouteFrame (Failure RouteFault)) → Means (takes_memory line payload) (frame_meaning line payload) answer → IsFrameOf line payload answer
+pub frame_answered : (line payload : List ℕ) (answer : Result RouteFrame (Failure RouteFault)) → RouteMeans (takes_memory line payload) (frame_meaning line payload) answer → IsFrameOf line payload answer
 frame_answered line payload (Ok frame) means = read_is_spelt frame line payload means
 frame_answered line payload (Err (Refused fault)) means =
     (cause_told (line_cause line) (frame_meaning line payload) fault (frame_agrees line payload) means, λ spelt. not_both (frame_meaning line payload) spelt.0 fault (spelt_is_read spelt.0 line payload spelt.1) means)
@@ -104,11 +104,11 @@ or_true false = refl
 
 -- ---- a numbered line, whose size is judged before its parts are copied
 
-sized_answers : (line payload : List ℕ) (numbered : NumberedLine) (is_snapshot : Bool) → is_snapshot_body numbered.body ≡ is_snapshot → line_meaning line ≡ Ok (route_line.Numbered numbered) → sized (body_size numbered.body) payload ≡ Ok tt
+sized_answers : (line payload : List ℕ) (numbered : NumberedLine) (is_snapshot : Bool) → is_snapshot_body numbered.body ≡ is_snapshot → line_meaning line ≡ Ok (route_line.Numbered numbered) → payload_meaning (body_size numbered.body) payload ≡ Ok tt
     → (takes_memory line payload || is_ok (frame_meaning line payload)) ≡ true
 sized_answers line payload numbered true kind is fits =
     let memory : takes_memory line payload ≡ true = ap (λ read. is_json_line line || is_snapshot_behind read payload) is
-    ∙ ap (λ b. is_json_line line || (b && is_ok (sized (body_size numbered.body) payload))) kind
+    ∙ ap (λ b. is_json_line line || (b && is_ok (payload_meaning (body_size numbered.body) payload))) kind
     ∙ ap (λ fits. is_json_line line || (true && is_ok fits)) fits ∙ or_true (is_json_line line) in
     ap (λ memory. memory || is_ok (frame_meaning line payload)) memory
 sized_answers line payload numbered false kind is fits =
@@ -120,22 +120,22 @@ is_done (Ok done) e = refl
 is_done (Err fault) e = absurd (true≢false (sym e))
 
 pub numbered_means : (line payload : List ℕ) (numbered : NumberedLine) (answer : Result RouteFrame (Failure RouteFault)) → line_meaning line ≡ Ok (route_line.Numbered numbered)
-    → MeansBy (λ frame. frame) (is_ok (sized (body_size numbered.body) payload)) (joined (route_line.Numbered numbered) payload) answer → Means (takes_memory line payload) (frame_meaning line payload) answer
+    → MeansBy (λ frame. frame) (is_ok (payload_meaning (body_size numbered.body) payload)) (frame_of_line (route_line.Numbered numbered) payload) answer → RouteMeans (takes_memory line payload) (frame_meaning line payload) answer
 unfolding frame_meaning
-numbered_means line payload numbered (Ok frame) is means = ap (λ read. read >>= λ read. joined read payload) is ∙ means
-numbered_means line payload numbered (Err (Refused fault)) is means = ap (λ read. read >>= λ read. joined read payload) is ∙ means
-numbered_means line payload numbered (Err OutOfMemory) is means = sized_answers line payload numbered (is_snapshot_body numbered.body) refl is (is_done (sized (body_size numbered.body) payload) means)
+numbered_means line payload numbered (Ok frame) is means = ap (λ read. read >>= λ read. frame_of_line read payload) is ∙ means
+numbered_means line payload numbered (Err (Refused fault)) is means = ap (λ read. read >>= λ read. frame_of_line read payload) is ∙ means
+numbered_means line payload numbered (Err OutOfMemory) is means = sized_answers line payload numbered (is_snapshot_body numbered.body) refl is (is_done (payload_meaning (body_size numbered.body) payload) means)
 
 pub greeting_means : (line payload : List ℕ) (text : LineText) (answer : Result RouteFrame (Failure RouteFault)) → line_meaning line ≡ text_meaning text → is_json_line line ≡ true
-    → MeansBy (λ frame. frame) true (joined_text text payload) answer → Means (takes_memory line payload) (frame_meaning line payload) answer
+    → MeansBy (λ frame. frame) true (joined_text text payload) answer → RouteMeans (takes_memory line payload) (frame_meaning line payload) answer
 unfolding frame_meaning
-greeting_means line payload text (Ok frame) is json means = ap (λ read. read >>= λ read. joined read payload) is ∙ means
-greeting_means line payload text (Err (Refused fault)) is json means = ap (λ read. read >>= λ read. joined read payload) is ∙ means
+greeting_means line payload text (Ok frame) is json means = ap (λ read. read >>= λ read. frame_of_line read payload) is ∙ means
+greeting_means line payload text (Err (Refused fault)) is json means = ap (λ read. read >>= λ read. frame_of_line read payload) is ∙ means
 greeting_means line payload text (Err OutOfMemory) is json means = ap (λ b. (b || is_snapshot_behind (line_meaning line) payload) || is_ok (frame_meaning line payload)) json
 
 pub bad_line_means : (line payload : List ℕ) (fault : RouteFault) → line_meaning line ≡ Err fault → frame_meaning line payload ≡ Err fault
 unfolding frame_meaning
-bad_line_means line payload fault is = ap (λ read. read >>= λ read. joined read payload) is
+bad_line_means line payload fault is = ap (λ read. read >>= λ read. frame_of_line read payload) is
 
 -- ---- what was joined, as it is told
 
@@ -144,7 +144,7 @@ and_right true b e = e
 and_right false b e = absurd (true≢false (sym e))
 
 -- a payload of the size that a line announces is joined with it as the rest of the meaning says
-pub fitting_joins : (read : RouteLine) (payload : List ℕ) (answer : Result RouteFrame Unjoined) → sized (announced_size read) payload ≡ Ok tt
+pub fitting_joins : (read : RouteLine) (payload : List ℕ) (answer : Result RouteFrame Unjoined) → payload_meaning (announced_size read) payload ≡ Ok tt
     → JoinsBy (line_has_payload read) (frame_behind read payload) read payload answer → Joins read payload answer
 fitting_joins read payload (Ok frame) fits joins = ap (λ fits. fits >>= λ fits. frame_behind read payload) fits ∙ joins
 fitting_joins read payload (Err (back.Refused fault)) fits joins = ap (λ fits. fits >>= λ fits. frame_behind read payload) fits ∙ joins
@@ -154,28 +154,28 @@ fitting_joins read payload (Err (back.OutOfMemory line bytes)) fits joins =
 -- a line that was read, and the payload that it is joined with
 pub joined_answered : (line payload : List ℕ) (read : RouteLine) (answer : Result RouteFrame Unjoined) → line_meaning line ≡ Ok read → Joins read payload answer → IsFrameOf line payload (failure_of answer)
 unfolding frame_meaning
-joined_answered line payload read (Ok frame) is joins = frame_answered line payload (Ok frame) (ap (λ read. read >>= λ read. joined read payload) is ∙ joins)
-joined_answered line payload read (Err (back.Refused fault)) is joins = frame_answered line payload (Err (Refused fault)) (ap (λ read. read >>= λ read. joined read payload) is ∙ joins)
+joined_answered line payload read (Ok frame) is joins = frame_answered line payload (Ok frame) (ap (λ read. read >>= λ read. frame_of_line read payload) is ∙ joins)
+joined_answered line payload read (Err (back.Refused fault)) is joins = frame_answered line payload (Err (Refused fault)) (ap (λ read. read >>= λ read. frame_of_line read payload) is ∙ joins)
 joined_answered line payload (route_line.Info info) (Err (back.OutOfMemory other bytes)) is joins = absurd (true≢false (sym joins.2))
 joined_answered line payload (route_line.Connect connect) (Err (back.OutOfMemory other bytes)) is joins = absurd (true≢false (sym joins.2))
 joined_answered line payload (route_line.Numbered numbered) (Err (back.OutOfMemory other bytes)) is joins =
-    let fits = is_done (sized (body_size numbered.body) payload) (and_right (body_has_payload numbered.body) (is_ok (sized (body_size numbered.body) payload)) joins.2) in
+    let fits = is_done (payload_meaning (body_size numbered.body) payload) (and_right (body_has_payload numbered.body) (is_ok (payload_meaning (body_size numbered.body) payload)) joins.2) in
     frame_answered line payload (Err OutOfMemory) (sized_answers line payload numbered (is_snapshot_body numbered.body) refl is fits)
 
-told_means : (read : RouteLine) (payload : List ℕ) (answer : Result RouteFrame Unjoined) → Joins read payload answer → MeansBy (λ frame. frame) (is_ok (sized (announced_size read) payload)) (joined read payload) (failure_of answer)
+told_means : (read : RouteLine) (payload : List ℕ) (answer : Result RouteFrame Unjoined) → Joins read payload answer → MeansBy (λ frame. frame) (is_ok (payload_meaning (announced_size read) payload)) (frame_of_line read payload) (failure_of answer)
 told_means read payload (Ok frame) joins = joins
 told_means read payload (Err (back.Refused fault)) joins = joins
-told_means read payload (Err (back.OutOfMemory line bytes)) joins = and_right (line_has_payload read) (is_ok (sized (announced_size read) payload)) joins.2
+told_means read payload (Err (back.OutOfMemory line bytes)) joins = and_right (line_has_payload read) (is_ok (payload_meaning (announced_size read) payload)) joins.2
 
 pub numbered_told : (numbered copy : NumberedLine) (payload : List ℕ) (answer : Result RouteFrame Unjoined) (told : Result RouteFrame (Failure RouteFault)) → copy ≡ numbered → told ≡ failure_of answer → Joins (route_line.Numbered copy) payload answer
-    → MeansBy (λ frame. frame) (is_ok (sized (body_size numbered.body) payload)) (joined (route_line.Numbered numbered) payload) told
+    → MeansBy (λ frame. frame) (is_ok (payload_meaning (body_size numbered.body) payload)) (frame_of_line (route_line.Numbered numbered) payload) told
 numbered_told numbered copy payload answer told same is joins =
-    subst (λ told. MeansBy (λ frame. frame) (is_ok (sized (body_size numbered.body) payload)) (joined (route_line.Numbered numbered) payload) told) (sym is)
-    (subst (λ numbered. MeansBy (λ frame. frame) (is_ok (sized (body_size numbered.body) payload)) (joined (route_line.Numbered numbered) payload) (failure_of answer)) same (told_means (route_line.Numbered copy) payload answer joins))
+    subst (λ told. MeansBy (λ frame. frame) (is_ok (payload_meaning (body_size numbered.body) payload)) (frame_of_line (route_line.Numbered numbered) payload) told) (sym is)
+    (subst (λ numbered. MeansBy (λ frame. frame) (is_ok (payload_meaning (body_size numbered.body) payload)) (frame_of_line (route_line.Numbered numbered) payload) (failure_of answer)) same (told_means (route_line.Numbered copy) payload answer joins))
 
 greeting_told_by : (text : LineText) (read : RouteLine) (payload : List ℕ) (answer : Result RouteFrame Unjoined) → text_meaning text ≡ Ok read → Joins read payload answer → MeansBy (λ frame. frame) true (joined_text text payload) (failure_of answer)
-greeting_told_by text read payload (Ok frame) is joins = ap (λ read. read >>= λ read. joined read payload) is ∙ joins
-greeting_told_by text read payload (Err (back.Refused fault)) is joins = ap (λ read. read >>= λ read. joined read payload) is ∙ joins
+greeting_told_by text read payload (Ok frame) is joins = ap (λ read. read >>= λ read. frame_of_line read payload) is ∙ joins
+greeting_told_by text read payload (Err (back.Refused fault)) is joins = ap (λ read. read >>= λ read. frame_of_line read payload) is ∙ joins
 greeting_told_by text read payload (Err (back.OutOfMemory line bytes)) is joins = refl
 
 pub greeting_told : (text : LineText) (read : RouteLine) (payload : List ℕ) (answer : Result RouteFrame Unjoined) (told : Result RouteFrame (Failure RouteFault)) → text_meaning text ≡ Ok read → told ≡ failure_of answer → Joins read payload answer → MeansBy (λ frame. frame) true (joined_text text payload) told

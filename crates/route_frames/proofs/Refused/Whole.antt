@@ -23,9 +23,9 @@ use Rattle.route_frames.specs.CommonFields.{CommonFields, common_fields}
 use Rattle.route_frames.specs.Arguments.{plus_fields, minus_fields, snapshot_field, message_fields}
 use Rattle.route_frames.specs.NumberedLines.{key_of, plus_line, minus_line, snapshot_line, message_line}
 use Rattle.route_frames.specs.Greetings.{json_of, info_of, connect_text_of}
-use Rattle.route_frames.specs.Lines.{numbered, operation_meaning, fields_meaning, line_meaning, announced_size}
+use Rattle.route_frames.specs.Lines.{line_of_fields, operation_meaning, fields_meaning, line_meaning, announced_size}
 use Rattle.route_frames.specs.SnapshotTexts.{pieces, plain_key, queue_key, weighted_of, before_cr, key_line_of, keys_in, snapshot_in}
-use Rattle.route_frames.specs.Decoding.{size_meaning, sized, body_meaning, numbered_meaning, frame_behind, frame_meaning}
+use Rattle.route_frames.specs.Decoding.{size_meaning, payload_meaning, body_meaning, numbered_meaning, frame_behind, frame_meaning}
 use Rattle.route_frames.specs.Causes.{plus_cause, minus_cause, snapshot_cause, message_cause, common_cause, members_cause, info_members, connect_members, operation_cause, fields_cause, line_cause}
 use Rattle.route_frames.proofs.Refused.Agreement.{Agrees, agrees_then, ok_or_agrees, refused_unless, fields_agree}
 use Rattle.route_frames.proofs.Refused.Numbered.{key_agrees, plus_agrees, minus_agrees, snapshot_agrees, message_agrees}
@@ -34,7 +34,7 @@ use Rattle.route_frames.proofs.Refused.Greetings.{info_agrees, connect_agrees}
 -- ---- lines
 
 numbered_agrees : (behind : CommonFields → List (List ℕ) → Meaning NumberedLine) (cause : CommonFields → List (List ℕ) → Option RouteFault) (fields : List (List ℕ)) → ((common : CommonFields) (fields : List (List ℕ)) → Agrees (cause common fields) (behind common fields))
-    → Agrees (common_cause cause (common_fields fields)) (numbered behind fields)
+    → Agrees (common_cause cause (common_fields fields)) (line_of_fields behind fields)
 numbered_agrees behind cause fields each = fields_agree (common_cause cause) (common_fields fields) _ refl (λ split.
     agrees_then (cause split.0 split.1) (behind split.0 split.1) _ (each split.0 split.1) (λ line. tt))
 
@@ -91,7 +91,7 @@ snapshot_in_agrees : (text : List ℕ) → Agrees None (snapshot_in text)
 unfolding snapshot_in
 snapshot_in_agrees text = agrees_then None (keys_in (pieces 10 text)) _ (keys_agree (pieces 10 text)) (λ keys. ok_or_agrees (snapshot_of keys))
 
-sized_agrees : (size : Option ℕ) (payload : List ℕ) → Agrees None (sized size payload)
+sized_agrees : (size : Option ℕ) (payload : List ℕ) → Agrees None (payload_meaning size payload)
 sized_agrees None payload = refused_unless (is_empty payload) tt
 sized_agrees (Some size) payload = refused_unless (nat_eq (length payload) size) tt
 
@@ -101,19 +101,19 @@ body_agrees (body.Minus key) payload = tt
 body_agrees (body.Snapshot size) payload = agrees_then None (snapshot_in payload) _ (snapshot_in_agrees payload) (λ keys. tt)
 body_agrees (body.Msg subject reply queues size) payload = agrees_then None (ok_or (content_of subject reply payload) BadArgs) _ (ok_or_agrees (content_of subject reply payload)) (λ message. tt)
 
-numbered_frame_agrees : (numbered : NumberedLine) (payload : List ℕ) → Agrees None (numbered_meaning numbered payload)
+numbered_frame_agrees : (line_of_fields : NumberedLine) (payload : List ℕ) → Agrees None (numbered_meaning line_of_fields payload)
 unfolding numbered_meaning
-numbered_frame_agrees numbered payload = agrees_then None (body_meaning numbered.body payload) _ (body_agrees numbered.body payload) (λ body.
-    ok_or_agrees (frame_of numbered.from numbered.numbers.inc numbered.to numbered.numbers.to_inc numbered.numbers.number body))
+numbered_frame_agrees line_of_fields payload = agrees_then None (body_meaning line_of_fields.body payload) _ (body_agrees line_of_fields.body payload) (λ body.
+    ok_or_agrees (frame_of line_of_fields.from line_of_fields.numbers.inc line_of_fields.to line_of_fields.numbers.to_inc line_of_fields.numbers.number body))
 
 behind_agrees : (read : RouteLine) (payload : List ℕ) → Agrees None (frame_behind read payload)
 behind_agrees (line.Info info) payload = tt
 behind_agrees (line.Connect connect) payload = tt
-behind_agrees (line.Numbered numbered) payload = agrees_then None (numbered_meaning numbered payload) _ (numbered_frame_agrees numbered payload) (λ frame. tt)
+behind_agrees (line.Numbered line_of_fields) payload = agrees_then None (numbered_meaning line_of_fields payload) _ (numbered_frame_agrees line_of_fields payload) (λ frame. tt)
 
 -- ---- frames
 
 pub frame_agrees : (line payload : List ℕ) → Agrees (line_cause line) (frame_meaning line payload)
 unfolding frame_meaning
 frame_agrees line payload = agrees_then (line_cause line) (line_meaning line) _ (line_agrees line) (λ read.
-    agrees_then None (sized (announced_size read) payload) _ (sized_agrees (announced_size read) payload) (λ fits. behind_agrees read payload))
+    agrees_then None (payload_meaning (announced_size read) payload) _ (sized_agrees (announced_size read) payload) (λ fits. behind_agrees read payload))

@@ -12,7 +12,7 @@ use Rattle.route_frames.specs.declared.faults.RouteFault.TheVariants.{BadArgs, B
 use Rattle.route_frames.specs.declared.greetings.Dial.{Dial}
 use Rattle.route_frames.specs.declared.greetings.Whole.{Whole}
 use Rattle.route_frames.specs.declared.greetings.Whole.TheVariants as whole
-use Rattle.route_frames.specs.Canonical.{counted}
+use Rattle.route_frames.specs.Canonical.{number_data}
 use Rattle.route_frames.specs.Greetings.{json_of, object_of, whole_of, whole_at, whole_in_range, whole_number, incarnation_in, node_at, info_in, dial_in, connect_in, info_of, connect_text_of}
 use Rattle.route_frames.specs.Spelling.{HasInfo, HasConnect}
 use Rattle.route_frames.proofs.Spelt.Chains.{step_ok, ok_same, found_ok, where_ok, where_some, some_same}
@@ -56,11 +56,11 @@ member_string (Some (string s)) text e = ap (λ s. Some (string s)) (some_same s
 member_string (Some (array ds)) text e = absurd (cc)
 member_string (Some (object ms)) text e = absurd (cc)
 
-member_is : (key : List ℕ) (json : Data) (n : ℕ) → whole_at key json ≡ whole.Number n → get key json ≡ Some (counted n)
+member_is : (key : List ℕ) (json : Data) (n : ℕ) → whole_at key json ≡ whole.Number n → get key json ≡ Some (number_data n)
 member_is key json n e = member_number (get key json) (unsigned n) (num_read (option_and_then as_number (get key json)) n e)
 
 record LifeRead (key : List ℕ) (json : Data) (inc : ℕ) : Type 0 where
-  pub member : get key json ≡ Some (counted inc)
+  pub member : get key json ≡ Some (number_data inc)
   pub valid : IsIncarnation inc
 
 life_read : (most : ℕ) (key : List ℕ) (json : Data) (found : Whole) (inc : ℕ) → whole_in_range most (whole_at key json) ≡ Ok found → incarnation_in found ≡ Ok inc → LifeRead key json inc
@@ -120,7 +120,7 @@ info_read text info e =
 record DialIn (json : Data) (dial : Dial) : Type 0 where
   pub inc : LifeRead (codes "inc") json dial.inc
   pub to_inc : LifeRead (codes "to_inc") json dial.to_inc
-  pub serial : get (codes "serial") json ≡ Some (counted dial.serial)
+  pub serial : get (codes "serial") json ≡ Some (number_data dial.serial)
 
 dial_found : (json : Data) (dial : Dial) → dial_in json ≡ Ok dial → DialIn json dial
 unfolding dial_in

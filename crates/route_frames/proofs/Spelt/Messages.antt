@@ -13,7 +13,7 @@ use Rattle.route_frames.specs.declared.line_reading.TheConstants.{SIZE_DIGITS}
 use Rattle.route_frames.specs.declared.lines.LineBody.TheVariants as said
 use Rattle.route_frames.specs.declared.lines.NumberedLine.{NumberedLine}
 use Rattle.route_frames.specs.CommonFields.{CommonFields, digits_of, within, numbers_of, numbers_in_range, name_of}
-use Rattle.route_frames.specs.Arguments.{Form, MessageFields, split_last_of, replied, form_between, form_of, message_form, message_fields}
+use Rattle.route_frames.specs.Arguments.{Form, MessageFields, split_last_of, reply_form, form_between, form_of, message_form, message_fields}
 use Rattle.route_frames.specs.NumberedLines.{account_of, optional, are_names, queue_names_in, message_fields_in, message_line}
 use Rattle.route_frames.specs.Canonical.{form_fields}
 use Rattle.route_frames.specs.Spelling.{SpellsSize}
@@ -32,12 +32,12 @@ FormIs fields form = fields ≡ form_fields form.reply form.names ++ form.size �
 form_same : (fields : List (List ℕ)) (found form : Form) → Some found ≡ Some form → FormIs fields found → FormIs fields form
 form_same fields found form e is = subst (FormIs fields) (some_same found form e) is
 
-replied_is : (reply : List ℕ) (names : List (List ℕ)) (size : List ℕ) (form : Form) → replied reply names size ≡ Some form → FormIs (codes "+" ∷ reply ∷ (names ++ size ∷ [])) form
+replied_is : (reply : List ℕ) (names : List (List ℕ)) (size : List ℕ) (form : Form) → reply_form reply names size ≡ Some form → FormIs (codes "+" ∷ reply ∷ (names ++ size ∷ [])) form
 replied_is reply [] size form e = absurd (cc)
 replied_is reply (name ∷ names) size form e = form_same (codes "+" ∷ reply ∷ name ∷ (names ++ size ∷ [])) (record { reply = Some reply; names = name ∷ names; size = size }) form e refl
 
 marked_is : (bar plus : Bool) (mark field : List ℕ) (fields : List (List ℕ)) (size : List ℕ) (form : Form) → bytes_eq mark (codes "|") ≡ bar → bytes_eq mark (codes "+") ≡ plus
-    → cond bar (Some (record { reply = None; names = field ∷ fields; size = size })) (cond plus (replied field fields size) None) ≡ Some form → FormIs (mark ∷ field ∷ (fields ++ size ∷ [])) form
+    → cond bar (Some (record { reply = None; names = field ∷ fields; size = size })) (cond plus (reply_form field fields size) None) ≡ Some form → FormIs (mark ∷ field ∷ (fields ++ size ∷ [])) form
 marked_is true plus mark field fields size form is_bar is_plus e =
     subst (λ mark. FormIs (mark ∷ field ∷ (fields ++ size ∷ [])) form) (sym ((bytes_eq-Decides mark (codes "|")).0 is_bar))
     (form_same (codes "|" ∷ field ∷ (fields ++ size ∷ [])) (record { reply = None; names = field ∷ fields; size = size }) form e refl)

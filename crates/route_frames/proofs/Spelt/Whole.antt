@@ -26,9 +26,9 @@ use Rattle.route_frames.specs.Meaning.{Meaning}
 use Rattle.route_frames.specs.Operations.{word_of, operation_of}
 use Rattle.route_frames.specs.CommonFields.{CommonFields, common_fields}
 use Rattle.route_frames.specs.NumberedLines.{plus_line, minus_line, snapshot_line, message_line}
-use Rattle.route_frames.specs.Lines.{numbered, operation_meaning, fields_meaning, line_meaning, body_size, announced_size}
+use Rattle.route_frames.specs.Lines.{line_of_fields, operation_meaning, fields_meaning, line_meaning, body_size, announced_size}
 use Rattle.route_frames.specs.SnapshotTexts.{snapshot_in}
-use Rattle.route_frames.specs.Decoding.{sized, body_meaning, numbered_meaning, frame_behind, frame_meaning, is_snapshot_body}
+use Rattle.route_frames.specs.Decoding.{payload_meaning, body_meaning, numbered_meaning, frame_behind, frame_meaning, is_snapshot_body}
 use Rattle.route_frames.specs.Greetings.{info_of, connect_text_of}
 use Rattle.route_frames.specs.Spelling.{Spells, SpellsBehind, body_announces, frame_word, SpellsText, SpellsLine, SpellsPayload, announces}
 use Rattle.route_frames.specs.Refusals.{Announces}
@@ -77,15 +77,15 @@ line_read text read e = line_read_by text (line_fields text) read refl e
 abbrev Carries : RouteLine → RouteFrame → Option ℕ → Type 0
 Carries (line.Info info) frame size = (frame ≡ route.Info info) × (size ≡ None)
 Carries (line.Connect connect) frame size = (frame ≡ route.Connect connect) × (size ≡ None)
-Carries (line.Numbered numbered) frame size = (body : Body) × (frame ≡ route.Numbered (frame_in numbered body)) × Fits numbered.body body size
+Carries (line.Numbered line_of_fields) frame size = (body : Body) × (frame ≡ route.Numbered (frame_in line_of_fields body)) × Fits line_of_fields.body body size
 
 record Spelt (word behind : List ℕ) (frame : RouteFrame) (size : Option ℕ) : Type 0 where
   pub has_word : frame_word frame ≡ word
   pub says : SpellsText frame size behind
   pub valid : IsRouteFrame frame
 
-Numbered_spelt : (word behind : List ℕ) (numbered : NumberedLine) (frame : RouteFrame) (size : Option ℕ) → ((body : Body) → Fits numbered.body body size → LineSpells word (fields behind) numbered body size) → Carries (line.Numbered numbered) frame size → Spelt word behind frame size
-Numbered_spelt word behind numbered frame size spells carries =
+Numbered_spelt : (word behind : List ℕ) (line_of_fields : NumberedLine) (frame : RouteFrame) (size : Option ℕ) → ((body : Body) → Fits line_of_fields.body body size → LineSpells word (fields behind) line_of_fields body size) → Carries (line.Numbered line_of_fields) frame size → Spelt word behind frame size
+Numbered_spelt word behind line_of_fields frame size spells carries =
     let spelt = spells carries.0 carries.2 in
     subst (λ frame. Spelt word behind frame size) (sym carries.1) (record { has_word = spelt.has_word; says = spelt.spells; valid = spelt.valid })
 
@@ -93,9 +93,9 @@ abbrev Behind : Type 0
 Behind = CommonFields → List (List ℕ) → Meaning NumberedLine
 
 abbrev Spelling : List ℕ → Behind → Type 0
-Spelling word behind_common = (all : List (List ℕ)) (split : CommonFields × List (List ℕ)) (numbered : NumberedLine) (body : Body) (size : Option ℕ) → common_fields all ≡ Some split → behind_common split.0 split.1 ≡ Ok numbered → Fits numbered.body body size → LineSpells word all numbered body size
+Spelling word behind_common = (all : List (List ℕ)) (split : CommonFields × List (List ℕ)) (line_of_fields : NumberedLine) (body : Body) (size : Option ℕ) → common_fields all ≡ Some split → behind_common split.0 split.1 ≡ Ok line_of_fields → Fits line_of_fields.body body size → LineSpells word all line_of_fields body size
 
-numbered_spelt : (word behind : List ℕ) (behind_common : Behind) (read : RouteLine) (frame : RouteFrame) (size : Option ℕ) → Spelling word behind_common → numbered behind_common (fields behind) ≡ Ok read → Carries read frame size → Spelt word behind frame size
+numbered_spelt : (word behind : List ℕ) (behind_common : Behind) (read : RouteLine) (frame : RouteFrame) (size : Option ℕ) → Spelling word behind_common → line_of_fields behind_common (fields behind) ≡ Ok read → Carries read frame size → Spelt word behind frame size
 numbered_spelt word behind behind_common read frame size spelling e carries =
     let split = step_ok (ok_or (common_fields (fields behind)) BadArgs) _ read e in
     let found = step_ok (behind_common (split.0).0 (split.0).1) _ read split.2 in
@@ -138,17 +138,17 @@ record BodyRead (read : LineBody) (payload : List ℕ) (body : Body) : Type 0 wh
   pub fits : Fits read body (body_announces body payload)
   pub behind : SpellsBehind body payload
 
-empty_payload : (payload : List ℕ) (fits : Unit {0}) → sized None payload ≡ Ok fits → payload ≡ []
+empty_payload : (payload : List ℕ) (fits : Unit {0}) → payload_meaning None payload ≡ Ok fits → payload ≡ []
 empty_payload [] fits e = refl
 empty_payload (x ∷ xs) fits e = absurd (cc)
 
 nat_same : (a b : ℕ) → nat_eq a b ≡ true → a ≡ b
 nat_same a b e = grind (arith, nat_tests)
 
-whole_payload : (size : ℕ) (payload : List ℕ) (fits : Unit {0}) → sized (Some size) payload ≡ Ok fits → length payload ≡ size
+whole_payload : (size : ℕ) (payload : List ℕ) (fits : Unit {0}) → payload_meaning (Some size) payload ≡ Ok fits → length payload ≡ size
 whole_payload size payload fits e = nat_same (length payload) size (where_ok (nat_eq (length payload) size) BadArgs tt fits e).0
 
-body_read : (read : LineBody) (payload : List ℕ) (body : Body) (fits : Unit {0}) → sized (body_size read) payload ≡ Ok fits → body_meaning read payload ≡ Ok body → BodyRead read payload body
+body_read : (read : LineBody) (payload : List ℕ) (body : Body) (fits : Unit {0}) → payload_meaning (body_size read) payload ≡ Ok fits → body_meaning read payload ≡ Ok body → BodyRead read payload body
 body_read (said.Plus weighted) payload body fits e says =
     subst (BodyRead (said.Plus weighted) payload) (ok_same (Plus weighted) body says) (record { fits = (refl, refl); behind = empty_payload payload fits e })
 body_read (said.Minus key) payload body fits e says =
@@ -169,34 +169,34 @@ record FrameRead (read : RouteLine) (payload : List ℕ) (frame : RouteFrame) : 
   pub carries : Carries read frame (announces frame payload)
   pub behind : SpellsPayload frame payload
 
-numbered_read : (numbered : NumberedLine) (payload : List ℕ) (frame : Frame) (fits : Unit {0}) → sized (body_size numbered.body) payload ≡ Ok fits → numbered_meaning numbered payload ≡ Ok frame → FrameRead (line.Numbered numbered) payload (route.Numbered frame)
+numbered_read : (line_of_fields : NumberedLine) (payload : List ℕ) (frame : Frame) (fits : Unit {0}) → payload_meaning (body_size line_of_fields.body) payload ≡ Ok fits → numbered_meaning line_of_fields payload ≡ Ok frame → FrameRead (line.Numbered line_of_fields) payload (route.Numbered frame)
 unfolding numbered_meaning
-numbered_read numbered payload frame fits e says =
-    let body = step_ok (body_meaning numbered.body payload) _ frame says in
-    let is = (where_some (is_number numbered.numbers.number body.0) (frame_in numbered body.0) frame (found_ok (frame_of numbered.from numbered.numbers.inc numbered.to numbered.numbers.to_inc numbered.numbers.number body.0) BadArgs frame body.2)).1 in
-    let read = body_read numbered.body payload body.0 fits e body.1 in
-    subst (λ frame. FrameRead (line.Numbered numbered) payload (route.Numbered frame)) is (record { carries = (body.0, refl, read.fits); behind = read.behind })
+numbered_read line_of_fields payload frame fits e says =
+    let body = step_ok (body_meaning line_of_fields.body payload) _ frame says in
+    let is = (where_some (is_number line_of_fields.numbers.number body.0) (frame_in line_of_fields body.0) frame (found_ok (frame_of line_of_fields.from line_of_fields.numbers.inc line_of_fields.to line_of_fields.numbers.to_inc line_of_fields.numbers.number body.0) BadArgs frame body.2)).1 in
+    let read = body_read line_of_fields.body payload body.0 fits e body.1 in
+    subst (λ frame. FrameRead (line.Numbered line_of_fields) payload (route.Numbered frame)) is (record { carries = (body.0, refl, read.fits); behind = read.behind })
 
-frame_read : (read : RouteLine) (payload : List ℕ) (frame : RouteFrame) (fits : Unit {0}) → sized (announced_size read) payload ≡ Ok fits → frame_behind read payload ≡ Ok frame → FrameRead read payload frame
+frame_read : (read : RouteLine) (payload : List ℕ) (frame : RouteFrame) (fits : Unit {0}) → payload_meaning (announced_size read) payload ≡ Ok fits → frame_behind read payload ≡ Ok frame → FrameRead read payload frame
 frame_read (line.Info info) payload frame fits e says =
     subst (FrameRead (line.Info info) payload) (ok_same (route.Info info) frame says) (record { carries = (refl, refl); behind = empty_payload payload fits e })
 frame_read (line.Connect connect) payload frame fits e says =
     subst (FrameRead (line.Connect connect) payload) (ok_same (route.Connect connect) frame says) (record { carries = (refl, refl); behind = empty_payload payload fits e })
-frame_read (line.Numbered numbered) payload frame fits e says =
-    let found = step_ok (numbered_meaning numbered payload) _ frame says in
-    subst (FrameRead (line.Numbered numbered) payload) (ok_same (route.Numbered found.0) frame found.2) (numbered_read numbered payload found.0 fits e found.1)
+frame_read (line.Numbered line_of_fields) payload frame fits e says =
+    let found = step_ok (numbered_meaning line_of_fields payload) _ frame says in
+    subst (FrameRead (line.Numbered line_of_fields) payload) (ok_same (route.Numbered found.0) frame found.2) (numbered_read line_of_fields payload found.0 fits e found.1)
 
 pub read_is_spelt : ReadIsSpelt
 unfolding frame_meaning
 read_is_spelt frame text payload e =
     let read = step_ok (line_meaning text) _ frame e in
-    let fits = step_ok (sized (announced_size read.0) payload) _ frame read.2 in
+    let fits = step_ok (payload_meaning (announced_size read.0) payload) _ frame read.2 in
     let found = frame_read read.0 payload frame fits.0 fits.1 fits.2 in
     record { in_line = line_spelt text read.0 frame (announces frame payload) read.1 found.carries; behind = found.behind }
 
 -- ---- a line with a payload of the announced size spells a frame, unless that is a snapshot
 
-body_there : (read : LineBody) (payload : List ℕ) → sized (body_size read) payload ≡ Ok tt → is_snapshot_body read ≡ false → (body : Body) × Fits read body (body_announces body payload) × SpellsBehind body payload
+body_there : (read : LineBody) (payload : List ℕ) → payload_meaning (body_size read) payload ≡ Ok tt → is_snapshot_body read ≡ false → (body : Body) × Fits read body (body_announces body payload) × SpellsBehind body payload
 body_there (said.Plus weighted) payload e other = (Plus weighted, (refl, refl), empty_payload payload tt e)
 body_there (said.Minus key) payload e other = (Minus key, (refl, refl), empty_payload payload tt e)
 body_there (said.Snapshot size) payload e other = absurd (true≢false other)
@@ -204,11 +204,11 @@ body_there (said.Msg subject reply queues size) payload e other =
     let whole = whole_payload size payload tt e in
     (Msg (record { subject = subject; reply = reply; payload = payload }) queues, (payload, refl, whole, ap (λ n. Some n) whole), refl)
 
-pub sized_is_spelt : (text payload : List ℕ) (numbered : NumberedLine) → line_meaning text ≡ Ok (line.Numbered numbered) → sized (body_size numbered.body) payload ≡ Ok tt → is_snapshot_body numbered.body ≡ false → (frame : RouteFrame) × Spells frame text payload
-sized_is_spelt text payload numbered e fits other =
-    let found = body_there numbered.body payload fits other in
-    let frame = route.Numbered (frame_in numbered found.0) in
-    (frame, record { in_line = line_spelt text (line.Numbered numbered) frame (announces frame payload) e (found.0, refl, found.1); behind = found.2 })
+pub sized_is_spelt : (text payload : List ℕ) (line_of_fields : NumberedLine) → line_meaning text ≡ Ok (line.Numbered line_of_fields) → payload_meaning (body_size line_of_fields.body) payload ≡ Ok tt → is_snapshot_body line_of_fields.body ≡ false → (frame : RouteFrame) × Spells frame text payload
+sized_is_spelt text payload line_of_fields e fits other =
+    let found = body_there line_of_fields.body payload fits other in
+    let frame = route.Numbered (frame_in line_of_fields found.0) in
+    (frame, record { in_line = line_spelt text (line.Numbered line_of_fields) frame (announces frame payload) e (found.0, refl, found.1); behind = found.2 })
 
 -- ---- a line alone: some frame has it
 
@@ -225,7 +225,7 @@ body_example (said.Msg subject reply queues size) = (Msg (record { subject = sub
 example : (read : RouteLine) → Example read
 example (line.Info info) = record { frame = route.Info info; carries = (refl, refl) }
 example (line.Connect connect) = record { frame = route.Connect connect; carries = (refl, refl) }
-example (line.Numbered numbered) = let found = body_example numbered.body in record { frame = route.Numbered (frame_in numbered found.0); carries = (found.0, refl, found.1) }
+example (line.Numbered line_of_fields) = let found = body_example line_of_fields.body in record { frame = route.Numbered (frame_in line_of_fields found.0); carries = (found.0, refl, found.1) }
 
 pub told_is_announced : ToldIsAnnounced
 told_is_announced text size e =

@@ -1,5 +1,5 @@
 -- What holds of each connection whatever waits for it: its limits, and that its number is of its shard.
-use Rattle.std.proofs.Common.{◌≡◌, ℕ, ◌+◌, ◌-◌, ◌%◌, ◌*◌, ◌<◌, ◌≤◌, arith, ap, ◌∙◌, ⊎_elim, Bool, true, false, cond, not, List, [], ◌∷◌, Option, Some, None, Result, Ok, Err, refl, sym, subst, inl, inr}
+use Rattle.std.proofs.Common.{◌≡◌, ◌++◌, ℕ, ◌+◌, ◌-◌, ◌%◌, ◌*◌, ◌<◌, ◌≤◌, arith, ap, ◌∙◌, ⊎_elim, Bool, true, false, cond, not, List, [], ◌∷◌, Option, Some, None, Result, Ok, Err, refl, sym, subst, inl, inr}
 use Rattle.std.specs.Prelude.{filter}
 use Rattle.std.specs.Option.{option_or}
 use Rattle.list_laws.specs.Lists.{In, Each, Pairs}
@@ -11,10 +11,10 @@ use Rattle.outbox.specs.Views.{Backlog, with_entry, with_last, without_first, re
 use Rattle.sub_table.specs.declared.Subscription.{Subscription}
 use Rattle.subj.specs.declared.jobs.Job.{Job}
 use Rattle.shard_core.specs.declared.faults.ShardFault.{ShardFault}
-use Rattle.shard_core.specs.Shards.{State, Client, new_shard, has_number, client_at, is_open, with_outbox, changed, detached, fits}
-use Rattle.shard_core.specs.Owed.{Walk, walk, is_due, first_step, put_one, give, shut_slow, due_entry, slow_consumer, candidate_of, claimed}
+use Rattle.shard_core.specs.Shards.{State, Client, new_shard, has_number, client_at, is_open, with_outbox, clients_with_change, without_client, fits}
+use Rattle.shard_core.specs.Owed.{Walk, walk, is_due, first_step, walk_after_put, walk_with_entry, walk_with_shut, due_entry, slow_consumer, candidate_of, after_claim}
 use Rattle.shard_core.specs.ShardEvents.{Event, Attach, Subscribe, Unsubscribe, Reply, Shut, Detach, Take, Begin, Claim, End, DropJob, Collect, Answer}
-use Rattle.shard_core.specs.ShardSteps.{called, new_client, new_sub, subscribed, ended_now, unsubscribed, answer_fits, done_with, shard_after, IsStep}
+use Rattle.shard_core.specs.ShardSteps.{sub_called, new_client, new_sub, after_subscribe, ended_now, after_unsubscribe, answer_fits, done_with, shard_after, IsStep}
 use Rattle.shard_core.specs.Limits.{HasLimits, LimitsStay}
 use Rattle.shard_core.specs.Causes.{IsOwn, HasOwnNumbers, NumbersTellShards}
 use Rattle.shard_core.proofs.Closings.Causes.{fixed}
@@ -22,33 +22,33 @@ use Rattle.std.proofs.Math.Nat.{add-mod_right}
 use Rattle.std.proofs.lemmas.Nat.{mod-mul-add}
 
 -- what does not depend on what waits, of each connection
-changed_each : (P : Client → Type 0) → ((change : Backlog → Backlog) (x : Client) → P x → P (with_outbox change x)) → (change : Backlog → Backlog) (k : ℕ) (xs : List Client) → Each P xs → Each P (changed change k xs)
+changed_each : (P : Client → Type 0) → ((change : Backlog → Backlog) (x : Client) → P x → P (with_outbox change x)) → (change : Backlog → Backlog) (k : ℕ) (xs : List Client) → Each P xs → Each P (clients_with_change change k xs)
 changed_each P stays change k [] h = h
 changed_each P stays change k (x ∷ xs) h = go (changed_each P stays change k xs (λ y i. h y (inr i))) (has_number k x)
   where
     here : P (with_outbox change x)
     here = stays change x (h x (inl refl))
 
-    go : Each P (changed change k xs) → (b : Bool) → Each P (cond b (with_outbox change x ∷ xs) (x ∷ changed change k xs))
+    go : Each P (clients_with_change change k xs) → (b : Bool) → Each P (cond b (with_outbox change x ∷ xs) (x ∷ clients_with_change change k xs))
     go below true = each_cons P (with_outbox change x) xs here (λ y i. h y (inr i))
-    go below false = each_cons P x (changed change k xs) (h x (inl refl)) below
+    go below false = each_cons P x (clients_with_change change k xs) (h x (inl refl)) below
 
-detached_each : (P : Client → Type 0) (k : ℕ) (xs : List Client) → Each P xs → Each P (detached k xs)
+detached_each : (P : Client → Type 0) (k : ℕ) (xs : List Client) → Each P xs → Each P (without_client k xs)
 detached_each P k xs h = λ y i. h y (in_filter (λ client. not (has_number k client)) xs y i).0
 
 -- and what also holds of fewer connections
-module _ (Q : List Client → Type 0) (changes : (change : Backlog → Backlog) (k : ℕ) (xs : List Client) → Q xs → Q (changed change k xs)) (detaches : (k : ℕ) (xs : List Client) → Q xs → Q (detached k xs)) where
-  put_has : (s : State) (job : Job) (w : Walk) (u : Subscription) → Q w.clients → Q (put_one s job w u).clients
+module _ (Q : List Client → Type 0) (changes : (change : Backlog → Backlog) (k : ℕ) (xs : List Client) → Q xs → Q (clients_with_change change k xs)) (detaches : (k : ℕ) (xs : List Client) → Q xs → Q (without_client k xs)) where
+  put_has : (s : State) (job : Job) (w : Walk) (u : Subscription) → Q w.clients → Q (walk_after_put s job w u).clients
   put_has s job w u h = go (is_open u.conn w.clients) (fits (client_at u.conn w.clients) (due_entry s.shard job None u))
     where
-      go : (o r : Bool) → Q (cond o (cond r (give (due_entry s.shard job None u) u w) (shut_slow s.subs u.conn w)) w).clients
+      go : (o r : Bool) → Q (cond o (cond r (walk_with_entry (due_entry s.shard job None u) u w) (walk_with_shut s.subs u.conn w)) w).clients
       go true true = changes (with_entry (due_entry s.shard job None u)) u.conn w.clients h
       go true false = changes (with_last slow_consumer) u.conn w.clients h
       go false r = h
 
   walk_has : (s : State) (job : Job) (due : List Subscription) (w : Walk) → Q w.clients → Q (walk s job due w).clients
   walk_has s job [] w h = h
-  walk_has s job (u ∷ due) w h = walk_has s job due (put_one s job w u) (put_has s job w u h)
+  walk_has s job (u ∷ due) w h = walk_has s job due (walk_after_put s job w u) (put_has s job w u h)
 
   either : (x y : State) (b : Bool) → Q x.clients → Q y.clients → Q (cond b x y).clients
   either x y true f g = f
@@ -56,14 +56,14 @@ module _ (Q : List Client → Type 0) (changes : (change : Backlog → Backlog) 
 
   keeps : (s : State) (e : Event) → (e ≡ Attach → Q (s.clients ++ new_client s.next_conn ∷ [])) → Q s.clients → Q (shard_after s e).clients
   keeps s Attach new h = new refl
-  keeps s (Subscribe conn key sid) new h = go (called conn sid s.subs)
+  keeps s (Subscribe conn key sid) new h = go (sub_called conn sid s.subs)
     where
-      go : (u : Option Subscription) → Q (subscribed s (new_sub s conn key sid) u).clients
+      go : (u : Option Subscription) → Q (after_subscribe s (new_sub s conn key sid) u).clients
       go None = h
       go (Some u) = h
-  keeps s (Unsubscribe conn sid max) new h = go (called conn sid s.subs)
+  keeps s (Unsubscribe conn sid max) new h = go (sub_called conn sid s.subs)
     where
-      go : (u : Option Subscription) → Q (unsubscribed s max u).clients
+      go : (u : Option Subscription) → Q (after_unsubscribe s max u).clients
       go None = h
       go (Some u) = either _ _ (ended_now max u) h h
   keeps s (Reply conn frame) new h = either _ _ (answer_fits s conn (reply_line frame)) (changes (with_entry (reply_entry (reply_line frame))) conn s.clients h) (changes (with_last slow_consumer) conn s.clients h)
@@ -73,7 +73,7 @@ module _ (Q : List Client → Type 0) (changes : (change : Backlog → Backlog) 
   keeps s (Begin job) new h = walk_has s job (filter (is_due job) s.subs) (first_step s.clients) h
   keeps s (Claim index won) new h = go s.hand (candidate_of s s.hand index) won
     where
-      go : (hand : Option Job) (u : Option Subscription) (b : Bool) → Q (claimed s hand u b).clients
+      go : (hand : Option Job) (u : Option Subscription) (b : Bool) → Q (after_claim s hand u b).clients
       go None u b = h
       go (Some job) None b = h
       go (Some job) (Some u) true = changes (with_entry (due_entry s.shard job u.key.queue u)) u.conn s.clients h
@@ -132,14 +132,14 @@ abbrev Rise : Client → Client → Type 0
 Rise older newer = older.number < newer.number
 
 -- a connection keeps its number, whatever waits for it
-in_changed : (change : Backlog → Backlog) (k : ℕ) (xs : List Client) (y : Client) → In y (changed change k xs) → (x : Client) × In x xs × (y.number ≡ x.number)
+in_changed : (change : Backlog → Backlog) (k : ℕ) (xs : List Client) (y : Client) → In y (clients_with_change change k xs) → (x : Client) × In x xs × (y.number ≡ x.number)
 in_changed change k xs y i = changed_each (λ z. (x : Client) × In x xs × (z.number ≡ x.number)) (λ change z h. h) change k xs (λ x j. (x, j, refl)) y i
 
-changed_rise : (change : Backlog → Backlog) (k : ℕ) (xs : List Client) → Pairs Rise xs → Pairs Rise (changed change k xs)
+changed_rise : (change : Backlog → Backlog) (k : ℕ) (xs : List Client) → Pairs Rise xs → Pairs Rise (clients_with_change change k xs)
 changed_rise change k [] h = h
 changed_rise change k (x ∷ xs) h = go (changed_rise change k xs h.1) (has_number k x)
   where
-    go : Pairs Rise (changed change k xs) → (b : Bool) → Pairs Rise (cond b (with_outbox change x ∷ xs) (x ∷ changed change k xs))
+    go : Pairs Rise (clients_with_change change k xs) → (b : Bool) → Pairs Rise (cond b (with_outbox change x ∷ xs) (x ∷ clients_with_change change k xs))
     go below true = ((λ y i. h.0 y i), h.1)
     go below false = ((λ y i. let was = in_changed change k xs y i in let lt : x.number < was.0.number = h.0 was.0 was.1 in let same : y.number ≡ was.0.number = was.2 in omega arith), below)
 

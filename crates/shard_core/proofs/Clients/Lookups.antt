@@ -6,8 +6,8 @@ use Rattle.std.specs.List.{position_or_len}
 use Rattle.std.proofs.lemmas.Bool.Decides.{nat_tests}
 use Rattle.outbox.specs.Views.{Waiting, Backlog, Written, has_room}
 use Rattle.shard_core.specs.declared.connections.Conn.{Conn}
-use Rattle.shard_core.specs.Shards.{Client, client_at, changed, with_outbox, detached, fits, is_open, takes_events, entries_of, waits_for}
-use Rattle.shard_core.specs.Boxes.{seen, shown_shelf, next_shelf, number_of}
+use Rattle.shard_core.specs.Shards.{Client, client_at, clients_with_change, with_outbox, without_client, fits, is_open, takes_events, entries_of, waits_for}
+use Rattle.shard_core.specs.Boxes.{client_in_view, shown_backlog, next_backlog, number_of}
 
 -- an outbox that changes leaves the numbers
 pub numbers_stay : (conns : List Conn) (i : ℕ) (r : Conn) (box : Waiting) → map number_of (slice_set conns i (record { number = (slice_index_or conns i r).number; outbox = box })) ≡ map number_of conns
@@ -32,95 +32,95 @@ set_next : {A : Type 0} (x : A) (xs : List A) (k : ℕ) (y : A) → slice_set (x
 set_next x xs k y = let e : 1 + k ≡ suc k = omega arith in ap (λ n. slice_set (x ∷ xs) n y) e
 
 module _ (backlog : Waiting → Backlog) (n : ℕ) where
-  none_past : (conns : List Conn) → length conns ≤ position_or_len (has_conn n) conns → client_at n (map (seen backlog) conns) ≡ None
+  none_past : (conns : List Conn) → length conns ≤ position_or_len (has_conn n) conns → client_at n (map (client_in_view backlog) conns) ≡ None
   none_past [] over = refl
   none_past (c ∷ cs) over =
-      elim (c.number == n) as (λ b. length (c ∷ cs) ≤ cond (not b) (1 + position_or_len (has_conn n) cs) 0 → cond b (Some (seen backlog c)) (client_at n (map (seen backlog) cs)) ≡ None) [
+      elim (c.number == n) as (λ b. length (c ∷ cs) ≤ cond (not b) (1 + position_or_len (has_conn n) cs) 0 → cond b (Some (client_in_view backlog c)) (client_at n (map (client_in_view backlog) cs)) ≡ None) [
         | true ↦ λ le. absurd (omega arith)
         | false ↦ λ le. none_past cs (omega arith)
       ] over
 
-  same_past : (change : Backlog → Backlog) (conns : List Conn) → length conns ≤ position_or_len (has_conn n) conns → changed change n (map (seen backlog) conns) ≡ map (seen backlog) conns
+  same_past : (change : Backlog → Backlog) (conns : List Conn) → length conns ≤ position_or_len (has_conn n) conns → clients_with_change change n (map (client_in_view backlog) conns) ≡ map (client_in_view backlog) conns
   same_past change [] over = refl
   same_past change (c ∷ cs) over =
-      elim (c.number == n) as (λ b. length (c ∷ cs) ≤ cond (not b) (1 + position_or_len (has_conn n) cs) 0 → cond b (with_outbox change (seen backlog c) ∷ map (seen backlog) cs) (seen backlog c ∷ changed change n (map (seen backlog) cs)) ≡ seen backlog c ∷ map (seen backlog) cs) [
+      elim (c.number == n) as (λ b. length (c ∷ cs) ≤ cond (not b) (1 + position_or_len (has_conn n) cs) 0 → cond b (with_outbox change (client_in_view backlog c) ∷ map (client_in_view backlog) cs) (client_in_view backlog c ∷ clients_with_change change n (map (client_in_view backlog) cs)) ≡ client_in_view backlog c ∷ map (client_in_view backlog) cs) [
         | true ↦ λ le. absurd (omega arith)
-        | false ↦ λ le. ap (λ l. seen backlog c ∷ l) (same_past change cs (omega arith))
+        | false ↦ λ le. ap (λ l. client_in_view backlog c ∷ l) (same_past change cs (omega arith))
       ] over
 
-  some_there : (conns : List Conn) (d : Conn) → position_or_len (has_conn n) conns < length conns → client_at n (map (seen backlog) conns) ≡ Some (seen backlog (get_or conns (position_or_len (has_conn n) conns) d))
+  some_there : (conns : List Conn) (d : Conn) → position_or_len (has_conn n) conns < length conns → client_at n (map (client_in_view backlog) conns) ≡ Some (client_in_view backlog (get_or conns (position_or_len (has_conn n) conns) d))
   some_there [] d lt = absurd (omega arith)
   some_there (c ∷ cs) d lt =
-      elim (c.number == n) as (λ b. cond (not b) (1 + position_or_len (has_conn n) cs) 0 < length (c ∷ cs) → cond b (Some (seen backlog c)) (client_at n (map (seen backlog) cs)) ≡ Some (seen backlog (get_or (c ∷ cs) (cond (not b) (1 + position_or_len (has_conn n) cs) 0) d))) [
+      elim (c.number == n) as (λ b. cond (not b) (1 + position_or_len (has_conn n) cs) 0 < length (c ∷ cs) → cond b (Some (client_in_view backlog c)) (client_at n (map (client_in_view backlog) cs)) ≡ Some (client_in_view backlog (get_or (c ∷ cs) (cond (not b) (1 + position_or_len (has_conn n) cs) 0) d))) [
         | true ↦ λ le. refl
-        | false ↦ λ le. some_there cs d (omega arith) ∙ sym (ap (λ (x : Conn). Some (seen backlog x)) (get_next c cs (position_or_len (has_conn n) cs) d))
+        | false ↦ λ le. some_there cs d (omega arith) ∙ sym (ap (λ (x : Conn). Some (client_in_view backlog x)) (get_next c cs (position_or_len (has_conn n) cs) d))
       ] lt
 
-  changed_there : (change : Backlog → Backlog) (conns : List Conn) (d y : Conn) → position_or_len (has_conn n) conns < length conns → seen backlog y ≡ with_outbox change (seen backlog (get_or conns (position_or_len (has_conn n) conns) d)) → map (seen backlog) (slice_set conns (position_or_len (has_conn n) conns) y) ≡ changed change n (map (seen backlog) conns)
+  changed_there : (change : Backlog → Backlog) (conns : List Conn) (d y : Conn) → position_or_len (has_conn n) conns < length conns → client_in_view backlog y ≡ with_outbox change (client_in_view backlog (get_or conns (position_or_len (has_conn n) conns) d)) → map (client_in_view backlog) (slice_set conns (position_or_len (has_conn n) conns) y) ≡ clients_with_change change n (map (client_in_view backlog) conns)
   changed_there change [] d y lt made = absurd (omega arith)
   changed_there change (c ∷ cs) d y lt made =
-      elim (c.number == n) as (λ b. cond (not b) (1 + position_or_len (has_conn n) cs) 0 < length (c ∷ cs) → seen backlog y ≡ with_outbox change (seen backlog (get_or (c ∷ cs) (cond (not b) (1 + position_or_len (has_conn n) cs) 0) d)) → map (seen backlog) (slice_set (c ∷ cs) (cond (not b) (1 + position_or_len (has_conn n) cs) 0) y) ≡ cond b (with_outbox change (seen backlog c) ∷ map (seen backlog) cs) (seen backlog c ∷ changed change n (map (seen backlog) cs))) [
-        | true ↦ λ le is. ap (λ v. v ∷ map (seen backlog) cs) is
-        | false ↦ λ le is. ap (map (seen backlog)) (set_next c cs (position_or_len (has_conn n) cs) y) ∙ ap (λ l. seen backlog c ∷ l) (changed_there change cs d y (omega arith) (is ∙ ap (λ (x : Conn). with_outbox change (seen backlog x)) (get_next c cs (position_or_len (has_conn n) cs) d)))
+      elim (c.number == n) as (λ b. cond (not b) (1 + position_or_len (has_conn n) cs) 0 < length (c ∷ cs) → client_in_view backlog y ≡ with_outbox change (client_in_view backlog (get_or (c ∷ cs) (cond (not b) (1 + position_or_len (has_conn n) cs) 0) d)) → map (client_in_view backlog) (slice_set (c ∷ cs) (cond (not b) (1 + position_or_len (has_conn n) cs) 0) y) ≡ cond b (with_outbox change (client_in_view backlog c) ∷ map (client_in_view backlog) cs) (client_in_view backlog c ∷ clients_with_change change n (map (client_in_view backlog) cs))) [
+        | true ↦ λ le is. ap (λ v. v ∷ map (client_in_view backlog) cs) is
+        | false ↦ λ le is. ap (map (client_in_view backlog)) (set_next c cs (position_or_len (has_conn n) cs) y) ∙ ap (λ l. client_in_view backlog c ∷ l) (changed_there change cs d y (omega arith) (is ∙ ap (λ (x : Conn). with_outbox change (client_in_view backlog x)) (get_next c cs (position_or_len (has_conn n) cs) d)))
       ] lt made
 
   -- ---- by the place that was found
 
-  pub client_none : (conns : List Conn) → position (λ (x : Conn). x.number == n) conns ≡ None → client_at n (map (seen backlog) conns) ≡ None
+  pub client_none : (conns : List Conn) → position (λ (x : Conn). x.number == n) conns ≡ None → client_at n (map (client_in_view backlog) conns) ≡ None
   client_none conns none = none_past conns (past (position_or_len (has_conn n) conns) (length conns) none)
 
-  pub client_some : (conns : List Conn) (i : ℕ) (d : Conn) → position (λ (x : Conn). x.number == n) conns ≡ Some i → client_at n (map (seen backlog) conns) ≡ Some (seen backlog (slice_index_or conns i d))
+  pub client_some : (conns : List Conn) (i : ℕ) (d : Conn) → position (λ (x : Conn). x.number == n) conns ≡ Some i → client_at n (map (client_in_view backlog) conns) ≡ Some (client_in_view backlog (slice_index_or conns i d))
   client_some conns i d at =
       let is = within (position_or_len (has_conn n) conns) (length conns) i at in
-      some_there conns d is.0 ∙ ap (λ k. Some (seen backlog (get_or conns k d))) is.1
+      some_there conns d is.0 ∙ ap (λ k. Some (client_in_view backlog (get_or conns k d))) is.1
 
-  pub changed_none : (change : Backlog → Backlog) (conns : List Conn) → position (λ (x : Conn). x.number == n) conns ≡ None → changed change n (map (seen backlog) conns) ≡ map (seen backlog) conns
+  pub changed_none : (change : Backlog → Backlog) (conns : List Conn) → position (λ (x : Conn). x.number == n) conns ≡ None → clients_with_change change n (map (client_in_view backlog) conns) ≡ map (client_in_view backlog) conns
   changed_none change conns none = same_past change conns (past (position_or_len (has_conn n) conns) (length conns) none)
 
-  pub changed_some : (change : Backlog → Backlog) (conns : List Conn) (i : ℕ) (d y : Conn) → position (λ (x : Conn). x.number == n) conns ≡ Some i → seen backlog y ≡ with_outbox change (seen backlog (slice_index_or conns i d)) → map (seen backlog) (slice_set conns i y) ≡ changed change n (map (seen backlog) conns)
+  pub changed_some : (change : Backlog → Backlog) (conns : List Conn) (i : ℕ) (d y : Conn) → position (λ (x : Conn). x.number == n) conns ≡ Some i → client_in_view backlog y ≡ with_outbox change (client_in_view backlog (slice_index_or conns i d)) → map (client_in_view backlog) (slice_set conns i y) ≡ clients_with_change change n (map (client_in_view backlog) conns)
   changed_some change conns i d y at made =
       let is = within (position_or_len (has_conn n) conns) (length conns) i at in
-      ap (λ k. map (seen backlog) (slice_set conns k y)) (sym is.1) ∙ changed_there change conns d y is.0 (made ∙ ap (λ k. with_outbox change (seen backlog (get_or conns k d))) (sym is.1))
+      ap (λ k. map (client_in_view backlog) (slice_set conns k y)) (sym is.1) ∙ changed_there change conns d y is.0 (made ∙ ap (λ k. with_outbox change (client_in_view backlog (get_or conns k d))) (sym is.1))
 
   -- a connection goes
-  pub detached_is : (conns : List Conn) → map (seen backlog) (filter (λ (x : Conn). not (x.number == n)) conns) ≡ detached n (map (seen backlog) conns)
+  pub detached_is : (conns : List Conn) → map (client_in_view backlog) (filter (λ (x : Conn). not (x.number == n)) conns) ≡ without_client n (map (client_in_view backlog) conns)
   detached_is [] = refl
-  detached_is (c ∷ cs) = elim (c.number == n) as (λ b. map (seen backlog) (cond (not b) (c ∷ filter (λ (x : Conn). not (x.number == n)) cs) (filter (λ (x : Conn). not (x.number == n)) cs)) ≡ cond (not b) (seen backlog c ∷ detached n (map (seen backlog) cs)) (detached n (map (seen backlog) cs))) [
+  detached_is (c ∷ cs) = elim (c.number == n) as (λ b. map (client_in_view backlog) (cond (not b) (c ∷ filter (λ (x : Conn). not (x.number == n)) cs) (filter (λ (x : Conn). not (x.number == n)) cs)) ≡ cond (not b) (client_in_view backlog c ∷ without_client n (map (client_in_view backlog) cs)) (without_client n (map (client_in_view backlog) cs))) [
     | true ↦ detached_is cs
-    | false ↦ ap (λ l. seen backlog c ∷ l) (detached_is cs)
+    | false ↦ ap (λ l. client_in_view backlog c ∷ l) (detached_is cs)
   ]
 
 -- one of the backlogs is left as it was
-pub same_seen : (backlog : Waiting → Backlog) (conns : List Conn) (i : ℕ) (d y : Conn) → seen backlog y ≡ seen backlog (slice_index_or conns i d) → map (seen backlog) (slice_set conns i y) ≡ map (seen backlog) conns
-same_seen backlog conns i d y same = map-set_same (seen backlog) conns i y d same
+pub same_seen : (backlog : Waiting → Backlog) (conns : List Conn) (i : ℕ) (d y : Conn) → client_in_view backlog y ≡ client_in_view backlog (slice_index_or conns i d) → map (client_in_view backlog) (slice_set conns i y) ≡ map (client_in_view backlog) conns
+same_seen backlog conns i d y same = map-set_same (client_in_view backlog) conns i y d same
 
 -- ---- the connection that is written to
 
 module _ (backlog : Waiting → Backlog) (n : ℕ) (conns : List Conn) (i : ℕ) (x : Conn) (at : position (λ (c : Conn). c.number == n) conns ≡ Some i) (is : x ≡ slice_index_or conns i x) where
-  pub client_is : client_at n (map (seen backlog) conns) ≡ Some (seen backlog x)
-  client_is = client_some backlog n conns i x at ∙ ap (λ (y : Conn). Some (seen backlog y)) (sym is)
+  pub client_is : client_at n (map (client_in_view backlog) conns) ≡ Some (client_in_view backlog x)
+  client_is = client_some backlog n conns i x at ∙ ap (λ (y : Conn). Some (client_in_view backlog y)) (sym is)
 
-  pub room_is : (entry : Written) → fits (client_at n (map (seen backlog) conns)) entry ≡ has_room x.outbox.max_entries x.outbox.max_bytes (length entry.bytes) (backlog x.outbox)
+  pub room_is : (entry : Written) → fits (client_at n (map (client_in_view backlog) conns)) entry ≡ has_room x.outbox.max_entries x.outbox.max_bytes (length entry.bytes) (backlog x.outbox)
   room_is entry = ap (λ o. fits o entry) client_is
 
-  pub open_is : is_open n (map (seen backlog) conns) ≡ not (backlog x.outbox).shut
+  pub open_is : is_open n (map (client_in_view backlog) conns) ≡ not (backlog x.outbox).shut
   open_is = ap takes_events client_is
 
-  pub waits_is : waits_for n (map (seen backlog) conns) ≡ (backlog x.outbox).entries
+  pub waits_is : waits_for n (map (client_in_view backlog) conns) ≡ (backlog x.outbox).entries
   waits_is = ap entries_of client_is
 
-  pub changed_is : (change : Backlog → Backlog) (box : Waiting) → seen backlog (record { number = x.number; outbox = box }) ≡ with_outbox change (seen backlog x) → map (seen backlog) (slice_set conns i (record { number = x.number; outbox = box })) ≡ changed change n (map (seen backlog) conns)
-  changed_is change box made = changed_some backlog n change conns i x (record { number = x.number; outbox = box }) at (made ∙ ap (λ (y : Conn). with_outbox change (seen backlog y)) is)
+  pub changed_is : (change : Backlog → Backlog) (box : Waiting) → client_in_view backlog (record { number = x.number; outbox = box }) ≡ with_outbox change (client_in_view backlog x) → map (client_in_view backlog) (slice_set conns i (record { number = x.number; outbox = box })) ≡ clients_with_change change n (map (client_in_view backlog) conns)
+  changed_is change box made = changed_some backlog n change conns i x (record { number = x.number; outbox = box }) at (made ∙ ap (λ (y : Conn). with_outbox change (client_in_view backlog y)) is)
 
-  pub same_is : (box : Waiting) → seen backlog (record { number = x.number; outbox = box }) ≡ seen backlog x → map (seen backlog) (slice_set conns i (record { number = x.number; outbox = box })) ≡ map (seen backlog) conns
-  same_is box same = same_seen backlog conns i x (record { number = x.number; outbox = box }) (same ∙ ap (seen backlog) is)
+  pub same_is : (box : Waiting) → client_in_view backlog (record { number = x.number; outbox = box }) ≡ client_in_view backlog x → map (client_in_view backlog) (slice_set conns i (record { number = x.number; outbox = box })) ≡ map (client_in_view backlog) conns
+  same_is box same = same_seen backlog conns i x (record { number = x.number; outbox = box }) (same ∙ ap (client_in_view backlog) is)
 
 pub not_shut : (b : Bool) → not b ≡ true → b ≡ false
 not_shut true e = cc
 not_shut false e = refl
 
 -- where nothing is staged, nothing is staged for it
-pub settled_box : (n : ℕ) (conns : List Conn) (i : ℕ) (x : Conn) → position (λ (c : Conn). c.number == n) conns ≡ Some i → x ≡ slice_index_or conns i x → map (seen next_shelf) conns ≡ map (seen shown_shelf) conns → x.outbox.next ≡ x.outbox.shown
+pub settled_box : (n : ℕ) (conns : List Conn) (i : ℕ) (x : Conn) → position (λ (c : Conn). c.number == n) conns ≡ Some i → x ≡ slice_index_or conns i x → map (client_in_view next_backlog) conns ≡ map (client_in_view shown_backlog) conns → x.outbox.next ≡ x.outbox.shown
 settled_box n conns i x at is settled =
-    let e : Some (seen next_shelf x) ≡ Some (seen shown_shelf x) = sym (client_is next_shelf n conns i x at is) ∙ ap (λ (l : List Client). client_at n l) settled ∙ client_is shown_shelf n conns i x at is in
-    let same : seen next_shelf x ≡ seen shown_shelf x = cc in ap (λ (c : Client). c.outbox) same
+    let e : Some (client_in_view next_backlog x) ≡ Some (client_in_view shown_backlog x) = sym (client_is next_backlog n conns i x at is) ∙ ap (λ (l : List Client). client_at n l) settled ∙ client_is shown_backlog n conns i x at is in
+    let same : client_in_view next_backlog x ≡ client_in_view shown_backlog x = cc in ap (λ (c : Client). c.outbox) same

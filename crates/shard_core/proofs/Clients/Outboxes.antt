@@ -13,46 +13,46 @@ use Rattle.sub_table.specs.declared.Subscription.{Subscription}
 use Rattle.subj.specs.declared.jobs.Job.{Job}
 use Rattle.shard_core.specs.declared.calls.Placed.{Placed}
 use Rattle.shard_core.specs.declared.faults.ShardFault.{ShardFault}
-use Rattle.shard_core.specs.Shards.{State, Client, has_number, client_at, takes_events, is_open, with_outbox, changed, detached, fits, entries_of, waits_for}
-use Rattle.shard_core.specs.Owed.{Walk, walk, walked, is_due, first_step, put_one, give, shut_slow, due_entry, placed_for, slow_consumer, candidate_of, candidate_named, claimed}
+use Rattle.shard_core.specs.Shards.{State, Client, has_number, client_at, takes_events, is_open, with_outbox, clients_with_change, without_client, fits, entries_of, waits_for}
+use Rattle.shard_core.specs.Owed.{Walk, walk, whole_walk, is_due, first_step, walk_after_put, walk_with_entry, walk_with_shut, due_entry, placed_for, slow_consumer, candidate_of, candidate_named, after_claim}
 use Rattle.shard_core.specs.ShardEvents.{Event, Attach, Subscribe, Unsubscribe, Reply, Shut, Detach, Take, Begin, Claim, End, DropJob, Collect}
-use Rattle.shard_core.specs.ShardSteps.{called, new_client, new_sub, subscribed, ended_now, unsubscribed, answer_fits, was_shut, done_with, shard_refusal, shard_after}
+use Rattle.shard_core.specs.ShardSteps.{sub_called, new_client, new_sub, after_subscribe, ended_now, after_unsubscribe, answer_fits, was_shut, done_with, shard_refusal, shard_after}
 use Rattle.shard_core.specs.Puts.{put_line, put_by, put_by_claim, entries_for, kept_of, ArePut}
 use Rattle.shard_core.proofs.Steps.LawEvents.{candidate_is}
 
 -- ---- one connection changes
 
-pub changed_here : (change : Backlog → Backlog) (k : ℕ) (xs : List Client) → client_at k (changed change k xs) ≡ option_map (with_outbox change) (client_at k xs)
+pub changed_here : (change : Backlog → Backlog) (k : ℕ) (xs : List Client) → client_at k (clients_with_change change k xs) ≡ option_map (with_outbox change) (client_at k xs)
 changed_here change k [] = refl
 changed_here change k (x ∷ xs) = go (changed_here change k xs) (has_number k x) refl
   where
-    go : client_at k (changed change k xs) ≡ option_map (with_outbox change) (client_at k xs) → (b : Bool) → has_number k x ≡ b → client_at k (cond b (with_outbox change x ∷ xs) (x ∷ changed change k xs)) ≡ option_map (with_outbox change) (cond b (Some x) (client_at k xs))
+    go : client_at k (clients_with_change change k xs) ≡ option_map (with_outbox change) (client_at k xs) → (b : Bool) → has_number k x ≡ b → client_at k (cond b (with_outbox change x ∷ xs) (x ∷ clients_with_change change k xs)) ≡ option_map (with_outbox change) (cond b (Some x) (client_at k xs))
     go below true e = ap (λ t. cond t (Some (with_outbox change x)) (client_at k xs)) e
-    go below false e = ap (λ t. cond t (Some x) (client_at k (changed change k xs))) e ∙ below
+    go below false e = ap (λ t. cond t (Some x) (client_at k (clients_with_change change k xs))) e ∙ below
 
-pub changed_there : (change : Backlog → Backlog) (k j : ℕ) (xs : List Client) → k ≢ j → client_at k (changed change j xs) ≡ client_at k xs
+pub changed_there : (change : Backlog → Backlog) (k j : ℕ) (xs : List Client) → k ≢ j → client_at k (clients_with_change change j xs) ≡ client_at k xs
 changed_there change k j [] apart = refl
 changed_there change k j (x ∷ xs) apart = go (changed_there change k j xs apart) (has_number j x) refl
   where
-    go : client_at k (changed change j xs) ≡ client_at k xs → (b : Bool) → has_number j x ≡ b → client_at k (cond b (with_outbox change x ∷ xs) (x ∷ changed change j xs)) ≡ client_at k (x ∷ xs)
+    go : client_at k (clients_with_change change j xs) ≡ client_at k xs → (b : Bool) → has_number j x ≡ b → client_at k (cond b (with_outbox change x ∷ xs) (x ∷ clients_with_change change j xs)) ≡ client_at k (x ∷ xs)
     go below true e =
         let no : nat_eq x.number k ≡ false = false_eq x.number k (λ g. apart (sym g ∙ eq_true x.number j e)) in
         ap (λ t. cond t (Some (with_outbox change x)) (client_at k xs)) no ∙ sym (ap (λ t. cond t (Some x) (client_at k xs)) no)
     go below false e = ap (λ t. cond (nat_eq x.number k) (Some x) t) below
 
-pub gone : (j : ℕ) (ys : List Client) → client_at j (detached j ys) ≡ None
+pub gone : (j : ℕ) (ys : List Client) → client_at j (without_client j ys) ≡ None
 gone j [] = refl
 gone j (y ∷ ys) = by (gone j ys) (nat_eq y.number j) refl
   where
-    by : client_at j (detached j ys) ≡ None → (b : Bool) → nat_eq y.number j ≡ b → client_at j (cond (not b) (y ∷ detached j ys) (detached j ys)) ≡ None
+    by : client_at j (without_client j ys) ≡ None → (b : Bool) → nat_eq y.number j ≡ b → client_at j (cond (not b) (y ∷ without_client j ys) (without_client j ys)) ≡ None
     by below true e = below
-    by below false e = ap (λ t. cond t (Some y) (client_at j (detached j ys))) e ∙ below
+    by below false e = ap (λ t. cond t (Some y) (client_at j (without_client j ys))) e ∙ below
 
-pub stays : (k j : ℕ) → k ≢ j → (ys : List Client) → client_at k (detached j ys) ≡ client_at k ys
+pub stays : (k j : ℕ) → k ≢ j → (ys : List Client) → client_at k (without_client j ys) ≡ client_at k ys
 stays k j apart [] = refl
 stays k j apart (y ∷ ys) = by (stays k j apart ys) (nat_eq y.number j) refl
   where
-    by : client_at k (detached j ys) ≡ client_at k ys → (b : Bool) → nat_eq y.number j ≡ b → client_at k (cond (not b) (y ∷ detached j ys) (detached j ys)) ≡ client_at k (y ∷ ys)
+    by : client_at k (without_client j ys) ≡ client_at k ys → (b : Bool) → nat_eq y.number j ≡ b → client_at k (cond (not b) (y ∷ without_client j ys) (without_client j ys)) ≡ client_at k (y ∷ ys)
     by below true e = below ∙ sym (ap (λ t. cond t (Some y) (client_at k ys)) (false_eq y.number k (λ g. apart (sym g ∙ eq_true y.number j e))))
     by below false e = ap (λ t. cond (nat_eq y.number k) (Some y) t) below
 
@@ -94,44 +94,44 @@ fits_there k xs entry e = go (client_at k xs) e
     go (Some x) e = refl
 
 -- an entry is put behind all that waits for connection j
-put_at : (change : Backlog → Backlog) (entry : Written) → ((backlog : Backlog) → (change backlog).entries ≡ backlog.entries ++ entry ∷ []) → (j : ℕ) (xs : List Client) → is_some (client_at j xs) ≡ true → (k : ℕ) → waits_for k (changed change j xs) ≡ waits_for k xs ++ entries_for k (record { conn = j; entry = entry } ∷ [])
+put_at : (change : Backlog → Backlog) (entry : Written) → ((backlog : Backlog) → (change backlog).entries ≡ backlog.entries ++ entry ∷ []) → (j : ℕ) (xs : List Client) → is_some (client_at j xs) ≡ true → (k : ℕ) → waits_for k (clients_with_change change j xs) ≡ waits_for k xs ++ entries_for k (record { conn = j; entry = entry } ∷ [])
 put_at change entry puts j xs there k = go (nat_eq k j) refl
   where
     by : (x : Option Client) → is_some x ≡ true → entries_of (option_map (with_outbox change) x) ≡ entries_of x ++ entry ∷ []
     by None e = absurd (true≢false (sym e))
     by (Some x) e = puts x.outbox
 
-    here : waits_for j (changed change j xs) ≡ waits_for j xs ++ entries_for j (record { conn = j; entry = entry } ∷ [])
+    here : waits_for j (clients_with_change change j xs) ≡ waits_for j xs ++ entries_for j (record { conn = j; entry = entry } ∷ [])
     here = ap entries_of (changed_here change j xs) ∙ by (client_at j xs) there ∙ sym (ap (λ t. waits_for j xs ++ t) (entries_here j entry))
 
-    go : (b : Bool) → nat_eq k j ≡ b → waits_for k (changed change j xs) ≡ waits_for k xs ++ entries_for k (record { conn = j; entry = entry } ∷ [])
-    go true e = subst (λ m. waits_for m (changed change j xs) ≡ waits_for m xs ++ entries_for m (record { conn = j; entry = entry } ∷ [])) (sym (eq_true k j e)) here
+    go : (b : Bool) → nat_eq k j ≡ b → waits_for k (clients_with_change change j xs) ≡ waits_for k xs ++ entries_for k (record { conn = j; entry = entry } ∷ [])
+    go true e = subst (λ m. waits_for m (clients_with_change change j xs) ≡ waits_for m xs ++ entries_for m (record { conn = j; entry = entry } ∷ [])) (sym (eq_true k j e)) here
     go false e = ap entries_of (changed_there change k j xs (eq_false k j e)) ∙ sym (append_nil (waits_for k xs)) ∙ sym (ap (λ t. waits_for k xs ++ t) (entries_there k j entry (eq_false k j e)))
 
 -- whether a connection takes events after a change
-pub stays_open : (entry : Written) (k j : ℕ) (xs : List Client) → is_open k (changed (with_entry entry) j xs) ≡ is_open k xs
+pub stays_open : (entry : Written) (k j : ℕ) (xs : List Client) → is_open k (clients_with_change (with_entry entry) j xs) ≡ is_open k xs
 stays_open entry k j xs = go (nat_eq k j) refl
   where
     by : (x : Option Client) → takes_events (option_map (with_outbox (with_entry entry)) x) ≡ takes_events x
     by None = refl
     by (Some x) = refl
 
-    go : (b : Bool) → nat_eq k j ≡ b → is_open k (changed (with_entry entry) j xs) ≡ is_open k xs
-    go true e = subst (λ m. is_open m (changed (with_entry entry) j xs) ≡ is_open m xs) (sym (eq_true k j e)) (ap takes_events (changed_here (with_entry entry) j xs) ∙ by (client_at j xs))
+    go : (b : Bool) → nat_eq k j ≡ b → is_open k (clients_with_change (with_entry entry) j xs) ≡ is_open k xs
+    go true e = subst (λ m. is_open m (clients_with_change (with_entry entry) j xs) ≡ is_open m xs) (sym (eq_true k j e)) (ap takes_events (changed_here (with_entry entry) j xs) ∙ by (client_at j xs))
     go false e = ap takes_events (changed_there (with_entry entry) k j xs (eq_false k j e))
 
-pub shuts : (line : List ℕ) (j : ℕ) (xs : List Client) → is_open j (changed (with_last line) j xs) ≡ false
+pub shuts : (line : List ℕ) (j : ℕ) (xs : List Client) → is_open j (clients_with_change (with_last line) j xs) ≡ false
 shuts line j xs = ap takes_events (changed_here (with_last line) j xs) ∙ by (client_at j xs)
   where
     by : (x : Option Client) → takes_events (option_map (with_outbox (with_last line)) x) ≡ false
     by None = refl
     by (Some x) = refl
 
-pub stays_shut : (line : List ℕ) (k j : ℕ) (xs : List Client) → is_open k xs ≡ false → is_open k (changed (with_last line) j xs) ≡ false
+pub stays_shut : (line : List ℕ) (k j : ℕ) (xs : List Client) → is_open k xs ≡ false → is_open k (clients_with_change (with_last line) j xs) ≡ false
 stays_shut line k j xs was = go (nat_eq k j) refl
   where
-    go : (b : Bool) → nat_eq k j ≡ b → is_open k (changed (with_last line) j xs) ≡ false
-    go true e = subst (λ m. is_open m (changed (with_last line) j xs) ≡ false) (sym (eq_true k j e)) (shuts line j xs)
+    go : (b : Bool) → nat_eq k j ≡ b → is_open k (clients_with_change (with_last line) j xs) ≡ false
+    go true e = subst (λ m. is_open m (clients_with_change (with_last line) j xs) ≡ false) (sym (eq_true k j e)) (shuts line j xs)
     go false e = ap takes_events (changed_there (with_last line) k j xs (eq_false k j e)) ∙ was
 
 -- ---- the walk of Begin
@@ -195,10 +195,10 @@ given_more s job k u w opened h = go (nat_eq k u.conn) refl
         let none : entries_for k put ≡ [] = entries_there k u.conn _ (eq_false k u.conn e) in
         ap (λ t. (given ++ lines) ++ t) none ∙ append_nil (given ++ lines) ∙ sym (ap (λ t. t ++ lines) (append_nil given)) ∙ sym (ap (λ t. (given ++ t) ++ lines) none) ∙ sym (ap (λ t. t ++ lines) both)
 
-put_more : (s : State) (job : Job) (k : ℕ) (w : Walk) (u : Subscription) → HasPut s job k w → HasPut s job k (put_one s job w u)
+put_more : (s : State) (job : Job) (k : ℕ) (w : Walk) (u : Subscription) → HasPut s job k w → HasPut s job k (walk_after_put s job w u)
 put_more s job k w u h = go (is_open u.conn w.clients) (fits (client_at u.conn w.clients) (due_entry s.shard job None u)) refl refl
   where
-    go : (o r : Bool) → is_open u.conn w.clients ≡ o → fits (client_at u.conn w.clients) (due_entry s.shard job None u) ≡ r → HasPut s job k (cond o (cond r (give (due_entry s.shard job None u) u w) (shut_slow s.subs u.conn w)) w)
+    go : (o r : Bool) → is_open u.conn w.clients ≡ o → fits (client_at u.conn w.clients) (due_entry s.shard job None u) ≡ r → HasPut s job k (cond o (cond r (walk_with_entry (due_entry s.shard job None u) u w) (walk_with_shut s.subs u.conn w)) w)
     go false r e f = h
     go true true e f = record {
       is =
@@ -216,12 +216,12 @@ put_more s job k w u h = go (is_open u.conn w.clients) (fits (client_at u.conn w
           ∙ ap (λ t. waits_for k s.clients ++ t)
           (append_assoc (entries_for k (map (placed_for s.shard job None) w.given)) (entries_for k (map (put_line slow_consumer) w.shut)) (entries_for k (put_line slow_consumer u.conn ∷ []))
           ∙ ap (λ t. entries_for k (map (placed_for s.shard job None) w.given) ++ t) (sym (ap (entries_for k) (map_append (put_line slow_consumer) w.shut (u.conn ∷ [])) ∙ entries_append k (map (put_line slow_consumer) w.shut) (put_line slow_consumer u.conn ∷ []))));
-      closed = λ i. ⊎_elim (λ (was : list_any (nat_eq k) w.shut ≡ true). stays_shut slow_consumer k u.conn w.clients (h.closed was)) (λ (same : k ≡ u.conn). subst (λ m. is_open m (changed (with_last slow_consumer) u.conn w.clients) ≡ false) (sym same) (shuts slow_consumer u.conn w.clients)) (any_append k w.shut u.conn i);
+      closed = λ i. ⊎_elim (λ (was : list_any (nat_eq k) w.shut ≡ true). stays_shut slow_consumer k u.conn w.clients (h.closed was)) (λ (same : k ≡ u.conn). subst (λ m. is_open m (clients_with_change (with_last slow_consumer) u.conn w.clients) ≡ false) (sym same) (shuts slow_consumer u.conn w.clients)) (any_append k w.shut u.conn i);
     }
 
 walk_puts : (s : State) (job : Job) (k : ℕ) (due : List Subscription) (w : Walk) → HasPut s job k w → HasPut s job k (walk s job due w)
 walk_puts s job k [] w h = h
-walk_puts s job k (u ∷ due) w h = walk_puts s job k due (put_one s job w u) (put_more s job k w u h)
+walk_puts s job k (u ∷ due) w h = walk_puts s job k due (walk_after_put s job w u) (put_more s job k w u h)
 
 -- ---- each event
 
@@ -238,18 +238,18 @@ done_puts s (Some job) k = quiet k s.clients
 -- what waits for a connection after each event
 puts : (s : State) (e : Event) → shard_refusal s e ≡ None → (k : ℕ) → waits_for k (shard_after s e).clients ≡ kept_of e k (waits_for k s.clients) ++ entries_for k (put_by s e)
 puts s Attach cause k = attached_at k s.next_conn s.clients ∙ quiet k s.clients
-puts s (Subscribe conn key sid) cause k = go (called conn sid s.subs)
+puts s (Subscribe conn key sid) cause k = go (sub_called conn sid s.subs)
   where
-    go : (u : Option Subscription) → waits_for k (subscribed s (new_sub s conn key sid) u).clients ≡ waits_for k s.clients ++ []
+    go : (u : Option Subscription) → waits_for k (after_subscribe s (new_sub s conn key sid) u).clients ≡ waits_for k s.clients ++ []
     go None = quiet k s.clients
     go (Some u) = quiet k s.clients
-puts s (Unsubscribe conn sid max) cause k = go (called conn sid s.subs)
+puts s (Unsubscribe conn sid max) cause k = go (sub_called conn sid s.subs)
   where
     at : (u : Subscription) (b : Bool) (x y : State) → x.clients ≡ s.clients → y.clients ≡ s.clients → waits_for k (cond b x y).clients ≡ waits_for k s.clients ++ []
     at u true x y e f = ap (waits_for k) e ∙ quiet k s.clients
     at u false x y e f = ap (waits_for k) f ∙ quiet k s.clients
 
-    go : (u : Option Subscription) → waits_for k (unsubscribed s max u).clients ≡ waits_for k s.clients ++ []
+    go : (u : Option Subscription) → waits_for k (after_unsubscribe s max u).clients ≡ waits_for k s.clients ++ []
     go None = quiet k s.clients
     go (Some u) = at u (ended_now max u) _ _ refl refl
 puts s (Reply conn frame) cause k = go (answer_fits s conn (reply_line frame))
@@ -257,14 +257,14 @@ puts s (Reply conn frame) cause k = go (answer_fits s conn (reply_line frame))
     there : is_some (client_at conn s.clients) ≡ true
     there = open_there conn s.clients (no_end (is_open conn s.clients) _ cause)
 
-    go : (b : Bool) → waits_for k (cond b (record s { clients = changed (with_entry (reply_entry (reply_line frame))) conn s.clients }) (was_shut s conn slow_consumer)).clients ≡ waits_for k s.clients ++ entries_for k (cond b (put_line (reply_line frame) conn ∷ []) (put_line slow_consumer conn ∷ []))
+    go : (b : Bool) → waits_for k (cond b (record s { clients = clients_with_change (with_entry (reply_entry (reply_line frame))) conn s.clients }) (was_shut s conn slow_consumer)).clients ≡ waits_for k s.clients ++ entries_for k (cond b (put_line (reply_line frame) conn ∷ []) (put_line slow_consumer conn ∷ []))
     go true = put_at (with_entry (reply_entry (reply_line frame))) (reply_entry (reply_line frame)) (λ backlog. refl) conn s.clients there k
     go false = put_at (with_last slow_consumer) (reply_entry slow_consumer) (λ backlog. refl) conn s.clients there k
 puts s (Shut conn text) cause k = put_at (with_last (err_line text)) (reply_entry (err_line text)) (λ backlog. refl) conn s.clients (open_there conn s.clients (no_end (is_open conn s.clients) _ cause)) k
 puts s (Detach conn) cause k = go (nat_eq conn k) refl
   where
-    go : (b : Bool) → nat_eq conn k ≡ b → waits_for k (detached conn s.clients) ≡ cond b [] (waits_for k s.clients) ++ []
-    go true e = subst (λ m. waits_for m (detached conn s.clients) ≡ []) (eq_true conn k e) (ap entries_of (gone conn s.clients))
+    go : (b : Bool) → nat_eq conn k ≡ b → waits_for k (without_client conn s.clients) ≡ cond b [] (waits_for k s.clients) ++ []
+    go true e = subst (λ m. waits_for m (without_client conn s.clients) ≡ []) (eq_true conn k e) (ap entries_of (gone conn s.clients))
     go false e = ap entries_of (stays k conn (λ f. eq_false conn k e (sym f)) s.clients) ∙ quiet k s.clients
 puts s (Take conn count) cause k = go (nat_eq conn k) refl
   where
@@ -276,16 +276,16 @@ puts s (Take conn count) cause k = go (nat_eq conn k) refl
         nil (suc m) = refl
     by (Some x) = refl
 
-    go : (b : Bool) → nat_eq conn k ≡ b → waits_for k (changed (without_first count) conn s.clients) ≡ cond b (drop count (waits_for k s.clients)) (waits_for k s.clients) ++ []
-    go true e = subst (λ m. waits_for m (changed (without_first count) conn s.clients) ≡ drop count (waits_for m s.clients) ++ []) (eq_true conn k e) (ap entries_of (changed_here (without_first count) conn s.clients) ∙ by (client_at conn s.clients) ∙ sym (append_nil (drop count (waits_for conn s.clients))))
+    go : (b : Bool) → nat_eq conn k ≡ b → waits_for k (clients_with_change (without_first count) conn s.clients) ≡ cond b (drop count (waits_for k s.clients)) (waits_for k s.clients) ++ []
+    go true e = subst (λ m. waits_for m (clients_with_change (without_first count) conn s.clients) ≡ drop count (waits_for m s.clients) ++ []) (eq_true conn k e) (ap entries_of (changed_here (without_first count) conn s.clients) ∙ by (client_at conn s.clients) ∙ sym (append_nil (drop count (waits_for conn s.clients))))
     go false e = ap entries_of (changed_there (without_first count) k conn s.clients (λ f. eq_false conn k e (sym f))) ∙ quiet k s.clients
-puts s (Begin job) cause k = h.is ∙ ap (λ t. waits_for k s.clients ++ t) (sym (entries_append k (map (placed_for s.shard job None) (walked s job).given) (map (put_line slow_consumer) (walked s job).shut)))
+puts s (Begin job) cause k = h.is ∙ ap (λ t. waits_for k s.clients ++ t) (sym (entries_append k (map (placed_for s.shard job None) (whole_walk s job).given) (map (put_line slow_consumer) (whole_walk s job).shut)))
   where
-    h : HasPut s job k (walked s job)
+    h : HasPut s job k (whole_walk s job)
     h = walk_puts s job k (filter (is_due job) s.subs) (first_step s.clients) (record { is = quiet k s.clients; closed = λ e. absurd (true≢false (sym e)) })
 puts s (Claim index won) cause k = go s.hand (candidate_of s s.hand index) refl
   where
-    by : (job : Job) (u : Subscription) → candidate_of s (Some job) index ≡ Some u → (b : Bool) → waits_for k (claimed s (Some job) (Some u) b).clients ≡ waits_for k s.clients ++ entries_for k (put_by_claim s (Some job) (Some u) b)
+    by : (job : Job) (u : Subscription) → candidate_of s (Some job) index ≡ Some u → (b : Bool) → waits_for k (after_claim s (Some job) (Some u) b).clients ≡ waits_for k s.clients ++ entries_for k (put_by_claim s (Some job) (Some u) b)
     by job u is false = quiet k s.clients
     by job u is true = put_at (with_entry (due_entry s.shard job u.key.queue u)) (due_entry s.shard job u.key.queue u) (λ backlog. refl) u.conn s.clients (named (slice_get job.queues index) is) k
       where
@@ -293,7 +293,7 @@ puts s (Claim index won) cause k = go s.hand (candidate_of s s.hand index) refl
         named None e = absurd (none-some u e)
         named (Some name) e = fits_there u.conn s.clients (due_entry s.shard job (Some name) u) (candidate_is s job name u e).3
 
-    go : (hand : Option Job) (u : Option Subscription) → candidate_of s hand index ≡ u → waits_for k (claimed s hand u won).clients ≡ waits_for k s.clients ++ entries_for k (put_by_claim s hand u won)
+    go : (hand : Option Job) (u : Option Subscription) → candidate_of s hand index ≡ u → waits_for k (after_claim s hand u won).clients ≡ waits_for k s.clients ++ entries_for k (put_by_claim s hand u won)
     go None u is = quiet k s.clients
     go (Some job) None is = quiet k s.clients
     go (Some job) (Some u) is = by job u is won

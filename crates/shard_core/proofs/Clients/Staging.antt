@@ -14,7 +14,7 @@ use Rattle.std.specs.Prelude.{◌==◌, All, slice_index_or}
 use Rattle.std.proofs.lemmas.List.Kept.{AllPairs-filter}
 use Rattle.std.proofs.lemmas.List.Quantifiers.{all_pairs_push}
 use Rattle.outbox.specs.Views.{Waiting}
-use Rattle.shard_core.specs.Boxes.{AreRising, AreConns, IsStagedWithin, seen, number_of, shown_shelf, next_shelf}
+use Rattle.shard_core.specs.Boxes.{AreRising, AreConns, IsStagedWithin, client_in_view, number_of, shown_backlog, next_backlog}
 use Rattle.shard_core.proofs.Clients.Lookups.{numbers_stay}
 
 -- ---- places
@@ -31,20 +31,20 @@ any_append i p (q ∷ places) e = by (any_append i p places) (nat_eq i q) e wher
 
 -- ---- where it is settled, nothing is staged
 
-pub none_staged : (places : List ℕ) (conns : List Conn) → map (seen next_shelf) conns ≡ map (seen shown_shelf) conns → IsStagedWithin places conns
+pub none_staged : (places : List ℕ) (conns : List Conn) → map (client_in_view next_backlog) conns ≡ map (client_in_view shown_backlog) conns → IsStagedWithin places conns
 none_staged places conns settled i d within out =
-    sym (get_or-map (seen next_shelf) conns i d ((seen next_shelf) d) within) ∙ ap (λ (l : List Client). get_or l i ((seen next_shelf) d)) settled ∙ get_or-map (seen shown_shelf) conns i d ((seen next_shelf) d) within
+    sym (get_or-map (client_in_view next_backlog) conns i d ((client_in_view next_backlog) d) within) ∙ ap (λ (l : List Client). get_or l i ((client_in_view next_backlog) d)) settled ∙ get_or-map (client_in_view shown_backlog) conns i d ((client_in_view next_backlog) d) within
 
-pub all_settled : (conns : List Conn) → IsStagedWithin [] conns → map (seen next_shelf) conns ≡ map (seen shown_shelf) conns
+pub all_settled : (conns : List Conn) → IsStagedWithin [] conns → map (client_in_view next_backlog) conns ≡ map (client_in_view shown_backlog) conns
 all_settled [] within = refl
 all_settled (c ∷ cs) within =
     let conns = c ∷ cs in
-    ext_get_or ((seen next_shelf) c) (map (seen next_shelf) conns) (map (seen shown_shelf) conns) (length-map conns (seen next_shelf) ∙ sym (length-map conns (seen shown_shelf)))
-    (λ k lt. let inside : k < length conns = omega (arith, length-map conns (seen next_shelf)) in
-    get_or-map (seen next_shelf) conns k c ((seen next_shelf) c) inside ∙ within k c inside refl ∙ sym (get_or-map (seen shown_shelf) conns k c ((seen next_shelf) c) inside))
+    ext_get_or ((client_in_view next_backlog) c) (map (client_in_view next_backlog) conns) (map (client_in_view shown_backlog) conns) (length-map conns (client_in_view next_backlog) ∙ sym (length-map conns (client_in_view shown_backlog)))
+    (λ k lt. let inside : k < length conns = omega (arith, length-map conns (client_in_view next_backlog)) in
+    get_or-map (client_in_view next_backlog) conns k c ((client_in_view next_backlog) c) inside ∙ within k c inside refl ∙ sym (get_or-map (client_in_view shown_backlog) conns k c ((client_in_view next_backlog) c) inside))
 
 -- where nothing is staged anywhere, what will wait is what waits
-pub nothing_staged : (places : List ℕ) (conns : List Conn) → length places ≡ 0 → AreConns places conns → map (seen next_shelf) conns ≡ map (seen shown_shelf) conns
+pub nothing_staged : (places : List ℕ) (conns : List Conn) → length places ≡ 0 → AreConns places conns → map (client_in_view next_backlog) conns ≡ map (client_in_view shown_backlog) conns
 nothing_staged places conns none was = all_settled conns (subst (λ (ps : List ℕ). IsStagedWithin ps conns) (nil_from_length places none) was.staged)
 
 -- ---- one more place
@@ -53,22 +53,22 @@ pub staged_at : (places : List ℕ) (conns : List Conn) (p : ℕ) (y : Conn) →
 staged_at places conns p y within i d inside out =
     let apart = any_append i p places out in
     let same : get_or (slice_set conns p y) i d ≡ get_or conns i d = get_or-set_other conns p i y d (grind (arith, nat_tests)) in
-    ap (seen next_shelf) same ∙ within i d (omega (arith, length-set conns p y)) apart.0 ∙ sym (ap (seen shown_shelf) same)
+    ap (client_in_view next_backlog) same ∙ within i d (omega (arith, length-set conns p y)) apart.0 ∙ sym (ap (client_in_view shown_backlog) same)
 
 pub place_added : (places : List ℕ) (conns : List Conn) (p : ℕ) → IsStagedWithin places conns → IsStagedWithin (places ++ p ∷ []) conns
 place_added places conns p within i d inside out = within i d inside (any_append i p places out).0
 
 -- ---- one place less, which was settled
 
-pub settled_at_place : (places : List ℕ) (conns : List Conn) (p : ℕ) (y : Conn) → (seen next_shelf) y ≡ (seen shown_shelf) y → p < length conns → IsStagedWithin (p ∷ places) conns → IsStagedWithin places (slice_set conns p y)
+pub settled_at_place : (places : List ℕ) (conns : List Conn) (p : ℕ) (y : Conn) → (client_in_view next_backlog) y ≡ (client_in_view shown_backlog) y → p < length conns → IsStagedWithin (p ∷ places) conns → IsStagedWithin places (slice_set conns p y)
 settled_at_place places conns p y settled there within i d inside out = by (nat_eq i p) refl where
-  by : (b : Bool) → nat_eq i p ≡ b → (seen next_shelf) (get_or (slice_set conns p y) i d) ≡ (seen shown_shelf) (get_or (slice_set conns p y) i d)
+  by : (b : Bool) → nat_eq i p ≡ b → (client_in_view next_backlog) (get_or (slice_set conns p y) i d) ≡ (client_in_view shown_backlog) (get_or (slice_set conns p y) i d)
   by true e =
       let at : get_or (slice_set conns p y) i d ≡ y = grind (arith, nat_tests, common_steps) in
-      ap (seen next_shelf) at ∙ settled ∙ sym (ap (seen shown_shelf) at)
+      ap (client_in_view next_backlog) at ∙ settled ∙ sym (ap (client_in_view shown_backlog) at)
   by false e =
       let same : get_or (slice_set conns p y) i d ≡ get_or conns i d = get_or-set_other conns p i y d (grind (arith, nat_tests)) in
-      ap (seen next_shelf) same ∙ within i d (omega (arith, length-set conns p y)) (ap (λ b. b || list_any (nat_eq i) places) e ∙ out) ∙ sym (ap (seen shown_shelf) same)
+      ap (client_in_view next_backlog) same ∙ within i d (omega (arith, length-set conns p y)) (ap (λ b. b || list_any (nat_eq i) places) e ∙ out) ∙ sym (ap (client_in_view shown_backlog) same)
 
 -- a place that is not there
 pub no_such_place : (places : List ℕ) (conns : List Conn) (p : ℕ) → length conns ≤ p → IsStagedWithin (p ∷ places) conns → IsStagedWithin places conns
@@ -113,15 +113,15 @@ conns_less places conns i x box is there alike was = record {
 }
 
 -- connections go, where nothing is staged
-head_same : (c : Conn) (cs : List Conn) → IsStagedWithin [] (c ∷ cs) → seen next_shelf c ≡ seen shown_shelf c
+head_same : (c : Conn) (cs : List Conn) → IsStagedWithin [] (c ∷ cs) → client_in_view next_backlog c ≡ client_in_view shown_backlog c
 head_same c cs within = within 0 c (omega arith) refl
 
 tail_same : (c : Conn) (cs : List Conn) → IsStagedWithin [] (c ∷ cs) → IsStagedWithin [] cs
 tail_same c cs within i d inside out = within (suc i) d (omega arith) refl
 
-none_left : (p : Conn → Bool) (conns : List Conn) → IsStagedWithin [] conns → map (seen next_shelf) (filter p conns) ≡ map (seen shown_shelf) (filter p conns)
+none_left : (p : Conn → Bool) (conns : List Conn) → IsStagedWithin [] conns → map (client_in_view next_backlog) (filter p conns) ≡ map (client_in_view shown_backlog) (filter p conns)
 none_left p [] within = refl
-none_left p (c ∷ cs) within = elim (p c) as (λ b. map (seen next_shelf) (cond b (c ∷ filter p cs) (filter p cs)) ≡ map (seen shown_shelf) (cond b (c ∷ filter p cs) (filter p cs))) [
+none_left p (c ∷ cs) within = elim (p c) as (λ b. map (client_in_view next_backlog) (cond b (c ∷ filter p cs) (filter p cs)) ≡ map (client_in_view shown_backlog) (cond b (c ∷ filter p cs) (filter p cs))) [
   | true ↦ (λ k. head_same c cs within k ∷ none_left p cs (tail_same c cs within) k)
   | false ↦ none_left p cs (tail_same c cs within)
 ]
@@ -133,17 +133,17 @@ filter_numbers q (c ∷ cs) = elim (q c.number) as (λ b. map number_of (cond b 
   | false ↦ filter_numbers q cs
 ]
 
-pub conns_without : (places : List ℕ) (conns left : List Conn) (n : ℕ) → map (seen next_shelf) conns ≡ map (seen shown_shelf) conns → left ≡ filter (λ (x : Conn). not (x.number == n)) conns → AreConns places conns → AreConns [] left
+pub conns_without : (places : List ℕ) (conns left : List Conn) (n : ℕ) → map (client_in_view next_backlog) conns ≡ map (client_in_view shown_backlog) conns → left ≡ filter (λ (x : Conn). not (x.number == n)) conns → AreConns places conns → AreConns [] left
 conns_without places conns left n settled is was = subst (AreConns []) (sym is) (record {
   rising = subst (AllPairs (λ (a b : ℕ). a < b)) (sym (filter_numbers (λ m. not (m == n)) conns)) (AllPairs-filter (λ (a b : ℕ). a < b) (λ m. not (m == n)) (map number_of conns) was.rising);
   staged = none_staged [] (filter (λ (x : Conn). not (x.number == n)) conns) (none_left (λ (x : Conn). not (x.number == n)) conns (none_staged [] conns settled));
 })
 
 -- one more behind the others, with nothing staged
-pub conns_attached : (places : List ℕ) (conns : List Conn) (x : Conn) → x.outbox.next ≡ x.outbox.shown → All (λ m. m < x.number) (map number_of conns) → map (seen next_shelf) conns ≡ map (seen shown_shelf) conns → AreConns places conns → AreConns places (conns ++ x ∷ [])
+pub conns_attached : (places : List ℕ) (conns : List Conn) (x : Conn) → x.outbox.next ≡ x.outbox.shown → All (λ m. m < x.number) (map number_of conns) → map (client_in_view next_backlog) conns ≡ map (client_in_view shown_backlog) conns → AreConns places conns → AreConns places (conns ++ x ∷ [])
 conns_attached places conns x alike above settled was = record {
   rising = subst (AllPairs (λ (a b : ℕ). a < b)) (sym (map-append number_of conns (x ∷ []))) (all_pairs_push (λ (a b : ℕ). a < b) (map number_of conns) x.number was.rising (λ k d within. above k d within));
-  staged = none_staged places (conns ++ x ∷ []) (map-append (seen next_shelf) conns (x ∷ []) ∙ ap (λ l. l ++ seen next_shelf x ∷ []) settled ∙ ap (λ backlog. map (seen shown_shelf) conns ++ record { number = x.number; outbox = backlog; max_entries = x.outbox.max_entries; max_bytes = x.outbox.max_bytes } ∷ []) alike ∙ sym (map-append (seen shown_shelf) conns (x ∷ [])));
+  staged = none_staged places (conns ++ x ∷ []) (map-append (client_in_view next_backlog) conns (x ∷ []) ∙ ap (λ l. l ++ client_in_view next_backlog x ∷ []) settled ∙ ap (λ backlog. map (client_in_view shown_backlog) conns ++ record { number = x.number; outbox = backlog; max_entries = x.outbox.max_entries; max_bytes = x.outbox.max_bytes } ∷ []) alike ∙ sym (map-append (client_in_view shown_backlog) conns (x ∷ [])));
 }
 
 -- by the place alone
@@ -157,13 +157,13 @@ pub no_such_conn : (places : List ℕ) (conns : List Conn) (i : ℕ) → length 
 no_such_conn places conns i past was = record { rising = was.rising; staged = no_such_place places conns i past was.staged }
 
 -- numbers above those of the clients are above those of the connections
-pub numbers_below : (n : ℕ) (conns : List Conn) → All (λ (c : Client). c.number < n) (map (seen shown_shelf) conns) → All (λ m. m < n) (map number_of conns)
+pub numbers_below : (n : ℕ) (conns : List Conn) → All (λ (c : Client). c.number < n) (map (client_in_view shown_backlog) conns) → All (λ m. m < n) (map number_of conns)
 numbers_below n [] above k d within = absurd (omega arith)
 numbers_below n (c ∷ cs) above k d within =
     let conns = c ∷ cs in
     let inside : k < length conns = omega (arith, length-map conns number_of) in
     let number : get_or (map number_of conns) k d ≡ (get_or conns k c).number = get_or-map number_of conns k c d inside in
-    let client : get_or (map (seen shown_shelf) conns) k (seen shown_shelf c) ≡ seen shown_shelf (get_or conns k c) = get_or-map (seen shown_shelf) conns k c (seen shown_shelf c) inside in
-    let same : (get_or (map (seen shown_shelf) conns) k (seen shown_shelf c)).number ≡ (get_or conns k c).number = ap (λ (x : Client). x.number) client in
-    let below : (get_or (map (seen shown_shelf) conns) k (seen shown_shelf c)).number < n = above k (seen shown_shelf c) (omega (arith, length-map conns (seen shown_shelf))) in
+    let client : get_or (map (client_in_view shown_backlog) conns) k (client_in_view shown_backlog c) ≡ client_in_view shown_backlog (get_or conns k c) = get_or-map (client_in_view shown_backlog) conns k c (client_in_view shown_backlog c) inside in
+    let same : (get_or (map (client_in_view shown_backlog) conns) k (client_in_view shown_backlog c)).number ≡ (get_or conns k c).number = ap (λ (x : Client). x.number) client in
+    let below : (get_or (map (client_in_view shown_backlog) conns) k (client_in_view shown_backlog c)).number < n = above k (client_in_view shown_backlog c) (omega (arith, length-map conns (client_in_view shown_backlog))) in
     omega (arith, number, same, below)

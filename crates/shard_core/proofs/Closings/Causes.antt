@@ -21,14 +21,14 @@ use Rattle.subj.specs.declared.jobs.Job.{Job}
 use Rattle.subj.specs.declared.keys.Key.{Key}
 use Rattle.shard_core.specs.declared.faults.ShardFault.{ShardFault}
 use Rattle.shard_core.specs.declared.faults.ShardFault.TheVariants as fault
-use Rattle.shard_core.specs.Shards.{State, Client, takes_events, is_open, changed}
-use Rattle.shard_core.specs.Closings.{id_of, serials_of, is_left, left_of, without, ended_ids}
-use Rattle.shard_core.specs.Owed.{Walk, walk, walked, first_step, put_one, give, shut_slow, slow_consumer, due_entry, reaches, ended_by, is_due, counted, candidate_of, candidate_named, is_candidate, claimed}
+use Rattle.shard_core.specs.Shards.{State, Client, takes_events, is_open, clients_with_change}
+use Rattle.shard_core.specs.Closings.{id_of, serials_of, is_left, left_of, without_subs, ended_ids}
+use Rattle.shard_core.specs.Owed.{Walk, walk, whole_walk, first_step, walk_after_put, walk_with_entry, walk_with_shut, slow_consumer, due_entry, reaches, ended_by, is_due, sub_with_count, candidate_of, candidate_named, is_candidate, after_claim}
 use Rattle.shard_core.specs.Opened.{AreRising, AreApart}
 use Rattle.shard_core.specs.ShardEvents.{Event, Attach, Subscribe, Unsubscribe, Reply, Shut, Detach, Take, Begin, Claim, End, DropJob, Collect, Answer}
-use Rattle.shard_core.specs.ShardSteps.{called, new_sub, subscribed, subscribed_answer, ended_now, unsubscribed, answer_fits, was_shut, done_with, ended_by_unsubscribe, ended_by_reply, claimed_answer, shard_refusal, shard_after, shard_answer, shut_by, ended_of, IsStep}
+use Rattle.shard_core.specs.ShardSteps.{sub_called, new_sub, after_subscribe, subscribe_answer, ended_now, after_unsubscribe, answer_fits, was_shut, done_with, ended_by_unsubscribe, ended_by_reply, claim_answer, shard_refusal, shard_after, shard_answer, shut_by, ended_of, IsStep}
 use Rattle.shard_core.specs.AsLaw.{given_by, given_by_claim, is_open_serial}
-use Rattle.shard_core.specs.Causes.{AreHeld, SubsStayHeld, given_to, max_after, gone_on, IsOpening, SubsGoOn, Closes, ClosingsAreTold, Leaves, IsSpent, HasEnough, IsUnsubscribed, HasCause, ClosesByCause, IsDetached}
+use Rattle.shard_core.specs.Causes.{AreHeld, SubsStayHeld, given_to, max_after, sub_after, IsOpening, SubsGoOn, Closes, ClosingsAreTold, Leaves, IsSpent, HasEnough, IsUnsubscribed, HasCause, ClosesByCause, IsDetached}
 use Rattle.shard_core.proofs.Closings.Closed.{serials_left, counted_serials, max_serials}
 use Rattle.shard_core.proofs.Closings.Ended.{distinct, ended_apart, given_apart}
 use Rattle.shard_core.proofs.Closings.Serials.{apart_among}
@@ -81,7 +81,7 @@ record Told (s : State) (w : Walk) : Type 0 where
 first_told : (s : State) → Told s (first_step s.clients)
 first_told s = record { ended_open = λ k i. absurd i; shut_ends = λ u i o c. absurd (true≢false (sym o ∙ c)); ended_why = λ u i j. absurd j; given_ends = λ u i. absurd i; given_some = λ u i. absurd i }
 
-give_told : (s : State) (entry : Written) (u : Subscription) (w : Walk) → AreRising s.subs → In u s.subs → Told s w → Told s (give entry u w)
+give_told : (s : State) (entry : Written) (u : Subscription) (w : Walk) → AreRising s.subs → In u s.subs → Told s w → Told s (walk_with_entry entry u w)
 give_told s entry u w rising here h = record {
   ended_open = each_append (λ k. In k (serials_of s.subs)) w.ended (ended_by u) h.ended_open (λ k i. subst (λ m. In m (serials_of s.subs)) (sym (by_reach u k i).0) (in_mapped serial_of s.subs u here));
   shut_ends = λ v i o c. in_left v.serial w.ended (ended_by u) (h.shut_ends v i o (sym (stays_open entry v.conn u.conn w.clients) ∙ c));
@@ -93,10 +93,10 @@ give_told s entry u w rising here h = record {
   given_some = each_append (λ v. In v s.subs) w.given (u ∷ []) h.given_some (each_one (λ v. In v s.subs) u here);
 }
   where
-    old : (v : Subscription) → In v s.subs → In v.serial w.ended → (is_open v.conn (changed (λ backlog. record { entries = backlog.entries ++ entry ∷ []; shut = backlog.shut }) u.conn w.clients) ≡ false) ⊎ Spends v (w.given ++ u ∷ [])
+    old : (v : Subscription) → In v s.subs → In v.serial w.ended → (is_open v.conn (clients_with_change (λ backlog. record { entries = backlog.entries ++ entry ∷ []; shut = backlog.shut }) u.conn w.clients) ≡ false) ⊎ Spends v (w.given ++ u ∷ [])
     old v i j = ⊎_elim (λ c. inl (stays_open entry v.conn u.conn w.clients ∙ c)) (λ (x : Spends v w.given). inr (x.0, x.1, x.2, in_left v w.given (u ∷ []) x.3)) (h.ended_why v i j)
 
-    new : (v : Subscription) → In v s.subs → In v.serial (ended_by u) → (is_open v.conn (changed (λ backlog. record { entries = backlog.entries ++ entry ∷ []; shut = backlog.shut }) u.conn w.clients) ≡ false) ⊎ Spends v (w.given ++ u ∷ [])
+    new : (v : Subscription) → In v s.subs → In v.serial (ended_by u) → (is_open v.conn (clients_with_change (λ backlog. record { entries = backlog.entries ++ entry ∷ []; shut = backlog.shut }) u.conn w.clients) ≡ false) ⊎ Spends v (w.given ++ u ∷ [])
     new v i j =
         let x = by_reach u v.serial j in
         let r = reached u.max (u.delivered + 1) x.1 in
@@ -111,28 +111,28 @@ left_is conn ended subs k i =
 left_in : (ended : List ℕ) (subs : List Subscription) (u : Subscription) → In u subs → list_any (nat_eq u.serial) ended ≡ false → In u.serial (left_of u.conn ended subs)
 left_in ended subs u i e = in_mapped serial_of (filter (λ (sub : Subscription). is_of u.conn sub && is_left ended sub) subs) u (filter_in (λ (sub : Subscription). is_of u.conn sub && is_left ended sub) subs u i (λ j. true_eq u.conn u.conn refl j && not (e j)))
 
-shut_told : (s : State) (u : Subscription) (w : Walk) → AreRising s.subs → Told s w → Told s (shut_slow s.subs u.conn w)
+shut_told : (s : State) (u : Subscription) (w : Walk) → AreRising s.subs → Told s w → Told s (walk_with_shut s.subs u.conn w)
 shut_told s u w rising h = record {
   ended_open = each_append (λ k. In k (serials_of s.subs)) w.ended (left_of u.conn w.ended s.subs) h.ended_open (λ k i. let x = left_is u.conn w.ended s.subs k i in subst (λ m. In m (serials_of s.subs)) (sym x.2) (in_mapped serial_of s.subs x.0 x.1));
   shut_ends = λ v i o c. closes v i o c (nat_eq v.conn u.conn) refl (list_any (nat_eq v.serial) w.ended) refl;
   ended_why = λ v i j. ⊎_elim
       (λ old. ⊎_elim (λ c. inl (stays_shut slow_consumer v.conn u.conn w.clients c)) (λ x. inr x) (h.ended_why v i old))
-      (λ new. inl (let x = left_is u.conn w.ended s.subs v.serial new in subst (λ m. is_open m (changed (with_last slow_consumer) u.conn w.clients) ≡ false) (sym (ap (λ (y : Subscription). y.conn) (one s.subs rising v x.0 i x.1 x.2) ∙ x.3)) (shuts slow_consumer u.conn w.clients)))
+      (λ new. inl (let x = left_is u.conn w.ended s.subs v.serial new in subst (λ m. is_open m (clients_with_change (with_last slow_consumer) u.conn w.clients) ≡ false) (sym (ap (λ (y : Subscription). y.conn) (one s.subs rising v x.0 i x.1 x.2) ∙ x.3)) (shuts slow_consumer u.conn w.clients)))
       (in_append v.serial w.ended (left_of u.conn w.ended s.subs) j);
   given_ends = λ v i m e le. in_left v.serial w.ended (left_of u.conn w.ended s.subs) (h.given_ends v i m e le);
   given_some = h.given_some;
 }
   where
-    closes : (v : Subscription) → In v s.subs → is_open v.conn s.clients ≡ true → is_open v.conn (changed (with_last slow_consumer) u.conn w.clients) ≡ false → (b : Bool) → nat_eq v.conn u.conn ≡ b → (d : Bool) → list_any (nat_eq v.serial) w.ended ≡ d → In v.serial (w.ended ++ left_of u.conn w.ended s.subs)
+    closes : (v : Subscription) → In v s.subs → is_open v.conn s.clients ≡ true → is_open v.conn (clients_with_change (with_last slow_consumer) u.conn w.clients) ≡ false → (b : Bool) → nat_eq v.conn u.conn ≡ b → (d : Bool) → list_any (nat_eq v.serial) w.ended ≡ d → In v.serial (w.ended ++ left_of u.conn w.ended s.subs)
     closes v i o c b e true f = in_left v.serial w.ended (left_of u.conn w.ended s.subs) (has_in v.serial w.ended f)
     closes v i o c true e false f = in_right v.serial w.ended (left_of u.conn w.ended s.subs) (subst (λ m. In v.serial (left_of m w.ended s.subs)) (eq_true v.conn u.conn e) (left_in w.ended s.subs v i f))
     closes v i o c false e false f = in_left v.serial w.ended (left_of u.conn w.ended s.subs) (h.shut_ends v i o (sym (open_there slow_consumer u.conn v.conn w.clients (eq_false v.conn u.conn e)) ∙ c))
 
 walk_told : (s : State) (job : Job) (due : List Subscription) (w : Walk) → AreRising s.subs → Each (λ u. In u s.subs) due → Told s w → Told s (walk s job due w)
 walk_told s job [] w rising among h = h
-walk_told s job (u ∷ due) w rising among h = walk_told s job due (put_one s job w u) rising (λ v i. among v (inr i)) (each_way (Told s) s job w u h (λ e f. give_told s (due_entry s.shard job None u) u w rising (among u (inl refl)) h) (λ e f. shut_told s u w rising h))
+walk_told s job (u ∷ due) w rising among h = walk_told s job due (walk_after_put s job w u) rising (λ v i. among v (inr i)) (each_way (Told s) s job w u h (λ e f. give_told s (due_entry s.shard job None u) u w rising (among u (inl refl)) h) (λ e f. shut_told s u w rising h))
 
-walked_told : (s : State) (job : Job) → AreRising s.subs → Told s (walked s job)
+walked_told : (s : State) (job : Job) → AreRising s.subs → Told s (whole_walk s job)
 walked_told s job rising = walk_told s job (filter (is_due job) s.subs) (first_step s.clients) rising (λ u i. (in_filter (is_due job) s.subs u i).0) (first_told s)
 
 candidate_open : (s : State) (hand : Option Job) (index : ℕ) (u : Subscription) → candidate_of s hand index ≡ Some u → In u s.subs
@@ -156,7 +156,7 @@ one_for k (u ∷ given) apart (inl e) =
     ∙ ap suc (none_for k given (λ i. apart.0 k i (sym e)))
 one_for k (u ∷ given) apart (inr i) = ap (λ b. length (cond b (u ∷ filter (has_serial k) given) (filter (has_serial k) given))) (false_eq u.serial k (apart.0 k i)) ∙ one_for k given apart.1 i
 
-counted_is : (given : List Subscription) (u : Subscription) → AreApart (serials_of given) → counted (serials_of given) u ≡ record u { delivered = u.delivered + length (filter (has_serial u.serial) given) }
+counted_is : (given : List Subscription) (u : Subscription) → AreApart (serials_of given) → sub_with_count (serials_of given) u ≡ record u { delivered = u.delivered + length (filter (has_serial u.serial) given) }
 counted_is given u apart = go (list_any (nat_eq u.serial) (serials_of given)) refl
   where
     go : (b : Bool) → list_any (nat_eq u.serial) (serials_of given) ≡ b → (cond b (record u { delivered = u.delivered + 1 }) u) ≡ record u { delivered = u.delivered + length (filter (has_serial u.serial) given) }
@@ -175,11 +175,11 @@ ended_by_claim (Some job) (Some sub) true = ended_by sub
 ended_by_claim (Some job) (Some sub) false = []
 
 abbrev serials_ended : State → Event → List ℕ
-serials_ended s (Unsubscribe conn sid max) = ended_by_unsubscribe max (called conn sid s.subs)
+serials_ended s (Unsubscribe conn sid max) = ended_by_unsubscribe max (sub_called conn sid s.subs)
 serials_ended s (Reply conn frame) = ended_by_reply s conn (reply_line frame)
 serials_ended s (Shut conn text) = left_of conn [] s.subs
 serials_ended s (Detach conn) = left_of conn [] s.subs
-serials_ended s (Begin job) = (walked s job).ended
+serials_ended s (Begin job) = (whole_walk s job).ended
 serials_ended s (Claim index won) = ended_by_claim s.hand (candidate_of s s.hand index) won
 serials_ended s other = []
 
@@ -187,7 +187,7 @@ record Becomes (s : State) (e : Event) : Type 0 where
   us : List Subscription
   same : serials_of us ≡ serials_of s.subs
   after : (shard_after s e).subs ≡ filter (is_left (serials_ended s e)) us
-  olds : Each (λ new. (old : Subscription) × In old s.subs × (new ≡ gone_on s e old)) (filter (is_left (serials_ended s e)) us)
+  olds : Each (λ new. (old : Subscription) × In old s.subs × (new ≡ sub_after s e old)) (filter (is_left (serials_ended s e)) us)
   some : Each (λ k. In k (serials_of s.subs)) (serials_ended s e)
 
 none_left : (us : List Subscription) → us ≡ filter (is_left []) us
@@ -197,7 +197,7 @@ none_left (u ∷ us) = ap (λ t. u ∷ t) (none_left us)
 no_more : (n : ℕ) → n ≡ n + 0
 no_more n = omega arith
 
-same_on : (s : State) (e : Event) (u : Subscription) → given_by s e ≡ [] → max_after e u ≡ u.max → u ≡ gone_on s e u
+same_on : (s : State) (e : Event) (u : Subscription) → given_by s e ≡ [] → max_after e u ≡ u.max → u ≡ sub_after s e u
 same_on s e u none max = λ i. record u { delivered = (no_more u.delivered ∙ ap (λ t. u.delivered + length (filter (has_serial u.serial) t)) (sym none)) i; max = sym max i }
 
 closing : (s : State) (e : Event) → (shard_after s e).subs ≡ filter (is_left (serials_ended s e)) s.subs → Each (λ k. In k (serials_of s.subs)) (serials_ended s e) → given_by s e ≡ [] → ((u : Subscription) → In u s.subs → is_left (serials_ended s e) u ≡ true → max_after e u ≡ u.max) → Becomes s e
@@ -209,30 +209,30 @@ quiet s e same none given max = closing s e (same ∙ none_left s.subs ∙ ap (�
 all_left : (conn : ℕ) (subs : List Subscription) → Each (λ k. In k (serials_of subs)) (left_of conn [] subs)
 all_left conn subs k i = let x = left_is conn [] subs k i in subst (λ m. In m (serials_of subs)) (sym x.2) (in_mapped serial_of subs x.0 x.1)
 
-giving : (s : State) (e : Event) (w : Walk) → (shard_after s e).subs ≡ filter (is_left w.ended) (map (counted (serials_of w.given)) s.subs) → serials_ended s e ≡ w.ended → given_by s e ≡ w.given → ((u : Subscription) → max_after e u ≡ u.max) → AreApart (serials_of w.given) → Told s w → Becomes s e
+giving : (s : State) (e : Event) (w : Walk) → (shard_after s e).subs ≡ filter (is_left w.ended) (map (sub_with_count (serials_of w.given)) s.subs) → serials_ended s e ≡ w.ended → given_by s e ≡ w.given → ((u : Subscription) → max_after e u ≡ u.max) → AreApart (serials_of w.given) → Told s w → Becomes s e
 giving s e w after ended given max apart h = record {
-  us = map (counted (serials_of w.given)) s.subs;
+  us = map (sub_with_count (serials_of w.given)) s.subs;
   same = counted_serials (serials_of w.given) s.subs;
-  olds = λ new i. let m = in_map (counted (serials_of w.given)) s.subs new (in_filter (is_left (serials_ended s e)) (map (counted (serials_of w.given)) s.subs) new i).0 in (m.0, m.1, m.2 ∙ counted_is w.given m.0 apart ∙ (λ j. record m.0 { delivered = m.0.delivered + length (filter (has_serial m.0.serial) (sym given j)); max = sym (max m.0) j }));
-  after = after ∙ ap (λ t. filter (is_left t) (map (counted (serials_of w.given)) s.subs)) (sym ended);
+  olds = λ new i. let m = in_map (sub_with_count (serials_of w.given)) s.subs new (in_filter (is_left (serials_ended s e)) (map (sub_with_count (serials_of w.given)) s.subs) new i).0 in (m.0, m.1, m.2 ∙ counted_is w.given m.0 apart ∙ (λ j. record m.0 { delivered = m.0.delivered + length (filter (has_serial m.0.serial) (sym given j)); max = sym (max m.0) j }));
+  after = after ∙ ap (λ t. filter (is_left t) (map (sub_with_count (serials_of w.given)) s.subs)) (sym ended);
   some = subst (Each (λ k. In k (serials_of s.subs))) (sym ended) h.ended_open;
 }
 
 -- the one that a connection calls by an id
 
-called_is : (conn : ℕ) (sid : List ℕ) (subs : List Subscription) (u : Subscription) → called conn sid subs ≡ Some u → In u subs × (is_called conn sid u ≡ true)
+called_is : (conn : ℕ) (sid : List ℕ) (subs : List Subscription) (u : Subscription) → sub_called conn sid subs ≡ Some u → In u subs × (is_called conn sid u ≡ true)
 called_is conn sid [] u e = absurd (none-some u e)
 called_is conn sid (x ∷ xs) u e = go (is_called conn sid x) refl (called_is conn sid xs u) e
   where
-    go : (b : Bool) → is_called conn sid x ≡ b → (called conn sid xs ≡ Some u → In u xs × (is_called conn sid u ≡ true)) → cond b (Some x) (called conn sid xs) ≡ Some u → In u (x ∷ xs) × (is_called conn sid u ≡ true)
+    go : (b : Bool) → is_called conn sid x ≡ b → (sub_called conn sid xs ≡ Some u → In u xs × (is_called conn sid u ≡ true)) → cond b (Some x) (sub_called conn sid xs) ≡ Some u → In u (x ∷ xs) × (is_called conn sid u ≡ true)
     go true f more g = (inl (sym (same_Some x u g)), ap (is_called conn sid) (sym (same_Some x u g)) ∙ f)
     go false f more g = let m = more g in (inr m.0, m.1)
 
-not_called : (conn : ℕ) (sid : List ℕ) (subs : List Subscription) → called conn sid subs ≡ None → (u : Subscription) → In u subs → is_called conn sid u ≡ false
+not_called : (conn : ℕ) (sid : List ℕ) (subs : List Subscription) → sub_called conn sid subs ≡ None → (u : Subscription) → In u subs → is_called conn sid u ≡ false
 not_called conn sid [] e u i = absurd i
 not_called conn sid (x ∷ xs) e u i = go (is_called conn sid x) refl (not_called conn sid xs) e i
   where
-    go : (b : Bool) → is_called conn sid x ≡ b → (called conn sid xs ≡ None → (u : Subscription) → In u xs → is_called conn sid u ≡ false) → cond b (Some x) (called conn sid xs) ≡ None → (u ≡ x) ⊎ In u xs → is_called conn sid u ≡ false
+    go : (b : Bool) → is_called conn sid x ≡ b → (sub_called conn sid xs ≡ None → (u : Subscription) → In u xs → is_called conn sid u ≡ false) → cond b (Some x) (sub_called conn sid xs) ≡ None → (u ≡ x) ⊎ In u xs → is_called conn sid u ≡ false
     go true f more g j = absurd (none-some x (sym g))
     go false f more g (inl same) = ap (is_called conn sid) same ∙ f
     go false f more g (inr j) = more g u j
@@ -270,8 +270,8 @@ in_max k max (x ∷ xs) rising new i = go (has_serial k x) refl (in_max k max xs
     go false e more (inl f) = (x, inl refl, inr (eq_false x.serial k e, f))
     go false e more (inr j) = let m = more j in (m.0, inr m.1, m.2)
 
-unsubscribes : (s : State) → AreHeld s → (conn : ℕ) (sid : List ℕ) (max : Option ℕ) (o : Option Subscription) → called conn sid s.subs ≡ o → Becomes s (Unsubscribe conn sid max)
-unsubscribes s held conn sid max None is = quiet s (Unsubscribe conn sid max) (ap (λ o. (unsubscribed s max o).subs) is) (ap (ended_by_unsubscribe max) is) refl (λ u i. ap (λ b. cond b max u.max) (not_called conn sid s.subs is u i))
+unsubscribes : (s : State) → AreHeld s → (conn : ℕ) (sid : List ℕ) (max : Option ℕ) (o : Option Subscription) → sub_called conn sid s.subs ≡ o → Becomes s (Unsubscribe conn sid max)
+unsubscribes s held conn sid max None is = quiet s (Unsubscribe conn sid max) (ap (λ o. (after_unsubscribe s max o).subs) is) (ap (ended_by_unsubscribe max) is) refl (λ u i. ap (λ b. cond b max u.max) (not_called conn sid s.subs is u i))
 unsubscribes s held conn sid max (Some u) is = go (ended_now max u) refl
   where
     here : In u s.subs × (is_called conn sid u ≡ true)
@@ -291,7 +291,7 @@ unsubscribes s held conn sid max (Some u) is = go (ended_now max u) refl
     go true e =
         let ends : serials_ended s (Unsubscribe conn sid max) ≡ u.serial ∷ [] = ap (ended_by_unsubscribe max) is ∙ ap (λ b. cond b (u.serial ∷ []) []) e in
         closing s (Unsubscribe conn sid max)
-        (ap (λ o. (unsubscribed s max o).subs) is ∙ ap (λ b. (cond b (without (u.serial ∷ []) s) (record s { subs = with_max u.serial max s.subs })).subs) e ∙ ap (λ t. filter (is_left t) s.subs) (sym ends))
+        (ap (λ o. (after_unsubscribe s max o).subs) is ∙ ap (λ b. (cond b (without_subs (u.serial ∷ []) s) (record s { subs = with_max u.serial max s.subs })).subs) e ∙ ap (λ t. filter (is_left t) s.subs) (sym ends))
         (λ k i. ⊎_elim (λ f. subst (λ m. In m (serials_of s.subs)) (sym f) (in_mapped serial_of s.subs u here.0)) (λ f. absurd f) (subst (In k) ends i))
         refl
         (λ v i l. other v i (λ f. true≢false (sym (in_has v.serial (u.serial ∷ []) (inl f)) ∙ not_true (list_any (nat_eq v.serial) (u.serial ∷ [])) (ap (λ t. is_left t v) (sym ends) ∙ l))))
@@ -300,7 +300,7 @@ unsubscribes s held conn sid max (Some u) is = go (ended_now max u) refl
         record {
           us = with_max u.serial max s.subs;
           same = max_serials u.serial max s.subs;
-          after = ap (λ o. (unsubscribed s max o).subs) is ∙ ap (λ b. (cond b (without (u.serial ∷ []) s) (record s { subs = with_max u.serial max s.subs })).subs) e ∙ none_left (with_max u.serial max s.subs) ∙ ap (λ t. filter (is_left t) (with_max u.serial max s.subs)) (sym ends);
+          after = ap (λ o. (after_unsubscribe s max o).subs) is ∙ ap (λ b. (cond b (without_subs (u.serial ∷ []) s) (record s { subs = with_max u.serial max s.subs })).subs) e ∙ none_left (with_max u.serial max s.subs) ∙ ap (λ t. filter (is_left t) (with_max u.serial max s.subs)) (sym ends);
           olds = λ new i.
               let m = in_max u.serial max s.subs held.rising new (in_filter (is_left (serials_ended s (Unsubscribe conn sid max))) (with_max u.serial max s.subs) new i).0 in (
                 m.0,
@@ -322,7 +322,7 @@ record Opens (s : State) (e : Event) : Type 0 where
   key : Key
   sid : List ℕ
   is : e ≡ Subscribe conn key sid
-  none : called conn sid s.subs ≡ None
+  none : sub_called conn sid s.subs ≡ None
 
 done_subs : (s : State) (o : Option Job) → (done_with s o).subs ≡ s.subs
 done_subs s None = refl
@@ -337,15 +337,15 @@ claims s index won rising hand o b at is w = go hand o b at is (λ (e : s.hand �
     ended_is : (h : Option Job) (u : Option Subscription) (c : Bool) → s.hand ≡ h → candidate_of s s.hand index ≡ u → won ≡ c → serials_ended s (Claim index won) ≡ ended_by_claim h u c
     ended_is h u c e f g = λ i. ended_by_claim (e i) (f i) (g i)
 
-    subs_is : (h : Option Job) (u : Option Subscription) (c : Bool) → s.hand ≡ h → candidate_of s s.hand index ≡ u → won ≡ c → (shard_after s (Claim index won)).subs ≡ (claimed s h u c).subs
-    subs_is h u c e f g = λ i. (claimed s (e i) (f i) (g i)).subs
+    subs_is : (h : Option Job) (u : Option Subscription) (c : Bool) → s.hand ≡ h → candidate_of s s.hand index ≡ u → won ≡ c → (shard_after s (Claim index won)).subs ≡ (after_claim s h u c).subs
+    subs_is h u c e f g = λ i. (after_claim s (e i) (f i) (g i)).subs
 
     go : (h : Option Job) (u : Option Subscription) (c : Bool) → s.hand ≡ h → candidate_of s h index ≡ u → (s.hand ≡ h → candidate_of s s.hand index ≡ u) → won ≡ c → Becomes s (Claim index won)
     go None u c e f g x = quiet s (Claim index won) (subs_is None u c e (g e) x) (ended_is None u c e (g e) x) (given_is None u c e (g e) x) (λ v i. refl)
     go (Some job) None c e f g x = quiet s (Claim index won) (subs_is (Some job) None c e (g e) x) (ended_is (Some job) None c e (g e) x) (given_is (Some job) None c e (g e) x) (λ v i. refl)
     go (Some job) (Some u) false e f g x = quiet s (Claim index won) (subs_is (Some job) (Some u) false e (g e) x) (ended_is (Some job) (Some u) false e (g e) x) (given_is (Some job) (Some u) false e (g e) x) (λ v i. refl)
     go (Some job) (Some u) true e f g x =
-        giving s (Claim index won) (give (due_entry s.shard job u.key.queue u) u (first_step s.clients)) (subs_is (Some job) (Some u) true e (g e) x) (ended_is (Some job) (Some u) true e (g e) x) (given_is (Some job) (Some u) true e (g e) x) (λ v. refl) ((λ k i. absurd i), tt)
+        giving s (Claim index won) (walk_with_entry (due_entry s.shard job u.key.queue u) u (first_step s.clients)) (subs_is (Some job) (Some u) true e (g e) x) (ended_is (Some job) (Some u) true e (g e) x) (given_is (Some job) (Some u) true e (g e) x) (λ v. refl) ((λ k i. absurd i), tt)
         (give_told s (due_entry s.shard job u.key.queue u) u (first_step s.clients) rising (candidate_open s (Some job) index u f) (first_told s))
 
 either_subs : (s x y : State) (ended : List ℕ) → x.subs ≡ s.subs → y.subs ≡ filter (is_left ended) s.subs → (b : Bool) → (cond b x y).subs ≡ filter (is_left (cond b [] ended)) s.subs
@@ -354,12 +354,12 @@ either_subs s x y ended e f false = f
 
 becomes : (s : State) (e : Event) → AreHeld s → Becomes s e ⊎ Opens s e
 becomes s Attach held = inl (quiet s Attach refl refl refl (λ u i. refl))
-becomes s (Subscribe conn key sid) held = go (called conn sid s.subs) refl
+becomes s (Subscribe conn key sid) held = go (sub_called conn sid s.subs) refl
   where
-    go : (o : Option Subscription) → called conn sid s.subs ≡ o → Becomes s (Subscribe conn key sid) ⊎ Opens s (Subscribe conn key sid)
+    go : (o : Option Subscription) → sub_called conn sid s.subs ≡ o → Becomes s (Subscribe conn key sid) ⊎ Opens s (Subscribe conn key sid)
     go None is = inr (record { conn = conn; key = key; sid = sid; is = refl; none = is })
-    go (Some u) is = inl (quiet s (Subscribe conn key sid) (ap (λ o. (subscribed s (new_sub s conn key sid) o).subs) is) refl refl (λ v i. refl))
-becomes s (Unsubscribe conn sid max) held = inl (unsubscribes s held conn sid max (called conn sid s.subs) refl)
+    go (Some u) is = inl (quiet s (Subscribe conn key sid) (ap (λ o. (after_subscribe s (new_sub s conn key sid) o).subs) is) refl refl (λ v i. refl))
+becomes s (Unsubscribe conn sid max) held = inl (unsubscribes s held conn sid max (sub_called conn sid s.subs) refl)
 becomes s (Reply conn frame) held = inl (closing s (Reply conn frame) (either_subs s _ _ (left_of conn [] s.subs) refl refl (answer_fits s conn (reply_line frame))) (either_some (answer_fits s conn (reply_line frame))) refl (λ u i l. refl))
   where
     either_some : (c : Bool) (k : ℕ) → In k (cond c [] (left_of conn [] s.subs)) → In k (serials_of s.subs)
@@ -368,7 +368,7 @@ becomes s (Reply conn frame) held = inl (closing s (Reply conn frame) (either_su
 becomes s (Shut conn text) held = inl (closing s (Shut conn text) refl (all_left conn s.subs) refl (λ u i l. refl))
 becomes s (Detach conn) held = inl (closing s (Detach conn) refl (all_left conn s.subs) refl (λ u i l. refl))
 becomes s (Take conn count) held = inl (quiet s (Take conn count) refl refl refl (λ u i. refl))
-becomes s (Begin job) held = inl (giving s (Begin job) (walked s job) refl refl refl (λ u. refl) (given_apart s job held.rising) (walked_told s job held.rising))
+becomes s (Begin job) held = inl (giving s (Begin job) (whole_walk s job) refl refl refl (λ u. refl) (given_apart s job held.rising) (walked_told s job held.rising))
 becomes s (Claim index won) held = inl (claims s index won held.rising s.hand (candidate_of s s.hand index) won refl refl refl)
 becomes s End held = inl (quiet s End (done_subs s s.hand) refl refl (λ u i. refl))
 becomes s (DropJob waiting) held = inl (quiet s (DropJob waiting) (done_subs s (option_or s.hand waiting)) refl refl (λ u i. refl))
@@ -379,11 +379,11 @@ becomes s Collect held = inl (quiet s Collect refl refl refl (λ u i. refl))
 pub subs_go_on : SubsGoOn
 subs_go_on s e held cause new i = ⊎_elim (λ (b : Becomes s e). inl (b.olds new (subst (In new) b.after i))) (λ (o : Opens s e). opened o) (becomes s e held)
   where
-    opened : Opens s e → ((old : Subscription) × In old s.subs × (new ≡ gone_on s e old)) ⊎ IsOpening s e new
-    opened o = subst (λ x. ((old : Subscription) × In old s.subs × (new ≡ gone_on s x old)) ⊎ IsOpening s x new) (sym o.is) (⊎_elim
+    opened : Opens s e → ((old : Subscription) × In old s.subs × (new ≡ sub_after s e old)) ⊎ IsOpening s e new
+    opened o = subst (λ x. ((old : Subscription) × In old s.subs × (new ≡ sub_after s x old)) ⊎ IsOpening s x new) (sym o.is) (⊎_elim
         (λ j. inl (new, j, same_on s (Subscribe o.conn o.key o.sid) new refl refl))
         (λ j. ⊎_elim (λ f. inr f) (λ f. absurd f) j)
-        (in_append new s.subs (new_sub s o.conn o.key o.sid ∷ []) (subst (In new) (ap (λ x. (shard_after s x).subs) o.is ∙ ap (λ u. (subscribed s (new_sub s o.conn o.key o.sid) u).subs) o.none) i)))
+        (in_append new s.subs (new_sub s o.conn o.key o.sid ∷ []) (subst (In new) (ap (λ x. (shard_after s x).subs) o.is ∙ ap (λ u. (after_subscribe s (new_sub s o.conn o.key o.sid) u).subs) o.none) i)))
 
 -- ---- what closes
 
@@ -391,7 +391,7 @@ none_ended : (s : State) (e : Event) → Opens s e → serials_ended s e ≡ []
 none_ended s e o = ap (serials_ended s) o.is
 
 opened_subs : (s : State) (e : Event) → (o : Opens s e) → (shard_after s e).subs ≡ s.subs ++ new_sub s o.conn o.key o.sid ∷ []
-opened_subs s e o = ap (λ x. (shard_after s x).subs) o.is ∙ ap (λ u. (subscribed s (new_sub s o.conn o.key o.sid) u).subs) o.none
+opened_subs s e o = ap (λ x. (shard_after s x).subs) o.is ∙ ap (λ u. (after_subscribe s (new_sub s o.conn o.key o.sid) u).subs) o.none
 
 closes_is : (s : State) (e : Event) → AreHeld s → (k : ℕ) → Closes s (shard_after s e) k ↔ In k (serials_ended s e)
 closes_is s e held k = ⊎_elim kept opened (becomes s e held)
@@ -418,9 +418,9 @@ closes_is s e held k = ⊎_elim kept opened (becomes s e held)
 
 told_is : (s : State) (e : Event) → ended_of (shard_answer s e) ≡ ended_ids s.shard (serials_ended s e)
 told_is s Attach = refl
-told_is s (Subscribe conn key sid) = go (called conn sid s.subs)
+told_is s (Subscribe conn key sid) = go (sub_called conn sid s.subs)
   where
-    go : (o : Option Subscription) → ended_of (subscribed_answer s o) ≡ []
+    go : (o : Option Subscription) → ended_of (subscribe_answer s o) ≡ []
     go None = refl
     go (Some u) = refl
 told_is s (Unsubscribe conn sid max) = refl
@@ -431,7 +431,7 @@ told_is s (Take conn count) = refl
 told_is s (Begin job) = refl
 told_is s (Claim index won) = go s.hand (candidate_of s s.hand index) won
   where
-    go : (hand : Option Job) (o : Option Subscription) (b : Bool) → ended_of (claimed_answer s hand o b) ≡ ended_ids s.shard (ended_by_claim hand o b)
+    go : (hand : Option Job) (o : Option Subscription) (b : Bool) → ended_of (claim_answer s hand o b) ≡ ended_ids s.shard (ended_by_claim hand o b)
     go None o b = refl
     go (Some job) None b = refl
     go (Some job) (Some u) true = refl
@@ -443,7 +443,7 @@ told_is s Collect = refl
 ended_once : (s : State) (e : Event) → AreRising s.subs → AreApart (serials_ended s e)
 ended_once s Attach rising = tt
 ended_once s (Subscribe conn key sid) rising = tt
-ended_once s (Unsubscribe conn sid max) rising = go (called conn sid s.subs)
+ended_once s (Unsubscribe conn sid max) rising = go (sub_called conn sid s.subs)
   where
     by : (b : Bool) (k : ℕ) → AreApart (cond b (k ∷ []) [])
     by true k = ((λ j i. absurd i), tt)
@@ -550,7 +550,7 @@ module _ (s : State) (e : Event) (held : AreHeld s) (sub : Subscription) (there 
       back (inr (inl x)) = by (list_any (nat_eq sub.serial) (serials_of w.given)) refl x
       back (inr (inr x)) = absurd (un x)
 
-unsubscribe_why : (s : State) (conn : ℕ) (sid : List ℕ) (max : Option ℕ) → AreHeld s → (sub : Subscription) → In sub s.subs → (o : Option Subscription) → called conn sid s.subs ≡ o → In sub.serial (ended_by_unsubscribe max o) ↔ HasCause s (Unsubscribe conn sid max) sub
+unsubscribe_why : (s : State) (conn : ℕ) (sid : List ℕ) (max : Option ℕ) → AreHeld s → (sub : Subscription) → In sub s.subs → (o : Option Subscription) → sub_called conn sid s.subs ≡ o → In sub.serial (ended_by_unsubscribe max o) ↔ HasCause s (Unsubscribe conn sid max) sub
 unsubscribe_why s conn sid max held sub there o is = go o is
   where
     e : Event
@@ -567,7 +567,7 @@ unsubscribe_why s conn sid max held sub there o is = go o is
     is_enough None u f = refl
     is_enough (Some m) u f = le_is m u.delivered f
 
-    go : (o : Option Subscription) → called conn sid s.subs ≡ o → In sub.serial (ended_by_unsubscribe max o) ↔ HasCause s (Unsubscribe conn sid max) sub
+    go : (o : Option Subscription) → sub_called conn sid s.subs ≡ o → In sub.serial (ended_by_unsubscribe max o) ↔ HasCause s (Unsubscribe conn sid max) sub
     go None is = (λ i. absurd i, λ x. absurd (other (λ un. true≢false (sym (call_is conn sid sub un.0 un.1) ∙ not_called conn sid s.subs is sub there)) x))
     go (Some u) is = by (ended_now max u) refl
       where
@@ -597,24 +597,24 @@ claim_why s index won held sub there hand o b at is at_hand w = go hand o b at i
     go (Some job) None c e f g x = lost (λ i. given_by_claim (e i) (f i) (x i))
     go (Some job) (Some u) false e f g x = lost (λ i. given_by_claim (e i) (f i) (x i))
     go (Some job) (Some u) true e f g x =
-        with_walk s (Claim index won) held sub there (give (due_entry s.shard job u.key.queue u) u (first_step s.clients)) (λ i. (claimed s (e i) (f i) (x i)).clients) (λ i. given_by_claim (e i) (f i) (x i)) ((λ k i. absurd i), tt)
+        with_walk s (Claim index won) held sub there (walk_with_entry (due_entry s.shard job u.key.queue u) u (first_step s.clients)) (λ i. (after_claim s (e i) (f i) (x i)).clients) (λ i. given_by_claim (e i) (f i) (x i)) ((λ k i. absurd i), tt)
         (give_told s (due_entry s.shard job u.key.queue u) u (first_step s.clients) held.rising (candidate_open s (Some job) index u g) (first_told s)) (λ un. un)
 
 why : (s : State) (e : Event) → AreHeld s → shard_refusal s e ≡ None → (sub : Subscription) → In sub s.subs → In sub.serial (serials_ended s e) ↔ HasCause s e sub
 why s Attach held cause sub i = (λ j. absurd j, λ x. absurd (nothing s Attach held sub i (λ k d. d) (λ k j. j) refl (λ un. un) x))
 why s (Subscribe conn key sid) held cause sub i = (λ j. absurd j, λ x. absurd (nothing s (Subscribe conn key sid) held sub i (λ k d. d) (λ k j. j) refl (λ un. un) x))
-why s (Unsubscribe conn sid max) held cause sub i = unsubscribe_why s conn sid max held sub i (called conn sid s.subs) refl
+why s (Unsubscribe conn sid max) held cause sub i = unsubscribe_why s conn sid max held sub i (sub_called conn sid s.subs) refl
 why s (Reply conn frame) held cause sub i = go (answer_fits s conn (reply_line frame)) refl
   where
     go : (b : Bool) → answer_fits s conn (reply_line frame) ≡ b → In sub.serial (cond (answer_fits s conn (reply_line frame)) [] (left_of conn [] s.subs)) ↔ HasCause s (Reply conn frame) sub
     go true e = (λ j. absurd (subst (λ b. In sub.serial (cond b [] (left_of conn [] s.subs))) e j), λ x. absurd (nothing s (Reply conn frame) held sub i (λ k d. d) (λ k j. subst (λ b. In k (cond b [] (conn ∷ []))) e j) refl (λ un. un) x))
     go false e = subst (λ b. In sub.serial (cond b [] (left_of conn [] s.subs)) ↔ HasCause s (Reply conn frame) sub) (sym e)
-        (with_conn s (Reply conn frame) held sub i conn (ap (λ b. is_open conn (cond b (record s { clients = changed (λ backlog. record { entries = backlog.entries ++ reply_entry (reply_line frame) ∷ []; shut = backlog.shut }) conn s.clients }) (was_shut s conn slow_consumer)).clients) e ∙ shuts slow_consumer conn s.clients)
+        (with_conn s (Reply conn frame) held sub i conn (ap (λ b. is_open conn (cond b (record s { clients = clients_with_change (λ backlog. record { entries = backlog.entries ++ reply_entry (reply_line frame) ∷ []; shut = backlog.shut }) conn s.clients }) (was_shut s conn slow_consumer)).clients) e ∙ shuts slow_consumer conn s.clients)
         (λ k apart o. stays_after s (Reply conn frame) k o (λ d. d) (λ j. ⊎_elim (λ f. apart f) (λ f. f) (subst (λ b. In k (cond b [] (conn ∷ []))) e j))) refl (λ un. un))
 why s (Shut conn text) held cause sub i = with_conn s (Shut conn text) held sub i conn (shuts (err_line text) conn s.clients) (λ k apart o. stays_after s (Shut conn text) k o (λ d. d) (λ j. ⊎_elim (λ f. apart f) (λ f. f) j)) refl (λ un. un)
 why s (Detach conn) held cause sub i = with_conn s (Detach conn) held sub i conn (ap takes_events (gone conn s.clients)) (λ k apart o. stays_after s (Detach conn) k o apart (λ j. j)) refl (λ un. un)
 why s (Take conn count) held cause sub i = (λ j. absurd j, λ x. absurd (nothing s (Take conn count) held sub i (λ k d. d) (λ k j. j) refl (λ un. un) x))
-why s (Begin job) held cause sub i = with_walk s (Begin job) held sub i (walked s job) refl refl (given_apart s job held.rising) (walked_told s job held.rising) (λ un. un)
+why s (Begin job) held cause sub i = with_walk s (Begin job) held sub i (whole_walk s job) refl refl (given_apart s job held.rising) (walked_told s job held.rising) (λ un. un)
 why s (Claim index won) held cause sub i = claim_why s index won held sub i s.hand (candidate_of s s.hand index) won refl refl refl refl
 why s End held cause sub i = (λ j. absurd j, λ x. absurd (nothing s End held sub i (λ k d. d) (λ k j. j) refl (λ un. un) x))
 why s (DropJob waiting) held cause sub i = (λ j. absurd j, λ x. absurd (nothing s (DropJob waiting) held sub i (λ k d. d) (λ k j. j) refl (λ un. un) x))
@@ -644,14 +644,14 @@ either_fixed s x y f g false = g
 
 pub fixed : (s : State) (e : Event) → Fixed s (shard_after s e)
 fixed s Attach = record { shard = refl; shards = refl; next = inr refl; opened = omega arith }
-fixed s (Subscribe conn key sid) = go (called conn sid s.subs)
+fixed s (Subscribe conn key sid) = go (sub_called conn sid s.subs)
   where
-    go : (o : Option Subscription) → Fixed s (subscribed s (new_sub s conn key sid) o)
+    go : (o : Option Subscription) → Fixed s (after_subscribe s (new_sub s conn key sid) o)
     go None = record { shard = refl; shards = refl; next = inl refl; opened = omega arith }
     go (Some u) = same_fixed s s.clients s.subs
-fixed s (Unsubscribe conn sid max) = go (called conn sid s.subs)
+fixed s (Unsubscribe conn sid max) = go (sub_called conn sid s.subs)
   where
-    go : (o : Option Subscription) → Fixed s (unsubscribed s max o)
+    go : (o : Option Subscription) → Fixed s (after_unsubscribe s max o)
     go None = same_fixed s s.clients s.subs
     go (Some u) = either_fixed s _ _ (record { shard = refl; shards = refl; next = inl refl; opened = omega arith }) (record { shard = refl; shards = refl; next = inl refl; opened = omega arith }) (ended_now max u)
 fixed s (Reply conn frame) = either_fixed s _ _ (record { shard = refl; shards = refl; next = inl refl; opened = omega arith }) (record { shard = refl; shards = refl; next = inl refl; opened = omega arith }) (answer_fits s conn (reply_line frame))
@@ -661,7 +661,7 @@ fixed s (Take conn count) = record { shard = refl; shards = refl; next = inl ref
 fixed s (Begin job) = record { shard = refl; shards = refl; next = inl refl; opened = omega arith }
 fixed s (Claim index won) = go s.hand (candidate_of s s.hand index) won
   where
-    go : (hand : Option Job) (o : Option Subscription) (b : Bool) → Fixed s (claimed s hand o b)
+    go : (hand : Option Job) (o : Option Subscription) (b : Bool) → Fixed s (after_claim s hand o b)
     go None o b = same_fixed s s.clients s.subs
     go (Some job) None b = record { shard = refl; shards = refl; next = inl refl; opened = omega arith }
     go (Some job) (Some u) true = record { shard = refl; shards = refl; next = inl refl; opened = omega arith }
@@ -691,10 +691,10 @@ module _ (s : State) (e : Event) (held : AreHeld s) (cause : shard_refusal s e �
           (λ j k i l. let m = in_map serial_of s.subs j i in let le = held.given m.0 m.1 in let is = m.2 in ⊎_elim (λ (f : k ≡ s.opened + 1). omega arith) (λ f. absurd f) l))
 
   abbrev From : Subscription → Type 0
-  From new = ((old : Subscription) × In old s.subs × (new ≡ gone_on s e old)) ⊎ IsOpening s e new
+  From new = ((old : Subscription) × In old s.subs × (new ≡ sub_after s e old)) ⊎ IsOpening s e new
 
   -- what is open after did not close
-  not_caused : (old new : Subscription) → In old s.subs → new ≡ gone_on s e old → In new (shard_after s e).subs → HasCause s e old → ⊥
+  not_caused : (old new : Subscription) → In old s.subs → new ≡ sub_after s e old → In new (shard_after s e).subs → HasCause s e old → ⊥
   not_caused old new i is j x =
       let c = (closes_by_cause s e held cause old i).1 x in
       true≢false (sym (in_has old.serial (serials_of (shard_after s e).subs) (subst (λ k. In k (serials_of (shard_after s e).subs)) (ap (λ (y : Subscription). y.serial) is) (in_mapped serial_of (shard_after s e).subs new j))) ∙ c.1)
@@ -728,18 +728,18 @@ module _ (s : State) (e : Event) (held : AreHeld s) (cause : shard_refusal s e �
     clients : (shard_after s e).clients ≡ s.clients
     opened : (shard_after s e).opened ≡ s.opened + 1
 
-  fresh : (new : Subscription) → In new (shard_after s e).subs → ((old : Subscription) × In old s.subs × (new ≡ gone_on s e old)) ⊎ IsNew new
+  fresh : (new : Subscription) → In new (shard_after s e).subs → ((old : Subscription) × In old s.subs × (new ≡ sub_after s e old)) ⊎ IsNew new
   fresh new i = ⊎_elim (λ (b : Becomes s e). inl (b.olds new (subst (In new) b.after i))) opened (becomes s e held)
     where
-      opened : Opens s e → ((old : Subscription) × In old s.subs × (new ≡ gone_on s e old)) ⊎ IsNew new
+      opened : Opens s e → ((old : Subscription) × In old s.subs × (new ≡ sub_after s e old)) ⊎ IsNew new
       opened o = ⊎_elim
-          (λ j. inl (new, j, subst (λ x. new ≡ gone_on s x new) (sym o.is) (same_on s (Subscribe o.conn o.key o.sid) new refl refl)))
+          (λ j. inl (new, j, subst (λ x. new ≡ sub_after s x new) (sym o.is) (same_on s (Subscribe o.conn o.key o.sid) new refl refl)))
           (λ j. ⊎_elim (λ f. inr (record {
             opens = o;
             is = f;
             conn = let c : shard_refusal s (Subscribe o.conn o.key o.sid) ≡ None = sym (ap (shard_refusal s) o.is) ∙ cause in not_true' (is_open o.conn s.clients) (no_cause (not (is_open o.conn s.clients)) fault.NoConn _ c).0;
-            clients = ap (λ x. (shard_after s x).clients) o.is ∙ ap (λ u. (subscribed s (new_sub s o.conn o.key o.sid) u).clients) o.none;
-            opened = ap (λ x. (shard_after s x).opened) o.is ∙ ap (λ u. (subscribed s (new_sub s o.conn o.key o.sid) u).opened) o.none;
+            clients = ap (λ x. (shard_after s x).clients) o.is ∙ ap (λ u. (after_subscribe s (new_sub s o.conn o.key o.sid) u).clients) o.none;
+            opened = ap (λ x. (shard_after s x).opened) o.is ∙ ap (λ u. (after_subscribe s (new_sub s o.conn o.key o.sid) u).opened) o.none;
           })) (λ f. absurd f) j)
           (in_append new s.subs (new_sub s o.conn o.key o.sid ∷ []) (subst (In new) (opened_subs s e o) i))
         where
@@ -753,7 +753,7 @@ module _ (s : State) (e : Event) (held : AreHeld s) (cause : shard_refusal s e �
       call_new : (old new : Subscription) → In old s.subs → (x : IsNew new) → old.conn ≡ new.conn → old.sid ≡ new.sid → ⊥
       call_new old new k x c d = true≢false (sym (call_is x.opens.conn x.opens.sid old (c ∙ ap (λ (y : Subscription). y.conn) x.is) (d ∙ ap (λ (y : Subscription). y.sid) x.is)) ∙ not_called x.opens.conn x.opens.sid s.subs x.opens.none old k)
 
-      go : ((old : Subscription) × In old s.subs × (u ≡ gone_on s e old)) ⊎ IsNew u → ((old : Subscription) × In old s.subs × (v ≡ gone_on s e old)) ⊎ IsNew v → ⊥
+      go : ((old : Subscription) × In old s.subs × (u ≡ sub_after s e old)) ⊎ IsNew u → ((old : Subscription) × In old s.subs × (v ≡ sub_after s e old)) ⊎ IsNew v → ⊥
       go (inl (a, k, f)) (inl (b, l, g)) =
           let same_conn : a.conn ≡ b.conn = sym (ap (λ (y : Subscription). y.conn) f) ∙ conn ∙ ap (λ (y : Subscription). y.conn) g in
           let same_sid : a.sid ≡ b.sid = sym (ap (λ (y : Subscription). y.sid) f) ∙ sid ∙ ap (λ (y : Subscription). y.sid) g in
@@ -767,25 +767,25 @@ module _ (s : State) (e : Event) (held : AreHeld s) (cause : shard_refusal s e �
   keeps = record {
     rising = after_rising;
     given = λ u i. ⊎_elim
-        (λ (x : (old : Subscription) × In old s.subs × (u ≡ gone_on s e old)). let le = held.given x.0 x.1 in let more = (fixed s e).opened in let is = ap (λ (y : Subscription). y.serial) x.2 in omega arith)
+        (λ (x : (old : Subscription) × In old s.subs × (u ≡ sub_after s e old)). let le = held.given x.0 x.1 in let more = (fixed s e).opened in let is = ap (λ (y : Subscription). y.serial) x.2 in omega arith)
         (λ (x : IsNew u). let is = ap (λ (y : Subscription). y.serial) x.is in let more = x.opened in omega arith)
         (fresh u i);
     called = pairs_weaker (λ (u v : Subscription). u.serial ≢ v.serial) (λ (u v : Subscription). u.conn ≡ v.conn → u.sid ≢ v.sid) (shard_after s e).subs apart_calls (distinct (shard_after s e).subs after_rising);
     served = λ u i. ⊎_elim
-        (λ (x : (old : Subscription) × In old s.subs × (u ≡ gone_on s e old)). subst (λ k. is_open k (shard_after s e).clients ≡ true) (sym (ap (λ (y : Subscription). y.conn) x.2)) (serves x.0 u x.1 x.2 i (is_open x.0.conn (shard_after s e).clients) refl))
+        (λ (x : (old : Subscription) × In old s.subs × (u ≡ sub_after s e old)). subst (λ k. is_open k (shard_after s e).clients ≡ true) (sym (ap (λ (y : Subscription). y.conn) x.2)) (serves x.0 u x.1 x.2 i (is_open x.0.conn (shard_after s e).clients) refl))
         (λ (x : IsNew u). ap (λ k. is_open k (shard_after s e).clients) (ap (λ (y : Subscription). y.conn) x.is) ∙ ap (is_open x.opens.conn) x.clients ∙ x.conn)
         (fresh u i);
     unspent = λ u i m is. ⊎_elim
-        (λ (x : (old : Subscription) × In old s.subs × (u ≡ gone_on s e old)). few x.0 u m x.1 x.2 i (sym (ap (λ (y : Subscription). y.max) x.2) ∙ is) (nat_le m u.delivered) refl)
+        (λ (x : (old : Subscription) × In old s.subs × (u ≡ sub_after s e old)). few x.0 u m x.1 x.2 i (sym (ap (λ (y : Subscription). y.max) x.2) ∙ is) (nat_le m u.delivered) refl)
         (λ (x : IsNew u). absurd (none-some m (sym (ap (λ (y : Subscription). y.max) x.is) ∙ is)))
         (fresh u i);
   }
     where
-      serves : (old new : Subscription) → In old s.subs → new ≡ gone_on s e old → In new (shard_after s e).subs → (b : Bool) → is_open old.conn (shard_after s e).clients ≡ b → is_open old.conn (shard_after s e).clients ≡ true
+      serves : (old new : Subscription) → In old s.subs → new ≡ sub_after s e old → In new (shard_after s e).subs → (b : Bool) → is_open old.conn (shard_after s e).clients ≡ b → is_open old.conn (shard_after s e).clients ≡ true
       serves old new i is j true f = f
       serves old new i is j false f = absurd (not_caused old new i is j (inl (held.served old i, f)))
 
-      few : (old new : Subscription) (m : ℕ) → In old s.subs → new ≡ gone_on s e old → In new (shard_after s e).subs → max_after e old ≡ Some m → (b : Bool) → nat_le m new.delivered ≡ b → new.delivered < m
+      few : (old new : Subscription) (m : ℕ) → In old s.subs → new ≡ sub_after s e old → In new (shard_after s e).subs → max_after e old ≡ Some m → (b : Bool) → nat_le m new.delivered ≡ b → new.delivered < m
       few old new m i is j max true f = absurd (not_caused old new i is j (spends old m max (subst (λ n. m ≤ n) (ap (λ (y : Subscription). y.delivered) is) (le_true m new.delivered f))))
       few old new m i is j max false f = le_false m new.delivered f
 

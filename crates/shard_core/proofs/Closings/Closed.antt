@@ -10,7 +10,7 @@ use Rattle.cluster_law.specs.Shard as law
 use Rattle.sub_table.specs.Subscriptions.{has_serial, serial_of, with_changed, with_max}
 use Rattle.sub_table.specs.declared.Subscription.{Subscription}
 use Rattle.shard_core.specs.Closings.{serials_of, is_left}
-use Rattle.shard_core.specs.Owed.{counted}
+use Rattle.shard_core.specs.Owed.{sub_with_count}
 use Rattle.shard_core.specs.AsLaw.{sub_of, is_open_serial}
 
 law_has : (k : ℕ) (xs : List ℕ) → law.has k xs ≡ list_any (nat_eq k) xs
@@ -25,16 +25,16 @@ law_has k (x ∷ xs) = go (nat_eq k x) (law_has k xs)
 abbrev pub closed_of : List ℕ → List Subscription → List ℕ
 closed_of ended us = filter (λ k. list_any (nat_eq k) ended) (serials_of us)
 
-without_is : (ended closed : List ℕ) (us : List Subscription) → ((k : ℕ) → In k (serials_of us) → law.has k closed ≡ list_any (nat_eq k) ended) → law.without closed (map sub_of us) ≡ map sub_of (filter (is_left ended) us)
+without_is : (ended closed : List ℕ) (us : List Subscription) → ((k : ℕ) → In k (serials_of us) → law.has k closed ≡ list_any (nat_eq k) ended) → law.subs_without closed (map sub_of us) ≡ map sub_of (filter (is_left ended) us)
 without_is ended closed [] h = refl
 without_is ended closed (u ∷ us) h =
-    ap (λ t. cond t (law.without closed (map sub_of us)) (sub_of u ∷ law.without closed (map sub_of us))) (h u.serial (inl refl)) ∙ go (list_any (nat_eq u.serial) ended) (without_is ended closed us (λ k i. h k (inr i)))
+    ap (λ t. cond t (law.subs_without closed (map sub_of us)) (sub_of u ∷ law.subs_without closed (map sub_of us))) (h u.serial (inl refl)) ∙ go (list_any (nat_eq u.serial) ended) (without_is ended closed us (λ k i. h k (inr i)))
   where
-    go : (b : Bool) → law.without closed (map sub_of us) ≡ map sub_of (filter (is_left ended) us) → cond b (law.without closed (map sub_of us)) (sub_of u ∷ law.without closed (map sub_of us)) ≡ map sub_of (cond (not b) (u ∷ filter (is_left ended) us) (filter (is_left ended) us))
+    go : (b : Bool) → law.subs_without closed (map sub_of us) ≡ map sub_of (filter (is_left ended) us) → cond b (law.subs_without closed (map sub_of us)) (sub_of u ∷ law.subs_without closed (map sub_of us)) ≡ map sub_of (cond (not b) (u ∷ filter (is_left ended) us) (filter (is_left ended) us))
     go true below = below
     go false below = ap (λ t. sub_of u ∷ t) below
 
-pub closes : (ended : List ℕ) (us : List Subscription) → law.without (closed_of ended us) (map sub_of us) ≡ map sub_of (filter (is_left ended) us)
+pub closes : (ended : List ℕ) (us : List Subscription) → law.subs_without (closed_of ended us) (map sub_of us) ≡ map sub_of (filter (is_left ended) us)
 closes ended us = without_is ended (closed_of ended us) us (λ k i. law_has k (closed_of ended us) ∙ go k i (list_any (nat_eq k) ended) refl)
   where
     go : (k : ℕ) → In k (serials_of us) → (b : Bool) → list_any (nat_eq k) ended ≡ b → list_any (nat_eq k) (closed_of ended us) ≡ list_any (nat_eq k) ended
@@ -64,15 +64,15 @@ closed_in ended us k was now = go (list_any (nat_eq k) ended) refl
 
 -- counts and maxima are not seen
 
-pub counted_sub : (given : List ℕ) (us : List Subscription) → map sub_of (map (counted given) us) ≡ map sub_of us
-counted_sub given us = map_map (counted given) sub_of us ∙ map_same (λ u. sub_of (counted given u)) sub_of us (λ u. go u (list_any (nat_eq u.serial) given))
+pub counted_sub : (given : List ℕ) (us : List Subscription) → map sub_of (map (sub_with_count given) us) ≡ map sub_of us
+counted_sub given us = map_map (sub_with_count given) sub_of us ∙ map_same (λ u. sub_of (sub_with_count given u)) sub_of us (λ u. go u (list_any (nat_eq u.serial) given))
   where
     go : (u : Subscription) (b : Bool) → sub_of (cond b (record u { delivered = u.delivered + 1 }) u) ≡ sub_of u
     go u true = refl
     go u false = refl
 
-pub counted_serials : (given : List ℕ) (us : List Subscription) → serials_of (map (counted given) us) ≡ serials_of us
-counted_serials given us = map_map (counted given) serial_of us ∙ map_same (λ u. (counted given u).serial) serial_of us (λ u. go u (list_any (nat_eq u.serial) given))
+pub counted_serials : (given : List ℕ) (us : List Subscription) → serials_of (map (sub_with_count given) us) ≡ serials_of us
+counted_serials given us = map_map (sub_with_count given) serial_of us ∙ map_same (λ u. (sub_with_count given u).serial) serial_of us (λ u. go u (list_any (nat_eq u.serial) given))
   where
     go : (u : Subscription) (b : Bool) → (cond b (record u { delivered = u.delivered + 1 }) u).serial ≡ u.serial
     go u true = refl

@@ -10,10 +10,10 @@ use Rattle.outbox.specs.Views.{with_last}
 use Rattle.sub_table.specs.Subscriptions.{is_of, serial_of}
 use Rattle.sub_table.specs.declared.Subscription.{Subscription}
 use Rattle.subj.specs.declared.jobs.Job.{Job}
-use Rattle.shard_core.specs.Shards.{State, client_at, is_open, changed, fits}
+use Rattle.shard_core.specs.Shards.{State, client_at, is_open, clients_with_change, fits}
 use Rattle.shard_core.specs.Closings.{serials_of, is_left, left_of}
 use Rattle.shard_core.specs.Opened.{AreRising, AreApart}
-use Rattle.shard_core.specs.Owed.{Walk, walk, walked, first_step, give, shut_slow, slow_consumer, due_entry, reaches, ended_by, is_due}
+use Rattle.shard_core.specs.Owed.{Walk, walk, whole_walk, first_step, walk_with_entry, walk_with_shut, slow_consumer, due_entry, reaches, ended_by, is_due}
 use Rattle.shard_core.proofs.Steps.LawEvents.{walk_gives}
 use Rattle.shard_core.proofs.Clients.Outboxes.{stays_open, stays_shut, shuts}
 use Rattle.shard_core.proofs.Closings.Serials.{apart_among}
@@ -53,7 +53,7 @@ in_left_of conn ended subs k there =
       unless true e = absurd (true≢false (sym e))
       unless false e = refl
 
-given_fresh : (s : State) (job : Job) (u : Subscription) (rest : List Subscription) (w : Walk) → Each (λ v. u.serial ≢ v.serial) rest → is_open u.conn w.clients ≡ true → IsFresh (u ∷ rest) w → IsFresh rest (give (due_entry s.shard job None u) u w)
+given_fresh : (s : State) (job : Job) (u : Subscription) (rest : List Subscription) (w : Walk) → Each (λ v. u.serial ≢ v.serial) rest → is_open u.conn w.clients ≡ true → IsFresh (u ∷ rest) w → IsFresh rest (walk_with_entry (due_entry s.shard job None u) u w)
 given_fresh s job u rest w apart opened h = record {
   apart = pairs_append (λ (j k : ℕ). j ≢ k) w.ended (ended_by u) h.apart (one_apart u) (λ j k i l e. h.fresh u (inl refl) opened (subst (λ n. In n w.ended) (e ∙ in_ended_by u k l) i));
   fresh = λ v i o there. by v i (sym (stays_open (due_entry s.shard job None u) v.conn u.conn w.clients) ∙ o) (in_append v.serial w.ended (ended_by u) there);
@@ -63,13 +63,13 @@ given_fresh s job u rest w apart opened h = record {
   by v i o (inr there) = apart v i (sym (in_ended_by u v.serial there))
 
 -- a connection that is open behind a shut of another was open, and is another
-still_open : (j k : ℕ) (w : Walk) → is_open k (changed (with_last slow_consumer) j w.clients) ≡ true → (is_open k w.clients ≡ true) × (k ≢ j)
-still_open j k w o = (by (is_open k w.clients) refl, λ same. absurd (true≢false (sym o ∙ ap (λ n. is_open n (changed (with_last slow_consumer) j w.clients)) same ∙ shuts slow_consumer j w.clients))) where
+still_open : (j k : ℕ) (w : Walk) → is_open k (clients_with_change (with_last slow_consumer) j w.clients) ≡ true → (is_open k w.clients ≡ true) × (k ≢ j)
+still_open j k w o = (by (is_open k w.clients) refl, λ same. absurd (true≢false (sym o ∙ ap (λ n. is_open n (clients_with_change (with_last slow_consumer) j w.clients)) same ∙ shuts slow_consumer j w.clients))) where
   by : (b : Bool) → is_open k w.clients ≡ b → is_open k w.clients ≡ true
   by true e = e
   by false e = absurd (true≢false (sym o ∙ stays_shut slow_consumer k j w.clients e))
 
-shut_fresh : (s : State) (u : Subscription) (rest : List Subscription) (w : Walk) → AreRising s.subs → Each (λ v. In v s.subs) rest → IsFresh (u ∷ rest) w → IsFresh rest (shut_slow s.subs u.conn w)
+shut_fresh : (s : State) (u : Subscription) (rest : List Subscription) (w : Walk) → AreRising s.subs → Each (λ v. In v s.subs) rest → IsFresh (u ∷ rest) w → IsFresh rest (walk_with_shut s.subs u.conn w)
 shut_fresh s u rest w rising among h = record {
   apart = pairs_append (λ (j k : ℕ). j ≢ k) w.ended (left_of u.conn w.ended s.subs) h.apart (apart_among (λ (sub : Subscription). is_of u.conn sub && is_left w.ended sub) s.subs rising)
       (λ j k i l e. absurd (true≢false (sym (in_has j w.ended i) ∙ ap (λ n. list_any (nat_eq n) w.ended) e ∙ (in_left_of u.conn w.ended s.subs k l).4)));
@@ -94,19 +94,19 @@ less_fresh u rest w h = record { apart = h.apart; fresh = λ v i o there. h.fres
 walk_fresh : (s : State) (job : Job) (due : List Subscription) (w : Walk) → AreRising s.subs → Each (λ v. In v s.subs) due → AreDistinct due → IsFresh due w → IsFresh [] (walk s job due w)
 walk_fresh s job [] w rising among apart h = h
 walk_fresh s job (u ∷ due) w rising among apart h = by (is_open u.conn w.clients) (fits (client_at u.conn w.clients) (due_entry s.shard job None u)) refl (λ v g. walk_fresh s job due v rising (λ x i. among x (inr i)) apart.1 g) where
-  by : (o r : Bool) → is_open u.conn w.clients ≡ o → ((v : Walk) → IsFresh due v → IsFresh [] (walk s job due v)) → IsFresh [] (walk s job due (cond o (cond r (give (due_entry s.shard job None u) u w) (shut_slow s.subs u.conn w)) w))
+  by : (o r : Bool) → is_open u.conn w.clients ≡ o → ((v : Walk) → IsFresh due v → IsFresh [] (walk s job due v)) → IsFresh [] (walk s job due (cond o (cond r (walk_with_entry (due_entry s.shard job None u) u w) (walk_with_shut s.subs u.conn w)) w))
   by false r e more = more w (less_fresh u due w h)
-  by true true e more = more (give (due_entry s.shard job None u) u w) (given_fresh s job u due w apart.0 e h)
-  by true false e more = more (shut_slow s.subs u.conn w) (shut_fresh s u due w rising (λ x i. among x (inr i)) h)
+  by true true e more = more (walk_with_entry (due_entry s.shard job None u) u w) (given_fresh s job u due w apart.0 e h)
+  by true false e more = more (walk_with_shut s.subs u.conn w) (shut_fresh s u due w rising (λ x i. among x (inr i)) h)
 
 due_among : (job : Job) (subs : List Subscription) → Each (λ v. In v subs) (filter (is_due job) subs)
 due_among job subs v i = (in_filter (is_due job) subs v i).0
 
-pub ended_apart : (s : State) (job : Job) → AreRising s.subs → AreApart (walked s job).ended
+pub ended_apart : (s : State) (job : Job) → AreRising s.subs → AreApart (whole_walk s job).ended
 ended_apart s job rising =
     (walk_fresh s job (filter (is_due job) s.subs) (first_step s.clients) rising (due_among job s.subs) (pairs_filter (λ (u v : Subscription). u.serial ≢ v.serial) (is_due job) s.subs (distinct s.subs rising)) (record { apart = tt; fresh = λ v i o there. absurd there })).apart
 
-pub given_apart : (s : State) (job : Job) → AreRising s.subs → AreApart (serials_of (walked s job).given)
+pub given_apart : (s : State) (job : Job) → AreRising s.subs → AreApart (serials_of (whole_walk s job).given)
 given_apart s job rising =
     let gave = walk_gives s job (filter (is_due job) s.subs) (first_step s.clients) in
     let new : AreDistinct gave.new = pairs_sub (λ (u v : Subscription). u.serial ≢ v.serial) gave.new (filter (is_due job) s.subs) gave.some (pairs_filter (λ (u v : Subscription). u.serial ≢ v.serial) (is_due job) s.subs (distinct s.subs rising)) in

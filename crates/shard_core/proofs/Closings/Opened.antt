@@ -13,7 +13,7 @@ use Rattle.list_laws.proofs.Changes.{map_append, map_map, map_same, pairs_filter
 use Rattle.sub_table.specs.Subscriptions.{is_of, has_serial, serial_of, without_serial, with_delivered, serials_of as serials_of_conn}
 use Rattle.sub_table.specs.declared.Subscription.{Subscription}
 use Rattle.shard_core.specs.Closings.{serials_of, is_left, left_of, closing, closings_of}
-use Rattle.shard_core.specs.Owed.{counted}
+use Rattle.shard_core.specs.Owed.{sub_with_count}
 use Rattle.shard_core.specs.Opened.{Opened, AreRising, IsNext, CanCount, IsOpened, with_counts, with_closings}
 use Rattle.shard_core.specs.Members.{AreNoted}
 use Rattle.shard_core.specs.declared.members.Members.{Members}
@@ -168,25 +168,25 @@ closings_step k ended o apart =
 
 -- ---- counts
 
-counted_here : (k : ℕ) (u : Subscription) → counted (k ∷ []) u ≡ cond (has_serial k u) (record u { delivered = u.delivered + 1 }) u
+counted_here : (k : ℕ) (u : Subscription) → sub_with_count (k ∷ []) u ≡ cond (has_serial k u) (record u { delivered = u.delivered + 1 }) u
 counted_here k u = go (has_serial k u)
   where
     go : (b : Bool) → cond (b || false) (record u { delivered = u.delivered + 1 }) u ≡ cond b (record u { delivered = u.delivered + 1 }) u
     go true = refl
     go false = refl
 
-lacks_counted : (k : ℕ) (us : List Subscription) → Lacks k us → map (counted (k ∷ [])) us ≡ us
+lacks_counted : (k : ℕ) (us : List Subscription) → Lacks k us → map (sub_with_count (k ∷ [])) us ≡ us
 lacks_counted k [] none = refl
-lacks_counted k (u ∷ us) none = ap (λ v. v ∷ map (counted (k ∷ [])) us) (counted_here k u ∙ ap (λ b. cond b (record u { delivered = u.delivered + 1 }) u) (lacks_here k u us none)) ∙ ap (λ l. u ∷ l) (lacks_counted k us (λ j i. none j (inr i)))
+lacks_counted k (u ∷ us) none = ap (λ v. v ∷ map (sub_with_count (k ∷ [])) us) (counted_here k u ∙ ap (λ b. cond b (record u { delivered = u.delivered + 1 }) u) (lacks_here k u us none)) ∙ ap (λ l. u ∷ l) (lacks_counted k us (λ j i. none j (inr i)))
 
-pub counts_none : (k : ℕ) (us : List Subscription) → find (has_serial k) us ≡ None → map (counted (k ∷ [])) us ≡ us
+pub counts_none : (k : ℕ) (us : List Subscription) → find (has_serial k) us ≡ None → map (sub_with_count (k ∷ [])) us ≡ us
 counts_none k us none = lacks_counted k us (none_lacks k us none)
 
-pub counts_one : (k : ℕ) (us : List Subscription) (u : Subscription) → AreRising us → find (has_serial k) us ≡ Some u → with_delivered k (u.delivered + 1) us ≡ map (counted (k ∷ [])) us
+pub counts_one : (k : ℕ) (us : List Subscription) (u : Subscription) → AreRising us → find (has_serial k) us ≡ Some u → with_delivered k (u.delivered + 1) us ≡ map (sub_with_count (k ∷ [])) us
 counts_one k [] u rising found = refl
-counts_one k (v ∷ us) u rising found = go (has_serial k v) refl found (counts_one k us u rising.1) ∙ sym (ap (λ w. w ∷ map (counted (k ∷ [])) us) (counted_here k v))
+counts_one k (v ∷ us) u rising found = go (has_serial k v) refl found (counts_one k us u rising.1) ∙ sym (ap (λ w. w ∷ map (sub_with_count (k ∷ [])) us) (counted_here k v))
   where
-    go : (b : Bool) → has_serial k v ≡ b → cond b (Some v) (find (has_serial k) us) ≡ Some u → (find (has_serial k) us ≡ Some u → with_delivered k (u.delivered + 1) us ≡ map (counted (k ∷ [])) us) → cond b (record v { delivered = u.delivered + 1 } ∷ us) (v ∷ with_delivered k (u.delivered + 1) us) ≡ cond b (record v { delivered = v.delivered + 1 }) v ∷ map (counted (k ∷ [])) us
+    go : (b : Bool) → has_serial k v ≡ b → cond b (Some v) (find (has_serial k) us) ≡ Some u → (find (has_serial k) us ≡ Some u → with_delivered k (u.delivered + 1) us ≡ map (sub_with_count (k ∷ [])) us) → cond b (record v { delivered = u.delivered + 1 } ∷ us) (v ∷ with_delivered k (u.delivered + 1) us) ≡ cond b (record v { delivered = v.delivered + 1 }) v ∷ map (sub_with_count (k ∷ [])) us
     go true e found below = ap (λ w. record v { delivered = w.delivered + 1 } ∷ us) (sym (same_Some v u found)) ∙ ap (λ l. record v { delivered = v.delivered + 1 } ∷ l) (sym (lacks_counted k us (later k v us rising e)))
     go false e found below = ap (λ l. v ∷ l) (below found)
 
@@ -198,7 +198,7 @@ found_counts k (v ∷ us) u can found = go (has_serial k v) refl found (found_co
     go true e found below = subst (λ (w : Subscription). w.delivered + 1 < 2 ^ 64) (same_Some v u found) (can 0 v (omega arith) (eq_true v.serial k e))
     go false e found below = below found
 
-counts_nobody : (us : List Subscription) → map (counted []) us ≡ us
+counts_nobody : (us : List Subscription) → map (sub_with_count []) us ≡ us
 counts_nobody [] = refl
 counts_nobody (u ∷ us) = ap (λ l. u ∷ l) (counts_nobody us)
 
@@ -206,29 +206,29 @@ pub no_counts : (o : Opened) → with_counts [] o ≡ o
 no_counts o = opened_same _ _ o.deltas o.deltas (counts_nobody o.subs) refl
 
 -- another's count stays as it is
-other_count : (j k : ℕ) (u : Subscription) → k ≢ j → (u.serial ≡ j → u.delivered + 1 < 2 ^ 64) → (counted (k ∷ []) u).serial ≡ j → (counted (k ∷ []) u).delivered + 1 < 2 ^ 64
+other_count : (j k : ℕ) (u : Subscription) → k ≢ j → (u.serial ≡ j → u.delivered + 1 < 2 ^ 64) → (sub_with_count (k ∷ []) u).serial ≡ j → (sub_with_count (k ∷ []) u).delivered + 1 < 2 ^ 64
 other_count j k u apart can = go (has_serial k u) refl
   where
     go : (b : Bool) → has_serial k u ≡ b → (cond (b || false) (record u { delivered = u.delivered + 1 }) u).serial ≡ j → (cond (b || false) (record u { delivered = u.delivered + 1 }) u).delivered + 1 < 2 ^ 64
     go true e at = absurd (apart (sym (eq_true u.serial k e) ∙ at))
     go false e at = can at
 
-pub still_counts : (j k : ℕ) (us : List Subscription) → k ≢ j → CanCount j us → CanCount j (map (counted (k ∷ [])) us)
-still_counts j k us apart can = All-map (λ (u : Subscription). u.serial ≡ j → u.delivered + 1 < 2 ^ 64) (counted (k ∷ [])) us (All-weaker (λ (u : Subscription). u.serial ≡ j → u.delivered + 1 < 2 ^ 64) (λ u. (counted (k ∷ []) u).serial ≡ j → (counted (k ∷ []) u).delivered + 1 < 2 ^ 64) (λ u. other_count j k u apart) us can)
+pub still_counts : (j k : ℕ) (us : List Subscription) → k ≢ j → CanCount j us → CanCount j (map (sub_with_count (k ∷ [])) us)
+still_counts j k us apart can = All-map (λ (u : Subscription). u.serial ≡ j → u.delivered + 1 < 2 ^ 64) (sub_with_count (k ∷ [])) us (All-weaker (λ (u : Subscription). u.serial ≡ j → u.delivered + 1 < 2 ^ 64) (λ u. (sub_with_count (k ∷ []) u).serial ≡ j → (sub_with_count (k ∷ []) u).delivered + 1 < 2 ^ 64) (λ u. other_count j k u apart) us can)
 
-counted_twice : (k : ℕ) (given : List ℕ) (u : Subscription) → Each (λ j. k ≢ j) given → counted given (counted (k ∷ []) u) ≡ counted (k ∷ given) u
+counted_twice : (k : ℕ) (given : List ℕ) (u : Subscription) → Each (λ j. k ≢ j) given → sub_with_count given (sub_with_count (k ∷ []) u) ≡ sub_with_count (k ∷ given) u
 counted_twice k given u apart = go (has_serial k u) (list_any (nat_eq u.serial) given) refl refl
   where
     one_more : Subscription
     one_more = record u { delivered = u.delivered + 1 }
 
-    go : (a b : Bool) → has_serial k u ≡ a → list_any (nat_eq u.serial) given ≡ b → counted given (cond (a || false) one_more u) ≡ cond (a || list_any (nat_eq u.serial) given) one_more u
+    go : (a b : Bool) → has_serial k u ≡ a → list_any (nat_eq u.serial) given ≡ b → sub_with_count given (cond (a || false) one_more u) ≡ cond (a || list_any (nat_eq u.serial) given) one_more u
     go true true e f = absurd (apart k (subst (λ n. In n given) (eq_true u.serial k e) (has_in u.serial given f)) refl)
     go true false e f = ap (λ t. cond t (record one_more { delivered = one_more.delivered + 1 }) one_more) f
     go false b e f = refl
 
 pub counts_step : (k : ℕ) (given : List ℕ) (o : Opened) → Each (λ j. k ≢ j) given → with_counts given (with_counts (k ∷ []) o) ≡ with_counts (k ∷ given) o
-counts_step k given o apart = opened_same _ _ o.deltas o.deltas (map_map (counted (k ∷ [])) (counted given) o.subs ∙ map_same (λ u. counted given (counted (k ∷ []) u)) (counted (k ∷ given)) o.subs (λ u. counted_twice k given u apart)) refl
+counts_step k given o apart = opened_same _ _ o.deltas o.deltas (map_map (sub_with_count (k ∷ [])) (sub_with_count given) o.subs ∙ map_same (λ u. sub_with_count given (sub_with_count (k ∷ []) u)) (sub_with_count (k ∷ given)) o.subs (λ u. counted_twice k given u apart)) refl
 
 -- ---- what is left of a connection
 

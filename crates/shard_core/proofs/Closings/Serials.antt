@@ -8,7 +8,7 @@ use Rattle.list_laws.proofs.Changes.{pairs_filter, pairs_map_back}
 use Rattle.sub_table.specs.Subscriptions.{is_called, has_serial, serial_called, serial_of}
 use Rattle.sub_table.specs.declared.Subscription.{Subscription}
 use Rattle.shard_core.specs.Closings.{serials_of}
-use Rattle.shard_core.specs.ShardSteps.{called}
+use Rattle.shard_core.specs.ShardSteps.{sub_called}
 use Rattle.shard_core.specs.Opened.{AreRising, AreApart}
 
 none_some : {A : Type 0} (x : A) → None ≡ Some x → ⊥
@@ -35,7 +35,7 @@ by_serial p (u ∷ us) sub rising e = by (p u) e (by_serial p us sub rising.1) w
       let lt : u.serial < sub.serial = rising.0 sub.serial it.1 in
       (ap (λ b. cond b (Some u) (find (has_serial sub.serial) us)) (false_eq u.serial sub.serial (λ same. absurd (omega (arith, lt, same)))) ∙ it.0, inr it.1)
 
-pub called_by_serial : (conn : ℕ) (sid : List ℕ) (subs : List Subscription) (serial : ℕ) → AreRising subs → serial_called conn sid subs ≡ Some serial → called conn sid subs ≡ find (has_serial serial) subs
+pub called_by_serial : (conn : ℕ) (sid : List ℕ) (subs : List Subscription) (serial : ℕ) → AreRising subs → serial_called conn sid subs ≡ Some serial → sub_called conn sid subs ≡ find (has_serial serial) subs
 called_by_serial conn sid subs serial rising is = by (find (is_called conn sid) subs) refl is where
   by : (o : Option Subscription) → find (is_called conn sid) subs ≡ o → option_map serial_of o ≡ Some serial → find (is_called conn sid) subs ≡ find (has_serial serial) subs
   by None e told = absurd (none_some serial told)

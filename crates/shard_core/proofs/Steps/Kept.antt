@@ -8,9 +8,9 @@ use Rattle.sub_table.specs.Subscriptions.{has_serial, with_max}
 use Rattle.sub_table.specs.declared.Subscription.{Subscription}
 use Rattle.subj.specs.declared.jobs.Job.{Job}
 use Rattle.subj.specs.declared.limits.TheConstants.{MAX_COUNTER, MAX_QUEUE_NAMES}
-use Rattle.shard_core.specs.Shards.{State, Client, has_number, with_outbox, changed, detached, client_at, is_open, fits}
+use Rattle.shard_core.specs.Shards.{State, Client, has_number, with_outbox, clients_with_change, without_client, client_at, is_open, fits}
 use Rattle.shard_core.specs.Closings.{is_left, serials_of}
-use Rattle.shard_core.specs.Owed.{Walk, walk, walked, first_step, give, shut_slow, slow_consumer, due_entry, is_due, counted}
+use Rattle.shard_core.specs.Owed.{Walk, walk, whole_walk, first_step, walk_with_entry, walk_with_shut, slow_consumer, due_entry, is_due, sub_with_count}
 use Rattle.shard_core.specs.declared.calls.Begun.{Begun}
 use Rattle.shard_core.specs.Tallies.{HasPlaced}
 use Rattle.shard_core.specs.ShardSteps.{new_client}
@@ -20,19 +20,19 @@ use Rattle.shard_core.specs.Held.{AreNumbered, HasTurns, IsNextTurn, IsPossible,
 
 -- ---- connections
 
-below_changed : (n : ℕ) (change : Backlog → Backlog) (conn : ℕ) (clients : List Client) → All (λ (client : Client). client.number < n) clients → All (λ (client : Client). client.number < n) (changed change conn clients)
+below_changed : (n : ℕ) (change : Backlog → Backlog) (conn : ℕ) (clients : List Client) → All (λ (client : Client). client.number < n) clients → All (λ (client : Client). client.number < n) (clients_with_change change conn clients)
 below_changed n change conn [] below = below
 below_changed n change conn (client ∷ clients) below =
     let P = λ (client : Client). client.number < n in
     by (has_number conn client) (All-head P client clients below) (All-tail P client clients below) (below_changed n change conn clients (All-tail P client clients below)) where
-      by : (b : Bool) → client.number < n → All (λ (client : Client). client.number < n) clients → All (λ (client : Client). client.number < n) (changed change conn clients) → All (λ (client : Client). client.number < n) (cond b (with_outbox change client ∷ clients) (client ∷ changed change conn clients))
+      by : (b : Bool) → client.number < n → All (λ (client : Client). client.number < n) clients → All (λ (client : Client). client.number < n) (clients_with_change change conn clients) → All (λ (client : Client). client.number < n) (cond b (with_outbox change client ∷ clients) (client ∷ clients_with_change change conn clients))
       by true here rest more = All-cons (λ (client : Client). client.number < n) (with_outbox change client) clients here rest
-      by false here rest more = All-cons (λ (client : Client). client.number < n) client (changed change conn clients) here more
+      by false here rest more = All-cons (λ (client : Client). client.number < n) client (clients_with_change change conn clients) here more
 
-pub numbered_changed : (shards n : ℕ) (change : Backlog → Backlog) (conn : ℕ) (clients : List Client) → AreNumbered shards n clients → AreNumbered shards n (changed change conn clients)
+pub numbered_changed : (shards n : ℕ) (change : Backlog → Backlog) (conn : ℕ) (clients : List Client) → AreNumbered shards n clients → AreNumbered shards n (clients_with_change change conn clients)
 numbered_changed shards n change conn clients was = record { some = was.some; few = was.few; numbers = was.numbers; below = below_changed n change conn clients was.below }
 
-pub numbered_detached : (shards n : ℕ) (conn : ℕ) (clients : List Client) → AreNumbered shards n clients → AreNumbered shards n (detached conn clients)
+pub numbered_detached : (shards n : ℕ) (conn : ℕ) (clients : List Client) → AreNumbered shards n clients → AreNumbered shards n (without_client conn clients)
 numbered_detached shards n conn clients was = record { some = was.some; few = was.few; numbers = was.numbers; below = All-filter _ (λ (client : Client). client.number < n) clients was.below }
 
 pub numbered_attached : (shards n : ℕ) (clients : List Client) → n ≤ MAX_COUNTER → AreNumbered shards n clients → AreNumbered shards (n + shards) (clients ++ new_client n ∷ [])
@@ -60,16 +60,16 @@ pub possible_opened : (opened most : ℕ) (subs : List Subscription) (sub : Subs
 possible_opened opened most subs sub serial none were =
     All-push (λ (sub : Subscription). IsPossible (opened + 1) most sub) subs sub (more_possible opened (opened + 1) most most subs (omega arith) (omega arith) were) (record { serial = omega arith; delivered = omega arith })
 
-counted_possible : (opened most : ℕ) (given : List ℕ) (sub : Subscription) → IsPossible opened most sub → IsPossible opened (most + 1) (counted given sub)
+counted_possible : (opened most : ℕ) (given : List ℕ) (sub : Subscription) → IsPossible opened most sub → IsPossible opened (most + 1) (sub_with_count given sub)
 counted_possible opened most given sub is = by (list_any (nat_eq sub.serial) given) where
   by : (b : Bool) → IsPossible opened (most + 1) (cond b (record sub { delivered = sub.delivered + 1 }) sub)
   by true = let serial = is.serial in let delivered = is.delivered in record { serial = serial; delivered = omega arith }
   by false = let serial = is.serial in let delivered = is.delivered in record { serial = serial; delivered = omega arith }
 
-pub possible_counted : (opened most : ℕ) (given : List ℕ) (subs : List Subscription) → ArePossible opened most subs → ArePossible opened (most + 1) (map (counted given) subs)
+pub possible_counted : (opened most : ℕ) (given : List ℕ) (subs : List Subscription) → ArePossible opened most subs → ArePossible opened (most + 1) (map (sub_with_count given) subs)
 possible_counted opened most given subs were =
-    All-map (λ (sub : Subscription). IsPossible opened (most + 1) sub) (counted given) subs
-    (All-weaker (λ (sub : Subscription). IsPossible opened most sub) (λ (sub : Subscription). IsPossible opened (most + 1) (counted given sub)) (counted_possible opened most given) subs were)
+    All-map (λ (sub : Subscription). IsPossible opened (most + 1) sub) (sub_with_count given) subs
+    (All-weaker (λ (sub : Subscription). IsPossible opened most sub) (λ (sub : Subscription). IsPossible opened (most + 1) (sub_with_count given sub)) (counted_possible opened most given) subs were)
 
 pub possible_max : (opened most serial : ℕ) (max : Option ℕ) (subs : List Subscription) → ArePossible opened most subs → ArePossible opened most (with_max serial max subs)
 possible_max opened most serial max [] were = were
@@ -184,10 +184,10 @@ sound_left s chosen next serial conns openings ended was none is closes =
 walk_numbered : (shards n : ℕ) (s : State) (job : Job) (due : List Subscription) (w : Walk) → AreNumbered shards n w.clients → AreNumbered shards n (walk s job due w).clients
 walk_numbered shards n s job [] w was = was
 walk_numbered shards n s job (u ∷ due) w was = by (is_open u.conn w.clients) (fits (client_at u.conn w.clients) (due_entry s.shard job None u)) (walk_numbered shards n s job due) where
-  by : (o r : Bool) → ((v : Walk) → AreNumbered shards n v.clients → AreNumbered shards n (walk s job due v).clients) → AreNumbered shards n (walk s job due (cond o (cond r (give (due_entry s.shard job None u) u w) (shut_slow s.subs u.conn w)) w)).clients
+  by : (o r : Bool) → ((v : Walk) → AreNumbered shards n v.clients → AreNumbered shards n (walk s job due v).clients) → AreNumbered shards n (walk s job due (cond o (cond r (walk_with_entry (due_entry s.shard job None u) u w) (walk_with_shut s.subs u.conn w)) w)).clients
   by false r more = more w was
-  by true true more = more (give (due_entry s.shard job None u) u w) (numbered_changed shards n (with_entry (due_entry s.shard job None u)) u.conn w.clients was)
-  by true false more = more (shut_slow s.subs u.conn w) (numbered_changed shards n (with_last slow_consumer) u.conn w.clients was)
+  by true true more = more (walk_with_entry (due_entry s.shard job None u) u w) (numbered_changed shards n (with_entry (due_entry s.shard job None u)) u.conn w.clients was)
+  by true false more = more (walk_with_shut s.subs u.conn w) (numbered_changed shards n (with_last slow_consumer) u.conn w.clients was)
 
 none_is : {A : Type 0} (o : Option A) → is_some o ≡ false → o ≡ None
 none_is None e = refl
@@ -201,11 +201,11 @@ pub sound_begun : (s : State) (chosen : Option Subscription) (next : List Client
     → IsSound s chosen next → serial ≡ None → is_some s.hand ≡ false → HasPlaced copies s job (part_of s) begun conns openings → job.turn ≡ s.finished + 1 → job.turn ≤ MAX_COUNTER
     → IsSound (record s { hand = Some job; next_index = 0; clients = conns.shown; subs = openings.subs; deltas = openings.deltas }) (with_serial serial openings.subs) conns.next
 sound_begun s chosen next serial conns openings job copies begun was none free placed turn most =
-    let w = walked s job in
+    let w = whole_walk s job in
     let given = serials_of w.given in
     let hand = none_is s.hand free in
-    let first : ArePossible s.opened (most_counts s.hand chosen s.finished s.next_index + 1) (filter (is_left w.ended) (map (counted given) s.subs)) = possible_left s.opened _ w.ended (map (counted given) s.subs) (possible_counted s.opened _ given s.subs was.possible) in
-    let possible : ArePossible s.opened (most_counts (Some job) None s.finished 0) (filter (is_left w.ended) (map (counted given) s.subs)) = more_possible s.opened s.opened _ _ _ (omega arith) (first_counts s.hand chosen s.finished s.next_index job hand) first in
+    let first : ArePossible s.opened (most_counts s.hand chosen s.finished s.next_index + 1) (filter (is_left w.ended) (map (sub_with_count given) s.subs)) = possible_left s.opened _ w.ended (map (sub_with_count given) s.subs) (possible_counted s.opened _ given s.subs was.possible) in
+    let possible : ArePossible s.opened (most_counts (Some job) None s.finished 0) (filter (is_left w.ended) (map (sub_with_count given) s.subs)) = more_possible s.opened s.opened _ _ _ (omega arith) (first_counts s.hand chosen s.finished s.next_index job hand) first in
     subst (λ (c : Clients). IsSound (record s { hand = Some job; next_index = 0; clients = c.shown; subs = openings.subs; deltas = openings.deltas }) (with_serial serial openings.subs) c.next) (sym placed.conns)
     (sound (record s { hand = Some job; next_index = 0; clients = w.clients; subs = openings.subs; deltas = openings.deltas }) serial w.clients none (walk_numbered s.shards s.next_conn s job (filter (is_due job) s.subs) (first_step s.clients) was.numbered)
     (record { last = was.turns.last; tried = omega arith; turn = (turn, most) })

@@ -21,11 +21,11 @@ use Rattle.subj.specs.declared.jobs.Job.{Job}
 use Rattle.subj.specs.declared.keys.Key.{Key}
 use Rattle.client_frames.specs.Frames.{reply_line}
 use Rattle.outbox.specs.Views.{with_entry, reply_entry}
-use Rattle.shard_core.specs.Shards.{State, Client, client_at, is_open, fits, changed}
-use Rattle.shard_core.specs.Closings.{serials_of, is_left, left_of, without}
-use Rattle.shard_core.specs.Owed.{Walk, walk, walked, give, shut_slow, first_step, is_due, is_plain, is_wanted, is_permitted, due_entry, after_walk, counted, tried, claimed, candidate_of, candidate_named, is_candidate, slow_consumer}
+use Rattle.shard_core.specs.Shards.{State, Client, client_at, is_open, fits, clients_with_change}
+use Rattle.shard_core.specs.Closings.{serials_of, is_left, left_of, without_subs}
+use Rattle.shard_core.specs.Owed.{Walk, walk, whole_walk, walk_with_entry, walk_with_shut, first_step, is_due, is_plain, is_wanted, is_permitted, due_entry, after_walk, sub_with_count, after_try, after_claim, candidate_of, candidate_named, is_candidate, slow_consumer}
 use Rattle.shard_core.specs.ShardEvents.{Attach, Subscribe, Unsubscribe, Reply, Shut, Detach, Take, Begin, Claim, End, DropJob, Collect}
-use Rattle.shard_core.specs.ShardSteps.{called, new_sub, subscribed, ended_now, unsubscribed, was_shut, answer_fits, done_with, begin_refusal, claim_refusal, end_refusal}
+use Rattle.shard_core.specs.ShardSteps.{sub_called, new_sub, after_subscribe, ended_now, after_unsubscribe, was_shut, answer_fits, done_with, begin_refusal, claim_refusal, end_refusal}
 use Rattle.shard_core.specs.Lines.{Turns, SoundLine, HasJob, waiting_after, first_of, rest_of}
 use Rattle.shard_core.specs.AsLaw.{Naming, job_of, hand_of, sub_of, shard_of, matching, ClaimMoves, given_by_claim, AreThese, opened_by, placements_for, LawStep, ShardFollows}
 use Rattle.shard_core.proofs.Closings.Closed.{closed_of, closes, are_open, closed_in, serials_left, counted_sub, counted_serials, max_sub, max_serials}
@@ -58,7 +58,7 @@ closing c names n inc now place issued race after_race s waiting clients deltas 
   sound = let left = serials_sound ended s.opened s.subs s.subs refl sound.apart sound.below in record { hand = sound.hand; turns = sound.turns; room = sound.room; apart = left.0; below = left.1 };
 }
 
-none_without : (us : List law.Subscription) → law.without [] us ≡ us
+none_without : (us : List law.Subscription) → law.subs_without [] us ≡ us
 none_without [] = refl
 none_without (u ∷ us) = ap (λ t. u ∷ t) (none_without us)
 
@@ -129,10 +129,10 @@ walk_gives s job (u ∷ due) w = go (is_open u.conn w.clients) (fits (client_at 
     here : (v : Walk) → v.given ≡ w.given ++ u ∷ [] → (r : Gave due v (walk s job due v)) → Gave (u ∷ due) w (walk s job due v)
     here v same r = record { new = u ∷ r.new; given = r.given ∙ ap (λ t. t ++ r.new) same ∙ append_assoc w.given (u ∷ []) r.new; some = inl (refl, r.some) }
 
-    go : (o r : Bool) → ((v : Walk) → Gave due v (walk s job due v)) → Gave (u ∷ due) w (walk s job due (cond o (cond r (give (due_entry s.shard job None u) u w) (shut_slow s.subs u.conn w)) w))
+    go : (o r : Bool) → ((v : Walk) → Gave due v (walk s job due v)) → Gave (u ∷ due) w (walk s job due (cond o (cond r (walk_with_entry (due_entry s.shard job None u) u w) (walk_with_shut s.subs u.conn w)) w))
     go false r below = later w refl (below w)
-    go true true below = here (give (due_entry s.shard job None u) u w) refl (below (give (due_entry s.shard job None u) u w))
-    go true false below = later (shut_slow s.subs u.conn w) refl (below (shut_slow s.subs u.conn w))
+    go true true below = here (walk_with_entry (due_entry s.shard job None u) u w) refl (below (walk_with_entry (due_entry s.shard job None u) u w))
+    go true false below = later (walk_with_shut s.subs u.conn w) refl (below (walk_with_shut s.subs u.conn w))
 
 serials_apart : (us : List Subscription) → Pairs (λ j k. j ≢ k) (serials_of us) → Pairs (λ u v. u.serial ≢ v.serial) us
 serials_apart us p = pairs_map_back (λ j k. j ≢ k) serial_of us p
@@ -167,7 +167,7 @@ begins c names n inc now place issued race after_race sh job rest subs w sound k
       closed = closed_of w.ended us;
       are_open = subst (λ t. law.AreOpen t (closed_of w.ended us)) same (are_open w.ended us (subst (Pairs (λ j k. j ≢ k)) (sym serials) sound.apart));
       out_is = refl;
-      after = λ i. record (shard_of names n inc (record sh { hand = None }) (job ∷ rest)) { hand = Some (job_of names n inc job); next = 0; waiting = map (job_of names n inc) rest; subscriptions = (sym (closes w.ended us) ∙ ap (law.without (closed_of w.ended us)) same) i };
+      after = λ i. record (shard_of names n inc (record sh { hand = None }) (job ∷ rest)) { hand = Some (job_of names n inc job); next = 0; waiting = map (job_of names n inc) rest; subscriptions = (sym (closes w.ended us) ∙ ap (law.subs_without (closed_of w.ended us)) same) i };
     },
     keeps,
   );
@@ -178,12 +178,12 @@ begins c names n inc now place issued race after_race sh job rest subs w sound k
 }
   where
     us : List Subscription
-    us = map (counted (serials_of w.given)) sh.subs
+    us = map (sub_with_count (serials_of w.given)) sh.subs
 
-    same : map sub_of (map (counted (serials_of w.given)) sh.subs) ≡ map sub_of sh.subs
+    same : map sub_of (map (sub_with_count (serials_of w.given)) sh.subs) ≡ map sub_of sh.subs
     same = counted_sub (serials_of w.given) sh.subs
 
-    serials : serials_of (map (counted (serials_of w.given)) sh.subs) ≡ serials_of sh.subs
+    serials : serials_of (map (sub_with_count (serials_of w.given)) sh.subs) ≡ serials_of sh.subs
     serials = counted_serials (serials_of w.given) sh.subs
 
     owed : (u : Subscription) → In u subs → law.IsOwedPlain (matching c) (shard_of names n inc (record sh { hand = None }) (job ∷ rest)) (job_of names n inc job) (sub_of u)
@@ -199,10 +199,10 @@ finished_sound window issued sh job waiting so = let turn = so.hand job refl in 
 ends : (c : Config) (names : Naming) (n inc now place issued : ℕ) (race after_race : Race) (sh : State) (job : Job) (waiting : List Job)
     → SoundLine c.window issued (record sh { hand = Some job }) waiting → Keeps c.window race after_race → sh.next_index ≡ length job.queues
     → LawStep c names n inc now place issued race after_race (record sh { hand = Some job }) waiting (done_with sh (Some job)) waiting [] []
-ends c names n inc now place issued race after_race sh job waiting so keeps tried = record {
+ends c names n inc now place issued race after_race sh job waiting so keeps after_try = record {
   event = law.End;
   closed = [];
-  steps = (record { job = job_of names n inc job; in_hand = refl; all_tried = tried; out_is = refl; after = λ i. record (shard_of names n inc sh waiting) { finished = so.hand job refl i; hand = None; next = 0 } }, keeps);
+  steps = (record { job = job_of names n inc job; in_hand = refl; all_tried = after_try; out_is = refl; after = λ i. record (shard_of names n inc sh waiting) { finished = so.hand job refl i; hand = None; next = 0 } }, keeps);
   closes = λ k was now_not. absurd (true≢false (sym was ∙ now_not));
   sound = finished_sound c.window issued sh job waiting so;
 }
@@ -242,7 +242,7 @@ empty (u ∷ us) h = absurd (h u (inl refl))
 -- a claim that makes no placement: lost, or without a candidate
 passes : (c : Config) (names : Naming) (n inc now place issued : ℕ) (race after_race : Race) (sh : State) (job : Job) (waiting : List Job) (name : List ℕ)
     → SoundLine c.window issued (record sh { hand = Some job }) waiting → Keeps c.window race after_race → slice_get job.queues sh.next_index ≡ Some name
-    → LawStep c names n inc now place issued race after_race (record sh { hand = Some job }) waiting (tried (record sh { hand = Some job })) waiting [] []
+    → LawStep c names n inc now place issued race after_race (record sh { hand = Some job }) waiting (after_try (record sh { hand = Some job })) waiting [] []
 passes c names n inc now place issued race after_race sh job waiting name so keeps is = record {
   event = law.Claim;
   closed = [];
@@ -254,7 +254,7 @@ passes c names n inc now place issued race after_race sh job waiting name so kee
 wins : (c : Config) (names : Naming) (n inc now place issued : ℕ) (race after_race : Race) (sh : State) (job : Job) (waiting : List Job) (name : List ℕ) (u : Subscription) (w : Walk)
     → SoundLine c.window issued (record sh { hand = Some job }) waiting → WinsPair every_rule c.window race job.turn sh.next_index after_race → slice_get job.queues sh.next_index ≡ Some name
     → In u sh.subs → u.key.queue ≡ Some name → subject_matches u.key.pattern job.message.subject ≡ true
-    → LawStep c names n inc now place issued race after_race (record sh { hand = Some job }) waiting (after_walk (tried (record sh { hand = Some job })) w) waiting [] (placements_for names n inc now place (Some job) (u ∷ []))
+    → LawStep c names n inc now place issued race after_race (record sh { hand = Some job }) waiting (after_walk (after_try (record sh { hand = Some job })) w) waiting [] (placements_for names n inc now place (Some job) (u ∷ []))
 wins c names n inc now place issued race after_race sh job waiting name u w so pair is there queue matches = record {
   event = law.Claim;
   closed = closed_of w.ended us;
@@ -271,7 +271,7 @@ wins c names n inc now place issued race after_race sh job waiting name u w so p
     closed = closed_of w.ended us;
     are_open = subst (λ t. law.AreOpen t (closed_of w.ended us)) same (are_open w.ended us (subst (Pairs (λ j k. j ≢ k)) (sym serials) so.apart));
     out_is = refl;
-    after = λ i. record (shard_of names n inc (record sh { hand = Some job }) waiting) { next = add-one sh.next_index i; subscriptions = (sym (closes w.ended us) ∙ ap (law.without (closed_of w.ended us)) same) i };
+    after = λ i. record (shard_of names n inc (record sh { hand = Some job }) waiting) { next = add-one sh.next_index i; subscriptions = (sym (closes w.ended us) ∙ ap (law.subs_without (closed_of w.ended us)) same) i };
   });
   closes = λ k was now_not. closed_in w.ended us k (ap (list_any (nat_eq k)) serials ∙ was) now_not;
   sound =
@@ -280,12 +280,12 @@ wins c names n inc now place issued race after_race sh job waiting name u w so p
 }
   where
     us : List Subscription
-    us = map (counted (serials_of w.given)) sh.subs
+    us = map (sub_with_count (serials_of w.given)) sh.subs
 
-    same : map sub_of (map (counted (serials_of w.given)) sh.subs) ≡ map sub_of sh.subs
+    same : map sub_of (map (sub_with_count (serials_of w.given)) sh.subs) ≡ map sub_of sh.subs
     same = counted_sub (serials_of w.given) sh.subs
 
-    serials : serials_of (map (counted (serials_of w.given)) sh.subs) ≡ serials_of sh.subs
+    serials : serials_of (map (sub_with_count (serials_of w.given)) sh.subs) ≡ serials_of sh.subs
     serials = counted_serials (serials_of w.given) sh.subs
 
 named : (name : List ℕ) (q : Option (List ℕ)) → is_named name q ≡ true → q ≡ Some name
@@ -304,7 +304,7 @@ claims : (c : Config) (names : Naming) (n inc now place issued index : ℕ) (won
     → SoundLine c.window issued (record sh { hand = hand }) waiting → claim_refusal (record sh { hand = hand }) index hand ≡ None
     → ClaimMoves c.window index hand (candidate_of (record sh { hand = hand }) hand index) won race after_race
     → AreThese (given_by_claim hand (candidate_of (record sh { hand = hand }) hand index) won) subs
-    → LawStep c names n inc now place issued race after_race (record sh { hand = hand }) waiting (claimed (record sh { hand = hand }) hand (candidate_of (record sh { hand = hand }) hand index) won) waiting [] (placements_for names n inc now place hand subs)
+    → LawStep c names n inc now place issued race after_race (record sh { hand = hand }) waiting (after_claim (record sh { hand = hand }) hand (candidate_of (record sh { hand = hand }) hand index) won) waiting [] (placements_for names n inc now place hand subs)
 claims c names n inc now place issued index won race after_race sh None waiting subs so e moves these = absurd (none-some _ (sym e))
 claims c names n inc now place issued index won race after_race sh (Some job) waiting subs so e moves these =
     let both = and_true (nat_eq index sh.next_index) (nat_lt index (length job.queues)) (no_end _ _ e) in
@@ -316,63 +316,63 @@ claims c names n inc now place issued index won race after_race sh (Some job) wa
     s0 = record sh { hand = Some job }
 
     -- without a placement
-    passed : (name : List ℕ) → slice_get job.queues index ≡ Some name → index ≡ sh.next_index → Keeps c.window race after_race → AreThese [] subs → LawStep c names n inc now place issued race after_race (record sh { hand = Some job }) waiting (tried (record sh { hand = Some job })) waiting [] (placements_for names n inc now place (Some job) subs)
-    passed name here at keeps t = subst (λ us. LawStep c names n inc now place issued race after_race (record sh { hand = Some job }) waiting (tried (record sh { hand = Some job })) waiting [] (placements_for names n inc now place (Some job) us)) (sym (empty subs t.some)) (passes c names n inc now place issued race after_race sh job waiting name so keeps (ap (slice_get job.queues) (sym at) ∙ here))
+    passed : (name : List ℕ) → slice_get job.queues index ≡ Some name → index ≡ sh.next_index → Keeps c.window race after_race → AreThese [] subs → LawStep c names n inc now place issued race after_race (record sh { hand = Some job }) waiting (after_try (record sh { hand = Some job })) waiting [] (placements_for names n inc now place (Some job) subs)
+    passed name here at keeps t = subst (λ us. LawStep c names n inc now place issued race after_race (record sh { hand = Some job }) waiting (after_try (record sh { hand = Some job })) waiting [] (placements_for names n inc now place (Some job) us)) (sym (empty subs t.some)) (passes c names n inc now place issued race after_race sh job waiting name so keeps (ap (slice_get job.queues) (sym at) ∙ here))
 
     by : (u : Option Subscription) → candidate_of (record sh { hand = Some job }) (Some job) index ≡ u → (b : Bool) (name : List ℕ) → slice_get job.queues index ≡ Some name → index ≡ sh.next_index → ClaimMoves c.window index (Some job) u b race after_race → AreThese (given_by_claim (Some job) u b) subs
-        → LawStep c names n inc now place issued race after_race (record sh { hand = Some job }) waiting (claimed (record sh { hand = Some job }) (Some job) u b) waiting [] (placements_for names n inc now place (Some job) subs)
+        → LawStep c names n inc now place issued race after_race (record sh { hand = Some job }) waiting (after_claim (record sh { hand = Some job }) (Some job) u b) waiting [] (placements_for names n inc now place (Some job) subs)
     by None is b name here at keeps t = passed name here at keeps t
     by (Some u) is false name here at keeps t = passed name here at keeps t
     by (Some u) is true name here at pair t =
         let k = candidate_is s0 job name u (sym (ap (candidate_named s0 job) here) ∙ is) in
-        subst (λ us. LawStep c names n inc now place issued race after_race (record sh { hand = Some job }) waiting (after_walk (tried (record sh { hand = Some job })) (give (due_entry sh.shard job u.key.queue u) u (first_step sh.clients))) waiting [] (placements_for names n inc now place (Some job) us)) (sym (just_one u subs (t.all u (inl refl)) t.some t.once))
-        (wins c names n inc now place issued race after_race sh job waiting name u (give (due_entry sh.shard job u.key.queue u) u (first_step sh.clients)) so (subst (λ m. WinsPair every_rule c.window race job.turn m after_race) at pair) (ap (slice_get job.queues) (sym at) ∙ here) k.0 k.1 k.2)
+        subst (λ us. LawStep c names n inc now place issued race after_race (record sh { hand = Some job }) waiting (after_walk (after_try (record sh { hand = Some job })) (walk_with_entry (due_entry sh.shard job u.key.queue u) u (first_step sh.clients))) waiting [] (placements_for names n inc now place (Some job) us)) (sym (just_one u subs (t.all u (inl refl)) t.some t.once))
+        (wins c names n inc now place issued race after_race sh job waiting name u (walk_with_entry (due_entry sh.shard job u.key.queue u) u (first_step sh.clients)) so (subst (λ m. WinsPair every_rule c.window race job.turn m after_race) at pair) (ap (slice_get job.queues) (sym at) ∙ here) k.0 k.1 k.2)
 
 -- ---- each event
 
 refused : {R : Type 0} (why : R) → Some why ≡ None → ⊥
 refused why e = none-some why (sym e)
 
-pub shard_follows : ShardFollows
-shard_follows c names n inc now place issued race after_race s waiting Attach subs sound cause job keeps these = quiet c names n inc now place issued race after_race s waiting _ _ s.deltas s.subs keeps sound refl refl
-shard_follows c names n inc now place issued race after_race s waiting (Subscribe conn key sid) subs sound cause job keeps these = go (called conn sid s.subs)
+pub shards_follow_the_law : ShardFollows
+shards_follow_the_law c names n inc now place issued race after_race s waiting Attach subs sound cause job keeps these = quiet c names n inc now place issued race after_race s waiting _ _ s.deltas s.subs keeps sound refl refl
+shards_follow_the_law c names n inc now place issued race after_race s waiting (Subscribe conn key sid) subs sound cause job keeps these = go (sub_called conn sid s.subs)
   where
-    go : (u : Option Subscription) → LawStep c names n inc now place issued race after_race s waiting (subscribed s (new_sub s conn key sid) u) waiting (opened_by n inc now place s conn key sid u) []
+    go : (u : Option Subscription) → LawStep c names n inc now place issued race after_race s waiting (after_subscribe s (new_sub s conn key sid) u) waiting (opened_by n inc now place s conn key sid u) []
     go (Some u) = quiet c names n inc now place issued race after_race s waiting s.next_conn s.clients s.deltas s.subs keeps sound refl refl
     go None = opens c names n inc now place issued race after_race s waiting _ conn key sid keeps sound
-shard_follows c names n inc now place issued race after_race s waiting (Unsubscribe conn sid max) subs sound cause job keeps these = go (called conn sid s.subs)
+shards_follow_the_law c names n inc now place issued race after_race s waiting (Unsubscribe conn sid max) subs sound cause job keeps these = go (sub_called conn sid s.subs)
   where
-    by : (u : Subscription) (b : Bool) → LawStep c names n inc now place issued race after_race s waiting (cond b (without (u.serial ∷ []) s) (record s { subs = with_max u.serial max s.subs })) waiting [] []
+    by : (u : Subscription) (b : Bool) → LawStep c names n inc now place issued race after_race s waiting (cond b (without_subs (u.serial ∷ []) s) (record s { subs = with_max u.serial max s.subs })) waiting [] []
     by u true = closing c names n inc now place issued race after_race s waiting s.clients _ (u.serial ∷ []) keeps sound
     by u false = quiet c names n inc now place issued race after_race s waiting s.next_conn s.clients s.deltas _ keeps sound (max_sub u.serial max s.subs) (max_serials u.serial max s.subs)
 
-    go : (u : Option Subscription) → LawStep c names n inc now place issued race after_race s waiting (unsubscribed s max u) waiting [] []
+    go : (u : Option Subscription) → LawStep c names n inc now place issued race after_race s waiting (after_unsubscribe s max u) waiting [] []
     go None = quiet c names n inc now place issued race after_race s waiting s.next_conn s.clients s.deltas s.subs keeps sound refl refl
     go (Some u) = by u (ended_now max u)
-shard_follows c names n inc now place issued race after_race s waiting (Reply conn frame) subs sound cause job keeps these = go (answer_fits s conn (reply_line frame))
+shards_follow_the_law c names n inc now place issued race after_race s waiting (Reply conn frame) subs sound cause job keeps these = go (answer_fits s conn (reply_line frame))
   where
-    go : (b : Bool) → LawStep c names n inc now place issued race after_race s waiting (cond b (record s { clients = changed (with_entry (reply_entry (reply_line frame))) conn s.clients }) (was_shut s conn slow_consumer)) waiting [] []
+    go : (b : Bool) → LawStep c names n inc now place issued race after_race s waiting (cond b (record s { clients = clients_with_change (with_entry (reply_entry (reply_line frame))) conn s.clients }) (was_shut s conn slow_consumer)) waiting [] []
     go true = quiet c names n inc now place issued race after_race s waiting s.next_conn _ s.deltas s.subs keeps sound refl refl
     go false = closing c names n inc now place issued race after_race s waiting _ _ (left_of conn [] s.subs) keeps sound
-shard_follows c names n inc now place issued race after_race s waiting (Shut conn text) subs sound cause job keeps these = closing c names n inc now place issued race after_race s waiting _ _ (left_of conn [] s.subs) keeps sound
-shard_follows c names n inc now place issued race after_race s waiting (Detach conn) subs sound cause job keeps these = closing c names n inc now place issued race after_race s waiting _ _ (left_of conn [] s.subs) keeps sound
-shard_follows c names n inc now place issued race after_race s waiting (Take conn count) subs sound cause job keeps these = quiet c names n inc now place issued race after_race s waiting s.next_conn _ s.deltas s.subs keeps sound refl refl
-shard_follows c names n inc now place issued race after_race s waiting (Begin job) subs sound cause first keeps these = go s.hand waiting sound cause first these
+shards_follow_the_law c names n inc now place issued race after_race s waiting (Shut conn text) subs sound cause job keeps these = closing c names n inc now place issued race after_race s waiting _ _ (left_of conn [] s.subs) keeps sound
+shards_follow_the_law c names n inc now place issued race after_race s waiting (Detach conn) subs sound cause job keeps these = closing c names n inc now place issued race after_race s waiting _ _ (left_of conn [] s.subs) keeps sound
+shards_follow_the_law c names n inc now place issued race after_race s waiting (Take conn count) subs sound cause job keeps these = quiet c names n inc now place issued race after_race s waiting s.next_conn _ s.deltas s.subs keeps sound refl refl
+shards_follow_the_law c names n inc now place issued race after_race s waiting (Begin job) subs sound cause first keeps these = go s.hand waiting sound cause first these
   where
-    go : (hand : Option Job) (line : List Job) → SoundLine c.window issued (record s { hand = hand }) line → begin_refusal (record s { hand = hand }) job ≡ None → first_of line ≡ Some job → AreThese (walked s job).given subs
-        → LawStep c names n inc now place issued race after_race (record s { hand = hand }) line (after_walk (record s { hand = Some job; next_index = 0 }) (walked s job)) (rest_of line) [] (placements_for names n inc now place (Some job) subs)
+    go : (hand : Option Job) (line : List Job) → SoundLine c.window issued (record s { hand = hand }) line → begin_refusal (record s { hand = hand }) job ≡ None → first_of line ≡ Some job → AreThese (whole_walk s job).given subs
+        → LawStep c names n inc now place issued race after_race (record s { hand = hand }) line (after_walk (record s { hand = Some job; next_index = 0 }) (whole_walk s job)) (rest_of line) [] (placements_for names n inc now place (Some job) subs)
     go (Some other) line so e f t = absurd (refused _ e)
     go None [] so e f t = absurd (none-some job f)
     go None (other ∷ rest) so e f t =
-        subst (λ j. LawStep c names n inc now place issued race after_race (record s { hand = None }) (j ∷ rest) (after_walk (record s { hand = Some job; next_index = 0 }) (walked s job)) rest [] (placements_for names n inc now place (Some job) subs)) (sym (same_Some other job f))
-        (begins c names n inc now place issued race after_race s job rest subs (walked s job) (subst (λ j. SoundLine c.window issued (record s { hand = None }) (j ∷ rest)) (same_Some other job f) so) keeps (walk_gives s job (filter (is_due job) s.subs) (first_step s.clients)) t)
-shard_follows c names n inc now place issued race after_race s waiting (Claim index won) subs sound cause job moves these = claims c names n inc now place issued index won race after_race s s.hand waiting subs sound cause moves these
-shard_follows c names n inc now place issued race after_race s waiting End subs sound cause job keeps these = go s.hand sound cause
+        subst (λ j. LawStep c names n inc now place issued race after_race (record s { hand = None }) (j ∷ rest) (after_walk (record s { hand = Some job; next_index = 0 }) (whole_walk s job)) rest [] (placements_for names n inc now place (Some job) subs)) (sym (same_Some other job f))
+        (begins c names n inc now place issued race after_race s job rest subs (whole_walk s job) (subst (λ j. SoundLine c.window issued (record s { hand = None }) (j ∷ rest)) (same_Some other job f) so) keeps (walk_gives s job (filter (is_due job) s.subs) (first_step s.clients)) t)
+shards_follow_the_law c names n inc now place issued race after_race s waiting (Claim index won) subs sound cause job moves these = claims c names n inc now place issued index won race after_race s s.hand waiting subs sound cause moves these
+shards_follow_the_law c names n inc now place issued race after_race s waiting End subs sound cause job keeps these = go s.hand sound cause
   where
     go : (hand : Option Job) → SoundLine c.window issued (record s { hand = hand }) waiting → end_refusal (record s { hand = hand }) hand ≡ None → LawStep c names n inc now place issued race after_race (record s { hand = hand }) waiting (done_with (record s { hand = hand }) hand) waiting [] []
     go None so e = absurd (refused _ e)
     go (Some j) so e = ends c names n inc now place issued race after_race s j waiting so keeps (eq_true s.next_index (length j.queues) (no_end (nat_eq s.next_index (length j.queues)) _ e))
-shard_follows c names n inc now place issued race after_race s waiting (DropJob next) subs sound cause job keeps these = go s.hand waiting sound job
+shards_follow_the_law c names n inc now place issued race after_race s waiting (DropJob next) subs sound cause job keeps these = go s.hand waiting sound job
   where
     go : (hand : Option Job) (line : List Job) → SoundLine c.window issued (record s { hand = hand }) line → HasJob hand (DropJob next) line
         → LawStep c names n inc now place issued race after_race (record s { hand = hand }) line (done_with (record s { hand = hand }) (option_or hand next)) (waiting_after hand (DropJob next) line) [] []
@@ -382,4 +382,4 @@ shard_follows c names n inc now place issued race after_race s waiting (DropJob 
         subst (λ x. LawStep c names n inc now place issued race after_race (record s { hand = None }) (j ∷ rest) (done_with (record s { hand = None }) (option_or None x)) rest [] []) (sym (has.1 ∙ sym has.2))
         (drops c names n inc now place issued race after_race s None (j ∷ rest) rest j keeps so.turns.0 (inr (refl, refl))
         (let turn = so.turns.0 in record { hand = λ k f. absurd (none-some k f); turns = subst (λ m. Turns m rest issued) (sym turn) so.turns.1; room = let m = so.room in omega arith; apart = so.apart; below = so.below }))
-shard_follows c names n inc now place issued race after_race s waiting Collect subs sound cause job keeps these = quiet c names n inc now place issued race after_race s waiting s.next_conn s.clients [] s.subs keeps sound refl refl
+shards_follow_the_law c names n inc now place issued race after_race s waiting Collect subs sound cause job keeps these = quiet c names n inc now place issued race after_race s waiting s.next_conn s.clients [] s.subs keeps sound refl refl

@@ -17,17 +17,17 @@ use Rattle.outbox.specs.Views.{Written, with_entry}
 use Rattle.sub_table.specs.Subscriptions.{gets, has_serial, serial_of}
 use Rattle.sub_table.specs.declared.Subscription.{Subscription}
 use Rattle.subj.specs.declared.jobs.Job.{Job}
-use Rattle.shard_core.specs.Shards.{State, Client, client_at, changed, fits}
+use Rattle.shard_core.specs.Shards.{State, Client, client_at, clients_with_change, fits}
 use Rattle.shard_core.specs.Closings.{ended_ids}
 use Rattle.subj.specs.QueueNames.{is_named}
-use Rattle.shard_core.specs.Owed.{ended_by, tried, claimed, reaches, candidate_of, due_entry, is_permitted, is_candidate, candidate_named, chosen}
+use Rattle.shard_core.specs.Owed.{ended_by, after_try, after_claim, reaches, candidate_of, due_entry, is_permitted, is_candidate, candidate_named, member_for_turn}
 use Rattle.shard_core.specs.Opened.{Opened, AreRising, part_of, with_counts, with_closings}
 use Rattle.shard_core.specs.Boxes.{Clients}
 use Rattle.shard_core.specs.declared.calls.Candidate.{Candidate}
 use Rattle.subj.specs.declared.limits.TheConstants.{MAX_QUEUE_NAMES}
 use Rattle.shard_core.specs.Tallies.{lent_subs}
 use Rattle.shard_core.specs.Claims.{is_member}
-use Rattle.shard_core.specs.Held.{Held, IsWhole, ClaimsAreWhole, settled, ended_by_chosen, HasChosen, Chooses, IsSound, IsPossible, ArePossible, AreNumbered, shard_with, staged_for, staged_in, candidate_told, told_of, serial_told, with_serial, most_counts, each_turn, placed_chosen}
+use Rattle.shard_core.specs.Held.{Held, IsWhole, ClaimsAreWhole, held_at_rest, ended_by_chosen, HasChosen, Chooses, IsSound, IsPossible, ArePossible, AreNumbered, shard_with, staged_for, staged_in, candidate_told, told_of, serial_told, with_serial, most_counts, each_turn, after_put_chosen}
 use Rattle.shard_core.proofs.Steps.Kept.{sound, more_possible, numbered_changed, possible_left, possible_counted}
 
 named : (name : List ℕ) (q : Option (List ℕ)) → is_named name q ≡ true → q ≡ Some name
@@ -74,7 +74,7 @@ module _ (copies : Bool) (shard : ℕ) (shown next : List Client) (job : Job) (n
 
   pub nobody_chosen : length items ≡ 0 → HasChosen copies (shard_with shard shown subs) job name None next
   nobody_chosen none =
-      let e : candidate_named (shard_with shard shown subs) job (Some name) ≡ None = ap (chosen job.turn) (sym candidates ∙ ap lent_subs (empty_of items none)) in
+      let e : candidate_named (shard_with shard shown subs) job (Some name) ≡ None = ap (member_for_turn job.turn) (sym candidates ∙ ap lent_subs (empty_of items none)) in
       record { told = sym (ap (option_map (candidate_told copies shard job)) e); chosen = sym e; staged = settled ∙ sym (ap (λ o. staged_for o (Some job) shard shown) e) }
 
   -- the one at the place of the turn
@@ -87,16 +87,16 @@ module _ (copies : Bool) (shard : ℕ) (shown next : List Client) (job : Job) (n
         let both = and_true (is_named name b.now.key.queue) _ (in_filter (is_member shard next job name) looks b.now there).1 in
         ap (fits (client_at b.now.conn next)) due ∙ (and_true (is_permitted job b.now) (fits (client_at b.now.conn next) (due_entry shard job b.now.key.queue b.now)) both.1).1
 
-    pub one_chosen : (entry : Written) (candidate : Candidate) (after : List Client) → candidate ≡ candidate_told copies shard job b.now → AreRising subs → i ≡ job.turn % length items → entry ≡ due_entry shard job b.now.key.queue b.now → after ≡ changed (with_entry entry) b.now.conn next → HasChosen copies (shard_with shard shown subs) job name (Some candidate) after
+    pub one_chosen : (entry : Written) (candidate : Candidate) (after : List Client) → candidate ≡ candidate_told copies shard job b.now → AreRising subs → i ≡ job.turn % length items → entry ≡ due_entry shard job b.now.key.queue b.now → after ≡ clients_with_change (with_entry entry) b.now.conn next → HasChosen copies (shard_with shard shown subs) job name (Some candidate) after
     one_chosen entry candidate after is rising place due put =
         let size : length (lent_subs items) ≡ length items = length-map items (λ (x : Bor Subscription). x.now) in
         let here : slice_get (lent_subs items) (job.turn % length (lent_subs items)) ≡ Some b.now = ap (λ n. slice_get (lent_subs items) (job.turn % n)) size ∙ ap (slice_get (lent_subs items)) (sym place) ∙ slice_get-map (λ (x : Bor Subscription). x.now) items i ∙ ap (option_map (λ (x : Bor Subscription). x.now)) at in
-        let e : candidate_named (shard_with shard shown subs) job (Some name) ≡ Some b.now = ap (chosen job.turn) (sym candidates) ∙ here in
+        let e : candidate_named (shard_with shard shown subs) job (Some name) ≡ Some b.now = ap (member_for_turn job.turn) (sym candidates) ∙ here in
         let is_open : In b.now subs = (in_filter (is_candidate (shard_with shard shown subs) job name) subs b.now (subst (In b.now) candidates (in_mapped (λ (x : Bor Subscription). x.now) items b (in_read items i b at)))).0 in
         record {
           told = ap Some is ∙ sym (ap (option_map (candidate_told copies shard job)) e);
           chosen = ap (λ (c : Candidate). with_serial (Some c.sub.serial) subs) is ∙ found_by_serial subs b.now rising is_open ∙ sym e;
-          staged = put ∙ ap (λ x. changed (with_entry x) b.now.conn next) due ∙ ap (changed (with_entry (due_entry shard job b.now.key.queue b.now)) b.now.conn) settled ∙ sym (ap (λ o. staged_for o (Some job) shard shown) e);
+          staged = put ∙ ap (λ x. clients_with_change (with_entry x) b.now.conn next) due ∙ ap (clients_with_change (with_entry (due_entry shard job b.now.key.queue b.now)) b.now.conn) settled ∙ sym (ap (λ o. staged_for o (Some job) shard shown) e);
         }
 
 -- ---- the candidate that stands
@@ -121,18 +121,18 @@ module _ (copies : Bool) (s : State) (job : Job) (index : ℕ) (name : List ℕ)
     after = λ k. record { state = record s { next_index = s.next_index + 1; clients = clients k }; chosen = (standing ∙ sym candidate_is) k };
   }
 
-  more_counts : (chosen now : Option Subscription) → most_counts (Some job) chosen s.finished s.next_index ≤ most_counts (Some job) now s.finished (s.next_index + 1)
+  more_counts : (member_for_turn now : Option Subscription) → most_counts (Some job) member_for_turn s.finished s.next_index ≤ most_counts (Some job) now s.finished (s.next_index + 1)
   more_counts None None = omega arith
   more_counts None (Some u) = omega arith
   more_counts (Some v) None = omega arith
   more_counts (Some v) (Some u) = omega arith
 
-  pub sound_chosen : (chosen : Option Subscription) (next : List Client) → IsSound s chosen next → s.next_index + 1 ≤ MAX_QUEUE_NAMES → IsSound (record s { next_index = s.next_index + 1; clients = conns.shown }) (with_serial serial s.subs) conns.next
-  sound_chosen chosen next was few = record {
+  pub sound_chosen : (member_for_turn : Option Subscription) (next : List Client) → IsSound s member_for_turn next → s.next_index + 1 ≤ MAX_QUEUE_NAMES → IsSound (record s { next_index = s.next_index + 1; clients = conns.shown }) (with_serial serial s.subs) conns.next
+  sound_chosen member_for_turn next was few = record {
     numbered = subst (AreNumbered s.shards s.next_conn) (sym clients) was.numbered;
     turns = record { last = was.turns.last; tried = few; turn = was.turns.turn };
-    possible = more_possible s.opened s.opened (most_counts s.hand chosen s.finished s.next_index) (most_counts s.hand (with_serial serial s.subs) s.finished (s.next_index + 1)) s.subs (omega arith)
-        (subst (λ h. most_counts h chosen s.finished s.next_index ≤ most_counts h (with_serial serial s.subs) s.finished (s.next_index + 1)) (sym hand) (more_counts chosen (with_serial serial s.subs))) was.possible;
+    possible = more_possible s.opened s.opened (most_counts s.hand member_for_turn s.finished s.next_index) (most_counts s.hand (with_serial serial s.subs) s.finished (s.next_index + 1)) s.subs (omega arith)
+        (subst (λ h. most_counts h member_for_turn s.finished s.next_index ≤ most_counts h (with_serial serial s.subs) s.finished (s.next_index + 1)) (sym hand) (more_counts member_for_turn (with_serial serial s.subs))) was.possible;
     staged = chose.staged ∙ ap (λ o. staged_for o (Some job) s.shard s.clients) (sym standing) ∙ ap (λ h. staged_for (with_serial serial s.subs) h s.shard s.clients) (sym hand) ∙ ap (staged_for (with_serial serial s.subs) s.hand s.shard) (sym clients);
   }
 
@@ -173,7 +173,7 @@ module _ (s : State) (job : Job) (next : List Client) (serial : ℕ) (sub : Subs
   abbrev entry : Written
   entry = due_entry s.shard job sub.key.queue sub
 
-  stands : next ≡ changed (with_entry entry) sub.conn s.clients
+  stands : next ≡ clients_with_change (with_entry entry) sub.conn s.clients
   stands = was.staged ∙ ap (λ o. staged_for o s.hand s.shard s.clients) found ∙ ap (λ h. staged_in h sub s.shard s.clients) hand
 
   counts : ArePossible s.opened (s.finished * each_turn + s.next_index) s.subs
@@ -183,21 +183,21 @@ module _ (s : State) (job : Job) (next : List Client) (serial : ℕ) (sub : Subs
   can_count =
       let it = (all_in (λ (u : Subscription). IsPossible s.opened (s.finished * each_turn + s.next_index) u) s.subs sub counts (found_serial serial s.subs sub found).1).delivered in
       let last = was.turns.last in
-      let tried = was.turns.tried in
+      let after_try = was.turns.tried in
       omega arith
 
   -- the parts behind a placing
   after : List ℕ → Opened
   after ended = with_closings ended (with_counts (serial ∷ []) (part_of s))
 
-  placed_is : placed_chosen s s.hand (find (has_serial serial) s.subs) ≡ (let o = with_closings (ended_by sub) (with_counts (sub.serial ∷ []) (part_of s)) in record s { clients = changed (with_entry entry) sub.conn s.clients; subs = o.subs; deltas = o.deltas })
-  placed_is = ap (placed_chosen s s.hand) found ∙ ap (λ h. placed_chosen s h (Some sub)) hand
+  placed_is : after_put_chosen s s.hand (find (has_serial serial) s.subs) ≡ (let o = with_closings (ended_by sub) (with_counts (sub.serial ∷ []) (part_of s)) in record s { clients = clients_with_change (with_entry entry) sub.conn s.clients; subs = o.subs; deltas = o.deltas })
+  placed_is = ap (after_put_chosen s s.hand) found ∙ ap (λ h. after_put_chosen s h (Some sub)) hand
 
   pub placed_with : (ended : List ℕ) (conns : Clients) (openings : Opened) → ended ≡ ended_by sub → conns ≡ record { shown = next; next = next } → openings ≡ with_closings ended (with_counts (serial ∷ []) (part_of s))
-      → ◌≡◌ {A = State} (record s { clients = conns.shown; subs = openings.subs; deltas = openings.deltas }) (placed_chosen s s.hand (find (has_serial serial) s.subs))
+      → ◌≡◌ {A = State} (record s { clients = conns.shown; subs = openings.subs; deltas = openings.deltas }) (after_put_chosen s s.hand (find (has_serial serial) s.subs))
   placed_with ended conns openings ends shown is =
       let o : openings ≡ with_closings (ended_by sub) (with_counts (sub.serial ∷ []) (part_of s)) = is ∙ ap (λ l. with_closings l (with_counts (serial ∷ []) (part_of s))) ends ∙ ap (λ n. with_closings (ended_by sub) (with_counts (n ∷ []) (part_of s))) (sym same) in
-      let c : conns.shown ≡ changed (with_entry entry) sub.conn s.clients = ap (λ (x : Clients). x.shown) shown ∙ stands in
+      let c : conns.shown ≡ clients_with_change (with_entry entry) sub.conn s.clients = ap (λ (x : Clients). x.shown) shown ∙ stands in
       (λ k. record s { clients = c k; subs = (o k).subs; deltas = (o k).deltas }) ∙ sym placed_is
 
   pub sound_with : (ended : List ℕ) (conns : Clients) (openings : Opened) (now : Option ℕ) → now ≡ None → conns ≡ record { shown = next; next = next } → openings ≡ with_closings ended (with_counts (serial ∷ []) (part_of s))
@@ -218,8 +218,8 @@ ends_one sub serial same e = ap (λ n. n ∷ []) (sym same) ∙ sym (ap (λ b. i
 pub serial_is : (serial : ℕ) (subs : List Subscription) (sub : Subscription) → find (has_serial serial) subs ≡ Some sub → sub.serial ≡ serial
 serial_is serial subs sub found = (found_serial serial subs sub found).0
 
-module _ (s : State) (next : List Client) (chosen : Option ℕ) (serial : ℕ) (sub : Subscription) (held : Held) (view : ◌≡◌ {A = Held} (record { state = s; chosen = with_serial chosen s.subs }) held) (some : is_some held.state.hand ≡ true)
-    (is : chosen ≡ Some serial) (found : find (has_serial serial) s.subs ≡ Some sub) (sound_was : IsSound s (with_serial chosen s.subs) next) where
+module _ (s : State) (next : List Client) (member_for_turn : Option ℕ) (serial : ℕ) (sub : Subscription) (held : Held) (view : ◌≡◌ {A = Held} (record { state = s; chosen = with_serial member_for_turn s.subs }) held) (some : is_some held.state.hand ≡ true)
+    (is : member_for_turn ≡ Some serial) (found : find (has_serial serial) s.subs ≡ Some sub) (sound_was : IsSound s (with_serial member_for_turn s.subs) next) where
   in_hand : (job : Job) × (s.hand ≡ Some job)
   in_hand = some_of s.hand (ap (λ (h : Held). is_some h.state.hand) view ∙ some)
 
@@ -230,11 +230,11 @@ module _ (s : State) (next : List Client) (chosen : Option ℕ) (serial : ℕ) (
   place_counts = can_count s in_hand.0 next serial sub in_hand.1 found was
 
   pub place_done : (ended : List ℕ) (conns : Clients) (openings : Opened) (now : Option ℕ) → ended ≡ ended_by sub → conns ≡ record { shown = next; next = next } → openings ≡ with_closings ended (with_counts (serial ∷ []) (part_of s)) → now ≡ None
-      → ◌≡◌ {A = Held} (record { state = record s { clients = conns.shown; subs = openings.subs; deltas = openings.deltas }; chosen = with_serial now openings.subs }) (settled (placed_chosen held.state held.state.hand held.chosen))
+      → ◌≡◌ {A = Held} (record { state = record s { clients = conns.shown; subs = openings.subs; deltas = openings.deltas }; chosen = with_serial now openings.subs }) (held_at_rest (after_put_chosen held.state held.state.hand held.chosen))
   place_done ended conns openings now ends shown closes none =
       let placed = placed_with s in_hand.0 next serial sub in_hand.1 found was ended conns openings ends shown closes in
-      subst (λ (h : Held). ◌≡◌ {A = Held} (record { state = record s { clients = conns.shown; subs = openings.subs; deltas = openings.deltas }; chosen = with_serial now openings.subs }) (settled (placed_chosen h.state h.state.hand h.chosen))) view
-      (λ k. record { state = (placed ∙ ap (λ o. placed_chosen s s.hand (with_serial o s.subs)) (sym is)) k; chosen = ap (λ o. with_serial o openings.subs) none k })
+      subst (λ (h : Held). ◌≡◌ {A = Held} (record { state = record s { clients = conns.shown; subs = openings.subs; deltas = openings.deltas }; chosen = with_serial now openings.subs }) (held_at_rest (after_put_chosen h.state h.state.hand h.chosen))) view
+      (λ k. record { state = (placed ∙ ap (λ o. after_put_chosen s s.hand (with_serial o s.subs)) (sym is)) k; chosen = ap (λ o. with_serial o openings.subs) none k })
 
   pub place_sound : (ended : List ℕ) (conns : Clients) (openings : Opened) (now : Option ℕ) → now ≡ None → conns ≡ record { shown = next; next = next } → openings ≡ with_closings ended (with_counts (serial ∷ []) (part_of s))
       → IsSound (record s { clients = conns.shown; subs = openings.subs; deltas = openings.deltas }) (with_serial now openings.subs) conns.next
@@ -254,12 +254,12 @@ tried_index : (s : State) (index : ℕ) (hand : Option Job) → claim_refusal s 
 tried_index s index None cause = absurd (cc)
 tried_index s index (Some job) cause = tests_next index s.next_index (nat_lt index (length job.queues)) (no_end _ _ cause)
 
-not_won_is : (s : State) (index : ℕ) (hand : Option Job) (u : Option Subscription) → claim_refusal s index hand ≡ None → tried s ≡ claimed s hand u false
+not_won_is : (s : State) (index : ℕ) (hand : Option Job) (u : Option Subscription) → claim_refusal s index hand ≡ None → after_try s ≡ after_claim s hand u false
 not_won_is s index None u cause = absurd (cc)
 not_won_is s index (Some job) None cause = refl
 not_won_is s index (Some job) (Some u) cause = refl
 
-won_is : (s : State) (index : ℕ) (hand : Option Job) (u : Option Subscription) → claim_refusal s index hand ≡ None → is_some u ≡ true → (is_some hand ≡ true) × (placed_chosen (tried s) hand u ≡ claimed s hand u true)
+won_is : (s : State) (index : ℕ) (hand : Option Job) (u : Option Subscription) → claim_refusal s index hand ≡ None → is_some u ≡ true → (is_some hand ≡ true) × (after_put_chosen (after_try s) hand u ≡ after_claim s hand u true)
 won_is s index None u cause some = absurd (cc)
 won_is s index (Some job) None cause some = absurd (cc)
 won_is s index (Some job) (Some u) cause some = (refl, refl)

@@ -17,7 +17,7 @@ use Rattle.shard_core.specs.declared.members.Member.{Member}
 use Rattle.shard_core.specs.declared.members.Members.{Members}
 use Rattle.shard_core.specs.Shards.{Client, client_at, fits}
 use Rattle.shard_core.specs.Claims.{is_member}
-use Rattle.shard_core.specs.Owed.{counted, due_entry, is_permitted}
+use Rattle.shard_core.specs.Owed.{sub_with_count, due_entry, is_permitted}
 use Rattle.shard_core.specs.Opened.{AreRising, IsOpened}
 use Rattle.shard_core.specs.Members.{mark_of, mark_of_queue, is_in_group, is_in_group_of, member_of, members_of, AreNoted, found_at, found_of}
 use Rattle.shard_core.proofs.Turns.Claims.{found_by_serial}
@@ -40,31 +40,31 @@ adds subject u us = by (gets subject u)
     by true = grouped (is_in_group u)
     by false = refl
 
-counted_key : (given : List ℕ) (u : Subscription) → (counted given u).key ≡ u.key
+counted_key : (given : List ℕ) (u : Subscription) → (sub_with_count given u).key ≡ u.key
 counted_key given u = by (list_any (nat_eq u.serial) given)
   where
     by : (b : Bool) → (cond b (record u { delivered = u.delivered + 1 }) u).key ≡ u.key
     by true = refl
     by false = refl
 
-counted_serial : (given : List ℕ) (u : Subscription) → (counted given u).serial ≡ u.serial
+counted_serial : (given : List ℕ) (u : Subscription) → (sub_with_count given u).serial ≡ u.serial
 counted_serial given u = by (list_any (nat_eq u.serial) given)
   where
     by : (b : Bool) → (cond b (record u { delivered = u.delivered + 1 }) u).serial ≡ u.serial
     by true = refl
     by false = refl
 
-members_counted : (subject given : List ℕ) (us : List Subscription) → members_of (filter (gets subject) (map (counted given) us)) ≡ members_of (filter (gets subject) us)
+members_counted : (subject given : List ℕ) (us : List Subscription) → members_of (filter (gets subject) (map (sub_with_count given) us)) ≡ members_of (filter (gets subject) us)
 members_counted subject given [] = refl
 members_counted subject given (u ∷ us) =
-    let v = counted given u in
-    adds subject v (filter (gets subject) (map (counted given) us))
-    ∙ ap (λ (k : Key). added subject k v.serial (members_of (filter (gets subject) (map (counted given) us)))) (counted_key given u)
-    ∙ ap (λ n. added subject u.key n (members_of (filter (gets subject) (map (counted given) us)))) (counted_serial given u)
+    let v = sub_with_count given u in
+    adds subject v (filter (gets subject) (map (sub_with_count given) us))
+    ∙ ap (λ (k : Key). added subject k v.serial (members_of (filter (gets subject) (map (sub_with_count given) us)))) (counted_key given u)
+    ∙ ap (λ n. added subject u.key n (members_of (filter (gets subject) (map (sub_with_count given) us)))) (counted_serial given u)
     ∙ ap (added subject u.key u.serial) (members_counted subject given us)
     ∙ sym (adds subject u (filter (gets subject) us))
 
-pub noted_counted : (given : List ℕ) (us : List Subscription) (members : Members) → AreNoted us members → AreNoted (map (counted given) us) members
+pub noted_counted : (given : List ℕ) (us : List Subscription) (members : Members) → AreNoted us members → AreNoted (map (sub_with_count given) us) members
 noted_counted given us members was noted = was noted ∙ sym (members_counted members.subject.items given us)
 
 -- what was noted is forgotten

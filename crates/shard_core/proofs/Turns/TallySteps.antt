@@ -8,17 +8,17 @@ use Rattle.outbox.specs.Views.{Written, with_entry, with_last}
 use Rattle.sub_table.specs.Subscriptions.{gets}
 use Rattle.sub_table.specs.declared.Subscription.{Subscription}
 use Rattle.subj.specs.declared.jobs.Job.{Job}
-use Rattle.shard_core.specs.Shards.{State, Client, client_at, is_open, changed, fits}
+use Rattle.shard_core.specs.Shards.{State, Client, client_at, is_open, clients_with_change, fits}
 use Rattle.shard_core.specs.Opened.{Opened, AreRising, AreApart, with_counts, with_closings}
 use Rattle.shard_core.specs.Boxes.{Clients}
 use Rattle.shard_core.specs.declared.calls.Begun.{Begun}
 use Rattle.shard_core.specs.declared.calls.Placed.{Placed}
 use Rattle.shard_core.specs.Puts.{put_line}
 use Rattle.shard_core.proofs.Closings.Ended.{given_apart, ended_apart}
-use Rattle.shard_core.specs.Answers.{copied}
+use Rattle.shard_core.specs.Answers.{copies_of}
 use Rattle.shard_core.specs.Closings.{serials_of, ended_ids}
 use Rattle.sub_table.specs.Subscriptions.{serial_of}
-use Rattle.shard_core.specs.Owed.{Walk, walk, walked, first_step, put_one, give, shut_slow, slow_consumer, due_entry, placed_for, is_plain, is_permitted, is_due}
+use Rattle.shard_core.specs.Owed.{Walk, walk, whole_walk, first_step, walk_after_put, walk_with_entry, walk_with_shut, slow_consumer, due_entry, placed_for, is_plain, is_permitted, is_due}
 use Rattle.shard_core.specs.Held.{shard_with}
 use Rattle.shard_core.specs.Tallies.{Tallied, none_tallied, with_given, with_shut, tally_of, IsTallied, IsStaged, with_lines, HasPlaced, Follows, is_placed, put_if_due, walk_matching, lent_subs}
 
@@ -30,47 +30,47 @@ if_false b x y e = ap (λ v. if v then x else y) e
 
 -- ---- one step
 
-pub put_nothing : (subs : List Subscription) (job : Job) (sub : Subscription) (next : List Client) (t : Tallied) → is_open sub.conn next ≡ false → Follows subs job (λ s w. put_one s job w sub) next t next t
+pub put_nothing : (subs : List Subscription) (job : Job) (sub : Subscription) (next : List Client) (t : Tallied) → is_open sub.conn next ≡ false → Follows subs job (λ s w. walk_after_put s job w sub) next t next t
 put_nothing subs job sub next t shut copies s w of is =
     subst (λ v. IsTallied copies s job v next t) (sym (if_false (is_open sub.conn w.clients) _ _ (sym (ap (is_open sub.conn) is.clients_are) ∙ shut))) is
 
-copies_more : (copies : Bool) (shard : ℕ) (job : Job) (given : List Subscription) (sub : Subscription) → copied copies (map (placed_for shard job None) given) ++ copied copies (placed_for shard job None sub ∷ []) ≡ copied copies (map (placed_for shard job None) (given ++ sub ∷ []))
+copies_more : (copies : Bool) (shard : ℕ) (job : Job) (given : List Subscription) (sub : Subscription) → copies_of copies (map (placed_for shard job None) given) ++ copies_of copies (placed_for shard job None sub ∷ []) ≡ copies_of copies (map (placed_for shard job None) (given ++ sub ∷ []))
 copies_more true shard job given sub = sym (map-append (placed_for shard job None) given (sub ∷ []))
 copies_more false shard job given sub = refl
 
-given_tally : (shard : ℕ) (copies : Bool) (job : Job) (w : Walk) (sub : Subscription) → with_given (due_entry shard job None sub) sub (tally_of shard copies job w) ≡ tally_of shard copies job (give (due_entry shard job None sub) sub w)
+given_tally : (shard : ℕ) (copies : Bool) (job : Job) (w : Walk) (sub : Subscription) → with_given (due_entry shard job None sub) sub (tally_of shard copies job w) ≡ tally_of shard copies job (walk_with_entry (due_entry shard job None sub) sub w)
 given_tally shard copies job w sub =
     let more = copies_more copies shard job w.given sub in
     let serials : serials_of w.given ++ sub.serial ∷ [] ≡ serials_of (w.given ++ sub ∷ []) = sym (map-append serial_of w.given (sub ∷ [])) in
-    λ i. record (tally_of shard copies job (give (due_entry shard job None sub) sub w)) { put = more i; given = serials i }
+    λ i. record (tally_of shard copies job (walk_with_entry (due_entry shard job None sub) sub w)) { put = more i; given = serials i }
 
 pub put_given : (subs : List Subscription) (job : Job) (sub : Subscription) (next after : List Client) (t t2 : Tallied) (entry : Written) → is_open sub.conn next ≡ true → sub.key.queue ≡ None → entry ≡ due_entry t.shard job sub.key.queue sub → fits (client_at sub.conn next) entry ≡ true
-    → after ≡ changed (with_entry entry) sub.conn next → t2 ≡ with_given entry sub t → Follows subs job (λ s w. put_one s job w sub) next t after t2
+    → after ≡ clients_with_change (with_entry entry) sub.conn next → t2 ≡ with_given entry sub t → Follows subs job (λ s w. walk_after_put s job w sub) next t after t2
 put_given subs job sub next after t t2 entry opened plain due room put noted copies s w of is =
     let shard : t.shard ≡ s.shard = ap (λ (x : Tallied). x.shard) is.tally_is in
     let y : Written = due_entry s.shard job None sub in
     let owed : entry ≡ y = due ∙ ap (λ q. due_entry t.shard job q sub) plain ∙ ap (λ n. due_entry n job None sub) shard in
     let opens : is_open sub.conn w.clients ≡ true = sym (ap (is_open sub.conn) is.clients_are) ∙ opened in
     let has_room : fits (client_at sub.conn w.clients) y ≡ true = sym (ap (λ cs. fits (client_at sub.conn cs) y) is.clients_are) ∙ sym (ap (fits (client_at sub.conn next)) owed) ∙ room in
-    let step : put_one s job w sub ≡ give y sub w = if_true (is_open sub.conn w.clients) _ _ opens ∙ if_true (fits (client_at sub.conn w.clients) y) _ _ has_room in
+    let step : walk_after_put s job w sub ≡ walk_with_entry y sub w = if_true (is_open sub.conn w.clients) _ _ opens ∙ if_true (fits (client_at sub.conn w.clients) y) _ _ has_room in
     subst (λ v. IsTallied copies s job v after t2) (sym step)
     (record {
-      clients_are = put ∙ ap (λ e. changed (with_entry e) sub.conn next) owed ∙ ap (changed (with_entry y) sub.conn) is.clients_are;
+      clients_are = put ∙ ap (λ e. clients_with_change (with_entry e) sub.conn next) owed ∙ ap (clients_with_change (with_entry y) sub.conn) is.clients_are;
       tally_is = noted ∙ ap (λ e. with_given e sub t) owed ∙ ap (with_given y sub) is.tally_is ∙ given_tally s.shard copies job w sub;
     })
 
 pub put_shut : (subs : List Subscription) (job : Job) (sub : Subscription) (next after : List Client) (t t2 : Tallied) (entry : Written) → is_open sub.conn next ≡ true → sub.key.queue ≡ None → entry ≡ due_entry t.shard job sub.key.queue sub → fits (client_at sub.conn next) entry ≡ false
-    → after ≡ changed (with_last slow_consumer) sub.conn next → t2 ≡ with_shut subs sub.conn t → Follows subs job (λ s w. put_one s job w sub) next t after t2
+    → after ≡ clients_with_change (with_last slow_consumer) sub.conn next → t2 ≡ with_shut subs sub.conn t → Follows subs job (λ s w. walk_after_put s job w sub) next t after t2
 put_shut subs job sub next after t t2 entry opened plain due room put noted copies s w of is =
     let shard : t.shard ≡ s.shard = ap (λ (x : Tallied). x.shard) is.tally_is in
     let y : Written = due_entry s.shard job None sub in
     let owed : entry ≡ y = due ∙ ap (λ q. due_entry t.shard job q sub) plain ∙ ap (λ n. due_entry n job None sub) shard in
     let opens : is_open sub.conn w.clients ≡ true = sym (ap (is_open sub.conn) is.clients_are) ∙ opened in
     let no_room : fits (client_at sub.conn w.clients) y ≡ false = sym (ap (λ cs. fits (client_at sub.conn cs) y) is.clients_are) ∙ sym (ap (fits (client_at sub.conn next)) owed) ∙ room in
-    let step : put_one s job w sub ≡ shut_slow s.subs sub.conn w = if_true (is_open sub.conn w.clients) _ _ opens ∙ if_false (fits (client_at sub.conn w.clients) y) _ _ no_room in
+    let step : walk_after_put s job w sub ≡ walk_with_shut s.subs sub.conn w = if_true (is_open sub.conn w.clients) _ _ opens ∙ if_false (fits (client_at sub.conn w.clients) y) _ _ no_room in
     subst (λ v. IsTallied copies s job v after t2) (sym step)
     (record {
-      clients_are = put ∙ ap (changed (with_last slow_consumer) sub.conn) is.clients_are;
+      clients_are = put ∙ ap (clients_with_change (with_last slow_consumer) sub.conn) is.clients_are;
       tally_is = noted ∙ ap (λ l. with_shut l sub.conn t) (sym of) ∙ ap (with_shut s.subs sub.conn) is.tally_is;
     })
 
@@ -86,7 +86,7 @@ pub passed_over : (subs : List Subscription) (job : Job) (sub : Subscription) (n
 passed_over subs job sub next t out copies s w of is = subst (λ v. IsTallied copies s job v next t) (sym (if_false (is_plain sub && is_permitted job sub) _ _ out)) is
 
 pub put_as_due : (subs : List Subscription) (job : Job) (sub : Subscription) (next after : List Client) (t t2 : Tallied) → (is_plain sub && is_permitted job sub) ≡ true
-    → Follows subs job (λ s w. put_one s job w sub) next t after t2 → Follows subs job (λ s w. put_if_due s job w sub) next t after t2
+    → Follows subs job (λ s w. walk_after_put s job w sub) next t after t2 → Follows subs job (λ s w. put_if_due s job w sub) next t after t2
 put_as_due subs job sub next after t t2 due step copies s w of is = subst (λ v. IsTallied copies s job v after t2) (sym (if_true (is_plain sub && is_permitted job sub) _ _ due)) (step copies s w of is)
 
 -- ---- all of them
@@ -116,7 +116,7 @@ walk_of_matching s job [] w = refl
 walk_of_matching s job (sub ∷ subs) w = by (gets job.message.subject sub) (is_plain sub) (is_permitted job sub) refl refl (walk_of_matching s job subs) where
   by : (g p q : Bool) → is_plain sub ≡ p → is_permitted job sub ≡ q → ((v : Walk) → walk_matching s job (filter (gets job.message.subject) subs) v ≡ walk s job (filter (is_due job) subs) v)
       → walk_matching s job (cond g (sub ∷ filter (gets job.message.subject) subs) (filter (gets job.message.subject) subs)) w ≡ walk s job (cond (p && (g && q)) (sub ∷ filter (is_due job) subs) (filter (is_due job) subs)) w
-  by true true true e f more = ap (walk_matching s job (filter (gets job.message.subject) subs)) (if_true (is_plain sub && is_permitted job sub) _ _ (ap (λ b. b && is_permitted job sub) e ∙ f)) ∙ more (put_one s job w sub)
+  by true true true e f more = ap (walk_matching s job (filter (gets job.message.subject) subs)) (if_true (is_plain sub && is_permitted job sub) _ _ (ap (λ b. b && is_permitted job sub) e ∙ f)) ∙ more (walk_after_put s job w sub)
   by true true false e f more = ap (walk_matching s job (filter (gets job.message.subject) subs)) (if_false (is_plain sub && is_permitted job sub) _ _ (ap (λ b. b && is_permitted job sub) e ∙ f)) ∙ more w
   by true false q e f more = ap (walk_matching s job (filter (gets job.message.subject) subs)) (if_false (is_plain sub && is_permitted job sub) _ _ (ap (λ b. b && is_permitted job sub) e)) ∙ more w
   by false true q e f more = more w
@@ -140,12 +140,12 @@ walk_whole subs job looks first next t0 t matching walked copies s w of is =
 
 -- ---- a walk from its start
 
-no_copies : (copies : Bool) → copied copies [] ≡ []
+no_copies : (copies : Bool) → copies_of copies [] ≡ []
 no_copies true = refl
 no_copies false = refl
 
 pub walk_staged : (subs : List Subscription) (job : Job) (next shown after : List Client) (t t2 : Tallied) → Follows subs job (λ s w. walk s job (filter (is_due job) s.subs) w) next t after t2 → next ≡ shown → t ≡ none_tallied t.shard t.copies
-    → (s : State) → s.shard ≡ t.shard → s.subs ≡ subs → s.clients ≡ shown → IsTallied t.copies s job (walked s job) after t2
+    → (s : State) → s.shard ≡ t.shard → s.subs ≡ subs → s.clients ≡ shown → IsTallied t.copies s job (whole_walk s job) after t2
 walk_staged subs job next shown after t t2 follows settled none s shard of clients =
     follows t.copies s (first_step s.clients) of
     (record {
@@ -167,12 +167,12 @@ staged_ended subs job next shown after t t2 follows settled none rising =
     subst AreApart (sym (ap (λ (x : Tallied). x.ended) (walk_staged subs job next shown after t t2 follows settled none s refl refl refl).tally_is)) (ended_apart s job rising)
 
 -- and the last lines behind it
-pub all_staged : (copies : Bool) (s : State) (job : Job) (next : List Client) (t last : Tallied) → IsTallied copies s job (walked s job) next t → last ≡ with_lines t → IsStaged copies s job next last
+pub all_staged : (copies : Bool) (s : State) (job : Job) (next : List Client) (t last : Tallied) → IsTallied copies s job (whole_walk s job) next t → last ≡ with_lines t → IsStaged copies s job next last
 all_staged copies s job next t last is lines = record { clients_are = is.clients_are; tally_is = lines ∙ ap with_lines is.tally_is }
 
 -- ---- a walk that is shown
 
-copies_behind : (copies : Bool) (xs ys : List Placed) → copied copies xs ++ copied copies ys ≡ copied copies (xs ++ ys)
+copies_behind : (copies : Bool) (xs ys : List Placed) → copies_of copies xs ++ copies_of copies ys ≡ copies_of copies (xs ++ ys)
 copies_behind true xs ys = refl
 copies_behind false xs ys = refl
 
@@ -180,7 +180,7 @@ pub has_placed : (job : Job) (copies : Bool) (s : State) (t : Tallied) (next : L
     → conns ≡ record { shown = next; next = next } → mid ≡ with_counts t.given openings → last ≡ with_closings t.ended mid → begun.given ≡ length t.given → begun.put.items ≡ t.put → begun.closed.items ≡ t.shut → begun.ended.items ≡ ended_ids s.shard t.ended
     → HasPlaced copies s job openings begun conns last
 has_placed job copies s t next conns openings mid last begun is shown counts closes count put shut ended =
-    let w = walked s job in
+    let w = whole_walk s job in
     record {
       conns = shown ∙ ap (λ (l : List Client). record { shown = l; next = l }) is.clients_are;
       openings_are = closes ∙ ap (λ (x : Tallied). with_closings x.ended mid) is.tally_is ∙ ap (with_closings w.ended) (counts ∙ ap (λ (x : Tallied). with_counts x.given openings) is.tally_is);

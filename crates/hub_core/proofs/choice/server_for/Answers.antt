@@ -1,6 +1,6 @@
 use Rattle.std.proofs.Common.{◌≡◌, ℕ, ◌+◌, ◌*◌, ◌++◌, List, length, get_or, take, drop, refl, sym, ap, ◌∙◌, arith}
 use Rattle.subj.specs.declared.limits.TheConstants.{MAX_KEYS, MAX_WEIGHT}
-use Rattle.pick.specs.Pick.{Weighted, picked}
+use Rattle.pick.specs.Pick.{Weighted, pick_of}
 use Rattle.hub_core.specs.Choice.{weights_from}
 use Rattle.hub_core.proofs.Choices.Choosing.{set_step, weights_step, total_step, all_written}
 use Rattle.hub_core.proofs.choice.server_for.Goals as goal
@@ -23,4 +23,4 @@ returns c =
     let i = c.loop-place.place in let weights = c.loop-place.weights in
     let end : length peers ≡ i = omega arith in
     c.choose.ensures.pick
-    ∙ ap (λ (l : List Weighted). picked l c.args.word) (ap (λ (n : ℕ). take n weights) end ∙ all_written weights (weights_from server counts subject name 0 peers) (weights_from server counts subject name i) peers i c.loop-place-test.false c.loop-place.invariant.rest refl)
+    ∙ ap (λ (l : List Weighted). pick_of l c.args.word) (ap (λ (n : ℕ). take n weights) end ∙ all_written weights (weights_from server counts subject name 0 peers) (weights_from server counts subject name i) peers i c.loop-place-test.false c.loop-place.invariant.rest refl)

@@ -1,8 +1,8 @@
 use Rattle.std.proofs.Common.{[], refl, ◌∙◌, map, drop, arith, ◌+◌, ◌≡◌, length}
-use Rattle.cluster_world.specs.InCode.{life_of, placing}
+use Rattle.cluster_world.specs.InCode.{life_of, placing_server}
 use Rattle.cluster_world.specs.Changes.{placement_of}
 use Rattle.cluster_world.specs.Play.{placements_put}
-use Rattle.mesh_script.specs.Placing.{named}
+use Rattle.mesh_script.specs.Placing.{cluster_named}
 use Rattle.mesh_script.proofs.Putting.{puts_failed, some_breaks, some_stops, some_flushed, some_more}
 use Rattle.mesh_script.proofs.Texts.{put_dropped, text_split, count_split}
 use Rattle.mesh_script.proofs.placed.put_step.Goals as goal
@@ -18,9 +18,9 @@ returns-in_default-clause-text g c = some_stops _ _ _ _ _ _ (some_flushed _ _ _ 
 
 pub loop-placed-preserved : goal.loop-placed-preserved
 loop-placed-preserved g c =
-    let l = named c.args.known.names.now in
+    let l = cluster_named c.args.known.names.now in
     let lives = map life_of c.args.known.lives.now in
-    let server = placing c.args.placements.now.node c.args.placements.now.inc in
+    let server = placing_server c.args.placements.now.node c.args.placements.now.inc in
     let now = c.args.placements.now.step in
     let items = c.args.placements.now.entries.items in
     let i = c.loop-placed.placed-index in

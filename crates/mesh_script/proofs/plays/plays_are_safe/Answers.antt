@@ -9,7 +9,7 @@ returns start = λ script set_up text played.
     let run = run_of l (new_world l) played.world _ _ played.outcomes played.told in
     record {
       played = played;
-      headline = ∣ start.headline.ensures.once l set_up run.0 played.world run.1 ∣₁;
-      names = ∣ start.unique_names.ensures l set_up run.0 played.world run.1 ∣₁;
+      headline = ∣ start.publications_are_placed_once.ensures.once l set_up run.0 played.world run.1 ∣₁;
+      names = ∣ start.names_are_unique.ensures l set_up run.0 played.world run.1 ∣₁;
       echo = ∣ start.echo_is_kept.ensures l set_up run.0 played.world run.1 ∣₁;
     }

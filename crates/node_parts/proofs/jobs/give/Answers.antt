@@ -2,7 +2,7 @@ use Rattle.std.proofs.Common.{◌≡◌, suc, List, [], ◌∷◌, length, map, 
 use Rattle.std.specs.Prelude.{slice_get}
 use Rattle.subj.specs.declared.jobs.Job.{Job}
 use Rattle.node_law.specs.State.{Line}
-use Rattle.node_law.specs.Steps.{queued}
+use Rattle.node_law.specs.Steps.{line_with_job}
 use Rattle.node_parts.proofs.Handing.{popped}
 use Rattle.node_parts.proofs.jobs.give.Goals as goal
 
@@ -20,6 +20,6 @@ returns g c = λ same alike.
     let split = c.in-Some.ensures.cases in
     let parts = popped copies job same (alike ∙ ap (λ n. replicate n same) (sym c.requires.enough)) in
     let few : length copies ≡ length others = (let more = length-append copies (job ∷ []) in let enough = c.requires.enough in let rest = split.1 in omega arith) in
-    let first : c.hand_over.new.self ≡ queued same c.in-Some.first.now = c.hand_over.ensures ∙ ap (λ (j : Job). queued j c.in-Some.first.now) parts.0 in
-    let rest : c.hand_out.new.lines ≡ map (queued same) others = c.hand_out.ensures same (parts.1 ∙ ap (λ n. replicate n same) few) in
-    (λ k. first k ∷ rest k) ∙ ap (map (queued same)) (sym split.0)
+    let first : c.hand_over.new.self ≡ line_with_job same c.in-Some.first.now = c.hand_over.ensures ∙ ap (λ (j : Job). line_with_job j c.in-Some.first.now) parts.0 in
+    let rest : c.hand_out.new.lines ≡ map (line_with_job same) others = c.hand_out.ensures same (parts.1 ∙ ap (λ n. replicate n same) few) in
+    (λ k. first k ∷ rest k) ∙ ap (map (line_with_job same)) (sym split.0)

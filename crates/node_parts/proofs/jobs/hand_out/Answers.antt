@@ -4,7 +4,7 @@ use Rattle.std.proofs.lemmas.Option.{slice_get-get_or}
 use Rattle.subj.specs.declared.jobs.Job.{Job}
 use Rattle.subj.specs.declared.limits.TheConstants.{WINDOW}
 use Rattle.node_law.specs.State.{Line}
-use Rattle.node_law.specs.Steps.{queued}
+use Rattle.node_law.specs.Steps.{line_with_job}
 use Rattle.node_parts.proofs.Handing.{mapped_more, rest_same, first_of_rest, popped, rest_next}
 use Rattle.hub_core.proofs.Neighbours.Known.{set_length}
 use Rattle.node_parts.proofs.jobs.hand_out.Goals as goal
@@ -29,7 +29,7 @@ loop-line-preserved g c =
     let next : suc k ≡ k + 1 = omega arith in
     let here : slice_get items k ≡ Some x = slice_get-get_or items k x (let size = c.loop-line.invariant.size in let test = c.loop-line-test.true in omega arith) ∙ ap Some (sym c.line-item.is) in
     let there = first_of_rest items lines k x invariant.rest here in
-    let after : c.hand_over.new.self ≡ queued job x = c.hand_over.ensures ∙ ap (queued job) (sym c.line-item.is) in
+    let after : c.hand_over.new.self ≡ line_with_job job x = c.hand_over.ensures ∙ ap (line_with_job job) (sym c.line-item.is) in
     let one = λ (j : Job) (same : c.args.jobs.now.items ≡ replicate (length lines) j).
     popped c.pop.new.self.items job j (subst (λ (js : List Job). js ≡ replicate (length js) j) c.in-Some.ensures.items (invariant.alike j same)) in
     record {
@@ -38,8 +38,8 @@ loop-line-preserved g c =
       rest = ap (λ n. drop n (set items k c.hand_over.new.self)) (sym next) ∙ rest_same items k c.hand_over.new.self ∙ rest_next items lines k invariant.rest ∙ ap (λ n. drop n lines) next;
       alike = λ j same. (one j same).1;
       given = λ j same.
-          ap (λ (l : Line). set items k l) (after ∙ ap (λ (t : Job). queued t x) (one j same).0)
-          ∙ ap (λ (ls : List Line). set ls k (queued j x)) (invariant.given j same)
-          ∙ mapped_more (queued j) lines k x there
-          ∙ ap (λ n. map (queued j) (take n lines) ++ drop n lines) next;
+          ap (λ (l : Line). set items k l) (after ∙ ap (λ (t : Job). line_with_job t x) (one j same).0)
+          ∙ ap (λ (ls : List Line). set ls k (line_with_job j x)) (invariant.given j same)
+          ∙ mapped_more (line_with_job j) lines k x there
+          ∙ ap (λ n. map (line_with_job j) (take n lines) ++ drop n lines) next;
     }

@@ -2,7 +2,7 @@ use Rattle.std.proofs.Common.{◌≡◌, ℕ, ◌+◌, ◌-◌, ◌<◌, ◌++�
 use Rattle.std.proofs.lemmas.List.{take_all}
 use Rattle.outbox.specs.Views.{Written, bytes_of_all}
 use Rattle.outbox.specs.declared.kept.Kept.{Kept}
-use Rattle.outbox.specs.Kept.{copied_len, seen_at, seen}
+use Rattle.outbox.specs.Kept.{copied_len, written_at, written_in}
 use Rattle.outbox.proofs.Seen.{copied_parts, copied_within, copied_next, bytes_next}
 use Rattle.outbox.proofs.entry_queue.append_first.Goals as goal
 
@@ -55,9 +55,9 @@ loop-place-preserved c =
     let same : copied_len k ≡ copied_len (get_or ks i k) = ap copied_len c.index.ensures in
     let here = c.loop-place.invariant.at in
     let next = copied_next ks i k lt in
-    let seen_here : seen_at k (take (length text - at) (drop at text)) ≡ seen_at (get_or ks i k) (drop at text) = ap (seen_at k) (left at text) ∙ ap (λ j. seen_at j (drop at text)) c.index.ensures in
+    let seen_here : written_at k (take (length text - at) (drop at text)) ≡ written_at (get_or ks i k) (drop at text) = ap (written_at k) (left at text) ∙ ap (λ j. written_at j (drop at text)) c.index.ensures in
     let len : c.in_ok-at.field-0 ≡ copied_len k = c.in_ok-at.ensures.len in
     record {
       at = omega arith;
-      out = c.in_ok-at.ensures.ok ∙ ap (λ l. l ++ (seen_at k (take (length text - at) (drop at text))).bytes) c.loop-place.invariant.out ∙ append_assoc c.args.out.now.items (bytes_of_all (take i (seen ks text))) _ ∙ ap (λ (e : Written). c.args.out.now.items ++ (bytes_of_all (take i (seen ks text)) ++ e.bytes)) seen_here ∙ sym (ap (λ l. c.args.out.now.items ++ l) (bytes_next ks text i at k lt here));
+      out = c.in_ok-at.ensures.ok ∙ ap (λ l. l ++ (written_at k (take (length text - at) (drop at text))).bytes) c.loop-place.invariant.out ∙ append_assoc c.args.out.now.items (bytes_of_all (take i (written_in ks text))) _ ∙ ap (λ (e : Written). c.args.out.now.items ++ (bytes_of_all (take i (written_in ks text)) ++ e.bytes)) seen_here ∙ sym (ap (λ l. c.args.out.now.items ++ l) (bytes_next ks text i at k lt here));
     }

@@ -2,7 +2,7 @@ use Rattle.std.proofs.Common.{◌≡◌, ℕ, ◌+◌, ◌-◌, ◌<◌, ◌++�
 use Rattle.std.proofs.lemmas.List.{take_all}
 use Rattle.outbox.specs.Views.{Written}
 use Rattle.outbox.specs.declared.kept.Kept.{Kept}
-use Rattle.outbox.specs.Kept.{copied_len, seen_at, seen}
+use Rattle.outbox.specs.Kept.{copied_len, written_at, written_in}
 use Rattle.outbox.proofs.Seen.{copied_parts, copied_within, copied_next, take_next}
 use Rattle.outbox.proofs.entry_queue.copy_first.Goals as goal
 
@@ -55,9 +55,9 @@ loop-place-preserved c =
     let same : copied_len k ≡ copied_len (get_or ks i k) = ap copied_len c.index.ensures in
     let here = c.loop-place.invariant.at in
     let next = copied_next ks i k lt in
-    let seen_here : seen_at k (take (length text - at) (drop at text)) ≡ seen_at (get_or ks i k) (drop at text) = ap (seen_at k) (left at text) ∙ ap (λ j. seen_at j (drop at text)) c.index.ensures in
+    let seen_here : written_at k (take (length text - at) (drop at text)) ≡ written_at (get_or ks i k) (drop at text) = ap (written_at k) (left at text) ∙ ap (λ j. written_at j (drop at text)) c.index.ensures in
     let len : c.in_ok-copy.copied ≡ copied_len k = c.in_ok-copy.ensures.1 in
     record {
       at = omega arith;
-      copies = c.in_ok-push.ensures.items ∙ ap (λ l. l ++ c.in_ok-copy.copy ∷ []) c.loop-place.invariant.copies ∙ ap (λ (e : Written). take i (seen ks text) ++ e ∷ []) (c.in_ok-copy.ensures.0 ∙ seen_here) ∙ sym (take_next ks text i at k lt here);
+      copies = c.in_ok-push.ensures.items ∙ ap (λ l. l ++ c.in_ok-copy.copy ∷ []) c.loop-place.invariant.copies ∙ ap (λ (e : Written). take i (written_in ks text) ++ e ∷ []) (c.in_ok-copy.ensures.0 ∙ seen_here) ∙ sym (take_next ks text i at k lt here);
     }

@@ -5,7 +5,7 @@ use Rattle.std.proofs.lemmas.List.{append-nil}
 use Rattle.list_laws.specs.Lists.{is_empty}
 use Rattle.subj.specs.Names.{tokens_behind}
 use Rattle.pattern_trie.specs.Nodes.{below_at, has_mark, AreKnown}
-use Rattle.pattern_trie.specs.Matchers.{matchers, dotted, gathered}
+use Rattle.pattern_trie.specs.Matchers.{matchers, text_with_token, gathered}
 use Rattle.pattern_trie.proofs.Gathers.{gathered_none, token_none, walked}
 use Rattle.pattern_trie.proofs.Permutes.{on_ok}
 use Rattle.pattern_trie.proofs.walks.+gather.Goals as goal
@@ -39,13 +39,13 @@ gather-returns-clause-found g t c = λ held is.
     let rest = tokens_behind (option_copied c.split_token.result.1) in
     let before : c.gather_token.new.path.items ≡ path = c.in_ok-gather_token.ensures.path in
     let then : c.gather_token-2.new.path.items ≡ path = ◌∙◌ {A = List ℕ} c.in_ok-gather_token-2.ensures.path before in
-    let one : c.gather_token.new.found.items ≡ c.args.found.now.items ++ gathered held (dotted path (codes ">")) (matchers []) = c.in_ok-gather_token.ensures.found held is in
-    let two : c.gather_token-2.new.found.items ≡ c.gather_token.new.found.items ++ gathered held (dotted path token) (matchers rest) =
-    ◌∙◌ {A = List g.row.V.Denot} (c.in_ok-gather_token-2.ensures.found held is) (ap (λ p. c.gather_token.new.found.items ++ gathered held (dotted p token) (matchers rest)) before) in
+    let one : c.gather_token.new.found.items ≡ c.args.found.now.items ++ gathered held (text_with_token path (codes ">")) (matchers []) = c.in_ok-gather_token.ensures.found held is in
+    let two : c.gather_token-2.new.found.items ≡ c.gather_token.new.found.items ++ gathered held (text_with_token path token) (matchers rest) =
+    ◌∙◌ {A = List g.row.V.Denot} (c.in_ok-gather_token-2.ensures.found held is) (ap (λ p. c.gather_token.new.found.items ++ gathered held (text_with_token p token) (matchers rest)) before) in
     let cut : tokens_behind (option_copied c.args.behind) ≡ token ∷ rest = ◌∙◌ {A = List (List ℕ)} (ap (λ b. tokens_behind (option_copied b)) c.in-Some.is) c.split_token.ensures.cut in
     on_ok c.gather_token-3.result _ _
     (λ e. ◌∙◌ {A = List g.row.V.Denot} (walked held path token rest c.args.found.now.items c.gather_token.new.found.items c.gather_token-2.new.found.items c.gather_token-3.new.found.items one two
-    (◌∙◌ {A = List g.row.V.Denot} e (ap (λ p. c.gather_token-2.new.found.items ++ gathered held (dotted p (codes "*")) (matchers rest)) then)))
+    (◌∙◌ {A = List g.row.V.Denot} e (ap (λ p. c.gather_token-2.new.found.items ++ gathered held (text_with_token p (codes "*")) (matchers rest)) then)))
     (ap (λ ts. c.args.found.now.items ++ gathered held path (matchers ts)) (sym cut)))
     (c.gather_token-3.ensures.found held is)
 

@@ -1,7 +1,7 @@
 use Rattle.std.proofs.Common.{ap, sym, ◌∙◌}
 use Rattle.std.specs.Prelude.{slice_index_or}
 use Rattle.outbox.specs.Views.{Waiting}
-use Rattle.shard_core.specs.Boxes.{seen, next_shelf}
+use Rattle.shard_core.specs.Boxes.{client_in_view, next_backlog}
 use Rattle.shard_core.proofs.Clients.Lookups.{same_seen}
 use Rattle.shard_core.proofs.Clients.Staging.{conns_less_at, no_such_conn}
 use Rattle.shard_core.proofs.connections.commit_at.Goals as goal
@@ -11,7 +11,7 @@ returns-then-place-conns-clause-next c =
     let conns = c.args.conns.now in
     let r = c.index-conns-place.result in
     let x = slice_index_or conns c.args.place r in
-    same_seen next_shelf conns c.args.place r (record { number = x.number; outbox = c.commit.new.self }) (ap (λ (b : Waiting). seen next_shelf (record { number = x.number; outbox = b })) c.commit.ensures)
+    same_seen next_backlog conns c.args.place r (record { number = x.number; outbox = c.commit.new.self }) (ap (λ (b : Waiting). client_in_view next_backlog (record { number = x.number; outbox = b })) c.commit.ensures)
 
 pub returns-then-place-conns-clause-settled : goal.returns-then-place-conns-clause-settled
 returns-then-place-conns-clause-settled c =

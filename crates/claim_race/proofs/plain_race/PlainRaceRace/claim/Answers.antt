@@ -5,12 +5,12 @@ use Rattle.claim_race.specs.declared.plain_race.Progress.{Progress}
 use Rattle.claim_race.specs.declared.plain_race.Claimed.{Claimed}
 use Rattle.claim_race.specs.declared.plain_race.PlainRace.TheInside.{Inside}
 use Rattle.claim_race.specs.Race.{RaceState, IsInTurn, IsNextIndex, IsClaimed}
-use Rattle.claim_race.specs.PlainRace.{cell, finished_in, is_of_turn, shown, IsTable}
+use Rattle.claim_race.specs.PlainRace.{cell, finished_in, is_of_turn, race_of_table, IsTable}
 use Rattle.claim_race.proofs.Steps.{lost, won, written_table, finished_in_kept, next_in-set}
 use Rattle.claim_race.proofs.plain_race.PlainRaceRace.claim.Goals as goal
 
 -- the shard's place among the shards
-place_within : (race : Inside) (shard turn : ℕ) → IsInTurn (shown race.issued race.progress.items race.table.items) shard turn → shard - 1 < length race.progress.items
+place_within : (race : Inside) (shard turn : ℕ) → IsInTurn (race_of_table race.issued race.progress.items race.table.items) shard turn → shard - 1 < length race.progress.items
 place_within race shard turn on_turn = let first = on_turn.first in let last = on_turn.last in omega (arith, length-map race.progress.items (λ (shard : Progress). shard.finished))
 
 -- what stands at the pair's place
@@ -34,7 +34,7 @@ returns-then-is_of_turn c =
     let next = subst (λ (race : RaceState). IsNextIndex race c.args.shard c.args.index) (sym c.self.view_is) c.requires.index in
     let held = held_is race c.args.turn c.args.index c.place_of-place.result c.index.result.now c.self.invariant c.place_of-place.ensures.place c.place_of-place.ensures.within c.index.ensures in
     let shard : Progress = record { finished = c.index_mut.result.now.finished; next = c.args.index + 1 } in
-    subst (λ (old : RaceState). IsClaimed old c.args.shard c.args.turn c.args.index false (shown race.issued (slice_set race.progress.items here shard) race.table.items)) c.self.view_is
+    subst (λ (old : RaceState). IsClaimed old c.args.shard c.args.turn c.args.index false (race_of_table race.issued (slice_set race.progress.items here shard) race.table.items)) c.self.view_is
     (lost race.issued race.progress.items race.table.items c.self.invariant c.args.shard c.args.turn c.args.index on_turn next (slice_set race.progress.items here shard)
     (finished_in_kept race.progress.items here (c.args.index + 1) c.index_mut.result.now (place_within race c.args.shard c.args.turn on_turn) c.index_mut.ensures.value)
     (next_in-set race.progress.items here shard)
@@ -56,8 +56,8 @@ returns c =
     let held = held_is race c.args.turn c.args.index c.place_of-place.result c.index.result.now c.self.invariant c.place_of-place.ensures.place c.place_of-place.ensures.within c.index.ensures in
     let shard : Progress = record { finished = c.index_mut.result.now.finished; next = c.args.index + 1 } in
     let claimed : Option Claimed = Some (record { turn = c.args.turn; index = c.args.index; shard = c.args.shard }) in
-    subst (λ (old : RaceState). IsClaimed old c.args.shard c.args.turn c.args.index true (shown race.issued (slice_set race.progress.items here shard) (slice_set race.table.items c.place_of-place.result claimed))) c.self.view_is
-    (subst (λ place. IsClaimed (shown race.issued race.progress.items race.table.items) c.args.shard c.args.turn c.args.index true (shown race.issued (slice_set race.progress.items here shard) (slice_set race.table.items place claimed))) (sym c.place_of-place.ensures.place)
+    subst (λ (old : RaceState). IsClaimed old c.args.shard c.args.turn c.args.index true (race_of_table race.issued (slice_set race.progress.items here shard) (slice_set race.table.items c.place_of-place.result claimed))) c.self.view_is
+    (subst (λ place. IsClaimed (race_of_table race.issued race.progress.items race.table.items) c.args.shard c.args.turn c.args.index true (race_of_table race.issued (slice_set race.progress.items here shard) (slice_set race.table.items place claimed))) (sym c.place_of-place.ensures.place)
     (won race.issued race.progress.items race.table.items c.self.invariant c.args.shard c.args.turn c.args.index on_turn next (slice_set race.progress.items here shard)
     (finished_in_kept race.progress.items here (c.args.index + 1) c.index_mut.result.now (place_within race c.args.shard c.args.turn on_turn) c.index_mut.ensures.value)
     (next_in-set race.progress.items here shard)

@@ -1,7 +1,7 @@
 use Rattle.std.proofs.Common.{◌≡◌, ℕ, None, sym, ap, ◌∙◌, subst}
 use Rattle.subj.specs.declared.limits.TheConstants.{MAX_COUNTER}
 use Rattle.claim_race.specs.Race.{RaceState, busy_of, IsIssued}
-use Rattle.claim_race.specs.PlainRace.{finished_in, shown, IsTable}
+use Rattle.claim_race.specs.PlainRace.{finished_in, race_of_table, IsTable}
 use Rattle.claim_race.proofs.Steps.{issue_table, issues, turn_is}
 use Rattle.claim_race.proofs.plain_race.PlainRaceRace.issue.Goals as goal
 
@@ -17,7 +17,7 @@ returns c =
     let race = c.self.inside in
     let next = turn_is MAX_COUNTER race.issued c.unwrap-turn.result (sym c.next.ensures ∙ c.unwrap-turn.ensures) in
     let idle = sym (c.busy.ensures ∙ ap (λ progress. busy_of race.issued (finished_in progress)) c.deref.ensures.value) ∙ c.in_default.is in
-    subst (λ (old : RaceState). (busy_of old.issued old.finished ≡ None) × IsIssued old c.unwrap-turn.result (shown c.unwrap-turn.result race.progress.items race.table.items)) c.self.view_is (
+    subst (λ (old : RaceState). (busy_of old.issued old.finished ≡ None) × IsIssued old c.unwrap-turn.result (race_of_table c.unwrap-turn.result race.progress.items race.table.items)) c.self.view_is (
       idle,
-      subst (λ (n : ℕ). IsIssued (shown race.issued race.progress.items race.table.items) n (shown n race.progress.items race.table.items)) (sym next) (issues race.issued race.progress.items race.table.items c.self.invariant),
+      subst (λ (n : ℕ). IsIssued (race_of_table race.issued race.progress.items race.table.items) n (race_of_table n race.progress.items race.table.items)) (sym next) (issues race.issued race.progress.items race.table.items c.self.invariant),
     )

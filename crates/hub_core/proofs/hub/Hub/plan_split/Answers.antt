@@ -1,6 +1,6 @@
 use Rattle.std.proofs.Common.{◌≡◌, length, take, ◌∙◌, subst, arith}
 use Rattle.std.specs.Prelude.{map}
-use Rattle.pick.specs.Pick.{picked}
+use Rattle.pick.specs.Pick.{pick_of}
 use Rattle.hub_core.specs.State.{State}
 use Rattle.hub_core.specs.Hubs.{Hub}
 use Rattle.hub_core.specs.Choice.{weights_from}
@@ -16,5 +16,5 @@ plan_by-requires-clause-servers c =
     let names = c.args.names.now in let servers = c.servers_for-servers.result in
     let p = publication c.args.conn c.args.said.now c.args.word in
     let picks : take (length names) servers ≡ map (choice_of server state p) names = c.servers_for-servers.ensures.same
-    ∙ (λ k. map (λ name. picked (weights_from server c.self.inside.counts (c.subject-subject.ensures k) name 0 (c.deref.ensures.value k)) c.args.word) names) in
+    ∙ (λ k. map (λ name. pick_of (weights_from server c.self.inside.counts (c.subject-subject.ensures k) name 0 (c.deref.ensures.value k)) c.args.word) names) in
     subst (λ (hub : Hub). IsServed hub.server hub.state p names servers) c.self.view_is (record { few = c.servers_for-servers.ensures.few; room = omega arith; picks = picks })

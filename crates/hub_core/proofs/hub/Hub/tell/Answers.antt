@@ -3,7 +3,7 @@ use Rattle.hub_core.specs.State.{State, Peer}
 use Rattle.hub_core.specs.Publishing.{with_frames}
 use Rattle.hub_core.specs.Telling.{without_slow}
 use Rattle.hub_core.specs.Calls.{HasRoomFor, AreCounted}
-use Rattle.hub_core.specs.Hubs.{Hub, shown}
+use Rattle.hub_core.specs.Hubs.{Hub, hub_of_parts}
 use Rattle.hub_core.proofs.Steps.Collected.{told_have_room, told_kept}
 use Rattle.hub_core.proofs.Steps.Issued.{rewritten}
 use Rattle.hub_core.proofs.Neighbours.Known.{map_length, frames_length}
@@ -12,7 +12,7 @@ use Rattle.hub_core.proofs.hub.Hub.tell.Goals as goal
 pub put_all-requires-clause-room : goal.put_all-requires-clause-room
 put_all-requires-clause-room c =
     let i = c.self.inside in
-    let old = shown i.server i.issued i.published i.changed i.counts i.peers.items in
+    let old = hub_of_parts i.server i.issued i.published i.changed i.counts i.peers.items in
     let deltas = c.args.deltas.now in
     let frames = c.args.frames.items in
     let plan : AreCounted old.server old.state deltas c.args.count frames = subst (λ (h : Hub). AreCounted h.server h.state deltas c.args.count frames) (sym c.self.view_is) c.requires.counted in
@@ -23,7 +23,7 @@ put_all-requires-clause-room c =
 pub invariant_of-self : goal.invariant_of-self
 invariant_of-self c =
     let i = c.self.inside in
-    let old = shown i.server i.issued i.published i.changed i.counts i.peers.items in
+    let old = hub_of_parts i.server i.issued i.published i.changed i.counts i.peers.items in
     let deltas = c.args.deltas.now in
     let frames = c.args.frames.items in
     let plan : AreCounted old.server old.state deltas c.args.count frames = subst (λ (h : Hub). AreCounted h.server h.state deltas c.args.count frames) (sym c.self.view_is) c.requires.counted in

@@ -5,7 +5,7 @@ use Rattle.subj.specs.Answers.{IsAnswered}
 use Rattle.shard_core.specs.ShardEvents as of_shard
 use Rattle.node_law.specs.Events.{Own, AtShard}
 use Rattle.node_law.specs.declared.events.ShardWork.TheVariants.{Attach}
-use Rattle.node_core.specs.Served.{DoesStep, LineStep, WorkStep, work_answer, seen, refusal}
+use Rattle.node_core.specs.Served.{DoesStep, LineStep, WorkStep, work_answer, served_of_parts, refusal}
 use Rattle.node_law.specs.Steps.{shard_line}
 use Rattle.node_core.proofs.Calls.Composed.{work_call, reworded}
 use Rattle.node_core.proofs.node.Node.attach.Goals as goal
@@ -18,7 +18,7 @@ invariant_of-self g c =
     let count : c.len.result ≡ length lines = c.len.ensures ∙ old.lines.ok.0 in
     let within : c.in-Some.place < length lines = subst (λ n. c.in-Some.place < n) count c.in-Some.ensures.within in
     let here : slice_get lines c.in-Some.place ≡ Some x = slice_get-get_or lines c.in-Some.place x within ∙ ap Some (sym c.index_mut-line.ensures.value) in
-    let before = seen old.side (g.R.Race.contents old.race) lines in
+    let before = served_of_parts old.side (g.R.Race.contents old.race) lines in
     let called = work_call old.side (g.R.Race.contents old.race) lines c.args.shard c.len.result c.in-Some.place c.place_of_shard.result Attach x c.attach.new.self (λ conn. LineStep x of_shard.Attach (of_shard.Attached conn) c.attach.new.self) (λ conn. Some (of_shard.Attached conn) ≡ work_answer Attach false (shard_line before.node c.args.shard)) c.attach.result c.self.invariant count c.place_of_shard.ensures.place c.in-Some.is here refl (λ conn d. d.after) (λ is conn d. ap Some d.answered ∙ sym (ap (work_answer Attach false) is)) c.attach.ensures in
     called.keeps
 
@@ -30,8 +30,8 @@ returns g c =
     let count : c.len.result ≡ length lines = c.len.ensures ∙ old.lines.ok.0 in
     let within : c.in-Some.place < length lines = subst (λ n. c.in-Some.place < n) count c.in-Some.ensures.within in
     let here : slice_get lines c.in-Some.place ≡ Some x = slice_get-get_or lines c.in-Some.place x within ∙ ap Some (sym c.index_mut-line.ensures.value) in
-    let before = seen old.side (g.R.Race.contents old.race) lines in
+    let before = served_of_parts old.side (g.R.Race.contents old.race) lines in
     let called = work_call old.side (g.R.Race.contents old.race) lines c.args.shard c.len.result c.in-Some.place c.place_of_shard.result Attach x c.attach.new.self (λ conn. LineStep x of_shard.Attach (of_shard.Attached conn) c.attach.new.self) (λ conn. Some (of_shard.Attached conn) ≡ work_answer Attach false (shard_line before.node c.args.shard)) c.attach.result c.self.invariant count c.place_of_shard.ensures.place c.in-Some.is here refl (λ conn d. d.after) (λ is conn d. ap Some d.answered ∙ sym (ap (work_answer Attach false) is)) c.attach.ensures in
-    let after = seen old.side (g.R.Race.contents old.race) (set lines c.in-Some.place c.attach.new.self) in
+    let after = served_of_parts old.side (g.R.Race.contents old.race) (set lines c.in-Some.place c.attach.new.self) in
     subst (λ s. IsAnswered (refusal s (Own (AtShard c.args.shard Attach))) (λ y. WorkStep s c.args.shard Attach false (of_shard.Attached y) after) (after ≡ s) c.attach.result) c.self.view_is
     (reworded (refusal before (Own (AtShard c.args.shard Attach))) (after ≡ before) (λ y. DoesStep before (Own (AtShard c.args.shard Attach)) false after × (Some (of_shard.Attached y) ≡ work_answer Attach false (shard_line before.node c.args.shard))) (λ y. WorkStep before c.args.shard Attach false (of_shard.Attached y) after) c.attach.result (λ y d. record { step = d.0; answered = d.1 }) called.answers)

@@ -4,7 +4,7 @@ use Rattle.std.proofs.lemmas.Option.{slice_get-get_or}
 use Rattle.subj.specs.Answers.{IsAnswered}
 use Rattle.node_law.specs.Events.{Own, AtShard}
 use Rattle.node_law.specs.declared.events.ShardWork.TheVariants.{Claim}
-use Rattle.node_core.specs.Served.{ClaimStep, seen, refusal}
+use Rattle.node_core.specs.Served.{ClaimStep, served_of_parts, refusal}
 use Rattle.node_core.proofs.Calls.Composed.{shard_found}
 use Rattle.node_core.proofs.Calls.Claiming.{may_claim, claim_call}
 use Rattle.node_core.proofs.node.Node.claim.Goals as goal
@@ -17,7 +17,7 @@ claim-requires g c =
     let count : c.len.result ≡ length lines = c.len.ensures ∙ old.lines.ok.0 in
     let within : c.in-Some.place < length lines = subst (λ n. c.in-Some.place < n) count c.in-Some.ensures.within in
     let here : slice_get lines c.in-Some.place ≡ Some x = slice_get-get_or lines c.in-Some.place x within ∙ ap Some (sym c.index_mut-line.ensures.value) in
-    let before = seen old.side (g.R.Race.contents old.race) lines in
+    let before = served_of_parts old.side (g.R.Race.contents old.race) lines in
     let p = shard_found before.node c.args.shard c.len.result c.in-Some.place c.place_of_shard.result x count c.place_of_shard.ensures.place c.in-Some.is here in
     may_claim before c.args.shard c.in-Some.place x c.self.invariant p here
 
@@ -29,7 +29,7 @@ invariant_of-self g c =
     let count : c.len.result ≡ length lines = c.len.ensures ∙ old.lines.ok.0 in
     let within : c.in-Some.place < length lines = subst (λ n. c.in-Some.place < n) count c.in-Some.ensures.within in
     let here : slice_get lines c.in-Some.place ≡ Some x = slice_get-get_or lines c.in-Some.place x within ∙ ap Some (sym c.index_mut-line.ensures.value) in
-    let before = seen old.side (g.R.Race.contents old.race) lines in
+    let before = served_of_parts old.side (g.R.Race.contents old.race) lines in
     let p = shard_found before.node c.args.shard c.len.result c.in-Some.place c.place_of_shard.result x count c.place_of_shard.ensures.place c.in-Some.is here in
     let called = claim_call c.args.copies old.side (g.R.Race.contents old.race) (g.R.Race.contents c.claim.new.race) lines c.args.shard c.in-Some.place c.args.index x c.claim.new.self c.claim.result c.self.invariant p here c.claim.ensures in
     called.keeps
@@ -42,8 +42,8 @@ returns g c =
     let count : c.len.result ≡ length lines = c.len.ensures ∙ old.lines.ok.0 in
     let within : c.in-Some.place < length lines = subst (λ n. c.in-Some.place < n) count c.in-Some.ensures.within in
     let here : slice_get lines c.in-Some.place ≡ Some x = slice_get-get_or lines c.in-Some.place x within ∙ ap Some (sym c.index_mut-line.ensures.value) in
-    let before = seen old.side (g.R.Race.contents old.race) lines in
+    let before = served_of_parts old.side (g.R.Race.contents old.race) lines in
     let p = shard_found before.node c.args.shard c.len.result c.in-Some.place c.place_of_shard.result x count c.place_of_shard.ensures.place c.in-Some.is here in
     let called = claim_call c.args.copies old.side (g.R.Race.contents old.race) (g.R.Race.contents c.claim.new.race) lines c.args.shard c.in-Some.place c.args.index x c.claim.new.self c.claim.result c.self.invariant p here c.claim.ensures in
-    let after = seen old.side (g.R.Race.contents c.claim.new.race) (set lines c.in-Some.place c.claim.new.self) in
+    let after = served_of_parts old.side (g.R.Race.contents c.claim.new.race) (set lines c.in-Some.place c.claim.new.self) in
     subst (λ s. IsAnswered (refusal s (Own (AtShard c.args.shard (Claim c.args.index)))) (λ y. ClaimStep c.args.copies s c.args.shard c.args.index y after) (after ≡ s) c.claim.result) c.self.view_is called.answers

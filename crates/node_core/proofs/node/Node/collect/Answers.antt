@@ -12,7 +12,7 @@ use Rattle.node_law.specs.declared.faults.NodeFault.TheVariants as node_fault
 use Rattle.node_parts.specs.declared.told.Told.{Told}
 use Rattle.node_law.specs.Events.{Own, Collect}
 use Rattle.node_law.specs.Steps.{collect_refusal_at}
-use Rattle.node_core.specs.Served.{Served, CollectStep, seen, refusal}
+use Rattle.node_core.specs.Served.{Served, CollectStep, served_of_parts, refusal}
 use Rattle.node_core.proofs.Calls.Composed.{shard_found, step_keeps, same_keeps}
 use Rattle.node_core.proofs.Calls.GivenJobs.{hub_refuses, refused_same, refused_as}
 use Rattle.node_core.proofs.Calls.Collects.{is_up, told_of, changes_told, ups_told, frames_within, collect_done, collect_left}
@@ -28,7 +28,7 @@ invariant_of-self g c =
     let here : slice_get lines c.in-Some.place ≡ Some x = slice_get-get_or lines c.in-Some.place x within ∙ ap Some (sym c.index_mut-line.ensures.value) in
     let race = g.R.Race.contents old.race in
     let left = refused_same (collect_refusal old.side.hub c.deltas.result.now) (c.collect.new.self ≡ old.side) c.in-Err.fault c.in-Err.ensures in
-    same_keeps (seen old.side race lines) (seen c.collect.new.self race (set lines c.in-Some.place x)) c.self.invariant (collect_left old.side c.collect.new.self race lines c.in-Some.place x left here)
+    same_keeps (served_of_parts old.side race lines) (served_of_parts c.collect.new.self race (set lines c.in-Some.place x)) c.self.invariant (collect_left old.side c.collect.new.self race lines c.in-Some.place x left here)
 
 pub returns-in-Err : goal.returns-in-Err
 returns-in-Err g c =
@@ -39,8 +39,8 @@ returns-in-Err g c =
     let within : c.in-Some.place < length lines = subst (λ n. c.in-Some.place < n) count c.in-Some.ensures.within in
     let here : slice_get lines c.in-Some.place ≡ Some x = slice_get-get_or lines c.in-Some.place x within ∙ ap Some (sym c.index_mut-line.ensures.value) in
     let race = g.R.Race.contents old.race in
-    let before = seen old.side race lines in
-    let after = seen c.collect.new.self race (set lines c.in-Some.place x) in
+    let before = served_of_parts old.side race lines in
+    let after = served_of_parts c.collect.new.self race (set lines c.in-Some.place x) in
     let p = shard_found before.node c.args.shard c.len.result c.in-Some.place c.place_of_shard.result x count c.place_of_shard.ensures.place c.in-Some.is here in
     let cause = collect_refusal old.side.hub c.deltas.result.now in
     let causes : option_map node_fault.Hub cause ≡ refusal before (Own (Collect c.args.shard)) = ap (λ d. option_map node_fault.Hub (collect_refusal old.side.hub d)) c.deltas.ensures ∙ sym (ap (collect_refusal_at old.side.hub) p.is) in
@@ -68,12 +68,12 @@ invariant_of-self-2 g c =
     let within : c.in-Some.place < length lines = subst (λ n. c.in-Some.place < n) count c.in-Some.ensures.within in
     let here : slice_get lines c.in-Some.place ≡ Some x = slice_get-get_or lines c.in-Some.place x within ∙ ap Some (sym c.index_mut-line.ensures.value) in
     let race = g.R.Race.contents old.race in
-    let before = seen old.side race lines in
+    let before = served_of_parts old.side race lines in
     let p = shard_found before.node c.args.shard c.len.result c.in-Some.place c.place_of_shard.result x count c.place_of_shard.ensures.place c.in-Some.is here in
     let ups = c.up_count.ensures ∙ ap (λ (h : hub.State). count_by is_up h.peers) c.hub-2.ensures.state in
     let told = told_of old.side c.collect.new.self c.args.shard x c.take_deltas.new.self c.deltas.result.now c.in-Ok.told.changes.items c.up_count.result c.in-Ok.told.cut.items c.deltas.ensures c.in-Ok.ensures.1 ups c.take_deltas.ensures.after in
     let does = collect_done old.side c.collect.new.self race lines c.args.shard c.in-Some.place x c.take_deltas.new.self c.in-Ok.told.changes.items c.up_count.result c.in-Ok.told.cut.items p told in
-    step_keeps before (Own (Collect c.args.shard)) false (seen c.collect.new.self race (set lines c.in-Some.place c.take_deltas.new.self)) c.self.invariant does.step
+    step_keeps before (Own (Collect c.args.shard)) false (served_of_parts c.collect.new.self race (set lines c.in-Some.place c.take_deltas.new.self)) c.self.invariant does.step
 
 pub returns : goal.returns
 returns g c =
@@ -84,12 +84,12 @@ returns g c =
     let within : c.in-Some.place < length lines = subst (λ n. c.in-Some.place < n) count c.in-Some.ensures.within in
     let here : slice_get lines c.in-Some.place ≡ Some x = slice_get-get_or lines c.in-Some.place x within ∙ ap Some (sym c.index_mut-line.ensures.value) in
     let race = g.R.Race.contents old.race in
-    let before = seen old.side race lines in
+    let before = served_of_parts old.side race lines in
     let p = shard_found before.node c.args.shard c.len.result c.in-Some.place c.place_of_shard.result x count c.place_of_shard.ensures.place c.in-Some.is here in
     let ups = c.up_count.ensures ∙ ap (λ (h : hub.State). count_by is_up h.peers) c.hub-2.ensures.state in
     let told = told_of old.side c.collect.new.self c.args.shard x c.take_deltas.new.self c.deltas.result.now c.in-Ok.told.changes.items c.up_count.result c.in-Ok.told.cut.items c.deltas.ensures c.in-Ok.ensures.1 ups c.take_deltas.ensures.after in
     let does = collect_done old.side c.collect.new.self race lines c.args.shard c.in-Some.place x c.take_deltas.new.self c.in-Ok.told.changes.items c.up_count.result c.in-Ok.told.cut.items p told in
-    let after = seen c.collect.new.self race (set lines c.in-Some.place c.take_deltas.new.self) in
+    let after = served_of_parts c.collect.new.self race (set lines c.in-Some.place c.take_deltas.new.self) in
     let changes : c.len-changes.result ≡ length c.in-Ok.told.changes.items = c.len-changes.ensures ∙ c.in-Ok.told.changes.ok.0 in
     subst (λ (s : Served). (refusal s (Own (Collect c.args.shard)) ≡ None) × CollectStep s c.args.shard c.len-changes.result (c.len-changes.result * c.up_count.result) c.in-Ok.told.cut.items after) c.self.view_is
     (does.step.step.cause, subst (λ n. CollectStep before c.args.shard n (n * c.up_count.result) c.in-Ok.told.cut.items after) (sym changes) does)

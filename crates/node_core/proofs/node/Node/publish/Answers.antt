@@ -9,7 +9,7 @@ use Rattle.node_law.specs.declared.faults.NodeFault.TheVariants as node_fault
 use Rattle.node_parts.specs.declared.told.Issued.{Issued}
 use Rattle.node_law.specs.State.{Line}
 use Rattle.node_law.specs.Events.{Own, Publish}
-use Rattle.node_core.specs.Served.{Served, IsKept, MayIssue, AreGiven, PublishStep, seen, refusal}
+use Rattle.node_core.specs.Served.{Served, IsKept, MayIssue, AreGiven, PublishStep, served_of_parts, refusal}
 use Rattle.node_core.proofs.Calls.GivenJobs.{are_counted, publish_heard, publish_ready, IsPublished, publish_done, given_length, hub_refuses, refused_as}
 use Rattle.node_core.proofs.Calls.Composed.{step_keeps}
 use Rattle.node_parts.proofs.Handing.{written}
@@ -18,17 +18,17 @@ use Rattle.node_core.proofs.node.Node.publish.Goals as goal
 pub finished_by-finished-requires-clause-all : goal.finished_by-finished-requires-clause-all
 finished_by-finished-requires-clause-all g c =
     let old = c.self.inside in
-    (are_counted (seen old.side (g.R.Race.contents old.race) old.lines.items) c.len-count.result c.self.invariant (c.len-count.ensures ∙ old.lines.ok.0)).all
+    (are_counted (served_of_parts old.side (g.R.Race.contents old.race) old.lines.items) c.len-count.result c.self.invariant (c.len-count.ensures ∙ old.lines.ok.0)).all
 
 pub finished_by-finished-requires-clause-few : goal.finished_by-finished-requires-clause-few
 finished_by-finished-requires-clause-few g c =
     let old = c.self.inside in
-    (are_counted (seen old.side (g.R.Race.contents old.race) old.lines.items) c.len-count.result c.self.invariant (c.len-count.ensures ∙ old.lines.ok.0)).few
+    (are_counted (served_of_parts old.side (g.R.Race.contents old.race) old.lines.items) c.len-count.result c.self.invariant (c.len-count.ensures ∙ old.lines.ok.0)).few
 
 pub returns-in-Err : goal.returns-in-Err
 returns-in-Err g c =
     let old = c.self.inside in
-    let before = seen old.side (g.R.Race.contents old.race) old.lines.items in
+    let before = served_of_parts old.side (g.R.Race.contents old.race) old.lines.items in
     let p = publication c.args.conn c.args.said.now c.args.word in
     let cause = publish_refusal old.side.server old.side.hub p c.finished_by-finished.result in
     let causes : option_map node_fault.Hub cause ≡ refusal before (Own (Publish p)) = ap (option_map node_fault.Hub) (publish_heard before p c.len-count.result c.finished_by-finished.result c.self.invariant (c.len-count.ensures ∙ old.lines.ok.0) c.finished_by-finished.ensures) in
@@ -39,7 +39,7 @@ returns-in-Err g c =
 pub fill-requires : goal.fill-requires
 fill-requires g c =
     let old = c.self.inside in
-    (are_counted (seen old.side (g.R.Race.contents old.race) old.lines.items) c.len-count.result c.self.invariant (c.len-count.ensures ∙ old.lines.ok.0)).some
+    (are_counted (served_of_parts old.side (g.R.Race.contents old.race) old.lines.items) c.len-count.result c.self.invariant (c.len-count.ensures ∙ old.lines.ok.0)).some
 
 pub commit_publish-requires : goal.commit_publish-requires
 commit_publish-requires g c = record {
@@ -52,7 +52,7 @@ commit_publish-requires g c = record {
 pub issue-requires-clause-ready : goal.issue-requires-clause-ready
 issue-requires-clause-ready g c =
     let old = c.self.inside in
-    let before = seen old.side (g.R.Race.contents old.race) old.lines.items in
+    let before = served_of_parts old.side (g.R.Race.contents old.race) old.lines.items in
     let p = publication c.args.conn c.args.said.now c.args.word in
     let heard = publish_heard before p c.len-count.result c.finished_by-finished.result c.self.invariant (c.len-count.ensures ∙ old.lines.ok.0) c.finished_by-finished.ensures in
     subst (λ (ls : List Line). MayIssue (g.R.Race.contents old.race) ls) (sym c.as_mut_slice-lines.ensures.value) (publish_ready before p c.self.invariant (sym heard ∙ c.in-Ok.ensures.0))
@@ -65,7 +65,7 @@ invariant_of-self-2 g c =
     let old = c.self.inside in
     let race = g.R.Race.contents old.race in
     let new_race = g.R.Race.contents c.issue.new.race in
-    let before = seen old.side race old.lines.items in
+    let before = served_of_parts old.side race old.lines.items in
     let p = publication c.args.conn c.args.said.now c.args.word in
     let plan = c.in-Ok.plan in
     let count = c.len-count.ensures ∙ old.lines.ok.0 in
@@ -83,14 +83,14 @@ invariant_of-self-2 g c =
     } in
     let does = publish_done old.side c.commit_publish.new.self race new_race old.lines.items c.issue.new.lines p plan.job.turn c.len.result free done in
     let whole = written old.lines.len c.issue.new.lines old.lines.items (given_length race new_race old.lines.items c.issue.new.lines (c.fill.new.copies.items ++ plan.job ∷ []) plan.job done.given done.alike) old.lines.ok.0 in
-    subst (λ (ls : List Line). IsKept (seen c.commit_publish.new.self new_race ls)) (sym whole) (step_keeps before (Own (Publish p)) false (seen c.commit_publish.new.self new_race c.issue.new.lines) c.self.invariant does.step)
+    subst (λ (ls : List Line). IsKept (served_of_parts c.commit_publish.new.self new_race ls)) (sym whole) (step_keeps before (Own (Publish p)) false (served_of_parts c.commit_publish.new.self new_race c.issue.new.lines) c.self.invariant does.step)
 
 pub returns : goal.returns
 returns g c =
     let old = c.self.inside in
     let race = g.R.Race.contents old.race in
     let new_race = g.R.Race.contents c.issue.new.race in
-    let before = seen old.side race old.lines.items in
+    let before = served_of_parts old.side race old.lines.items in
     let p = publication c.args.conn c.args.said.now c.args.word in
     let plan = c.in-Ok.plan in
     let count = c.len-count.ensures ∙ old.lines.ok.0 in
@@ -108,6 +108,6 @@ returns g c =
     } in
     let does = publish_done old.side c.commit_publish.new.self race new_race old.lines.items c.issue.new.lines p plan.job.turn c.len.result free done in
     let whole = written old.lines.len c.issue.new.lines old.lines.items (given_length race new_race old.lines.items c.issue.new.lines (c.fill.new.copies.items ++ plan.job ∷ []) plan.job done.given done.alike) old.lines.ok.0 in
-    let after = seen c.commit_publish.new.self new_race (take old.lines.len (c.issue.new.lines ++ drop (length c.issue.new.lines) old.lines.items)) in
+    let after = served_of_parts c.commit_publish.new.self new_race (take old.lines.len (c.issue.new.lines ++ drop (length c.issue.new.lines) old.lines.items)) in
     subst (λ (s : Served). (refusal s (Own (Publish p)) ≡ None) × PublishStep s p plan.job.turn c.len.result after) c.self.view_is
-    (does.step.step.cause, subst (λ (ls : List Line). PublishStep before p plan.job.turn c.len.result (seen c.commit_publish.new.self new_race ls)) (sym whole) does)
+    (does.step.step.cause, subst (λ (ls : List Line). PublishStep before p plan.job.turn c.len.result (served_of_parts c.commit_publish.new.self new_race ls)) (sym whole) does)

@@ -15,7 +15,7 @@ pub returns-then-is_last-clause-promises : goal.returns-then-is_last-clause-prom
 returns-then-is_last-clause-promises g c =
     let l = c.loop-event in
     let ran = ends_here c.args.self.now l.self c.step-answer.new.self c.args.events.now l.event-index c.event-item.result l.answers.items c.push_reserved.new.self.items c.step-answer.result c.loop-event-test.true c.event-item.is c.push_reserved.ensures.items l.invariant.begun c.step-answer.ensures (sym c.is_out_of_memory-is_last.ensures ∙ c.if-is_last.true) in
-    goes_on c.one_server_keeps.ensures c.args.self.now (map event_of c.args.events.now) (map outcome_told c.push_reserved.new.self.items) c.step-answer.new.self (subst (λ (s : Served). IsListed s.server) c.self.view_is c.self.invariant.listed) ran
+    goes_on c.servers_keep_their_promises.ensures c.args.self.now (map event_of c.args.events.now) (map outcome_told c.push_reserved.new.self.items) c.step-answer.new.self (subst (λ (s : Served). IsListed s.server) c.self.view_is c.self.invariant.listed) ran
 
 pub loop-event-preserved : goal.loop-event-preserved
 loop-event-preserved g c =
@@ -34,5 +34,5 @@ returns-clause-run g c =
 pub returns-clause-promises : goal.returns-clause-promises
 returns-clause-promises g c =
     let l = c.loop-event in
-    goes_on c.one_server_keeps.ensures c.args.self.now (map event_of c.args.events.now) (map outcome_told l.answers.items) l.self (subst (λ (s : Served). IsListed s.server) c.self.view_is c.self.invariant.listed)
+    goes_on c.servers_keep_their_promises.ensures c.args.self.now (map event_of c.args.events.now) (map outcome_told l.answers.items) l.self (subst (λ (s : Served). IsListed s.server) c.self.view_is c.self.invariant.listed)
     (all_gone c.args.self.now l.self c.args.events.now l.event-index l.answers.items c.loop-event-test.false l.invariant.begun)

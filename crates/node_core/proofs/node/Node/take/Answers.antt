@@ -5,7 +5,7 @@ use Rattle.subj.specs.Answers.{IsAnswered}
 use Rattle.shard_core.specs.ShardEvents.{Taken}
 use Rattle.node_law.specs.Events.{Own, OfConn}
 use Rattle.node_law.specs.declared.events.ConnEvent.TheVariants.{Take}
-use Rattle.node_core.specs.Served.{ConnStep, seen, refusal}
+use Rattle.node_core.specs.Served.{ConnStep, served_of_parts, refusal}
 use Rattle.node_core.proofs.Calls.Composed.{conn_call}
 use Rattle.node_core.proofs.node.Node.take.Goals as goal
 
@@ -25,7 +25,7 @@ returns g c =
     let lines = old.lines.items in
     let x = c.index_mut-line.result.now in
     let e = Take c.args.count in
-    let after = seen old.side (g.R.Race.contents old.race) (set lines c.in-Some.place c.take.new.self) in
+    let after = served_of_parts old.side (g.R.Race.contents old.race) (set lines c.in-Some.place c.take.new.self) in
     let count : c.len.result ≡ length lines = c.len.ensures ∙ old.lines.ok.0 in
     let within : c.in-Some.place < length lines = subst (λ n. c.in-Some.place < n) count c.in-Some.ensures.within in
     let here : slice_get lines c.in-Some.place ≡ Some x = slice_get-get_or lines c.in-Some.place x within ∙ ap Some (sym c.index_mut-line.ensures.value) in

@@ -1,11 +1,11 @@
 use Rattle.std.proofs.Common.{◌++◌, Some, length, sym, subst}
 use Rattle.job_lane.specs.Turns.{AreNumbered, AreNumberedBehind}
-use Rattle.node_threads.specs.Outlets.{Line, owed}
+use Rattle.node_threads.specs.Outlets.{Line, jobs_owed}
 use Rattle.node_threads.proofs.Lanes.Outlets.{owed_behind}
 use Rattle.node_threads.proofs.line.Line.offer.Goals as goal
 
 pub push-requires : goal.push-requires
 push-requires g c =
     let s = c.self.inside in
-    let all = subst (λ (l : Line). AreNumbered (l.pushed ++ owed l.taken (Some c.args.run.now))) (sym c.self.view_is) c.requires in
+    let all = subst (λ (l : Line). AreNumbered (l.pushed ++ jobs_owed l.taken (Some c.args.run.now))) (sym c.self.view_is) c.requires in
     subst (λ r. AreNumberedBehind (length s.lane.pushed) r) (sym c.in-Ok.ensures) (owed_behind s.lane.pushed s.taken c.args.run.now c.if-self.false all)

@@ -1,5 +1,5 @@
 use Rattle.std.proofs.Common.{◌≡◌, [], None, Some, sym, ap, ◌∙◌, subst}
-use Rattle.node_threads.specs.Outlets.{Outlet, IsOutlet, handed}
+use Rattle.node_threads.specs.Outlets.{Outlet, IsOutlet, jobs_handed}
 use Rattle.node_threads.proofs.Lanes.Outlets.{begun, alike, none_of}
 use Rattle.node_threads.proofs.outlet.Outlet.begin_run.Goals as goal
 
@@ -21,4 +21,4 @@ returns g c =
     let run_is : c.in-Ok.run' ≡ s.unsent.items = (c.in-Ok.ensures).ok ∙ ap (λ v. v.items) c.replace-jobs.ensures.value in
     let rest_is : c.replace-jobs.new.dest.items ≡ [] = ap (λ v. v.items) c.replace-jobs.ensures.after ∙ c.new.ensures.items in
     let a = alike None (Some s.unsent.items) s.unsent.items [] s.lines.items lines (begun s.unsent.items s.lines.items lines c.begin_all.ensures.0 c.begin_all.ensures.1) (subst (λ r. IsOutlet r s.unsent.items s.lines.items) none c.self.invariant) in
-    (λ k. handed (Some (run_is k)) (rest_is k) lines) ∙ a.1 ∙ ap (λ r. handed r s.unsent.items s.lines.items) (sym none) ∙ ap (λ (o : Outlet). o.jobs) c.self.view_is
+    (λ k. jobs_handed (Some (run_is k)) (rest_is k) lines) ∙ a.1 ∙ ap (λ r. jobs_handed r s.unsent.items s.lines.items) (sym none) ∙ ap (λ (o : Outlet). o.jobs) c.self.view_is

@@ -1,5 +1,5 @@
 use Rattle.std.proofs.Common.{◌≡◌, All, true, Some, None, sym, ap, ◌∙◌, subst}
-use Rattle.node_threads.specs.Outlets.{Line, Outlet, IsOutlet, owed, handed}
+use Rattle.node_threads.specs.Outlets.{Line, Outlet, IsOutlet, jobs_owed, jobs_handed}
 use Rattle.node_threads.proofs.Lanes.Outlets.{owed_numbered, with_unsent, all_took, alike}
 use Rattle.node_threads.proofs.outlet.Outlet.offer.Goals as goal
 
@@ -20,9 +20,9 @@ returns-then-not-all_have g c =
     let s = c.self.inside in
     let i = subst (λ r. IsOutlet r s.unsent.items s.lines.items) c.in-Some.is c.self.invariant in
     let e = with_unsent (Some c.in-Some.run') s.unsent.items s.lines.items c.offer_all.new.lines.items c.offer_all.ensures in
-    ap (λ r. handed r s.unsent.items c.offer_all.new.lines.items) c.in-Some.is
+    ap (λ r. jobs_handed r s.unsent.items c.offer_all.new.lines.items) c.in-Some.is
     ∙ (alike (Some c.in-Some.run') (Some c.in-Some.run') s.unsent.items s.unsent.items s.lines.items c.offer_all.new.lines.items e i).1
-    ∙ ap (λ r. handed r s.unsent.items s.lines.items) (sym c.in-Some.is) ∙ ap (λ (o : Outlet). o.jobs) c.self.view_is
+    ∙ ap (λ r. jobs_handed r s.unsent.items s.lines.items) (sym c.in-Some.is) ∙ ap (λ (o : Outlet). o.jobs) c.self.view_is
 
 pub invariant_of-self-2 : goal.invariant_of-self-2
 invariant_of-self-2 g c =
@@ -41,4 +41,4 @@ returns g c =
     let e = with_unsent (Some c.in-Some.run') s.unsent.items s.lines.items lines c.offer_all.ensures in
     let took = all_took c.in-Some.run' s.unsent.items lines (subst (All (λ (line : Line). line.taken ≡ true)) c.as_slice.ensures.value (c.all_have.ensures c.if-not-all_have.false)) in
     (alike (Some c.in-Some.run') None s.unsent.items s.unsent.items s.lines.items lines (took ∙ e) i).1
-    ∙ ap (λ r. handed r s.unsent.items s.lines.items) (sym c.in-Some.is) ∙ ap (λ (o : Outlet). o.jobs) c.self.view_is
+    ∙ ap (λ r. jobs_handed r s.unsent.items s.lines.items) (sym c.in-Some.is) ∙ ap (λ (o : Outlet). o.jobs) c.self.view_is

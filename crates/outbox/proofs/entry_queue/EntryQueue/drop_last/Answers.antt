@@ -1,6 +1,6 @@
 use Rattle.std.proofs.Common.{◌≡◌, ℕ, ◌+◌, ◌-◌, ◌∷◌, [], List, length, take, ap, sym, ◌∙◌, arith, length-take-le}
 use Rattle.outbox.specs.declared.kept.Kept.{Kept}
-use Rattle.outbox.specs.Kept.{copied_of, copied_len, seen, Queued}
+use Rattle.outbox.specs.Kept.{copied_of, copied_len, written_in, Queued}
 use Rattle.outbox.proofs.Seen.{copied_behind, queued_same, seen_but_last}
 use Rattle.outbox.proofs.entry_queue.EntryQueue.drop_last.Goals as goal
 
@@ -35,7 +35,7 @@ returns c =
     let all : copied_of c.self.inside.kept.items ≡ length c.self.inside.text = c.self.invariant in
     let text : length c.as_slice.result.now ≡ length c.self.inside.text = ap length c.as_slice.ensures in
     let left = length c.as_slice.result.now - c.pop_last-copied.result in
-    let cut : seen kept c.truncate.new.self ≡ seen kept (take left c.self.inside.text) = ap (seen kept) c.truncate.ensures in
+    let cut : written_in kept c.truncate.new.self ≡ written_in kept (take left c.self.inside.text) = ap (written_in kept) c.truncate.ensures in
     let but_last = seen_but_last kept popped.0 c.self.inside.text left (omega arith) (omega arith) in
-    let back = ap (λ (ks : List Kept). take (length (seen ks c.self.inside.text) - 1) (seen ks c.self.inside.text)) (sym popped.1) in
+    let back = ap (λ (ks : List Kept). take (length (written_in ks c.self.inside.text) - 1) (written_in ks c.self.inside.text)) (sym popped.1) in
     queued_same _ _ _ _ (cut ∙ but_last ∙ back) c.pop_last-copied.ensures.capacity ∙ ap (λ (q : Queued). record { entries = take (length q.entries - 1) q.entries; places = q.places }) c.self.view_is

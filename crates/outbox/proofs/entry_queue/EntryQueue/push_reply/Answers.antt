@@ -1,5 +1,5 @@
 use Rattle.std.proofs.Common.{◌≡◌, ◌++◌, ◌∷◌, [], List, length, ap, ◌∙◌}
-use Rattle.outbox.specs.Kept.{Queued, copied_of, seen}
+use Rattle.outbox.specs.Kept.{Queued, copied_of, written_in}
 use Rattle.outbox.specs.Views.{reply_entry}
 use Rattle.outbox.specs.declared.kept.Kept.{Kept}
 use Rattle.outbox.proofs.Seen.{put_copied}
@@ -15,5 +15,5 @@ returns-clause-ok c =
     let entry = reply_entry c.args.line.now in
     let same : copied_of c.reserve.new.self.items ≡ length c.self.inside.text = ap copied_of c.reserve.ensures.items ∙ c.self.invariant in
     (put_copied _ _ _ _ entry c.in_ok-len.len same c.push_back_reserved.ensures.items c.in_ok-len.ensures.ok c.in_ok-len.ensures.len).1
-    ∙ ap (λ (ks : List Kept). seen ks c.self.inside.text ++ entry ∷ []) c.reserve.ensures.items
+    ∙ ap (λ (ks : List Kept). written_in ks c.self.inside.text ++ entry ∷ []) c.reserve.ensures.items
     ∙ ap (λ (q : Queued). q.entries ++ entry ∷ []) c.self.view_is

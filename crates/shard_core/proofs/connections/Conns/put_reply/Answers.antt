@@ -3,8 +3,8 @@ use Rattle.std.specs.Prelude.{position, slice_set}
 use Rattle.std.proofs.lemmas.List.Quantifiers.{position-Some}
 use Rattle.outbox.specs.Views.{Waiting, Backlog, reply_entry, with_entry}
 use Rattle.shard_core.specs.declared.connections.Conn.{Conn}
-use Rattle.shard_core.specs.Boxes.{Clients, seen, shown_shelf, next_shelf}
-use Rattle.shard_core.specs.Shards.{Client, changed, client_at, fits}
+use Rattle.shard_core.specs.Boxes.{Clients, client_in_view, shown_backlog, next_backlog}
+use Rattle.shard_core.specs.Shards.{Client, clients_with_change, client_at, fits}
 use Rattle.shard_core.proofs.Clients.Lookups.{client_none, changed_is, room_is, settled_box}
 use Rattle.shard_core.proofs.Clients.Staging.{conns_settled}
 use Rattle.shard_core.proofs.connections.Conns.put_reply.Goals as goal
@@ -20,7 +20,7 @@ returns-in_default-clause-room c =
     let n = c.args.conn in
     let entry = reply_entry c.args.line.now in
     let none = sym c.place_in.ensures ∙ c.in_default.is in
-    sym (ap (λ o. fits o entry) (client_none shown_shelf n c.self.inside.conns.items none)) ∙ ap (λ (l : Clients). fits (client_at n l.shown) entry) c.self.view_is
+    sym (ap (λ o. fits o entry) (client_none shown_backlog n c.self.inside.conns.items none)) ∙ ap (λ (l : Clients). fits (client_at n l.shown) entry) c.self.view_is
 
 pub returns-then-not-room_for-clause-room : goal.returns-then-not-room_for-clause-room
 returns-then-not-room_for-clause-room c =
@@ -31,7 +31,7 @@ returns-then-not-room_for-clause-room c =
     let x = c.index.result.now in
     let is = c.index.ensures in
     let entry = reply_entry c.args.line.now in
-    let told : c.room_for.result ≡ fits (client_at n c.args.self.now.shown) entry = c.room_for.ensures.room ∙ sym (room_is next_shelf n conns i x at is entry) ∙ ap (λ (l : Clients). fits (client_at n l.next) entry) c.self.view_is ∙ ap (λ (l : List Client). fits (client_at n l) entry) c.requires in
+    let told : c.room_for.result ≡ fits (client_at n c.args.self.now.shown) entry = c.room_for.ensures.room ∙ sym (room_is next_backlog n conns i x at is entry) ∙ ap (λ (l : Clients). fits (client_at n l.next) entry) c.self.view_is ∙ ap (λ (l : List Client). fits (client_at n l) entry) c.requires in
     let full : c.room_for.result ≡ false = search rules in
     sym full ∙ told
 
@@ -44,7 +44,7 @@ invariant_of-self-2 c =
     let x = c.index_mut-conn.result.now in
     let is = c.index_mut-conn.ensures.value in
     let change = with_entry (reply_entry c.args.line.now) in
-    let settled : map (seen next_shelf) conns ≡ map (seen shown_shelf) conns = ap (λ (l : Clients). l.next) c.self.view_is ∙ c.requires ∙ sym (ap (λ (l : Clients). l.shown) c.self.view_is) in
+    let settled : map (client_in_view next_backlog) conns ≡ map (client_in_view shown_backlog) conns = ap (λ (l : Clients). l.next) c.self.view_is ∙ c.requires ∙ sym (ap (λ (l : Clients). l.shown) c.self.view_is) in
     let alone = settled_box n conns i x at is settled in
     let box : c.commit.new.self ≡ record { shown = change x.outbox.shown; next = change x.outbox.next; max_entries = x.outbox.max_entries; max_bytes = x.outbox.max_bytes } = put_and_shown change x.outbox c.stage_reply.new.self c.commit.new.self c.in_ok-stage_reply.ensures.ok c.commit.ensures alone in
     let there : i < length conns = (position-Some (λ (y : Conn). y.number == n) conns i x at).0 in
@@ -59,7 +59,7 @@ returns-clause-room c =
     let x = c.index.result.now in
     let is = c.index.ensures in
     let entry = reply_entry c.args.line.now in
-    let told : c.room_for.result ≡ fits (client_at n c.args.self.now.shown) entry = c.room_for.ensures.room ∙ sym (room_is next_shelf n conns i x at is entry) ∙ ap (λ (l : Clients). fits (client_at n l.next) entry) c.self.view_is ∙ ap (λ (l : List Client). fits (client_at n l) entry) c.requires in
+    let told : c.room_for.result ≡ fits (client_at n c.args.self.now.shown) entry = c.room_for.ensures.room ∙ sym (room_is next_backlog n conns i x at is entry) ∙ ap (λ (l : Clients). fits (client_at n l.next) entry) c.self.view_is ∙ ap (λ (l : List Client). fits (client_at n l) entry) c.requires in
     let free : c.room_for.result ≡ true = search rules in
     sym free ∙ told
 
@@ -72,9 +72,9 @@ returns-clause-put c =
     let x = c.index_mut-conn.result.now in
     let is = c.index_mut-conn.ensures.value in
     let change = with_entry (reply_entry c.args.line.now) in
-    let settled : map (seen next_shelf) conns ≡ map (seen shown_shelf) conns = ap (λ (l : Clients). l.next) c.self.view_is ∙ c.requires ∙ sym (ap (λ (l : Clients). l.shown) c.self.view_is) in
+    let settled : map (client_in_view next_backlog) conns ≡ map (client_in_view shown_backlog) conns = ap (λ (l : Clients). l.next) c.self.view_is ∙ c.requires ∙ sym (ap (λ (l : Clients). l.shown) c.self.view_is) in
     let alone = settled_box n conns i x at is settled in
     let box : c.commit.new.self ≡ record { shown = change x.outbox.shown; next = change x.outbox.next; max_entries = x.outbox.max_entries; max_bytes = x.outbox.max_bytes } = put_and_shown change x.outbox c.stage_reply.new.self c.commit.new.self c.in_ok-stage_reply.ensures.ok c.commit.ensures alone in
-    let shown : map (seen shown_shelf) (slice_set conns i (record { number = x.number; outbox = c.commit.new.self })) ≡ changed change n c.args.self.now.shown = changed_is shown_shelf n conns i x at is change c.commit.new.self (ap (λ (b : Waiting). seen shown_shelf (record { number = x.number; outbox = b })) box) ∙ ap (λ (l : Clients). changed change n l.shown) c.self.view_is in
-    let next : map (seen next_shelf) (slice_set conns i (record { number = x.number; outbox = c.commit.new.self })) ≡ changed change n c.args.self.now.next = changed_is next_shelf n conns i x at is change c.commit.new.self (ap (λ (b : Waiting). seen next_shelf (record { number = x.number; outbox = b })) box) ∙ ap (λ (l : Clients). changed change n l.next) c.self.view_is in
+    let shown : map (client_in_view shown_backlog) (slice_set conns i (record { number = x.number; outbox = c.commit.new.self })) ≡ clients_with_change change n c.args.self.now.shown = changed_is shown_backlog n conns i x at is change c.commit.new.self (ap (λ (b : Waiting). client_in_view shown_backlog (record { number = x.number; outbox = b })) box) ∙ ap (λ (l : Clients). clients_with_change change n l.shown) c.self.view_is in
+    let next : map (client_in_view next_backlog) (slice_set conns i (record { number = x.number; outbox = c.commit.new.self })) ≡ clients_with_change change n c.args.self.now.next = changed_is next_backlog n conns i x at is change c.commit.new.self (ap (λ (b : Waiting). client_in_view next_backlog (record { number = x.number; outbox = b })) box) ∙ ap (λ (l : Clients). clients_with_change change n l.next) c.self.view_is in
     λ _ k. record { shown = shown k; next = next k }

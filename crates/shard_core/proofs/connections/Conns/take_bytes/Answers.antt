@@ -4,8 +4,8 @@ use Rattle.std.proofs.lemmas.List.{take_all}
 use Rattle.std.proofs.lemmas.List.Quantifiers.{position-Some}
 use Rattle.outbox.specs.Views.{Waiting, Written, bytes_of_all, without_first}
 use Rattle.shard_core.specs.declared.connections.Conn.{Conn}
-use Rattle.shard_core.specs.Boxes.{Clients, seen, shown_shelf, next_shelf}
-use Rattle.shard_core.specs.Shards.{entries_of, waits_for, changed}
+use Rattle.shard_core.specs.Boxes.{Clients, client_in_view, shown_backlog, next_backlog}
+use Rattle.shard_core.specs.Shards.{entries_of, waits_for, clients_with_change}
 use Rattle.shard_core.proofs.Clients.Lookups.{client_none, changed_none, waits_is, changed_is, settled_box}
 use Rattle.shard_core.proofs.Clients.Staging.{conns_settled}
 use Rattle.shard_core.proofs.connections.Conns.take_bytes.Goals as goal
@@ -18,7 +18,7 @@ take_bytes-requires c =
     let x = c.index_mut-conn.result.now in
     let is = c.index_mut-conn.ensures.value in
     let at : position (λ (y : Conn). y.number == n) conns ≡ Some i = sym c.place_in.ensures ∙ c.in-Some.is in
-    let settled : map (seen next_shelf) conns ≡ map (seen shown_shelf) conns = ap (λ (l : Clients). l.next) c.self.view_is ∙ c.requires ∙ sym (ap (λ (l : Clients). l.shown) c.self.view_is) in
+    let settled : map (client_in_view next_backlog) conns ≡ map (client_in_view shown_backlog) conns = ap (λ (l : Clients). l.next) c.self.view_is ∙ c.requires ∙ sym (ap (λ (l : Clients). l.shown) c.self.view_is) in
     let alone = settled_box n conns i x at is settled in
     alone
 
@@ -30,7 +30,7 @@ invariant_of-self-in-Some c =
     let x = c.index_mut-conn.result.now in
     let is = c.index_mut-conn.ensures.value in
     let at : position (λ (y : Conn). y.number == n) conns ≡ Some i = sym c.place_in.ensures ∙ c.in-Some.is in
-    let settled : map (seen next_shelf) conns ≡ map (seen shown_shelf) conns = ap (λ (l : Clients). l.next) c.self.view_is ∙ c.requires ∙ sym (ap (λ (l : Clients). l.shown) c.self.view_is) in
+    let settled : map (client_in_view next_backlog) conns ≡ map (client_in_view shown_backlog) conns = ap (λ (l : Clients). l.next) c.self.view_is ∙ c.requires ∙ sym (ap (λ (l : Clients). l.shown) c.self.view_is) in
     let alone = settled_box n conns i x at is settled in
     let there : i < length conns = (position-Some (λ (y : Conn). y.number == n) conns i x at).0 in
     conns_settled c.self.inside.places.items conns i x c.take_bytes.new.self is there (ap (λ (b : Waiting). b.next) c.in_ok-taken-in-Some.ensures.ok ∙ ap (without_first c.args.count) alone ∙ sym (ap (λ (b : Waiting). b.shown) c.in_ok-taken-in-Some.ensures.ok)) c.self.invariant
@@ -38,13 +38,13 @@ invariant_of-self-in-Some c =
 pub returns-in-None-clause-taken : goal.returns-in-None-clause-taken
 returns-in-None-clause-taken c =
     let none = sym c.place_in.ensures ∙ c.in-None.is in
-    let nothing : take c.args.count (waits_for c.args.conn c.args.self.now.shown) ≡ [] = sym (ap (λ (l : Clients). take c.args.count (waits_for c.args.conn l.shown)) c.self.view_is) ∙ ap (λ o. take c.args.count (entries_of o)) (client_none shown_shelf c.args.conn c.self.inside.conns.items none) ∙ take_all c.args.count [] (omega arith) in
+    let nothing : take c.args.count (waits_for c.args.conn c.args.self.now.shown) ≡ [] = sym (ap (λ (l : Clients). take c.args.count (waits_for c.args.conn l.shown)) c.self.view_is) ∙ ap (λ o. take c.args.count (entries_of o)) (client_none shown_backlog c.args.conn c.self.inside.conns.items none) ∙ take_all c.args.count [] (omega arith) in
     sym (ap length nothing)
 
 pub returns-in-None-clause-bytes : goal.returns-in-None-clause-bytes
 returns-in-None-clause-bytes c =
     let none = sym c.place_in.ensures ∙ c.in-None.is in
-    let nothing : take c.args.count (waits_for c.args.conn c.args.self.now.shown) ≡ [] = sym (ap (λ (l : Clients). take c.args.count (waits_for c.args.conn l.shown)) c.self.view_is) ∙ ap (λ o. take c.args.count (entries_of o)) (client_none shown_shelf c.args.conn c.self.inside.conns.items none) ∙ take_all c.args.count [] (omega arith) in
+    let nothing : take c.args.count (waits_for c.args.conn c.args.self.now.shown) ≡ [] = sym (ap (λ (l : Clients). take c.args.count (waits_for c.args.conn l.shown)) c.self.view_is) ∙ ap (λ o. take c.args.count (entries_of o)) (client_none shown_backlog c.args.conn c.self.inside.conns.items none) ∙ take_all c.args.count [] (omega arith) in
     sym (append-nil c.args.out.now.items) ∙ sym (ap (λ (es : List Written). c.args.out.now.items ++ bytes_of_all es) nothing)
 
 pub returns-in_ok-taken-in-Some-clause-taken : goal.returns-in_ok-taken-in-Some-clause-taken
@@ -55,7 +55,7 @@ returns-in_ok-taken-in-Some-clause-taken c =
     let x = c.index_mut-conn.result.now in
     let is = c.index_mut-conn.ensures.value in
     let at : position (λ (y : Conn). y.number == n) conns ≡ Some i = sym c.place_in.ensures ∙ c.in-Some.is in
-    c.in_ok-taken-in-Some.ensures.taken ∙ ap (λ (es : List Written). length (take c.args.count es)) (sym (waits_is shown_shelf n conns i x at is) ∙ ap (λ (l : Clients). waits_for n l.shown) c.self.view_is)
+    c.in_ok-taken-in-Some.ensures.taken ∙ ap (λ (es : List Written). length (take c.args.count es)) (sym (waits_is shown_backlog n conns i x at is) ∙ ap (λ (l : Clients). waits_for n l.shown) c.self.view_is)
 
 pub returns-in_ok-taken-in-Some-clause-bytes : goal.returns-in_ok-taken-in-Some-clause-bytes
 returns-in_ok-taken-in-Some-clause-bytes c =
@@ -65,7 +65,7 @@ returns-in_ok-taken-in-Some-clause-bytes c =
     let x = c.index_mut-conn.result.now in
     let is = c.index_mut-conn.ensures.value in
     let at : position (λ (y : Conn). y.number == n) conns ≡ Some i = sym c.place_in.ensures ∙ c.in-Some.is in
-    c.in_ok-taken-in-Some.ensures.bytes ∙ ap (λ (es : List Written). c.args.out.now.items ++ bytes_of_all (take c.args.count es)) (sym (waits_is shown_shelf n conns i x at is) ∙ ap (λ (l : Clients). waits_for n l.shown) c.self.view_is)
+    c.in_ok-taken-in-Some.ensures.bytes ∙ ap (λ (es : List Written). c.args.out.now.items ++ bytes_of_all (take c.args.count es)) (sym (waits_is shown_backlog n conns i x at is) ∙ ap (λ (l : Clients). waits_for n l.shown) c.self.view_is)
 
 pub returns-in_ok-taken-in-Some-clause-ok : goal.returns-in_ok-taken-in-Some-clause-ok
 returns-in_ok-taken-in-Some-clause-ok c =
@@ -76,8 +76,8 @@ returns-in_ok-taken-in-Some-clause-ok c =
     let is = c.index_mut-conn.ensures.value in
     let at : position (λ (y : Conn). y.number == n) conns ≡ Some i = sym c.place_in.ensures ∙ c.in-Some.is in
     let change = without_first c.args.count in
-    let shown : map (seen shown_shelf) (slice_set conns i (record { number = x.number; outbox = c.take_bytes.new.self })) ≡ changed change n c.args.self.now.shown = changed_is shown_shelf n conns i x at is change c.take_bytes.new.self (ap (λ (b : Waiting). seen shown_shelf (record { number = x.number; outbox = b })) c.in_ok-taken-in-Some.ensures.ok) ∙ ap (λ (l : Clients). changed change n l.shown) c.self.view_is in
-    let next : map (seen next_shelf) (slice_set conns i (record { number = x.number; outbox = c.take_bytes.new.self })) ≡ changed change n c.args.self.now.next = changed_is next_shelf n conns i x at is change c.take_bytes.new.self (ap (λ (b : Waiting). seen next_shelf (record { number = x.number; outbox = b })) c.in_ok-taken-in-Some.ensures.ok) ∙ ap (λ (l : Clients). changed change n l.next) c.self.view_is in
+    let shown : map (client_in_view shown_backlog) (slice_set conns i (record { number = x.number; outbox = c.take_bytes.new.self })) ≡ clients_with_change change n c.args.self.now.shown = changed_is shown_backlog n conns i x at is change c.take_bytes.new.self (ap (λ (b : Waiting). client_in_view shown_backlog (record { number = x.number; outbox = b })) c.in_ok-taken-in-Some.ensures.ok) ∙ ap (λ (l : Clients). clients_with_change change n l.shown) c.self.view_is in
+    let next : map (client_in_view next_backlog) (slice_set conns i (record { number = x.number; outbox = c.take_bytes.new.self })) ≡ clients_with_change change n c.args.self.now.next = changed_is next_backlog n conns i x at is change c.take_bytes.new.self (ap (λ (b : Waiting). client_in_view next_backlog (record { number = x.number; outbox = b })) c.in_ok-taken-in-Some.ensures.ok) ∙ ap (λ (l : Clients). clients_with_change change n l.next) c.self.view_is in
     λ k. record { shown = shown k; next = next k }
 
 pub returns-in-None-clause-ok : goal.returns-in-None-clause-ok
@@ -86,6 +86,6 @@ returns-in-None-clause-ok c =
     let n = c.args.conn in
     let change = without_first c.args.count in
     let none = sym c.place_in.ensures ∙ c.in-None.is in
-    let shown : c.args.self.now.shown ≡ changed change n c.args.self.now.shown = ap (λ (l : Clients). l.shown) (sym c.self.view_is) ∙ sym (changed_none shown_shelf n change conns none) ∙ ap (λ (l : Clients). changed change n l.shown) c.self.view_is in
-    let next : c.args.self.now.next ≡ changed change n c.args.self.now.next = ap (λ (l : Clients). l.next) (sym c.self.view_is) ∙ sym (changed_none next_shelf n change conns none) ∙ ap (λ (l : Clients). changed change n l.next) c.self.view_is in
+    let shown : c.args.self.now.shown ≡ clients_with_change change n c.args.self.now.shown = ap (λ (l : Clients). l.shown) (sym c.self.view_is) ∙ sym (changed_none shown_backlog n change conns none) ∙ ap (λ (l : Clients). clients_with_change change n l.shown) c.self.view_is in
+    let next : c.args.self.now.next ≡ clients_with_change change n c.args.self.now.next = ap (λ (l : Clients). l.next) (sym c.self.view_is) ∙ sym (changed_none next_backlog n change conns none) ∙ ap (λ (l : Clients). clients_with_change change n l.next) c.self.view_is in
     λ k. record { shown = shown k; next = next k }

@@ -2,7 +2,7 @@ use Rattle.std.proofs.Common.{◌≡◌, [], ◌∷◌, refl, ap, sym, subst, �
 use Rattle.std.specs.Prelude.{map}
 use Rattle.shard_core.specs.Closings.{serials_of}
 use Rattle.shard_core.specs.Opened.{Opened, CanCount, with_counts}
-use Rattle.shard_core.specs.Owed.{counted}
+use Rattle.shard_core.specs.Owed.{sub_with_count}
 use Rattle.shard_core.proofs.Closings.Closed.{counted_serials}
 use Rattle.shard_core.specs.Members.{AreNoted}
 use Rattle.shard_core.proofs.Turns.Groups.{noted_counted}
@@ -13,7 +13,7 @@ pub returns-in_default : goal.returns-in_default
 returns-in_default g c =
     let us = g.T.SubTable.contents c.self.inside.table in
     let ds = c.self.inside.deltas.items in
-    subst (λ (o : Opened). o ≡ with_counts (c.args.serial ∷ []) o) c.self.view_is (opened_same us (map (counted (c.args.serial ∷ [])) us) ds ds (sym (counts_none c.args.serial us (sym c.in_default.ensures))) refl)
+    subst (λ (o : Opened). o ≡ with_counts (c.args.serial ∷ []) o) c.self.view_is (opened_same us (map (sub_with_count (c.args.serial ∷ [])) us) ds ds (sym (counts_none c.args.serial us (sym c.in_default.ensures))) refl)
 
 pub overflow_add-delivered : goal.overflow_add-delivered
 overflow_add-delivered g c =

@@ -8,7 +8,7 @@ use Rattle.subj.specs.Keys.{cost_of}
 use Rattle.sub_table.specs.declared.Subscription.{Subscription}
 use Rattle.sub_table.specs.Subscriptions.{total_cost}
 use Rattle.pattern_trie.specs.Held.{Holds, without_held}
-use Rattle.sub_trie.specs.Rising.{is_keyed, is_rising, held_of, in_order, rows, listed}
+use Rattle.sub_trie.specs.Rising.{is_keyed, is_rising, held_of, in_order, rows, subs_in_order}
 use Rattle.sub_trie.proofs.Keyed.{values_push, keyed_push}
 use Rattle.sub_trie.proofs.Listing.{rows_push}
 use Rattle.sub_trie.proofs.Risen.{rising_push, held_push, cost_push, held_again}
@@ -26,7 +26,7 @@ invariant_of-self-in-Ok c =
     let subs = values_of es in
     let n = c.args.sub.serial in
     let entries : rows c.insert-2.new.self ≡ es ++ (n, c.args.sub) ∷ [] = rows_push n c.args.sub c.args.self.now.subs c.insert-2.new.self c.args.self.now.keyed (recursion_from_All (λ (other : Subscription). other.serial < n) subs c.requires) c.in-Ok.ensures.updates.0 in
-    let items : listed c.insert-2.new.self ≡ subs ++ c.args.sub ∷ [] = ap values_of entries ∙ values_push n c.args.sub es in
+    let items : subs_in_order c.insert-2.new.self ≡ subs ++ c.args.sub ∷ [] = ap values_of entries ∙ values_push n c.args.sub es in
     let held : Holds (held_of subs ++ (c.args.sub.key.pattern, n) ∷ []) c.insert.new.self.nodes = search (rules, c.in_ok-insert.ensures.ok (held_of subs) c.args.self.now.held) in
     let cost : c.in_ok-cost.cost ≡ total_cost subs + cost_of c.args.sub.key = grind arith in
     record {
@@ -34,7 +34,7 @@ invariant_of-self-in-Ok c =
       rising = ap is_rising items ∙ rising_push subs c.args.sub c.args.self.now.rising c.requires;
       held = subst (λ hs. Holds hs c.insert.new.self.nodes) (sym (ap held_of items ∙ held_push subs c.args.sub)) held;
       counted = cost ∙ sym (ap total_cost items ∙ cost_push subs c.args.sub);
-      right = c.forget.ensures (listed c.insert-2.new.self);
+      right = c.forget.ensures (subs_in_order c.insert-2.new.self);
     }
   where
     itself : (n : ℕ) → nat_eq n n ≡ true
@@ -42,7 +42,7 @@ invariant_of-self-in-Ok c =
 
 pub invariant_of-self-in-Err : goal.invariant_of-self-in-Err
 invariant_of-self-in-Err c =
-    let subs = listed c.args.self.now.subs in
+    let subs = subs_in_order c.args.self.now.subs in
     let n = c.args.sub.serial in
     let p = c.args.sub.key.pattern in
     let entries : c.insert-2.new.self.entries ≡ c.args.self.now.subs.entries = c.in-Err.ensures.err in
@@ -53,5 +53,5 @@ invariant_of-self-in-Err c =
       rising = ap (λ es. is_rising (values_of (in_order es))) entries ∙ c.args.self.now.rising;
       held = subst (λ hs. Holds hs c.remove.new.self.nodes) (held_again p n subs c.requires ∙ sym (ap (λ es. held_of (values_of (in_order es))) entries)) back;
       counted = c.args.self.now.counted ∙ sym (ap (λ es. total_cost (values_of (in_order es))) entries);
-      right = c.forget.ensures (listed c.insert-2.new.self);
+      right = c.forget.ensures (subs_in_order c.insert-2.new.self);
     }

@@ -5,7 +5,7 @@ use Rattle.std.specs.Map.{lookup, values_of}
 use Rattle.sub_table.specs.declared.Subscription.{Subscription}
 use Rattle.sub_table.specs.Subscriptions.{total_cost}
 use Rattle.pattern_trie.specs.Held.{Holds}
-use Rattle.sub_trie.specs.Rising.{is_keyed, is_rising, held_of, rows, listed}
+use Rattle.sub_trie.specs.Rising.{is_keyed, is_rising, held_of, rows, subs_in_order}
 use Rattle.sub_trie.proofs.Keyed.{found_by, set_by, keyed_set, changed_nowhere}
 use Rattle.sub_trie.proofs.Listing.{found_row, rows_set}
 use Rattle.sub_trie.proofs.Risen.{rising_changed, held_changed, cost_changed}
@@ -24,7 +24,7 @@ returns-in_default c =
     let subs = c.args.self.now.subs in
     let change : Subscription → Subscription = λ sub. record sub { delivered = c.args.delivered } in
     let none : lookup (nat_eq c.args.serial) (rows subs) ≡ None = sym (found_row c.args.serial subs) ∙ sym c.get_mut.ensures.value ∙ ap option_copied_mut c.in_default.is in
-    ap listed c.get_mut.follows.holds-at-none ∙ sym (changed_nowhere c.args.serial change (listed subs) (sym (found_by c.args.serial (rows subs) c.args.self.now.keyed) ∙ none))
+    ap subs_in_order c.get_mut.follows.holds-at-none ∙ sym (changed_nowhere c.args.serial change (subs_in_order subs) (sym (found_by c.args.serial (rows subs) c.args.self.now.keyed) ∙ none))
 
 pub invariant_of-self : goal.invariant_of-self
 invariant_of-self c =
@@ -40,5 +40,5 @@ invariant_of-self c =
       rising = ap is_rising items ∙ rising_changed c.args.serial change (λ s. refl) (λ s. refl) subs ∙ c.args.self.now.rising;
       held = subst (λ hs. Holds hs c.args.self.now.trie.nodes) (sym (ap held_of items ∙ held_changed c.args.serial change (λ s. refl) (λ s. refl) subs)) c.args.self.now.held;
       counted = c.args.self.now.counted ∙ sym (ap total_cost items ∙ cost_changed c.args.serial change (λ s. refl) (λ s. refl) subs);
-      right = right_still subs (listed new) c.args.self.now.recent.generation c.args.self.now.recent.slots.items (ap held_of items ∙ held_changed c.args.serial change (λ s. refl) (λ s. refl) subs) c.args.self.now.right;
+      right = right_still subs (subs_in_order new) c.args.self.now.recent.generation c.args.self.now.recent.slots.items (ap held_of items ∙ held_changed c.args.serial change (λ s. refl) (λ s. refl) subs) c.args.self.now.right;
     }

@@ -1,5 +1,5 @@
 use Rattle.std.proofs.Common.{refl, sym, ◌∙◌, ap}
-use Rattle.sub_trie.specs.Rising.{listed}
+use Rattle.sub_trie.specs.Rising.{subs_in_order}
 use Rattle.sub_table.specs.declared.Subscription.{Subscription}
 use Rattle.sub_table.specs.Subscriptions.{is_of, is_called, serials_of}
 use Rattle.sub_trie.specs.Groups.{serials_called}
@@ -8,7 +8,7 @@ use Rattle.sub_trie.proofs.table.TrieTableSubTable.set_max.Goals as goal
 
 pub invariant_of-self : goal.invariant_of-self
 invariant_of-self c =
-    let subs = listed c.args.self.now.opened.subs in
+    let subs = subs_in_order c.args.self.now.opened.subs in
     let change : Subscription → Subscription = λ sub. record sub { max = c.args.max } in
     record {
       owned = λ conn. c.args.self.now.owned conn ∙ sym (ap (serials_of conn) c.set_max.ensures ∙ changed_if (is_of conn) c.args.serial change (λ s. refl) (λ s. refl) subs);

@@ -1,5 +1,0 @@
-use Rattle.cluster_law.proofs.Scripts.Example.{witness}
-use Rattle.cluster_law.proofs.places_and_refuses.Goals as goal
-
-pub returns : goal.returns
-returns c = witness

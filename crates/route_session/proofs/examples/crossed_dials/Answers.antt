@@ -1,5 +1,0 @@
-use Rattle.route_session.proofs.Computed.{dials_cross}
-use Rattle.route_session.proofs.examples.crossed_dials.Goals as goal
-
-pub returns : goal.returns
-returns c = dials_cross

@@ -1,5 +1,0 @@
-use Rattle.route_session.proofs.Computed.{refuses_in_order}
-use Rattle.route_session.proofs.examples.refusals_in_order.Goals as goal
-
-pub returns : goal.returns
-returns c = refuses_in_order

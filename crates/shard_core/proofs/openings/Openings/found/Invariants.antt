@@ -1,7 +1,0 @@
-use Rattle.std.proofs.Common.{◌≡◌, take}
-use Rattle.shard_core.specs.Members.{found_of}
-use Rattle.shard_core.specs.Tallies.{lent_subs}
-use Rattle.shard_core.proofs.openings.Openings.found.Given as goal
-
-abbrev pub invariant-loop-member : goal.invariant-loop-member
-invariant-loop-member g l = lent_subs l.subs.items ≡ found_of l.self.subs l.mark (take l.member-index l.members)

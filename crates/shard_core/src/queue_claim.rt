@@ -1,0 +1,131 @@
+//! The choice of a member of a queue group.
+
+ghost use Rattle.std.specs.Prelude.{◌≡◌, filter, IfOk, OnErr};
+ghost use Rattle.client_frames.specs.Messages.{line_parts};
+ghost use Rattle.shard_core.specs.Boxes.{IsSettled};
+ghost use Rattle.shard_core.specs.Claims.{is_member};
+ghost use Rattle.shard_core.specs.Held.{ClaimsAreWhole, HasChosen, candidate_told, shard_with};
+ghost use Rattle.subj.specs.QueueNames.{is_named as named};
+ghost use Rattle.shard_core.specs.Owed.{due_entry as entry_due};
+ghost use Rattle.shard_core.specs.Shards.{client_at, fits};
+ghost use Rattle.shard_core.specs.Tallies.{lent_subs};
+
+use crate::calls::{Candidate, Placed};
+use crate::connections::Conns;
+use crate::openings::Openings;
+use crate::tally::{due_entry, due_len, may_get};
+use client_frames::MessageLines;
+use outbox::Entry;
+use std::alloc::{AllocError, Global};
+use sub_table::{SubTable, Subscription};
+use subj::{Job, QueueName, SubId};
+
+/// A job in hand, the queue name of it that is claimed, and whether a copy of the entry is asked for.
+#[derive(Clone, Copy)]
+pub struct QueueClaim<'a> {
+    pub alloc: Global,
+    pub shard: u64,
+    pub job: &'a Job,
+    pub name: &'a QueueName,
+    pub copies: bool,
+}
+
+/// Whether the subscription is a member of the queue group of this name.
+fn is_named(name: &QueueName, sub: &Subscription) -> bool
+    ensures { result ≡ named name.now sub.now.key.queue }
+{
+    match &sub.key.queue {
+        None => false,
+        Some(other) => other.bytes() == name.bytes(),
+    }
+}
+
+/// Whether the subscription has room for the entry that it would be owed.
+fn has_room(claim: &QueueClaim, lines: &MessageLines, conns: &Conns, sub: &Subscription) -> bool
+    requires { lines.now ≡ line_parts claim.now.job.now.message }
+    ensures { result ≡ fits (client_at sub.now.conn conns.now.next) (entry_due claim.now.shard claim.now.job.now sub.now.key.queue sub.now) }
+{
+    conns.has_room(sub.conn, due_len(claim.job, lines, sub))
+}
+
+/// Whether it is a candidate, of those that match.
+fn is_candidate(claim: &QueueClaim, lines: &MessageLines, conns: &Conns, sub: &Subscription) -> bool
+    requires { lines.now ≡ line_parts claim.now.job.now.message }
+    ensures { result ≡ is_member claim.now.shard conns.now.next claim.now.job.now claim.now.name.now sub.now }
+{
+    is_named(claim.name, sub) && may_get(claim.job, sub) && has_room(claim, lines, conns, sub)
+}
+
+/// The candidates among those that match.
+fn candidates<'a>(
+    claim: &QueueClaim,
+    lines: &MessageLines,
+    conns: &Conns,
+    matching: &[&'a Subscription],
+) -> Result<Vec<&'a Subscription>, AllocError>
+    requires { lines.now ≡ line_parts claim.now.job.now.message }
+    ensures { IfOk result (λ subs. lent_subs subs.items ≡ filter (is_member claim.now.shard conns.now.next claim.now.job.now claim.now.name.now) (lent_subs matching.now)) }
+{
+    let mut subs = Vec::new(claim.alloc);
+    for sub in matching {
+        if is_candidate(claim, lines, conns, sub) {
+            subs.push(*sub)?;
+        }
+    }
+    Ok(subs)
+}
+
+/// What is told of the member that is chosen.
+fn chosen_candidate(
+    claim: &QueueClaim,
+    sub: &Subscription,
+    entry: &Entry,
+) -> Result<Candidate, AllocError>
+    requires { entry.now ≡ entry_due claim.now.shard claim.now.job.now sub.now.key.queue sub.now }
+    ensures { IfOk result (λ candidate. candidate ≡ candidate_told claim.now.copies claim.now.shard claim.now.job.now sub.now) }
+{
+    let placed = if claim.copies {
+        let entry = entry.try_clone(claim.alloc)?;
+        let conn = sub.conn;
+        Some(Placed { conn, entry })
+    } else {
+        None
+    };
+    let sub = SubId {
+        shard: claim.shard,
+        serial: sub.serial,
+    };
+    Ok(Candidate { sub, placed })
+}
+
+/// The member that is chosen, whose entry is staged; none where there is no candidate.
+pub fn choose<T: SubTable>(
+    claim: &QueueClaim,
+    conns: &mut Conns,
+    openings: &Openings<T>,
+) -> Result<Option<Candidate>, AllocError>
+    requires { IsSettled conns.old }
+    ensures shown { conns.new.shown ≡ conns.old.shown }
+    ensures ok { IfOk result (λ candidate. HasChosen claim.now.copies (shard_with claim.now.shard conns.old.shown openings.now.subs) claim.now.job.now claim.now.name.now candidate conns.new.next) }
+    ensures err { OnErr result (conns.new.next ≡ conns.old.next) }
+{
+    let lines = MessageLines::new(claim.alloc, &claim.job.message)?;
+    let matching = openings.members(claim.job.message.subject(), claim.name)?;
+    let subs = candidates(claim, &lines, conns, &matching)?;
+    let count = subs.len() as u64;
+    if count == 0 {
+        return Ok(None);
+    }
+    let place = claim.job.turn.get() % count;
+    let sub = subs[place as usize];
+    let entry = due_entry(claim.alloc, claim.shard, claim.job, &lines, sub)?;
+    let candidate = chosen_candidate(claim, sub, &entry)?;
+    conns.stage(sub.conn, entry)?;
+    Ok(Some(candidate))
+}
+
+/// A candidate that is placed by the next call is the step of a claim that is won, and one that is not is the step
+/// of a claim that is not.
+pub fn claims_are_whole()
+    ensures { ClaimsAreWhole }
+{}
