@@ -1,10 +1,16 @@
 -- What the command line asks for, and how the program ends (profile).
-use Rattle.std.specs.Prelude.{ℕ, List, codes, Bool, Result, Ok, Err, if◌then◌else◌}
+use Rattle.std.specs.Prelude.{◌≡◌, ◌⊎◌, ℕ, List, codes, Bool, Option, Some, Result, Ok, Err}
+use Rattle.std.specs.Prelude.{IsSome, IfSome, IsSomeAnd, option_map, if◌then◌else◌, ⊤}
+use Rattle.std.specs.Str.Parse.{digits_value, without_leading_plus}
+use Rattle.clap.specs.Values.{IsUnsignedIn}
+use Rattle.clap.specs.Words.{Row, Text, first_of, one_of, subcommand_of}
+use Rattle.nats_mesh.specs.Line.{greatest_number, router}
 use Rattle.nats_mesh.specs.declared.command.Command.{Command}
 use Rattle.nats_mesh.specs.declared.command.Command.TheVariants.{Pipe, Match, Script, Serve}
 use Rattle.mesh_pipe.specs.declared.pipe.PipeEnd.{PipeEnd}
 use Rattle.mesh_pipe.specs.declared.pipe.PipeEnd.TheVariants.{Ended, Closed}
 use Rattle.mesh_pipe.specs.declared.faults.PipeFault.{PipeFault}
+use Rattle.mesh_serve.specs.declared.options.Given.{Given}
 
 -- by its word behind the program's name
 abbrev pub name_of : Command → List ℕ
@@ -12,6 +18,73 @@ name_of Pipe = codes "pipe"
 name_of (Match pattern subject) = codes "match"
 name_of Script = codes "script"
 name_of (Serve given) = codes "serve"
+
+-- the number that a text writes in decimal digits, a plus before them or none
+abbrev pub number_of : Text → ℕ
+number_of text = digits_value 10 (without_leading_plus text)
+
+-- the number of an option, where the option has a text
+abbrev pub number_in : Text → List Row → Option ℕ
+number_in name rows = option_map number_of (one_of name rows)
+
+-- the text writes a number that fits
+abbrev pub IsNumber : Text → Type 0
+IsNumber text = IsUnsignedIn 0 greatest_number text
+
+-- an option has a number
+abbrev pub HasNumber : Text → List Row → Type 0
+HasNumber name rows = IsSomeAnd (one_of name rows) IsNumber
+
+-- all numbers of a mesh are there, but for that of its clients
+pub record AreNumbers (rows : List Row) : Type 0 where
+  pub nodes : HasNumber (codes "nodes") rows
+  pub port : HasNumber (codes "port") rows
+  pub shards : HasNumber (codes "shards") rows
+  pub inc : HasNumber (codes "inc") rows
+  pub word : HasNumber (codes "word") rows
+  pub stop_after : IfSome (one_of (codes "stop-after") rows) IsNumber
+
+-- each number of a mesh is what its option writes, in digits
+pub record HasNumbers (rows : List Row) (given : Given) : Type 0 where
+  pub written : AreNumbers rows
+  pub nodes : number_in (codes "nodes") rows ≡ Some given.nodes
+  pub port : number_in (codes "port") rows ≡ Some given.port
+  pub shards : number_in (codes "shards") rows ≡ Some given.shards
+  pub inc : number_in (codes "inc") rows ≡ Some given.inc
+  pub word : number_in (codes "word") rows ≡ Some given.word
+  pub stop_after : number_in (codes "stop-after") rows ≡ given.stop_after
+
+-- the values of a command are those of its words
+abbrev pub HasValues : List Row → Command → Type 0
+HasValues rows Pipe = ⊤
+HasValues rows (Match pattern subject) =
+    (first_of (codes "PATTERN") rows ≡ Some pattern.now)
+    × (first_of (codes "SUBJECT") rows ≡ Some subject.now)
+HasValues rows Script = ⊤
+HasValues rows (Serve given) = HasNumbers rows given
+
+-- what was found names the command, and has its values
+abbrev pub Names : Option (Text × List Row) → Command → Type 0
+Names found command =
+    (rows : List Row) × (found ≡ Some (name_of command, rows)) × HasValues rows command
+
+-- the words ask for the command
+abbrev pub AskFor : List Text → Command → Type 0
+AskFor words command = Names (subcommand_of router words) command
+
+-- ---- what is found where the words are taken
+
+-- both words of a question are there
+pub record AreWords (rows : List Row) : Type 0 where
+  pub pattern : IsSome (first_of (codes "PATTERN") rows)
+  pub subject : IsSome (first_of (codes "SUBJECT") rows)
+
+-- a command is named, and has the values that it needs
+abbrev pub IsWhole : Text × List Row → Type 0
+IsWhole found = (found.0 ≡ codes "pipe") ⊎ ((found.0 ≡ codes "match") × AreWords found.1)
+    ⊎ (found.0 ≡ codes "script") ⊎ ((found.0 ≡ codes "serve") × AreNumbers found.1)
+
+-- ---- how the program ends
 
 -- by how a pipe ended
 abbrev pub exit_status : Result PipeEnd PipeFault → ℕ

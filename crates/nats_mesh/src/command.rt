@@ -1,10 +1,13 @@
 //! What the command line asks for, and how the program ends.
 
-ghost use Rattle.std.specs.Prelude.{◌≡◌, ◌≢◌, ◌↔◌, IsSome, IfSome, is_ok};
-ghost use Rattle.clap.specs.Matches.{subcommand_name_of};
-ghost use Rattle.nats_mesh.specs.Command.{name_of, exit_status, status_of_end};
+ghost use Rattle.std.specs.Prelude.{◌≡◌, ◌≢◌, ◌↔◌, IfErr, IfOk, IsSome, IsSomeAnd, is_ok, map, true};
+ghost use Rattle.std.specs.String.{string_bytes};
+ghost use Rattle.clap.specs.Words.{FailsBy, fault_of, found_of, kind_of, rows_of, subcommand_rows_of, takes};
+ghost use Rattle.nats_mesh.specs.Command.{AreNumbers, AskFor, HasNumbers, IsWhole, Names, exit_status, status_of_end};
+ghost use Rattle.nats_mesh.specs.Line.{HasRule, IsLine, number_rule, router, serve_command};
 
 use clap::builder::ValueParser;
+use clap::error::ErrorKind;
 use clap::{Arg, ArgMatches, Error};
 use mesh_pipe::{PipeEnd, PipeFault};
 use mesh_serve::Given;
@@ -24,7 +27,9 @@ pub enum Command<'a> {
 }
 
 /// The option of this name, which is a number.
-fn number<'a>(alloc: Global, name: &'a str, help: &'a str) -> Arg<'a> {
+fn number<'a>(alloc: Global, name: &'a str, help: &'a str) -> Arg<'a>
+    ensures { HasRule result (number_rule name.entry.now) }
+{
     Arg::new(alloc, name)
         .long(name)
         .value_name("N")
@@ -33,7 +38,9 @@ fn number<'a>(alloc: Global, name: &'a str, help: &'a str) -> Arg<'a> {
 }
 
 /// The command that serves a mesh.
-fn serve_line<'a>(alloc: Global) -> Result<clap::Command<'a>, AllocError> {
+fn serve_line<'a>(alloc: Global) -> Result<clap::Command<'a>, AllocError>
+    ensures { IfOk result (λ command. IsLine command serve_command) }
+{
     let nodes = number(alloc, "nodes", "How many servers: n1 to n8 at most").required(true);
     let port = number(
         alloc,
@@ -71,20 +78,10 @@ fn serve_line<'a>(alloc: Global) -> Result<clap::Command<'a>, AllocError> {
         .arg(stop_after)
 }
 
-/// What the line says of a mesh; none where a number is missing.
-fn given_in(values: &ArgMatches<'_>) -> Option<Given> {
-    Some(Given {
-        nodes: values.get_one("nodes")?,
-        port: values.get_one("port")?,
-        shards: values.get_one("shards")?,
-        inc: values.get_one("inc")?,
-        word: values.get_one("word")?,
-        stop_after: values.get_one("stop-after"),
-    })
-}
-
 /// The command that plays scripts, that of one question, the pipe, and the mesh.
-fn line<'a>(alloc: Global) -> Result<clap::Command<'a>, AllocError> {
+fn line<'a>(alloc: Global) -> Result<clap::Command<'a>, AllocError>
+    ensures { IfOk result (λ command. IsLine command router) }
+{
     let pipe = clap::Command::new(alloc, "pipe").about(
         "Serves one client on standard input and output",
     );
@@ -107,33 +104,53 @@ fn line<'a>(alloc: Global) -> Result<clap::Command<'a>, AllocError> {
         .subcommand(serve_line(alloc)?)
 }
 
-/// What was found in the command line; none where it is no command.
-fn command_in<'a>(found: &ArgMatches<'a>) -> Option<Command<'a>>
-    ensures { IfSome result (λ command. subcommand_name_of found.now ≡ Some (name_of command)) }
+/// What the line says of a mesh.
+fn given_in(values: &ArgMatches<'_>) -> Given
+    requires { AreNumbers (rows_of (found_of values.now)) }
+    ensures { HasNumbers (rows_of (found_of values.now)) result }
 {
-    let (name, values) = found.subcommand()?;
-    match name {
-        "pipe" => Some(Command::Pipe),
-        "match" => {
-            let pattern = values.get_str("PATTERN")?;
-            let subject = values.get_str("SUBJECT")?;
-            Some(Command::Match { pattern, subject })
-        }
-        "script" => Some(Command::Script),
-        "serve" => Some(Command::Serve(given_in(values)?)),
-        _ => None,
+    Given {
+        nodes: values.get_one("nodes").unwrap(),
+        port: values.get_one("port").unwrap(),
+        shards: values.get_one("shards").unwrap(),
+        inc: values.get_one("inc").unwrap(),
+        word: values.get_one("word").unwrap(),
+        stop_after: values.get_one("stop-after"),
     }
 }
 
-/// What these words ask for, of which the first is the name of the program.
-///
-/// The error is that of the line: what is wrong with it, or that help or the version is asked for.
-pub fn command_of<'a>(alloc: Global, words: &'a [String]) -> Result<Command<'a>, Error> {
-    let found = line(alloc)?.try_get_matches_from(words)?;
-    match command_in(&found) {
-        Some(command) => Ok(command),
-        None => Err(Error::from(AllocError)),
+/// What was found in the command line.
+fn command_in<'a>(found: &ArgMatches<'a>) -> Command<'a>
+    requires { IsSomeAnd (subcommand_rows_of found.now) IsWhole }
+    ensures { Names (subcommand_rows_of found.now) result }
+{
+    let (name, values) = found.subcommand().unwrap();
+    match name {
+        "pipe" => Command::Pipe,
+        "match" => Command::Match {
+            pattern: values.get_str("PATTERN").unwrap(),
+            subject: values.get_str("SUBJECT").unwrap(),
+        },
+        "script" => Command::Script,
+        "serve" => Command::Serve(given_in(values)),
+        // required: the line names one of the four
+        _ => unreachable!(),
     }
+}
+
+/// What these words ask for, of which the first is the name of the program: the command that they name, with the
+/// values that they give it.
+///
+/// The error is that of the line: what is wrong with it, or that help or the version is asked for. Where nothing is
+/// wrong with it, memory was refused.
+pub fn command_of<'a>(alloc: Global, words: &'a [String]) -> Result<Command<'a>, Error>
+    ensures asked { IfOk result (AskFor (map string_bytes words.entry.now)) }
+    ensures refused { FailsBy (fault_of router (map string_bytes words.entry.now)) result }
+    ensures taken { IfErr result (λ e. takes router (map string_bytes words.entry.now) ≡ true
+        → kind_of e ≡ ErrorKind.OutOfMemory) }
+{
+    let found = line(alloc)?.try_get_matches_from(words)?;
+    Ok(command_in(&found))
 }
 
 /// The exit status of a pipe: 0 where its input came to its end, and else 1.

@@ -127,6 +127,59 @@ fn other_lines(rt: HostRuntime) -> Result<(), Fail> {
     Ok(())
 }
 
+/// Each kind of refusal, by lines of which the other tests have none.
+#[test]
+fn kinds_of_refusals(rt: HostRuntime) -> Result<(), Fail> {
+    let rows: [(&[&str], ErrorKind, &str); 14] = [
+        (
+            &["help"],
+            ErrorKind::DisplayHelp,
+            "Usage: nats_mesh <COMMAND>",
+        ),
+        (&["help", "serve"], ErrorKind::DisplayHelp, "--nodes <N>"),
+        (&["help", "pip"], ErrorKind::InvalidSubcommand, "'pip'"),
+        (&["-V"], ErrorKind::DisplayVersion, "nats_mesh 1.0.0"),
+        (&["serve", "-n", "1"], ErrorKind::UnknownArgument, "'-n'"),
+        (&["serve", "3"], ErrorKind::UnknownArgument, "'3'"),
+        (
+            &["serve", "--nodes", "-1"],
+            ErrorKind::UnknownArgument,
+            "'-1'",
+        ),
+        (
+            &["serve", "--port", "1"],
+            ErrorKind::MissingRequiredArgument,
+            "--nodes <N>",
+        ),
+        (&["match"], ErrorKind::MissingRequiredArgument, "<PATTERN>"),
+        (
+            &["serve", "--nodes"],
+            ErrorKind::InvalidValue,
+            "--nodes <N>",
+        ),
+        (&["serve", "--nodes="], ErrorKind::ValueValidation, "''"),
+        (&["serve", "--nodes=-1"], ErrorKind::ValueValidation, "'-1'"),
+        (
+            &["serve", "--nodes=1.5"],
+            ErrorKind::ValueValidation,
+            "'1.5'",
+        ),
+        (
+            &["serve", "--nodes=18446744073709551616"],
+            ErrorKind::ValueValidation,
+            "number too large",
+        ),
+    ];
+    for (words, kind, part) in rows {
+        let words = words_of(rt.alloc(), words)?;
+        let error = command_of(rt.alloc(), &words).err().ok_or("a command")?;
+        assert!(rt; error.kind() == kind);
+        let text = error.to_string(rt.alloc())?;
+        assert!(rt; text.as_str().contains(part), "{text}");
+    }
+    Ok(())
+}
+
 #[test]
 fn exit_statuses(rt: HostRuntime) {
     let rows: [(Result<PipeEnd, PipeFault>, u8, Option<&str>); 5] = [

@@ -1,0 +1,288 @@
+-- Words that the command line takes name a command, and give it all that it needs.
+use Rattle.std.proofs.Common.{◌≡◌, Bool, cond, codes, true, false, refl, sym, ap, subst, true≢false, inl, inr, List, [], ◌∷◌, drop, Option, Some, None}
+use Rattle.std.specs.Prelude.{IfSome, IsSome, IsSomeAnd, is_some, option_and_then, option_map, slice_get, unwrap_or, find, not, ◌||◌, ◌&&◌}
+use Rattle.std.specs.List.{fold}
+use Rattle.std.specs.Option.{option_map_or}
+use Rattle.std.specs.Str.{bytes_eq}
+use Rattle.std.proofs.lemmas.Slice.Eq.{bytes_eq-Decides}
+use Rattle.clap.specs.Values.{refused_kind}
+use Rattle.clap.specs.ValueTests.{accepts}
+use Rattle.clap.specs.Kinds.{Kinds}
+use Rattle.clap.specs.Walk.{Row, Rule, Text, answers_to, arg_by_id, finished, first_of, has_row, nothing_held, row_text, rows_after, settled, walk, walk_from, with_default}
+use Rattle.clap.specs.Simple.{App, Shape, argument_words, built, entered, help_shape, is_simple, label_of, names_of, new_rule, rows_at, subcommand_of}
+use Rattle.clap.specs.Takes.{is_given}
+use Rattle.clap.specs.Faults.{check_fault, defaults_fault, entered_fault, fault_of, is_simple_and_free, level_fault, settle_fault, walk_fault}
+use Rattle.clap.specs.declared.error.kind.ErrorKind.{ErrorKind}
+use Rattle.clap.specs.declared.error.kind.ErrorKind.TheVariants as kind
+use Rattle.clap.specs.declared.builder.value_parser.ValueParser.TheVariants as vp
+use Rattle.clap.proofs.ValueTestLemmas.{accepts-Accepts}
+use Rattle.nats_mesh.specs.Line.{greatest_number, router}
+use Rattle.nats_mesh.specs.Command.{AreNumbers, AreWords, HasNumber, IsNumber, IsWhole}
+use Rattle.nats_mesh.proofs.Walks.{Each, IsNoHelp, Keeps, KeepsDefault, both_pass, level_keeps, walk_stops}
+use Rattle.nats_mesh.proofs.Rows.{Passes, Reads, RowFits, default_comes, default_keeps, defaults_stay, given_found, help_keeps, row_found, row_of_rule, text_of_row, value_keeps}
+
+-- ---- the commands as they are built
+
+abbrev whole_line : App
+whole_line = built router
+
+abbrev shape_named : Text → Shape
+shape_named name = unwrap_or (find (λ s. bytes_eq s.name name) whole_line.subs) help_shape
+
+abbrev match_shape : Shape
+match_shape = shape_named (codes "match")
+
+abbrev serve_shape : Shape
+serve_shape = shape_named (codes "serve")
+
+abbrev match_rule : Text → Rule
+match_rule name = unwrap_or (arg_by_id match_shape.rules name) (new_rule name)
+
+abbrev serve_rule : Text → Rule
+serve_rule name = unwrap_or (arg_by_id serve_shape.rules name) (new_rule name)
+
+-- ---- small steps
+
+no_kinds : (k : ErrorKind) (ks : Kinds) → k ∷ ks ≡ [] → ⊥
+no_kinds k ks e = cc
+
+both_given : (a b : Bool) → cond (not a || (not b || false)) (kind.MissingRequiredArgument ∷ []) [] ≡ [] → (a ≡ true) × (b ≡ true)
+both_given true true e = (refl, refl)
+both_given true false e = absurd (no_kinds kind.MissingRequiredArgument [] e)
+both_given false b e = absurd (no_kinds kind.MissingRequiredArgument [] e)
+
+accepted : (b : Bool) (k : ErrorKind) → cond b [] (k ∷ []) ≡ [] → b ≡ true
+accepted true k e = refl
+accepted false k e = absurd (no_kinds k [] e)
+
+-- an argument that is a number
+abbrev numeric : Rule → Rule
+numeric a = record a {
+  parser = Some (vp.Unsigned 0 greatest_number);
+  ignore_case = false;
+}
+
+number_passes : (a : Rule) (text : Text) → Passes (numeric a) text → IsNumber text
+number_passes a text e = accepts-Accepts false (vp.Unsigned 0 greatest_number) text
+    (accepted (accepts false (vp.Unsigned 0 greatest_number) text) (refused_kind (vp.Unsigned 0 greatest_number)) e)
+
+number_read : (a : Rule) (r : Row) → Reads (numeric a) r → IsSomeAnd (row_text r) IsNumber
+number_read a r h =
+    let text = text_of_row (numeric a) r h in
+    subst (λ (o : Option Text). IsSomeAnd o IsNumber) (sym text.2) (number_passes a text.0 text.3)
+
+number_found : (a : Rule) (o : Option Row) → IfSome o (Reads (numeric a)) → is_some o ≡ true → IsSomeAnd (option_and_then row_text o) IsNumber
+number_found a None h e = absurd (true≢false (sym e))
+number_found a (Some r) h e = number_read a r h
+
+number_if_found : (a : Rule) (o : Option Row) → IfSome o (Reads (numeric a)) → IfSome (option_and_then row_text o) IsNumber
+number_if_found a None h = tt
+number_if_found a (Some r) h = go (row_text r) (number_read a r h)
+  where
+    go : (o : Option Text) → IsSomeAnd o IsNumber → IfSome o IsNumber
+    go None bad = absurd bad
+    go (Some t) ok = ok
+
+word_found : (a : Rule) (o : Option Row) → IfSome o (Reads a) → is_some o ≡ true → IsSome (option_and_then (λ r. slice_get r.values 0) o)
+word_found a None h e = absurd (true≢false (sym e))
+word_found a (Some r) h e = ap (λ (o : Option Text). is_some o) (text_of_row a r h).1
+
+-- ---- `match`
+
+match_keeps : Each (Keeps match_shape.args_override_self (Each (RowFits match_shape.rules))) match_shape.rules
+match_keeps = (
+  value_keeps false match_shape.rules (match_rule (codes "PATTERN")) refl,
+  (
+    value_keeps false match_shape.rules (match_rule (codes "SUBJECT")) refl,
+    (help_keeps false (Each (RowFits match_shape.rules)) (match_rule (codes "help")), tt),
+  ),
+)
+
+match_defaults : Each (KeepsDefault (Each (RowFits match_shape.rules))) match_shape.rules
+match_defaults = (
+  default_keeps match_shape.rules (match_rule (codes "PATTERN")) refl,
+  (
+    default_keeps match_shape.rules (match_rule (codes "SUBJECT")) refl,
+    (default_keeps match_shape.rules (match_rule (codes "help")) refl, tt),
+  ),
+)
+
+match_needs : (rows : List Row) → check_fault match_shape rows false ≡ [] → (is_given (codes "PATTERN") rows ≡ true) × (is_given (codes "SUBJECT") rows ≡ true)
+match_needs rows e = both_given (is_given (codes "PATTERN") rows) (is_given (codes "SUBJECT") rows) e
+
+match_word : (name : Text) (a : Rule) (rows : List Row) → arg_by_id match_shape.rules name ≡ Some a → Each (RowFits match_shape.rules) rows
+    → is_given name rows ≡ true → IsSome (first_of name rows)
+match_word name a rows own fit given = word_found a (find (λ r. bytes_eq r.id name) rows) (row_of_rule match_shape.rules name a rows own fit) (given_found name rows given)
+
+match_whole : (words : List Text) → level_fault match_shape [] nothing_held words false [] ≡ [] → AreWords (rows_after match_shape.rules [] words)
+match_whole words e =
+    let rows = rows_after match_shape.rules [] words in
+    let kept = level_keeps match_shape (Each (RowFits match_shape.rules)) match_keeps [] nothing_held words false [] match_defaults e tt in
+    let given = match_needs rows kept.1 in
+    record {
+      pattern = match_word (codes "PATTERN") (match_rule (codes "PATTERN")) rows refl kept.0 given.0;
+      subject = match_word (codes "SUBJECT") (match_rule (codes "SUBJECT")) rows refl kept.0 given.1;
+    }
+
+-- ---- `serve`
+
+serve_keeps : Each (Keeps serve_shape.args_override_self (Each (RowFits serve_shape.rules))) serve_shape.rules
+serve_keeps = (
+  value_keeps false serve_shape.rules (serve_rule (codes "nodes")) refl,
+  (
+    value_keeps false serve_shape.rules (serve_rule (codes "port")) refl,
+    (
+      value_keeps false serve_shape.rules (serve_rule (codes "shards")) refl,
+      (
+        value_keeps false serve_shape.rules (serve_rule (codes "inc")) refl,
+        (
+          value_keeps false serve_shape.rules (serve_rule (codes "word")) refl,
+          (
+            value_keeps false serve_shape.rules (serve_rule (codes "stop-after")) refl,
+            (help_keeps false (Each (RowFits serve_shape.rules)) (serve_rule (codes "help")), tt),
+          ),
+        ),
+      ),
+    ),
+  ),
+)
+
+serve_defaults : Each (KeepsDefault (Each (RowFits serve_shape.rules))) serve_shape.rules
+serve_defaults = (
+  default_keeps serve_shape.rules (serve_rule (codes "nodes")) refl,
+  (
+    default_keeps serve_shape.rules (serve_rule (codes "port")) refl,
+    (
+      default_keeps serve_shape.rules (serve_rule (codes "shards")) refl,
+      (
+        default_keeps serve_shape.rules (serve_rule (codes "inc")) refl,
+        (
+          default_keeps serve_shape.rules (serve_rule (codes "word")) refl,
+          (
+            default_keeps serve_shape.rules (serve_rule (codes "stop-after")) refl,
+            (default_keeps serve_shape.rules (serve_rule (codes "help")) refl, tt),
+          ),
+        ),
+      ),
+    ),
+  ),
+)
+
+serve_needs : (rows : List Row) → check_fault serve_shape rows false ≡ [] → (is_given (codes "nodes") rows ≡ true) × (is_given (codes "port") rows ≡ true)
+serve_needs rows e = both_given (is_given (codes "nodes") rows) (is_given (codes "port") rows) e
+
+serve_number : (name : Text) (a : Rule) (rows : List Row) → arg_by_id serve_shape.rules name ≡ Some (numeric a) → Each (RowFits serve_shape.rules) rows
+    → is_some (find (λ r. bytes_eq r.id name) rows) ≡ true → HasNumber name rows
+serve_number name a rows own fit there =
+    number_found a (find (λ r. bytes_eq r.id name) rows) (row_of_rule serve_shape.rules name (numeric a) rows own fit) there
+
+-- the options that have defaults
+shards_there : (rows : List Row) → has_row (codes "shards") (fold with_default rows serve_shape.rules) ≡ true
+shards_there rows =
+    let before = with_default (with_default rows (serve_rule (codes "nodes"))) (serve_rule (codes "port")) in
+    defaults_stay (codes "shards") (drop 3 serve_shape.rules) (with_default before (serve_rule (codes "shards")))
+    (default_comes (serve_rule (codes "shards")) (codes "2") before)
+
+inc_there : (rows : List Row) → has_row (codes "inc") (fold with_default rows serve_shape.rules) ≡ true
+inc_there rows =
+    let before = with_default (with_default (with_default rows (serve_rule (codes "nodes"))) (serve_rule (codes "port"))) (serve_rule (codes "shards")) in
+    defaults_stay (codes "inc") (drop 4 serve_shape.rules) (with_default before (serve_rule (codes "inc")))
+    (default_comes (serve_rule (codes "inc")) (codes "1") before)
+
+word_there : (rows : List Row) → has_row (codes "word") (fold with_default rows serve_shape.rules) ≡ true
+word_there rows =
+    let early = with_default (with_default rows (serve_rule (codes "nodes"))) (serve_rule (codes "port")) in
+    let before = with_default (with_default early (serve_rule (codes "shards"))) (serve_rule (codes "inc")) in
+    defaults_stay (codes "word") (drop 5 serve_shape.rules) (with_default before (serve_rule (codes "word")))
+    (default_comes (serve_rule (codes "word")) (codes "0") before)
+
+serve_whole : (words : List Text) → level_fault serve_shape [] nothing_held words false [] ≡ [] → AreNumbers (rows_after serve_shape.rules [] words)
+serve_whole words e =
+    let rows = rows_after serve_shape.rules [] words in
+    let kept = level_keeps serve_shape (Each (RowFits serve_shape.rules)) serve_keeps [] nothing_held words false [] serve_defaults e tt in
+    let given = serve_needs rows kept.1 in
+    let used = (settled serve_shape.rules (walk serve_shape.rules [] nothing_held words).held).rows in
+    record {
+      nodes = serve_number (codes "nodes") (serve_rule (codes "nodes")) rows refl kept.0 (given_found (codes "nodes") rows given.0);
+      port = serve_number (codes "port") (serve_rule (codes "port")) rows refl kept.0 (given_found (codes "port") rows given.1);
+      shards = serve_number (codes "shards") (serve_rule (codes "shards")) rows refl kept.0 (row_found (codes "shards") rows (shards_there used));
+      inc = serve_number (codes "inc") (serve_rule (codes "inc")) rows refl kept.0 (row_found (codes "inc") rows (inc_there used));
+      word = serve_number (codes "word") (serve_rule (codes "word")) rows refl kept.0 (row_found (codes "word") rows (word_there used));
+      stop_after = number_if_found (serve_rule (codes "stop-after")) (find (λ r. bytes_eq r.id (codes "stop-after")) rows)
+          (row_of_rule serve_shape.rules (codes "stop-after") (serve_rule (codes "stop-after")) rows refl kept.0);
+    }
+
+-- ---- the line
+
+-- where the first that passes is known to fit
+first_fits : {X : Type 0} (P : X → Type 0) (p : X → Bool) (xs : List X) → Each (λ x. p x ≡ true → P x) xs → IfSome (find p xs) P
+first_fits P p [] all = tt
+first_fits P p (x ∷ xs) all = go (p x) all.0 (first_fits P p xs all.1)
+  where
+    go : (b : Bool) → (b ≡ true → P x) → IfSome (find p xs) P → IfSome (cond b (Some x) (find p xs)) P
+    go true here rest = here refl
+    go false here rest = rest
+
+left_holds : (b : Bool) → (b || false) ≡ true → b ≡ true
+left_holds true e = refl
+left_holds false e = e
+
+help_met : (word : Text) → (bytes_eq (codes "help") word || false) ≡ true → IsNoHelp whole_line.top word → ⊥
+help_met word e plain =
+    let same = (bytes_eq-Decides (codes "help") word).0 (left_holds (bytes_eq (codes "help") word) e) in
+    let bad : true ≡ false = subst (λ (w : Text). (bytes_eq w (codes "help") && true) ≡ false) (sym same) plain in
+    true≢false bad
+
+-- the subcommand that the words name is whole, where it has no fault
+abbrev IsWholeAt : List Text → Shape → Type 0
+IsWholeAt words s = level_fault s [] nothing_held words false [] ≡ [] → IsWhole (rows_at s words)
+
+each_whole : (name : Text) (words : List Text) → IsNoHelp whole_line.top name
+    → Each (λ s. answers_to name (label_of s) ≡ true → IsWholeAt words s) whole_line.subs
+each_whole name words plain = (
+  (λ _ _. inl refl),
+  (
+    (λ _ e. inr (inl (refl, match_whole words e))),
+    (
+      (λ _ _. inr (inr (inl refl))),
+      (
+        (λ _ e. inr (inr (inr (refl, serve_whole words e)))),
+        ((λ here _. absurd (help_met name here plain)), tt),
+      ),
+    ),
+  ),
+)
+
+entered_whole : (o : Option Shape) (rows : List Row) (words : List Text) → IfSome o (IsWholeAt words)
+    → option_map_or (λ s. level_fault s [] nothing_held words false []) o [] ≡ []
+    → check_fault whole_line.top rows (is_some (option_map (λ s. rows_at s words) o)) ≡ []
+    → IsSomeAnd (option_map (λ s. rows_at s words) o) IsWhole
+entered_whole None rows words whole e check = absurd (no_kinds kind.MissingSubcommand [] check)
+entered_whole (Some s) rows words whole e check = whole e
+
+stop_whole : (stop : Option (Text × List Text)) (rows : List Row) → IfSome stop (λ p. IsNoHelp whole_line.top p.0)
+    → entered_fault whole_line stop ≡ [] → check_fault whole_line.top rows (is_some (entered whole_line stop)) ≡ []
+    → IsSomeAnd (entered whole_line stop) IsWhole
+stop_whole None rows plain e check = absurd (no_kinds kind.MissingSubcommand [] check)
+stop_whole (Some p) rows plain e check =
+    entered_whole (find (λ s. answers_to p.0 (label_of s)) whole_line.subs) rows p.1
+    (first_fits (IsWholeAt p.1) (λ s. answers_to p.0 (label_of s)) whole_line.subs (each_whole p.0 p.1 plain)) e check
+
+-- words without a fault name a command, and give it all that it needs
+pub taken_whole : (words : List Text) → fault_of router words ≡ [] → IsSomeAnd (subcommand_of router words) IsWhole
+taken_whole words e =
+    let given = argument_words whole_line words in
+    let names = names_of whole_line in
+    let end = walk whole_line.top.rules names nothing_held given in
+    let a = both_pass (walk_fault whole_line.top names (walk_from nothing_held) given) _ e in
+    let b = both_pass (entered_fault whole_line end.stopped) _ a.1 in
+    let c = both_pass (settle_fault whole_line.top.rules whole_line.top.args_override_self end.held) _ b.1 in
+    let d = both_pass (defaults_fault (settled whole_line.top.rules end.held).rows whole_line.top.rules) _ c.1 in
+    stop_whole end.stopped (finished whole_line.top.rules end.held) (walk_stops whole_line.top names (walk_from nothing_held) given a.0 tt) b.0 d.1
+
+-- the grammar says what a parse gives, and how it fails
+pub is_exact : is_simple_and_free router ≡ true
+is_exact = refl
+
+pub is_simple_line : is_simple router ≡ true
+is_simple_line = refl

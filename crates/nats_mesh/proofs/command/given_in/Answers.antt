@@ -1,0 +1,30 @@
+use Rattle.std.proofs.Common.{◌∙◌, codes}
+use Rattle.clap.specs.Words.{found_of}
+use Rattle.nats_mesh.proofs.Numbers.{number_if_read, number_read, number_there}
+use Rattle.nats_mesh.proofs.command.given_in.Goals as goal
+
+pub unwrap-requires : goal.unwrap-requires
+unwrap-requires c = number_there (found_of c.args.values.now) (codes "nodes") c.get_one.result c.get_one.ensures.none c.get_one.ensures.value c.requires.nodes
+
+pub unwrap-requires-2 : goal.unwrap-requires-2
+unwrap-requires-2 c = number_there (found_of c.args.values.now) (codes "port") c.get_one-2.result c.get_one-2.ensures.none c.get_one-2.ensures.value c.requires.port
+
+pub unwrap-requires-3 : goal.unwrap-requires-3
+unwrap-requires-3 c = number_there (found_of c.args.values.now) (codes "shards") c.get_one-3.result c.get_one-3.ensures.none c.get_one-3.ensures.value c.requires.shards
+
+pub unwrap-requires-4 : goal.unwrap-requires-4
+unwrap-requires-4 c = number_there (found_of c.args.values.now) (codes "inc") c.get_one-4.result c.get_one-4.ensures.none c.get_one-4.ensures.value c.requires.inc
+
+pub unwrap-requires-5 : goal.unwrap-requires-5
+unwrap-requires-5 c = number_there (found_of c.args.values.now) (codes "word") c.get_one-5.result c.get_one-5.ensures.none c.get_one-5.ensures.value c.requires.word
+
+pub returns : goal.returns
+returns c = let found = found_of c.args.values.now in record {
+  written = c.requires;
+  nodes = number_read found (codes "nodes") c.get_one.result c.get_one.ensures.none c.get_one.ensures.value c.requires.nodes ∙ c.unwrap.ensures;
+  port = number_read found (codes "port") c.get_one-2.result c.get_one-2.ensures.none c.get_one-2.ensures.value c.requires.port ∙ c.unwrap-2.ensures;
+  shards = number_read found (codes "shards") c.get_one-3.result c.get_one-3.ensures.none c.get_one-3.ensures.value c.requires.shards ∙ c.unwrap-3.ensures;
+  inc = number_read found (codes "inc") c.get_one-4.result c.get_one-4.ensures.none c.get_one-4.ensures.value c.requires.inc ∙ c.unwrap-4.ensures;
+  word = number_read found (codes "word") c.get_one-5.result c.get_one-5.ensures.none c.get_one-5.ensures.value c.requires.word ∙ c.unwrap-5.ensures;
+  stop_after = number_if_read found (codes "stop-after") c.get_one-6.result c.get_one-6.ensures.none c.get_one-6.ensures.value c.requires.stop_after;
+}

@@ -1,0 +1,38 @@
+use Rattle.std.proofs.Common.{◌≡◌, ◌∙◌, ap, codes}
+use Rattle.std.proofs.lemmas.Result.{IfOk-weaker}
+use Rattle.clap.specs.Words.{Rule, new_app, rule_of}
+use Rattle.clap.specs.Simple.{app_of_fields}
+use Rattle.clap.specs.declared.builder.arg.Arg.{Arg}
+use Rattle.clap.specs.declared.builder.command.Command.{Command}
+use Rattle.clap.specs.declared.builder.command.Command.TheOpen.{Command-F}
+use Rattle.nats_mesh.specs.Line.{HasRule, IsLine, required_rule, number_rule, serve_with_defaults, with_value}
+use Rattle.nats_mesh.proofs.Lines.{with_arg}
+use Rattle.nats_mesh.proofs.command.serve_line.Goals as goal
+
+-- an argument of which a setter was called
+same_but : (x y : Arg) (f : Rule → Rule) (rule : Rule) → HasRule x rule → rule_of y ≡ f (rule_of x) → y.global ≡ x.global → HasRule y (f rule)
+same_but x y f rule has same local = record { same = same ∙ ap f has.same; local = local ∙ has.local }
+
+pub returns : goal.returns
+returns c =
+    let nodes = same_but c.number.result c.required-nodes.result required_rule (number_rule (codes "nodes")) c.number.ensures
+    (ap (λ (a : Arg). rule_of a) c.required-nodes.ensures) (ap (λ (a : Arg). a.global) c.required-nodes.ensures) in
+    let port = same_but c.number-2.result c.required-port.result required_rule (number_rule (codes "port")) c.number-2.ensures
+    (ap (λ (a : Arg). rule_of a) c.required-port.ensures) (ap (λ (a : Arg). a.global) c.required-port.ensures) in
+    let shards = same_but c.number-3.result c.default_value-shards.result (λ r. with_value r (codes "2")) (number_rule (codes "shards")) c.number-3.ensures
+    (ap (λ (a : Arg). rule_of a) c.default_value-shards.ensures) (ap (λ (a : Arg). a.global) c.default_value-shards.ensures) in
+    let inc = same_but c.number-4.result c.default_value-inc.result (λ r. with_value r (codes "1")) (number_rule (codes "inc")) c.number-4.ensures
+    (ap (λ (a : Arg). rule_of a) c.default_value-inc.ensures) (ap (λ (a : Arg). a.global) c.default_value-inc.ensures) in
+    let word = same_but c.number-5.result c.default_value-word.result (λ r. with_value r (codes "0")) (number_rule (codes "word")) c.number-5.ensures
+    (ap (λ (a : Arg). rule_of a) c.default_value-word.ensures) (ap (λ (a : Arg). a.global) c.default_value-word.ensures) in
+    let empty : IsLine c.about.result (new_app (codes "serve")) = record {
+      same = ap app_of_fields c.about.ensures ∙ c.new.ensures.app;
+      local = ap (λ (f : Command-F Command). f.has_globals) c.about.ensures ∙ c.new.ensures.local;
+    } in
+    let one = with_arg c.about.result c.in_ok-arg.field-0 c.required-nodes.result (new_app (codes "serve")) (required_rule (number_rule (codes "nodes"))) empty nodes c.in_ok-arg.ensures in
+    let two = with_arg c.in_ok-arg.field-0 c.in_ok-arg-2.field-0 c.required-port.result _ (required_rule (number_rule (codes "port"))) one port c.in_ok-arg-2.ensures in
+    let three = with_arg c.in_ok-arg-2.field-0 c.in_ok-arg-3.field-0 c.default_value-shards.result _ (with_value (number_rule (codes "shards")) (codes "2")) two shards c.in_ok-arg-3.ensures in
+    let four = with_arg c.in_ok-arg-3.field-0 c.in_ok-arg-4.field-0 c.default_value-inc.result _ (with_value (number_rule (codes "inc")) (codes "1")) three inc c.in_ok-arg-4.ensures in
+    let five = with_arg c.in_ok-arg-4.field-0 c.in_ok-arg-5.field-0 c.default_value-word.result _ (with_value (number_rule (codes "word")) (codes "0")) four word c.in_ok-arg-5.ensures in
+    IfOk-weaker c.arg-6.result _ _
+    (λ command added. with_arg c.in_ok-arg-5.field-0 command c.number-stop_after.result serve_with_defaults (number_rule (codes "stop-after")) five c.number-stop_after.ensures added) c.arg-6.ensures

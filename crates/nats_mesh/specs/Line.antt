@@ -1,0 +1,82 @@
+-- The command line: its commands, and what each takes (profile).
+use Rattle.std.specs.Prelude.{◌≡◌, ℕ, ◌∷◌, [], codes, true, false, Some}
+use Rattle.clap.specs.Words.{App, Rule, Text, app_of, new_app, new_rule, rule_of}
+use Rattle.clap.specs.Words.{with_rule, with_subcommand}
+use Rattle.clap.specs.declared.builder.arg.Arg.{Arg}
+use Rattle.clap.specs.declared.builder.command.Command.{Command}
+use Rattle.clap.specs.declared.builder.command.Command.TheViews.{out-Command}
+use Rattle.clap.specs.Simple.{on_top}
+use Rattle.clap.specs.declared.builder.value_parser.ValueParser.TheVariants as parser
+
+-- the greatest number that an option may have
+abbrev pub greatest_number : ℕ
+greatest_number = 18446744073709551615
+
+-- an option that is a number, under its name
+abbrev pub number_rule : Text → Rule
+number_rule name = record (new_rule name) {
+  long = Some name;
+  value_names = 1;
+  parser = Some (parser.Unsigned 0 greatest_number);
+}
+
+-- that has to be there
+abbrev pub required_rule : Rule → Rule
+required_rule rule = record rule { required = true }
+
+-- that has this value where it is not there
+abbrev pub with_value : Rule → Text → Rule
+with_value rule value = record rule { defaults = value ∷ [] }
+
+-- how many servers, and from which port on
+abbrev pub serve_with_ports : App
+serve_with_ports = with_rule
+    (with_rule (new_app (codes "serve")) (required_rule (number_rule (codes "nodes"))))
+    (required_rule (number_rule (codes "port")))
+
+-- the shards of each, the incarnation, and the seed of the words of claims
+abbrev pub serve_with_defaults : App
+serve_with_defaults = with_rule
+    (with_rule
+    (with_rule serve_with_ports (with_value (number_rule (codes "shards")) (codes "2")))
+    (with_value (number_rule (codes "inc")) (codes "1")))
+    (with_value (number_rule (codes "word")) (codes "0"))
+
+-- `serve`, with the number of clients after which it ends
+abbrev pub serve_command : App
+serve_command = with_rule serve_with_defaults (number_rule (codes "stop-after"))
+
+-- `match`, with its two words
+abbrev pub match_command : App
+match_command = with_rule
+    (with_rule (new_app (codes "match")) (required_rule (new_rule (codes "PATTERN"))))
+    (required_rule (new_rule (codes "SUBJECT")))
+
+-- the program, which has a version and needs a command
+abbrev pub program : App
+program = on_top (λ shape. record shape {
+  has_version = true;
+  subcommand_required = true;
+}) (new_app (codes "nats_mesh"))
+
+-- the program and its four commands
+abbrev pub router : App
+router = with_subcommand
+    (with_subcommand
+    (with_subcommand
+    (with_subcommand program (new_app (codes "pipe")).top)
+    match_command.top)
+    (new_app (codes "script")).top)
+    serve_command.top
+
+-- ---- what is built of it
+
+-- the argument has this rule, and is of no other command
+pub record HasRule (arg : Arg) (rule : Rule) : Type 0 where
+  pub same : rule_of arg ≡ rule
+  pub local : arg.global ≡ false
+
+-- the command is this one, and none of its arguments is of another command
+pub record IsLine (command : Command) (app : App) : Type 0 where
+  pub same : app_of command ≡ app
+  pub local : (out-Command command).has_globals ≡ false
