@@ -79,7 +79,7 @@ module _ (issued : ℕ) (old : List Progress) (table : List (Option Claimed)) (i
 
   -- the turn is in the window
   in_window : issued < turn + WINDOW
-  in_window = let near = is.near (shard - 1) (let last = on_turn.last in let first = on_turn.first in omega arith) in let turn_is = on_turn.behind in omega arith
+  in_window = let near = is.near (shard - 1) (let last = on_turn.last in let first = on_turn.first in omega arith) in let turn_is = on_turn.follows in omega arith
 
   within : here < length table
   within = subst (λ n. here < n) (sym is.width) (place_below turn WINDOW MAX_QUEUE_NAMES index (lit< tt) next.most)

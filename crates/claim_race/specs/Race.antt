@@ -48,7 +48,7 @@ pub record IsNew (shards : ℕ) (race : RaceState) : Type 0 where
 pub record IsInTurn (race : RaceState) (shard turn : ℕ) : Type 0 where
   pub first : 1 ≤ shard
   pub last : shard ≤ shards_of race
-  pub behind : turn ≡ finished_of race shard + 1
+  pub follows : turn ≡ finished_of race shard + 1
   pub issued : turn ≤ race.issued
 
 -- the index may be one of a job, and comes behind those that the shard claimed in the turn

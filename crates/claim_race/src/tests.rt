@@ -10,7 +10,7 @@ use std::test::Fail;
 use subj::{Turn, WINDOW};
 
 /// Issues a turn where the race isn't busy.
-fn issued<R: Race>(race: &mut R) -> Result<Turn, Fail>
+fn next_turn<R: Race>(race: &mut R) -> Result<Turn, Fail>
     requires { (R.contents race.old).issued < MAX_COUNTER }
     ensures { IfOk result (λ turn. IsIssued (R.contents race.old) turn (R.contents race.new)) }
 {
@@ -26,7 +26,7 @@ fn full_window<R: Race>(rt: &impl Abort, race: R) -> Result<(), Fail>
 {
     let mut race = race;
     for before in 0..WINDOW {
-        let turn = issued(&mut race)?;
+        let turn = next_turn(&mut race)?;
         assert_eq!(rt; turn.get(), before + 1);
         race.finish(1, turn);
     }
@@ -38,7 +38,7 @@ fn full_window<R: Race>(rt: &impl Abort, race: R) -> Result<(), Fail>
         (race.finished(1).get(), race.finished(2).get()),
         (WINDOW, 1)
     );
-    assert_eq!(rt; issued(&mut race)?.get(), WINDOW + 1);
+    assert_eq!(rt; next_turn(&mut race)?.get(), WINDOW + 1);
     let busy = race.issue().err().ok_or("a busy race")?;
     assert_eq!(rt; (busy.shard, busy.finished.get()), (2, 1));
     Ok(())
@@ -49,7 +49,7 @@ fn one_winner<R: Race>(rt: &impl Abort, race: R) -> Result<(), Fail>
     requires { IsNew 2 (R.contents race) }
 {
     let mut race = race;
-    let turn = issued(&mut race)?;
+    let turn = next_turn(&mut race)?;
     assert!(rt; race.claim(2, turn, 0));
     assert!(rt; !race.claim(1, turn, 0));
     assert!(rt; race.claim(1, turn, 3));
@@ -58,7 +58,7 @@ fn one_winner<R: Race>(rt: &impl Abort, race: R) -> Result<(), Fail>
     race.finish(2, turn);
     assert!(rt; race.claim(1, turn, 63));
     race.finish(1, turn);
-    let turn = issued(&mut race)?;
+    let turn = next_turn(&mut race)?;
     assert!(rt; race.claim(1, turn, 0));
     assert!(rt; !race.claim(2, turn, 0));
     Ok(())
@@ -70,7 +70,7 @@ fn places_again<R: Race>(rt: &impl Abort, race: R) -> Result<(), Fail>
 {
     let mut race = race;
     for before in 0..WINDOW + 1 {
-        let turn = issued(&mut race)?;
+        let turn = next_turn(&mut race)?;
         assert_eq!(rt; turn.get(), before + 1);
         assert!(rt; race.claim(1, turn, 0));
         race.finish(1, turn);

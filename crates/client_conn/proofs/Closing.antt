@@ -4,7 +4,7 @@ use Rattle.std.specs.Prelude.{if◌then◌else◌}
 use Rattle.wire_cut.specs.Cut.{Answer, bytes_of}
 use Rattle.wire_cut.specs.declared.faults.CutFault.{CutFault}
 use Rattle.wire_cut.specs.declared.faults.CutFault.TheVariants.{LineTooLong, PayloadTooLong, NoCrLfAfterPayload}
-use Rattle.wire_cut.specs.Reading.{End, waits, closed, Reading, reading_of, reading_within, reading_after, Told, going_on, ending, Found, nothing, something, the_end, found, found_by, found_before, found_next, cut_awaited}
+use Rattle.wire_cut.specs.Reading.{End, waits, closed, Reading, reading_of, reading_within, reading_after, Told, going_on, ending, Found, nothing, something, the_end, finding, finding_by, finding_before, finding_next, cut_awaited}
 use Rattle.client_frames.specs.declared.awaited.Awaited.{Awaited}
 use Rattle.client_frames.specs.declared.awaited.Awaited.TheVariants as awaits
 use Rattle.client_frames.specs.declared.client_line.ClientLine.{ClientLine}
@@ -19,13 +19,13 @@ use Rattle.client_frames.specs.Streams.{StreamItem, refused, unreadable, client_
 use Rattle.client_conn.specs.declared.ask.Ask.{Ask}
 use Rattle.client_conn.specs.declared.ask.Ask.TheVariants.{Reply, Shut}
 use Rattle.client_conn.specs.declared.reader.ItemReader.{ItemReader}
-use Rattle.client_conn.specs.Items.{OpenState, options_after, items_asks, refusing}
+use Rattle.client_conn.specs.Items.{OpenState, options_after, items_asks, refusal_asks}
 use Rattle.client_conn.specs.Asks.{over, listens, asking_of, onward_of, read_onward, is_over, no_asks, is_finished}
 use Rattle.client_conn.specs.Shuts.{AsksToShut}
 use Rattle.client_conn.specs.Streams.{end_of, asking_at}
 use Rattle.client_conn.proofs.Telling.{items_asks-append}
 
-refusing_shuts : (text : ErrText) (rest : List Ask) → text_closes text ≡ true → AsksToShut (refusing text ++ rest)
+refusing_shuts : (text : ErrText) (rest : List Ask) → text_closes text ≡ true → AsksToShut (refusal_asks text ++ rest)
 refusing_shuts text rest closes = record { before = []; text = text; behind = rest; are = ap (λ b. (if b then Shut text ∷ [] else Reply (reply.Err text) ∷ []) ++ rest) closes }
 
 pub shut_behind : (front rest : List Ask) → AsksToShut rest → AsksToShut (front ++ rest)
@@ -68,18 +68,18 @@ unreadable_asks fault o = refusing_shuts (cut_fault_text fault) [] (closes fault
   closes PayloadTooLong = refl
   closes NoCrLfAfterPayload = refl
 
-next_ends : (told : List StreamItem) (next : Awaited) (behind : List ℕ) (fault : Option CutFault) (items : List StreamItem) (o : Options) → found_next client_grammar told next behind fault ≡ the_end items → AsksToShut (items_asks o items)
+next_ends : (told : List StreamItem) (next : Awaited) (behind : List ℕ) (fault : Option CutFault) (items : List StreamItem) (o : Options) → finding_next client_grammar told next behind fault ≡ the_end items → AsksToShut (items_asks o items)
 next_ends told next behind None items o is = absurd (cc)
 next_ends told next behind (Some fault) items o is =
     let same : (told ++ unreadable fault ∷ []) ≡ items = cc in
     subst (λ l. AsksToShut (items_asks o l)) same (last_asks o told (unreadable fault ∷ []) (unreadable_asks fault))
 
 before_ends : (told : Told Awaited StreamItem) (behind : List ℕ) (items : List StreamItem) (o : Options) → ((last : List StreamItem) → told ≡ ending last → AsksToShut (items_asks o last))
-    → found_before client_grammar behind told ≡ the_end items → AsksToShut (items_asks o items)
+    → finding_before client_grammar behind told ≡ the_end items → AsksToShut (items_asks o items)
 before_ends (going_on first next) behind items o some is = next_ends first next behind _ items o is
 before_ends (ending last) behind items o some is = let same : last ≡ items = cc in subst (λ l. AsksToShut (items_asks o l)) same (some last refl)
 
-look_ends : (awaited : Awaited) (unread : List ℕ) (answer : Answer) (items : List StreamItem) (o : Options) → found_by client_grammar awaited unread answer ≡ the_end items → AsksToShut (items_asks o items)
+look_ends : (awaited : Awaited) (unread : List ℕ) (answer : Answer) (items : List StreamItem) (o : Options) → finding_by client_grammar awaited unread answer ≡ the_end items → AsksToShut (items_asks o items)
 look_ends awaited unread (Ok None) items o is = absurd (cc)
 look_ends awaited unread (Ok (Some piece)) items o is = before_ends _ _ items o (λ last told. piece_ends awaited (bytes_of piece) last o told) is
 look_ends awaited unread (Err fault) items o is =
@@ -87,7 +87,7 @@ look_ends awaited unread (Err fault) items o is =
 
 -- ---- a stream that has ended
 
-by_found : (n : ℕ) (awaited : Awaited) (unread : List ℕ) (o : Options) (f : Found Awaited StreamItem) → found client_grammar awaited unread ≡ f
+by_found : (n : ℕ) (awaited : Awaited) (unread : List ℕ) (o : Options) (f : Found Awaited StreamItem) → finding client_grammar awaited unread ≡ f
     → ((next : Awaited) (behind : List ℕ) (p : Options) → (reading_within client_grammar n next behind).end ≡ closed → AsksToShut (items_asks p (reading_within client_grammar n next behind).items))
     → (reading_after (reading_within client_grammar n) awaited unread f).end ≡ closed → AsksToShut (items_asks o (reading_after (reading_within client_grammar n) awaited unread f).items)
 by_found n awaited unread o nothing looks again is = absurd (cc)
@@ -98,7 +98,7 @@ within_asks : (n : ℕ) (awaited : Awaited) (unread : List ℕ) (o : Options) �
 unfolding reading_within
 within_asks zero awaited unread o is = absurd (cc)
 within_asks (suc n) awaited unread o is =
-    by_found n awaited unread o (found client_grammar awaited unread) refl (λ next behind p there. within_asks n next behind p there) is
+    by_found n awaited unread o (finding client_grammar awaited unread) refl (λ next behind p there. within_asks n next behind p there) is
 
 -- ---- a connection that is closed
 

@@ -6,7 +6,7 @@ use Rattle.client_frames.specs.declared.info.InfoData.{InfoData}
 use Rattle.client_frames.specs.Streams.{client_grammar}
 use Rattle.client_conn.specs.declared.ask.Ask.{Ask}
 use Rattle.client_conn.specs.declared.ask.Refusal.TheVariants.{Busy, TooManySubscriptions, NumbersSpent, TooManyQueueGroups, Other}
-use Rattle.client_conn.specs.Asks.{Asking, Answer, Onward, listens, over, asked_before, asking_of, read_onward, asks_after_bytes, asks_after_answer, answered_of, answered_first, asks_after_answers, begun}
+use Rattle.client_conn.specs.Asks.{Asking, Answer, Onward, listens, over, asked_before, asking_of, read_onward, asks_after_bytes, asks_after_answer, answered_of, answered_first, asks_after_answers, first_asking}
 use Rattle.client_conn.specs.Laws.{Happening, more_bytes, an_answer, after_all, after, bytes_in, answers_in, EachAnswersAnAsk, FollowsBytesAndAnswers, AsksForStreamCommands}
 use Rattle.client_conn.proofs.Telling.{fed_reading, fed_behind}
 
@@ -56,12 +56,12 @@ follows_from (an_answer answer ∷ happenings) s settled each =
     follows_from happenings (asks_after_answer answer s) (in_any_order answer s [] each.0 ∙ ap (asks_after_answer answer) settled) each.1
     ∙ ap (asks_after_answers (answers_in happenings)) (in_any_order answer s (bytes_in happenings) each.0)
 
-pub settled_begun : (info : InfoData) → asks_after_bytes [] (begun info) ≡ begun info
+pub settled_first : (info : InfoData) → asks_after_bytes [] (first_asking info) ≡ first_asking info
 unfolding first_cr_lf reading_within
-settled_begun info = refl
+settled_first info = refl
 
 pub follows_bytes_and_answers : FollowsBytesAndAnswers
-follows_bytes_and_answers info happenings each = follows_from happenings (begun info) (settled_begun info) each
+follows_bytes_and_answers info happenings each = follows_from happenings (first_asking info) (settled_first info) each
 
 pub asks_for_stream_commands : AsksForStreamCommands
 asks_for_stream_commands info bytes = refl

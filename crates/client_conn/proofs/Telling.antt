@@ -1,6 +1,6 @@
 -- What is asked of items that are put together, and of a stream to which bytes are added.
 use Rattle.std.proofs.Common.{◌≡◌, ℕ, List, [], ◌∷◌, ◌++◌, refl, ap, sym, ◌∙◌, append_assoc}
-use Rattle.wire_cut.specs.Reading.{End, waits, closed, Reading, reading_of, with_items, resumed}
+use Rattle.wire_cut.specs.Reading.{End, waits, closed, Reading, reading_of, with_items, continuation}
 use Rattle.wire_cut.proofs.ReadingLemmas.{reads_on}
 use Rattle.client_frames.specs.declared.awaited.Awaited.{Awaited}
 use Rattle.client_frames.specs.declared.client_line.Options.{Options}
@@ -36,7 +36,7 @@ asked_before_twice front rest s = ap (λ l. let t : Asking = record s { asks = l
 
 -- ---- bytes that are added
 
-resumed_asks : (o : Options) (end : End Awaited) (bytes : List ℕ) → asking_of o (resumed client_grammar end bytes) ≡ read_onward (onward_of o end) bytes
+resumed_asks : (o : Options) (end : End Awaited) (bytes : List ℕ) → asking_of o (continuation client_grammar end bytes) ≡ read_onward (onward_of o end) bytes
 resumed_asks o (waits awaited unread) bytes = refl
 resumed_asks o closed bytes = refl
 
@@ -44,7 +44,7 @@ pub fed_reading : (o : Options) (awaited : Awaited) (bytes more : List ℕ) → 
 fed_reading o awaited bytes more =
     let r = reading_of client_grammar awaited bytes in
     ap (asked_before (items_asks o r.items)) (sym (resumed_asks (options_after r.items o) r.end more))
-    ∙ sym (told_before o r.items (resumed client_grammar r.end more))
+    ∙ sym (told_before o r.items (continuation client_grammar r.end more))
     ∙ ap (asking_of o) (reads_on client_grammar awaited bytes more)
 
 pub fed_behind : (open_asks : List Ask) (s : Asking) (bytes : List ℕ) → asks_after_bytes bytes (asked_before open_asks s) ≡ asked_before open_asks (asks_after_bytes bytes s)

@@ -55,15 +55,15 @@ asks_after_bytes bytes s = asked_before s.asks (read_onward s.onward bytes)
 -- ---- answers
 
 -- the client is told of a refusal, and its connection goes on
-abbrev pub telling : ErrText → List Ask → Onward → Asking
-telling text asks onward = record { asks = Reply (reply.Err text) ∷ asks; onward = onward }
+abbrev pub asking_with_err : ErrText → List Ask → Onward → Asking
+asking_with_err text asks onward = record { asks = Reply (reply.Err text) ∷ asks; onward = onward }
 
 -- A busy server is asked the same again. Four refusals are told; of all others nothing comes any more.
 abbrev pub refused_by : Refusal → Ask → List Ask → Onward → Asking
 refused_by Busy ask asks onward = record { asks = ask ∷ asks; onward = onward }
-refused_by TooManySubscriptions ask asks onward = telling text.TooManySubscriptions asks onward
-refused_by NumbersSpent ask asks onward = telling text.NumbersSpent asks onward
-refused_by TooManyQueueGroups ask asks onward = telling text.TooManyQueueGroups asks onward
+refused_by TooManySubscriptions ask asks onward = asking_with_err text.TooManySubscriptions asks onward
+refused_by NumbersSpent ask asks onward = asking_with_err text.NumbersSpent asks onward
+refused_by TooManyQueueGroups ask asks onward = asking_with_err text.TooManyQueueGroups asks onward
 refused_by Other ask asks onward = nothing_more
 
 -- what a server says of an ask: it is done, or refused
@@ -85,8 +85,8 @@ asks_after_answer answer s = answered_first answer s.asks s.onward
 -- ---- a connection
 
 -- INFO is asked for first
-abbrev pub begun : InfoData → Asking
-begun info = record { asks = Reply (reply.Info info) ∷ []; onward = listens first_options awaits.Line [] }
+abbrev pub first_asking : InfoData → Asking
+first_asking info = record { asks = Reply (reply.Info info) ∷ []; onward = listens first_options awaits.Line [] }
 
 abbrev pub is_over : Onward → Bool
 is_over (listens options awaited unread) = false
@@ -106,8 +106,8 @@ asks_after_answers [] s = s
 asks_after_answers (answer ∷ answers) s = asks_after_answers answers (asks_after_answer answer s)
 
 -- what stands to be asked after these bytes and these answers
-abbrev pub asking : InfoData → List ℕ → List Answer → Asking
-asking info bytes answers = asks_after_answers answers (asks_after_bytes bytes (begun info))
+abbrev pub asking_after : InfoData → List ℕ → List Answer → Asking
+asking_after info bytes answers = asks_after_answers answers (asks_after_bytes bytes (first_asking info))
 
 -- ---- a connection as its callers see it
 

@@ -45,20 +45,20 @@ options_after (item ∷ items) options = options_after items (options_behind ite
 -- ---- one item
 
 -- in verbose mode `+OK` comes before what a command asks for itself
-abbrev pub confirmed : Options → List Ask → List Ask
-confirmed options own = if options.verbose then Reply reply.Ok ∷ own else own
+abbrev pub with_confirmation : Options → List Ask → List Ask
+with_confirmation options own = if options.verbose then Reply reply.Ok ∷ own else own
 
 -- a text that closes shuts the connection
-abbrev pub refusing : ErrText → List Ask
-refusing text = if text_closes text then Shut text ∷ [] else Reply (reply.Err text) ∷ []
+abbrev pub refusal_asks : ErrText → List Ask
+refusal_asks text = if text_closes text then Shut text ∷ [] else Reply (reply.Err text) ∷ []
 
 -- CONNECT is confirmed by the options that it chooses. A publication asks for nothing before its payload is there.
 abbrev pub command_asks : Options → ClientLine → List Ask
-command_asks options (line.Connect chosen) = confirmed chosen []
+command_asks options (line.Connect chosen) = with_confirmation chosen []
 command_asks options (line.Pub head) = []
 command_asks options (line.PubBad size) = []
-command_asks options (line.Sub pattern queue sid) = confirmed options (Subscribe (record { pattern = pattern; queue = queue }) sid ∷ [])
-command_asks options (line.Unsub sid max) = confirmed options (Unsubscribe sid max ∷ [])
+command_asks options (line.Sub pattern queue sid) = with_confirmation options (Subscribe (record { pattern = pattern; queue = queue }) sid ∷ [])
+command_asks options (line.Unsub sid max) = with_confirmation options (Unsubscribe sid max ∷ [])
 command_asks options line.Ping = Reply reply.Pong ∷ []
 command_asks options line.Pong = []
 
@@ -71,9 +71,9 @@ publication_of message options = record { message = message; echo = options.echo
 
 abbrev pub item_asks : Options → StreamItem → List Ask
 item_asks options (asked command) = command_asks options command
-item_asks options (published head payload) = confirmed options (Publish (publication_of (message_of head payload) options) ∷ [])
-item_asks options (refused fault) = refusing (line_fault_text fault)
-item_asks options (unreadable fault) = refusing (cut_fault_text fault)
+item_asks options (published head payload) = with_confirmation options (Publish (publication_of (message_of head payload) options) ∷ [])
+item_asks options (refused fault) = refusal_asks (line_fault_text fault)
+item_asks options (unreadable fault) = refusal_asks (cut_fault_text fault)
 
 -- what stands to be asked of one item, and the options by which the next ones ask
 pub record OpenState : Type 0 where

@@ -5,7 +5,7 @@ use Rattle.client_frames.specs.declared.server_frames.ReplyFrame.TheVariants as 
 use Rattle.client_frames.specs.Streams.{stream_commands}
 use Rattle.client_conn.specs.declared.ask.Ask.TheVariants.{Reply}
 use Rattle.client_conn.specs.Items.{first_options, items_asks}
-use Rattle.client_conn.specs.Asks.{Asking, Answer, asks_after_bytes, asks_after_answer, begun, asking}
+use Rattle.client_conn.specs.Asks.{Asking, Answer, asks_after_bytes, asks_after_answer, first_asking, asking_after}
 
 -- what happens to a connection
 pub data Happening : Type 0 where
@@ -42,9 +42,9 @@ EachAnswersAnAsk (happening ∷ happenings) s = MayHappen happening s × EachAns
 
 -- What stands to be asked is a function of all bytes together and of all answers.
 abbrev pub FollowsBytesAndAnswers : Type 0
-FollowsBytesAndAnswers = (info : InfoData) (happenings : List Happening) → EachAnswersAnAsk happenings (begun info)
-    → after_all happenings (begun info) ≡ asking info (bytes_in happenings) (answers_in happenings)
+FollowsBytesAndAnswers = (info : InfoData) (happenings : List Happening) → EachAnswersAnAsk happenings (first_asking info)
+    → after_all happenings (first_asking info) ≡ asking_after info (bytes_in happenings) (answers_in happenings)
 
 -- Where each ask is done, INFO is asked for and then what the stream commands ask for.
 abbrev pub AsksForStreamCommands : Type 0
-AsksForStreamCommands = (info : InfoData) (bytes : List ℕ) → (asking info bytes []).asks ≡ Reply (reply.Info info) ∷ items_asks first_options (stream_commands bytes)
+AsksForStreamCommands = (info : InfoData) (bytes : List ℕ) → (asking_after info bytes []).asks ≡ Reply (reply.Info info) ∷ items_asks first_options (stream_commands bytes)

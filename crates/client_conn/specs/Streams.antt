@@ -2,7 +2,7 @@
 use Rattle.std.specs.Prelude.{◌≡◌, ℕ, suc, ◌<◌, ◌≤◌, true, false, List, [], ◌∷◌, ◌++◌, length, Option, None, if◌then◌else◌}
 use Rattle.std.specs.Io.KnownBytes.{Consumes, IsAtEnd}
 use Rattle.subj.specs.Messages.{Content}
-use Rattle.wire_cut.specs.Reading.{End, waits, closed, Reading, reading_of, with_items, ended_by, StandsAt, Found, nothing, something, the_end, found}
+use Rattle.wire_cut.specs.Reading.{End, waits, closed, Reading, reading_of, with_items, last_reading, StandsAt, Found, nothing, something, the_end, finding}
 use Rattle.client_frames.specs.declared.awaited.Awaited.{Awaited}
 use Rattle.client_frames.specs.declared.awaited.Awaited.TheVariants as awaits
 use Rattle.client_frames.specs.declared.client_line.PubHead.{PubHead}
@@ -20,7 +20,7 @@ end_of r = if r.ended then closed else waits r.awaited r.cutter.unread
 -- what is told from there
 abbrev pub reading_at : End Awaited → Reading Awaited StreamItem
 reading_at (waits awaited unread) = reading_of client_grammar awaited unread
-reading_at closed = ended_by []
+reading_at closed = last_reading []
 
 -- more bytes are there
 abbrev pub longer : List ℕ → End Awaited → End Awaited
@@ -103,11 +103,11 @@ pub record HasMoved (looked : Looked) (before stand : OpenState) (f : Found Awai
   pub moves : Moves looked old new
 
 abbrev pub HasLooked : Looked → OpenState → OpenState → End Awaited → End Awaited → Type 0
-HasLooked looked before stand (waits awaited unread) new = HasMoved looked before stand (found client_grammar awaited unread) (waits awaited unread) new
+HasLooked looked before stand (waits awaited unread) new = HasMoved looked before stand (finding client_grammar awaited unread) (waits awaited unread) new
 HasLooked Waits before stand closed new = (new ≡ closed) × (stand ≡ before)
 HasLooked Announced before stand closed new = ⊥
 HasLooked Told before stand closed new = ⊥
 
 -- the same of a reader that reads
 abbrev pub HasLookedAt : Looked → OpenState → OpenState → ItemReader → ItemReader → Type 0
-HasLookedAt looked before stand old new = HasMoved looked before stand (found client_grammar old.awaited old.cutter.unread) (end_of old) (end_of new)
+HasLookedAt looked before stand old new = HasMoved looked before stand (finding client_grammar old.awaited old.cutter.unread) (end_of old) (end_of new)

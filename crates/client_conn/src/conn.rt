@@ -3,7 +3,7 @@
 ghost use Rattle.std.specs.Prelude.{◌≡◌, [], IsTrue, IsSome, IsOkAnd, IfOk, OnOk, OnErr, slice_get, option_copied, Err};
 ghost use Rattle.std.specs.Borrow.{sem};
 ghost use Rattle.std.specs.Io.KnownBytes.{Keeps};
-ghost use Rattle.client_conn.specs.Asks.{begun, asks_after_bytes, asks_after_answer, is_finished};
+ghost use Rattle.client_conn.specs.Asks.{first_asking, asks_after_bytes, asks_after_answer, is_finished};
 ghost use Rattle.client_conn.specs.Feeding.{HasRead, CountsRead, AnswersClosed};
 ghost use Rattle.client_conn.specs.Streams.{IsInStep, asking_at, end_of};
 ghost use Rattle.client_conn.specs.Shown.{Stays};
@@ -64,7 +64,7 @@ fn advance(reader: &mut ItemReader, open_asks: &mut OpenAsks) -> Result<(), Allo
 impl Conn {
     /// The connection of a client that is told this first. It takes no memory before bytes come.
     pub fn new(alloc: Global, info: InfoData) -> Conn
-        ensures { result.asking ≡ begun info }
+        ensures { result.asking ≡ first_asking info }
     {
         Conn {
             reader: ItemReader::new(alloc),

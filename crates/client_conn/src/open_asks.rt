@@ -6,7 +6,7 @@ ghost use Rattle.client_frames.specs.Streams.{asked};
 ghost use Rattle.client_conn.specs.declared.ask.Ask.{Ask};
 ghost use Rattle.client_conn.specs.declared.ask.Ask.TheVariants as ask;
 ghost use Rattle.client_conn.specs.Asks.{no_asks};
-ghost use Rattle.client_conn.specs.Items.{asked_by, confirmed, first_options, publication_of, refusing};
+ghost use Rattle.client_conn.specs.Items.{asked_by, with_confirmation, first_options, publication_of, refusal_asks};
 
 use crate::ask::Ask;
 use client_frames::{ClientLine, ErrText, Options, ReplyFrame};
@@ -36,7 +36,7 @@ impl Model for OpenAsks {
 
 /// Asks for `+OK` in verbose mode, before what a command asks for itself.
 fn confirm(confirmation: &mut Option<Ask>, options: Options)
-    ensures { (own : List Ask) → option_to_list confirmation.new ++ own ≡ confirmed options own }
+    ensures { (own : List Ask) → option_to_list confirmation.new ++ own ≡ with_confirmation options own }
 {
     if options.verbose {
         *confirmation = Some(Ask::Reply(ReplyFrame::Ok));
@@ -101,7 +101,7 @@ impl OpenAsks {
 
     /// What a publication asks for stands in place of what stood.
     pub fn ask_publication(&mut self, message: Message)
-        ensures { self.new ≡ record self.old { asks = confirmed self.old.options (ask.Publish (publication_of message self.old.options) ∷ []) } }
+        ensures { self.new ≡ record self.old { asks = with_confirmation self.old.options (ask.Publish (publication_of message self.old.options) ∷ []) } }
     {
         let publication = Pub {
             message,
@@ -113,7 +113,7 @@ impl OpenAsks {
 
     /// What a refusal with this text asks for stands in place of what stood.
     pub fn refuse(&mut self, text: ErrText)
-        ensures { self.new ≡ record self.old { asks = refusing text } }
+        ensures { self.new ≡ record self.old { asks = refusal_asks text } }
     {
         if text.closes() {
             self.ask_alone(Ask::Shut(text));

@@ -1,12 +1,12 @@
 //! Reading what a client's stream tells.
 
 ghost use Rattle.std.specs.Prelude.{◌≡◌, ◌≤◌, length, false, true, [], None, Some, IfOk, OnOk, OnErr};
-ghost use Rattle.wire_cut.specs.Reading.{waits, found_before};
+ghost use Rattle.wire_cut.specs.Reading.{waits, finding_before};
 ghost use Rattle.client_frames.specs.Streams.{client_grammar, command_told, refusal_told};
 ghost use Rattle.client_frames.specs.declared.awaited.Awaited.TheVariants as awaits;
 ghost use Rattle.std.specs.Io.KnownBytes.{Keeps};
 ghost use Rattle.subj.specs.declared.limits.TheConstants.{MAX_PAYLOAD};
-ghost use Rattle.client_conn.specs.Items.{refusing};
+ghost use Rattle.client_conn.specs.Items.{refusal_asks};
 ghost use Rattle.client_conn.specs.declared.reader.Looked.TheVariants as looks;
 ghost use Rattle.client_conn.specs.Feeding.{CountsRead, ClosedWhere};
 ghost use Rattle.client_conn.specs.Streams.{end_of, longer, IsInStep, IsBehindLine, AwaitsPayload, AwaitsLostPayload, IsMessageOf, TellsFound, HasLooked, HasLookedAt, HasFilled};
@@ -219,7 +219,7 @@ impl ItemReader {
     /// The client is told this text, and nothing is read behind it.
     fn end_with(&mut self, text: ErrText, open_asks: &mut OpenAsks) -> Looked
         ensures told { result ≡ looks.Told }
-        ensures asks { open_asks.new ≡ record open_asks.old { asks = refusing text } }
+        ensures asks { open_asks.new ≡ record open_asks.old { asks = refusal_asks text } }
         ensures ended { self.new ≡ record self.old { ended = true } }
     {
         self.ended = true;
@@ -230,7 +230,7 @@ impl ItemReader {
     /// What a command tells whose line was used up.
     fn tell(&mut self, command: ClientLine, open_asks: &mut OpenAsks) -> Looked
         requires behind { IsBehindLine self.old }
-        ensures tells { TellsFound result open_asks.old open_asks.new (found_before client_grammar self.old.cutter.unread (command_told command)) (end_of self.new) }
+        ensures tells { TellsFound result open_asks.old open_asks.new (finding_before client_grammar self.old.cutter.unread (command_told command)) (end_of self.new) }
         ensures step { IsInStep self.new }
     {
         match command {
@@ -258,7 +258,7 @@ impl ItemReader {
     /// A line is refused, and nothing is read behind it where its text closes.
     fn refuse(&mut self, fault: LineFault, open_asks: &mut OpenAsks) -> Looked
         requires behind { IsBehindLine self.old }
-        ensures tells { TellsFound result open_asks.old open_asks.new (found_before client_grammar self.old.cutter.unread (refusal_told fault)) (end_of self.new) }
+        ensures tells { TellsFound result open_asks.old open_asks.new (finding_before client_grammar self.old.cutter.unread (refusal_told fault)) (end_of self.new) }
         ensures step { IsInStep self.new }
     {
         let text = ErrText::of_line(fault);

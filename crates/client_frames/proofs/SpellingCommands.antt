@@ -17,7 +17,7 @@ use Rattle.client_frames.specs.declared.faults.LineFault.TheVariants.{UnknownOp,
 use Rattle.client_frames.specs.Arguments.{Arguments, two_or_three, count_of}
 use Rattle.client_frames.specs.Choices.{options_of}
 use Rattle.client_frames.specs.Operations.{word_of, operations, operation_among, operation_of}
-use Rattle.client_frames.specs.Lines.{Meaning, line_meaning, fields_meaning, operation_meaning, connection_by, publication_fault, publication_of, publication_sized, membership_fault, subscription_of, maximum, maximum_of, closing, closing_of}
+use Rattle.client_frames.specs.Lines.{Meaning, line_meaning, fields_meaning, operation_meaning, connection_by, publication_fault, publication_of, publication_sized, membership_fault, subscription_of, maximum, maximum_of, unsubscription, unsubscription_of}
 use Rattle.client_frames.specs.Spelling.{outer_fields, SpellsPub, SpellsSub, SpellsMaximum, SpellsUnsub, operation_for, TextSpells, IsOperationOn, Spells, MeansWhatItSpells, SpellsWhatItMeans, SpellsOneCommand}
 use Rattle.client_frames.specs.Causes.{HasBadArgs, NamesNoOperation, TextIsRefused, IsRefusedBehind, HasCause, IsRefusedForItsCause, HasTheCauseItIsRefusedFor, IsItsCause, HasOneCause}
 use Rattle.client_frames.proofs.Texts.{text_behind}
@@ -89,9 +89,9 @@ maximum_by fields (Some max) some = ap maximum_of some.1 ∙ ap maximum some.2
 abbrev closing_by : Bool → List ℕ → Option ℕ → Meaning
 closing_by bad sid max = cond bad (Err BadArgs) (Ok (Unsub sid max))
 
-unsub_by : (arguments : List (List ℕ)) (sid : List ℕ) (max : Option ℕ) → SpellsUnsub arguments sid max → closing_of arguments ≡ Ok (Unsub sid max)
+unsub_by : (arguments : List (List ℕ)) (sid : List ℕ) (max : Option ℕ) → SpellsUnsub arguments sid max → unsubscription_of arguments ≡ Ok (Unsub sid max)
 unsub_by arguments sid max spelt =
-    ap closing_of spelt.are ∙ ap (closing sid) (maximum_by spelt.behind max spelt.is_maximum) ∙ ap (λ b. closing_by b sid max) spelt.is_sid
+    ap unsubscription_of spelt.are ∙ ap (unsubscription sid) (maximum_by spelt.behind max spelt.is_maximum) ∙ ap (λ b. closing_by b sid max) spelt.is_sid
 
 text_means : (text : List ℕ) (arguments : List (List ℕ)) (command : ClientLine) → TextSpells text arguments command → operation_meaning (Some (operation_for command)) text arguments ≡ Ok command
 text_means text arguments (Connect options) spelt = connect_by text arguments (Some options) spelt.some spelt.chosen
@@ -166,21 +166,21 @@ judged_sub text (a ∷ b ∷ []) = judged_sub_by text a None b _ _ refl refl
 judged_sub text (a ∷ b ∷ c ∷ []) = judged_sub_by text a (Some b) c _ _ refl refl
 judged_sub text (a ∷ b ∷ c ∷ d ∷ more) = refused BadArgs (no_sub (a ∷ b ∷ c ∷ d ∷ more) refl) refl
 
-no_unsub : (arguments : List (List ℕ)) → closing_of arguments ≡ Err BadArgs → HasBadArgs operation.Unsub arguments
+no_unsub : (arguments : List (List ℕ)) → unsubscription_of arguments ≡ Err BadArgs → HasBadArgs operation.Unsub arguments
 no_unsub arguments is sid max spells = let means = unsub_by arguments sid max spells in absurd (cc (means, is))
 
 judged_unsub_by : (text sid : List ℕ) (behind : List (List ℕ)) (max : Option ℕ) (bad : Bool) → SpellsMaximum behind max → is_some (sid_fault sid) ≡ bad → Judged operation.Unsub text (sid ∷ behind)
 judged_unsub_by text sid behind max true is_maximum is_sid = refused BadArgs (no_unsub (sid ∷ behind) bad) bad
   where
     bad : operation_meaning (Some operation.Unsub) text (sid ∷ behind) ≡ Err BadArgs
-    bad = ap (closing sid) (maximum_by behind max is_maximum) ∙ ap (λ b. closing_by b sid max) is_sid
+    bad = ap (unsubscription sid) (maximum_by behind max is_maximum) ∙ ap (λ b. closing_by b sid max) is_sid
 judged_unsub_by text sid behind max false is_maximum is_sid = spelt (Unsub sid max) refl (record { behind = behind; are = refl; is_sid = is_sid; is_maximum = is_maximum })
 
 judged_maximum : (text sid digits : List ℕ) (max : Option ℕ) → count_of digits ≡ max → Judged operation.Unsub text (sid ∷ digits ∷ [])
 judged_maximum text sid digits None is = refused BadArgs (no_unsub (sid ∷ digits ∷ []) bad) bad
   where
     bad : operation_meaning (Some operation.Unsub) text (sid ∷ digits ∷ []) ≡ Err BadArgs
-    bad = ap (λ max. closing sid (maximum max)) is
+    bad = ap (λ max. unsubscription sid (maximum max)) is
 judged_maximum text sid digits (Some max) is = judged_unsub_by text sid (digits ∷ []) (Some max) _ (digits, refl, is) refl
 
 judged_unsub : (text : List ℕ) (arguments : List (List ℕ)) → Judged operation.Unsub text arguments

@@ -88,13 +88,13 @@ maximum_of [] = Ok None
 maximum_of (digits ∷ []) = maximum (count_of digits)
 maximum_of (digits ∷ another ∷ more) = Err BadArgs
 
-abbrev pub closing : List ℕ → Result (Option ℕ) LineFault → Meaning
-closing sid (Err fault) = Err fault
-closing sid (Ok max) = if is_some (sid_fault sid) then Err BadArgs else Ok (Unsub sid max)
+abbrev pub unsubscription : List ℕ → Result (Option ℕ) LineFault → Meaning
+unsubscription sid (Err fault) = Err fault
+unsubscription sid (Ok max) = if is_some (sid_fault sid) then Err BadArgs else Ok (Unsub sid max)
 
-abbrev pub closing_of : List (List ℕ) → Meaning
-closing_of [] = Err BadArgs
-closing_of (sid ∷ behind) = closing sid (maximum_of behind)
+abbrev pub unsubscription_of : List (List ℕ) → Meaning
+unsubscription_of [] = Err BadArgs
+unsubscription_of (sid ∷ behind) = unsubscription sid (maximum_of behind)
 
 -- ---- all operations
 
@@ -104,7 +104,7 @@ operation_meaning None text arguments = Err UnknownOp
 operation_meaning (Some operation.Connect) text arguments = connection_of text arguments
 operation_meaning (Some operation.Pub) text arguments = publication_of (two_or_three arguments)
 operation_meaning (Some operation.Sub) text arguments = subscription_of (two_or_three arguments)
-operation_meaning (Some operation.Unsub) text arguments = closing_of arguments
+operation_meaning (Some operation.Unsub) text arguments = unsubscription_of arguments
 operation_meaning (Some operation.Ping) text arguments = Ok Ping
 operation_meaning (Some operation.Pong) text arguments = Ok Pong
 

@@ -32,18 +32,18 @@ size_awaited (LostPayload size) = Some size
 
 -- ---- what a piece tells: NATS documentation, "Client Protocol"; when a refusal closes is this project's profile
 
-abbrev pub asking : ClientLine → Told Awaited StreamItem
-asking command = going_on (asked command ∷ []) Line
+abbrev pub told_at_once : ClientLine → Told Awaited StreamItem
+told_at_once command = going_on (asked command ∷ []) Line
 
 -- a publication is told once its payload is there
 abbrev pub command_told : ClientLine → Told Awaited StreamItem
 command_told (Pub head) = going_on [] (Payload head)
 command_told (PubBad size) = going_on [] (LostPayload size)
-command_told (Connect options) = asking (Connect options)
-command_told (Sub pattern queue sid) = asking (Sub pattern queue sid)
-command_told (Unsub sid max) = asking (Unsub sid max)
-command_told Ping = asking Ping
-command_told Pong = asking Pong
+command_told (Connect options) = told_at_once (Connect options)
+command_told (Sub pattern queue sid) = told_at_once (Sub pattern queue sid)
+command_told (Unsub sid max) = told_at_once (Unsub sid max)
+command_told Ping = told_at_once Ping
+command_told Pong = told_at_once Pong
 
 abbrev pub refusal_told : LineFault → Told Awaited StreamItem
 refusal_told fault =

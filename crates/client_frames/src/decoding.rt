@@ -5,7 +5,7 @@ ghost use Rattle.std.specs.Option.{option_copied};
 ghost use Rattle.subj.specs.Names.{sid_fault};
 ghost use Rattle.line_fields.specs.Fields.{fields};
 ghost use Rattle.client_frames.specs.Arguments.{two_or_three};
-ghost use Rattle.client_frames.specs.Lines.{ClientLineMeans, line_meaning, operation_meaning, connection_of, publication_of, subscription_of, closing_of, maximum_of, reply_fault, queue_fault};
+ghost use Rattle.client_frames.specs.Lines.{ClientLineMeans, line_meaning, operation_meaning, connection_of, publication_of, subscription_of, unsubscription_of, maximum_of, reply_fault, queue_fault};
 
 use crate::arguments::Arguments;
 use crate::choices::read_options;
@@ -169,7 +169,7 @@ fn decode_sub(alloc: Global, text: &[u8]) -> Result<ClientLine, Failure<LineFaul
 }
 
 fn decode_unsub(alloc: Global, text: &[u8]) -> Result<ClientLine, Failure<LineFault>>
-    ensures { ClientLineMeans (closing_of (fields text.now)) result }
+    ensures { ClientLineMeans (unsubscription_of (fields text.now)) result }
 {
     let Some((sid, behind)) = split_field(text) else {
         return Err(Failure::Refused(LineFault::BadArgs));

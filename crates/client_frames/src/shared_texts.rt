@@ -70,7 +70,7 @@ impl SharedTexts {
         }
     }
 
-    /// The text of a subject that is done with is the next one's most often.
+    /// Keeps a subject that is not used any more: where the next line names the same one, its text is not copied again.
     pub fn keep(&mut self, subject: Subject) {
         self.last_subject = Some(subject);
     }

@@ -45,8 +45,8 @@ queue_q = codes "q"
 abbrev pub plain : List ℕ → Key
 plain pattern = record { pattern = pattern; queue = None }
 
-abbrev pub grouped : List ℕ → Key
-grouped pattern = record { pattern = pattern; queue = Some (codes "q") }
+abbrev pub group_key : List ℕ → Key
+group_key pattern = record { pattern = pattern; queue = Some (codes "q") }
 
 abbrev pub n1 : ℕ → Server
 n1 shards = record { names = codes "n1" ∷ codes "n2" ∷ codes "n3" ∷ []; me = 0; inc = 5; shards = shards }
@@ -89,7 +89,7 @@ to_n3 queues = to_peer (codes "n3") 1 (Msg hello queues)
 
 -- the weights 1, 2 and 1
 abbrev pub one_two_one : State
-one_two_one = hub ((grouped foo, 1) ∷ []) (peer ((grouped foo, 2) ∷ []) []) (peer ((grouped foo, 1) ∷ []) [])
+one_two_one = hub ((group_key foo, 1) ∷ []) (peer ((group_key foo, 2) ∷ []) []) (peer ((group_key foo, 1) ∷ []) [])
 
 abbrev pub nobody : State
 nobody = hub [] (peer [] []) (peer [] [])
@@ -104,13 +104,13 @@ pub record Weighs : Type 0 where
 -- ---- a publication is split over the cluster: n1 has foo of q, n2 has foo and * of q, n3 has > plainly
 
 abbrev pub n2_view : View
-n2_view = (grouped (codes "*"), 1) ∷ (grouped foo, 1) ∷ []
+n2_view = (group_key (codes "*"), 1) ∷ (group_key foo, 1) ∷ []
 
 abbrev pub n3_view : View
 n3_view = (plain (codes ">"), 1) ∷ []
 
 abbrev pub three : State
-three = hub ((grouped foo, 1) ∷ []) (peer n2_view []) (peer n3_view [])
+three = hub ((group_key foo, 1) ∷ []) (peer n2_view []) (peer n3_view [])
 
 pub record Splits : Type 0 where
   -- n2 was picked
@@ -123,14 +123,14 @@ pub record Splits : Type 0 where
 
 -- ---- an outbox with and without room
 
-abbrev pub waiting : ℕ → List Frame
-waiting count = replicate count (to_n2 [])
+abbrev pub frames_to : ℕ → List Frame
+frames_to count = replicate count (to_n2 [])
 
 abbrev pub nearly_full : State
-nearly_full = hub ((grouped foo, 1) ∷ []) (peer n2_view (waiting 1023)) (peer n3_view [])
+nearly_full = hub ((group_key foo, 1) ∷ []) (peer n2_view (frames_to 1023)) (peer n3_view [])
 
 abbrev pub full : State
-full = hub ((grouped foo, 1) ∷ []) (peer n2_view (waiting ROUTE_FRAMES)) (peer n3_view [])
+full = hub ((group_key foo, 1) ∷ []) (peer n2_view (frames_to ROUTE_FRAMES)) (peer n3_view [])
 
 abbrev pub opens : List ℕ → Delta
 opens pattern = record { key = plain pattern; up = true }
@@ -184,8 +184,8 @@ pub record CountsQueueNames : Type 0 where
 abbrev pub from_n2 : ℕ → ℕ → ℕ → Body → Event
 from_n2 inc to_inc number body = Receive (record { from = codes "n2"; inc = inc; to = codes "n1"; to_inc = to_inc; number = number; body = body }) (0 ∷ 0 ∷ 0 ∷ 0 ∷ 0 ∷ 0 ∷ 0 ∷ 0 ∷ [])
 
-abbrev pub routed : ℕ → ℕ → Job
-routed inc number = record { turn = 1; id = record { origin = codes "n2"; inc = inc; number = number }; message = hello; publisher = None; echo = true; queues = queue_q ∷ [] }
+abbrev pub routed_message : ℕ → ℕ → Job
+routed_message inc number = record { turn = 1; id = record { origin = codes "n2"; inc = inc; number = number }; message = hello; publisher = None; echo = true; queues = queue_q ∷ [] }
 
 abbrev pub message : Body
 message = Msg hello (queue_q ∷ [])
@@ -196,18 +196,18 @@ known_n2 = hub [] (record { seen = 7; mark = 9; heard = record { mark = 3; keys 
 
 pub record TakesFrames : Type 0 where
   -- a repeated frame, also after the session has ended and has come up again
-  pub first : Gives (n1 1) three (from_n2 7 5 1 message) (Routed (routed 7 1))
+  pub first : Gives (n1 1) three (from_n2 7 5 1 message) (Routed (routed_message 7 1))
   pub repeated : Refuses (n1 1) (after_all (n1 1) three (from_n2 7 5 1 message ∷ [])) (from_n2 7 5 1 message) Late
   pub rejoined : Refuses (n1 1) (after_all (n1 1) three (from_n2 7 5 1 message ∷ Cut 1 ∷ Up 1 7 ∷ [])) (from_n2 7 5 1 message) Late
   -- a number at the mark, and below it, of a frame that never came
   pub equal : Refuses (n1 1) known_n2 (from_n2 7 5 9 message) Late
   pub below : Refuses (n1 1) known_n2 (from_n2 7 5 8 message) Late
   -- numbers may be left out
-  pub skips : Gives (n1 1) known_n2 (from_n2 7 5 12 message) (Routed (routed 7 12))
+  pub skips : Gives (n1 1) known_n2 (from_n2 7 5 12 message) (Routed (routed_message 7 12))
   -- a frame for an incarnation before this one
   pub old : Refuses (n1 1) three (from_n2 7 4 1 message) OtherMe
   -- a greater incarnation begins anew, and then the one before is stale
-  pub anew : Gives (n1 1) known_n2 (from_n2 8 5 1 message) (Routed (routed 8 1))
+  pub anew : Gives (n1 1) known_n2 (from_n2 8 5 1 message) (Routed (routed_message 8 1))
   pub stale : Refuses (n1 1) (after_all (n1 1) known_n2 (from_n2 8 5 1 message ∷ [])) (from_n2 7 5 10 message) StaleOrigin
 
 pub record HearsInOrder : Type 0 where
@@ -218,5 +218,5 @@ pub record HearsInOrder : Type 0 where
 
 -- ---- a session comes up: a snapshot is all that waits
 pub record ComesUp : Type 0 where
-  pub told : Gives (n1 1) full (Up 1 8) (IsUp (record { from = codes "n1"; inc = 5; to = codes "n2"; to_inc = 8; number = 0; body = Snapshot ((grouped foo, 1) ∷ []) }))
+  pub told : Gives (n1 1) full (Up 1 8) (IsUp (record { from = codes "n1"; inc = 5; to = codes "n2"; to_inc = 8; number = 0; body = Snapshot ((group_key foo, 1) ∷ []) }))
   pub emptied : Gives (n1 1) (after_all (n1 1) full (Cut 1 ∷ Up 1 7 ∷ [])) (publish 2) (Issued (job 1 []) (to_n2 (queue_q ∷ []) ∷ to_n3 [] ∷ []))

@@ -12,7 +12,7 @@ use Rattle.client_frames.specs.declared.info.InfoData.{InfoData}
 use Rattle.client_frames.specs.declared.server_frames.ReplyFrame.TheVariants as reply
 use Rattle.client_conn.specs.declared.ask.Ask.{Ask}
 use Rattle.client_conn.specs.declared.ask.Ask.TheVariants as ask
-use Rattle.client_conn.specs.Asks.{asking}
+use Rattle.client_conn.specs.Asks.{asking_after}
 use Rattle.outbox.specs.Views.{bytes_of_all}
 use Rattle.sub_table.specs.declared.Subscription.{Subscription}
 use Rattle.interest.specs.Matches.{names_in}
@@ -137,7 +137,7 @@ asks_said (a ∷ asks) s = and_then (ask_said a s) (asks_said asks)
 
 -- what a connection asks of these bytes where each ask is done: a refused one is told in its place
 abbrev pub pipe_said : List ℕ → Output
-pipe_said bytes = asks_said (asking pipe_info bytes []).asks at_first
+pipe_said bytes = asks_said (asking_after pipe_info bytes []).asks at_first
 
 -- what is written of a stream
 abbrev pub pipe_text : List ℕ → List ℕ

@@ -3,7 +3,7 @@
 ghost use Rattle.std.specs.Prelude.{◌≡◌, ◌≤◌, ◌+◌, [], IfOk, OnOk, OnErr};
 ghost use Rattle.wire_cut.specs.Flow.{AppendsFront};
 ghost use Rattle.mesh_pipe.specs.PipeTheorem.{Pipes, CountsReads, CountsFailedWrites, all_reads};
-ghost use Rattle.client_conn.specs.Asks.{begun};
+ghost use Rattle.client_conn.specs.Asks.{first_asking};
 ghost use Rattle.mesh_pipe.specs.PipeText.{pipe_info};
 ghost use Rattle.mesh_pipe.specs.PipeStates.{IsNew};
 ghost use Rattle.mesh_pipe.specs.PipeRuns.{IsInStep, IsFlushed, CountsWrites, HasLooked, Works, AnswersAll};
@@ -58,7 +58,7 @@ fn serve<S: Source, W: Sink>(
     source: &mut S,
     sink: &mut W,
 ) -> Result<PipeEnd, PipeFault>
-    requires asks { conn.old.asking ≡ begun pipe_info }
+    requires asks { conn.old.asking ≡ first_asking pipe_info }
     requires new { IsNew server.old }
     ensures text { Pipes result (S.remaining source.old) (S.remaining source.new) (W.written sink.old) (W.written sink.new) }
     ensures most_reads { S.reads source.new ≤ S.reads source.old + all_reads }

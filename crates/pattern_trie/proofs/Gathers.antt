@@ -14,27 +14,27 @@ use Rattle.list_laws.specs.Lists.{is_empty}
 use Rattle.pattern_trie.specs.Nodes.{Nodes, has_mark, below_at, count_of, one_if}
 use Rattle.pattern_trie.specs.Beginnings.{is_beginning, is_before_dot, beginning_with_rest}
 use Rattle.pattern_trie.specs.Held.{Held, Holds, count_below, values_for}
-use Rattle.pattern_trie.specs.Matchers.{matchers, text_with_token, text_with_tokens, gathered}
+use Rattle.pattern_trie.specs.Matchers.{matchers, text_with_token, text_with_tokens, values_under}
 use Rattle.pattern_trie.proofs.Lists.{begins_itself}
 
 -- ---- lists of token lists
 
-gathered_append : {V : Type 0} (held : List (Held V)) (path : List ℕ) (ms ns : List (List (List ℕ))) → gathered held path (ms ++ ns) ≡ gathered held path ms ++ gathered held path ns
-gathered_append held path [] ns = refl
-gathered_append held path (m ∷ ms) ns = ap (λ vs. values_for (text_with_tokens path m) held ++ vs) (gathered_append held path ms ns) ∙ sym (append_assoc (values_for (text_with_tokens path m) held) (gathered held path ms) (gathered held path ns))
+values_under_append : {V : Type 0} (held : List (Held V)) (path : List ℕ) (ms ns : List (List (List ℕ))) → values_under held path (ms ++ ns) ≡ values_under held path ms ++ values_under held path ns
+values_under_append held path [] ns = refl
+values_under_append held path (m ∷ ms) ns = ap (λ vs. values_for (text_with_tokens path m) held ++ vs) (values_under_append held path ms ns) ∙ sym (append_assoc (values_for (text_with_tokens path m) held) (values_under held path ms) (values_under held path ns))
 
-gathered_behind : {V : Type 0} (held : List (Held V)) (path token : List ℕ) (ms : List (List (List ℕ))) → gathered held path (map (λ m. token ∷ m) ms) ≡ gathered held (text_with_token path token) ms
-gathered_behind held path token [] = refl
-gathered_behind held path token (m ∷ ms) = ap (λ vs. values_for (text_with_tokens (text_with_token path token) m) held ++ vs) (gathered_behind held path token ms)
+values_under_behind : {V : Type 0} (held : List (Held V)) (path token : List ℕ) (ms : List (List (List ℕ))) → values_under held path (map (λ m. token ∷ m) ms) ≡ values_under held (text_with_token path token) ms
+values_under_behind held path token [] = refl
+values_under_behind held path token (m ∷ ms) = ap (λ vs. values_for (text_with_tokens (text_with_token path token) m) held ++ vs) (values_under_behind held path token ms)
 
 -- the values of one token more: `>`, then the token, then `*`
 pub gathered_step : {V : Type 0} (held : List (Held V)) (path token : List ℕ) (tokens : List (List ℕ))
-    → gathered held path (matchers (token ∷ tokens)) ≡ values_for (text_with_token path (codes ">")) held ++ (gathered held (text_with_token path token) (matchers tokens) ++ gathered held (text_with_token path (codes "*")) (matchers tokens))
+    → values_under held path (matchers (token ∷ tokens)) ≡ values_for (text_with_token path (codes ">")) held ++ (values_under held (text_with_token path token) (matchers tokens) ++ values_under held (text_with_token path (codes "*")) (matchers tokens))
 gathered_step held path token tokens =
     ap (λ vs. values_for (text_with_token path (codes ">")) held ++ vs)
-    (gathered_append held path (map (λ m. token ∷ m) (matchers tokens)) (map (λ m. codes "*" ∷ m) (matchers tokens))
-    ∙ ap (λ vs. vs ++ gathered held path (map (λ m. codes "*" ∷ m) (matchers tokens))) (gathered_behind held path token (matchers tokens))
-    ∙ ap (λ vs. gathered held (text_with_token path token) (matchers tokens) ++ vs) (gathered_behind held path (codes "*") (matchers tokens)))
+    (values_under_append held path (map (λ m. token ∷ m) (matchers tokens)) (map (λ m. codes "*" ∷ m) (matchers tokens))
+    ∙ ap (λ vs. vs ++ values_under held path (map (λ m. codes "*" ∷ m) (matchers tokens))) (values_under_behind held path token (matchers tokens))
+    ∙ ap (λ vs. values_under held (text_with_token path token) (matchers tokens) ++ vs) (values_under_behind held path (codes "*") (matchers tokens)))
 
 -- ---- a path that nothing begins with
 
@@ -75,14 +75,14 @@ none_under p q (h ∷ held) begins none =
       | inr n ↦ cond-false (bytes_eq q h.0) (h.1 ∷ values_for q held) (values_for q held) n ∙ none_under p q held begins (omega arith)
     ]
 
-none_gathered : {V : Type 0} (b : ℕ) (path : List ℕ) (held : List (Held V)) (ms : List (List (List ℕ))) → count_below (b ∷ path) held ≡ 0 → gathered held (b ∷ path) ms ≡ []
-none_gathered b path held [] none = refl
-none_gathered b path held (m ∷ ms) none = ap (λ vs. vs ++ gathered held (b ∷ path) ms) (none_under (b ∷ path) (text_with_tokens (b ∷ path) m) held (extended_begins b path m) none) ∙ none_gathered b path held ms none
+no_values_under : {V : Type 0} (b : ℕ) (path : List ℕ) (held : List (Held V)) (ms : List (List (List ℕ))) → count_below (b ∷ path) held ≡ 0 → values_under held (b ∷ path) ms ≡ []
+no_values_under b path held [] none = refl
+no_values_under b path held (m ∷ ms) none = ap (λ vs. vs ++ values_under held (b ∷ path) ms) (none_under (b ∷ path) (text_with_tokens (b ∷ path) m) held (extended_begins b path m) none) ∙ no_values_under b path held ms none
 
 -- where there is no node
-pub gathered_none : {V : Type 0} (held : List (Held V)) (nodes : Nodes V) (path : List ℕ) (ms : List (List (List ℕ))) → Holds held nodes → is_empty path ≡ false → below_at nodes path ≡ 0 → gathered held path ms ≡ []
-gathered_none held nodes [] ms is empty none = cc
-gathered_none held nodes (b ∷ path) ms is empty none = none_gathered b path held ms (sym (is.counts (b ∷ path)) ∙ none)
+pub values_under_none : {V : Type 0} (held : List (Held V)) (nodes : Nodes V) (path : List ℕ) (ms : List (List (List ℕ))) → Holds held nodes → is_empty path ≡ false → below_at nodes path ≡ 0 → values_under held path ms ≡ []
+values_under_none held nodes [] ms is empty none = cc
+values_under_none held nodes (b ∷ path) ms is empty none = no_values_under b path held ms (sym (is.counts (b ∷ path)) ∙ none)
 
 -- ---- the path of one token more, cut off again
 
@@ -110,23 +110,23 @@ not_counted held nodes (b ∷ path) k is some none =
     no e = cc
 
 -- nothing is held behind a token that is not marked
-pub token_none : {V : Type 0} (held : List (Held V)) (nodes : Nodes V) (path token : List ℕ) (ms : List (List (List ℕ))) → Holds held nodes → (is_empty path ≡ false) × (has_mark token nodes path ≡ false) → gathered held (text_with_token path token) ms ≡ []
+pub token_none : {V : Type 0} (held : List (Held V)) (nodes : Nodes V) (path token : List ℕ) (ms : List (List (List ℕ))) → Holds held nodes → (is_empty path ≡ false) × (has_mark token nodes path ≡ false) → values_under held (text_with_token path token) ms ≡ []
 token_none held nodes [] token ms is none = nothing none.0 where
   nothing : {A : Type 0} → true ≡ false → A
   nothing e = cc
-token_none held nodes (b ∷ path) token ms is none = none_gathered b (path ++ 46 ∷ token) held ms (not_counted held nodes (b ∷ path) token is none.0 none.1)
+token_none held nodes (b ∷ path) token ms is none = no_values_under b (path ++ 46 ∷ token) held ms (not_counted held nodes (b ∷ path) token is none.0 none.1)
 
 -- the whole of a step
 module _ {V : Type 0} (held : List (Held V)) (path token : List ℕ) (tokens : List (List ℕ)) (f0 f1 f2 f3 : List V) where
   joined : (f a b d : List V) → ((f ++ a) ++ b) ++ d ≡ f ++ (a ++ (b ++ d))
   joined f a b d = append_assoc (f ++ a) b d ∙ append_assoc f a (b ++ d)
 
-  pub walked : f1 ≡ f0 ++ gathered held (text_with_token path (codes ">")) (matchers []) → f2 ≡ f1 ++ gathered held (text_with_token path token) (matchers tokens) → f3 ≡ f2 ++ gathered held (text_with_token path (codes "*")) (matchers tokens)
-      → f3 ≡ f0 ++ gathered held path (matchers (token ∷ tokens))
+  pub walked : f1 ≡ f0 ++ values_under held (text_with_token path (codes ">")) (matchers []) → f2 ≡ f1 ++ values_under held (text_with_token path token) (matchers tokens) → f3 ≡ f2 ++ values_under held (text_with_token path (codes "*")) (matchers tokens)
+      → f3 ≡ f0 ++ values_under held path (matchers (token ∷ tokens))
   walked one two three =
       let a = values_for (text_with_token path (codes ">")) held in
-      let b = gathered held (text_with_token path token) (matchers tokens) in
-      let d = gathered held (text_with_token path (codes "*")) (matchers tokens) in
+      let b = values_under held (text_with_token path token) (matchers tokens) in
+      let d = values_under held (text_with_token path (codes "*")) (matchers tokens) in
       three ∙ ap (λ f. f ++ d) (two ∙ ap (λ f. f ++ b) (one ∙ ap (λ vs. f0 ++ vs) (append-nil a))) ∙ joined f0 a b d ∙ sym (ap (λ vs. f0 ++ vs) (gathered_step held path token tokens))
 
 pub none_counted : {V : Type 0} (o : Option (Node V)) → is_some o ≡ false → count_of o ≡ 0

@@ -17,15 +17,15 @@ abbrev pub word_with : ℕ → ℕ → ℕ
 word_with word byte = (word * 256 % 2 ^ 64 + byte) % 2 ^ 64
 
 -- one byte more: every eighth feeds a word
-abbrev pub pushed : TextHasher → ℕ → TextHasher
-pushed h byte =
+abbrev pub with_byte : TextHasher → ℕ → TextHasher
+with_byte h byte =
     if nat_le 7 h.filled then record { whole = with_word h.whole (word_with h.word byte); word = 0; filled = 0 }
     else record { whole = h.whole; word = word_with h.word byte; filled = h.filled + 1 }
 
 -- single bytes are gathered, and longer runs are fed at once
 abbrev pub write : TextHasher → List ℕ → TextHasher
 write h [] = record h { whole = folding.write h.whole [] }
-write h (byte ∷ []) = pushed h byte
+write h (byte ∷ []) = with_byte h byte
 write h (a ∷ b ∷ bytes) = record h { whole = folding.write h.whole (a ∷ b ∷ bytes) }
 
 abbrev pub finish : TextHasher → ℕ

@@ -31,7 +31,7 @@ impl Default for TextHasher {
 impl TextHasher {
     /// One byte more.
     fn push(&mut self, byte: u8)
-        ensures { self.new ≡ hashing.pushed self.old byte }
+        ensures { self.new ≡ hashing.with_byte self.old byte }
     {
         let word = self.word.wrapping_mul(256).wrapping_add(u64::from(byte));
         if self.filled >= 7 {

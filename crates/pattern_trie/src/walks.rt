@@ -6,7 +6,7 @@ ghost use Rattle.list_laws.specs.Lists.{is_empty};
 ghost use Rattle.subj.specs.Names.{tokens_behind};
 ghost use Rattle.pattern_trie.specs.Nodes.{below_at, values_at, has_mark, AreKnown};
 ghost use Rattle.pattern_trie.specs.Held.{Held, Holds};
-ghost use Rattle.pattern_trie.specs.Matchers.{text_with_token, gathered, matchers};
+ghost use Rattle.pattern_trie.specs.Matchers.{text_with_token, values_under, matchers};
 
 use crate::marks::Marks;
 use crate::nodes::Nodes;
@@ -61,7 +61,7 @@ fn gather_token<V: Copy>(
 ) -> Result<(), AllocError>
     requires known { is_marked ≡ false → (is_empty path.old.items ≡ false) × (has_mark token.now nodes.now path.old.items ≡ false) }
     ensures path { OnOk result (path.new.items ≡ path.old.items) }
-    ensures found { (held : List (Held V)) → Holds held nodes.now → OnOk result (found.new.items ≡ found.old.items ++ gathered held (text_with_token path.old.items token.now) (matchers (tokens_behind (option_copied behind.entry)))) }
+    ensures found { (held : List (Held V)) → Holds held nodes.now → OnOk result (found.new.items ≡ found.old.items ++ values_under held (text_with_token path.old.items token.now) (matchers (tokens_behind (option_copied behind.entry)))) }
 {
     if !is_marked {
         return Ok(());
@@ -83,7 +83,7 @@ pub(crate) fn gather<V: Copy>(
     found: &mut Vec<V>,
 ) -> Result<(), AllocError>
     ensures path { OnOk result (path.new.items ≡ path.old.items) }
-    ensures found { (held : List (Held V)) → Holds held nodes.now → OnOk result (found.new.items ≡ found.old.items ++ gathered held path.old.items (matchers (tokens_behind (option_copied behind.entry)))) }
+    ensures found { (held : List (Held V)) → Holds held nodes.now → OnOk result (found.new.items ≡ found.old.items ++ values_under held path.old.items (matchers (tokens_behind (option_copied behind.entry)))) }
 {
     let Some(text) = behind else {
         return add_values(nodes, path, found);

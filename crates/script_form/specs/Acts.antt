@@ -6,7 +6,7 @@ use Rattle.subj.specs.declared.keys.Key.{Key}
 use Rattle.subj.specs.declared.limits.TheConstants.{JOIN_EVENTS}
 use Rattle.subj.specs.Names.{node_name_fault, pattern_fault, subject_fault, queue_name_fault, sid_fault}
 use Rattle.subj.specs.Numbers.{incarnation_of}
-use Rattle.subj.specs.Publications.{published}
+use Rattle.subj.specs.Publications.{new_publication}
 use Rattle.script_form.specs.declared.steps.Act.{Act}
 use Rattle.script_form.specs.declared.steps.Act.TheVariants.{Start, Stop, Attach, Sub, Unsub, Detach, Publish, Receive, Collect, Begin, End, DropJob, Claim, Dial, Accept, Info, Connect, Cut, TakeEntries, TakeFrames, Join}
 use Rattle.script_form.specs.declared.steps.Step.{Step}
@@ -90,7 +90,7 @@ publish_in json = do
   payload ← member text key.Payload json
   echo ← optional truth key.Echo json
   word ← number key.Word json
-  said ← published subject reply payload (unwrap_or echo true)
+  said ← new_publication subject reply payload (unwrap_or echo true)
   Some (Publish conn said word)
 
 unfoldable pub receive_in : Data → Option Act

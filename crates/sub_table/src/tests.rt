@@ -62,7 +62,7 @@ fn open<T: SubTable>(
 }
 
 /// A table with the rows.
-fn filled<T: SubTable>(rt: &impl Abort, alloc: Global) -> Result<T, Fail>
+fn table_of_rows<T: SubTable>(rt: &impl Abort, alloc: Global) -> Result<T, Fail>
     ensures { IfOk result (λ table. All (λ other. other.serial ≤ 9) (T.contents table)) }
 {
     let mut table = T::new(alloc)?;
@@ -203,7 +203,7 @@ fn gets_no_others<T: SubTable>(rt: &impl Abort, table: &T) {
 }
 
 fn finds<T: SubTable>(rt: &impl Abort, alloc: Global) -> Result<(), Fail> {
-    let table: T = filled(rt, alloc)?;
+    let table: T = table_of_rows(rt, alloc)?;
     assert_eq!(rt; table.len(), 5);
     finds_by_subjects(rt, alloc, &table)?;
     finds_by_ids(rt, alloc, &table)?;
@@ -214,7 +214,7 @@ fn finds<T: SubTable>(rt: &impl Abort, alloc: Global) -> Result<(), Fail> {
 }
 
 fn counts_bytes<T: SubTable>(rt: &impl Abort, alloc: Global) -> Result<(), Fail> {
-    let table: T = filled(rt, alloc)?;
+    let table: T = table_of_rows(rt, alloc)?;
     let empty = T::new(alloc)?;
     assert_eq!(rt; empty.len(), 0);
     for (cost, limit, alone, together) in [
@@ -236,7 +236,7 @@ fn counts_bytes<T: SubTable>(rt: &impl Abort, alloc: Global) -> Result<(), Fail>
 }
 
 fn notes<T: SubTable>(rt: &impl Abort, alloc: Global) -> Result<(), Fail> {
-    let mut table: T = filled(rt, alloc)?;
+    let mut table: T = table_of_rows(rt, alloc)?;
     table.set_count(5, 7);
     table.set_max(3, Some(4));
     table.set_count(3, 1);
@@ -305,7 +305,7 @@ fn finds_the_last<T: SubTable>(rt: &impl Abort, alloc: Global, table: &T) -> Res
 }
 
 fn closes<T: SubTable>(rt: &impl Abort, alloc: Global) -> Result<(), Fail> {
-    let mut table: T = filled(rt, alloc)?;
+    let mut table: T = table_of_rows(rt, alloc)?;
     closes_one(rt, &mut table);
     finds_the_others(rt, alloc, &table)?;
     closes_all(rt, &mut table);
@@ -335,7 +335,7 @@ fn subscriptions_are_closed(rt: HostRuntime) -> Result<(), Fail> {
 #[test]
 fn a_closed_id_is_opened_again(rt: HostRuntime) -> Result<(), Fail> {
     let alloc = rt.alloc();
-    let mut table: ListTable = filled(&rt, alloc)?;
+    let mut table: ListTable = table_of_rows(&rt, alloc)?;
     let again = subscription(alloc, 10, 1, (b"foo.*", b"", b"1"))?;
     open(&rt, &mut table, 9, again)?;
     assert_eq!(rt; called_serial(alloc, &table, 1, b"1")?, Some(2));

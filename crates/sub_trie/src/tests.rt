@@ -218,7 +218,7 @@ fn what_a_connection_has_is_found(rt: HostRuntime) -> Result<(), Fail> {
 }
 
 /// One pattern and what it is found by.
-fn alone(rt: &impl Abort, alloc: Global, pattern: &[u8], nodes: usize) -> Result<(), Fail> {
+fn found_alone(rt: &impl Abort, alloc: Global, pattern: &[u8], nodes: usize) -> Result<(), Fail> {
     let mut table = TrieTable::new(alloc)?;
     let sub = subscription(alloc, 1, 1, pattern, b"1")?;
     open(rt, &mut table, 0, sub)?;
@@ -242,13 +242,13 @@ fn the_longest_patterns_are_found(rt: HostRuntime) -> Result<(), Fail> {
         many.extend_from_slice(b".a")?;
     }
     assert_eq!(&rt; many.len(), MAX_SUBJECT - 1);
-    alone(&rt, alloc, &many, 513)?;
+    found_alone(&rt, alloc, &many, 513)?;
     let long = vec![in alloc; b'a'; MAX_SUBJECT]?;
-    alone(&rt, alloc, &long, 2)
+    found_alone(&rt, alloc, &long, 2)
 }
 
 /// A number below a bound that is not 0.
-fn drawn(random: &mut Pcg32, bound: u64) -> u64
+fn random_below(random: &mut Pcg32, bound: u64) -> u64
     ensures { result ≤ bound }
 {
     let word = random.next_word() as u64;
@@ -256,14 +256,14 @@ fn drawn(random: &mut Pcg32, bound: u64) -> u64
 }
 
 /// One to three tokens of three letters, the wildcards among them where they are wanted.
-fn drawn_text(alloc: Global, random: &mut Pcg32, wild: bool) -> Result<Vec<u8>, AllocError> {
+fn random_text(alloc: Global, random: &mut Pcg32, wild: bool) -> Result<Vec<u8>, AllocError> {
     let mut text = Vec::new(alloc);
-    let tokens = 1 + drawn(random, 3);
+    let tokens = 1 + random_below(random, 3);
     for at in 0..tokens {
         if at > 0 {
             text.push(b'.')?;
         }
-        let token = match drawn(random, if wild { 5 } else { 3 }) {
+        let token = match random_below(random, if wild { 5 } else { 3 }) {
             0 => b'a',
             1 => b'b',
             2 => b'c',
@@ -277,8 +277,8 @@ fn drawn_text(alloc: Global, random: &mut Pcg32, wild: bool) -> Result<Vec<u8>, 
 
 const SIDS: [&[u8]; 3] = [b"1", b"2", b"22"];
 
-fn drawn_sid(random: &mut Pcg32) -> &'static [u8] {
-    match drawn(random, 3) {
+fn random_sid(random: &mut Pcg32) -> &'static [u8] {
+    match random_below(random, 3) {
         0 => SIDS[0],
         1 => SIDS[1],
         _ => SIDS[2],
@@ -299,19 +299,19 @@ fn compare(
         matching_serials(alloc, trie, subject)?.as_slice(),
         "{subject:?}"
     );
-    let conn = 1 + drawn(random, 3);
+    let conn = 1 + random_below(random, 3);
     assert_eq!(rt;
         serials_of_conn(alloc, list, conn)?.as_slice(),
         serials_of_conn(alloc, trie, conn)?.as_slice()
     );
-    let sid = drawn_sid(random);
+    let sid = random_sid(random);
     assert_eq!(rt;
         called_serial(alloc, list, conn, sid)?,
         called_serial(alloc, trie, conn, sid)?
     );
-    let limit = drawn(random, 700);
+    let limit = random_below(random, 700);
     assert_eq!(rt; list.fits(30, limit), trie.fits(30, limit), "{limit}");
-    let serial = drawn(random, CALLS);
+    let serial = random_below(random, CALLS);
     let noted = list
         .get(serial)
         .map(|sub| (sub.conn.get(), sub.delivered, sub.max));
@@ -338,9 +338,9 @@ fn call_both(
     ensures list { IfOk result (λ now. All (λ other. other.serial ≤ now) (⟦<ListTable as SubTable>⟧.contents list.new)) }
     ensures trie { IfOk result (λ now. All (λ other. other.serial ≤ now) (⟦<TrieTable as SubTable>⟧.contents trie.new)) }
 {
-    let conn = 1 + drawn(random, 3);
-    let serial = drawn(random, CALLS);
-    match drawn(random, 8) {
+    let conn = 1 + random_below(random, 3);
+    let serial = random_below(random, CALLS);
+    match random_below(random, 8) {
         0 => {
             close_all(list, last, conn);
             close_all(trie, last, conn);
@@ -355,8 +355,8 @@ fn call_both(
         }
         _ => {
             assert!(rt; last < CALLS);
-            let pattern = drawn_text(alloc, random, true)?;
-            let sid = drawn_sid(random);
+            let pattern = random_text(alloc, random, true)?;
+            let sid = random_sid(random);
             let sub = subscription(alloc, last + 1, conn, &pattern, sid)?;
             open(rt, list, last, sub)?;
             let sub = subscription(alloc, last + 1, conn, &pattern, sid)?;
@@ -368,17 +368,17 @@ fn call_both(
 
 /// Notes drawn counts in both tables.
 fn note_both(random: &mut Pcg32, list: &mut ListTable, trie: &mut TrieTable) {
-    let serial = drawn(random, CALLS);
-    let count = drawn(random, 9);
+    let serial = random_below(random, CALLS);
+    let count = random_below(random, 9);
     list.set_count(serial, count);
     trie.set_count(serial, count);
-    let serial = drawn(random, CALLS);
+    let serial = random_below(random, CALLS);
     list.set_max(serial, Some(count));
     trie.set_max(serial, Some(count));
 }
 
 /// Draws a subject, and tells the trie of it, sometimes.
-fn drawn_subject(
+fn random_subject(
     alloc: Global,
     random: &mut Pcg32,
     trie: &mut TrieTable,
@@ -386,8 +386,8 @@ fn drawn_subject(
 ) -> Result<Vec<u8>, Fail>
     ensures { OnOk result (⟦<TrieTable as SubTable>⟧.contents trie.new ≡ ⟦<TrieTable as SubTable>⟧.contents trie.old) }
 {
-    let subject = drawn_text(alloc, random, false)?;
-    if keeps && drawn(random, 2) == 0 {
+    let subject = random_text(alloc, random, false)?;
+    if keeps && random_below(random, 2) == 0 {
         keep(alloc, trie, &subject)?;
     }
     Ok(subject)
@@ -402,12 +402,12 @@ fn run_list(rt: &impl Abort, alloc: Global, seed: u64) -> Result<(), Fail> {
     let mut last = 0;
     for _ in 0..CALLS {
         last = call_both(rt, alloc, &mut random, &mut list, &mut trie, last)?;
-        let subject = drawn_subject(alloc, &mut random, &mut trie, keeps)?;
+        let subject = random_subject(alloc, &mut random, &mut trie, keeps)?;
         compare(rt, alloc, &mut random, &list, &trie, &subject)?;
     }
     for _ in 0..5 {
         note_both(&mut random, &mut list, &mut trie);
-        let subject = drawn_subject(alloc, &mut random, &mut trie, keeps)?;
+        let subject = random_subject(alloc, &mut random, &mut trie, keeps)?;
         compare(rt, alloc, &mut random, &list, &trie, &subject)?;
     }
     Ok(())

@@ -3,7 +3,7 @@
 ghost use Rattle.std.specs.Prelude.{◌≡◌, ◌≤◌, length, IfErr, IfOk, OnErr};
 ghost use Rattle.std.specs.Option.{option_copied};
 ghost use Rattle.subj.specs.Messages.{content_of};
-ghost use Rattle.subj.specs.Publications.{published};
+ghost use Rattle.subj.specs.Publications.{new_publication};
 
 use crate::limits::MAX_PAYLOAD;
 use crate::subjects::{Reply, Subject};
@@ -145,7 +145,7 @@ impl Pub {
         payload: Bytes,
         echo: bool,
     ) -> Result<Option<Pub>, AllocError>
-        ensures publication { IfOk result (λ publication. publication ≡ published subject reply payload echo) }
+        ensures publication { IfOk result (λ publication. publication ≡ new_publication subject reply payload echo) }
         ensures err { OnErr result (length payload ≤ MAX_PAYLOAD) }
     {
         let message = Message::new(alloc, subject, reply, payload)?;

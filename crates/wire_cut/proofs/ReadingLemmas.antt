@@ -4,7 +4,7 @@ use Rattle.std.proofs.lemmas.List.{drop-append-le}
 use Rattle.std.specs.List.{concat}
 use Rattle.wire_cut.specs.declared.faults.CutFault.{CutFault}
 use Rattle.wire_cut.specs.Cut.{Answer, CutterState, StreamPiece, bytes_of, cut_next, cut_unless, cut_of, after_answer, after_next, after_refusal, after_expect, expect_fault, after_feed}
-use Rattle.wire_cut.specs.Reading.{Told, going_on, ending, Grammar, Found, nothing, something, the_end, size_fault, found_next, found_before, found_by, cut_awaited, found, Reading, with_items, ended_by, reading_after, reading_within, reading_of, resumed, read_on, read_parts, ReadsInParts, looked_at, ReadsByLooks, WaitsForMore, StandsAt, told_of, FollowsGrammar, ExpectsAgain, ExpectsWhenFed}
+use Rattle.wire_cut.specs.Reading.{Told, going_on, ending, Grammar, Found, nothing, something, the_end, size_fault, finding_next, finding_before, finding_by, cut_awaited, finding, Reading, with_items, last_reading, reading_after, reading_within, reading_of, continuation, read_on, read_parts, ReadsInParts, reading_by_look, ReadsByLooks, WaitsForMore, StandsAt, told_of, FollowsGrammar, ExpectsAgain, ExpectsWhenFed}
 use Rattle.wire_cut.proofs.CutLemmas.{cut_of-piece_length, cut_of-fed_piece, cut_of-fed_fault}
 
 -- ---- a look at the bytes as a cutter's
@@ -21,45 +21,45 @@ fault_stands g awaited bytes more fault is = cut_of-fed_fault (awaiting g awaite
 -- ---- what a look finds, also with more bytes
 
 pub data Look {A I : Type 0} (g : Grammar A I) (awaited : A) (bytes : List ℕ) : Type 0 where
-  lacks : found g awaited bytes ≡ nothing → Look g awaited bytes
-  goes : (items : List I) (next : A) (behind : List ℕ) → found g awaited bytes ≡ something items next behind → length behind < length bytes
-      → ((more : List ℕ) → found g awaited (bytes ++ more) ≡ something items next (behind ++ more)) → Look g awaited bytes
-  ends : (items : List I) → found g awaited bytes ≡ the_end items → ((more : List ℕ) → found g awaited (bytes ++ more) ≡ the_end items) → Look g awaited bytes
+  lacks : finding g awaited bytes ≡ nothing → Look g awaited bytes
+  goes : (items : List I) (next : A) (behind : List ℕ) → finding g awaited bytes ≡ something items next behind → length behind < length bytes
+      → ((more : List ℕ) → finding g awaited (bytes ++ more) ≡ something items next (behind ++ more)) → Look g awaited bytes
+  ends : (items : List I) → finding g awaited bytes ≡ the_end items → ((more : List ℕ) → finding g awaited (bytes ++ more) ≡ the_end items) → Look g awaited bytes
 
 look_before : {A I : Type 0} (g : Grammar A I) (awaited : A) (bytes : List ℕ) (piece : StreamPiece) → cut_awaited g awaited bytes ≡ Ok (Some piece) → (told : Told A I) → g.told awaited (bytes_of piece) ≡ told → Look g awaited bytes
 look_before g awaited bytes piece is (ending items) tells =
     let n = length (bytes_of piece) + 2 in
-    ends items (ap (found_by g awaited bytes) is ∙ ap (found_before g (drop n bytes)) tells)
-    (λ more. ap (found_by g awaited (bytes ++ more)) (piece_stands g awaited bytes more piece is) ∙ ap (found_before g (drop n (bytes ++ more))) tells)
+    ends items (ap (finding_by g awaited bytes) is ∙ ap (finding_before g (drop n bytes)) tells)
+    (λ more. ap (finding_by g awaited (bytes ++ more)) (piece_stands g awaited bytes more piece is) ∙ ap (finding_before g (drop n (bytes ++ more))) tells)
 look_before g awaited bytes piece is (going_on items next) tells = by_size (size_fault g.payload_max (g.size next)) refl where
   by_size : (fault : Option CutFault) → size_fault g.payload_max (g.size next) ≡ fault → Look g awaited bytes
   by_size None fits =
       let n = length (bytes_of piece) + 2 in
       let within : n ≤ length bytes = cut_of-piece_length (awaiting g awaited bytes) piece is in
       goes items next (drop n bytes)
-      (ap (found_by g awaited bytes) is ∙ ap (found_before g (drop n bytes)) tells ∙ ap (found_next g items next (drop n bytes)) fits)
+      (ap (finding_by g awaited bytes) is ∙ ap (finding_before g (drop n bytes)) tells ∙ ap (finding_next g items next (drop n bytes)) fits)
       (omega (arith, length-drop n bytes))
-      (λ more. ap (found_by g awaited (bytes ++ more)) (piece_stands g awaited bytes more piece is) ∙ ap (found_before g (drop n (bytes ++ more))) tells
-      ∙ ap (found_next g items next (drop n (bytes ++ more))) fits ∙ ap (something items next) (drop-append-le n bytes more within))
+      (λ more. ap (finding_by g awaited (bytes ++ more)) (piece_stands g awaited bytes more piece is) ∙ ap (finding_before g (drop n (bytes ++ more))) tells
+      ∙ ap (finding_next g items next (drop n (bytes ++ more))) fits ∙ ap (something items next) (drop-append-le n bytes more within))
   by_size (Some fault) above =
       let n = length (bytes_of piece) + 2 in
       ends (items ++ g.unreadable fault ∷ [])
-      (ap (found_by g awaited bytes) is ∙ ap (found_before g (drop n bytes)) tells ∙ ap (found_next g items next (drop n bytes)) above)
-      (λ more. ap (found_by g awaited (bytes ++ more)) (piece_stands g awaited bytes more piece is) ∙ ap (found_before g (drop n (bytes ++ more))) tells
-      ∙ ap (found_next g items next (drop n (bytes ++ more))) above)
+      (ap (finding_by g awaited bytes) is ∙ ap (finding_before g (drop n bytes)) tells ∙ ap (finding_next g items next (drop n bytes)) above)
+      (λ more. ap (finding_by g awaited (bytes ++ more)) (piece_stands g awaited bytes more piece is) ∙ ap (finding_before g (drop n (bytes ++ more))) tells
+      ∙ ap (finding_next g items next (drop n (bytes ++ more))) above)
 
 look_at : {A I : Type 0} (g : Grammar A I) (awaited : A) (bytes : List ℕ) (answer : Answer) → cut_awaited g awaited bytes ≡ answer → Look g awaited bytes
-look_at g awaited bytes (Ok None) is = lacks (ap (found_by g awaited bytes) is)
+look_at g awaited bytes (Ok None) is = lacks (ap (finding_by g awaited bytes) is)
 look_at g awaited bytes (Ok (Some piece)) is = look_before g awaited bytes piece is (g.told awaited (bytes_of piece)) refl
 look_at g awaited bytes (Err fault) is =
-    ends (g.unreadable fault ∷ []) (ap (found_by g awaited bytes) is) (λ more. ap (found_by g awaited (bytes ++ more)) (fault_stands g awaited bytes more fault is))
+    ends (g.unreadable fault ∷ []) (ap (finding_by g awaited bytes) is) (λ more. ap (finding_by g awaited (bytes ++ more)) (fault_stands g awaited bytes more fault is))
 
 pub look : {A I : Type 0} (g : Grammar A I) (awaited : A) (bytes : List ℕ) → Look g awaited bytes
 look g awaited bytes = look_at g awaited bytes (cut_awaited g awaited bytes) refl
 
 -- ---- the number of looks
 
-one_look : {A I : Type 0} (g : Grammar A I) (n : ℕ) (awaited : A) (bytes : List ℕ) (f : Found A I) → found g awaited bytes ≡ f → reading_within g (suc n) awaited bytes ≡ reading_after (reading_within g n) awaited bytes f
+one_look : {A I : Type 0} (g : Grammar A I) (n : ℕ) (awaited : A) (bytes : List ℕ) (f : Found A I) → finding g awaited bytes ≡ f → reading_within g (suc n) awaited bytes ≡ reading_after (reading_within g n) awaited bytes f
 unfolding reading_within
 one_look g n awaited bytes f is = ap (reading_after (reading_within g n) awaited bytes) is
 
@@ -84,9 +84,9 @@ waits_for_more g awaited bytes is = one_look g (length bytes) awaited bytes noth
 -- ---- reading look by look
 
 -- one look, and the reading of what is left
-pub reading_of-look : {A I : Type 0} (g : Grammar A I) (awaited : A) (bytes : List ℕ) → reading_of g awaited bytes ≡ reading_after (reading_of g) awaited bytes (found g awaited bytes)
+pub reading_of-look : {A I : Type 0} (g : Grammar A I) (awaited : A) (bytes : List ℕ) → reading_of g awaited bytes ≡ reading_after (reading_of g) awaited bytes (finding g awaited bytes)
 reading_of-look g awaited bytes = by_look (look g awaited bytes) where
-  by_look : Look g awaited bytes → reading_of g awaited bytes ≡ reading_after (reading_of g) awaited bytes (found g awaited bytes)
+  by_look : Look g awaited bytes → reading_of g awaited bytes ≡ reading_after (reading_of g) awaited bytes (finding g awaited bytes)
   by_look (lacks is) = one_look g (length bytes) awaited bytes nothing is ∙ sym (ap (reading_after (reading_of g) awaited bytes) is)
   by_look (goes items next behind is shorter later) =
       one_look g (length bytes) awaited bytes _ is ∙ ap (with_items items) (from g (length bytes) next behind shorter)
@@ -96,18 +96,18 @@ reading_of-look g awaited bytes = by_look (look g awaited bytes) where
 pub with_items-twice : {A I : Type 0} (front items : List I) (r : Reading A I) → with_items front (with_items items r) ≡ with_items (front ++ items) r
 with_items-twice front items r = ap (λ all. record r { items = all }) (sym (append_assoc front items r.items))
 
-with_items-ended : {A I : Type 0} (items : List I) → with_items {Item = I} items (ended_by {Awaited = A} []) ≡ ended_by items
-with_items-ended items = ap (λ all. ended_by all) (append-nil items)
+with_items-ended : {A I : Type 0} (items : List I) → with_items {Item = I} items (last_reading {Awaited = A} []) ≡ last_reading items
+with_items-ended items = ap (λ all. last_reading all) (append-nil items)
 
 pub reads_by_looks : {A I : Type 0} (g : Grammar A I) → ReadsByLooks g
 reads_by_looks g awaited bytes more = by_look (look g awaited bytes) where
-  by_look : Look g awaited bytes → reading_of g awaited (bytes ++ more) ≡ looked_at g awaited bytes more (found g awaited bytes)
-  by_look (lacks is) = sym (ap (looked_at g awaited bytes more) is)
+  by_look : Look g awaited bytes → reading_of g awaited (bytes ++ more) ≡ reading_by_look g awaited bytes more (finding g awaited bytes)
+  by_look (lacks is) = sym (ap (reading_by_look g awaited bytes more) is)
   by_look (goes items next behind is shorter later) =
       one_look g (length (bytes ++ more)) awaited (bytes ++ more) _ (later more)
       ∙ ap (with_items items) (from g (length (bytes ++ more)) next (behind ++ more) (omega (arith, length-append bytes more, length-append behind more)))
-      ∙ sym (ap (looked_at g awaited bytes more) is)
-  by_look (ends items is later) = one_look g (length (bytes ++ more)) awaited (bytes ++ more) _ (later more) ∙ sym (ap (looked_at g awaited bytes more) is)
+      ∙ sym (ap (reading_by_look g awaited bytes more) is)
+  by_look (ends items is later) = one_look g (length (bytes ++ more)) awaited (bytes ++ more) _ (later more) ∙ sym (ap (reading_by_look g awaited bytes more) is)
 
 -- ---- reading in parts
 
@@ -116,7 +116,7 @@ in_two_by : {A I : Type 0} (g : Grammar A I) (n : ℕ) (awaited : A) (front behi
 in_two_by g n awaited front behind later (lacks is) = ap (λ r. read_on g r behind) (one_look g n awaited front nothing is)
 in_two_by g n awaited front behind later (goes items next rest is shorter more) =
     ap (λ r. read_on g r behind) (one_look g n awaited front _ is)
-    ∙ sym (with_items-twice items (reading_within g n next rest).items (resumed g (reading_within g n next rest).end behind))
+    ∙ sym (with_items-twice items (reading_within g n next rest).items (continuation g (reading_within g n next rest).end behind))
     ∙ ap (with_items items) (later next rest shorter ∙ sym (from g (length (front ++ behind)) next (rest ++ behind) (omega (arith, length-append front behind, length-append rest behind))))
     ∙ sym (one_look g (length (front ++ behind)) awaited (front ++ behind) _ (more behind))
 in_two_by g n awaited front behind later (ends items is more) =
@@ -152,27 +152,27 @@ record Finds {A I : Type 0} (g : Grammar A I) (awaited next : A) (s : CutterStat
   fits : size_fault g.payload_max (g.size next) ≡ None
   rest : behind ≡ drop (length (bytes_of piece) + 2) s.unread
 
-finds_by_fault : {A I : Type 0} (g : Grammar A I) (items all : List I) (then next : A) (bytes behind : List ℕ) (fault : Option CutFault) → found_next g all then bytes fault ≡ something items next behind
+finds_by_fault : {A I : Type 0} (g : Grammar A I) (items all : List I) (then next : A) (bytes behind : List ℕ) (fault : Option CutFault) → finding_next g all then bytes fault ≡ something items next behind
     → (fault ≡ None) × (then ≡ next) × (behind ≡ bytes)
 finds_by_fault g items all then next bytes behind None is = (refl, cc is, cc is)
 finds_by_fault g items all then next bytes behind (Some fault) is = absurd (cc is)
 
-finds_by : {A I : Type 0} (g : Grammar A I) (awaited next : A) (s : CutterState) (items : List I) (behind : List ℕ) (answer : Answer) → cut_of s ≡ answer → found_by g awaited s.unread answer ≡ something items next behind → Finds g awaited next s behind
+finds_by : {A I : Type 0} (g : Grammar A I) (awaited next : A) (s : CutterState) (items : List I) (behind : List ℕ) (answer : Answer) → cut_of s ≡ answer → finding_by g awaited s.unread answer ≡ something items next behind → Finds g awaited next s behind
 finds_by g awaited next s items behind (Ok None) cut is = absurd (cc is)
 finds_by g awaited next s items behind (Err fault) cut is = absurd (cc is)
 finds_by {A = A} {I = I} g awaited next s items behind (Ok (Some piece)) cut is = by_told (g.told awaited (bytes_of piece)) is where
   rest : List ℕ
   rest = drop (length (bytes_of piece) + 2) s.unread
 
-  by_told : (told : Told A I) → found_before g rest told ≡ something items next behind → Finds g awaited next s behind
+  by_told : (told : Told A I) → finding_before g rest told ≡ something items next behind → Finds g awaited next s behind
   by_told (ending all) says = absurd (cc says)
   by_told (going_on all then) says =
       let parts = finds_by_fault g items all then next rest behind (size_fault g.payload_max (g.size then)) says in
       record { piece = piece; cut = cut; fits = subst (λ a. size_fault g.payload_max (g.size a) ≡ None) parts.1 parts.0; rest = parts.2 }
 
-finds : {A I : Type 0} (g : Grammar A I) (awaited next : A) (s : CutterState) (items : List I) (behind : List ℕ) → StandsAt g awaited s → found g awaited s.unread ≡ something items next behind → Finds g awaited next s behind
+finds : {A I : Type 0} (g : Grammar A I) (awaited next : A) (s : CutterState) (items : List I) (behind : List ℕ) → StandsAt g awaited s → finding g awaited s.unread ≡ something items next behind → Finds g awaited next s behind
 finds g awaited next s items behind at is =
-    finds_by g awaited next s items behind (cut_of s) refl (ap (found_by g awaited s.unread) (cuts_alike g awaited s at) ∙ is)
+    finds_by g awaited next s items behind (cut_of s) refl (ap (finding_by g awaited s.unread) (cuts_alike g awaited s at) ∙ is)
 
 -- ---- the cutter behind a piece, and behind an announcement
 
@@ -215,7 +215,7 @@ stands_by_size g awaited next s piece at (Some size) is fits =
       unread = refl;
     })
 
-stands_behind : {A I : Type 0} (g : Grammar A I) (awaited next : A) (s : CutterState) (items : List I) (behind : List ℕ) → StandsAt g awaited s → found g awaited s.unread ≡ something items next behind
+stands_behind : {A I : Type 0} (g : Grammar A I) (awaited next : A) (s : CutterState) (items : List I) (behind : List ℕ) → StandsAt g awaited s → finding g awaited s.unread ≡ something items next behind
     → StandsBehind g next behind (told_of (after_next s) (g.size next))
 stands_behind g awaited next s items behind at is =
     let it = finds g awaited next s items behind at is in

@@ -121,7 +121,7 @@ module _ {S : Type 0} (m k : Me S View) (whole : IsWhole m) (shard turn : ℕ) (
     next_is = ap (λ (p : ShardPart). p.next) part_is ∙ sym (get_or-map (λ (p : ShardPart). p.next) m.0.shards s (newcomer 0) 0 within)
 
     is_turn : turn ≡ p.finished + 1
-    is_turn = on_turn.behind ∙ ap (λ (n : ℕ). n + 1) (sym finished_is)
+    is_turn = on_turn.follows ∙ ap (λ (n : ℕ). n + 1) (sym finished_is)
 
     found : load ≡ (hub_of m).issued
     found = see.3 (hub_of k) whole_k.1 ∙ ap (λ (r : RaceState). r.issued) shows_k

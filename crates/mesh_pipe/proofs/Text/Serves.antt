@@ -4,11 +4,11 @@ use Rattle.std.specs.Result.{IsErrAnd}
 use Rattle.std.specs.Io.KnownBytes.{Appends, Consumes}
 use Rattle.std.proofs.KnownBytes.{Appends-nil, Appends-trans, Consumes-nil, Consumes-trans}
 use Rattle.client_conn.specs.declared.ask.Ask.{Ask}
-use Rattle.client_conn.specs.Asks.{Asking, ConnState, Onward, listens, over, begun, asks_after_bytes, read_onward}
+use Rattle.client_conn.specs.Asks.{Asking, ConnState, Onward, listens, over, first_asking, asks_after_bytes, read_onward}
 use Rattle.client_conn.specs.Feeding.{HasRead as Gains}
 use Rattle.client_conn.specs.Shuts.{AsksToShut}
 use Rattle.client_conn.proofs.Closing.{shuts_at_the_end, shut_behind}
-use Rattle.client_conn.proofs.Following.{fed_twice, settled_fed, settled_begun}
+use Rattle.client_conn.proofs.Following.{fed_twice, settled_fed, settled_first}
 use Rattle.mesh_pipe.specs.declared.pipe.PipeEnd.{PipeEnd}
 use Rattle.mesh_pipe.specs.declared.faults.PipeFault.{PipeFault}
 use Rattle.mesh_pipe.specs.declared.faults.PipeFault.TheVariants.{Read, Write, OutOfMemory}
@@ -70,10 +70,10 @@ waits_now conn server step none = waits_there (state_of conn server) step.settle
 
 -- ---- the start
 
-begins_with : (s t : Served) → s ≡ t → (let at : PipeState = record { asking = begun pipe_info; served = s } in at) ≡ record { asking = begun pipe_info; served = t }
-begins_with s t e = ap (λ u. let at : PipeState = record { asking = begun pipe_info; served = u } in at) e
+begins_with : (s t : Served) → s ≡ t → (let at : PipeState = record { asking = first_asking pipe_info; served = s } in at) ≡ record { asking = first_asking pipe_info; served = t }
+begins_with s t e = ap (λ u. let at : PipeState = record { asking = first_asking pipe_info; served = u } in at) e
 
-pub read_first : (conn : ConnState) (server : PipeServer) (before was : Option (List ℕ)) → conn.asking ≡ begun pipe_info → IsNew server → HasRead conn server before before was was
+pub read_first : (conn : ConnState) (server : PipeServer) (before was : Option (List ℕ)) → conn.asking ≡ first_asking pipe_info → IsNew server → HasRead conn server before before was was
 read_first conn server before was begins new = record {
   read = [];
   put = [];
@@ -82,13 +82,13 @@ read_first conn server before was begins new = record {
   empty = new.empty;
   in_step = record {
     ready = new.ready;
-    settled = ap (asks_after_bytes []) begins ∙ settled_begun pipe_info ∙ sym begins;
+    settled = ap (asks_after_bytes []) begins ∙ settled_first pipe_info ∙ sym begins;
     shuts = λ ends. absurd (not_over (sym (ap (λ (s : Asking). s.onward) begins) ∙ ends));
   };
   tells = record { whatever_follows = λ more. ap (λ (s : Asking). asks_said (asks_after_bytes more s).asks at_first) (sym begins) ∙ ap (asks_said (asks_after_bytes more conn.asking).asks) (sym new.same) };
 }
   where
-    not_over : (begun pipe_info).onward ≡ over → ⊥
+    not_over : (first_asking pipe_info).onward ≡ over → ⊥
     not_over e = cc
 
 -- ---- a read

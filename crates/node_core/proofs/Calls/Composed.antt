@@ -275,7 +275,7 @@ held_turn s shard place turn line kept p held = go line.shard.hand refl held
         let size = ap length kept.sound.raced.finished ∙ map_length (λ (l : Line). l.shard.finished) s.node.lines in
         let last = p.last in
         let at = finished in
-        (omega arith, record { first = p.first; last = omega arith; behind = omega arith; issued = omega arith })
+        (omega arith, record { first = p.first; last = omega arith; follows = omega arith; issued = omega arith })
 
 pub end_done : (side : Side) (race new_race : RaceState) (lines : List Line) (shard place turn : ℕ) (line after : Line)
     → IsKept (served_of_parts side race lines) → IsShard (served_of_parts side race lines).node shard place line → event_refusal line (Some of_shard.End) ≡ None → LineEnds line turn after → IsFinished race shard turn new_race
@@ -311,7 +311,7 @@ dropped_held s shard place turn line kept p held = go line.shard.hand refl held
         let size = ap length kept.sound.raced.finished ∙ map_length (λ (l : Line). l.shard.finished) s.node.lines in
         let last = p.last in
         let at = finished in
-        (omega arith, record { first = p.first; last = omega arith; behind = omega arith; issued = omega arith })
+        (omega arith, record { first = p.first; last = omega arith; follows = omega arith; issued = omega arith })
 
 pub waits_next : (s : Served) (shard place : ℕ) (line : Line) → IsKept s → IsShard s.node shard place line → WaitsNext line
 waits_next s shard place line kept p job free first =

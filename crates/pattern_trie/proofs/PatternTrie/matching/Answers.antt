@@ -2,7 +2,7 @@ use Rattle.std.proofs.Common.{◌++◌, [], sym, ◌∙◌, ap, subst, List}
 use Rattle.std.specs.List.Sorted.{IsPermutation}
 use Rattle.std.proofs.lemmas.List.Sorted.{IsPermutation-append_right}
 use Rattle.subj.specs.Names.{tokens}
-use Rattle.pattern_trie.specs.Matchers.{matchers, gathered, matching_values}
+use Rattle.pattern_trie.specs.Matchers.{matchers, values_under, matching_values}
 use Rattle.pattern_trie.proofs.Permutes.{permuted, on_ok}
 use Rattle.pattern_trie.proofs.Splitting.{some_tokens}
 use Rattle.pattern_trie.proofs.PatternTrie.matching.Goals as goal
@@ -12,7 +12,7 @@ returns g c = λ held is.
     let subject = c.args.subject.now in
     let found = c.args.found.now.items in
     let all = permuted subject held c.bytes-text.ensures.valid (some_tokens subject) in
-    let moved : IsPermutation (found ++ matching_values subject held) (found ++ gathered held [] (matchers (tokens subject))) = IsPermutation-append_right found (matching_values subject held) (gathered held [] (matchers (tokens subject))) all in
+    let moved : IsPermutation (found ++ matching_values subject held) (found ++ values_under held [] (matchers (tokens subject))) = IsPermutation-append_right found (matching_values subject held) (values_under held [] (matchers (tokens subject))) all in
     on_ok c.gather.result _ _
-    (λ e. subst (IsPermutation (found ++ matching_values subject held)) (sym (◌∙◌ {A = List g.row.V.Denot} e (ap (λ p. found ++ gathered held p (matchers (tokens c.bytes-text.result.now))) c.in_ok-path.ensures.items ∙ ap (λ t. found ++ gathered held [] (matchers (tokens t))) c.bytes-text.ensures.same))) moved)
+    (λ e. subst (IsPermutation (found ++ matching_values subject held)) (sym (◌∙◌ {A = List g.row.V.Denot} e (ap (λ p. found ++ values_under held p (matchers (tokens c.bytes-text.result.now))) c.in_ok-path.ensures.items ∙ ap (λ t. found ++ values_under held [] (matchers (tokens t))) c.bytes-text.ensures.same))) moved)
     (c.gather.ensures.found held is)

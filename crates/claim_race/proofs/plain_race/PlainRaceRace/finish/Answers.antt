@@ -9,7 +9,7 @@ invariant_of-self c =
     let race = c.self.inside in
     let on_turn = subst (λ (race : RaceState). IsInTurn race c.args.shard c.args.turn) (sym c.self.view_is) c.requires in
     subst (λ finished. IsTable race.issued finished race.table.items) (sym (finished_in-set race.progress.items (c.args.shard - 1) (record { finished = c.args.turn; next = 0 })))
-    (finish_table race.issued (finished_in race.progress.items) race.table.items (c.args.shard - 1) c.args.turn c.self.invariant on_turn.behind)
+    (finish_table race.issued (finished_in race.progress.items) race.table.items (c.args.shard - 1) c.args.turn c.self.invariant on_turn.follows)
 
 pub returns : goal.returns
 returns c =
