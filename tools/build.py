@@ -141,7 +141,7 @@ def build(program):
     """Proves and builds the program, unless it is as its sources are. Ends this process where it is refused."""
     lines = lines_of_crates()
     needed = crates_needed(program, lines)
-    print("%s: %d crates are proved and built; the first time that takes up to an hour of four processors" % (program, len(needed)),
+    print("%s: %d crates are proved and built; the first time that takes about an hour on four processors" % (program, len(needed)),
           file=sys.stderr, flush=True)
     with Room(needed, lines) as room:
         said = room.prove()
