@@ -1,7 +1,7 @@
 //! The drill: lists of events are drawn and played, looked at by the checker, and played again.
 
 use crate::alike::{is_alike, text_of};
-use crate::lists::{Lists, faults_in};
+use crate::lists::{Lists, flaws_in};
 use crate::plants::{PLANTS, is_found};
 use crate::player::Player;
 use crate::seen::Seen;
@@ -24,8 +24,8 @@ const BLIND: u64 = 5;
 #[derive(Clone, Copy)]
 pub struct Found {
     pub lists: u64,
-    /// Faults in the lists as they are.
-    pub faults: usize,
+    /// Flaws in the lists as they are.
+    pub flaws: usize,
     /// Lists with the same outcomes on all four kinds of servers.
     pub alike: u64,
     /// For each plant, how often it was planted, and how often found.
@@ -40,7 +40,7 @@ impl Found {
     pub fn new() -> Found {
         Found {
             lists: 0,
-            faults: 0,
+            flaws: 0,
             alike: 0,
             plants: [(0, 0); PLANTS.len()],
             placed: 0,
@@ -48,7 +48,7 @@ impl Found {
         }
     }
 
-    /// How many kinds of faults were planted, and found each time.
+    /// How many kinds of flaws were planted, and found each time.
     pub fn found_plants(&self) -> usize {
         let mut count = 0;
         for (planted, found) in self.plants {
@@ -90,7 +90,7 @@ fn is_alike_everywhere(
     Ok(on_trie && on_cells && on_both)
 }
 
-/// Plants each fault.
+/// Plants each flaw.
 fn plant(alloc: Global, lists: Lists<'_>, found: &mut Found) -> anyhow::Result<()> {
     for (plant, counts) in PLANTS.iter().zip(found.plants.iter_mut()) {
         if let Some(is_found) = is_found(alloc, *plant, lists)? {
@@ -119,8 +119,8 @@ pub fn drill(alloc: Global, number: u64, found: &mut Found) -> anyhow::Result<()
         sent: player.world.sent_frames(),
     };
     found.lists = u64::saturating_add(found.lists, 1);
-    let faults = faults_in(alloc, lists)?;
-    found.faults = usize::saturating_add(found.faults, faults.len());
+    let flaws = flaws_in(alloc, lists)?;
+    found.flaws = usize::saturating_add(found.flaws, flaws.len());
     found.placed = usize::saturating_add(found.placed, count(lists));
     found.seen.see_all(&player.outcomes);
     if number % FILLING != 0 {

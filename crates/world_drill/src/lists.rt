@@ -21,7 +21,7 @@ pub struct Lists<'a> {
 
 /// What is wrong with the lists.
 #[derive(Clone, Copy, Debug, PartialEq, Eq)]
-pub enum Fault {
+pub enum Flaw {
     /// A publication is placed twice for one plain subscription.
     PlainTwice,
     /// A publication is placed twice for one queue name.
@@ -154,16 +154,16 @@ fn is_same_queue(a: Option<&QueueName>, b: Option<&QueueName>) -> bool {
 }
 
 /// What is wrong of an older and a newer message.
-fn pair_fault(old: &Given<'_>, new: &Given<'_>) -> Option<Fault> {
+fn pair_flaw(old: &Given<'_>, new: &Given<'_>) -> Option<Flaw> {
     if old.id == new.id && old.queue.is_none() && new.queue.is_none() && old.life == new.life {
-        return Some(Fault::PlainTwice);
+        return Some(Flaw::PlainTwice);
     }
     if old.id == new.id && old.queue.is_some() && is_same_queue(old.queue, new.queue) {
-        return Some(Fault::TwoMembers);
+        return Some(Flaw::TwoMembers);
     }
     let is_one_source = old.id.origin == new.id.origin && old.id.inc == new.id.inc;
     if old.life == new.life && is_one_source && old.id.number >= new.id.number {
-        return Some(Fault::OutOfOrder);
+        return Some(Flaw::OutOfOrder);
     }
     None
 }
@@ -226,41 +226,41 @@ fn is_echo(given: &Given<'_>, source: &Publication) -> bool {
         && given.conn == source.publisher
 }
 
-/// Notes a fault, if there is one.
-fn note(faults: &mut Vec<Fault>, fault: Option<Fault>) -> anyhow::Result<()> {
-    if let Some(fault) = fault {
-        faults.push(fault)?;
+/// Notes a flaw, if there is one.
+fn note(flaws: &mut Vec<Flaw>, flaw: Option<Flaw>) -> anyhow::Result<()> {
+    if let Some(flaw) = flaw {
+        flaws.push(flaw)?;
     }
     Ok(())
 }
 
-fn note_if(faults: &mut Vec<Fault>, is_wrong: bool, fault: Fault) -> anyhow::Result<()> {
-    note(faults, is_wrong.then_some(fault))
+fn note_if(flaws: &mut Vec<Flaw>, is_wrong: bool, flaw: Flaw) -> anyhow::Result<()> {
+    note(flaws, is_wrong.then_some(flaw))
 }
 
-fn check_given(alloc: Global, lists: Lists<'_>, faults: &mut Vec<Fault>) -> anyhow::Result<()> {
+fn check_given(alloc: Global, lists: Lists<'_>, flaws: &mut Vec<Flaw>) -> anyhow::Result<()> {
     let all = given_in(alloc, lists.placements)?;
     for (place, new) in all.iter().enumerate() {
         for old in all.iter().take(place) {
-            note(faults, pair_fault(old, new))?;
+            note(flaws, pair_flaw(old, new))?;
         }
-        note_if(faults, !is_owed(alloc, lists, new)?, Fault::NotOwed)?;
+        note_if(flaws, !is_owed(alloc, lists, new)?, Flaw::NotOwed)?;
         for source in lists.publications {
-            note_if(faults, is_echo(new, source), Fault::Echoed)?;
+            note_if(flaws, is_echo(new, source), Flaw::Echoed)?;
         }
     }
     Ok(())
 }
 
-fn check_names(lists: Lists<'_>, faults: &mut Vec<Fault>) -> anyhow::Result<()> {
+fn check_names(lists: Lists<'_>, flaws: &mut Vec<Flaw>) -> anyhow::Result<()> {
     for (place, new) in lists.publications.iter().enumerate() {
         for old in lists.publications.iter().take(place) {
-            note_if(faults, old.id == new.id, Fault::OneName)?;
+            note_if(flaws, old.id == new.id, Flaw::OneName)?;
         }
     }
     for (place, new) in lists.lives.iter().enumerate() {
         for old in lists.lives.iter().take(place) {
-            note_if(faults, old.id == new.id, Fault::OneName)?;
+            note_if(flaws, old.id == new.id, Flaw::OneName)?;
         }
     }
     Ok(())
@@ -321,22 +321,22 @@ fn is_same_message(a: &Message, b: &Message) -> bool {
         && a.payload().as_slice() == b.payload().as_slice()
 }
 
-fn check_sent(alloc: Global, lists: Lists<'_>, faults: &mut Vec<Fault>) -> anyhow::Result<()> {
+fn check_sent(alloc: Global, lists: Lists<'_>, flaws: &mut Vec<Flaw>) -> anyhow::Result<()> {
     let all = messages_in(alloc, lists.sent)?;
     for (place, new) in all.iter().enumerate() {
         for old in all.iter().take(place) {
-            note_if(faults, is_sent_twice(old, new), Fault::SentTwice)?;
+            note_if(flaws, is_sent_twice(old, new), Flaw::SentTwice)?;
         }
-        note_if(faults, !is_said(lists.publications, new), Fault::NotSaid)?;
+        note_if(flaws, !is_said(lists.publications, new), Flaw::NotSaid)?;
     }
     Ok(())
 }
 
 /// All that is wrong with the lists.
-pub fn faults_in(alloc: Global, lists: Lists<'_>) -> anyhow::Result<Vec<Fault>> {
-    let mut faults = Vec::new(alloc);
-    check_given(alloc, lists, &mut faults)?;
-    check_names(lists, &mut faults)?;
-    check_sent(alloc, lists, &mut faults)?;
-    Ok(faults)
+pub fn flaws_in(alloc: Global, lists: Lists<'_>) -> anyhow::Result<Vec<Flaw>> {
+    let mut flaws = Vec::new(alloc);
+    check_given(alloc, lists, &mut flaws)?;
+    check_names(lists, &mut flaws)?;
+    check_sent(alloc, lists, &mut flaws)?;
+    Ok(flaws)
 }

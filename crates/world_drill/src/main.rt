@@ -57,10 +57,10 @@ fn lists_wanted<R: Env + Alloc<A = Global>>(rt: &R) -> anyhow::Result<Option<u64
 
 /// What has to come out.
 fn tell<R: Print>(rt: &R, found: &Found) -> anyhow::Result<()> {
-    println!(rt; "lists: {}, faults found: {}", found.lists, found.faults)?;
+    println!(rt; "lists: {}, flaws found: {}", found.lists, found.flaws)?;
     println!(rt; "lists alike on every table and race: {}", found.alike)?;
     println!(rt;
-        "planted faults found: {} of {}",
+        "planted flaws found: {} of {}",
         found.found_plants(),
         PLANTS.len()
     )?;

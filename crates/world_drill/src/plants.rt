@@ -1,7 +1,7 @@
-//! Faults that are planted into copies of the lists, each of which the checker has to find.
+//! Flaws that are planted into copies of the lists, each of which the checker has to find.
 
 use crate::copies::{Copies, one_of};
-use crate::lists::{Fault, Given, Lists, faults_in, given_in, is_message};
+use crate::lists::{Flaw, Given, Lists, flaws_in, given_in, is_message};
 use crate::player::place_of;
 use cluster_world::Placements;
 use outbox::{Mode, Tag};
@@ -39,14 +39,14 @@ pub const PLANTS: [Plant; 7] = [
 ];
 
 /// What the checker has to say of it.
-fn fault_of(plant: Plant) -> Fault {
+fn flaw_of(plant: Plant) -> Flaw {
     match plant {
-        Plant::PlacedAgain => Fault::PlainTwice,
-        Plant::SecondMember => Fault::TwoMembers,
-        Plant::Backwards => Fault::OutOfOrder,
-        Plant::Unpublished | Plant::ClosedBefore => Fault::NotOwed,
-        Plant::SentAgain => Fault::SentTwice,
-        Plant::Echo => Fault::Echoed,
+        Plant::PlacedAgain => Flaw::PlainTwice,
+        Plant::SecondMember => Flaw::TwoMembers,
+        Plant::Backwards => Flaw::OutOfOrder,
+        Plant::Unpublished | Plant::ClosedBefore => Flaw::NotOwed,
+        Plant::SentAgain => Flaw::SentTwice,
+        Plant::Echo => Flaw::Echoed,
     }
 }
 
@@ -198,13 +198,13 @@ fn edit(
     }
 }
 
-/// Whether the checker finds the fault in edited copies of the lists; none where there is nothing to edit.
+/// Whether the checker finds the flaw in edited copies of the lists; none where there is nothing to edit.
 pub fn is_found(alloc: Global, plant: Plant, lists: Lists<'_>) -> anyhow::Result<Option<bool>> {
     let all = given_in(alloc, lists.placements)?;
     let mut copies = Copies::of(alloc, lists)?;
     if !edit(alloc, plant, &mut copies, &all)? {
         return Ok(None);
     }
-    let faults = faults_in(alloc, copies.lists())?;
-    Ok(Some(faults.contains(&fault_of(plant))))
+    let flaws = flaws_in(alloc, copies.lists())?;
+    Ok(Some(flaws.contains(&flaw_of(plant))))
 }
