@@ -72,6 +72,3 @@ pub trait Race: Sized + Drop {
         requires { IsInTurn (contents self.old) shard turn }
         ensures { IsFinished (contents self.old) shard turn (contents self.new) };
 }
-
-#[cfg(test)]
-mod tests;

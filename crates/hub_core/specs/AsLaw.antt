@@ -14,7 +14,7 @@ use Rattle.subj.specs.Messages.{Content}
 use Rattle.subj.specs.Servers.{Server, IsListed, place}
 use Rattle.interest.specs.declared.changes.Change.{Change}
 use Rattle.interest.specs.declared.changes.Change.TheVariants.{Up, Gone}
-use Rattle.interest.specs.declared.changes.Delta.{Delta}
+use Rattle.subj.specs.declared.keys.Delta.{Delta}
 use Rattle.interest.specs.Counts.{IsInterest}
 use Rattle.interest.specs.Views.{View, told_view, view_with_change}
 use Rattle.route_values.specs.declared.bodies.Body.{Body}

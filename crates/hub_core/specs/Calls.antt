@@ -24,7 +24,7 @@ use Rattle.hub_core.specs.Events.{Answer}
 use Rattle.interest.specs.Counts.{Counts}
 use Rattle.interest.specs.declared.recounts.Recount.{Recount}
 use Rattle.interest.specs.Recounts.{IsRecountOf}
-use Rattle.interest.specs.declared.changes.Delta.{Delta}
+use Rattle.subj.specs.declared.keys.Delta.{Delta}
 use Rattle.hub_core.specs.Telling.{body_of, without_slow, count_of_changes, changes_of, collect_refusal, collect_frames, slow_peers}
 use Rattle.hub_core.specs.Receiving.{receive_refusal, routed_job}
 use Rattle.hub_core.specs.Hubs.{Hub}

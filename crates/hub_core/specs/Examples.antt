@@ -7,7 +7,7 @@ use Rattle.subj.specs.declared.limits.TheConstants.{ROUTE_FRAMES}
 use Rattle.subj.specs.Messages.{Content}
 use Rattle.subj.specs.Servers.{Server}
 use Rattle.interest.specs.declared.changes.Change.TheVariants as change
-use Rattle.interest.specs.declared.changes.Delta.{Delta}
+use Rattle.subj.specs.declared.keys.Delta.{Delta}
 use Rattle.interest.specs.Counts.{Counts}
 use Rattle.interest.specs.Views.{View}
 use Rattle.route_values.specs.declared.bodies.Body.{Body}

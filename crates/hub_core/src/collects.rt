@@ -14,10 +14,10 @@ use crate::collecting::{cut_slow, frames_of_changes, slow_peers};
 use crate::faults::HubFault;
 use crate::hub::Hub;
 use crate::putting::put_all;
-use interest::{Change, Delta, DeltaPlan, Recount};
+use interest::{Change, DeltaPlan, Recount};
 use route_values::Numbered;
 use std::alloc::AllocError;
-use subj::{Failure, MAX_COUNTER};
+use subj::{Delta, Failure, MAX_COUNTER};
 
 /// What a collect does, found before anything is changed.
 #[derive(Debug, Drop)]

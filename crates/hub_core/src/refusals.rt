@@ -9,9 +9,9 @@ ghost use Rattle.hub_core.specs.Telling.{collect_refusal, collect_frames};
 use crate::choice::gather_names;
 use crate::faults::HubFault;
 use crate::hub::Hub;
-use interest::{Delta, FoundNames};
+use interest::FoundNames;
 use route_values::Numbered;
-use subj::{Failure, Finished, Pub};
+use subj::{Delta, Failure, Finished, Pub};
 
 impl Hub {
     /// Why [`Hub::plan_publish`] refuses. Takes no memory.

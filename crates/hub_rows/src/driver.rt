@@ -3,11 +3,10 @@
 
 use crate::made::{incarnation, server};
 use hub_core::{Hub, PublishPlan, Received};
-use interest::Delta;
 use route_values::Numbered;
 use std::alloc::Global;
 use std::test::Fail;
-use subj::{ConnId, Failure, Finished, Key, Pub};
+use subj::{ConnId, Delta, Failure, Finished, Key, Pub};
 
 /// What comes of a frame.
 #[derive(Clone, Copy, Debug, PartialEq, Eq)]

@@ -1,12 +1,12 @@
 //! Examples: opening and closing twice, the order of the keys, what matches, and each limit.
 
 use crate::made::key;
-use interest::{Change, Delta, InterestFault, Local};
+use interest::{Change, InterestFault, Local};
 use std::alloc::Global;
 use std::process::Abort;
 use std::test::Fail;
 use subj::{
-    Failure, Key, MAX_KEYS, MAX_QUEUE_NAME, MAX_SUBJECT, MAX_WEIGHT, Pattern, QueueName,
+    Delta, Failure, Key, MAX_KEYS, MAX_QUEUE_NAME, MAX_SUBJECT, MAX_WEIGHT, Pattern, QueueName,
     SUBSCRIPTION_BYTES, SUBSCRIPTION_COST, Subject,
 };
 

@@ -8,7 +8,7 @@ use Rattle.subj.specs.declared.keys.Key.{Key}
 use Rattle.subj.specs.Matching.{subject_matches}
 use Rattle.interest.specs.declared.faults.InterestFault.{InterestFault}
 use Rattle.interest.specs.declared.faults.InterestFault.TheVariants.{UnknownKey, TooManyKeys}
-use Rattle.interest.specs.declared.changes.Delta.{Delta}
+use Rattle.subj.specs.declared.keys.Delta.{Delta}
 use Rattle.interest.specs.declared.changes.Change.{Change}
 use Rattle.interest.specs.declared.changes.Change.TheVariants.{Up, Gone}
 use Rattle.subj.specs.Keys.{key_cmp, cost_of}

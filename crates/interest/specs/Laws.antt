@@ -4,10 +4,10 @@ use Rattle.std.specs.List.{AllByRecursion}
 use Rattle.std.specs.Ordering.{is_eq}
 use Rattle.subj.specs.declared.keys.Key.{Key}
 use Rattle.subj.specs.declared.limits.TheConstants.{SUBSCRIPTIONS, SUBSCRIPTION_BYTES}
-use Rattle.subj.specs.Keys.{key_cmp, cost_of}
+use Rattle.subj.specs.Keys.{key_cmp, cost_of, opening, closing}
 use Rattle.route_values.specs.Snapshots.{Weighted, weighted_key, snapshot_of}
 use Rattle.interest.specs.declared.changes.Change.{Change}
-use Rattle.interest.specs.declared.changes.Delta.{Delta}
+use Rattle.subj.specs.declared.keys.Delta.{Delta}
 use Rattle.interest.specs.Counts.{Counts, count_of, counts_after, change_of, delta_fault, IsInterest}
 use Rattle.interest.specs.Told.{counts_told, changes_told, AreTaken}
 use Rattle.interest.specs.Views.{told_view, followed_if, view_after, view_at}
@@ -34,12 +34,6 @@ one_if_same key other = if is_eq (key_cmp key other) then 1 else 0
 -- how often the key stands among these
 abbrev pub times : Key → List Key → ℕ
 times key keys = sum_by (one_if_same key) keys
-
-abbrev pub opening : Key → Delta
-opening key = record { key = key; up = true }
-
-abbrev pub closing : Key → Delta
-closing key = record { key = key; up = false }
 
 pub record IsCounting : Type 0 where
   -- nothing counts at the start

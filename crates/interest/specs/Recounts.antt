@@ -7,7 +7,7 @@ use Rattle.std.specs.BTreeMap.{is_at}
 use Rattle.subj.specs.declared.keys.Key.{Key}
 use Rattle.subj.specs.declared.limits.TheConstants.{MAX_KEYS}
 use Rattle.subj.specs.Keys.{key_cmp}
-use Rattle.interest.specs.declared.changes.Delta.{Delta}
+use Rattle.subj.specs.declared.keys.Delta.{Delta}
 use Rattle.interest.specs.declared.recounts.Recount.{Recount}
 use Rattle.interest.specs.declared.recounts.Recount.TheVariants.{Few, Many}
 use Rattle.interest.specs.declared.tally.DeltaPlan.{DeltaPlan}

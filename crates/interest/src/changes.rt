@@ -1,15 +1,7 @@
-//! What changes interest, and what is told of it.
+//! What is told of interest.
 
 use route_values::WeightedKey;
 use subj::Key;
-
-/// One subscription of the key opened or closed. (Profile.)
-#[derive(Debug, Drop)]
-pub struct Delta {
-    pub key: Key,
-    /// Whether it opened.
-    pub up: bool,
-}
 
 /// What the other servers are told. (NATS documentation, "Cluster Protocol": `RS+` and `RS-`.)
 #[derive(Debug, Drop)]

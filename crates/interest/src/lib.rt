@@ -9,7 +9,7 @@
 //! }
 //! ```
 //!
-//! In reading order: `changes` is what is counted and told; `local` is the server's own interest, and `views` that of a peer, both
+//! In reading order: `changes` is what is told; `local` is the server's own interest, and `views` that of a peer, both
 //! over keys in order (`ordered_keys`, `keys`). `seeks` with `sights` finds the keys that match a subject, `matches` and `names` say who
 //! wants it. `tally` and `recounts` count many changes at once.
 #![tactic(auto)]
@@ -28,7 +28,7 @@ mod sights;
 mod tally;
 mod views;
 
-pub use changes::{Change, Delta};
+pub use changes::Change;
 pub use faults::InterestFault;
 pub use keys::Keys;
 pub use laws::{

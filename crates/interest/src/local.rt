@@ -13,7 +13,7 @@ ghost use Rattle.interest.specs.Matches.{has_queue_match, weight_in, names_in as
 ghost use Rattle.interest.specs.Tally.{opens_key, key_if};
 ghost use Rattle.interest.specs.Counts.{count_after, with_count, count_of, change_between, is_plain_match, IsInterest, is_full, too_many_if, counts_after, delta_fault, change_of};
 
-use crate::changes::{Change, Delta};
+use crate::changes::Change;
 use crate::faults::InterestFault;
 use crate::keys::Keys;
 use crate::matches::{has_match, names_in, weight_of};
@@ -23,7 +23,7 @@ use route_values::WeightedKey;
 use std::alloc::{AllocError, Global};
 use std::collections::VecDeque;
 use std::marker::Model;
-use subj::{Failure, Key, MAX_KEYS, MAX_WEIGHT, QueueName, SUBSCRIPTION_BYTES, Subject};
+use subj::{Delta, Failure, Key, MAX_KEYS, MAX_WEIGHT, QueueName, SUBSCRIPTION_BYTES, Subject};
 
 /// The places for keys, as the length of a list.
 pub(crate) const PLACES: usize = MAX_KEYS as usize;

@@ -10,7 +10,7 @@ ghost use Rattle.interest.specs.Recounts.{IsPlanOf, IsRecountOf};
 ghost use Rattle.interest.specs.declared.recounts.Recount.TheVariants.{Many};
 ghost use Rattle.interest.specs.Told.{counts_told, changes_told as told, are_refused};
 
-use crate::changes::{Change, Delta};
+use crate::changes::Change;
 use crate::local::{Local, PLACES, change, number_after};
 use crate::ordered_keys::OrderedKey;
 use crate::recounts::{Numbers, Recount, entries_after};
@@ -18,7 +18,7 @@ use std::alloc::{AllocError, Global};
 use std::cmp::Ordering;
 use std::collections::{BTreeMap, VecDeque};
 use std::mem::replace;
-use subj::{Key, MAX_KEYS, MAX_WEIGHT, SUBSCRIPTION_BYTES};
+use subj::{Delta, Key, MAX_KEYS, MAX_WEIGHT, SUBSCRIPTION_BYTES};
 
 /// The number of the key's open subscriptions after these deltas, where it was this one before.
 fn number_behind(deltas: &[Delta], key: &Key, number: u64) -> u64

@@ -4,11 +4,10 @@ use crate::faults::invalid;
 use crate::shard_setup::queue_name;
 use bytes::Bytes;
 use hub_core::Hub;
-use interest::Delta;
 use route_values::{Body, Numbered, SnapshotKeys, WeightedKey};
 use std::alloc::Global;
 use std::io;
-use subj::{Finished, Incarnation, Key, NodeId, Pattern, Pub, Server, Subject};
+use subj::{Delta, Finished, Incarnation, Key, NodeId, Pattern, Pub, Server, Subject};
 
 /// Who wants what is published.
 #[derive(Clone, Copy)]

@@ -4,7 +4,7 @@ use Rattle.std.specs.List.{flat_map}
 use Rattle.subj.specs.Servers.{Server, IsListed}
 use Rattle.subj.specs.declared.keys.Key.{Key}
 use Rattle.sub_table.specs.declared.Subscription.{Subscription}
-use Rattle.interest.specs.declared.changes.Delta.{Delta}
+use Rattle.subj.specs.declared.keys.Delta.{Delta}
 use Rattle.interest.specs.Counts.{count_of}
 use Rattle.interest.specs.Laws.{times}
 use Rattle.interest.specs.Told.{is_opening, is_closing}

@@ -4,7 +4,7 @@ use Rattle.std.specs.Option.{option_map}
 use Rattle.subj.specs.Servers.{Server, place}
 use Rattle.subj.specs.declared.jobs.Job.{Job}
 use Rattle.sub_table.specs.declared.Subscription.{Subscription}
-use Rattle.interest.specs.declared.changes.Delta.{Delta}
+use Rattle.subj.specs.declared.keys.Delta.{Delta}
 use Rattle.claim_race.specs.Race.{RaceState, IsIssued, IsClaimed, IsFinished}
 use Rattle.route_values.specs.Frames.{Frame}
 use Rattle.route_values.specs.declared.bodies.Body.{Body}

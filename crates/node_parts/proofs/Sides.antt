@@ -5,7 +5,7 @@ use Rattle.hub_core.specs.Hubs as hubs
 use Rattle.hub_core.specs.Hubs.{Hub}
 use Rattle.hub_core.specs.Telling.{collect_frames, slow_peers}
 use Rattle.interest.specs.declared.changes.Change.{Change}
-use Rattle.interest.specs.declared.changes.Delta.{Delta}
+use Rattle.subj.specs.declared.keys.Delta.{Delta}
 use Rattle.route_session.specs.Calls as calls
 use Rattle.route_session.specs.Events as of_sessions
 use Rattle.route_session.specs.State as sessions

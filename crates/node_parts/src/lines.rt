@@ -15,7 +15,6 @@ mod taking;
 
 use claim_race::Race;
 use client_frames::{ErrText, ReplyFrame};
-use interest::Delta;
 use node_law::NodeFault;
 use outbox::Entry;
 use shard_core::{
@@ -25,7 +24,7 @@ use std::alloc::{AllocError, Global};
 use std::collections::VecDeque;
 use std::marker::Model;
 use sub_table::SubTable;
-use subj::{ConnId, Failure, Job, Key, Sid, SubId, Turn, WINDOW};
+use subj::{ConnId, Delta, Failure, Job, Key, Sid, SubId, Turn, WINDOW};
 
 /// What a shard answers, as its server's answer.
 fn shard_answer<X>(answer: Result<X, Failure<ShardFault>>) -> Result<X, Failure<NodeFault>>

@@ -19,12 +19,11 @@ ghost use Rattle.node_parts.specs.Sides.{ByHub, BySessions, OfHub, OfSessions, I
 
 use crate::peers::{drop_sessions, end_old_session, peer_named, seen_of};
 use hub_core::{Hub, HubFault, PublishPlan, Told};
-use interest::Delta;
 use route_session::{Kept, SessionFault, SessionId, Sessions};
 use route_values::{Numbered, RouteConnect, RouteInfo};
 use std::alloc::{AllocError, Global};
 use std::marker::Model;
-use subj::{ConnId, Failure, Finished, Incarnation, Job, NodeId, Pub, Server};
+use subj::{ConnId, Delta, Failure, Finished, Incarnation, Job, NodeId, Pub, Server};
 
 /// Counts the deltas of the shard, and tells of them: [`Hub::collect`].
 fn tell(hub: &mut Hub, shard: u64, deltas: &[Delta]) -> Result<Told, Failure<HubFault>>

@@ -1,6 +1,6 @@
 -- What is kept in writing of what was done under a lock.
 use Rattle.std.specs.Prelude.{◌≡◌, ℕ, Bool, List, [], ◌∷◌, ◌++◌, length, Option, Some, None}
-use Rattle.interest.specs.declared.changes.Delta.{Delta}
+use Rattle.subj.specs.declared.keys.Delta.{Delta}
 use Rattle.subj.specs.declared.jobs.Job.{Job}
 use Rattle.shard_core.specs.ShardEvents as of_shard
 use Rattle.node_threads.specs.AtWork.{AtWork, Makes, at_start}

@@ -3,10 +3,9 @@
 ghost use Rattle.std.specs.Prelude.{◌≡◌, IfOk};
 
 use client_frames::{ErrText, ReplyFrame};
-use interest::Delta;
 use std::alloc::{AllocError, Global};
 use std::marker::Model;
-use subj::{ConnId, Job, Key, Sid, SubId, Turn};
+use subj::{ConnId, Delta, Job, Key, Sid, SubId, Turn};
 
 /// Deltas, in order.
 ///
@@ -18,7 +17,7 @@ pub struct Deltas {
 
 impl Model for Deltas {
     ghost use Rattle.std.specs.Prelude.{List};
-    ghost use Rattle.interest.specs.declared.changes.Delta.{Delta};
+    ghost use Rattle.subj.specs.declared.keys.Delta.{Delta};
 
     ghost Value = { List Delta };
 

@@ -13,14 +13,13 @@ ghost use Rattle.node_threads.specs.AtWork.{Does, TakesBytes, at_start};
 use crate::node_name::NodeName;
 use claim_cells::ShardSeat;
 use client_frames::{ErrText, ReplyFrame};
-use interest::Delta;
 use job_lane::LaneOut;
 use outbox::Entry;
 use shard_core::{Closed, Recipients, Shard, ShardFault, Subscribed};
 use std::alloc::{AllocError, Global};
 use std::marker::{Model, PhantomData};
 use sub_table::SubTable;
-use subj::{ConnId, Failure, Key, Sid, SubId};
+use subj::{ConnId, Delta, Failure, Key, Sid, SubId};
 
 /// A shard of a server on threads: the shard, its seat at the race, and its end of its lane. (Profile.)
 ///

@@ -56,6 +56,3 @@ pub fn choose(weights: &[(NodeId, u64)], word: u64) -> Option<NodeId>
     }
     server_of_unit(weights, word % total)
 }
-
-#[cfg(test)]
-mod tests;

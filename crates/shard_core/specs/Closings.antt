@@ -1,7 +1,7 @@
 -- Subscriptions that close, and what each opening and closing leaves for the hub.
 use Rattle.std.specs.Prelude.{ℕ, Bool, false, not, ◌&&◌, nat_eq, List, ◌++◌, map, filter}
 use Rattle.std.specs.List.{flat_map, list_any}
-use Rattle.interest.specs.declared.changes.Delta.{Delta}
+use Rattle.subj.specs.declared.keys.Delta.{Delta}
 use Rattle.sub_table.specs.Subscriptions.{is_of, has_serial, serial_of}
 use Rattle.sub_table.specs.declared.Subscription.{Subscription}
 use Rattle.subj.specs.declared.identities.SubId.{SubId}

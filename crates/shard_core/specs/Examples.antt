@@ -3,7 +3,7 @@ use Rattle.std.specs.Prelude.{◌≡◌, ℕ, ◌-◌, Bool, true, false, codes,
 use Rattle.std.specs.Option.{option_map}
 use Rattle.client_frames.specs.declared.server_frames.ReplyFrame.TheVariants.{Pong}
 use Rattle.outbox.specs.Views.{Written, reply_entry}
-use Rattle.interest.specs.declared.changes.Delta.{Delta}
+use Rattle.subj.specs.declared.keys.Delta.{Delta}
 use Rattle.sub_table.specs.Subscriptions.{serial_of}
 use Rattle.sub_table.specs.declared.Subscription.{Subscription}
 use Rattle.subj.specs.declared.identities.SubId.{SubId}

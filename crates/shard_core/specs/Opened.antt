@@ -1,10 +1,10 @@
 -- The open subscriptions of a shard, and the openings and closings that its hub was not told of yet.
 use Rattle.std.specs.Prelude.{◌≡◌, ◌≢◌, ℕ, ◌+◌, ◌<◌, ◌≤◌, ◌^◌, List, [], ◌∷◌, ◌++◌, length, map, filter, All}
-use Rattle.interest.specs.declared.changes.Delta.{Delta}
+use Rattle.subj.specs.declared.keys.Delta.{Delta}
 use Rattle.list_laws.specs.Lists.{Each, Pairs}
 use Rattle.sub_table.specs.declared.Subscription.{Subscription}
 use Rattle.shard_core.specs.Shards.{State}
-use Rattle.interest.specs.Laws.{opening}
+use Rattle.subj.specs.Keys.{opening}
 use Rattle.shard_core.specs.Closings.{serials_of, is_left, closings_of}
 use Rattle.shard_core.specs.Owed.{sub_with_count}
 use Rattle.shard_core.specs.Members.{AreNoted}

@@ -2,7 +2,7 @@
 use Rattle.std.specs.Prelude.{ℕ, Bool, List, Option}
 use Rattle.client_frames.specs.declared.server_frames.ReplyFrame.{ReplyFrame}
 use Rattle.client_frames.specs.declared.err_texts.ErrText.{ErrText}
-use Rattle.interest.specs.declared.changes.Delta.{Delta}
+use Rattle.subj.specs.declared.keys.Delta.{Delta}
 use Rattle.outbox.specs.Views.{Written}
 use Rattle.subj.specs.declared.identities.SubId.{SubId}
 use Rattle.subj.specs.declared.jobs.Job.{Job}

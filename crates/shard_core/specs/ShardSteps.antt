@@ -6,7 +6,7 @@ use Rattle.client_frames.specs.Frames.{reply_line}
 use Rattle.outbox.specs.Views.{empty_backlog, reply_entry, with_entry, with_last, without_first}
 use Rattle.sub_table.specs.Subscriptions.{is_called, with_max, total_cost}
 use Rattle.sub_table.specs.declared.Subscription.{Subscription}
-use Rattle.subj.specs.Keys.{cost_of}
+use Rattle.subj.specs.Keys.{cost_of, opening}
 use Rattle.subj.specs.declared.identities.SubId.{SubId}
 use Rattle.subj.specs.declared.jobs.Job.{Job}
 use Rattle.subj.specs.declared.keys.Key.{Key}
@@ -14,7 +14,6 @@ use Rattle.subj.specs.declared.limits.TheConstants.{MAX_COUNTER, MAX_SERIAL, SUB
 use Rattle.shard_core.specs.declared.faults.ShardFault.{ShardFault}
 use Rattle.shard_core.specs.declared.faults.ShardFault.TheVariants.{NoConn, JobInHand, NoJob, WrongTurn, TooManySubs, BadIndex, NotAllTried, Spent}
 use Rattle.shard_core.specs.Shards.{State, Client, is_open, is_known, client_at, clients_with_change, without_client, fits, waits_for}
-use Rattle.interest.specs.Laws.{opening}
 use Rattle.shard_core.specs.Closings.{id_of, left_of, without_subs, ended_ids}
 use Rattle.shard_core.specs.Owed.{Walk, whole_walk, after_begin, slow_consumer, candidate_of, after_claim, placed_for, ended_by}
 use Rattle.shard_core.specs.ShardEvents.{Event, Attach, Subscribe, Unsubscribe, Reply, Shut, Detach, Take, Begin, Claim, End, DropJob, Collect, Answer, Attached, Opened, AlreadyOpen, Unsubscribed, Replied, WasShut, Detached, Taken, Began, Nobody, Lost, Won, Finished, Dropped, Collected}

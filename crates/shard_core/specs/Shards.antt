@@ -1,6 +1,6 @@
 -- A shard as its callers see it, and its connections.
 use Rattle.std.specs.Prelude.{ℕ, Bool, false, not, nat_eq, List, [], ◌∷◌, filter, find, Option, Some, None, is_some, if◌then◌else◌}
-use Rattle.interest.specs.declared.changes.Delta.{Delta}
+use Rattle.subj.specs.declared.keys.Delta.{Delta}
 use Rattle.outbox.specs.Views.{Written, Backlog, has_room}
 use Rattle.sub_table.specs.declared.Subscription.{Subscription}
 use Rattle.subj.specs.declared.jobs.Job.{Job}

@@ -9,11 +9,10 @@ ghost use Rattle.shard_core.specs.Closings.{left_of};
 ghost use Rattle.shard_core.specs.Opened.{AreRising, AreApart, IsNext, CanCount, CanCountEach, none_opened, with_opening, with_counts, with_closings, all_told};
 
 use crate::members::{Member, Members, mark_of};
-use interest::Delta;
 use std::alloc::{AllocError, Global};
 use std::marker::Model;
 use sub_table::{SubTable, Subscription};
-use subj::{ConnId, QueueName, Subject};
+use subj::{ConnId, Delta, QueueName, Subject};
 
 /// Takes the memory of so many closing deltas, of an opening one, and of the closing one that is to follow it.
 fn reserve_for(deltas: &mut Vec<Delta>, closings: usize) -> Result<(), AllocError>

@@ -26,13 +26,12 @@ use crate::queue_claim::{QueueClaim, choose};
 use crate::recipients::Recipients;
 use crate::tally::{Tally, is_last, place_all, sub_ids};
 use client_frames::{ErrText, ReplyFrame, reply_line};
-use interest::Delta;
 use outbox::{Entry, LAST_LINE_TEXT};
 use std::alloc::{AllocError, Global};
 use std::marker::Model;
 use sub_table::{SubTable, Subscription};
 use subj::{
-    ConnId, Failure, Job, Key, MAX_COUNTER, MAX_SERIAL, MAX_SHARDS, SUBSCRIPTION_BYTES,
+    ConnId, Delta, Failure, Job, Key, MAX_COUNTER, MAX_SERIAL, MAX_SHARDS, SUBSCRIPTION_BYTES,
     SUBSCRIPTIONS, Sid, SubId, Turn,
 };
 

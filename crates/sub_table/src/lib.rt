@@ -212,6 +212,3 @@ impl SubTable for ListTable {
         self.subs.retain(|sub| sub.conn != conn);
     }
 }
-
-#[cfg(test)]
-mod tests;

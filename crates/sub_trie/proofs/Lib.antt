@@ -3,6 +3,5 @@ mod Orders
 mod Recalls
 mod Keyed
 mod Owned
-mod Below
 mod Closing
 mod Listing

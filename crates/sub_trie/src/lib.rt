@@ -18,6 +18,3 @@ mod slot;
 mod table;
 
 pub use table::TrieTable;
-
-#[cfg(test)]
-mod tests;

@@ -1,9 +1,10 @@
--- The order of keys, and what a key counts.
-use Rattle.std.specs.Prelude.{ℕ, ◌+◌, List, length, Option, Some, None}
+-- The order of keys, what a key counts, and how subscriptions of one change.
+use Rattle.std.specs.Prelude.{ℕ, ◌+◌, true, false, List, length, Option, Some, None}
 use Rattle.std.specs.Cmp.Lexicographic.{slice_cmp}
 use Rattle.std.specs.Option.{option_cmp}
 use Rattle.std.specs.Ordering.{nat_cmp, ordering_then}
 use Rattle.std.specs.declared.cmp.Ordering.{Ordering}
+use Rattle.subj.specs.declared.keys.Delta.{Delta}
 use Rattle.subj.specs.declared.keys.Key.{Key}
 use Rattle.subj.specs.declared.limits.TheConstants.{SUBSCRIPTION_COST}
 
@@ -18,3 +19,11 @@ queue_bytes (Some name) = length name
 -- profile: what a key counts against a limit of bytes
 abbrev pub cost_of : Key → ℕ
 cost_of key = length key.pattern + queue_bytes key.queue + SUBSCRIPTION_COST
+
+-- one more subscription of the key is open
+abbrev pub opening : Key → Delta
+opening key = record { key = key; up = true }
+
+-- one of them has closed
+abbrev pub closing : Key → Delta
+closing key = record { key = key; up = false }

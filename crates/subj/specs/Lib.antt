@@ -18,7 +18,7 @@ pub mod Messages
 pub mod Publications
 -- lists of queue names
 pub mod QueueNames
--- the order of keys, and what a key counts
+-- the order of keys, what a key counts, and how subscriptions of one change
 pub mod Keys
 -- the servers of a cluster, by name and by place
 pub mod Servers

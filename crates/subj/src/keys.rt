@@ -1,4 +1,4 @@
-//! What a server's clients are interested in.
+//! What a server's clients are interested in, and how that changes.
 
 ghost use Rattle.std.specs.Prelude.{◌≡◌, ◌≤◌, IfOk};
 ghost use Rattle.std.specs.Cmp.Lexicographic.{slice_cmp};
@@ -53,6 +53,14 @@ impl Key {
         let queue = self.queue.as_ref().map_or(0, |name| name.bytes().len());
         (self.pattern.bytes().len() + queue) as u64 + SUBSCRIPTION_COST
     }
+}
+
+/// One subscription of the key opened or closed. (Profile.)
+#[derive(Debug, Drop)]
+pub struct Delta {
+    pub key: Key,
+    /// Whether it opened.
+    pub up: bool,
 }
 
 /// No queue name first, then by bytes.

@@ -32,7 +32,7 @@ pub use failures::Failure;
 pub use faults::NameFault;
 pub use identities::{ConnId, Incarnation, PubId, SubId};
 pub use jobs::{Job, QueueNames};
-pub use keys::Key;
+pub use keys::{Delta, Key};
 pub use limits::{
     CLIENT_LINE, JOIN_EVENTS, LAST_LINE, MAX_COST, MAX_COUNTER, MAX_INCARNATION, MAX_KEYS,
     MAX_NODE_NAME, MAX_NODES, MAX_PAYLOAD, MAX_QUEUE_NAME, MAX_QUEUE_NAMES, MAX_SERIAL,

@@ -1,6 +1,6 @@
 -- The deltas that shards hand to the hub.
 use Rattle.std.specs.Prelude.{◌≡◌, ℕ, ◌+◌, List, [], ◌∷◌, cond, nat_eq, flat_map, slice_get, Some}
-use Rattle.interest.specs.declared.changes.Delta.{Delta}
+use Rattle.subj.specs.declared.keys.Delta.{Delta}
 use Rattle.node_threads.specs.declared.shard_entries.ShardEntry.{ShardEntry}
 use Rattle.node_threads.specs.declared.shard_entries.ShardEvent.{ShardEvent}
 use Rattle.node_threads.specs.declared.shard_entries.ShardEvent.TheVariants as shard

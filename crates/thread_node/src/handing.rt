@@ -4,9 +4,9 @@ ghost use Rattle.std.specs.Prelude.{◌≡◌, true, None, IfOk, map};
 ghost use Rattle.thread_node.specs.Handing.{AreHanded, deltas_given, deltas_heard};
 
 use crate::hub_entries::{HubEntry, HubEvent};
-use interest::Delta;
 use node_threads::{Deltas, ShardEntry, ShardEvent};
 use std::alloc::{AllocError, Global};
+use subj::Delta;
 use value_equality::is_same_key;
 
 /// Whether it is the same delta.

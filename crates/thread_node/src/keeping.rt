@@ -1,7 +1,7 @@
 //! What is written down of the calls under a lock.
 
 ghost use Rattle.std.specs.Prelude.{◌≡◌, ◌∷◌, List, [], length, IfSome, option_to_list};
-ghost use Rattle.interest.specs.declared.changes.Delta.{Delta};
+ghost use Rattle.subj.specs.declared.keys.Delta.{Delta};
 ghost use Rattle.shard_core.specs.Answers.{answer_of};
 ghost use Rattle.node_threads.specs.Tapes.{Grows, entry, told_of};
 ghost use Rattle.node_threads.specs.declared.shard_entries.ShardEvent.{ShardEvent};
@@ -12,13 +12,12 @@ ghost use Rattle.thread_node.specs.declared.hub_entries.HubEvent.{HubEvent};
 ghost use Rattle.thread_node.specs.declared.hub_entries.HubEvent.TheVariants.{Collect as HubCollect, Publish, Receive};
 
 use crate::hub_entries::{HubEntry, HubEvent, HubTold};
-use interest::Delta;
 use node_parts::Received;
 use node_threads::{Deltas, ShardEntry, ShardEvent, ShardTold, Tape};
 use route_values::Numbered;
 use shard_core::Subscribed;
 use std::alloc::Global;
-use subj::{ConnId, Finished, Key, Pub, Sid, SubId};
+use subj::{ConnId, Delta, Finished, Key, Pub, Sid, SubId};
 
 /// How many there are.
 pub(crate) fn length_of<X>(list: &Vec<X>) -> usize

@@ -16,7 +16,6 @@ use crate::keeping::{
 };
 use claim_cells::Cells;
 use client_frames::{ErrText, ReplyFrame};
-use interest::Delta;
 use node_threads::{Gate, NodeName, ShardEntry, ShardEvent, ShardState, ShardTold, Tape, Turned};
 use outbox::Entry;
 use shard_core::{Closed, Recipients, ShardFault, Subscribed};
@@ -24,7 +23,7 @@ use std::alloc::Global;
 use std::marker::Model;
 use std::sync::{Arc, Wait};
 use sub_table::SubTable;
-use subj::{ConnId, Failure, Key, Sid, SubId, Turn};
+use subj::{ConnId, Delta, Failure, Key, Sid, SubId, Turn};
 
 /// What stands under the lock of a shard: its state, with the race, and its tape. (Profile.)
 ///

@@ -17,8 +17,6 @@ mod frames;
 mod keys;
 mod lines;
 mod messages;
-#[cfg(test)]
-mod tests;
 
 pub use frames::is_same_frame;
 pub use keys::{is_same_key, is_same_sid};

@@ -12,7 +12,7 @@ use Rattle.subj.specs.declared.limits.TheConstants.{MAX_COUNTER}
 use Rattle.subj.specs.Servers.{Server, IsListed, name_of, own_name}
 use Rattle.interest.specs.declared.changes.Change.{Change}
 use Rattle.interest.specs.declared.changes.Change.TheVariants.{Up, Gone}
-use Rattle.interest.specs.declared.changes.Delta.{Delta}
+use Rattle.subj.specs.declared.keys.Delta.{Delta}
 use Rattle.interest.specs.declared.faults.InterestFault.{InterestFault}
 use Rattle.interest.specs.Counts.{Counts, counts_after, delta_fault}
 use Rattle.interest.specs.Told.{counts_told, changes_told, are_refused, AreTaken}

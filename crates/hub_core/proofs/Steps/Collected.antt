@@ -5,7 +5,7 @@ use Rattle.std.proofs.lemmas.Bool.Decides.{nat_tests}
 use Rattle.list_laws.proofs.Tests.{no_cause, lt_false}
 use Rattle.subj.specs.declared.limits.TheConstants.{MAX_COUNTER, ROUTE_FRAMES}
 use Rattle.route_values.specs.Frames.{Frame}
-use Rattle.interest.specs.declared.changes.Delta.{Delta}
+use Rattle.subj.specs.declared.keys.Delta.{Delta}
 use Rattle.interest.specs.Told.{are_refused, counts_told}
 use Rattle.hub_core.specs.declared.faults.HubFault.TheVariants.{BadInterest, Spent}
 use Rattle.hub_core.specs.State.{State, Peer}

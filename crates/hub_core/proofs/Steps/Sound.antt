@@ -9,7 +9,7 @@ use Rattle.subj.specs.declared.limits.TheConstants.{ROUTE_FRAMES}
 use Rattle.subj.specs.Messages.{Content}
 use Rattle.subj.specs.Servers.{Server, IsListed, name_of, own_name, place}
 use Rattle.interest.specs.declared.changes.Change.{Change}
-use Rattle.interest.specs.declared.changes.Delta.{Delta}
+use Rattle.subj.specs.declared.keys.Delta.{Delta}
 use Rattle.interest.specs.Heard.{nothing_heard}
 use Rattle.route_values.specs.declared.bodies.Body.{Body}
 use Rattle.route_values.specs.declared.bodies.Body.TheVariants.{Plus, Minus, Snapshot, Msg}

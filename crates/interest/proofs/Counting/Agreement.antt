@@ -14,7 +14,7 @@ use Rattle.subj.specs.declared.limits.TheConstants.{MAX_WEIGHT}
 use Rattle.subj.specs.Keys.{key_cmp}
 use Rattle.interest.specs.declared.changes.Change.{Change}
 use Rattle.interest.specs.declared.changes.Change.TheVariants.{Up, Gone}
-use Rattle.interest.specs.declared.changes.Delta.{Delta}
+use Rattle.subj.specs.declared.keys.Delta.{Delta}
 use Rattle.interest.specs.Counts.{Counts, count_of, count_after, with_count, counts_after, change_between, change_of, delta_fault, is_full, is_plain, too_many_if, told_weight, IsInterest}
 use Rattle.interest.specs.Places.{IsPlaceOf, IsGapFor}
 use Rattle.interest.specs.Told.{counts_told, changes_told, AreTaken}

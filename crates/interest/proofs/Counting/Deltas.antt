@@ -9,7 +9,7 @@ use Rattle.subj.specs.declared.failures.Failure.TheVariants.{Refused, OutOfMemor
 use Rattle.subj.specs.Answers.{IsAnswered}
 use Rattle.subj.specs.Keys.{cost_of}
 use Rattle.interest.specs.declared.faults.InterestFault.TheVariants.{UnknownKey}
-use Rattle.interest.specs.declared.changes.Delta.{Delta}
+use Rattle.subj.specs.declared.keys.Delta.{Delta}
 use Rattle.interest.specs.Counts.{Counts, count_of, total_cost, is_full, is_too_much, too_many_if, count_after, with_count, counts_after, change_between, change_of, delta_fault}
 
 -- the same answer, told of another way

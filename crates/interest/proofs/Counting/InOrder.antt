@@ -11,7 +11,7 @@ use Rattle.subj.specs.declared.keys.Key.{Key}
 use Rattle.subj.specs.Keys.{key_cmp, cost_of}
 use Rattle.interest.specs.declared.faults.InterestFault.{InterestFault}
 use Rattle.interest.specs.declared.changes.Change.{Change}
-use Rattle.interest.specs.declared.changes.Delta.{Delta}
+use Rattle.subj.specs.declared.keys.Delta.{Delta}
 use Rattle.interest.specs.Counts.{Counts, count_of, count_after, with_count, counts_after, change_of, delta_fault, is_plain, is_too_much, too_many_if, total_cost, told_weight, IsInterest}
 use Rattle.interest.specs.Places.{IsPlaceOf, IsGapFor}
 use Rattle.interest.specs.Told.{counts_told, changes_told, are_refused}

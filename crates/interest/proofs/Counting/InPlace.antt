@@ -6,7 +6,7 @@ use Rattle.std.proofs.lemmas.Option.{none-some}
 use Rattle.subj.specs.declared.keys.Key.{Key}
 use Rattle.subj.specs.declared.limits.TheConstants.{MAX_KEYS, MAX_WEIGHT, SUBSCRIPTION_BYTES}
 use Rattle.subj.specs.Keys.{key_cmp, cost_of}
-use Rattle.interest.specs.declared.changes.Delta.{Delta}
+use Rattle.subj.specs.declared.keys.Delta.{Delta}
 use Rattle.interest.specs.Counts.{Counts, count_of, count_after, counts_after, with_count, delta_fault, is_full, too_many_if, total_cost}
 use Rattle.interest.specs.Places.{IsGapFor}
 use Rattle.interest.specs.Tally.{is_refused_of, opens_key, key_if}

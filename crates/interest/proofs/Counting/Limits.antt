@@ -15,9 +15,9 @@ use Rattle.std.proofs.lemmas.List.Sums.{sum_by-cons}
 use Rattle.std.proofs.lemmas.Map.Keys.{sorted_head, sorted_tail}
 use Rattle.subj.specs.declared.keys.Key.{Key}
 use Rattle.subj.specs.declared.limits.TheConstants.{MAX_WEIGHT, SUBSCRIPTIONS, SUBSCRIPTION_BYTES}
-use Rattle.subj.specs.Keys.{key_cmp, cost_of}
+use Rattle.subj.specs.Keys.{key_cmp, cost_of, opening, closing}
 use Rattle.interest.specs.Counts.{Counts, count_of, delta_fault, too_many_if, total_cost, IsInterest}
-use Rattle.interest.specs.Laws.{IsCounting, one_if_same, times, opening, closing}
+use Rattle.interest.specs.Laws.{IsCounting, one_if_same, times}
 use Rattle.interest.proofs.Counting.Deltas.{opening_of_known, opening_of_unknown, closing_of_known, has_room}
 use Rattle.interest.specs.KeyOrder.{key_order_total}
 use Rattle.interest.proofs.Counting.Ties.{tied_cost}

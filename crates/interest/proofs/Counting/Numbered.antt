@@ -15,7 +15,7 @@ use Rattle.subj.specs.declared.keys.Key.{Key}
 use Rattle.subj.specs.declared.limits.TheConstants.{MAX_WEIGHT}
 use Rattle.subj.specs.Keys.{key_cmp, cost_of}
 use Rattle.interest.specs.declared.changes.Change.{Change}
-use Rattle.interest.specs.declared.changes.Delta.{Delta}
+use Rattle.subj.specs.declared.keys.Delta.{Delta}
 use Rattle.interest.specs.Counts.{Counts, count_of, count_after, with_count, counts_after, change_between, change_of, delta_fault, total_cost, IsInterest}
 use Rattle.interest.specs.Told.{counts_told, changes_told, are_refused}
 use Rattle.interest.specs.Tally.{is_refused_of, total_after}

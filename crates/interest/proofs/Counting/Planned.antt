@@ -6,7 +6,7 @@ use Rattle.subj.specs.declared.limits.TheConstants.{MAX_WEIGHT}
 use Rattle.subj.specs.Keys.{key_cmp}
 use Rattle.std.proofs.lemmas.List.{append_assoc}
 use Rattle.interest.specs.declared.changes.Change.{Change}
-use Rattle.interest.specs.declared.changes.Delta.{Delta}
+use Rattle.subj.specs.declared.keys.Delta.{Delta}
 use Rattle.interest.specs.declared.faults.InterestFault.{InterestFault}
 use Rattle.interest.specs.Places.{IsPlaceOf, IsGapFor}
 use Rattle.interest.specs.Counts.{Counts, count_of, count_after, counts_after, change_between, change_of, delta_fault, IsInterest}

@@ -14,7 +14,7 @@ use Rattle.std.proofs.lemmas.Map.{lookup-remove_entry}
 use Rattle.std.proofs.lemmas.Map.Keys.{IsDistinct-from_sorted}
 use Rattle.subj.specs.declared.keys.Key.{Key}
 use Rattle.interest.specs.declared.faults.InterestFault.TheVariants.{UnknownKey}
-use Rattle.interest.specs.declared.changes.Delta.{Delta}
+use Rattle.subj.specs.declared.keys.Delta.{Delta}
 use Rattle.subj.specs.Keys.{key_cmp}
 use Rattle.interest.specs.Counts.{Counts, count_of, count_after, with_count, counts_after, delta_fault, too_many_if, is_too_much}
 use Rattle.interest.specs.Told.{is_opening, is_closing, counts_told, AreTaken, CountsOpen}

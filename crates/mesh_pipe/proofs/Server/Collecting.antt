@@ -6,7 +6,7 @@ use Rattle.list_laws.proofs.Tests.{lt_true}
 use Rattle.subj.specs.Servers.{Server}
 use Rattle.subj.specs.declared.limits.TheConstants.{MAX_COUNTER, MAX_SERIAL}
 use Rattle.interest.specs.declared.changes.Change.{Change}
-use Rattle.interest.specs.declared.changes.Delta.{Delta}
+use Rattle.subj.specs.declared.keys.Delta.{Delta}
 use Rattle.interest.specs.Counts.{Counts, change_of, counts_after}
 use Rattle.interest.specs.Told.{changes_told, are_refused}
 use Rattle.hub_core.specs.State as hub

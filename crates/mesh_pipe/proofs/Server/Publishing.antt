@@ -15,7 +15,7 @@ use Rattle.claim_race.specs.Race.{RaceState, IsIssued, busy_of, busy_at, is_behi
 use Rattle.client_conn.specs.declared.ask.Refusal.TheVariants as refusal
 use Rattle.interest.specs.Matches.{names_in, weight_in}
 use Rattle.interest.specs.Counts.{count_of}
-use Rattle.interest.specs.declared.changes.Delta.{Delta}
+use Rattle.subj.specs.declared.keys.Delta.{Delta}
 use Rattle.interest.specs.Told.{is_opening, is_closing}
 use Rattle.interest.specs.Laws.{times}
 use Rattle.hub_core.specs.declared.faults.HubFault.{HubFault}

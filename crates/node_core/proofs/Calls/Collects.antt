@@ -9,7 +9,7 @@ use Rattle.list_laws.proofs.Tests.{and_true, le_true}
 use Rattle.subj.specs.Servers.{Server, name_of, own_name}
 use Rattle.subj.specs.declared.limits.TheConstants.{MAX_NODES, ROUTE_FRAMES}
 use Rattle.interest.specs.declared.changes.Change.{Change}
-use Rattle.interest.specs.declared.changes.Delta.{Delta}
+use Rattle.subj.specs.declared.keys.Delta.{Delta}
 use Rattle.claim_race.specs.Race.{RaceState}
 use Rattle.route_values.specs.Frames.{Frame}
 use Rattle.hub_core.specs.State as hub

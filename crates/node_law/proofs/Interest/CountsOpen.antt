@@ -12,18 +12,18 @@ use Rattle.list_laws.specs.Lists.{Along}
 use Rattle.list_laws.proofs.Tests.{no_cause, not_false, or_false, le_false, le_true}
 use Rattle.list_laws.proofs.Changes.{map_map, map_same, map_append}
 use Rattle.subj.specs.Servers.{Server, IsListed}
-use Rattle.subj.specs.Keys.{cost_of, key_cmp}
+use Rattle.subj.specs.Keys.{cost_of, key_cmp, opening, closing}
 use Rattle.subj.specs.declared.jobs.Job.{Job}
 use Rattle.subj.specs.declared.keys.Key.{Key}
 use Rattle.subj.specs.declared.limits.TheConstants.{SUBSCRIPTIONS, SUBSCRIPTION_BYTES, MAX_SERIAL, MAX_COUNTER}
 use Rattle.claim_race.specs.Race.{RaceState}
 use Rattle.sub_table.specs.Subscriptions.{has_serial, with_max, total_cost}
 use Rattle.sub_table.specs.declared.Subscription.{Subscription}
-use Rattle.interest.specs.declared.changes.Delta.{Delta}
+use Rattle.subj.specs.declared.keys.Delta.{Delta}
 use Rattle.interest.specs.Counts.{Counts, count_of, counts_after, delta_fault, IsInterest}
 use Rattle.interest.specs.Told.{is_opening, is_closing, counts_told, are_refused}
 use Rattle.interest.specs.KeyOrder.{key_order_total}
-use Rattle.interest.specs.Laws.{IsCounting, StaysWithin, opening, closing, times, one_if_same}
+use Rattle.interest.specs.Laws.{IsCounting, StaysWithin, times, one_if_same}
 use Rattle.client_frames.specs.Frames.{reply_line}
 use Rattle.outbox.specs.Views.{with_entry, with_last, reply_entry}
 use Rattle.shard_core.specs.declared.faults.ShardFault.TheVariants.{NoConn, TooManySubs, Spent as Used}

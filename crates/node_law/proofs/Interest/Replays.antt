@@ -11,7 +11,7 @@ use Rattle.subj.specs.declared.jobs.Job.{Job}
 use Rattle.subj.specs.Keys.{cost_of}
 use Rattle.sub_table.specs.Subscriptions.{is_of, has_serial, serial_of}
 use Rattle.sub_table.specs.declared.Subscription.{Subscription}
-use Rattle.interest.specs.declared.changes.Delta.{Delta}
+use Rattle.subj.specs.declared.keys.Delta.{Delta}
 use Rattle.shard_core.specs.Shards.{State, is_open, client_at, clients_with_change, fits}
 use Rattle.shard_core.specs.Closings.{serials_of, is_left, left_of, closing, closings_of}
 use Rattle.shard_core.specs.Owed.{Walk, walk, whole_walk, is_due, first_step, walk_after_put, walk_with_entry, walk_with_shut, reaches, due_entry, slow_consumer}

@@ -9,7 +9,7 @@ use Rattle.list_laws.proofs.Tests.{lt_false, no_cause, not_true, and_true}
 use Rattle.list_laws.proofs.Changes.{get_map}
 use Rattle.subj.specs.Servers.{Server, IsListed, own_name, place, is_peer}
 use Rattle.claim_race.specs.Race.{RaceState}
-use Rattle.interest.specs.declared.changes.Delta.{Delta}
+use Rattle.subj.specs.declared.keys.Delta.{Delta}
 use Rattle.route_values.specs.Frames.{Frame}
 use Rattle.route_values.specs.Records.{Info, Connect}
 use Rattle.route_values.specs.declared.bodies.Body.{Body}

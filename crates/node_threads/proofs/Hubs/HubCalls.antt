@@ -4,7 +4,7 @@ use Rattle.subj.specs.Answers.{IsAnswered, IsDecided}
 use Rattle.subj.specs.Servers.{IsListed}
 use Rattle.subj.specs.declared.failures.Failure.{Failure}
 use Rattle.subj.specs.declared.failures.Failure.TheVariants.{Refused, OutOfMemory}
-use Rattle.interest.specs.declared.changes.Delta.{Delta}
+use Rattle.subj.specs.declared.keys.Delta.{Delta}
 use Rattle.hub_core.specs.Events as of_hub
 use Rattle.hub_core.specs.Peers.{cut}
 use Rattle.hub_core.specs.State as hub

@@ -5,7 +5,7 @@ use Rattle.std.specs.List.{list_any}
 use Rattle.std.proofs.lemmas.List.{length-map}
 use Rattle.std.proofs.lemmas.List.Elements.{All-map, All-weaker}
 use Rattle.std.proofs.lemmas.Option.{same_Some, none-some}
-use Rattle.interest.specs.declared.changes.Delta.{Delta}
+use Rattle.subj.specs.declared.keys.Delta.{Delta}
 use Rattle.list_laws.specs.Lists.{In, Each, Pairs}
 use Rattle.list_laws.proofs.Lists.{in_map, pairs_append}
 use Rattle.list_laws.proofs.Tests.{eq_true, eq_false, true_eq, false_eq, has_in}

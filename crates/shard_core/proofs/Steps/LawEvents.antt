@@ -12,7 +12,7 @@ use Rattle.cluster_law.specs.Config.{Config, every_rule}
 use Rattle.cluster_law.specs.History as history
 use Rattle.cluster_law.specs.Race.{Race, Keeps, WinsPair}
 use Rattle.cluster_law.specs.Shard as law
-use Rattle.interest.specs.declared.changes.Delta.{Delta}
+use Rattle.subj.specs.declared.keys.Delta.{Delta}
 use Rattle.sub_table.specs.Subscriptions.{gets, serial_of, with_max}
 use Rattle.sub_table.specs.declared.Subscription.{Subscription}
 use Rattle.subj.specs.Matching.{subject_matches}

@@ -3,7 +3,7 @@ use Rattle.std.proofs.Common.{◌≡◌, ℕ, zero, suc, ◌+◌, ◌<◌, arith
 use Rattle.std.specs.Prelude.{find, is_some}
 use Rattle.std.specs.Option.{option_to_list}
 use Rattle.std.specs.List.{list_any}
-use Rattle.interest.specs.declared.changes.Delta.{Delta}
+use Rattle.subj.specs.declared.keys.Delta.{Delta}
 use Rattle.list_laws.specs.Lists.{In}
 use Rattle.list_laws.proofs.Tests.{same_bytes, true_eq}
 use Rattle.list_laws.proofs.Changes.{append_nil, append_assoc, in_filter}

@@ -1,7 +1,7 @@
 use Rattle.std.proofs.Common.{◌≡◌, ℕ, List, [], length, None, sym, ◌∙◌, subst}
 use Rattle.list_laws.proofs.Tests.{eq_true}
 use Rattle.interest.specs.declared.changes.Change.{Change}
-use Rattle.interest.specs.declared.changes.Delta.{Delta}
+use Rattle.subj.specs.declared.keys.Delta.{Delta}
 use Rattle.hub_core.specs.Hubs.{Hub, hub_of_parts, DoesStep}
 use Rattle.hub_core.specs.Events.{Collect, Collected}
 use Rattle.hub_core.specs.Telling.{collect_refusal, collect_frames}

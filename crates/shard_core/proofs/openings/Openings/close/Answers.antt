@@ -1,6 +1,6 @@
 use Rattle.std.proofs.Common.{◌≡◌, ◌+◌, [], ◌∷◌, ◌++◌, List, length, ap, sym, subst, ◌∙◌, arith, length-append}
 use Rattle.std.specs.Prelude.{vec_capacity}
-use Rattle.interest.specs.declared.changes.Delta.{Delta}
+use Rattle.subj.specs.declared.keys.Delta.{Delta}
 use Rattle.list_laws.proofs.Changes.{append_nil}
 use Rattle.shard_core.specs.Closings.{closings_of}
 use Rattle.shard_core.specs.Opened.{AreRising, with_closings}
