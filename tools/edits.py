@@ -1,48 +1,75 @@
-#!/usr/bin/env python3
-"""Tries the wrong bodies that stand beside the gate: the edits of a crate whose names end in `.edit.md`.
+"""Tries wrong bodies: the edits of a crate that the gate tries (`.edit`) and those that stand beside it (`.edit.md`).
 
-Each edit costs as much as the proof of what it changes, and the first of a crate as much as the crate. So a crate whose proof takes
-minutes has its edits so, all or most of them (docs/DECISIONS.md), and they are tried by hand once the crate is changed. While they are
-tried they stand as `.edit` files beside, which go at the end. The status is that of `rt must-fail`.
-Usage: tools/edits.py CRATE..
+Each edit costs as much as the proof of what it changes, and the first of a crate as much as the crate. So the gate tries four to six of a
+crate whose proof is cheap, and the others stand beside it (docs/DECISIONS.md). While they are tried they stand as `.edit` files, which go at the end.
 """
 import os
+import re
 import shutil
 import subprocess
 import sys
+import time
 
-TOP = os.path.dirname(os.path.dirname(os.path.abspath(__file__)))
+from repository import TOP, folder_of, lines_of_crates
 
 # How the name of an edit ends that stands beside the gate, and of one that the gate tries.
 BESIDE, TRIED = ".edit.md", ".edit"
 
+# What `rt must-fail` says of an edit that the prover refuses, for whatever reason.
+REFUSED = re.compile(r"^rt: must-fail \S+: refused, as it must be", re.M)
 
-def copies_of(crate):
-    """The path of each edit beside the gate, and the path where it is tried."""
-    folder = os.path.join(TOP, "crates", crate, "must-fail")
+
+def names_of(crate, ending):
+    """The paths of a crate's edits whose names end so."""
+    folder = os.path.join(folder_of(crate), "must-fail")
     names = sorted(os.listdir(folder)) if os.path.isdir(folder) else []
-    paths = [os.path.join(folder, name) for name in names if name.endswith(BESIDE)]
-    return [(path, path.removesuffix(BESIDE) + TRIED) for path in paths]
+    return [os.path.join(folder, name) for name in names if name.endswith(ending)]
 
 
-def main(crates):
-    if not crates:
-        print(__doc__, file=sys.stderr)
-        return 2
-    copies = [copy for crate in crates for copy in copies_of(crate)]
-    taken = [tried for _, tried in copies if os.path.exists(tried)]
-    if taken:
-        print(f"tools/edits.py: stands already: {taken[0]}", file=sys.stderr)
-        return 2
-    try:
-        for beside, tried in copies:
+class InTheGate:
+    """All edits of a crate stand where `rt must-fail` tries them, while this is entered."""
+
+    def __init__(self, crate):
+        self.copies = [(path, path.removesuffix(BESIDE) + TRIED) for path in names_of(crate, BESIDE)]
+
+    def __enter__(self):
+        taken = [tried for _, tried in self.copies if os.path.exists(tried)]
+        if taken:
+            sys.exit(f"tools/dev: stands already: {taken[0]}")
+        for beside, tried in self.copies:
             shutil.copyfile(beside, tried)
-        return subprocess.run(["rt", "must-fail", *crates], cwd=TOP, check=False).returncode
-    finally:
-        for _, tried in copies:
+
+    def __exit__(self, *_):
+        for _, tried in self.copies:
             if os.path.exists(tried):
                 os.remove(tried)
 
 
-if __name__ == "__main__":
-    sys.exit(main(sys.argv[1:]))
+def try_crate(crate):
+    """Tries all edits of a crate. Gives how many there are and how many were refused; what was said of the others is printed."""
+    with InTheGate(crate):
+        count = len(names_of(crate, TRIED))
+        ran = subprocess.run(["rt", "must-fail", crate], cwd=TOP, stdout=subprocess.PIPE, stderr=subprocess.STDOUT, text=True,
+                             errors="replace", check=False)
+    refused = len(REFUSED.findall(ran.stdout))
+    if refused != count or ran.returncode != 0:
+        print(ran.stdout, end="")
+    return count, refused
+
+
+def main(words):
+    crates = list(lines_of_crates())
+    if words == ["--all"]:
+        chosen = [crate for crate in crates if names_of(crate, BESIDE) or names_of(crate, TRIED)]
+    elif words and all(word in crates for word in words):
+        chosen = words
+    else:
+        return None
+    start, total, good = time.monotonic(), 0, 0
+    for crate in chosen:
+        begun = time.monotonic()
+        count, refused = try_crate(crate)
+        total, good = total + count, good + refused
+        print(f"{crate}: {refused} of {count} refused, {time.monotonic() - begun:.0f} s", flush=True)
+    print(f"{good} of {total} wrong bodies of {len(chosen)} crates refused, {time.monotonic() - start:.0f} s")
+    return 0 if good == total else 1
