@@ -1,2 +1,2 @@
--- how a program ends that its command line does not start
+-- how a program ends
 pub mod Statuses

@@ -1,5 +1,5 @@
--- How a program ends that its command line does not start (profile).
-use Rattle.std.specs.Prelude.{ℕ}
+-- How a program ends (profile).
+use Rattle.std.specs.Prelude.{ℕ, Bool, if◌then◌else◌}
 use Rattle.clap.specs.declared.error.kind.ErrorKind.{ErrorKind}
 use Rattle.clap.specs.declared.error.kind.ErrorKind.TheVariants.{DisplayVersion, OutOfMemory}
 
@@ -8,3 +8,7 @@ abbrev pub status_of_line : ErrorKind → ℕ
 status_of_line DisplayVersion = 0
 status_of_line OutOfMemory = 1
 status_of_line kind = 2
+
+-- by whether all was done
+abbrev pub status_of_end : Bool → ℕ
+status_of_end done = if done then 0 else 1

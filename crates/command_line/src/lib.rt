@@ -11,4 +11,4 @@
 
 mod line;
 
-pub use line::{line_status, tell_line, words};
+pub use line::{line_status, status_of, tell_line, words};

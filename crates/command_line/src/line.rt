@@ -1,7 +1,7 @@
-//! What the words of a command line are, and how a program ends that they do not start.
+//! What the words of a command line are, and how a program ends.
 
-ghost use Rattle.std.specs.Prelude.{◌≡◌};
-ghost use Rattle.command_line.specs.Statuses.{status_of_line};
+ghost use Rattle.std.specs.Prelude.{◌≡◌, is_ok};
+ghost use Rattle.command_line.specs.Statuses.{status_of_end, status_of_line};
 
 use clap::Error;
 use clap::error::ErrorKind;
@@ -43,4 +43,11 @@ pub fn tell_line<R: Print + Eprint>(rt: &R, error: &Error) -> u8
         rt.eprint(error)
     };
     status
+}
+
+/// The exit status of what was done, or was refused or failed: 0 or 1. (Profile.)
+pub fn status_of<E>(ended: &Result<(), E>) -> u8
+    ensures { result ≡ status_of_end (is_ok ended.now) }
+{
+    if ended.is_ok() { 0 } else { 1 }
 }

@@ -8,3 +8,5 @@ pub mod PipeStates
 pub mod PipeRuns
 -- what a pipe does, over any reader and writer that tell their bytes
 pub mod PipeTheorem
+-- how a program ends whose pipe has ended
+pub mod Ending

@@ -9,13 +9,16 @@
 //!
 //! In reading order: `pipe` is the loop and what its contract says of all bytes that were written;
 //! `pipe_server` answers each thing that the connection asks, by a `confirmation` most often; `serving` makes the server's calls.
+//! `ending` is how a program ends then.
 #![tactic(auto)]
 
 mod confirmation;
+mod ending;
 mod faults;
 mod pipe;
 mod pipe_server;
 mod serving;
 
+pub use ending::{pipe_complaint, pipe_status};
 pub use faults::PipeFault;
 pub use pipe::{PipeEnd, pipe_run};

@@ -1,4 +1,4 @@
-//! A mesh of servers in one process: [`Options`] are what the command line says of it, and [`serve`] runs it.
+//! A mesh of servers in one process: [`serve`] runs it as its options say.
 //!
 //! ```text
 //! let given = Given { nodes: 3, port: 4222, shards: 2, inc: 1, word: 0, stop_after: None };
@@ -6,13 +6,11 @@
 //! serve(rt, rt.alloc(), &options)?;
 //! ```
 //!
-//! In reading order: `options`, and `serving`, which binds the sockets and gives each server a thread.
+//! `serving` binds the sockets and gives each server a thread; `faults` are the causes for which a mesh is not served any more.
 #![tactic(auto)]
 
 mod faults;
-mod options;
 mod serving;
 
-pub use faults::{OptionFault, OptionName, ServeFault};
-pub use options::{Given, Options};
+pub use faults::ServeFault;
 pub use serving::serve;

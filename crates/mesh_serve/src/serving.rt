@@ -1,13 +1,13 @@
 //! A mesh of servers, each in a thread of its own.
 
 ghost use Rattle.std.specs.Prelude.{◌≡◌, ◌<◌};
-ghost use Rattle.mesh_serve.specs.Ranges.{AreWithin};
+ghost use Rattle.router_command.specs.Ranges.{AreWithin};
 
 use crate::faults::ServeFault;
-use crate::options::Options;
 use mio::net::TcpListener;
 use mio::{Poll, Waker};
 use node_net::{Company, Server as Connections, Sockets, WAKER};
+use router_command::Options;
 use std::alloc::Global;
 use std::marker::Brand;
 use std::net::{Ipv4Addr, Net, SocketAddr, TcpListener as Listener, TcpStream as Stream};

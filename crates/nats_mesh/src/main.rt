@@ -6,16 +6,12 @@
 //! ```
 #![tactic(auto)]
 
-mod command;
-#[cfg(test)]
-mod tests;
-
 use claim_cells::CellsRace;
-use command::{Command, command_of, pipe_complaint, pipe_status, status_of};
-use command_line::{tell_line, words};
-use mesh_pipe::pipe_run;
+use command_line::{status_of, tell_line, words};
+use mesh_pipe::{pipe_complaint, pipe_run, pipe_status};
 use mesh_script::{match_run, script_run};
-use mesh_serve::{Given, Options, serve};
+use mesh_serve::serve;
+use router_command::{Command, Given, Options, command_of};
 use std::alloc::Global;
 use std::fmt::Display;
 use std::io;

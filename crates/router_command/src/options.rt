@@ -1,7 +1,7 @@
 //! What the command line says of a mesh.
 
 ghost use Rattle.std.specs.Prelude.{◌≡◌, ◌≤◌, ◌<◌, ◌+◌, IfOk};
-ghost use Rattle.mesh_serve.specs.Ranges.{AreWithin, range_of};
+ghost use Rattle.router_command.specs.Ranges.{AreWithin, range_of};
 
 use crate::faults::{OptionFault, OptionName};
 use subj::Incarnation;

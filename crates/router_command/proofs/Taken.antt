@@ -16,10 +16,10 @@ use Rattle.clap.specs.declared.error.kind.ErrorKind.{ErrorKind}
 use Rattle.clap.specs.declared.error.kind.ErrorKind.TheVariants as kind
 use Rattle.clap.specs.declared.builder.value_parser.ValueParser.TheVariants as vp
 use Rattle.clap.proofs.ValueTestLemmas.{accepts-Accepts}
-use Rattle.nats_mesh.specs.Line.{greatest_number, router}
-use Rattle.nats_mesh.specs.Command.{AreNumbers, AreWords, HasNumber, IsNumber, IsWhole}
-use Rattle.nats_mesh.proofs.Walks.{Each, IsNoHelp, Keeps, KeepsDefault, both_pass, level_keeps, walk_stops}
-use Rattle.nats_mesh.proofs.Rows.{Passes, Reads, RowFits, default_comes, default_keeps, defaults_stay, given_found, help_keeps, row_found, row_of_rule, text_of_row, value_keeps}
+use Rattle.router_command.specs.Line.{greatest_number, router}
+use Rattle.router_command.specs.Command.{AreNumbers, AreWords, HasNumber, IsNumber, IsWhole}
+use Rattle.router_command.proofs.Walks.{Each, IsNoHelp, Keeps, KeepsDefault, both_pass, level_keeps, walk_stops}
+use Rattle.router_command.proofs.Rows.{Passes, Reads, RowFits, default_comes, default_keeps, defaults_stay, given_found, help_keeps, row_found, row_of_rule, text_of_row, value_keeps}
 
 -- ---- the commands as they are built
 

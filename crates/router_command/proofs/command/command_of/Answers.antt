@@ -5,10 +5,10 @@ use Rattle.clap.specs.Words.{App, HasKind, Row, Text, app_of, fault_of, is_simpl
 use Rattle.clap.specs.declared.error.kind.ErrorKind.TheVariants.{OutOfMemory}
 use Rattle.clap.proofs.KindLemmas.{fails_by_from}
 use Rattle.clap.proofs.TakesLemmas.{passed_up}
-use Rattle.nats_mesh.specs.Command.{IsWhole}
-use Rattle.nats_mesh.specs.Line.{router}
-use Rattle.nats_mesh.proofs.Taken.{is_exact, is_simple_line, taken_whole}
-use Rattle.nats_mesh.proofs.command.command_of.Goals as goal
+use Rattle.router_command.specs.Command.{IsWhole}
+use Rattle.router_command.specs.Line.{router}
+use Rattle.router_command.proofs.Taken.{is_exact, is_simple_line, taken_whole}
+use Rattle.router_command.proofs.command.command_of.Goals as goal
 
 -- what the contract of the parse says of the built command, said of the definition
 as_router : (P : App → Type 0) (a : App) → a ≡ router → (is_simple_and_free a ≡ true → P a) → P router

@@ -6,7 +6,7 @@ use Rattle.std.specs.declared.num.ParseIntError.{ParseIntError}
 use Rattle.clap.specs.Words.{ReadsOne, Text, one_of, one_text, rows_of}
 use Rattle.clap.specs.declared.parser.matches.Found.{Found}
 use Rattle.clap.proofs.WalkLemmas.{one_text-rows}
-use Rattle.nats_mesh.specs.Command.{HasNumber, IsNumber, number_in, number_of}
+use Rattle.router_command.specs.Command.{HasNumber, IsNumber, number_in, number_of}
 
 -- what is read of a text
 abbrev pub Gives : Text → Result ℕ ParseIntError → Type 0

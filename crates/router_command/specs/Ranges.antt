@@ -1,9 +1,9 @@
 -- The ranges of the options of a mesh. (Profile.)
 use Rattle.std.specs.Prelude.{ℕ, ◌+◌, ◌-◌, ◌*◌, ◌^◌, ◌≤◌}
 use Rattle.subj.specs.declared.limits.TheConstants.{MAX_INCARNATION, MAX_NODES, MAX_SHARDS}
-use Rattle.mesh_serve.specs.declared.faults.OptionName.{OptionName}
-use Rattle.mesh_serve.specs.declared.faults.OptionName.TheVariants.{Nodes, Port, Shards, Inc, StopAfter}
-use Rattle.mesh_serve.specs.declared.options.Options.{Options}
+use Rattle.router_command.specs.declared.faults.OptionName.{OptionName}
+use Rattle.router_command.specs.declared.faults.OptionName.TheVariants.{Nodes, Port, Shards, Inc, StopAfter}
+use Rattle.router_command.specs.declared.options.Options.{Options}
 
 -- the least value that the option takes, and the greatest
 abbrev pub range_of : OptionName → ℕ × ℕ

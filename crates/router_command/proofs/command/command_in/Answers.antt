@@ -5,8 +5,8 @@ use Rattle.std.specs.Borrow.{Bor}
 use Rattle.clap.specs.Words.{Row, Text, first_of, first_value, found_of, rows_of, subcommand_rows_of}
 use Rattle.clap.specs.declared.parser.matches.Found.{Found}
 use Rattle.clap.proofs.WalkLemmas.{first_value-rows}
-use Rattle.nats_mesh.specs.Command.{AreWords, IsWhole}
-use Rattle.nats_mesh.proofs.command.command_in.Goals as goal
+use Rattle.router_command.specs.Command.{AreWords, IsWhole}
+use Rattle.router_command.proofs.command.command_in.Goals as goal
 
 -- `match` is no other command
 differs : (name other : Text) → name ≡ codes "match" → name ≡ other → bytes_eq (codes "match") other ≡ false → ⊥

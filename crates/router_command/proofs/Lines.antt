@@ -4,7 +4,7 @@ use Rattle.std.specs.Prelude.{◌||◌}
 use Rattle.clap.specs.Words.{AddsArg, AddsSubcommand, App, Rule, with_rule, with_subcommand}
 use Rattle.clap.specs.declared.builder.arg.Arg.{Arg}
 use Rattle.clap.specs.declared.builder.command.Command.{Command}
-use Rattle.nats_mesh.specs.Line.{HasRule, IsLine}
+use Rattle.router_command.specs.Line.{HasRule, IsLine}
 
 -- an argument comes to a command
 pub with_arg : (old new : Command) (arg : Arg) (app : App) (rule : Rule) → IsLine old app → HasRule arg rule → AddsArg old arg new → IsLine new (with_rule app rule)

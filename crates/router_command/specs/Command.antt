@@ -1,16 +1,13 @@
--- What the command line asks for, and how the program ends (profile).
-use Rattle.std.specs.Prelude.{◌≡◌, ◌⊎◌, ℕ, List, codes, Bool, Option, Some, Result, Ok, Err}
-use Rattle.std.specs.Prelude.{IsSome, IfSome, IsSomeAnd, option_map, if◌then◌else◌, ⊤}
+-- What the command line asks for (profile).
+use Rattle.std.specs.Prelude.{◌≡◌, ◌⊎◌, ℕ, List, codes, Option, Some}
+use Rattle.std.specs.Prelude.{IsSome, IfSome, IsSomeAnd, option_map, ⊤}
 use Rattle.std.specs.Str.Parse.{digits_value, without_leading_plus}
 use Rattle.clap.specs.Values.{IsUnsignedIn}
 use Rattle.clap.specs.Words.{Row, Text, first_of, one_of, subcommand_of}
-use Rattle.nats_mesh.specs.Line.{greatest_number, router}
-use Rattle.nats_mesh.specs.declared.command.Command.{Command}
-use Rattle.nats_mesh.specs.declared.command.Command.TheVariants.{Pipe, Match, Script, Serve}
-use Rattle.mesh_pipe.specs.declared.pipe.PipeEnd.{PipeEnd}
-use Rattle.mesh_pipe.specs.declared.pipe.PipeEnd.TheVariants.{Ended, Closed}
-use Rattle.mesh_pipe.specs.declared.faults.PipeFault.{PipeFault}
-use Rattle.mesh_serve.specs.declared.options.Given.{Given}
+use Rattle.router_command.specs.Line.{greatest_number, router}
+use Rattle.router_command.specs.declared.command.Command.{Command}
+use Rattle.router_command.specs.declared.command.Command.TheVariants.{Pipe, Match, Script, Serve}
+use Rattle.router_command.specs.declared.options.Given.{Given}
 
 -- by its word behind the program's name
 abbrev pub name_of : Command → List ℕ
@@ -83,15 +80,3 @@ pub record AreWords (rows : List Row) : Type 0 where
 abbrev pub IsWhole : Text × List Row → Type 0
 IsWhole found = (found.0 ≡ codes "pipe") ⊎ ((found.0 ≡ codes "match") × AreWords found.1)
     ⊎ (found.0 ≡ codes "script") ⊎ ((found.0 ≡ codes "serve") × AreNumbers found.1)
-
--- ---- how the program ends
-
--- by how a pipe ended
-abbrev pub exit_status : Result PipeEnd PipeFault → ℕ
-exit_status (Ok Ended) = 0
-exit_status (Ok Closed) = 1
-exit_status (Err fault) = 1
-
--- and whether all else was done
-abbrev pub status_of_end : Bool → ℕ
-status_of_end done = if done then 0 else 1

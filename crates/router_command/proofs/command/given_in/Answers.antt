@@ -1,7 +1,7 @@
 use Rattle.std.proofs.Common.{◌∙◌, codes}
 use Rattle.clap.specs.Words.{found_of}
-use Rattle.nats_mesh.proofs.Numbers.{number_if_read, number_read, number_there}
-use Rattle.nats_mesh.proofs.command.given_in.Goals as goal
+use Rattle.router_command.proofs.Numbers.{number_if_read, number_read, number_there}
+use Rattle.router_command.proofs.command.given_in.Goals as goal
 
 pub unwrap-requires : goal.unwrap-requires
 unwrap-requires c = number_there (found_of c.args.values.now) (codes "nodes") c.get_one.result c.get_one.ensures.none c.get_one.ensures.value c.requires.nodes

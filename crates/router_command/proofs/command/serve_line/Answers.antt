@@ -5,9 +5,9 @@ use Rattle.clap.specs.Simple.{app_of_fields}
 use Rattle.clap.specs.declared.builder.arg.Arg.{Arg}
 use Rattle.clap.specs.declared.builder.command.Command.{Command}
 use Rattle.clap.specs.declared.builder.command.Command.TheOpen.{Command-F}
-use Rattle.nats_mesh.specs.Line.{HasRule, IsLine, required_rule, number_rule, serve_with_defaults, with_value}
-use Rattle.nats_mesh.proofs.Lines.{with_arg}
-use Rattle.nats_mesh.proofs.command.serve_line.Goals as goal
+use Rattle.router_command.specs.Line.{HasRule, IsLine, required_rule, number_rule, serve_with_defaults, with_value}
+use Rattle.router_command.proofs.Lines.{with_arg}
+use Rattle.router_command.proofs.command.serve_line.Goals as goal
 
 -- an argument of which a setter was called
 same_but : (x y : Arg) (f : Rule → Rule) (rule : Rule) → HasRule x rule → rule_of y ≡ f (rule_of x) → y.global ≡ x.global → HasRule y (f rule)

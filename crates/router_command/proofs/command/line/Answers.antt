@@ -5,9 +5,9 @@ use Rattle.clap.specs.Simple.{app_of_fields}
 use Rattle.clap.specs.declared.builder.arg.Arg.{Arg}
 use Rattle.clap.specs.declared.builder.command.Command.{Command}
 use Rattle.clap.specs.declared.builder.command.Command.TheOpen.{Command-F}
-use Rattle.nats_mesh.specs.Line.{HasRule, IsLine, match_command, required_rule, program, serve_command}
-use Rattle.nats_mesh.proofs.Lines.{with_arg, with_command}
-use Rattle.nats_mesh.proofs.command.line.Goals as goal
+use Rattle.router_command.specs.Line.{HasRule, IsLine, match_command, required_rule, program, serve_command}
+use Rattle.router_command.proofs.Lines.{with_arg, with_command}
+use Rattle.router_command.proofs.command.line.Goals as goal
 
 required : (x y : Arg) (rule : Rule) → rule_of x ≡ rule → x.global ≡ false → y ≡ record x { required = true } → HasRule y (required_rule rule)
 required x y rule same local is = record {

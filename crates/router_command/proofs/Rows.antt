@@ -15,7 +15,7 @@ use Rattle.clap.specs.declared.builder.action.ArgAction.TheVariants.{Set, Help}
 use Rattle.clap.specs.declared.builder.value_parser.Reading.{Reading}
 use Rattle.clap.specs.declared.parser.matches.ValueSource.{ValueSource}
 use Rattle.clap.specs.declared.parser.matches.ValueSource.TheVariants.{DefaultValue, CommandLine}
-use Rattle.nats_mesh.proofs.Walks.{Each, Keeps, KeepsDefault, both_pass}
+use Rattle.router_command.proofs.Walks.{Each, Keeps, KeepsDefault, both_pass}
 
 -- the text passes the parser of the argument
 abbrev pub Passes : Rule → Text → Type 0

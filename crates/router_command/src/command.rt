@@ -1,16 +1,15 @@
-//! What the command line asks for, and how the program ends.
+//! What the command line asks for.
 
-ghost use Rattle.std.specs.Prelude.{◌≡◌, ◌≢◌, ◌↔◌, IfErr, IfOk, IsSome, IsSomeAnd, is_ok, map, true};
+ghost use Rattle.std.specs.Prelude.{◌≡◌, IfErr, IfOk, IsSomeAnd, map, true};
 ghost use Rattle.std.specs.String.{string_bytes};
 ghost use Rattle.clap.specs.Words.{FailsBy, fault_of, found_of, kind_of, rows_of, subcommand_rows_of, takes};
-ghost use Rattle.nats_mesh.specs.Command.{AreNumbers, AskFor, HasNumbers, IsWhole, Names, exit_status, status_of_end};
-ghost use Rattle.nats_mesh.specs.Line.{HasRule, IsLine, number_rule, router, serve_command};
+ghost use Rattle.router_command.specs.Command.{AreNumbers, AskFor, HasNumbers, IsWhole, Names};
+ghost use Rattle.router_command.specs.Line.{HasRule, IsLine, number_rule, router, serve_command};
 
+use crate::options::Given;
 use clap::builder::ValueParser;
 use clap::error::ErrorKind;
 use clap::{Arg, ArgMatches, Error};
-use mesh_pipe::{PipeEnd, PipeFault};
-use mesh_serve::Given;
 use std::alloc::{AllocError, Global};
 
 /// What the command line asks for.
@@ -151,33 +150,4 @@ pub fn command_of<'a>(alloc: Global, words: &'a [String]) -> Result<Command<'a>,
 {
     let found = line(alloc)?.try_get_matches_from(words)?;
     Ok(command_in(&found))
-}
-
-/// The exit status of a pipe: 0 where its input came to its end, and else 1.
-pub fn pipe_status(ended: Result<PipeEnd, PipeFault>) -> u8
-    ensures { result ≡ exit_status ended }
-{
-    match ended {
-        Ok(PipeEnd::Ended) => 0,
-        Ok(PipeEnd::Closed) => 1,
-        Err(_) => 1,
-    }
-}
-
-/// What is told of a pipe whose exit status is not 0.
-pub fn pipe_complaint(ended: Result<PipeEnd, PipeFault>) -> Option<&'static str>
-    ensures { IsSome result ↔ (exit_status ended ≢ 0) }
-{
-    match ended {
-        Ok(PipeEnd::Ended) => None,
-        Ok(PipeEnd::Closed) => Some("the connection was closed by an -ERR"),
-        Err(fault) => Some(fault.text()),
-    }
-}
-
-/// The exit status of what was done, or was refused or failed.
-pub fn status_of<E>(ended: &Result<(), E>) -> u8
-    ensures { result ≡ status_of_end (is_ok ended.now) }
-{
-    if ended.is_ok() { 0 } else { 1 }
 }

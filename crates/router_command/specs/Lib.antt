@@ -1,0 +1,6 @@
+-- the command line: its commands, and what each takes
+pub mod Line
+-- what the command line asks for
+pub mod Command
+-- the ranges of the options of a mesh
+pub mod Ranges

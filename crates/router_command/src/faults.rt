@@ -1,0 +1,73 @@
+//! Why the options of a mesh are none.
+
+ghost use Rattle.std.specs.Prelude.{◌≡◌};
+ghost use Rattle.router_command.specs.Ranges.{range_of};
+
+use std::error::Error;
+use std::fmt;
+use std::fmt::{Display, Formatter, Write};
+use subj::{MAX_INCARNATION, MAX_NODES, MAX_SHARDS};
+
+/// An option of the command line.
+#[derive(Clone, Copy, Debug, PartialEq, Eq)]
+pub enum OptionName {
+    Nodes,
+    Port,
+    Shards,
+    Inc,
+    StopAfter,
+}
+
+impl OptionName {
+    /// How it is spelt.
+    pub fn text(self) -> &'static str {
+        match self {
+            OptionName::Nodes => "--nodes",
+            OptionName::Port => "--port",
+            OptionName::Shards => "--shards",
+            OptionName::Inc => "--inc",
+            OptionName::StopAfter => "--stop-after",
+        }
+    }
+
+    /// The least value that it takes, and the greatest.
+    pub fn range(self) -> (u64, u64)
+        ensures { result ≡ range_of self }
+    {
+        let most = match self {
+            OptionName::Nodes => MAX_NODES,
+            OptionName::Port => u16::MAX as u64,
+            OptionName::Shards => MAX_SHARDS,
+            OptionName::Inc => MAX_INCARNATION,
+            OptionName::StopAfter => u64::MAX,
+        };
+        (1, most)
+    }
+}
+
+/// Why the options are none. (Profile.)
+#[derive(Clone, Copy, Debug, PartialEq, Eq)]
+pub enum OptionFault {
+    /// The value of the option is not in its range.
+    BadValue(OptionName),
+    /// The last port would be above the greatest one.
+    TooManyPorts,
+}
+
+impl Display for OptionFault {
+    fn fmt<W: Write>(&self, f: &mut Formatter<W>) -> fmt::Result {
+        match self {
+            OptionFault::BadValue(name) => {
+                let (least, most) = name.range();
+                write!(f, "{} takes a number from {least} to {most}", name.text())
+            }
+            OptionFault::TooManyPorts => write!(
+                f,
+                "the last port, that of --port and 2 * --nodes - 1 more, is above {}",
+                u16::MAX
+            ),
+        }
+    }
+}
+
+impl Error for OptionFault {}
