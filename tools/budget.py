@@ -33,11 +33,11 @@ def words_of(process):
 
 
 def seconds_of(process):
-    """The processor seconds that a process has used, or None where it has ended."""
+    """The processor seconds that a process and those that it waited for have used, or None where it has ended."""
     try:
         with open(f"/proc/{process}/stat", encoding="utf-8", errors="replace") as file:
             fields = file.read().rpartition(")")[2].split()
-        return (int(fields[11]) + int(fields[12])) / TICKS
+        return sum(int(used) for used in fields[11:15]) / TICKS
     except (OSError, IndexError):
         return None
 
