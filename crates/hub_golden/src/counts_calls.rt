@@ -100,14 +100,20 @@ fn push_key(alloc: Global, answer: &mut String, key: &Key, weight: u64) -> Resul
     answer.push_str(behind.as_str())
 }
 
+/// Puts what stands between two keys, where one was put.
+fn push_comma(answer: &mut String) -> Result<(), AllocError> {
+    if answer.is_empty() {
+        return Ok(());
+    }
+    answer.push_str(", ")
+}
+
 /// The keys in their order, each with its weight.
 fn keys(alloc: Global, counts: &Local) -> Result<String, AllocError> {
     let mut answer = String::new(alloc);
-    let mut between = "";
     for (key, weight) in counts.keys() {
-        answer.push_str(between)?;
+        push_comma(&mut answer)?;
         push_key(alloc, &mut answer, key, *weight)?;
-        between = ", ";
     }
     Ok(answer)
 }
