@@ -1,36 +1,40 @@
 #!/usr/bin/env python3
-"""Proves and builds a program of the repository, and tells its progress on standard error, a line a crate.
+"""Proves and builds a program of the repository, with all processors, and tells on standard error how far it is.
 
-The crates that the program stands on are proved in a folder of their own (`.build`), since only `rt all` proves crates side by
-side, and it takes all that a folder lists: as many at a time as processors and memory allow. What is proved goes back into
-`crates/NAME/out`, also where a run was stopped, so the next one goes on from there. Where a crate is refused, what the prover said of
-it is printed and the status is 1.
+First the wide part: crates that are proved side by side, as many at a time as processors and memory allow. That is done in a folder of their own (`.build`),
+since only `rt all` proves crates side by side, and it takes all that a folder lists. Then the end: the last crates, which stand on one another, each with all
+processors. What is proved goes back into `crates/NAME/out`, also where a run was stopped, so the next one goes on from there. Where a crate is
+refused, what the prover said of it is printed and the status is 1.
 Usage: tools/build.py PROGRAM
 """
+import json
 import os
 import re
 import shutil
 import signal
 import subprocess
 import sys
+import threading
 import time
 
-TOP = os.path.dirname(os.path.dirname(os.path.abspath(__file__)))
+from repository import TOP, folder_of, libraries_of, lines_of_crates
+
 ROOM = os.path.join(TOP, ".build")
 
 # Memory that the check of one crate may need, in kilobytes.
 MEMORY_OF_A_CHECK = 3_000_000
 
+# What a crate counts of which nothing was measured, in processor seconds.
+UNMEASURED = 100
 
-def lines_of_crates():
-    """For each crate of the repository, its line in crates.txt."""
-    lines = {}
-    with open(os.path.join(TOP, "crates.txt"), encoding="utf-8") as file:
-        for line in file:
-            head, colon, _ = line.partition("#")[0].partition(":")
-            if colon:
-                lines[head.split()[0]] = line
-    return lines
+# How often progress is told at least, in seconds.
+INTERVAL = 10
+
+# By how much less a check with so many jobs takes, and by how much more processor time.
+GAIN = {1: 1.0, 2: 0.65, 3: 0.53, 4: 0.45}
+
+# What the prover says of the functions of one crate.
+FUNCTIONS = re.compile(r"(?:so far: |checked \S+, )(\d+) of (\d+)")
 
 
 def crates_needed(program, lines):
@@ -38,13 +42,20 @@ def crates_needed(program, lines):
     needed = []
 
     def need(crate):
-        for library in lines[crate].partition("#")[0].partition(":")[2].split():
+        for library in libraries_of(lines[crate]):
             if library in lines and library not in needed:
                 need(library)
         needed.append(crate)
 
     need(program)
     return needed
+
+
+def costs_of(crates):
+    """The processor seconds of each crate's proof, as they were measured last."""
+    with open(os.path.join(TOP, "tools", "costs.json"), encoding="utf-8") as file:
+        known = json.load(file)["crates"]
+    return {crate: known.get(crate, {}).get("proof", UNMEASURED) for crate in crates}
 
 
 def available_memory():
@@ -56,9 +67,96 @@ def available_memory():
         return 0
 
 
-def count_of_checks():
-    """How many checks may run side by side."""
+def processors():
+    """How many checks may run side by side, or jobs in one."""
     return max(1, min(len(os.sched_getaffinity(0)), available_memory() // MEMORY_OF_A_CHECK))
+
+
+class Plan:
+    """When each crate is expected to be proved, in seconds of a quiet machine, and which crates are the end."""
+
+    def __init__(self, needed, lines, costs, lanes):
+        self.below = {crate: [it for it in libraries_of(lines[crate]) if it in needed] for crate in needed}
+        self.costs, self.lanes = costs, lanes
+        ends = self.side_by_side(needed)
+        self.end = self.chain_at_the_end(needed, ends)
+        self.wide = [crate for crate in needed if crate not in self.end]
+        self.expected = {crate: ends[crate] for crate in self.wide}
+        now = max(self.expected.values(), default=0)
+        for crate in self.end:
+            now += costs[crate] * GAIN.get(lanes, GAIN[4])
+            self.expected[crate] = now
+
+    def behind(self, needed):
+        """For each crate, how much stands in its longest chain of crates above, itself among them."""
+        behind = {}
+        for crate in reversed(needed):
+            above = [behind[other] for other in needed if crate in self.below[other] and other in behind]
+            behind[crate] = self.costs[crate] + max(above, default=0)
+        return behind
+
+    def side_by_side(self, needed):
+        """When each crate ends, where each has one processor and the longest chains go first."""
+        behind, ends, running, now = self.behind(needed), {}, {}, 0
+        while len(ends) < len(needed):
+            ready = [it for it in needed if it not in ends and it not in running and all(low in ends for low in self.below[it])]
+            for crate in sorted(ready, key=lambda it: -behind[it])[: self.lanes - len(running)]:
+                running[crate] = now + self.costs[crate]
+            crate = min(running, key=running.get)
+            now = ends[crate] = running.pop(crate)
+        return ends
+
+    def chain_at_the_end(self, needed, ends):
+        """The last crates that are proved alone: no other one, but those behind it, ends beyond the middle of each, and each ends before the next begins."""
+        end, next_begins = [], max(ends.values())
+        for crate in sorted(needed, key=lambda it: -ends[it]):
+            middle = ends[crate] - self.costs[crate] / 2
+            others = [ends[it] for it in needed if it != crate and it not in end]
+            if ends[crate] > next_begins or max(others, default=0) > middle:
+                break
+            end.insert(0, crate)
+            next_begins = ends[crate] - self.costs[crate]
+        return end or needed[-1:]
+
+
+class Progress:
+    """Tells how far the build is: at each crate that is proved, and at least every so many seconds."""
+
+    def __init__(self, plan, program):
+        self.plan, self.program = plan, program
+        self.count, self.whole = len(plan.expected), max(plan.expected.values())
+        self.done, self.reached, self.doing = 0, 0, "reading what was proved before"
+        self.start, self.ended = time.monotonic(), threading.Event()
+        self.thread = threading.Thread(target=self.tell_on, daemon=True)
+
+    def __enter__(self):
+        self.thread.start()
+        return self
+
+    def __exit__(self, *_):
+        self.ended.set()
+        self.thread.join()
+
+    def tell_on(self):
+        while not self.ended.wait(INTERVAL):
+            self.tell()
+
+    def left(self):
+        """How long it takes on, by what it took until now."""
+        gone = time.monotonic() - self.start
+        scale = gone / self.reached if self.reached else 1
+        return max(0, self.whole - self.reached) * scale
+
+    def tell(self):
+        gone = time.monotonic() - self.start
+        print(f"{self.program}: {self.done} of {self.count} crates, {self.doing}; {gone:.0f} s gone, about {self.left() / 60:.0f} min left",
+              file=sys.stderr, flush=True)
+
+    def proved(self, crate):
+        self.done += 1
+        self.reached = max(self.reached, self.plan.expected.get(crate, 0))
+        self.doing = f"{crate} is proved"
+        self.tell()
 
 
 def move_proofs(source, target):
@@ -72,19 +170,18 @@ def move_proofs(source, target):
 
 
 class Room:
-    """A tree of the needed crates alone, over the proofs that the repository has of them."""
+    """A tree of the crates of the wide part alone, over the proofs that the repository has of them."""
 
-    def __init__(self, needed, lines):
-        self.needed = needed
-        self.lines = lines
+    def __init__(self, crates, lines):
+        self.crates, self.lines = crates, lines
 
     def __enter__(self):
         # what an earlier run has left, which was stopped
         self.__exit__()
         os.mkdir(ROOM)
         with open(os.path.join(ROOM, "crates.txt"), "w", encoding="utf-8") as file:
-            file.writelines(self.lines[crate] for crate in self.needed)
-        for crate in self.needed:
+            file.writelines(self.lines[crate] for crate in self.crates)
+        for crate in self.crates:
             source, target = (os.path.join(tree, "crates", crate) for tree in (TOP, ROOM))
             shutil.copytree(source, target, ignore=shutil.ignore_patterns("out", "must-fail"))
             if os.path.isdir(os.path.join(source, "out")):
@@ -95,42 +192,59 @@ class Room:
         move_proofs(ROOM, TOP)
         shutil.rmtree(ROOM, ignore_errors=True)
 
-    def prove(self):
-        """Proves the crates, and tells each that is. What was said of those that are not, or None."""
-        command = ["rt", "all", "check", "--jobs", str(count_of_checks())]
-        checks = subprocess.Popen(command, cwd=ROOM, stdin=subprocess.DEVNULL, stdout=subprocess.PIPE,
-                                  stderr=subprocess.STDOUT, text=True, errors="replace", start_new_session=True)
-        try:
-            said = self.told_by(checks.stdout)
-            return None if checks.wait() == 0 else said
-        finally:
-            if checks.poll() is None:
-                os.killpg(checks.pid, signal.SIGTERM)
-                checks.wait()
 
-    def told_by(self, output):
-        """What the checks say, but for the crates that are proved: each of these is told with the seconds since the start.
+def run(command, folder, hear):
+    """Runs a command, and has each of its lines heard. Gives its status."""
+    child = subprocess.Popen(command, cwd=folder, stdin=subprocess.DEVNULL, stdout=subprocess.PIPE, stderr=subprocess.STDOUT, text=True,
+                             errors="replace", start_new_session=True)
+    try:
+        for line in child.stdout:
+            hear(line)
+        return child.wait()
+    finally:
+        if child.poll() is None:
+            os.killpg(child.pid, signal.SIGTERM)
+            child.wait()
 
-        A crate that was proved before has its line with its name in the output, and nothing else.
-        """
-        start = time.monotonic()
-        said, crate, ended = [], [], 0
-        for line in output:
-            if line.startswith("== "):
-                said += crate
-                crate = []
-                ended += 1
-            crate.append(line)
-            if line.startswith("logic=proved"):
-                print("[%d/%d] %s proved, at %d s" % (ended, len(self.needed), crate[0].strip("= \n"), time.monotonic() - start),
-                      file=sys.stderr, flush=True)
-                crate = []
-        return "".join(said + crate)
+
+def prove_wide(lines, progress):
+    """Proves the wide part. Gives what was said of the crates that are not proved, or None."""
+    said, crate = [], []
+
+    def hear(line):
+        nonlocal said, crate
+        if line.startswith("== "):
+            said, crate = said + crate, []
+        crate.append(line)
+        if line.startswith("logic=proved"):
+            progress.proved(crate[0].strip("= \n"))
+            crate = []
+
+    with Room(progress.plan.wide, lines):
+        status = run(["rt", "all", "check", "--jobs", str(processors())], ROOM, hear)
+    return "".join(said + crate) if status else None
+
+
+def prove_one(crate, command, progress):
+    """Proves a crate with all processors. Gives what was said of it where it is not proved, or None."""
+    said = []
+
+    def hear(line):
+        said.append(line)
+        found = FUNCTIONS.search(line)
+        if found:
+            progress.doing = f"{found[1]} of {found[2]} functions of {crate}"
+
+    progress.doing = f"{crate} with all processors"
+    if run(command, folder_of(crate), hear):
+        return "".join(said)
+    progress.proved(crate)
+    return None
 
 
 def stored_words(program):
     """The words that the program's stored run is given."""
-    path = os.path.join(TOP, "crates", program, "args")
+    path = os.path.join(folder_of(program), "args")
     if not os.path.exists(path):
         return []
     with open(path, encoding="utf-8") as file:
@@ -141,18 +255,20 @@ def build(program):
     """Proves and builds the program, unless it is as its sources are. Ends this process where it is refused."""
     lines = lines_of_crates()
     needed = crates_needed(program, lines)
-    print("%s: %d crates are proved and built; the first time that takes about an hour on four processors" % (program, len(needed)),
-          file=sys.stderr, flush=True)
-    with Room(needed, lines) as room:
-        said = room.prove()
+    lanes = processors()
+    plan = Plan(needed, lines, costs_of(needed), lanes)
+    with Progress(plan, program) as progress:
+        print(f"{program}: {len(needed)} crates are proved and built once, on {lanes} processors: about {progress.whole / 60:.0f} minutes on a quiet machine",
+              file=sys.stderr, flush=True)
+        said = prove_wide(lines, progress)
+        for crate in plan.end if said is None else []:
+            # A program is built by a run of it. On an empty input it ends with status 0: any other is that of a build that failed.
+            verb = ["run", "--jobs", str(lanes), "--", *stored_words(crate)] if crate == program else ["lib", "--jobs", str(lanes)]
+            said = prove_one(crate, ["rt", *verb], progress)
+            if said is not None:
+                break
     if said is not None:
-        sys.exit("%s%s: refused" % (said, program))
-    # A program is built by a run of it. On an empty input it ends with status 0: any other is that of a build that failed.
-    command = ["rt", "run", "--", *stored_words(program)]
-    run = subprocess.run(command, cwd=os.path.join(TOP, "crates", program), stdin=subprocess.DEVNULL, stdout=subprocess.PIPE,
-                         stderr=subprocess.STDOUT, text=True, errors="replace", check=False)
-    if run.returncode != 0:
-        sys.exit("%s%s: refused" % (run.stdout, program))
+        sys.exit(f"{said}{program}: refused")
 
 
 if __name__ == "__main__":
