@@ -1,5 +1,5 @@
 -- No serial is above the last one that was opened, whatever is closed or noted.
-use Rattle.std.proofs.Common.{ℕ, ◌≤◌, ◌≡◌, true, false, cond, refl, List, [], ◌∷◌, All}
+use Rattle.std.proofs.Common.{ℕ, ◌≤◌, true, false, cond, List, [], ◌∷◌, All}
 use Rattle.std.specs.Prelude.{Option, filter}
 use Rattle.std.specs.List.{AllByRecursion}
 use Rattle.std.proofs.lemmas.List.Elements.{recursion_from_All, All-from_recursion}
@@ -40,9 +40,9 @@ below_filter last conn subs below = All-from_recursion (λ (other : Subscription
 pub below_delivered : (last n delivered : ℕ) (subs : List Subscription) → All (λ other. other.serial ≤ last) subs → All (λ other. other.serial ≤ last) (with_delivered n delivered subs)
 below_delivered last n delivered subs below =
     All-from_recursion (λ (other : Subscription). other.serial ≤ last) (with_delivered n delivered subs)
-      (below_noted last n (λ sub. record sub { delivered = delivered }) subs (λ s at. at) (recursion_from_All (λ (other : Subscription). other.serial ≤ last) subs below))
+    (below_noted last n (λ sub. record sub { delivered = delivered }) subs (λ s at. at) (recursion_from_All (λ (other : Subscription). other.serial ≤ last) subs below))
 
 pub below_max : (last n : ℕ) (max : Option ℕ) (subs : List Subscription) → All (λ other. other.serial ≤ last) subs → All (λ other. other.serial ≤ last) (with_max n max subs)
 below_max last n max subs below =
     All-from_recursion (λ (other : Subscription). other.serial ≤ last) (with_max n max subs)
-      (below_noted last n (λ sub. record sub { max = max }) subs (λ s at. at) (recursion_from_All (λ (other : Subscription). other.serial ≤ last) subs below))
+    (below_noted last n (λ sub. record sub { max = max }) subs (λ s at. at) (recursion_from_All (λ (other : Subscription). other.serial ≤ last) subs below))

@@ -1,6 +1,6 @@
 //! A race that is asked for nothing that it requires not to be asked for.
 
-ghost use Rattle.std.specs.Prelude.{◌≡◌};
+ghost use Rattle.std.specs.Prelude.{◌≡◌, true};
 ghost use Rattle.claim_race.specs.Race.{IsInTurn, shards_of};
 
 use claim_race::{PlainRace, Race};

@@ -32,7 +32,10 @@ impl Weights {
         Some(())
     }
 
+    /// The server that the word picks.
     fn chosen(&self, word: u64) -> Option<NodeId> {
+        // what is read is of its type, and so below 2^64
+        let _total = self.total;
         choose(&self.servers, word)
     }
 }
