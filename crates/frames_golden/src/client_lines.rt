@@ -31,11 +31,11 @@ fn head_told(alloc: Global, head: &PubHead) -> Result<String, AllocError> {
 }
 
 /// What is subscribed to.
-fn sub_told(
+fn sub_told<'a>(
     alloc: Global,
-    pattern: &Pattern,
-    queue: &Option<QueueName>,
-    sid: &Sid,
+    pattern: &'a Pattern,
+    queue: &'a Option<QueueName>,
+    sid: &'a Sid,
 ) -> Result<String, AllocError> {
     let queue = queue
         .as_ref()
