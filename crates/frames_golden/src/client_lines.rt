@@ -75,10 +75,16 @@ fn line_told(alloc: Global, line: &ClientLine) -> Result<String, AllocError> {
 }
 
 /// Keeps the subject of a publication for the lines behind it.
-fn keep_subject(texts: &mut SharedTexts, line: ClientLine) {
-    if let ClientLine::Pub(head) = line {
-        let PubHead { subject, .. } = head;
-        texts.keep(subject);
+fn keep_subject(texts: &mut SharedTexts, head: PubHead) {
+    let PubHead { subject, .. } = head;
+    texts.keep(subject);
+}
+
+/// What is told of a line is all that is needed of it, but for the subject of a publication.
+fn give_back(texts: &mut SharedTexts, line: ClientLine) {
+    match line {
+        ClientLine::Pub(head) => keep_subject(texts, head),
+        _ => {}
     }
 }
 
@@ -89,7 +95,7 @@ fn use_line(
     line: ClientLine,
 ) -> Result<String, AllocError> {
     let answer = line_told(alloc, &line)?;
-    keep_subject(texts, line);
+    give_back(texts, line);
     Ok(answer)
 }
 

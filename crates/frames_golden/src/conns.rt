@@ -74,10 +74,15 @@ fn ask(conn: &mut Conn, alloc: Global, answer: Result<(), Refusal>) -> Result<St
 }
 
 /// Feeds the connection.
-fn feed(conn: &mut Conn, alloc: Global, word: &str) -> Result<String, AllocError> {
-    let bytes = bytes_of(alloc, word)?;
-    conn.feed(&bytes)?;
+fn feed(conn: &mut Conn, alloc: Global, bytes: &[u8]) -> Result<String, AllocError> {
+    conn.feed(bytes)?;
     text(alloc, "ok")
+}
+
+/// Feeds the connection what a word stands for.
+fn feed_word(conn: &mut Conn, alloc: Global, word: &str) -> Result<String, AllocError> {
+    let bytes = bytes_of(alloc, word)?;
+    feed(conn, alloc, &bytes)
 }
 
 /// Makes a call of the connection that stands.
@@ -88,7 +93,7 @@ fn told(
     words: &Words<'_>,
 ) -> Result<String, AllocError> {
     match call {
-        "feed" => feed(conn, alloc, words.text),
+        "feed" => feed_word(conn, alloc, words.text),
         "ask" => ask(conn, alloc, answer_in(words.at(0))),
         _ => no_such_call(alloc),
     }

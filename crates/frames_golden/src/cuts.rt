@@ -74,15 +74,24 @@ enum Taken {
     End,
 }
 
+/// A piece was taken, which is noted.
+fn with_piece(log: &mut String, piece: Piece<'_>) -> Result<Taken, AllocError> {
+    let announced = note_piece(log, piece)?;
+    Ok(Taken::Piece(announced))
+}
+
+/// A fault came in place of a piece, which is noted.
+fn with_fault(log: &mut String, fault: CutFault) -> Result<Taken, AllocError> {
+    note_fault(log, fault)?;
+    Ok(Taken::End)
+}
+
 /// Takes a piece, and notes it or a fault.
 fn take(cutter: &mut Cutter, log: &mut String) -> Result<Taken, AllocError> {
     match cutter.next() {
         Ok(None) => Ok(Taken::End),
-        Ok(Some(piece)) => Ok(Taken::Piece(note_piece(log, piece)?)),
-        Err(fault) => {
-            note_fault(log, fault)?;
-            Ok(Taken::End)
-        }
+        Ok(Some(piece)) => with_piece(log, piece),
+        Err(fault) => with_fault(log, fault),
     }
 }
 

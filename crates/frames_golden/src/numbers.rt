@@ -109,6 +109,11 @@ fn busy(alloc: Global, words: &Words<'_>) -> Result<String, AllocError> {
     format!(in alloc; "shard {}, turn {}", busy.shard, busy.finished.get())
 }
 
+/// The number of a connection.
+fn conn_told(alloc: Global, conn: ConnId) -> Result<String, AllocError> {
+    format!(in alloc; "{}", conn.get())
+}
+
 /// Whether two numbers are one connection.
 fn is_same_conn(alloc: Global, words: &Words<'_>) -> Result<String, AllocError> {
     yes_or_no(
@@ -139,7 +144,7 @@ pub fn answer_of(alloc: Global, call: &str, words: &Words<'_>) -> Result<String,
         "first_turn" => turn_told(alloc, Turn::zero()),
         "finished" => finished(alloc, words),
         "busy" => busy(alloc, words),
-        "conn" => format!(in alloc; "{}", ConnId::new(words.number(0)).get()),
+        "conn" => conn_told(alloc, ConnId::new(words.number(0))),
         "same_conn" => is_same_conn(alloc, words),
         "same_sub" => is_same_sub(alloc, words),
         _ => no_such_call(alloc),
