@@ -1,5 +1,7 @@
 //! What the reads of a pipe give, one after the other.
 
+ghost use Rattle.std.specs.Prelude.{◌≤◌, IfSome, length};
+
 use golden::{Words, bytes_of, number};
 use std::alloc::{AllocError, Global};
 use std::io;
@@ -53,7 +55,9 @@ impl Pieces {
     }
 
     /// Gives bytes of the next piece. None where it is a failure, or no more comes.
-    fn give(&mut self, buffer: &mut [u8]) -> Option<usize> {
+    fn give(&mut self, buffer: &mut [u8]) -> Option<usize>
+        ensures { IfSome result (λ count. count ≤ length buffer.new) }
+    {
         let Some(Piece::Bytes(bytes)) = self.pieces.get(self.place) else {
             return None;
         };
