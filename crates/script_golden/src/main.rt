@@ -1,0 +1,35 @@
+//! Cases of scripts, of matches and of one client on a pipe: `data/` has them, and `golden` says how they are written.
+//!
+//! ```text
+//! script.read [] => refused 91
+//! input.line {"nodes":["n1"],"shards":1,"steps":[
+//! input.line {"do":"stop","node":"n1"}]}
+//! play.whole => ok
+//! output.line => 1 refused 80
+//! match.run foo.*|foo.bar => ok: true\n
+//! pipe.run SUB foo 1\r\nPUB f|oo 2\r\nhi\r\n => ended: +OK\r\n+OK\r\nMSG foo 1 2\r\nhi\r\n
+//! pipe.run PING\r\n|!read fails => reading failed: PONG\r\n
+//! ```
+//!
+//! In reading order: `input` is put together for a script or a pipe, and `output` is what was written last, looked at piece by piece;
+//! `reading` reads scripts, `plays` plays them, `matches` asks of patterns, and `pipes` serves one client by `pieces`, of which each is what
+//! one read gives. `streams` says how a run ended, and `rig` has what stands and whose call a line is.
+#![tactic(auto)]
+
+mod input;
+mod matches;
+mod output;
+mod pieces;
+mod pipes;
+mod plays;
+mod reading;
+mod rig;
+mod streams;
+
+use rig::ScriptRig;
+use std::process::ExitCode;
+
+fn main(rt: HostRuntime) -> ExitCode {
+    let mut rig = ScriptRig::new(rt.alloc());
+    golden::play(&rt, &mut rig)
+}

@@ -1,0 +1,46 @@
+//! What stands in a case, and whose call a line is.
+
+use crate::output::Output;
+use crate::{input, matches, output, pipes, plays, reading};
+use golden::{Rig, Words, text};
+use std::alloc::{AllocError, Global};
+
+/// What a case puts together, and what was written last.
+#[derive(Drop)]
+pub struct ScriptRig {
+    alloc: Global,
+    input: Vec<u8>,
+    output: Output,
+}
+
+impl ScriptRig {
+    /// Nothing was put and nothing written.
+    pub fn new(alloc: Global) -> ScriptRig {
+        ScriptRig {
+            alloc,
+            input: Vec::new(alloc),
+            output: Output::new(alloc),
+        }
+    }
+}
+
+impl Rig for ScriptRig {
+    fn renew(&mut self) -> Result<(), AllocError> {
+        self.input.clear();
+        self.output.clear();
+        Ok(())
+    }
+
+    fn answer(&mut self, name: &str, words: &Words<'_>) -> Result<String, AllocError> {
+        let (of, call) = name.split_once('.').unwrap_or((name, ""));
+        match of {
+            "input" => input::answer(self.alloc, &mut self.input, call, words),
+            "output" => output::answer(self.alloc, &mut self.output, call, words),
+            "script" => reading::answer(self.alloc, call, words),
+            "play" => plays::answer(self.alloc, &self.input, &mut self.output, call, words),
+            "match" => matches::answer(self.alloc, call, words),
+            "pipe" => pipes::answer(self.alloc, &self.input, &mut self.output, call, words),
+            _ => text(self.alloc, "no such call"),
+        }
+    }
+}
