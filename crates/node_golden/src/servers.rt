@@ -1,0 +1,151 @@
+//! The servers of a case.
+
+use crate::keys::count;
+use crate::stand::Stand;
+use golden::{Rig, Words, text};
+use std::alloc::{AllocError, Global};
+
+/// The servers that have started.
+#[derive(Drop)]
+pub struct Servers {
+    alloc: Global,
+    first: Option<Stand>,
+    second: Option<Stand>,
+    third: Option<Stand>,
+}
+
+/// The text with this number for each `#`.
+fn with_number(alloc: Global, text: &str, number: u64) -> Result<String, AllocError> {
+    let digits = format!(in alloc; "{number}")?;
+    let mut whole = String::new(alloc);
+    let mut is_first = true;
+    for part in text.split('#') {
+        if !is_first {
+            whole.push_str(digits.as_str())?;
+        }
+        whole.push_str(part)?;
+        is_first = false;
+    }
+    Ok(whole)
+}
+
+/// The answer where it is not this one.
+fn unless_same(told: String, wanted: &str) -> Option<String> {
+    if told.as_str() == wanted {
+        None
+    } else {
+        Some(told)
+    }
+}
+
+impl Servers {
+    /// None has started.
+    pub fn new(alloc: Global) -> Servers {
+        Servers {
+            alloc,
+            first: None,
+            second: None,
+            third: None,
+        }
+    }
+
+    /// The server of this name, where it has started.
+    fn server(&mut self, name: &str) -> Option<&mut Stand> {
+        match name {
+            "n1" => self.first.as_mut(),
+            "n2" => self.second.as_mut(),
+            "n3" => self.third.as_mut(),
+            _ => None,
+        }
+    }
+
+    /// From now on this is the server of this name.
+    fn put(&mut self, name: &str, stand: Option<Stand>) {
+        match name {
+            "n1" => self.first = stand,
+            "n2" => self.second = stand,
+            _ => self.third = stand,
+        }
+    }
+
+    /// Starts the server of this name, in place of one that stands.
+    fn start(&mut self, name: &str, words: &Words<'_>) -> Result<String, AllocError> {
+        let stand = Stand::start(self.alloc, name, count(words.at(0)));
+        let has_started = stand.is_some();
+        self.put(name, stand);
+        text(self.alloc, if has_started { "ok" } else { "no server" })
+    }
+
+    /// Makes a call of one server.
+    fn call(&mut self, name: &str, words: &Words<'_>) -> Result<String, AllocError> {
+        let (server, call) = name.split_once('.').unwrap_or(("", name));
+        if call == "start" {
+            return self.start(server, words);
+        }
+        match self.server(server) {
+            Some(stand) => stand.answer(call, words),
+            None => text(self.alloc, "no server"),
+        }
+    }
+
+    /// Makes a call that is written as on a line of its own.
+    fn call_of(&mut self, line: &str) -> Result<String, AllocError> {
+        let (name, text) = line.split_once(' ').unwrap_or((line, ""));
+        self.call(name, &Words { text })
+    }
+
+    /// Makes a call for this number. Gives its answer where that differs from the one beside it.
+    fn differing(&mut self, line: &str, number: u64) -> Result<Option<String>, AllocError> {
+        let line = with_number(self.alloc, line, number)?;
+        let (call, wanted) = line
+            .as_str()
+            .split_once(" -> ")
+            .unwrap_or((line.as_str(), "ok"));
+        let told = self.call_of(call)?;
+        Ok(unless_same(told, wanted))
+    }
+
+    /// Makes the calls for this number, up to the first whose answer differs, which is given.
+    fn first_differing(&mut self, lines: &str, number: u64) -> Result<Option<String>, AllocError> {
+        for line in lines.split("; ") {
+            let told = self.differing(line, number)?;
+            if told.is_some() {
+                return Ok(told);
+            }
+        }
+        Ok(None)
+    }
+
+    /// Makes the calls for each number from the first to the last.
+    fn each(&mut self, first: u64, last: u64, lines: &str) -> Result<String, AllocError> {
+        for number in first..=last {
+            if let Some(told) = self.first_differing(lines, number)? {
+                return format!(in self.alloc; "at {number}: {told}");
+            }
+        }
+        text(self.alloc, if first <= last { "ok" } else { "no number" })
+    }
+
+    /// The same as it is written.
+    fn each_of(&mut self, words: &Words<'_>) -> Result<String, AllocError> {
+        let (first, rest) = words.text.split_once('|').unwrap_or(("", ""));
+        let (last, lines) = rest.split_once('|').unwrap_or(("", ""));
+        self.each(count(first), count(last), lines)
+    }
+}
+
+impl Rig for Servers {
+    fn renew(&mut self) -> Result<(), AllocError> {
+        self.first = None;
+        self.second = None;
+        self.third = None;
+        Ok(())
+    }
+
+    fn answer(&mut self, name: &str, words: &Words<'_>) -> Result<String, AllocError> {
+        match name {
+            "each" => self.each_of(words),
+            _ => self.call(name, words),
+        }
+    }
+}
