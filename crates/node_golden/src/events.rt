@@ -13,7 +13,7 @@ use crate::frames::{frame_event, session_event};
 use crate::keys::{count, key_of, message_of, sid_of};
 use client_frames::{ErrText, ReplyFrame};
 use golden::Words;
-use node_core::{ConnEvent, NodeEvent, OwnEvent, ShardWork};
+use node_law::{ConnEvent, NodeEvent, OwnEvent, ShardWork};
 use route_session::SessionId;
 use std::alloc::Global;
 use subj::{ConnId, Pub};

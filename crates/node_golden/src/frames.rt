@@ -8,7 +8,7 @@
 
 use crate::keys::{Life, count, key_of, life_of, message_of};
 use golden::Words;
-use node_core::NodeEvent;
+use node_law::NodeEvent;
 use route_session::SessionId;
 use route_values::{Body, Numbered, RouteConnect, RouteInfo, SnapshotKeys, WeightedKey};
 use std::alloc::Global;

@@ -4,7 +4,8 @@
 use crate::answers::{Seen, answer_told, outcomes_told, refusal_told, seen_in, step_told};
 use claim_race::Race;
 use golden::{shown, text};
-use node_core::{Answer, Did, Node, NodeEvent, NodeFault, Refused};
+use node_core::{Answer, Did, Node, Refused};
+use node_law::{NodeEvent, NodeFault};
 use outbox::Entry;
 use std::alloc::{AllocError, Global};
 use sub_trie::TrieTable;

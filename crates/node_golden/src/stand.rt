@@ -7,7 +7,7 @@ use crate::machine::Machine;
 use claim_cells::CellsRace;
 use claim_race::PlainRace;
 use golden::{Words, text};
-use node_core::NodeEvent;
+use node_law::NodeEvent;
 use std::alloc::{AllocError, Global};
 
 /// How events are made.
