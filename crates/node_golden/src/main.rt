@@ -12,15 +12,16 @@
 //! n1.begin 3 => refused 58
 //! ```
 //!
-//! - The servers of a cluster are `n1`, `n2` and `n3`, at the places 0, 1 and 2. `n1.start SHARDS` starts `n1` in its incarnation 5.
-//! - Each other call of a server is an event, as `events`, `frames` and `keys` read it, or looks at what came of the last one.
-//!   `last` is the largest number. An answer is a refusal's number, or what `answers` tells.
+//! - The servers of a cluster are `n1`, `n2` and `n3`, at the places 0, 1 and 2. `n1.start SHARDS` starts `n1` in its incarnation 5, once
+//!   in a case.
+//! - Each other call of a server is an event, as `events` and `frames` list them, or looks at what came of the last one. As a number,
+//!   `last` is the largest one. An answer is a refusal's number, or what `answers` tells.
 //! - `n1.put` tells how many entries and frames the last step put, and how many connections and subscriptions it closed; `n1.names` for
 //!   how many queue names its first two frames are; `n1.text CONN|COUNT` takes the bytes of the first entries that wait.
 //! - `n1.by apply` has the events behind it made without copies of what they put, `n1.by step` as before. A step is asked as well
 //!   whether it will be refused. Behind `n1.by list` events are kept until `n1.run` makes them as one list.
 //! - `each FIRST|LAST|CALL -> ANSWER; CALL -> ANSWER` makes calls for each number from the first to the last, which stands for `#` in
-//!   them and in their answers.
+//!   them and in their answers. The first answer that differs is told.
 //!
 //! In reading order: `servers` has the servers of a case, `stand` one of them over both races, and `machine` over one; `events`, `frames`
 //! and `keys` read what is asked, and `answers` tells what came of it.

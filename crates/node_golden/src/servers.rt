@@ -1,6 +1,6 @@
 //! The servers of a case.
 
-use crate::keys::count;
+use crate::keys::{count, place_of};
 use crate::stand::Stand;
 use golden::{Rig, Words, text};
 use std::alloc::{AllocError, Global};
@@ -9,24 +9,13 @@ use std::alloc::{AllocError, Global};
 #[derive(Drop)]
 pub struct Servers {
     alloc: Global,
-    first: Option<Stand>,
-    second: Option<Stand>,
-    third: Option<Stand>,
+    started: Vec<Stand>,
 }
 
 /// The text with this number for each `#`.
 fn with_number(alloc: Global, text: &str, number: u64) -> Result<String, AllocError> {
     let digits = format!(in alloc; "{number}")?;
-    let mut whole = String::new(alloc);
-    let mut is_first = true;
-    for part in text.split('#') {
-        if !is_first {
-            whole.push_str(digits.as_str())?;
-        }
-        whole.push_str(part)?;
-        is_first = false;
-    }
-    Ok(whole)
+    text.replace(alloc, '#', digits.as_str())
 }
 
 /// The answer where it is not this one.
@@ -43,44 +32,43 @@ impl Servers {
     pub fn new(alloc: Global) -> Servers {
         Servers {
             alloc,
-            first: None,
-            second: None,
-            third: None,
+            started: Vec::new(alloc),
         }
     }
 
-    /// The server of this name, where it has started.
+    /// Where the server of this name stands, if it has started.
+    fn index_of(&self, name: &str) -> Option<usize> {
+        let place = place_of(name)?;
+        self.started.iter().position(|stand| stand.is_at(place))
+    }
+
+    /// The server of this name, if it has started.
     fn server(&mut self, name: &str) -> Option<&mut Stand> {
-        match name {
-            "n1" => self.first.as_mut(),
-            "n2" => self.second.as_mut(),
-            "n3" => self.third.as_mut(),
-            _ => None,
-        }
+        let index = self.index_of(name)?;
+        self.started.get_mut(index)
     }
 
-    /// From now on this is the server of this name.
-    fn put(&mut self, name: &str, stand: Option<Stand>) {
-        match name {
-            "n1" => self.first = stand,
-            "n2" => self.second = stand,
-            _ => self.third = stand,
-        }
+    fn put(&mut self, stand: Stand) -> Result<String, AllocError> {
+        self.started.push(stand)?;
+        text(self.alloc, "ok")
     }
 
-    /// Starts the server of this name, in place of one that stands.
-    fn start(&mut self, name: &str, words: &Words<'_>) -> Result<String, AllocError> {
-        let stand = Stand::start(self.alloc, name, count(words.at(0)));
-        let has_started = stand.is_some();
-        self.put(name, stand);
-        text(self.alloc, if has_started { "ok" } else { "no server" })
+    /// Starts the server of this name, once in a case.
+    fn start(&mut self, name: &str, shards: u64) -> Result<String, AllocError> {
+        if self.index_of(name).is_some() {
+            return text(self.alloc, "it has started");
+        }
+        match Stand::start(self.alloc, name, shards) {
+            Some(stand) => self.put(stand),
+            None => text(self.alloc, "no server"),
+        }
     }
 
     /// Makes a call of one server.
     fn call(&mut self, name: &str, words: &Words<'_>) -> Result<String, AllocError> {
         let (server, call) = name.split_once('.').unwrap_or(("", name));
         if call == "start" {
-            return self.start(server, words);
+            return self.start(server, count(words.at(0)));
         }
         match self.server(server) {
             Some(stand) => stand.answer(call, words),
@@ -136,9 +124,7 @@ impl Servers {
 
 impl Rig for Servers {
     fn renew(&mut self) -> Result<(), AllocError> {
-        self.first = None;
-        self.second = None;
-        self.third = None;
+        self.started.clear();
         Ok(())
     }
 

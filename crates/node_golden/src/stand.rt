@@ -25,6 +25,7 @@ enum Manner {
 #[derive(Drop)]
 pub struct Stand {
     alloc: Global,
+    place: usize,
     plain: Machine<PlainRace>,
     cells: Machine<CellsRace>,
     manner: Manner,
@@ -48,11 +49,17 @@ impl Stand {
         let cells = Machine::start(alloc, place, shards)?;
         Some(Stand {
             alloc,
+            place,
             plain,
             cells,
             manner: Manner::Step,
             list: Vec::new(alloc),
         })
+    }
+
+    /// Whether it is the server at this place.
+    pub fn is_at(&self, place: usize) -> bool {
+        self.place == place
     }
 
     fn step(&mut self, event: &NodeEvent) -> Result<String, AllocError> {
