@@ -64,15 +64,21 @@ impl Servers {
         }
     }
 
+    /// Makes a call of the server of this name.
+    fn ask(&mut self, name: &str, call: &str, words: &Words<'_>) -> Result<String, AllocError> {
+        let alloc = self.alloc;
+        match self.server(name) {
+            Some(stand) => stand.answer(call, words),
+            None => text(alloc, "no server"),
+        }
+    }
+
     /// Makes a call of one server.
     fn call(&mut self, name: &str, words: &Words<'_>) -> Result<String, AllocError> {
         let (server, call) = name.split_once('.').unwrap_or(("", name));
-        if call == "start" {
-            return self.start(server, count(words.at(0)));
-        }
-        match self.server(server) {
-            Some(stand) => stand.answer(call, words),
-            None => text(self.alloc, "no server"),
+        match call {
+            "start" => self.start(server, count(words.at(0))),
+            _ => self.ask(server, call, words),
         }
     }
 
