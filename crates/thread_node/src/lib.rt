@@ -9,8 +9,9 @@
 //! ```
 //!
 //! In reading order: `parts` is what a server is made of, `locked_hub` and `locked_shard` what stands under its locks, `node` the
-//! server with its locks, `calls` those that take a lock for one call, `workers` the threads that work lanes. What is written down
-//! under a lock is `keeping`, `hub_entries` and, of an answer, `numbers`.
+//! server with its locks, `calls` those that take a lock for one call, `workers` the threads that work lanes, and `held` the calls that
+//! the connections of a server make while a lock is held. What is written down under a lock is `keeping`, `hub_entries` and, of an
+//! answer, `numbers`.
 //!
 //! No call here tells a caller's pass, and none ends a server with a report: `thread_report` does, above the same locks. It
 //! takes what it needs from here: the place of a step on its tape (`steps_kept`), an answer in numbers, and at the end what stood
@@ -18,6 +19,7 @@
 #![tactic(auto)]
 
 mod calls;
+mod held;
 mod hub_entries;
 mod keeping;
 mod locked_hub;
@@ -28,6 +30,7 @@ mod parts;
 mod workers;
 
 pub use calls::{NO_SHARD, refused_by_hub, refused_by_shard};
+pub use held::{HeldHub, HeldShard};
 pub use hub_entries::{HubEntry, HubEvent, HubTold};
 pub use keeping::copy_of_pub;
 pub use locked_hub::LockedHub;

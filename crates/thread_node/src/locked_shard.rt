@@ -76,6 +76,11 @@ impl<T: SubTable, N: NodeName> LockedShard<T, N> {
         self.state.shard()
     }
 
+    /// What its copies are made by.
+    pub(crate) fn alloc(&self) -> Global {
+        self.alloc
+    }
+
     /// [`ShardState::attach`].
     pub fn attach(&mut self) -> Result<ConnId, Failure<ShardFault>>
         ensures { IsAnswered (shard_refusal self.old.state Attach) (λ conn. Does self.old Attach (Attached conn) self.new) (self.new ≡ self.old) result }

@@ -1,0 +1,158 @@
+//! A shard or a hub that is held, with a count of what is asked of it in a run.
+
+ghost use Rattle.std.specs.Prelude.{⊤};
+
+use crate::runs::{Ran, Run, cost_of};
+use client_calls::{ClientCalls, Outcome};
+use client_conn::Refusal;
+use client_frames::{ErrText, ReplyFrame};
+use rand_core::utils::NextWord;
+use rand_pcg::Pcg64;
+use server_calls::{HubCalls, ShardCalls};
+use std::alloc::AllocError;
+use subj::{ConnId, Failure, Key, Pub, Sid};
+
+/// Whether a call is answered, and the connection goes on.
+fn is_answered(outcome: Outcome) -> bool {
+    matches!(outcome, Outcome::Done | Outcome::Refused(_))
+}
+
+/// A shard that is held, and how much was put for the client itself.
+#[derive(Drop)]
+pub(crate) struct ShardTally<'a, S: ShardCalls> {
+    shard: &'a mut S,
+    replied: usize,
+    is_empty: bool,
+}
+
+impl<'a, S: ShardCalls> ShardTally<'a, S> {
+    /// Nothing was asked.
+    pub fn new(shard: &'a mut S) -> ShardTally<'a, S> {
+        ShardTally {
+            shard,
+            replied: 0,
+            is_empty: true,
+        }
+    }
+
+    /// What was asked, in a run that came to this.
+    pub fn run(&self, end: Ran) -> Run {
+        let mut run = Run::of(end);
+        run.replied = self.replied;
+        run.is_empty = self.is_empty;
+        run
+    }
+
+    /// Counts what was asked.
+    fn count(&mut self, outcome: Outcome) -> Outcome {
+        self.is_empty = false;
+        if is_answered(outcome) {
+            self.replied = self.replied.saturating_add(cost_of(0));
+        }
+        outcome
+    }
+}
+
+impl<'a, S: ShardCalls> ClientCalls for ShardTally<'a, S> {
+    ghost made = { λ before called after. S.made before.shard.now called after.shard.now };
+
+    fn attach(&mut self) -> Result<ConnId, Failure<Refusal>> {
+        self.shard.attach()
+    }
+
+    fn reply(&mut self, conn: ConnId, frame: &ReplyFrame) -> Outcome {
+        let outcome = self.shard.reply(conn, frame);
+        self.count(outcome)
+    }
+
+    fn shut(&mut self, conn: ConnId, text: ErrText) -> Outcome {
+        let outcome = self.shard.shut(conn, text);
+        self.count(outcome)
+    }
+
+    fn subscribe(&mut self, conn: ConnId, key: &Key, sid: &Sid) -> Outcome {
+        let outcome = self.shard.subscribe(conn, key, sid);
+        self.count(outcome)
+    }
+
+    fn unsubscribe(&mut self, conn: ConnId, sid: &Sid, max: Option<u64>) -> Outcome {
+        let outcome = self.shard.unsubscribe(conn, sid, max);
+        self.count(outcome)
+    }
+
+    fn publish(&mut self, conn: ConnId, said: &Pub) -> Outcome {
+        self.shard.publish(conn, said)
+    }
+
+    fn detach(&mut self, conn: ConnId) -> Result<(), AllocError> {
+        self.shard.detach(conn)
+    }
+}
+
+/// A hub that is held, the words that it is given, and how much was published.
+#[derive(Drop)]
+pub(crate) struct HubTally<'a, H: HubCalls> {
+    hub: &'a mut H,
+    words: &'a mut Pcg64,
+    issued: usize,
+    is_empty: bool,
+}
+
+impl<'a, H: HubCalls> HubTally<'a, H> {
+    /// Nothing was published.
+    pub fn new(hub: &'a mut H, words: &'a mut Pcg64) -> HubTally<'a, H> {
+        HubTally {
+            hub,
+            words,
+            issued: 0,
+            is_empty: true,
+        }
+    }
+
+    /// What was published, in a run that came to this.
+    pub fn run(&self, end: Ran) -> Run {
+        let mut run = Run::of(end);
+        run.issued = self.issued;
+        run.is_empty = self.is_empty;
+        run
+    }
+}
+
+// What a publication makes of the hub is told once `HubCalls` tells it.
+impl<'a, H: HubCalls> ClientCalls for HubTally<'a, H> {
+    ghost made = { λ _ _ _. ⊤ };
+
+    fn attach(&mut self) -> Result<ConnId, Failure<Refusal>> {
+        Err(Failure::Refused(Refusal::Other))
+    }
+
+    fn reply(&mut self, _conn: ConnId, _frame: &ReplyFrame) -> Outcome {
+        Outcome::Elsewhere
+    }
+
+    fn shut(&mut self, _conn: ConnId, _text: ErrText) -> Outcome {
+        Outcome::Elsewhere
+    }
+
+    fn subscribe(&mut self, _conn: ConnId, _key: &Key, _sid: &Sid) -> Outcome {
+        Outcome::Elsewhere
+    }
+
+    fn unsubscribe(&mut self, _conn: ConnId, _sid: &Sid, _max: Option<u64>) -> Outcome {
+        Outcome::Elsewhere
+    }
+
+    fn publish(&mut self, conn: ConnId, said: &Pub) -> Outcome {
+        self.is_empty = false;
+        let outcome = self.hub.publish(conn, said, self.words.next_word());
+        if outcome == Outcome::Done {
+            let cost = cost_of(said.message.payload().len());
+            self.issued = self.issued.saturating_add(cost);
+        }
+        outcome
+    }
+
+    fn detach(&mut self, _conn: ConnId) -> Result<(), AllocError> {
+        Ok(())
+    }
+}
