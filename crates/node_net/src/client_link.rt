@@ -4,6 +4,7 @@ use crate::runs::{Ran, Run};
 use crate::tallies::{HubTally, ShardTally};
 use client_calls::{ClientLink as Calls, Served};
 use client_conn::{ReadFault, Refusal};
+use rand_core::SeedableRng;
 use rand_pcg::Pcg64;
 use server_calls::{HubCalls, ServerCalls, ShardCalls};
 use std::alloc::{AllocError, Global};
@@ -31,19 +32,22 @@ pub(crate) struct ClientLink {
 }
 
 /// What a run of calls has come to. A run that ends at what is for another place goes on there.
-fn ran_of(served: Result<Served, AllocError>) -> Ran {
+fn ran_of(served: Served) -> Ran {
     match served {
-        Ok(Served::Waits) => Ran::Waits,
-        Ok(Served::Goes) | Ok(Served::Elsewhere) => Ran::Goes,
-        Ok(Served::Busy) => Ran::Busy,
-        Ok(Served::Short) | Err(_) => Ran::Short,
-        Ok(Served::Over) => Ran::Shut,
+        Served::Waits => Ran::Waits,
+        Served::Goes | Served::Elsewhere => Ran::Goes,
+        Served::Busy => Ran::Busy,
+        Served::Short => Ran::Short,
+        Served::Over => Ran::Shut,
     }
 }
 
-/// Whether a run has ended at what is for another place.
-fn is_elsewhere(served: &Result<Served, AllocError>) -> bool {
-    matches!(served, Ok(Served::Elsewhere))
+/// How a run of calls ended: also where there was no memory to read what is asked next.
+fn served_of(served: Result<Served, AllocError>) -> Served {
+    match served {
+        Ok(served) => served,
+        Err(_) => Served::Short,
+    }
 }
 
 impl ClientLink {
@@ -110,31 +114,32 @@ impl ClientLink {
 
     /// Publishes what is asked up to another ask, at most a window.
     fn publish<C: ServerCalls, R: Wait>(&mut self, rt: &R, node: C, words: &mut Pcg64) -> Run {
-        let mut hub = node.hub(rt);
-        let mut tally = HubTally::new(&mut hub, words);
-        let served = self.calls.serve(&mut tally, WINDOW);
-        let mut run = tally.run(ran_of(served));
-        if is_elsewhere(&served) {
-            self.place = Place::Shard;
-        }
+        let own = std::mem::replace(words, Pcg64::seed_from_u64(0));
+        let mut tally = HubTally::new(node.hub(rt), own);
+        let served = served_of(self.calls.serve(&mut tally, WINDOW));
+        let run = tally.run(ran_of(served));
         if !run.is_empty {
-            hub.push_jobs(rt);
+            tally.hub.push_jobs(rt);
+        }
+        *words = tally.words;
+        if served == Served::Elsewhere {
+            self.place = Place::Shard;
         }
         run
     }
 
     /// Asks its shard, up to a publication.
     fn ask<C: ServerCalls, R: Wait>(&mut self, rt: &R, node: C) -> Run {
-        let Some(mut shard) = node.shard(rt, self.shard) else {
+        let Some(shard) = node.shard(rt, self.shard) else {
             return Run::of(Ran::Refused);
         };
-        let mut tally = ShardTally::new(&mut shard);
-        let served = self.calls.serve(&mut tally, SHARD_RUN);
+        let mut tally = ShardTally::new(shard);
+        let served = served_of(self.calls.serve(&mut tally, SHARD_RUN));
         let mut run = tally.run(ran_of(served));
-        if is_elsewhere(&served) {
+        run.has_deltas = !run.is_empty && tally.shard.has_deltas();
+        if served == Served::Elsewhere {
             self.place = Place::Hub;
         }
-        run.has_deltas = !run.is_empty && shard.has_deltas();
         run
     }
 }

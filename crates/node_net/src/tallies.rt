@@ -19,15 +19,15 @@ fn is_answered(outcome: Outcome) -> bool {
 
 /// A shard that is held, and how much was put for the client itself.
 #[derive(Drop)]
-pub(crate) struct ShardTally<'a, S: ShardCalls> {
-    shard: &'a mut S,
+pub(crate) struct ShardTally<S: ShardCalls> {
+    pub shard: S,
     replied: usize,
     is_empty: bool,
 }
 
-impl<'a, S: ShardCalls> ShardTally<'a, S> {
+impl<S: ShardCalls> ShardTally<S> {
     /// Nothing was asked.
-    pub fn new(shard: &'a mut S) -> ShardTally<'a, S> {
+    pub fn new(shard: S) -> ShardTally<S> {
         ShardTally {
             shard,
             replied: 0,
@@ -53,8 +53,8 @@ impl<'a, S: ShardCalls> ShardTally<'a, S> {
     }
 }
 
-impl<'a, S: ShardCalls> ClientCalls for ShardTally<'a, S> {
-    ghost made = { λ before called after. S.made before.shard.now called after.shard.now };
+impl<S: ShardCalls> ClientCalls for ShardTally<S> {
+    ghost made = { λ before called after. S.made before.shard called after.shard };
 
     fn attach(&mut self) -> Result<ConnId, Failure<Refusal>> {
         self.shard.attach()
@@ -91,16 +91,16 @@ impl<'a, S: ShardCalls> ClientCalls for ShardTally<'a, S> {
 
 /// A hub that is held, the words that it is given, and how much was published.
 #[derive(Drop)]
-pub(crate) struct HubTally<'a, H: HubCalls> {
-    hub: &'a mut H,
-    words: &'a mut Pcg64,
+pub(crate) struct HubTally<H: HubCalls> {
+    pub hub: H,
+    pub words: Pcg64,
     issued: usize,
     is_empty: bool,
 }
 
-impl<'a, H: HubCalls> HubTally<'a, H> {
+impl<H: HubCalls> HubTally<H> {
     /// Nothing was published.
-    pub fn new(hub: &'a mut H, words: &'a mut Pcg64) -> HubTally<'a, H> {
+    pub fn new(hub: H, words: Pcg64) -> HubTally<H> {
         HubTally {
             hub,
             words,
@@ -119,7 +119,7 @@ impl<'a, H: HubCalls> HubTally<'a, H> {
 }
 
 // What a publication makes of the hub is told once `HubCalls` tells it.
-impl<'a, H: HubCalls> ClientCalls for HubTally<'a, H> {
+impl<H: HubCalls> ClientCalls for HubTally<H> {
     ghost made = { λ _ _ _. ⊤ };
 
     fn attach(&mut self) -> Result<ConnId, Failure<Refusal>> {
@@ -144,7 +144,8 @@ impl<'a, H: HubCalls> ClientCalls for HubTally<'a, H> {
 
     fn publish(&mut self, conn: ConnId, said: &Pub) -> Outcome {
         self.is_empty = false;
-        let outcome = self.hub.publish(conn, said, self.words.next_word());
+        let word = self.words.next_word();
+        let outcome = self.hub.publish(conn, said, word);
         if outcome == Outcome::Done {
             let cost = cost_of(said.message.payload().len());
             self.issued = self.issued.saturating_add(cost);
