@@ -12,9 +12,20 @@ use server_calls::{HubCalls, ShardCalls};
 use std::alloc::AllocError;
 use subj::{ConnId, Failure, Key, Pub, Sid};
 
-/// Whether a call is answered, and the connection goes on.
-fn is_answered(outcome: Outcome) -> bool {
-    matches!(outcome, Outcome::Done | Outcome::Refused(_))
+/// How much was put for the client itself, with an answer to what came to this; none where it is not answered.
+fn replied_after(replied: usize, outcome: Outcome) -> usize {
+    match outcome {
+        Outcome::Done | Outcome::Refused(_) => replied.saturating_add(cost_of(0)),
+        Outcome::Shut | Outcome::Short | Outcome::Elsewhere => replied,
+    }
+}
+
+/// As how many bytes a publication counts that came to this; one that was not handed on counts as none.
+fn issued_by(said: &Pub, outcome: Outcome) -> usize {
+    match outcome {
+        Outcome::Done => cost_of(said.message.payload().len()),
+        _ => 0,
+    }
 }
 
 /// A shard that is held, and how much was put for the client itself.
@@ -42,15 +53,6 @@ impl<S: ShardCalls> ShardTally<S> {
         run.is_empty = self.is_empty;
         run
     }
-
-    /// Counts what was asked.
-    fn count(&mut self, outcome: Outcome) -> Outcome {
-        self.is_empty = false;
-        if is_answered(outcome) {
-            self.replied = self.replied.saturating_add(cost_of(0));
-        }
-        outcome
-    }
 }
 
 impl<S: ShardCalls> ClientCalls for ShardTally<S> {
@@ -62,22 +64,30 @@ impl<S: ShardCalls> ClientCalls for ShardTally<S> {
 
     fn reply(&mut self, conn: ConnId, frame: &ReplyFrame) -> Outcome {
         let outcome = self.shard.reply(conn, frame);
-        self.count(outcome)
+        self.is_empty = false;
+        self.replied = replied_after(self.replied, outcome);
+        outcome
     }
 
     fn shut(&mut self, conn: ConnId, text: ErrText) -> Outcome {
         let outcome = self.shard.shut(conn, text);
-        self.count(outcome)
+        self.is_empty = false;
+        self.replied = replied_after(self.replied, outcome);
+        outcome
     }
 
     fn subscribe(&mut self, conn: ConnId, key: &Key, sid: &Sid) -> Outcome {
         let outcome = self.shard.subscribe(conn, key, sid);
-        self.count(outcome)
+        self.is_empty = false;
+        self.replied = replied_after(self.replied, outcome);
+        outcome
     }
 
     fn unsubscribe(&mut self, conn: ConnId, sid: &Sid, max: Option<u64>) -> Outcome {
         let outcome = self.shard.unsubscribe(conn, sid, max);
-        self.count(outcome)
+        self.is_empty = false;
+        self.replied = replied_after(self.replied, outcome);
+        outcome
     }
 
     fn publish(&mut self, conn: ConnId, said: &Pub) -> Outcome {
@@ -118,7 +128,7 @@ impl<H: HubCalls> HubTally<H> {
     }
 }
 
-// What a publication makes of the hub is told once `HubCalls` tells it.
+// What a publication made of the hub is not told, since `HubCalls` does not tell it. A hub has no connections of its own.
 impl<H: HubCalls> ClientCalls for HubTally<H> {
     ghost made = { λ _ _ _. ⊤ };
 
@@ -146,10 +156,7 @@ impl<H: HubCalls> ClientCalls for HubTally<H> {
         self.is_empty = false;
         let word = self.words.next_word();
         let outcome = self.hub.publish(conn, said, word);
-        if outcome == Outcome::Done {
-            let cost = cost_of(said.message.payload().len());
-            self.issued = self.issued.saturating_add(cost);
-        }
+        self.issued = self.issued.saturating_add(issued_by(said, outcome));
         outcome
     }
 
