@@ -15,7 +15,7 @@ use sub_trie::TrieTable;
 use thread_node::{NodeName, Parts, ThreadNode};
 
 /// A server over streams in memory.
-pub(crate) type MemServer<'n, N> = Server<'n, MemStream, TrieTable, N>;
+pub(crate) type MemServer<'n, N> = Server<MemStream, &'n ThreadNode<TrieTable, N>>;
 
 /// What is played, each at a server of its own.
 #[derive(Clone, Copy)]

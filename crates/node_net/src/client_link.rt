@@ -1,152 +1,86 @@
-//! A client's connection: what its bytes ask for, and what its server makes of it.
+//! A client's connection: what its bytes ask for, asked of its shard and of the hub.
 
-use crate::runs::{Ran, Run, cost_of};
-use client_conn::{Ask, Conn, ReadFault, Refusal};
-use client_frames::{ErrText, InfoData, ReplyFrame};
-use client_refusals::{refusal_of_hub, refusal_of_shard};
-use hub_core::HubFault;
-use node_threads::NodeName;
-use rand_core::utils::NextWord;
+use crate::runs::{Ran, Run};
+use crate::tallies::{HubTally, ShardTally};
+use client_calls::{ClientLink as Calls, Served};
+use client_conn::{ReadFault, Refusal};
+use rand_core::SeedableRng;
 use rand_pcg::Pcg64;
-use shard_core::ShardFault;
+use server_calls::{HubCalls, ServerCalls, ShardCalls};
 use std::alloc::{AllocError, Global};
 use std::sync::Wait;
-use sub_table::SubTable;
-use subj::{ConnId, Failure, Key, Sid, WINDOW};
-use thread_node::{LockedHub, LockedShard, ThreadNode};
+use subj::{ConnId, Failure, Server as Life, WINDOW};
 use wire_cut::Source;
 
 /// The most asks that are answered under one hold of a shard's lock: a quarter of what an outbox has room for, and of
 /// what may wait for another server.
 const SHARD_RUN: u64 = 256;
 
+/// Of whom the next ask is asked first.
+#[derive(Clone, Copy, Debug, PartialEq, Eq)]
+enum Place {
+    Shard,
+    Hub,
+}
+
 /// A client's connection and its place in the server.
 #[derive(Drop)]
 pub(crate) struct ClientLink {
-    alloc: Global,
-    conn: Conn,
-    pub id: ConnId,
+    calls: Calls,
+    place: Place,
     pub shard: u64,
 }
 
-/// What an ask came to.
-enum Outcome {
-    /// It is answered.
-    Answered(Result<(), Refusal>),
-    /// The connection was shut.
-    Shut,
-}
-
-/// What one step of a run of publications came to.
-enum Published {
-    /// It was handed on, and counts as so many bytes; or it was refused, and counts as none.
-    Answered(usize),
-    Ended(Ran),
-}
-
-/// What is asked next.
-enum Kind {
-    Short,
-    Nothing,
-    Publication,
-    Other,
-}
-
-/// Of what kind the next ask is.
-fn kind_of(ask: Result<Option<&Ask>, AllocError>) -> Kind {
-    match ask {
-        Err(_) => Kind::Short,
-        Ok(None) => Kind::Nothing,
-        Ok(Some(Ask::Publish(_))) => Kind::Publication,
-        Ok(Some(_)) => Kind::Other,
+/// What a run of calls has come to. A run that ends at what is for another place goes on there.
+fn ran_of(served: Served) -> Ran {
+    match served {
+        Served::Waits => Ran::Waits,
+        Served::Goes | Served::Elsewhere => Ran::Goes,
+        Served::Busy => Ran::Busy,
+        Served::Short => Ran::Short,
+        Served::Over => Ran::Shut,
     }
 }
 
-/// What a connection is told of a call of its shard.
-fn answer_of<X: Drop>(done: Result<X, Failure<ShardFault>>) -> Result<Outcome, AllocError> {
-    match done {
-        Ok(_) => Ok(Outcome::Answered(Ok(()))),
-        Err(Failure::Refused(fault)) => Ok(Outcome::Answered(Err(refusal_of_shard(fault)))),
-        Err(Failure::OutOfMemory) => Err(AllocError),
-    }
-}
-
-/// Puts a line for the client.
-fn reply<T: SubTable, N: NodeName>(
-    shard: &mut LockedShard<T, N>,
-    id: ConnId,
-    frame: &ReplyFrame,
-) -> Result<Outcome, AllocError> {
-    match shard.reply(id, frame) {
-        Ok(closed) if closed.shut => Ok(Outcome::Shut),
-        done => answer_of(done),
-    }
-}
-
-/// Shuts the client with this text, unless it is shut already.
-fn shut<T: SubTable, N: NodeName>(
-    shard: &mut LockedShard<T, N>,
-    id: ConnId,
-    text: ErrText,
-) -> Result<Outcome, AllocError> {
-    match shard.shut(id, text) {
-        Err(Failure::OutOfMemory) => Err(AllocError),
-        _ => Ok(Outcome::Shut),
-    }
-}
-
-/// Opens a subscription for the client.
-fn subscribe<T: SubTable, N: NodeName>(
-    alloc: Global,
-    shard: &mut LockedShard<T, N>,
-    id: ConnId,
-    key: &Key,
-    sid: &Sid,
-) -> Result<Outcome, AllocError> {
-    let key = key.try_clone(alloc)?;
-    let sid = sid.try_clone(alloc)?;
-    answer_of(shard.subscribe(id, key, sid))
-}
-
-/// Closes what the client calls so.
-fn unsubscribe<T: SubTable, N: NodeName>(
-    shard: &mut LockedShard<T, N>,
-    id: ConnId,
-    sid: &Sid,
-    max: Option<u64>,
-) -> Outcome {
-    match shard.unsubscribe(id, sid, max) {
-        Ok(_) => Outcome::Answered(Ok(())),
-        Err(fault) => Outcome::Answered(Err(refusal_of_shard(fault))),
-    }
-}
-
-/// Does what a connection asks of its shard. None for a publication, which is the hub's.
-fn ask_shard<T: SubTable, N: NodeName>(
-    alloc: Global,
-    shard: &mut LockedShard<T, N>,
-    id: ConnId,
-    ask: &Ask,
-) -> Result<Option<Outcome>, AllocError> {
-    match ask {
-        Ask::Reply(frame) => reply(shard, id, frame).map(Some),
-        Ask::Shut(text) => shut(shard, id, *text).map(Some),
-        Ask::Subscribe { key, sid } => subscribe(alloc, shard, id, key, sid).map(Some),
-        Ask::Unsubscribe { sid, max } => Ok(Some(unsubscribe(shard, id, sid, *max))),
-        Ask::Publish(_) => Ok(None),
+/// How a run of calls ended: also where there was no memory to read what is asked next.
+fn served_of(served: Result<Served, AllocError>) -> Served {
+    match served {
+        Ok(served) => served,
+        Err(_) => Served::Short,
     }
 }
 
 impl ClientLink {
-    /// A client of whom nothing was read, and who is told this first.
-    pub fn new(alloc: Global, info: InfoData, shard: u64) -> ClientLink {
-        let id = info.client_id;
-        ClientLink {
-            alloc,
-            conn: Conn::new(alloc, info),
-            id,
-            shard,
+    /// A new client of this shard, which is held: one of whom nothing was read, and who is told first of this life
+    /// of a server with this port.
+    pub fn attach<S: ShardCalls>(
+        alloc: Global,
+        shard: &mut S,
+        life: &Life,
+        port: u16,
+    ) -> Result<ClientLink, Failure<Refusal>> {
+        let number = shard.shard();
+        match Calls::attach(alloc, shard, life.name(), life.inc(), port) {
+            Ok(calls) => Ok(ClientLink {
+                calls,
+                place: Place::Shard,
+                shard: number,
+            }),
+            Err(failure) => Err(failure),
         }
+    }
+
+    /// Its number at the server.
+    pub fn id(&self) -> ConnId {
+        self.calls.id()
+    }
+
+    /// The client goes with all that waits for it.
+    pub fn detach<C: ServerCalls, R: Wait>(&self, rt: &R, node: C) -> Result<(), AllocError> {
+        let Some(mut shard) = node.shard(rt, self.shard) else {
+            return Ok(());
+        };
+        self.calls.detach(&mut shard)
     }
 
     /// Reads once, at most so many bytes.
@@ -155,112 +89,57 @@ impl ClientLink {
         source: &mut S,
         most: usize,
     ) -> Result<usize, ReadFault> {
-        self.conn.read_from(source, most)
+        self.calls.read_from(source, most)
     }
 
     /// Does what is asked next: the publications up to another ask under one hold of the hub's lock, or
     /// other asks up to a publication under one hold of the shard's lock.
-    pub fn advance<T: SubTable, N: NodeName, R: Wait>(
-        &mut self,
-        rt: &R,
-        node: &ThreadNode<T, N>,
-        words: &mut Pcg64,
-    ) -> Run {
-        match kind_of(self.conn.next()) {
-            Kind::Short => Run::of(Ran::Short),
-            Kind::Nothing if self.conn.is_closed() => Run::of(Ran::Shut),
-            Kind::Nothing => Run::of(Ran::Waits),
-            Kind::Publication => self.publish(rt, node, words),
-            Kind::Other => self.ask(rt, node),
+    pub fn advance<C: ServerCalls, R: Wait>(&mut self, rt: &R, node: C, words: &mut Pcg64) -> Run {
+        let before = self.place;
+        let run = self.run(rt, node, words);
+        if run.is_empty && self.place != before {
+            self.run(rt, node, words)
+        } else {
+            run
+        }
+    }
+
+    /// A run at the place where the next ask is asked first.
+    fn run<C: ServerCalls, R: Wait>(&mut self, rt: &R, node: C, words: &mut Pcg64) -> Run {
+        match self.place {
+            Place::Shard => self.ask(rt, node),
+            Place::Hub => self.publish(rt, node, words),
         }
     }
 
     /// Publishes what is asked up to another ask, at most a window.
-    fn publish<T: SubTable, N: NodeName, R: Wait>(
-        &mut self,
-        rt: &R,
-        node: &ThreadNode<T, N>,
-        words: &mut Pcg64,
-    ) -> Run {
-        let mut guard = node.hub(rt);
-        let hub = &mut *guard;
-        let mut run = Run::of(Ran::Goes);
-        for _publication in 0..WINDOW {
-            match self.publish_next(hub, words) {
-                Published::Answered(bytes) => run.issued = run.issued.saturating_add(bytes),
-                Published::Ended(end) => {
-                    run.end = end;
-                    break;
-                }
-            }
+    fn publish<C: ServerCalls, R: Wait>(&mut self, rt: &R, node: C, words: &mut Pcg64) -> Run {
+        let own = std::mem::replace(words, Pcg64::seed_from_u64(0));
+        let mut tally = HubTally::new(node.hub(rt), own);
+        let served = served_of(self.calls.serve(&mut tally, WINDOW));
+        let run = tally.run(ran_of(served));
+        if !run.is_empty {
+            tally.hub.push_jobs(rt);
         }
-        hub.push_jobs(rt);
+        *words = tally.words;
+        if served == Served::Elsewhere {
+            self.place = Place::Shard;
+        }
         run
-    }
-
-    /// Publishes what is asked next.
-    fn publish_next<N: NodeName>(
-        &mut self,
-        hub: &mut LockedHub<N>,
-        words: &mut Pcg64,
-    ) -> Published {
-        let (bytes, done) = match self.conn.next() {
-            Err(_) => return Published::Ended(Ran::Short),
-            Ok(Some(Ask::Publish(said))) => {
-                let bytes = said.message.payload().len();
-                (bytes, hub.publish(self.id, said, words.next_word()))
-            }
-            Ok(_) => return Published::Ended(Ran::Goes),
-        };
-        match done {
-            Ok(_) => {
-                self.conn.answer(Ok(()));
-                Published::Answered(cost_of(bytes))
-            }
-            Err(Failure::OutOfMemory) => Published::Ended(Ran::Short),
-            Err(Failure::Refused(HubFault::Busy(_))) => Published::Ended(Ran::Busy),
-            Err(Failure::Refused(fault)) => {
-                self.conn.answer(Err(refusal_of_hub(fault)));
-                Published::Answered(0)
-            }
-        }
     }
 
     /// Asks its shard, up to a publication.
-    fn ask<T: SubTable, N: NodeName, R: Wait>(&mut self, rt: &R, node: &ThreadNode<T, N>) -> Run {
-        let Some(mut guard) = node.shard(rt, self.shard) else {
+    fn ask<C: ServerCalls, R: Wait>(&mut self, rt: &R, node: C) -> Run {
+        let Some(shard) = node.shard(rt, self.shard) else {
             return Run::of(Ran::Refused);
         };
-        let shard = &mut *guard;
-        let mut run = Run::of(Ran::Goes);
-        for _ask in 0..SHARD_RUN {
-            if let Some(end) = self.ask_next(shard) {
-                run.end = end;
-                break;
-            }
-            run.replied = run.replied.saturating_add(cost_of(0));
+        let mut tally = ShardTally::new(shard);
+        let served = served_of(self.calls.serve(&mut tally, SHARD_RUN));
+        let mut run = tally.run(ran_of(served));
+        run.has_deltas = !run.is_empty && tally.shard.has_deltas();
+        if served == Served::Elsewhere {
+            self.place = Place::Hub;
         }
-        run.has_deltas = !shard.deltas().is_empty();
         run
-    }
-
-    /// Does what is asked next of the shard. Tells what the run has come to where it ends.
-    fn ask_next<T: SubTable, N: NodeName>(&mut self, shard: &mut LockedShard<T, N>) -> Option<Ran> {
-        let outcome = match self.conn.next() {
-            Err(_) => return Some(Ran::Short),
-            Ok(None) => return Some(Ran::Goes),
-            Ok(Some(ask)) => match ask_shard(self.alloc, shard, self.id, ask) {
-                Err(_) => return Some(Ran::Short),
-                Ok(None) => return Some(Ran::Goes),
-                Ok(Some(outcome)) => outcome,
-            },
-        };
-        match outcome {
-            Outcome::Shut => Some(Ran::Shut),
-            Outcome::Answered(answer) => {
-                self.conn.answer(answer);
-                None
-            }
-        }
     }
 }

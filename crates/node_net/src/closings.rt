@@ -3,8 +3,7 @@
 use crate::connection::Ending;
 use crate::server::Server;
 use net_streams::Stream;
-use node_threads::NodeName;
-use sub_table::SubTable;
+use server_calls::ServerCalls;
 use subj::ConnId;
 
 /// How long a client may take to read its last bytes, in milliseconds: as long as nats-server waits for a write.
@@ -19,7 +18,7 @@ pub(crate) struct Closing {
     until: Option<u64>,
 }
 
-impl<'n, S: Stream, T: SubTable, N: NodeName> Server<'n, S, T, N> {
+impl<S: Stream, C: ServerCalls> Server<S, C> {
     /// Notes a connection whose last bytes its stream did not take. For want of memory it has no limit.
     pub(crate) fn await_closing(&mut self, key: usize) {
         let Some(connection) = self.connections.get_mut(key) else {

@@ -197,7 +197,7 @@ impl<S: Stream> Connection<S> {
     /// The client at the other end, where there is one.
     pub fn client(&self) -> Option<ConnId> {
         match &self.link {
-            Link::Client(client) => Some(client.id),
+            Link::Client(client) => Some(client.id()),
             Link::Route(_) => None,
         }
     }
@@ -205,7 +205,7 @@ impl<S: Stream> Connection<S> {
     /// The client at the other end, where it is one of this shard.
     pub fn client_of(&self, shard: u64) -> Option<ConnId> {
         match &self.link {
-            Link::Client(client) if client.shard == shard => Some(client.id),
+            Link::Client(client) if client.shard == shard => Some(client.id()),
             _ => None,
         }
     }

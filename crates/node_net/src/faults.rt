@@ -1,7 +1,7 @@
 //! Why a server takes no stream.
 
+use client_conn::Refusal;
 use route_session::SessionFault;
-use shard_core::ShardFault;
 use std::alloc::AllocError;
 use thiserror::Error;
 
@@ -10,7 +10,7 @@ use thiserror::Error;
 pub enum AddFault {
     /// No client is taken any more: the numbers of connections have come to their limit.
     #[error("no client is taken any more: {0}")]
-    Client(ShardFault),
+    Client(Refusal),
     /// The route is refused.
     #[error("the route is refused: {0}")]
     Route(SessionFault),

@@ -4,13 +4,11 @@ use crate::calls::take_frames;
 use crate::connection::{Connection, Ending};
 use crate::server::{Part, Server};
 use net_streams::Stream;
-use node_threads::NodeName;
 use route_frames::{Numbered, RouteFrame, encode};
+use server_calls::{ServerCalls, ShardCalls};
 use std::alloc::AllocError;
 use std::sync::Wait;
-use sub_table::SubTable;
 use subj::Failure;
-use thread_node::LockedShard;
 
 /// How many frames are taken for another server at once.
 const FRAMES: usize = 64;
@@ -52,8 +50,8 @@ impl Awaited {
 
 /// Takes what waits for a client behind what was taken, where all that was taken for it before is written.
 /// Tells whether there is something to be done for it.
-fn take_for<S: Stream, T: SubTable, N: NodeName>(
-    shard: &mut LockedShard<T, N>,
+fn take_for<S: Stream, H: ShardCalls>(
+    shard: &mut H,
     connection: &mut Connection<S>,
     taken: &mut Vec<u8>,
 ) -> Result<bool, AllocError> {
@@ -81,7 +79,7 @@ fn spell(frames: Vec<Numbered>, spelt: &mut Vec<u8>) -> Result<(), AllocError> {
     Ok(())
 }
 
-impl<'n, S: Stream, T: SubTable, N: NodeName> Server<'n, S, T, N> {
+impl<S: Stream, C: ServerCalls> Server<S, C> {
     /// Takes and writes what waits for clients: for those that something was put for, and for those that
     /// were served.
     pub(crate) fn flush<R: Wait>(&mut self, rt: &R) {
@@ -133,8 +131,8 @@ impl<'n, S: Stream, T: SubTable, N: NodeName> Server<'n, S, T, N> {
         is_any: bool,
     ) -> Awaited {
         let node = self.node;
-        if let Some(mut guard) = node.shard(rt, number) {
-            guard.swap_recipients(&mut self.recipients);
+        if let Some(mut shard) = node.shard(rt, number) {
+            shard.swap_recipients(&mut self.recipients);
         }
         if is_any || self.recipients.is_any() {
             return Awaited::All(self.connections.capacity());
@@ -170,10 +168,9 @@ impl<'n, S: Stream, T: SubTable, N: NodeName> Server<'n, S, T, N> {
         self.parts.clear();
         let count = awaited.count();
         let node = self.node;
-        let Some(mut guard) = node.shard(rt, number) else {
+        let Some(mut shard) = node.shard(rt, number) else {
             return count;
         };
-        let shard = &mut *guard;
         for place in place..count {
             if self.taken.len() >= TAKEN_AT_ONCE {
                 return place;
@@ -181,7 +178,7 @@ impl<'n, S: Stream, T: SubTable, N: NodeName> Server<'n, S, T, N> {
             let Some(key) = awaited.key(place) else {
                 return count;
             };
-            if self.take_one(shard, key).is_err() {
+            if self.take_one(&mut shard, key).is_err() {
                 self.is_short = true;
                 self.awaits_any = true;
                 return count;
@@ -191,7 +188,7 @@ impl<'n, S: Stream, T: SubTable, N: NodeName> Server<'n, S, T, N> {
     }
 
     /// Takes what waits for a client of the shard.
-    fn take_one(&mut self, shard: &mut LockedShard<T, N>, key: usize) -> Result<(), AllocError> {
+    fn take_one(&mut self, shard: &mut C::Shard, key: usize) -> Result<(), AllocError> {
         let Some(connection) = self.connections.get_mut(key) else {
             return Ok(());
         };

@@ -1,14 +1,17 @@
 //! The connections of a server: streams in, streams out, and between them the calls of the server.
 //!
 //! ```text
-//! let mut server: Server<'_, MemStream, ListTable, N> = Server::new(alloc, &node, life, 4222, 0)?;
+//! let mut server: Server<MemStream, _> = Server::new(alloc, &node, life, 4222, 0)?;
 //! let mut stream = MemStream::new(alloc);
 //! stream.feed(b"PING\r\n")?;
 //! let key = server.add(rt, stream, Side::Client)?;
 //! server.turn(rt, &[key]);
 //! ```
 //!
-//! In reading order: `client_link` and `route_link` make calls of what was read (`calls`), and tell what they have come to (`runs`);
+//! The server is whatever makes the calls of `server_calls`.
+//!
+//! In reading order: `client_link` and `route_link` make calls of what was read (`calls`), count them (`tallies`), and tell what they
+//! have come to (`runs`);
 //! `connection` has one of them with its stream; `server` has all connections, and finds those of clients (`clients`) and of other servers
 //! (`peers`); `turning` and `flushing` are a turn of its loop, and `running` is the loop. `closings`, `redials` and `company` say when
 //! connections are closed, other servers dialed again, and the loop ended; `faults` why no stream is taken.
@@ -28,6 +31,7 @@ mod route_link;
 mod running;
 mod runs;
 mod server;
+mod tallies;
 mod turning;
 
 pub use company::Company;

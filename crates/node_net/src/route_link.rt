@@ -3,14 +3,12 @@
 use crate::runs::{Ran, Run, cost_of};
 use bytes::Bytes;
 use hub_core::HubFault;
-use node_threads::NodeName;
 use route_frames::{Body, Numbered, RouteConnect, RouteFrame, RouteInfo, RouteLine, Unjoined};
 use route_session::SessionId;
+use server_calls::{HubCalls, ServerCalls};
 use std::alloc::Global;
 use std::sync::Wait;
-use sub_table::SubTable;
 use subj::{Failure, Incarnation, MAX_SNAPSHOT, ROUTE_LINE, Server as Life, WINDOW};
-use thread_node::{LockedHub, ThreadNode};
 use wire_cut::{Cutter, FillFault, Piece, Source};
 
 /// How far the session of a route is.
@@ -210,12 +208,7 @@ impl RouteLink {
 
     /// Takes the next frame, or the numbered frames up to another one under one hold of the hub's lock.
     /// Frames before the session is kept, and those of another server than it is kept with, are refused.
-    pub fn advance<T: SubTable, N: NodeName, R: Wait>(
-        &mut self,
-        rt: &R,
-        node: &ThreadNode<T, N>,
-        life: &Life,
-    ) -> Stepped {
+    pub fn advance<C: ServerCalls, R: Wait>(&mut self, rt: &R, node: C, life: &Life) -> Stepped {
         if let Some(end) = self.look_ahead() {
             return Stepped::Ran(Run::of(end));
         }
@@ -245,18 +238,15 @@ impl RouteLink {
     }
 
     /// The server that was dialed has told who it is.
-    fn greet_back<T: SubTable, N: NodeName, R: Wait>(
-        &mut self,
-        rt: &R,
-        node: &ThreadNode<T, N>,
-        info: RouteInfo,
-    ) -> Stepped {
+    fn greet_back<C: ServerCalls, R: Wait>(&mut self, rt: &R, node: C, info: RouteInfo) -> Stepped {
         let Stage::Dialed(peer) = self.stage else {
             return Stepped::Ran(Run::of(Ran::Refused));
         };
-        let done = node.hub(rt).info(self.session, &info);
+        let mut hub = node.hub(rt);
+        let done = hub.info(self.session, &info);
+        drop(hub);
         match done {
-            Ok((_kept, answer)) => {
+            Ok(answer) => {
                 self.ahead = None;
                 self.stage = Stage::Kept {
                     peer,
@@ -272,19 +262,21 @@ impl RouteLink {
     }
 
     /// The server that dialed has told who it is.
-    fn complete<T: SubTable, N: NodeName, R: Wait>(
+    fn complete<C: ServerCalls, R: Wait>(
         &mut self,
         rt: &R,
-        node: &ThreadNode<T, N>,
+        node: C,
         life: &Life,
         connect: RouteConnect,
     ) -> Stepped {
         let Some(peer) = life.place(connect.server_name()) else {
             return Stepped::Ran(Run::of(Ran::Refused));
         };
-        let done = node.hub(rt).connect(self.session, &connect);
+        let mut hub = node.hub(rt);
+        let done = hub.connect(self.session, &connect);
+        drop(hub);
         match done {
-            Ok(_kept) => {
+            Ok(()) => {
                 self.ahead = None;
                 self.stage = Stage::Kept {
                     peer,
@@ -297,17 +289,11 @@ impl RouteLink {
     }
 
     /// Takes numbered frames, at most a window.
-    fn receive<T: SubTable, N: NodeName, R: Wait>(
-        &mut self,
-        rt: &R,
-        node: &ThreadNode<T, N>,
-        life: &Life,
-    ) -> Run {
-        let mut guard = node.hub(rt);
-        let hub = &mut *guard;
+    fn receive<C: ServerCalls, R: Wait>(&mut self, rt: &R, node: C, life: &Life) -> Run {
+        let mut hub = node.hub(rt);
         let mut run = Run::of(Ran::Goes);
         for _frame in 0..WINDOW {
-            match self.receive_next(hub, life) {
+            match self.receive_next(&mut hub, life) {
                 Heard::Done(bytes) => run.issued = run.issued.saturating_add(bytes),
                 Heard::Ended(end) => {
                     run.end = end;
@@ -336,7 +322,7 @@ impl RouteLink {
     }
 
     /// Takes the next frame, where it is a numbered one. It is kept while it cannot be taken.
-    fn receive_next<N: NodeName>(&mut self, hub: &mut LockedHub<N>, life: &Life) -> Heard {
+    fn receive_next<H: HubCalls>(&mut self, hub: &mut H, life: &Life) -> Heard {
         if let Some(end) = self.look_ahead() {
             return Heard::Ended(end);
         }

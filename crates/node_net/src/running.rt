@@ -5,14 +5,13 @@ use crate::redials::{Greeting, Redials};
 use crate::server::{Server, Side};
 use mio::net::{TcpListener, TcpStream};
 use mio::{Events, Interest, Poll, Token};
-use node_threads::NodeName;
+use server_calls::ServerCalls;
 use std::alloc::Global;
 use std::io;
 use std::net::{Net, SocketAddr};
 use std::rt::Clock;
 use std::sync::Wait;
 use std::time::{Duration, Instant};
-use sub_table::SubTable;
 
 /// The token of the socket where clients connect.
 const CLIENTS: Token = Token(usize::MAX);
@@ -97,7 +96,7 @@ fn accept(listener: &TcpListener) -> Accepted {
     }
 }
 
-impl<'n, T: SubTable, N: NodeName> Server<'n, TcpStream, T, N> {
+impl<C: ServerCalls> Server<TcpStream, C> {
     /// Serves until all servers of the company stop: waits until a socket is ready, takes clients and routes,
     /// dials each other server of the cluster that is not reached at its address, those of all servers in
     /// their order, and makes a turn. May wait, and for ever.

@@ -42,6 +42,8 @@ pub(crate) struct Run {
     pub replied: usize,
     /// Whether the hub has not heard of all that the shard opened and closed.
     pub has_deltas: bool,
+    /// Whether nothing was asked in it.
+    pub is_empty: bool,
 }
 
 impl Run {
@@ -52,6 +54,7 @@ impl Run {
             issued: 0,
             replied: 0,
             has_deltas: false,
+            is_empty: true,
         }
     }
 }

@@ -3,7 +3,7 @@
 ghost use Rattle.std.specs.Prelude.{◌≡◌, ◌≤◌, ◌+◌, ◌-◌, ◌%◌, None, OnOk, OnErr};
 ghost use Rattle.slab.specs.Slab.{Updates};
 
-use crate::calls::{accept, attach, cut, detach, dial};
+use crate::calls::{accept, cut, dial};
 use crate::client_link::ClientLink;
 use crate::clients::Clients;
 use crate::closings::Closing;
@@ -11,20 +11,18 @@ use crate::connection::{Connection, Link};
 use crate::faults::AddFault;
 use crate::peers::Peers;
 use crate::route_link::{RouteLink, Stage};
-use client_frames::InfoData;
+use client_conn::Refusal;
 use net_streams::Stream;
-use node_threads::NodeName;
 use rand_core::SeedableRng;
 use rand_pcg::Pcg64;
 use route_frames::{RouteFrame, encode};
 use route_session::SessionId;
+use server_calls::ServerCalls;
 use shard_core::Recipients;
 use slab::Slab;
 use std::alloc::{AllocError, AllocFailed, Global};
 use std::sync::Wait;
-use sub_table::SubTable;
-use subj::{ConnId, Failure, Server as Life};
-use thread_node::ThreadNode;
+use subj::{Failure, Server as Life};
 
 /// Who is at the other end of a stream.
 #[derive(Clone, Copy, Debug, PartialEq, Eq)]
@@ -57,9 +55,9 @@ pub(crate) struct Part {
 /// and what these have put for clients and other servers goes out. Only the thread that has it works the
 /// server's shards. (Profile.)
 #[derive(Drop)]
-pub struct Server<'n, S: Stream, T: SubTable, N: NodeName> {
+pub struct Server<S: Stream, C: ServerCalls> {
     pub(crate) alloc: Global,
-    pub(crate) node: &'n ThreadNode<T, N>,
+    pub(crate) node: C,
     pub(crate) life: Life,
     pub(crate) port: u16,
     pub(crate) words: Pcg64,
@@ -103,16 +101,16 @@ pub struct Server<'n, S: Stream, T: SubTable, N: NodeName> {
     pub(crate) is_short: bool,
 }
 
-impl<'n, S: Stream, T: SubTable, N: NodeName> Server<'n, S, T, N> {
+impl<S: Stream, C: ServerCalls> Server<S, C> {
     /// The connections of this node, which is this life of a server and tells its clients this port. There
     /// are none. The seed begins the words that decide which server serves a queue group.
     pub fn new(
         alloc: Global,
-        node: &'n ThreadNode<T, N>,
+        node: C,
         life: Life,
         port: u16,
         seed: u64,
-    ) -> Result<Server<'n, S, T, N>, AllocError> {
+    ) -> Result<Server<S, C>, AllocError> {
         let peers = Peers::new(alloc, life.names().len())?;
         Ok(Server {
             alloc,
@@ -223,24 +221,17 @@ impl<'n, S: Stream, T: SubTable, N: NodeName> Server<'n, S, T, N> {
     fn client<R: Wait>(&mut self, rt: &R, stream: S) -> Result<Connection<S>, AddFault> {
         let number = self.came.saturating_add(1);
         let shard = shard_of_client(number, self.life.shards());
-        let client_id = match attach(rt, self.node, shard) {
-            Ok(id) => id,
-            Err(Failure::Refused(fault)) => return Err(AddFault::Client(fault)),
-            Err(Failure::OutOfMemory) => return Err(AddFault::OutOfMemory),
+        let Some(mut held) = self.node.shard(rt, shard) else {
+            return Err(AddFault::Client(Refusal::Other));
         };
-        self.came = number;
-        let info = self.info(client_id);
-        let link = Link::Client(ClientLink::new(self.alloc, info, shard));
-        Ok(Connection::new(self.alloc, stream, link))
-    }
-
-    /// What a client is told first.
-    fn info(&self, client_id: ConnId) -> InfoData {
-        InfoData {
-            name: self.life.name(),
-            inc: self.life.inc(),
-            client_id,
-            port: self.port,
+        match ClientLink::attach(self.alloc, &mut held, &self.life, self.port) {
+            Ok(link) => {
+                self.came = number;
+                let link = Link::Client(link);
+                Ok(Connection::new(self.alloc, stream, link))
+            }
+            Err(Failure::Refused(refusal)) => Err(AddFault::Client(refusal)),
+            Err(Failure::OutOfMemory) => Err(AddFault::OutOfMemory),
         }
     }
 
@@ -293,7 +284,7 @@ impl<'n, S: Stream, T: SubTable, N: NodeName> Server<'n, S, T, N> {
             return Ok(None);
         };
         match &connection.link {
-            Link::Client(client) => detach(rt, self.node, client)?,
+            Link::Client(client) => client.detach(rt, self.node)?,
             Link::Route(route) => cut(rt, self.node, route.session),
         }
         Ok(self.take_out(key))
@@ -315,7 +306,7 @@ impl<'n, S: Stream, T: SubTable, N: NodeName> Server<'n, S, T, N> {
         match link {
             Link::Client(client) => {
                 self.gone = self.gone.saturating_add(1);
-                self.clients.lose(client.id);
+                self.clients.lose(client.id());
             }
             Link::Route(_) => self.peers.lose(key),
         }

@@ -1,16 +1,13 @@
 //! A turn of the loop: what ready connections ask is done, and what was put is written.
 
-use crate::calls::collect;
 use crate::connection::{Ending, Link};
 use crate::route_link::{Greeted, Stepped};
 use crate::runs::{Ran, Run, TAKEN_EARLY};
 use crate::server::Server;
 use net_streams::Stream;
-use node_threads::{NodeName, Open, Turned};
 use route_frames::{RouteFrame, encode};
+use server_calls::{NextJob, ServerCalls, ShardCalls};
 use std::sync::Wait;
-use sub_table::SubTable;
-use thread_node::ThreadNode;
 
 /// How a shard was worked.
 #[derive(Clone, Copy, Debug, PartialEq, Eq)]
@@ -21,39 +18,34 @@ struct Worked {
 }
 
 /// Works a shard until no job waits for it, or what waits for a client has come to half of its room.
-fn work_shard<T: SubTable, N: NodeName, R: Wait>(
-    rt: &R,
-    node: &ThreadNode<T, N>,
-    number: u64,
-) -> Worked {
+fn work_shard<C: ServerCalls, R: Wait>(rt: &R, node: C, number: u64) -> Worked {
     let mut worked = Worked {
         has_deltas: false,
         is_short: false,
         is_urgent: false,
     };
-    let Some(mut guard) = node.shard(rt, number) else {
+    let Some(mut shard) = node.shard(rt, number) else {
         return worked;
     };
-    let shard = &mut *guard;
     for _turn in 0..u64::MAX {
-        match shard.turn(rt, &Open) {
-            Turned::Worked(_) if shard.is_urgent() => {
+        match shard.work_next(rt) {
+            NextJob::Worked if shard.is_urgent() => {
                 worked.is_urgent = true;
                 break;
             }
-            Turned::Worked(_) => {}
-            Turned::Idle => break,
-            Turned::Short => {
+            NextJob::Worked => {}
+            NextJob::Nothing => break,
+            NextJob::Short => {
                 worked.is_short = true;
                 break;
             }
         }
     }
-    worked.has_deltas = !shard.deltas().is_empty();
+    worked.has_deltas = shard.has_deltas();
     worked
 }
 
-impl<'n, S: Stream, T: SubTable, N: NodeName> Server<'n, S, T, N> {
+impl<S: Stream, C: ServerCalls> Server<S, C> {
     /// One turn of the loop, for connections that are ready to be read or written: reads once of each, does
     /// what it asks, works the shards, and writes what they have put. May wait for a lock.
     ///
@@ -294,7 +286,7 @@ impl<'n, S: Stream, T: SubTable, N: NodeName> Server<'n, S, T, N> {
     /// Has the hub count what a shard has opened and closed. The routes of peers that are cut by it are
     /// closed.
     fn collect<R: Wait>(&mut self, rt: &R, shard: u64) {
-        let told = match collect(rt, self.node, shard) {
+        let told = match self.node.collect(rt, shard) {
             Ok(Some(told)) => told,
             Ok(None) => return,
             Err(_) => {

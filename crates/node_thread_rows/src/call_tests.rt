@@ -11,7 +11,8 @@ use std::sync::Wait;
 use std::test::Fail;
 use sub_table::ListTable;
 use subj::{Incarnation, NodeId, Pub, QueueNames, Server, Sid};
-use thread_node::{NodeName, Parts, Pass, Report, ThreadNode};
+use thread_node::{NodeName, Parts, ThreadNode};
+use thread_report::{Pass, Report, finish};
 
 fn node_id(name: &[u8]) -> Result<NodeId, Fail> {
     Ok(NodeId::read(name).ok().ok_or("a name")?)
@@ -108,7 +109,7 @@ fn report<N: NodeName, R: Wait>(rt: &R, alloc: Global, parts: Parts) -> Result<R
     let mut passes = Vec::with_capacity(alloc, 2)?;
     passes.push(peer).ok().ok_or("memory")?;
     passes.push(clients).ok().ok_or("memory")?;
-    Ok(node.finish(rt, alloc, passes)?)
+    Ok(finish(rt, alloc, node, passes)?)
 }
 
 #[test]

@@ -14,7 +14,8 @@ use std::thread;
 use std::thread::Threads;
 use sub_table::ListTable;
 use subj::{ConnId, Failure, Pub, Sid, Turn};
-use thread_node::{NodeName, Open, Parts, Pass, Report, ShardEntry, ShardEvent, ThreadNode};
+use thread_node::{NodeName, Open, Parts, ShardEntry, ShardEvent, ThreadNode};
+use thread_report::{Pass, Report, finish};
 
 /// How many publications each of two threads makes.
 const EACH: u64 = 5_000;
@@ -184,7 +185,7 @@ fn leaves_and_reports<N: NodeName + Send + Sync, R: Abort + Threads + Wait + Syn
 {
     let node: ThreadNode<ListTable, N> = ThreadNode::start(alloc, parts)?;
     let passes = serve(rt, alloc, &node)?;
-    let report = node.finish(rt, alloc, passes).ok().ok_or("a report")?;
+    let report = finish(rt, alloc, node, passes).ok().ok_or("a report")?;
     is_whole(rt, &report);
     Ok(())
 }

@@ -11,10 +11,8 @@ use std::test::Fail;
 use std::thread::Threads;
 use sub_table::ListTable;
 use subj::{ConnId, Sid, Turn};
-use thread_node::{
-    HubEntry, HubTold, NodeName, Open, Parts, Pass, Report, ShardEntry, ShardEvent, ThreadNode,
-    Unfinished,
-};
+use thread_node::{HubEntry, HubTold, NodeName, Open, Parts, ShardEntry, ShardEvent, ThreadNode};
+use thread_report::{Pass, Report, Unfinished, finish};
 
 /// How often a shard's worker tries at most.
 const TRIES: u64 = 1_000_000;
@@ -144,7 +142,7 @@ fn reports<N: NodeName + Send + Sync, R: Abort + Threads + Wait + Sync>(
     let mut publisher = Pass::new(alloc);
     serve(rt, alloc, &node, &mut clients, &mut publisher, count)?;
     let passes = both(alloc, clients, Some(publisher))?;
-    let report = node.finish(rt, alloc, passes).ok().ok_or("a report")?;
+    let report = finish(rt, alloc, node, passes).ok().ok_or("a report")?;
     is_whole(rt, &report, count);
     Ok(())
 }
@@ -174,7 +172,7 @@ fn leaves_one_out<N: NodeName + Send + Sync, R: Abort + Threads + Wait + Sync>(
     let mut publisher = Pass::new(alloc);
     serve(rt, alloc, &node, &mut clients, &mut publisher, 3)?;
     let passes = both(alloc, clients, None)?;
-    let why = node.finish(rt, alloc, passes).err();
+    let why = finish(rt, alloc, node, passes).err();
     assert_eq!(rt; why, Some(Unfinished::Untold));
     Ok(())
 }

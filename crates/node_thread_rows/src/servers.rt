@@ -9,6 +9,7 @@ use subj::{
     ConnId, Incarnation, Key, Message, NodeId, Pattern, Pub, QueueName, Server, Sid, Subject,
 };
 use thread_node::{NodeName, ThreadNode};
+use thread_report::finish;
 
 /// The server n1, alone, of so many shards.
 pub fn server(alloc: Global, shards: u64) -> Result<Server, Fail> {
@@ -80,7 +81,7 @@ pub fn last_turns<N: NodeName, R: Wait>(
     alloc: Global,
     node: ThreadNode<ListTable, N>,
 ) -> Option<[u64; 3]> {
-    let report = node.finish(rt, alloc, Vec::new(alloc)).ok()?;
+    let report = finish(rt, alloc, node, Vec::new(alloc)).ok()?;
     let first = report.finished.of(1).get();
     let second = report.finished.of(2).get();
     Some([report.issued.get(), first, second])

@@ -1,5 +1,2 @@
 pub mod Starting
 pub mod Telling
-pub mod Owing
-pub mod Orders
-pub mod Legal

@@ -18,10 +18,10 @@ use sub_table::SubTable;
 use subj::{ConnId, Failure, Key, Pub, Sid, SubId, Turn};
 
 /// The server has no such shard.
-pub(crate) const NO_SHARD: Failure<NodeFault> = Failure::Refused(NodeFault::NoShard);
+pub const NO_SHARD: Failure<NodeFault> = Failure::Refused(NodeFault::NoShard);
 
 /// A refusal of a shard, as its server tells it.
-pub(crate) fn of_shard(fault: Failure<ShardFault>) -> Failure<NodeFault>
+pub fn refused_by_shard(fault: Failure<ShardFault>) -> Failure<NodeFault>
     ensures { FailsAt true result }
 {
     match fault {
@@ -31,7 +31,7 @@ pub(crate) fn of_shard(fault: Failure<ShardFault>) -> Failure<NodeFault>
 }
 
 /// A refusal of the hub, as its server tells it.
-pub(crate) fn of_hub(fault: Failure<HubFault>) -> Failure<NodeFault>
+pub fn refused_by_hub(fault: Failure<HubFault>) -> Failure<NodeFault>
     ensures { FailsAt true result }
 {
     match fault {
@@ -129,7 +129,7 @@ impl<T: SubTable, N: NodeName> ThreadNode<T, N> {
         };
         match hub.collect(&mut shard) {
             Ok(done) => Ok(done),
-            Err(fault) => Err(of_hub(fault)),
+            Err(fault) => Err(refused_by_hub(fault)),
         }
     }
 
@@ -151,7 +151,7 @@ impl<T: SubTable, N: NodeName> ThreadNode<T, N> {
         };
         match shard.drop_job(rt) {
             Ok(done) => Ok(done),
-            Err(fault) => Err(of_shard(fault)),
+            Err(fault) => Err(refused_by_shard(fault)),
         }
     }
 
@@ -165,7 +165,7 @@ impl<T: SubTable, N: NodeName> ThreadNode<T, N> {
         };
         match shard.attach() {
             Ok(done) => Ok(done),
-            Err(fault) => Err(of_shard(fault)),
+            Err(fault) => Err(refused_by_shard(fault)),
         }
     }
 
@@ -186,7 +186,7 @@ impl<T: SubTable, N: NodeName> ThreadNode<T, N> {
         };
         match shard.subscribe(conn, key, sid) {
             Ok(done) => Ok(done),
-            Err(fault) => Err(of_shard(fault)),
+            Err(fault) => Err(refused_by_shard(fault)),
         }
     }
 
@@ -227,7 +227,7 @@ impl<T: SubTable, N: NodeName> ThreadNode<T, N> {
         };
         match shard.reply(conn, frame) {
             Ok(done) => Ok(done),
-            Err(fault) => Err(of_shard(fault)),
+            Err(fault) => Err(refused_by_shard(fault)),
         }
     }
 
@@ -247,7 +247,7 @@ impl<T: SubTable, N: NodeName> ThreadNode<T, N> {
         };
         match shard.shut(conn, text) {
             Ok(done) => Ok(done),
-            Err(fault) => Err(of_shard(fault)),
+            Err(fault) => Err(refused_by_shard(fault)),
         }
     }
 
@@ -266,7 +266,7 @@ impl<T: SubTable, N: NodeName> ThreadNode<T, N> {
         };
         match shard.detach(conn) {
             Ok(done) => Ok(done),
-            Err(fault) => Err(of_shard(fault)),
+            Err(fault) => Err(refused_by_shard(fault)),
         }
     }
 
@@ -286,7 +286,7 @@ impl<T: SubTable, N: NodeName> ThreadNode<T, N> {
         };
         match shard.take(conn, count) {
             Ok(done) => Ok(done),
-            Err(fault) => Err(of_shard(fault)),
+            Err(fault) => Err(refused_by_shard(fault)),
         }
     }
 }

@@ -1,30 +1,20 @@
 //! What is written down of the calls under a lock.
 
-ghost use Rattle.std.specs.Prelude.{◌≡◌, ◌∷◌, List, [], length, IfSome, option_to_list};
+ghost use Rattle.std.specs.Prelude.{◌≡◌, ◌∷◌, List, [], IfSome};
 ghost use Rattle.subj.specs.declared.keys.Delta.{Delta};
-ghost use Rattle.shard_core.specs.Answers.{answer_of};
-ghost use Rattle.node_threads.specs.Tapes.{Grows, entry, told_of};
+ghost use Rattle.node_threads.specs.Tapes.{Grows, entry};
 ghost use Rattle.node_threads.specs.declared.shard_entries.ShardEvent.{ShardEvent};
 ghost use Rattle.node_threads.specs.declared.shard_entries.ShardEvent.TheVariants.{Collect, Subscribe, Unsubscribe};
 ghost use Rattle.node_threads.specs.declared.shard_entries.ShardTold.TheVariants.{Work};
-ghost use Rattle.thread_node.specs.HubTapes.{hub_entry, of_received};
+ghost use Rattle.thread_node.specs.HubTapes.{hub_entry};
 ghost use Rattle.thread_node.specs.declared.hub_entries.HubEvent.{HubEvent};
 ghost use Rattle.thread_node.specs.declared.hub_entries.HubEvent.TheVariants.{Collect as HubCollect, Publish, Receive};
 
 use crate::hub_entries::{HubEntry, HubEvent, HubTold};
-use node_parts::Received;
 use node_threads::{Deltas, ShardEntry, ShardEvent, ShardTold, Tape};
 use route_values::Numbered;
-use shard_core::Subscribed;
 use std::alloc::Global;
-use subj::{ConnId, Delta, Finished, Key, Pub, Sid, SubId};
-
-/// How many there are.
-pub(crate) fn length_of<X>(list: &Vec<X>) -> usize
-    ensures { result ≡ length list.now.items }
-{
-    list.len()
-}
+use subj::{ConnId, Delta, Finished, Key, Pub, Sid};
 
 /// Writes down a step of a shard. Where there is no copy of what it was asked, the tape is given up.
 pub(crate) fn note_shard(tape: &mut Tape<ShardEntry>, event: Option<ShardEvent>, told: ShardTold)
@@ -87,28 +77,8 @@ pub(crate) fn unsubscribe_event(
     Some(ShardEvent::Unsubscribe { conn, sid, max })
 }
 
-/// What a subscribe did.
-pub(crate) fn told_subscribed(done: Subscribed) -> ShardTold
-    ensures { result ≡ told_of (answer_of done) }
-{
-    match done {
-        Subscribed::New(sub) => ShardTold::Opened(sub),
-        Subscribed::Same => ShardTold::AlreadyOpen,
-    }
-}
-
-/// How many there are, 0 or 1.
-pub(crate) fn count_of(ended: Option<SubId>) -> usize
-    ensures { result ≡ length (option_to_list ended) }
-{
-    match ended {
-        None => 0,
-        Some(_) => 1,
-    }
-}
-
 /// A copy of what a client said, where there is memory for it.
-pub(crate) fn copy_of(said: &Pub) -> Option<Pub>
+pub fn copy_of_pub(said: &Pub) -> Option<Pub>
     ensures { IfSome result (λ copy. copy ≡ said.now) }
 {
     let Ok(message) = said.message.try_clone() else {
@@ -133,7 +103,7 @@ pub(crate) fn publish_event(
     if !tape.is_kept() {
         return None;
     }
-    let said = copy_of(said)?;
+    let said = copy_of_pub(said)?;
     Some(HubEvent::Publish {
         conn,
         said,
@@ -158,16 +128,6 @@ pub(crate) fn receive_event(
         return None;
     };
     Some(HubEvent::Receive { frame, finished })
-}
-
-/// What a frame of a peer came to.
-pub(crate) fn told_received(received: &Received) -> HubTold
-    ensures { result ≡ of_received received.now }
-{
-    match received {
-        Received::Routed(turn) => HubTold::Routed(*turn),
-        Received::Heard(mark) => HubTold::Heard(*mark),
-    }
 }
 
 /// Copies of a shard's deltas, where they are to be written down and there is memory for them.

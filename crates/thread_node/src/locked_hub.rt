@@ -14,11 +14,9 @@ ghost use Rattle.node_threads.specs.AtHub.{Collects, Does, Publishes, Receives};
 ghost use Rattle.thread_node.specs.HubTapes.{IsHubTape};
 
 use crate::hub_entries::{HubEntry, HubEvent, HubTold};
-use crate::keeping::{
-    copy_for, length_of, note_collect, note_heard, note_hub, publish_event, receive_event,
-    told_received,
-};
+use crate::keeping::{copy_for, note_collect, note_heard, note_hub, publish_event, receive_event};
 use crate::locked_shard::LockedShard;
+use crate::numbers::{length_of, told_received};
 use claim_cells::Cells;
 use hub_core::{HubFault, Told};
 use node_parts::{Issued, Received};
@@ -37,9 +35,9 @@ use subj::{ConnId, Failure, Pub};
 /// stands on the tape, where one is kept: the tape is all that the hub and the sessions ever did.
 #[derive(Drop)]
 pub struct LockedHub<N: NodeName> {
-    pub(crate) state: HubState<N>,
-    pub(crate) cells: Arc<Cells, Global>,
-    pub(crate) tape: Tape<HubEntry>,
+    state: HubState<N>,
+    cells: Arc<Cells, Global>,
+    tape: Tape<HubEntry>,
     alloc: Global,
 }
 
@@ -233,8 +231,13 @@ impl<N: NodeName> LockedHub<N> {
         Ok(frames)
     }
 
+    /// How many steps stand on its tape, where one is kept: the next one's place, from 0.
+    pub fn steps_kept(&self) -> usize {
+        self.tape.len()
+    }
+
     /// What is left of it: the state, the race, and its tape.
-    pub(crate) fn into_parts(self) -> (HubState<N>, Arc<Cells, Global>, Tape<HubEntry>)
+    pub fn into_parts(self) -> (HubState<N>, Arc<Cells, Global>, Tape<HubEntry>)
         ensures state { result.0 ≡ self }
         ensures race { arc_value result.1 ≡ N.race }
         ensures tape { IsHubTape self result.2 }

@@ -11,9 +11,8 @@ ghost use Rattle.node_threads.specs.AtWork.{Does, TakesBytes, at_start};
 ghost use Rattle.node_threads.specs.Tapes.{IsTape};
 ghost use Rattle.node_threads.specs.Turns.{Drops, Turns};
 
-use crate::keeping::{
-    count_of, length_of, note_shard, subscribe_event, told_subscribed, unsubscribe_event,
-};
+use crate::keeping::{note_shard, subscribe_event, unsubscribe_event};
+use crate::numbers::{count_of, length_of, told_subscribed};
 use claim_cells::Cells;
 use client_frames::{ErrText, ReplyFrame};
 use node_threads::{Gate, NodeName, ShardEntry, ShardEvent, ShardState, ShardTold, Tape, Turned};
@@ -32,7 +31,7 @@ use subj::{ConnId, Delta, Failure, Key, Sid, SubId, Turn};
 #[derive(Drop)]
 pub struct LockedShard<T: SubTable, N: NodeName> {
     pub(crate) state: ShardState<T, N>,
-    pub(crate) cells: Arc<Cells, Global>,
+    cells: Arc<Cells, Global>,
     pub(crate) tape: Tape<ShardEntry>,
     alloc: Global,
 }
@@ -75,6 +74,11 @@ impl<T: SubTable, N: NodeName> LockedShard<T, N> {
         ensures { result ≡ self.now.part.shard }
     {
         self.state.shard()
+    }
+
+    /// What its copies are made by.
+    pub(crate) fn alloc(&self) -> Global {
+        self.alloc
     }
 
     /// [`ShardState::attach`].
@@ -238,8 +242,13 @@ impl<T: SubTable, N: NodeName> LockedShard<T, N> {
         self.state.drop_job(rt, &self.cells, &mut self.tape)
     }
 
+    /// How many steps stand on its tape, where one is kept: the next one's place, from 0.
+    pub fn steps_kept(&self) -> usize {
+        self.tape.len()
+    }
+
     /// What is left of it: the state, and its tape.
-    pub(crate) fn into_parts(self) -> (ShardState<T, N>, Tape<ShardEntry>)
+    pub fn into_parts(self) -> (ShardState<T, N>, Tape<ShardEntry>)
         ensures state { result.0 ≡ self }
         ensures tape { IsTape N.race.shards self result.1 }
     {

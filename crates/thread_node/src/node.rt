@@ -31,11 +31,11 @@ pub type ShardSection<'a, T, N> = MutexGuard<'a, LockedShard<T, N>>;
 /// answer. Whoever holds locks of both kinds has taken the hub's first, and no two shards' at once.
 #[derive(Drop)]
 pub struct ThreadNode<T: SubTable, N: NodeName> {
-    pub(crate) hub: Mutex<LockedHub<N>>,
-    pub(crate) shards: Vec<Mutex<LockedShard<T, N>>>,
-    pub(crate) unparkers: Vec<Unparker>,
-    pub(crate) stopped: AtomicBool,
-    pub(crate) keep: bool,
+    hub: Mutex<LockedHub<N>>,
+    shards: Vec<Mutex<LockedShard<T, N>>>,
+    unparkers: Vec<Unparker>,
+    stopped: AtomicBool,
+    keep: bool,
     ghost keeps: { keep ≡ N.keep },
     ghost all: { vec_len shards ≡ N.race.shards },
 }
@@ -104,6 +104,13 @@ impl<T: SubTable, N: NodeName> ThreadNode<T, N> {
         self.shards.len() as u64
     }
 
+    /// Whether what is done under its locks is written down.
+    pub fn keeps_tapes(&self) -> bool
+        ensures { result ≡ N.keep }
+    {
+        self.keep
+    }
+
     /// Takes the hub's lock. May wait.
     pub fn hub<R: Wait>(&self, rt: &R) -> HubSection<'_, N> {
         self.hub.lock(rt)
@@ -134,5 +141,13 @@ impl<T: SubTable, N: NodeName> ThreadNode<T, N> {
     /// Whether the workers were told to stop.
     pub fn is_stopped(&self) -> bool {
         self.stopped.load(Ordering::SeqCst)
+    }
+
+    /// What stands under its locks, at its end: under the hub's, and under that of each shard, in their order.
+    pub fn into_locked(self) -> (LockedHub<N>, Vec<Mutex<LockedShard<T, N>>>)
+        ensures { vec_len result.1 ≡ N.race.shards }
+    {
+        let ThreadNode { hub, shards, .. } = self;
+        (hub.into_inner(), shards)
     }
 }

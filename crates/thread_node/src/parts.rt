@@ -71,7 +71,7 @@ fn parkers(alloc: Global, shards: u64) -> Result<(Vec<Parker>, Vec<Unparker>), A
 impl Parts {
     /// The parts of this server, which has done nothing, and a parker for the worker of each shard, that of
     /// shard 1 first. `keep` says whether what is done under its locks is to be written down: each step then takes
-    /// memory, for as long as the server lives, and [`ThreadNode::finish`](crate::ThreadNode::finish) tells all of them.
+    /// memory, for as long as the server lives, and stands on the tapes of what [`ThreadNode::into_locked`](crate::ThreadNode::into_locked) gives.
     pub fn new(
         alloc: Global,
         server: Server,

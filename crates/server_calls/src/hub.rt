@@ -1,0 +1,51 @@
+//! The calls of a hub that is held.
+
+use client_calls::Outcome;
+use hub_core::HubFault;
+use route_session::{SessionFault, SessionId};
+use route_values::{Numbered, RouteConnect, RouteInfo};
+use std::sync::Wait;
+use subj::{ConnId, Failure, Pub};
+
+/// A hub that is held until this is let go: no one else makes a call of it meanwhile.
+pub trait HubCalls: Drop {
+    /// Publishes for a client; the word decides who serves each queue group. Too many publications under way are
+    /// [`Refusal::Busy`](client_conn::Refusal::Busy). [`HubCalls::push_jobs`] hands the job to the shards.
+    fn publish(&mut self, conn: ConnId, said: &Pub, word: u64) -> Outcome;
+
+    /// Takes a frame of another server. [`HubCalls::push_jobs`] hands the job of a message to the shards.
+    fn receive(&mut self, frame: &Numbered) -> Result<(), Failure<HubFault>>;
+
+    /// Hands the jobs to the shards. May wait.
+    fn push_jobs<R: Wait>(&mut self, rt: &R);
+
+    /// A session with a server that has dialed, and what that is told first.
+    fn accept(&mut self) -> Result<(SessionId, RouteInfo), Failure<SessionFault>>;
+
+    /// A session with the server at this place, which was dialed.
+    fn dial(&mut self, peer: usize) -> Result<SessionId, Failure<SessionFault>>;
+
+    /// The server that was dialed has told who it is: what it is told back.
+    fn info(
+        &mut self,
+        session: SessionId,
+        info: &RouteInfo,
+    ) -> Result<RouteConnect, Failure<SessionFault>>;
+
+    /// The server that has dialed has told who it is.
+    fn connect(
+        &mut self,
+        session: SessionId,
+        connect: &RouteConnect,
+    ) -> Result<(), Failure<SessionFault>>;
+
+    /// The session ends, where it stands.
+    fn cut(&mut self, session: SessionId);
+
+    /// Takes the first frames that wait for the server at this place, at most so many.
+    fn take_frames(
+        &mut self,
+        peer: usize,
+        count: usize,
+    ) -> Result<Vec<Numbered>, Failure<HubFault>>;
+}

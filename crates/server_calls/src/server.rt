@@ -1,0 +1,31 @@
+//! A server of one hub and some shards.
+
+use crate::hub::HubCalls;
+use crate::shard::ShardCalls;
+use hub_core::Told;
+use std::alloc::AllocError;
+use std::sync::Wait;
+
+/// A server whose hub and shards are held one at a time.
+///
+/// Whoever makes its calls holds at most one of them; only [`ServerCalls::collect`] holds two, and lets both go.
+pub trait ServerCalls: Copy {
+    /// A shard, held.
+    type Shard: ShardCalls;
+
+    /// The hub, held.
+    type Hub: HubCalls;
+
+    /// How many shards it has.
+    fn shards(&self) -> u64;
+
+    /// Holds the shard of this number, from 1. None where there is no such shard. May wait.
+    fn shard<R: Wait>(&self, rt: &R, number: u64) -> Option<Self::Shard>;
+
+    /// Holds the hub. May wait.
+    fn hub<R: Wait>(&self, rt: &R) -> Self::Hub;
+
+    /// Has the hub count what the shard has opened and closed: what it tells of it. None where there is nothing, and where
+    /// the hub refuses it. May wait.
+    fn collect<R: Wait>(&self, rt: &R, shard: u64) -> Result<Option<Told>, AllocError>;
+}

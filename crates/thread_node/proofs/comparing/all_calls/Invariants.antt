@@ -1,7 +1,0 @@
-use Rattle.std.proofs.Common.{◌≡◌, ◌++◌}
-use Rattle.std.specs.Prelude.{flat_map}
-use Rattle.thread_node.specs.Owed.{calls_of}
-use Rattle.thread_node.proofs.comparing.all_calls.Given as goal
-
-abbrev pub invariant-loop-pass : goal.invariant-loop-pass
-invariant-loop-pass g l = (l.all.items ≡ flat_map calls_of l.yielded) × (l.yielded ++ l.pass-iterator.rest.items ≡ l.initial.pass-iterator.rest.items)

@@ -1,6 +1,0 @@
-use Rattle.std.proofs.Common.{◌≡◌, ◌++◌, take}
-use Rattle.thread_node.specs.Owed.{owed_by_shard}
-use Rattle.thread_node.proofs.comparing.behind_shard.Given as goal
-
-abbrev pub invariant-loop-place : goal.invariant-loop-place
-invariant-loop-place l = l.calls ≡ owed_by_shard l.shard 0 (take l.place l.tape) ++ l.rest

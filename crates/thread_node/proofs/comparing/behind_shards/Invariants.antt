@@ -1,6 +1,0 @@
-use Rattle.std.proofs.Common.{◌≡◌, ◌++◌, map, take}
-use Rattle.thread_node.specs.Owed.{owed_by_shards}
-use Rattle.thread_node.proofs.comparing.behind_shards.Given as goal
-
-abbrev pub invariant-loop-place : goal.invariant-loop-place
-invariant-loop-place l = l.calls ≡ owed_by_shards 1 (map (λ entries. entries.items) (take l.place l.worked)) ++ l.rest

@@ -1,0 +1,3 @@
+pub mod Owing
+pub mod Orders
+pub mod Legal

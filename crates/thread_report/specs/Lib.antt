@@ -1,0 +1,8 @@
+-- what each step that was written down was asked, as an event of the server
+pub mod Events
+-- what the passes of callers have to tell of it
+pub mod Owed
+-- the deltas that shards hand to the hub
+pub mod Handing
+-- what the end of a server on threads tells
+pub mod Reports

@@ -1,0 +1,201 @@
+//! The end of a server on threads.
+
+ghost use Rattle.std.specs.Prelude.{◌≡◌, true, List, All, length, map, vec_len, IfOk, IfSome, OnOk};
+ghost use Rattle.std.specs.Arc.{arc_value};
+ghost use Rattle.subj.specs.declared.jobs.Job.{Job};
+ghost use Rattle.claim_cells.specs.Calls.{AllOf, HasEach, IsClosed};
+ghost use Rattle.node_threads.specs.Outlets.{AreFirst};
+ghost use Rattle.node_threads.specs.Tapes.{IsTape};
+ghost use Rattle.thread_report.specs.Handing.{AreHanded};
+ghost use Rattle.thread_report.specs.Owed.{AreTold};
+ghost use Rattle.thread_law.specs.Once.{AreOnce};
+ghost use Rattle.thread_law.specs.Runs.{HubRun, IsLegal, ShardRun};
+ghost use Rattle.thread_report.specs.Reports.{AreClosed, IsKept, IsWritten, Tells};
+
+use crate::comparing::are_told;
+use crate::faults::Unfinished;
+use crate::handing::torn_shard;
+use crate::passes::Pass;
+use claim_cells::{Cells, Closed, HubSeat, ShardSeat};
+use job_lane::meet;
+use node_threads::{Line, NodeName, ShardEntry, Tape};
+use std::alloc::Global;
+use std::sync::{Arc, Mutex, Wait};
+use sub_table::SubTable;
+use subj::{Finished, Turn};
+use thread_law::legal_runs_are_once;
+use thread_node::{HubEntry, LockedShard, ThreadNode};
+
+/// What a server has done.
+#[derive(Debug, Drop)]
+pub struct Report {
+    /// The last turn issued.
+    pub issued: Turn,
+    /// The last turn that each shard finished.
+    pub finished: Finished,
+    /// Whether what was done was written down.
+    pub kept: bool,
+    /// All that the hub and the sessions did, in order; nothing where nothing was written down.
+    pub hub: Vec<HubEntry>,
+    /// All that each shard did, in order, that of shard 1 first; nothing of each where nothing was written down.
+    pub worked: Vec<Vec<ShardEntry>>,
+}
+
+/// What a tape says, or nothing where nothing was to be written down.
+fn entries_on<E: Drop>(alloc: Global, keep: bool, tape: Tape<E>) -> Result<Vec<E>, Unfinished>
+    ensures { IfOk result (λ entries. IsKept keep tape entries.items) }
+{
+    if !keep {
+        return Ok(Vec::new(alloc));
+    }
+    tape.into_entries().ok_or(Unfinished::OutOfMemory)
+}
+
+/// Puts the two ends of a shard's lane together, and gives its seat and its tape. None where one of them is not
+/// of the shard of this number.
+fn close_shard<T: SubTable, N: NodeName, R: Wait>(
+    rt: &R,
+    number: u64,
+    line: Line<N>,
+    shard: LockedShard<T, N>,
+) -> Option<(ShardSeat, Tape<ShardEntry>)>
+    ensures seat { IfSome result (λ made. (made.0.race ≡ N.race) × (made.0.part ≡ shard.part)) }
+    ensures shard { IfSome result (λ _. shard.part.shard ≡ number) }
+    ensures tape { IfSome result (λ made. IsTape N.race.shards shard made.1) }
+    ensures popped { IfSome result (λ _. AreFirst shard.popped line.pushed) }
+{
+    if line.shard() != number || shard.shard() != number {
+        return None;
+    }
+    let (state, tape) = shard.into_parts();
+    let (seat, far) = state.into_parts();
+    meet(rt, line.into_lane(), far);
+    Some((seat, tape))
+}
+
+/// The seats of all shards, and what stands on their tapes, in their order.
+fn close_shards<T: SubTable, N: NodeName, R: Wait>(
+    rt: &R,
+    alloc: Global,
+    keep: bool,
+    lines: Vec<Line<N>>,
+    shards: Vec<Mutex<LockedShard<T, N>>>,
+) -> Result<(Vec<ShardSeat>, Vec<Vec<ShardEntry>>), Unfinished>
+    ensures { IfOk result (λ made. (length made.0.items ≡ vec_len shards) × ((issued : List Job) → All (λ line. AreFirst line.pushed issued) lines.items → AreClosed N.race issued keep made.0.items (map (λ entries. entries.items) made.1.items))) }
+{
+    let count = shards.len();
+    let mut seats = Vec::new(alloc);
+    let mut tapes = Vec::new(alloc);
+    for (line, shard) in lines.into_iter().zip(shards) {
+        let number = seats.len() as u64 + 1;
+        let Some((seat, tape)) = close_shard(rt, number, line, shard.into_inner()) else {
+            return Err(Unfinished::Torn(number));
+        };
+        let entries = entries_on(alloc, keep, tape)?;
+        tapes.reserve(1)?;
+        seats.reserve(1)?;
+        tapes.push_reserved(entries);
+        seats.push_reserved(seat);
+    }
+    if seats.len() != count {
+        return Err(Unfinished::Torn(seats.len() as u64 + 1));
+    }
+    Ok((seats, tapes))
+}
+
+/// Ends the race, whose seats are all here.
+fn close_race(
+    cells: Arc<Cells, Global>,
+    seat: HubSeat,
+    seats: Vec<ShardSeat>,
+) -> Result<Closed, Unfinished>
+    requires hub { seat.race ≡ arc_value cells }
+    requires shards { AllOf (arc_value cells) seats.items }
+    requires each { HasEach (arc_value cells).shards seats.items }
+    ensures { IfOk result (λ closed. IsClosed (arc_value cells) seat.part seats.items closed.issued closed.finished closed.cells.items) }
+{
+    let Some(cells) = Arc::into_inner(cells) else {
+        return Err(Unfinished::Torn(0));
+    };
+    Ok(cells.close(seat, seats)?)
+}
+
+/// The report of a server, with which no pass was compared yet.
+fn reported<T: SubTable, N: NodeName, R: Wait>(
+    rt: &R,
+    alloc: Global,
+    node: ThreadNode<T, N>,
+) -> Result<Report, Unfinished>
+    ensures kept { IfOk result (λ report. report.kept ≡ N.keep) }
+    ensures legal { IfOk result (λ report. (hub : HubRun) × (runs : List ShardRun) × IsLegal N.race.shards hub runs × AreOnce hub runs × Tells hub runs report.issued report.finished × IsWritten report.kept hub runs report.hub.items (map (λ entries. entries.items) report.worked.items)) }
+{
+    let keep = node.keeps_tapes();
+    let (hub, shards) = node.into_locked();
+    let (state, cells, tape) = hub.into_parts();
+    let hub = entries_on(alloc, keep, tape)?;
+    let (seat, lines) = state.into_parts();
+    let (seats, worked) = close_shards(rt, alloc, keep, lines, shards)?;
+    let closed = close_race(cells, seat, seats)?;
+    legal_runs_are_once();
+    Ok(Report {
+        issued: closed.issued,
+        finished: closed.finished,
+        kept: keep,
+        hub,
+        worked,
+    })
+}
+
+/// Compares what was written down of the hub with what was of the shards, and then with the passes.
+fn compare<N: NodeName>(
+    alloc: Global,
+    keep: bool,
+    passes: Vec<Pass<N>>,
+    hub: &[HubEntry],
+    worked: &[Vec<ShardEntry>],
+) -> Result<(), Unfinished>
+    ensures handed { OnOk result (keep ≡ true → AreHanded hub.now (map (λ entries. entries.items) worked.now)) }
+    ensures told { OnOk result (keep ≡ true → AreTold passes.items hub.now (map (λ entries. entries.items) worked.now)) }
+{
+    if let Some(number) = torn_shard(alloc, keep, hub, worked)? {
+        return Err(Unfinished::Torn(number));
+    }
+    if !are_told(alloc, keep, passes, hub, worked)? {
+        return Err(Unfinished::Untold);
+    }
+    Ok(())
+}
+
+/// Ends the server, and tells which turns it issued and finished, and, where it was to be written down, all
+/// that it did. There is a legal run with these numbers and just these steps: a list of the hub's and the
+/// sessions' steps and one of each shard's steps, where each shard worked a beginning of the jobs that the
+/// hub gave, in order, no queue name of a turn was won twice, and each that was lost was won by another
+/// shard. Each publication stands in one job, which one publish or one frame of a peer gave; over all shards
+/// it was put once at most for a queue name and once for a subscription, and each subscription got those of
+/// one incarnation in rising number. Where it was written down, the hub was handed just the deltas that each shard gave, collect for
+/// collect ([`Unfinished::Torn`] else, which no server comes to); and then the passes tell each step of the hub's and each one of a shard's but for
+/// collects and the parts of turns, once, with what was asked and answered, and nothing else; and those of one
+/// caller under one lock stand in order.
+///
+/// The server is given up for want of memory too. May wait.
+pub fn finish<T: SubTable, N: NodeName, R: Wait>(
+    rt: &R,
+    alloc: Global,
+    node: ThreadNode<T, N>,
+    passes: Vec<Pass<N>>,
+) -> Result<Report, Unfinished>
+    ensures kept { IfOk result (λ report. report.kept ≡ N.keep) }
+    ensures handed { IfOk result (λ report. report.kept ≡ true → AreHanded report.hub.items (map (λ entries. entries.items) report.worked.items)) }
+    ensures told { IfOk result (λ report. report.kept ≡ true → AreTold passes.items report.hub.items (map (λ entries. entries.items) report.worked.items)) }
+    ensures legal { IfOk result (λ report. (hub : HubRun) × (runs : List ShardRun) × IsLegal N.race.shards hub runs × AreOnce hub runs × Tells hub runs report.issued report.finished × IsWritten report.kept hub runs report.hub.items (map (λ entries. entries.items) report.worked.items)) }
+{
+    let report = reported(rt, alloc, node)?;
+    compare(
+        alloc,
+        report.kept,
+        passes,
+        report.hub.as_slice(),
+        report.worked.as_slice(),
+    )?;
+    Ok(report)
+}
