@@ -1,10 +1,9 @@
--- The seats of races of one shard and of two, as cases have them.
+-- The seats of a new race.
 use Rattle.std.proofs.Common.{◌≡◌, ℕ, zero, suc, ◌+◌, List, [], ◌∷◌, ◌++◌, length, length-append, sym, refl, ap, ◌∙◌, subst, arith}
 use Rattle.atomic_table.proofs.Lists.{at_last, at_longer}
 use Rattle.claim_cells.specs.Rule.{At}
 use Rattle.claim_cells.specs.Seats.{RaceId, ShardShown}
-use Rattle.claim_cells.specs.Calls.{AllNew, AllOf, HasEach}
-use mathlib.Core.Option.{some-ne-none, some-injective}
+use Rattle.claim_cells.specs.Calls.{AllNew}
 
 module _ (race : RaceId) (seats a : List ShardShown) (last : ShardShown) (popped : seats ≡ a ++ last ∷ []) where
   counted : (n : ℕ) → AllNew race (n + 1) seats → length a ≡ n
@@ -15,23 +14,3 @@ module _ (race : RaceId) (seats a : List ShardShown) (last : ShardShown) (popped
 
   pub rest_is : (n : ℕ) → AllNew race (n + 1) seats → AllNew race n a
   rest_is n all = (counted n all, (λ s seat at. all.1 s seat (subst (λ (l : List ShardShown). At l s seat) (sym popped) (at_longer a (last ∷ []) s seat at))))
-
-none_left : (a : List ShardShown) → length a ≡ 0 → a ≡ []
-none_left [] e = refl
-none_left (x ∷ xs) e = absurd (omega arith)
-
-pub one_seat : (race : RaceId) (seats a : List ShardShown) (seat : ShardShown) → AllNew race 0 a → seats ≡ a ++ seat ∷ [] → seats ≡ seat ∷ []
-one_seat race seats a seat all is = is ∙ ap (λ l. l ++ seat ∷ []) (none_left a all.0)
-
-pub all_of_one : (race : RaceId) (seats : List ShardShown) (seat : ShardShown) → seats ≡ seat ∷ [] → seat.race ≡ race → AllOf race seats
-all_of_one race seats seat is mine zero other at = ap (λ s. s.race) (sym (some-injective seat other (sym (ap (λ l. lib.ListN.get_elem? l 0) is) ∙ at))) ∙ mine
-all_of_one race seats seat is mine (suc i) other at = absurd (some-ne-none other (sym (sym (ap (λ l. lib.ListN.get_elem? l (suc i)) is) ∙ at)))
-
-pub each_of_one : (shards : ℕ) (seats : List ShardShown) (seat : ShardShown) → shards ≡ 1 → seats ≡ seat ∷ [] → seat.part.shard ≡ 1 → HasEach shards seats
-each_of_one shards seats seat count is mine zero low = (0, seat, ap (λ l. lib.ListN.get_elem? l 0) is, mine)
-each_of_one shards seats seat count is mine (suc s) low = absurd (omega arith)
-
-pub each_of_two : (shards : ℕ) (seats : List ShardShown) (first second : ShardShown) → shards ≡ 2 → seats ≡ second ∷ first ∷ [] → first.part.shard ≡ 1 → second.part.shard ≡ 2 → HasEach shards seats
-each_of_two shards seats first second count is one two zero low = (1, first, ap (λ l. lib.ListN.get_elem? l 1) is, one)
-each_of_two shards seats first second count is one two (suc zero) low = (0, second, ap (λ l. lib.ListN.get_elem? l 0) is, two)
-each_of_two shards seats first second count is one two (suc (suc s)) low = absurd (omega arith)

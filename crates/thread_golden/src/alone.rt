@@ -2,7 +2,7 @@
 
 ghost use Rattle.std.specs.Prelude.{◌≡◌, ◌∷◌, []};
 
-use crate::turn_calls::{drop_told, member_of, take_told, turn_word};
+use crate::turn_calls::{call_of, drop_told, member_of, take_told, turn_word};
 use crate::values::{Made, first_run};
 use claim_cells::{Cells, HubSeat};
 use golden::{Words, text};
@@ -109,5 +109,15 @@ impl<N: NodeName> Alone<N> {
             ),
             _ => text(alloc, "no such call"),
         }
+    }
+
+    /// Makes these calls, one a line. Gives the last one's answer.
+    pub fn last_answer<R: Wait>(&mut self, rt: &R, calls: &String) -> Result<String, AllocError> {
+        let mut answer = String::new(self.alloc);
+        for line in calls.as_str().lines() {
+            let (name, words) = call_of(line);
+            answer = self.answer(rt, name, &words)?;
+        }
+        Ok(answer)
     }
 }

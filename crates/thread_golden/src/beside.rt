@@ -3,7 +3,7 @@
 ghost use Rattle.std.specs.Prelude.{◌≡◌, ◌∷◌, []};
 ghost use Rattle.claim_cells.specs.Rule.{fresh_hub};
 
-use crate::turn_calls::{member_of, take_told, turn_word};
+use crate::turn_calls::{call_of, member_of, take_told, turn_word};
 use crate::values::{Made, said, server};
 use claim_cells::{Cells, HubSeat};
 use golden::{Words, text};
@@ -145,5 +145,15 @@ impl<N: NodeName> Beside<N> {
             "push_jobs" => self.push(rt),
             _ => text(alloc, "no such call"),
         }
+    }
+
+    /// Makes these calls, one a line. Gives the last one's answer.
+    pub fn last_answer<R: Wait>(&mut self, rt: &R, calls: &String) -> Result<String, AllocError> {
+        let mut answer = String::new(self.alloc);
+        for line in calls.as_str().lines() {
+            let (name, words) = call_of(line);
+            answer = self.answer(rt, name, &words)?;
+        }
+        Ok(answer)
     }
 }

@@ -241,18 +241,13 @@ fn share<R: Wait>(
     alloc: Global,
     count: u64,
 ) -> Result<String, AllocError> {
-    let Lanes {
-        first: Some(first),
-        second: Some(second),
-        payload,
-    } = lanes
-    else {
+    let (Some(first), Some(second)) = (&mut lanes.first, &mut lanes.second) else {
         return text(alloc, "no lanes");
     };
     let Some(run) = run_behind(alloc, first.last, count) else {
         return text(alloc, "no run");
     };
-    *payload = payload_of(&run);
+    lanes.payload = payload_of(&run);
     text(
         alloc,
         if push_both(rt, first, second, run) {

@@ -92,11 +92,11 @@ pub fn drop_told<N: NodeName, R: Wait>(
     }
 }
 
-/// The call that a line is: what stands, the call's name and its arguments.
-fn call_of(line: &str) -> (&str, &str, Words<'_>) {
+/// The call that a line is, without what it is made on: its name and its arguments.
+pub fn call_of(line: &str) -> (&str, Words<'_>) {
     let (name, rest) = line.split_once(' ').unwrap_or((line, ""));
-    let (of, call) = name.split_once('.').unwrap_or((name, ""));
-    (of, call, Words { text: rest })
+    let (_of, call) = name.split_once('.').unwrap_or((name, ""));
+    (call, Words { text: rest })
 }
 
 /// Makes these calls on a shard by itself that has done nothing. Gives the last one's answer.
@@ -110,12 +110,7 @@ fn play_alone<N: NodeName, R: Wait>(
     requires lanes { made.far.lane ∷ [] ≡ N.lanes }
 {
     let mut alone: Alone<N> = Alone::new(alloc, made)?;
-    let mut answer = String::new(alloc);
-    for line in calls.as_str().lines() {
-        let (_of, name, words) = call_of(line);
-        answer = alone.answer(rt, name, &words)?;
-    }
-    Ok(answer)
+    alone.last_answer(rt, calls)
 }
 
 /// The same with its hub.
@@ -129,12 +124,7 @@ fn play_beside<N: NodeName, R: Wait>(
     requires lanes { made.far.lane ∷ [] ≡ N.lanes }
 {
     let mut beside: Beside<N> = Beside::new(alloc, made)?;
-    let mut answer = String::new(alloc);
-    for line in calls.as_str().lines() {
-        let (_of, name, words) = call_of(line);
-        answer = beside.answer(rt, name, &words)?;
-    }
-    Ok(answer)
+    beside.last_answer(rt, calls)
 }
 
 /// Plays the calls on a shard by itself. Gives the last one's answer.

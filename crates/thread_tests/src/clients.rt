@@ -25,7 +25,12 @@ pub struct Client {
 
 /// Where these bytes first stand.
 fn place_of(bytes: &[u8], wanted: &[u8]) -> Option<usize> {
-    (0..bytes.len()).find(|place| bytes.get(*place..).is_some_and(|rest| rest.starts_with(wanted)))
+    for place in 0..bytes.len() {
+        if bytes.get(place..)?.starts_with(wanted) {
+            return Some(place);
+        }
+    }
+    None
 }
 
 /// Connects to this port, as soon as something listens there.

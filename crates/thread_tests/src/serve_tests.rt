@@ -108,13 +108,15 @@ fn count<R: Abort>(rt: &R, alloc: Global, members: &mut [Client], heard: &mut He
     heard.served = 0;
     for member in members {
         let numbers = member.heard(rt, alloc);
-        heard.served = heard.served.saturating_add(u64::from(!numbers.is_empty()));
         note(heard, &numbers);
     }
 }
 
-/// Counts these numbers.
+/// Counts the numbers that one member has heard.
 fn note(heard: &mut Heard, numbers: &[u64]) {
+    if !numbers.is_empty() {
+        heard.served = heard.served.saturating_add(1);
+    }
     for number in numbers {
         heard.all = heard.all.saturating_add(1);
         if let Some(time) = heard.times.get_mut(*number as usize) {

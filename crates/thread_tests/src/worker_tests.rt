@@ -115,7 +115,7 @@ fn published_until_stopped<N: NodeName + Send + Sync, R: Abort + Threads + Wait 
     node: &ThreadNode<ListTable, N>,
     said: &Pub,
     conn: u64,
-    parkers: &(Parker, Parker),
+    parkers: (Parker, Parker),
 ) -> u64 {
     let (of_first, of_second) = parkers;
     let (published, _) = thread::join(
@@ -128,8 +128,8 @@ fn published_until_stopped<N: NodeName + Send + Sync, R: Abort + Threads + Wait 
         move || {
             thread::join(
                 rt,
-                move || node.worker_until_stopped(rt, 1, of_first, &Open),
-                move || node.worker_until_stopped(rt, 2, of_second, &Open),
+                move || node.worker_until_stopped(rt, 1, &of_first, &Open),
+                move || node.worker_until_stopped(rt, 2, &of_second, &Open),
             )
         },
     );
@@ -141,7 +141,7 @@ fn works_until_stopped<N: NodeName + Send + Sync, R: Abort + Threads + Wait + Sy
     rt: &R,
     alloc: Global,
     node: &ThreadNode<ListTable, N>,
-    parkers: &(Parker, Parker),
+    parkers: (Parker, Parker),
 ) {
     let first = member(rt, alloc, node, 1);
     let second = member(rt, alloc, node, 2);
@@ -164,7 +164,7 @@ fn perform<N: NodeName + Send + Sync, R: Abort + Threads + Wait + Sync>(
     rt: &R,
     alloc: Global,
     node: &ThreadNode<ListTable, N>,
-    what: &Play,
+    what: Play,
 ) {
     match what {
         Play::Meets => meets_in_turn(rt, alloc, node),
@@ -178,7 +178,7 @@ fn stage<N: NodeName + Send + Sync, R: Abort + Threads + Wait + Sync>(
     rt: &R,
     alloc: Global,
     parts: Parts,
-    what: &Play,
+    what: Play,
     last: u64,
 )
     requires { (parts.race ≡ N.race) × (parts.lanes ≡ N.lanes) × (parts.keep ≡ N.keep) }
@@ -200,20 +200,20 @@ fn parts<R: Abort>(rt: &R, alloc: Global) -> (Parts, (Parker, Parker)) {
 }
 
 /// Plays at a server of its own.
-fn act<R: Abort + Threads + Wait + Sync>(rt: &R, alloc: Global, what: &Play, last: u64) {
+fn act<R: Abort + Threads + Wait + Sync>(rt: &R, alloc: Global, what: Play, last: u64) {
     let (parts, _parkers) = parts(rt, alloc);
     stage::<Brand, _>(rt, alloc, parts, what, last);
 }
 
 #[test]
 fn two_shards_in_mid_turn(rt: HostRuntime) -> Result<(), Fail> {
-    act(&rt, rt.alloc(), &Play::Meets, 1);
+    act(&rt, rt.alloc(), Play::Meets, 1);
     Ok(())
 }
 
 #[test]
 fn two_publish_and_two_work(rt: HostRuntime) -> Result<(), Fail> {
-    act(&rt, rt.alloc(), &Play::ServesFromFour, 2 * EACH);
+    act(&rt, rt.alloc(), Play::ServesFromFour, 2 * EACH);
     Ok(())
 }
 
@@ -221,6 +221,6 @@ fn two_publish_and_two_work(rt: HostRuntime) -> Result<(), Fail> {
 fn workers_sleep_and_stop(rt: HostRuntime) -> Result<(), Fail> {
     let (parts, parkers) = parts(&rt, rt.alloc());
     let what = Play::WorksUntilStopped(parkers);
-    stage::<Brand, _>(&rt, rt.alloc(), parts, &what, EACH);
+    stage::<Brand, _>(&rt, rt.alloc(), parts, what, EACH);
     Ok(())
 }
