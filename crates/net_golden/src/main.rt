@@ -1,4 +1,4 @@
-//! Cases of servers whose calls many threads may make, of connections over streams in memory, and of options: `data/` has them, and
+//! Cases of servers whose calls many threads may make, and of connections over streams in memory: `data/` has them, and
 //! `golden` says how they are written.
 //!
 //! ```text
@@ -9,7 +9,6 @@
 //! n1.ends 1|PONG\r\n => yes
 //! node.new 1|2
 //! node.attach 3 => refused 58
-//! options.new 9|1|2|1|0|1 => bad --nodes
 //! ```
 //!
 //! `mesh.new` starts the server n1 of so many servers, with so many shards, and n2 beside it. A stream is made ready by `stream`, and `add`
@@ -19,7 +18,7 @@
 //! In reading order: `calls` keeps the calls of a case; `values` are what servers are made of and clients say. `table` has the
 //! connections, `feeding` and `stream_calls` what streams give, `server_calls` what is done with a server and `server_asks` what it is asked,
 //! `link_calls` what two servers send each other, `number_calls` counts numbers that came, and `mesh` plays a case. `node_calls`,
-//! `pass_calls` and `nodes` are the same for a server without connections. `option_calls` are of options, and `rig` has what stands.
+//! `pass_calls` and `nodes` are the same for a server without connections. `rig` has what stands.
 //!
 //! A server stands only in the call of a function that is generic in its name: so a case is played from its first call again for each
 //! call that asks something. A call that asks nothing is answered at once, and made when the next one asks.
@@ -32,7 +31,6 @@ mod mesh;
 mod node_calls;
 mod nodes;
 mod number_calls;
-mod option_calls;
 mod pass_calls;
 mod rig;
 mod server_asks;

@@ -12,7 +12,8 @@ use std::alloc::{AllocError, Global};
 use std::marker::Brand;
 use std::sync::Wait;
 use subj::ConnId;
-use thread_node::{Parts, Pass, Report, ThreadNode, Unfinished};
+use thread_node::{Parts, ThreadNode};
+use thread_report::{Pass, Report, Unfinished, finish};
 
 /// How many servers are in the cluster, how many shards each has, and whether what is done is written down.
 #[derive(Clone, Copy)]
@@ -160,7 +161,7 @@ fn end<N: NodeName, R: Wait>(
 ) -> Result<String, AllocError> {
     let (alloc, what) = (callers.alloc, line.words.at(0));
     let passes = callers.passes(what != "without_peer")?;
-    end_told(alloc, node.finish(rt, alloc, passes), what)
+    end_told(alloc, finish(rt, alloc, node, passes), what)
 }
 
 /// Makes these calls. Gives the last one's answer.

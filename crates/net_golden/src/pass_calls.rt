@@ -9,7 +9,7 @@ use route_values::{Body, Numbered, RouteConnect, RouteInfo, SnapshotKeys};
 use std::alloc::Global;
 use std::sync::Wait;
 use subj::{ConnId, Incarnation, NodeId, Pub, QueueNames, Sid};
-use thread_node::Pass;
+use thread_report::Pass;
 
 fn first_life() -> Option<Incarnation> {
     Incarnation::new(1)

@@ -3,7 +3,7 @@
 use crate::calls::put_call;
 use crate::mesh::Mesh;
 use crate::nodes::Setting;
-use crate::{mesh, nodes, option_calls};
+use crate::{mesh, nodes};
 use golden::{Rig, Words, text};
 use std::alloc::{AllocError, Global};
 use std::sync::Wait;
@@ -79,7 +79,6 @@ impl<'r, R: Wait> Rig for NetRig<'r, R> {
             "stream" | "n1" | "n2" | "link" | "numbers" => self.mesh_answer(name, words),
             "node" if call == "new" => self.set_node(words),
             "node" | "pass" => self.node_answer(name, words),
-            "options" => option_calls::answer_of(self.alloc, call, words),
             _ => text(self.alloc, "no such call"),
         }
     }

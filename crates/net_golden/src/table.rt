@@ -3,9 +3,10 @@
 use node_net::{MemStream, Server};
 use std::alloc::Global;
 use sub_trie::TrieTable;
+use thread_node::ThreadNode;
 
 /// A server over streams in memory.
-pub type MemServer<'n, N> = Server<'n, MemStream, TrieTable, N>;
+pub type MemServer<'n, N> = Server<MemStream, &'n ThreadNode<TrieTable, N>>;
 
 /// What is known of a connection: its key, how much of what was written to it came to its other end, and how much was written when
 /// that was marked.

@@ -11,9 +11,8 @@ use std::test::Fail;
 use std::thread::Threads;
 use sub_table::ListTable;
 use subj::{ConnId, Turn};
-use thread_node::{
-    HubEntry, HubTold, NodeName, Open, Parts, Pass, Report, ShardEntry, ShardEvent, ThreadNode,
-};
+use thread_node::{HubEntry, HubTold, NodeName, Open, Parts, ShardEntry, ShardEvent, ThreadNode};
+use thread_report::{Pass, Report, finish};
 
 /// How often a shard's worker tries at most.
 const TRIES: u64 = 1_000_000;
@@ -143,11 +142,9 @@ fn reports<N: NodeName + Send + Sync, R: Abort + Threads + Wait + Sync>(
 )
     requires { (parts.race ≡ N.race) × (parts.lanes ≡ N.lanes) × (parts.keep ≡ N.keep) }
 {
-    let node: ThreadNode<ListTable, N> = ThreadNode::start(alloc, parts)
-        .ok()
-        .expect(rt, "memory");
+    let node: ThreadNode<ListTable, N> = ThreadNode::start(alloc, parts).ok().expect(rt, "memory");
     let passes = served(rt, alloc, &node, count);
-    let report = node.finish(rt, alloc, passes).ok().expect(rt, "a report");
+    let report = finish(rt, alloc, node, passes).ok().expect(rt, "a report");
     is_whole(rt, &report, count);
 }
 

@@ -1,10 +1,11 @@
 //! Meshes of servers over sockets of this machine.
 
 use crate::clients::Client;
-use mesh_serve::{Given, Options, ServeFault, serve};
+use mesh_serve::{ServeFault, serve};
 use rand_core::SeedableRng;
 use rand_core::utils::NextWord;
 use rand_pcg::Pcg64;
+use router_command::{Given, Options};
 use std::alloc::Global;
 use std::net::{Ipv4Addr, Net, SocketAddr, TcpListener, TcpStream};
 use std::process::Abort;
@@ -249,11 +250,7 @@ fn ends_by_noise<R: Net<Stream = TcpStream> + Clock + Abort>(
 }
 
 /// Noise to client ports and to route ports; another client is served before and after.
-fn makes_noise<R: Net<Stream = TcpStream> + Clock + Abort>(
-    rt: &R,
-    alloc: Global,
-    ports: [u16; 4],
-) {
+fn makes_noise<R: Net<Stream = TcpStream> + Clock + Abort>(rt: &R, alloc: Global, ports: [u16; 4]) {
     let noise = noise_bytes(rt, alloc);
     let mut stays = Client::with_greeting(rt, alloc, ports[0]);
     for port in ports {

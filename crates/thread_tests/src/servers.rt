@@ -11,7 +11,8 @@ use subj::{
     ConnId, Failure, Incarnation, Key, Message, NodeId, Pattern, Pub, QueueName, Server, Sid,
     Subject,
 };
-use thread_node::{NodeName, Pass, ThreadNode};
+use thread_node::{NodeName, ThreadNode};
+use thread_report::{Pass, finish};
 
 /// The server n1, alone, of two shards.
 pub fn server(rt: &impl Abort, alloc: Global) -> Server {
@@ -167,7 +168,7 @@ pub fn last_turns<N: NodeName, R: Abort + Wait>(
     alloc: Global,
     node: ThreadNode<ListTable, N>,
 ) -> [u64; 3] {
-    let report = node.finish(rt, alloc, Vec::new(alloc)).ok();
+    let report = finish(rt, alloc, node, Vec::new(alloc)).ok();
     let report = report.expect(rt, "a report");
     let first = report.finished.of(1).get();
     let second = report.finished.of(2).get();
