@@ -148,8 +148,7 @@ fn serve<N: NodeName + Send + Sync, R: Abort + Threads + Wait + Sync>(
     let staying = pair(rt, alloc, node, &mut clients);
     let leaving = pair(rt, alloc, node, &mut clients);
     let said = hello(rt, alloc);
-    let ((first, second), clients) =
-        answered(rt, alloc, node, &said, clients, (staying, leaving));
+    let ((first, second), clients) = answered(rt, alloc, node, &said, clients, (staying, leaving));
     let mut passes = Vec::new(alloc);
     passes.push(first).ok().expect(rt, "memory");
     passes.push(second).ok().expect(rt, "memory");
@@ -180,9 +179,7 @@ fn leaves_and_reports<N: NodeName + Send + Sync, R: Abort + Threads + Wait + Syn
 )
     requires { (parts.race ≡ N.race) × (parts.lanes ≡ N.lanes) × (parts.keep ≡ N.keep) }
 {
-    let node: ThreadNode<ListTable, N> = ThreadNode::start(alloc, parts)
-        .ok()
-        .expect(rt, "memory");
+    let node: ThreadNode<ListTable, N> = ThreadNode::start(alloc, parts).ok().expect(rt, "memory");
     let passes = serve(rt, alloc, &node);
     let report = node.finish(rt, alloc, passes).ok().expect(rt, "a report");
     is_whole(rt, &report);

@@ -143,9 +143,7 @@ fn reports<N: NodeName + Send + Sync, R: Abort + Threads + Wait + Sync>(
 )
     requires { (parts.race ≡ N.race) × (parts.lanes ≡ N.lanes) × (parts.keep ≡ N.keep) }
 {
-    let node: ThreadNode<ListTable, N> = ThreadNode::start(alloc, parts)
-        .ok()
-        .expect(rt, "memory");
+    let node: ThreadNode<ListTable, N> = ThreadNode::start(alloc, parts).ok().expect(rt, "memory");
     let passes = served(rt, alloc, &node, count);
     let report = node.finish(rt, alloc, passes).ok().expect(rt, "a report");
     is_whole(rt, &report, count);

@@ -249,11 +249,7 @@ fn ends_by_noise<R: Net<Stream = TcpStream> + Clock + Abort>(
 }
 
 /// Noise to client ports and to route ports; another client is served before and after.
-fn makes_noise<R: Net<Stream = TcpStream> + Clock + Abort>(
-    rt: &R,
-    alloc: Global,
-    ports: [u16; 4],
-) {
+fn makes_noise<R: Net<Stream = TcpStream> + Clock + Abort>(rt: &R, alloc: Global, ports: [u16; 4]) {
     let noise = noise_bytes(rt, alloc);
     let mut stays = Client::with_greeting(rt, alloc, ports[0]);
     for port in ports {

@@ -2,7 +2,9 @@
 
 ghost use Rattle.std.specs.Prelude.{◌≡◌};
 
-use crate::servers::{Published, all_taken, hello, last_turns, member, publish, publish_all, server};
+use crate::servers::{
+    Published, all_taken, hello, last_turns, member, publish, publish_all, server,
+};
 use crossbeam_utils::sync::Parker;
 use std::alloc::Global;
 use std::marker::Brand;
@@ -183,9 +185,7 @@ fn stage<N: NodeName + Send + Sync, R: Abort + Threads + Wait + Sync>(
 )
     requires { (parts.race ≡ N.race) × (parts.lanes ≡ N.lanes) × (parts.keep ≡ N.keep) }
 {
-    let node: ThreadNode<ListTable, N> = ThreadNode::start(alloc, parts)
-        .ok()
-        .expect(rt, "memory");
+    let node: ThreadNode<ListTable, N> = ThreadNode::start(alloc, parts).ok().expect(rt, "memory");
     perform(rt, alloc, &node, what);
     assert_eq!(rt; last_turns(rt, alloc, node), [last, last, last]);
 }
