@@ -71,6 +71,15 @@ fn take_for<S: Stream, H: ShardCalls>(
     Ok(taken.len() > start || connection.ending() == Ending::Shut)
 }
 
+/// Sends a connection its part of what was taken. It is given up once it is to be closed and all is written.
+fn send_part<S: Stream>(connection: &mut Connection<S>, taken: &[u8], start: usize, end: usize) {
+    let part = taken.get(start..end).unwrap_or(&[]);
+    connection.send(part);
+    if connection.is_done() {
+        connection.give_up();
+    }
+}
+
 /// Spells frames behind what is spelt.
 fn spell(frames: Vec<Numbered>, spelt: &mut Vec<u8>) -> Result<(), AllocError> {
     for frame in frames {
@@ -205,15 +214,12 @@ impl<S: Stream, C: ServerCalls> Server<S, C> {
         let parts = std::mem::replace(&mut self.parts, Vec::new(self.alloc));
         let mut start = 0;
         for part in &parts {
-            let bytes = self.taken.get(start..part.end).unwrap_or(&[]);
+            let from = start;
             start = part.end;
             let Some(connection) = self.connections.get_mut(part.key) else {
                 continue;
             };
-            connection.send(bytes);
-            if connection.is_done() {
-                connection.give_up();
-            }
+            send_part(connection, &self.taken, from, part.end);
             self.await_closing(part.key);
             self.leave_if_gone(part.key);
         }
