@@ -16,7 +16,7 @@
 //! connections are ready are what a case says of them.
 //!
 //! In reading order: `calls` keeps the calls of a case; `values` are what servers are made of and clients say. `table` has the
-//! connections, `feeding` and `stream_calls` what streams give, `server_calls` what is done with a server and `server_asks` what it is asked,
+//! connections, `feeding` and `stream_calls` what streams give, `server_acts` what is done with a server and `server_asks` what it is asked,
 //! `link_calls` what two servers send each other, `number_calls` counts numbers that came, and `mesh` plays a case. `node_calls`,
 //! `pass_calls` and `nodes` are the same for a server without connections. `rig` has what stands.
 //!
@@ -33,8 +33,8 @@ mod nodes;
 mod number_calls;
 mod pass_calls;
 mod rig;
+mod server_acts;
 mod server_asks;
-mod server_calls;
 mod stream_calls;
 mod table;
 mod values;

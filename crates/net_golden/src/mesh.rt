@@ -6,7 +6,7 @@ ghost use Rattle.std.specs.Prelude.{◌≡◌};
 use crate::calls::{Line, call_of, numbered};
 use crate::table::{MemServer, Table};
 use crate::values::life_of;
-use crate::{link_calls, number_calls, server_asks, server_calls, stream_calls};
+use crate::{link_calls, number_calls, server_acts, server_asks, stream_calls};
 use golden::{Words, text};
 use node_net::Server;
 use node_threads::NodeName;
@@ -47,7 +47,7 @@ fn server_answer<N: NodeName, R: Wait>(
     if server_asks::is_question(line.call) {
         server_asks::answer_of(rt, server, table, side, line.call, &line.words)
     } else {
-        server_calls::answer_of(rt, server, table, side, line.call, &line.words)
+        server_acts::answer_of(rt, server, table, side, line.call, &line.words)
     }
 }
 
