@@ -92,13 +92,22 @@ fn take<N: NodeName, R: Wait>(
     }
 }
 
+/// Works the next job of the shard; None where there is no such shard.
+fn turned<N: NodeName, R: Wait>(rt: &R, node: &Node<N>, shard: u64) -> Option<Turned> {
+    let Some(mut guard) = node.shard(rt, shard) else {
+        return None;
+    };
+    let held = &mut *guard;
+    Some(held.turn(rt, &Open))
+}
+
 fn turn_word<N: NodeName, R: Wait>(
     rt: &R,
     node: &Node<N>,
     alloc: Global,
     shard: u64,
 ) -> Result<String, AllocError> {
-    match node.turn(rt, shard, &Open) {
+    match turned(rt, node, shard) {
         None => text(alloc, "no shard"),
         Some(Turned::Idle) => text(alloc, "idle"),
         Some(Turned::Worked(turn)) => format!(in alloc; "worked {}", turn.get()),
@@ -149,7 +158,7 @@ fn publishes_and_works<N: NodeName, R: Wait>(
     turn: u64,
 ) -> bool {
     let issued = node.publish(rt, conn, said, 0);
-    let worked = node.turn(rt, shard, &Open);
+    let worked = turned(rt, node, shard);
     issued.is_ok_and(|issued| issued.turn.get() == turn)
         && matches!(worked, Some(Turned::Worked(worked)) if worked.get() == turn)
 }
