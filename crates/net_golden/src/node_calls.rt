@@ -93,12 +93,21 @@ fn take<N: NodeName, R: Wait>(
 }
 
 /// Works the next job of the shard; None where there is no such shard.
-fn turned<N: NodeName, R: Wait>(rt: &R, node: &Node<N>, shard: u64) -> Option<Turned> {
+fn work_next<N: NodeName, R: Wait>(rt: &R, node: &Node<N>, shard: u64) -> Option<Turned> {
     let Some(mut guard) = node.shard(rt, shard) else {
         return None;
     };
     let held = &mut *guard;
     Some(held.turn(rt, &Open))
+}
+
+/// What a shard has come to.
+fn turned_told(alloc: Global, turned: Turned) -> Result<String, AllocError> {
+    match turned {
+        Turned::Idle => text(alloc, "idle"),
+        Turned::Worked(turn) => format!(in alloc; "worked {}", turn.get()),
+        Turned::Short => text(alloc, "no memory"),
+    }
 }
 
 fn turn_word<N: NodeName, R: Wait>(
@@ -107,11 +116,9 @@ fn turn_word<N: NodeName, R: Wait>(
     alloc: Global,
     shard: u64,
 ) -> Result<String, AllocError> {
-    match turned(rt, node, shard) {
+    match work_next(rt, node, shard) {
         None => text(alloc, "no shard"),
-        Some(Turned::Idle) => text(alloc, "idle"),
-        Some(Turned::Worked(turn)) => format!(in alloc; "worked {}", turn.get()),
-        Some(Turned::Short) => text(alloc, "no memory"),
+        Some(turned) => turned_told(alloc, turned),
     }
 }
 
@@ -148,6 +155,14 @@ fn publish_hello<N: NodeName, R: Wait>(
     }
 }
 
+/// The turn that was worked; 0 where none was.
+fn turn_of(turned: Turned) -> u64 {
+    match turned {
+        Turned::Worked(turn) => turn.get(),
+        Turned::Idle | Turned::Short => 0,
+    }
+}
+
 /// Publishes, and has the shard work it: whether both have this turn.
 fn publishes_and_works<N: NodeName, R: Wait>(
     rt: &R,
@@ -158,9 +173,8 @@ fn publishes_and_works<N: NodeName, R: Wait>(
     turn: u64,
 ) -> bool {
     let issued = node.publish(rt, conn, said, 0);
-    let worked = turned(rt, node, shard);
-    issued.is_ok_and(|issued| issued.turn.get() == turn)
-        && matches!(worked, Some(Turned::Worked(worked)) if worked.get() == turn)
+    let worked = work_next(rt, node, shard).map_or(0, turn_of);
+    issued.is_ok_and(|issued| issued.turn.get() == turn) && worked == turn
 }
 
 /// Publishes so often, and has the shard work each at once: whether the turns are 1, 2 and so on.

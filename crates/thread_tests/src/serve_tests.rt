@@ -1,5 +1,7 @@
 //! Meshes of servers over sockets of this machine.
 
+ghost use Rattle.router_command.specs.Ranges.{AreWithin};
+
 use crate::clients::Client;
 use mesh_serve::{ServeFault, serve};
 use rand_core::SeedableRng;
@@ -16,7 +18,9 @@ use std::thread::join;
 use std::time::Duration;
 
 /// The options of a mesh of so many servers of two shards, which ends after so many clients.
-fn options(rt: &impl Abort, nodes: u64, port: u64, stop_after: u64) -> Options {
+fn options(rt: &impl Abort, nodes: u64, port: u64, stop_after: u64) -> Options
+    ensures { AreWithin result }
+{
     let given = Given {
         nodes,
         port,
@@ -25,7 +29,10 @@ fn options(rt: &impl Abort, nodes: u64, port: u64, stop_after: u64) -> Options {
         word: 0,
         stop_after: Some(stop_after),
     };
-    Options::new(given).ok().expect(rt, "options")
+    match Options::new(given) {
+        Ok(options) => options,
+        Err(fault) => panic!(rt; "{fault}"),
+    }
 }
 
 /// A message with this number as its payload.
