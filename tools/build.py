@@ -220,6 +220,8 @@ def prove_wide(lines, progress):
             progress.proved(crate[0].strip("= \n"))
             crate = []
 
+    if not progress.plan.wide:
+        return None
     with Room(progress.plan.wide, lines):
         status = run(["rt", "all", "check", "--jobs", str(processors())], ROOM, hear)
     return "".join(said + crate) if status else None

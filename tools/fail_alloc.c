@@ -1,0 +1,74 @@
+/* Lets requests for memory fail. It is preloaded into a program by tools/fail_alloc.py, and is no part of any crate.
+ *
+ * FAIL_ALLOC_AT=N     the N-th request gets no memory
+ * FAIL_ALLOC_EVERY=N  each N-th request gets none
+ * FAIL_ALLOC_COUNT=F  the number of requests is kept in the file F, eight bytes as the machine has them, whatever the program's end
+ *
+ * Requests are counted from when the program's own code begins. Memory that is given back, or made smaller, is never refused.
+ */
+#include <errno.h>
+#include <fcntl.h>
+#include <malloc.h>
+#include <stdatomic.h>
+#include <stddef.h>
+#include <stdlib.h>
+#include <sys/mman.h>
+#include <unistd.h>
+
+/* The C library's own functions, under the names that it keeps for those who put others in front. */
+extern void *__libc_malloc(size_t);
+extern void *__libc_calloc(size_t, size_t);
+extern void *__libc_realloc(void *, size_t);
+extern void *__libc_memalign(size_t, size_t);
+
+static atomic_ulong counted_here;
+static atomic_ulong *requests = &counted_here;
+static unsigned long fails_at, fails_every;
+
+static unsigned long setting(const char *name) {
+  const char *text = getenv(name);
+  return text ? strtoul(text, NULL, 10) : 0;
+}
+
+__attribute__((constructor)) static void begin(void) {
+  const char *path = getenv("FAIL_ALLOC_COUNT");
+  int file = path ? open(path, O_RDWR | O_CREAT, 0600) : -1;
+  if (file >= 0 && ftruncate(file, sizeof *requests) == 0) {
+    void *place = mmap(NULL, sizeof *requests, PROT_READ | PROT_WRITE, MAP_SHARED, file, 0);
+    if (place != MAP_FAILED) requests = place;
+  }
+  if (file >= 0) close(file);
+  atomic_store(requests, 0);
+  fails_at = setting("FAIL_ALLOC_AT");
+  fails_every = setting("FAIL_ALLOC_EVERY");
+}
+
+static int is_refused(void) {
+  unsigned long number = atomic_fetch_add(requests, 1) + 1;
+  return number == fails_at || (fails_every && number % fails_every == 0);
+}
+
+static void *none(void) {
+  errno = ENOMEM;
+  return NULL;
+}
+
+void *malloc(size_t size) { return is_refused() ? none() : __libc_malloc(size); }
+
+void *calloc(size_t count, size_t size) { return is_refused() ? none() : __libc_calloc(count, size); }
+
+void *realloc(void *place, size_t size) {
+  int grows = !place || size > malloc_usable_size(place);
+  return grows && is_refused() ? none() : __libc_realloc(place, size);
+}
+
+void *memalign(size_t unit, size_t size) { return is_refused() ? none() : __libc_memalign(unit, size); }
+
+void *aligned_alloc(size_t unit, size_t size) { return memalign(unit, size); }
+
+int posix_memalign(void **place, size_t unit, size_t size) {
+  void *given = memalign(unit, size);
+  if (!given) return ENOMEM;
+  *place = given;
+  return 0;
+}
