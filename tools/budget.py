@@ -1,5 +1,8 @@
 """Measures what the gate costs from nothing, crate by crate, and compares it with the ceilings of tools/costs.json.
 
+Usage: tools/dev budget            measures, and ends with status 1 where something is above its ceiling
+       tools/dev budget --write    the same, and keeps what was measured in tools/costs.json
+
 The whole is the processor time that `rt ci --anew` and all that it starts have used, as the system tells it at the end. A crate's is that of
 the provers and compilers that worked on it, looked at every second, so that it falls short by a second or two for each of them.
 """

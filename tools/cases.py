@@ -1,5 +1,7 @@
 """Sees that the cases and tests that docs/PROTOCOL.md names are there.
 
+Usage: tools/dev cases
+
 The page names them as `case`, `case` (`crate`): the crate is a program over cases (`*_golden`), which has a line `case NAME` in a file of its
 data/, or a crate of tests (`*_tests`), which has a function of that name under `#[test]`. In one crate no two have one name.
 """

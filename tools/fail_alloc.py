@@ -4,6 +4,9 @@ The program is built already, and its input is a file. What it writes without a 
 ends as it did and writes the same; or it ends with status 1, and has written a beginning of the whole. Anything else is a fault: another text, another
 status, an end by a signal, or none within a minute.
 A request counts that the C library gets from the program (tools/fail_alloc.c, preloaded). It needs a C compiler, `cc`.
+
+Usage: tools/dev fail-alloc FILE PROGRAM WORD..
+       runs the program with these words, and the file as its standard input
 """
 import concurrent.futures
 import os
