@@ -60,6 +60,14 @@ class Scale:
         return self.start + part * (self.end - self.start)
 
 
+def round_figures(least, most):
+    """Round figures, from the last that is not above the least to the first that is not below the most."""
+    figures = [digit * 10.0 ** power for power in range(-3, 9) for digit in (1, 2, 5)]
+    start = max(place for place, figure in enumerate(figures) if figure <= least)
+    end = min(place for place, figure in enumerate(figures) if figure >= most)
+    return figures[start:end + 1]
+
+
 def by_arrangement(column):
     """For each arrangement of the table beside nats-server, in order, the figure of a column for each size."""
     head, *rows = table_below("Beside nats-server")
@@ -88,19 +96,21 @@ def beside(column, title, sentence, better):
     arrangements = by_arrangement(column)
     height = 96 + 34 * len(arrangements) + 44
     picture = Picture(940, height, title, sentence)
-    scale = Scale(0.1, 10, 350, 910)
+    known = [figure for figures in arrangements.values() for figure in figures.values() if figure]
+    ticks = round_figures(min(known + [1]), max(known + [1]))
+    scale = Scale(ticks[0], ticks[-1], 350, 910)
     picture.text(20, 32, title, size=16, strong=True)
     for place, (_, name, fill, shape) in enumerate(SIZES):
         x = 360 + 110 * place
         mark(picture, shape, x, 56, fill)
         picture.text(x + 14, 60.5, name, fill="muted", size=12)
     top, bottom = 78, 86 + 34 * len(arrangements)
-    for figure in (0.1, 0.2, 0.5, 1, 2, 5, 10):
+    for figure in ticks:
         x = scale.place(figure)
         picture.line([(x, top), (x, bottom)], stroke="ink" if figure == 1 else "muted", thick=1.6 if figure == 1 else 0.4)
         picture.text(x, bottom + 18, f"{figure:g}", fill="ink" if figure == 1 else "muted", anchor="middle", size=12)
     picture.text(scale.place(1), bottom + 36, "as nats-server", anchor="middle", size=12)
-    picture.text(scale.place(10), bottom + 36, better, fill="muted", anchor="end", size=12)
+    picture.text(910, bottom + 36, better, fill="muted", anchor="end", size=12)
     for place, (name, figures) in enumerate(arrangements.items()):
         y = 102 + 34 * place
         picture.text(334, y + 4.5, name, anchor="end")
@@ -121,26 +131,28 @@ def apart(places):
 
 
 def subscriptions():
-    """A line for each measure, over how many subscriptions or keys are open."""
+    """A line for each measure that was made at each number, over how many subscriptions or keys are open."""
     head, *rows = table_below("Cost by number of subscriptions")
     counts = [value_of(cell) for cell in head[1:]]
+    measured = [(name, [value_of(cell) for cell in cells]) for name, *cells in rows if all(cells)]
+    known = [figure for _, figures in measured for figure in figures]
+    ticks = round_figures(min(known), max(known))
     picture = Picture(940, 520, "Cost by number of subscriptions", "What a look-up, an opening and a publication take where more subscriptions are open.")
     picture.text(20, 32, "Cost by number of subscriptions", size=16, strong=True)
     picture.text(20, 54, "nanoseconds, both scales logarithmic", fill="muted", size=12)
-    across, up = Scale(counts[0], counts[-1], 90, 520), Scale(50, 20_000, 460, 80)
-    for figure in (50, 100, 200, 500, 1_000, 2_000, 5_000, 10_000, 20_000):
+    across, up = Scale(counts[0], counts[-1], 90, 520), Scale(ticks[0], ticks[-1], 460, 80)
+    for figure in ticks:
         y = up.place(figure)
         picture.line([(90, y), (520, y)], thick=0.4)
-        picture.text(80, y + 4.5, f"{figure:,}", fill="muted", anchor="end", size=12)
+        picture.text(80, y + 4.5, f"{figure:,.0f}", fill="muted", anchor="end", size=12)
     for count in counts:
         x = across.place(count)
         picture.line([(x, 80), (x, 460)], thick=0.4)
         picture.text(x, 480, f"{count:,.0f}", fill="muted", anchor="middle", size=12)
     picture.text(305, 504, "subscriptions or keys that are open", fill="muted", anchor="middle", size=12)
     measures = []
-    for name, *cells in rows:
-        figures = [value_of(cell) for cell in cells]
-        points = [(across.place(count), up.place(figure)) for count, figure in zip(counts, figures) if figure]
+    for name, figures in measured:
+        points = [(across.place(count), up.place(figure)) for count, figure in zip(counts, figures)]
         measures.append((points[-1][1], name, points))
     measures.sort()
     for (_, name, points), y in zip(measures, apart([end for end, _, _ in measures])):

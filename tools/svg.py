@@ -30,7 +30,7 @@ def rules(place):
 
 
 STYLE = (f"text{{font-family:{SANS}}}.code{{font-family:{MONO}}}.none{{fill:none}}.strong{{font-weight:600}}"
-         f"{rules(0)}@media(prefers-color-scheme:dark){{{rules(1)}}}")
+         f"{rules(0)}@media (prefers-color-scheme:dark) {{{rules(1)}}}")
 
 
 def number(value):
