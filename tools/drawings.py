@@ -84,10 +84,10 @@ def check_arrows():
 
 def layers():
     check_arrows()
-    picture = Picture(1150, 846, "The layers of nats_mesh",
+    picture = Picture(1180, 846, "The layers of nats_mesh",
                       "Programs stand on threads and sockets, these on servers as values, these on the parts of a node, and all on bytes and frames.")
     for name, words, top, bottom in LAYERS:
-        picture.rect(12, top, 1126, bottom - top, fill="band", stroke=None, radius=8)
+        picture.rect(12, top, 1156, bottom - top, fill="band", stroke=None, radius=8)
         picture.text(982, top + 26, name, size=14, strong=True)
         for place, line in enumerate(words):
             picture.text(982, top + 46 + 17 * place, line, fill="muted", size=12)
@@ -140,7 +140,7 @@ def first_server(picture):
     step(picture, 24, 250, 3)
     picture.line([(144, 156), (144, 212)], arrow=True)
     lock(picture, 36, 180, 510, 100, "hub's lock")
-    titled(picture, 52, 214, 216, "Hub", "number 4, turn 9; the word: n2 has q")
+    titled(picture, 52, 214, 216, "Hub", "number 4, turn 9; n2 serves q")
     step(picture, 268, 214, 4)
     titled(picture, 322, 214, 208, "frames for n2", "RMSG, number 4, foo | q")
     picture.line([(270, 238), (320, 238)], arrow=True)
@@ -154,7 +154,7 @@ def first_server(picture):
     titled(picture, 48, 456, 216, "outboxes of P and A", "+OK; MSG foo 1 5")
     step(picture, 264, 456, 7)
     picture.line([(156, 430), (156, 454)], arrow=True)
-    titled(picture, 150, 544, 282, "race of n1", "issued 9, finished 9 and 9; no claim for q here", 46)
+    titled(picture, 150, 544, 282, "race of n1", "issued 9, finished 9 and 9; no claim", 46)
     picture.line([(90, 504), (90, 628)], arrow=True)
     step(picture, 110, 612, 8)
     titled(picture, 36, 630, 216, "client A, plain subscription", "MSG foo 1 5, hello", 46)
@@ -164,7 +164,7 @@ def second_server(picture):
     """The server that serves the queue group."""
     titled(picture, 598, 108, 236, "route from n1", "RMSG .. 4 $G foo | q 5, hello")
     picture.line([(530, 238), (572, 238), (572, 132), (596, 132)], stroke="ink", thick=2, arrow=True)
-    picture.text(560, 100, "route", anchor="middle", fill="muted", size=12)
+    picture.text(572, 120, "route", anchor="middle", fill="muted", size=12)
     picture.line([(716, 156), (716, 212)], arrow=True)
     lock(picture, 598, 180, 516, 100, "hub's lock")
     titled(picture, 614, 214, 236, "Hub", "mark 3, so 4 is taken, once; turn 5")
@@ -179,12 +179,12 @@ def second_server(picture):
     titled(picture, 886, 456, 216, "outbox of C", "MSG foo 7 5")
     step(picture, 1102, 456, 7)
     picture.line([(994, 430), (994, 454)], arrow=True)
-    picture.text(720, 484, "nothing is placed", anchor="middle", fill="muted", size=12)
+    picture.text(616, 484, "nothing is placed", fill="muted", size=12)
     titled(picture, 716, 544, 280, "race of n2", "turn 5, q: won by shard 2", 46)
-    picture.line([(690, 430), (690, 567), (714, 567)], stroke="claim", thick=2, arrow=True)
-    picture.text(682, 560, "lost", fill="claim", anchor="end", size=12)
-    picture.line([(880, 430), (856, 430), (856, 542)], stroke="claim", thick=2, arrow=True)
-    picture.text(848, 500, "won", fill="claim", anchor="end", size=12)
+    picture.line([(780, 430), (780, 542)], stroke="claim", thick=2, arrow=True)
+    picture.text(772, 538, "lost", fill="claim", anchor="end", size=12)
+    picture.line([(886, 406), (856, 406), (856, 542)], stroke="claim", thick=2, arrow=True)
+    picture.text(848, 538, "won", fill="claim", anchor="end", size=12)
     picture.line([(1060, 504), (1060, 628)], arrow=True)
     step(picture, 1080, 612, 8)
     titled(picture, 898, 630, 216, "client C, member of q", "MSG foo 7 5, hello", 46)
@@ -195,7 +195,7 @@ def publication():
                       "At n1 the hub numbers the publication, gives its job to two lanes and a frame to n2; at n2 both shards claim q, and one wins.")
     for x, width, name in [(12, 548, "n1"), (584, 554, "n2")]:
         picture.rect(x, 70, width, 540, fill="band", stroke=None, radius=8)
-        picture.text(x + width - 16, 98, name, anchor="end", size=16, strong=True)
+        picture.text(x + 16, 98, name, size=16, strong=True)
     first_server(picture)
     second_server(picture)
     picture.line([(290, 690), (330, 690)], stroke="lock", thick=1.6, dashed=True)
