@@ -1,7 +1,8 @@
 -- A step of the cluster in code is that of the exact cluster.
-pub mod Started
+pub mod Ended
 pub mod Starting
 pub mod Making
 pub mod Kept
 pub mod Living
 pub mod Finds
+pub mod Settling

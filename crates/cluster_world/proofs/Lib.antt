@@ -1,5 +1,1 @@
-mod Seen
-mod Runs
-mod Subscriptions
 mod Clusters
-mod Examples

@@ -12,7 +12,7 @@ use Rattle.node_law.specs.Events.{OwnEvent, OfConn, AtShard, Publish, Collect, D
 use Rattle.cluster_world.specs.declared.noted.Noted.{Noted}
 use Rattle.cluster_world.specs.declared.noted.Opening.{Opening}
 use Rattle.cluster_world.specs.InCode.{publication_of}
-use Rattle.cluster_world.specs.State.{Publication, Life}
+use Rattle.world_law.specs.State.{Publication, Life, is_sub}
 
 -- ---- the publication of an event, under this name
 
@@ -86,9 +86,6 @@ opened_lives node inc now None told = []
 opened_lives node inc now (Some o) told = life_opened node inc now o told
 
 -- ---- lives that close: all of a server that stops, or those that it tells
-
-abbrev pub is_sub : SubId → SubId → Bool
-is_sub sub other = nat_eq sub.shard other.shard && nat_eq sub.serial other.serial
 
 abbrev pub closes : Option (List SubId) → SubId → Bool
 closes None sub = true

@@ -1,11 +1,12 @@
 -- Events, outcomes and lists as the code has them, and as the definitions do.
-use Rattle.std.specs.Prelude.{ℕ, List, [], Option, Some, None}
+use Rattle.std.specs.Prelude.{ℕ, List, [], ◌∷◌, map, Option, Some, None}
 use Rattle.std.specs.declared.vec.Vec.{Vec}
 use Rattle.subj.specs.Servers.{Server}
 use Rattle.node_core.specs.InCode.{own_event_of, answer_of}
 use Rattle.cluster_world.specs.declared.events.Event.{Event}
 use Rattle.cluster_world.specs.declared.events.Event.TheVariants as event
-use Rattle.cluster_world.specs.declared.faults.WorldFault.{WorldFault}
+use Rattle.world_law.specs.declared.faults.WorldFault.{WorldFault}
+use Rattle.cluster_world.specs.declared.outcomes.Delivery.{Delivery}
 use Rattle.cluster_world.specs.declared.outcomes.Outcome.{Outcome}
 use Rattle.cluster_world.specs.declared.outcomes.Outcome.TheVariants as outcome
 use Rattle.cluster_world.specs.declared.records.LifeId.{LifeId}
@@ -13,11 +14,11 @@ use Rattle.cluster_world.specs.declared.records.Life.{Life}
 use Rattle.cluster_world.specs.declared.records.Placements.{Placements}
 use Rattle.cluster_world.specs.declared.records.Publication.{Publication}
 use Rattle.cluster_world.specs.declared.records.Started.{Started}
-use Rattle.cluster_world.specs.Events as asked
-use Rattle.cluster_world.specs.Outcomes as told
-use Rattle.cluster_world.specs.Play.{placements_put}
-use Rattle.cluster_world.specs.State as state
-use Rattle.cluster_world.specs.State.{Placement}
+use Rattle.world_law.specs.Events as asked
+use Rattle.world_law.specs.Outcomes as told
+use Rattle.world_law.specs.Play.{placements_put}
+use Rattle.world_law.specs.State as state
+use Rattle.world_law.specs.State.{Placement}
 
 -- ---- events and outcomes
 
@@ -36,6 +37,9 @@ outcome_of (outcome.Done answer) = told.Done (answer_of answer)
 abbrev pub fault_in : Outcome → Option WorldFault
 fault_in (outcome.Refused why) = Some why
 fault_in (outcome.Done answer) = None
+
+abbrev pub outcomes_in : Delivery → List told.Outcome
+outcomes_in delivery = outcome_of delivery.published ∷ map outcome_of delivery.worked.items
 
 -- ---- the lists
 

@@ -3,7 +3,6 @@ use Rattle.std.specs.Prelude.{◌≡◌, ℕ, ◌<◌, true, List, [], ◌∷◌
 use Rattle.std.specs.Option.{option_map, option_to_list}
 use Rattle.std.specs.List.{flat_map}
 use Rattle.std.specs.Vec.{vec_len, vec_capacity}
-use Rattle.list_laws.specs.Lists.{Each}
 use Rattle.route_values.specs.declared.frames.RouteFrame.{RouteFrame}
 use Rattle.subj.specs.Servers.{Server, is_server, server_of}
 use Rattle.node_core.specs.declared.did.Did.{Did}
@@ -12,22 +11,23 @@ use Rattle.node_core.specs.Served.{Served, refusal}
 use Rattle.node_law.specs.Events.{NodeEvent}
 use Rattle.node_core.specs.Outcome.{Does, did_of}
 use Rattle.node_law.specs.Sound.{SoundNode}
-use Rattle.hub_core.specs.Publishing.{next_id}
-use Rattle.cluster_world.specs.declared.faults.WorldFault.{WorldFault}
-use Rattle.cluster_world.specs.declared.faults.WorldFault.TheVariants as fault
+use Rattle.hub_core.specs.Publishing as hub
+use Rattle.hub_core.specs.Publishing.{subject_of, next_id}
+use Rattle.world_law.specs.declared.faults.WorldFault.{WorldFault}
+use Rattle.world_law.specs.declared.faults.WorldFault.TheVariants as fault
 use Rattle.cluster_world.specs.declared.lists.Acted.{Acted}
 use Rattle.cluster_world.specs.declared.lists.Lists.{Lists}
 use Rattle.cluster_world.specs.declared.nodes.Made.{Made}
 use Rattle.cluster_world.specs.declared.noted.Noted.{Noted}
 use Rattle.cluster_world.specs.Adding.{AreNoted, opened_lives, closed_if}
-use Rattle.cluster_world.specs.Events.{Event, Start, Stop, Receive, OnInfo, OnConnect, At}
-use Rattle.cluster_world.specs.Changes.{is_open}
-use Rattle.cluster_world.specs.Headline.{IsCluster}
+use Rattle.world_law.specs.Events.{Event, Start, Stop, Receive, OnInfo, OnConnect, At}
+use Rattle.world_law.specs.Headline.{IsCluster}
 use Rattle.cluster_world.specs.InCode.{publication_of, life_of, placements_in, started_of, items_of, placing_server}
-use Rattle.cluster_world.specs.Outcomes.{Outcome}
-use Rattle.cluster_world.specs.Play.{placements_put}
-use Rattle.cluster_world.specs.State.{Cluster, Publication, Life, Placement, Running, World, new_world, server_at}
-use Rattle.cluster_world.specs.Steps.{WorldStep, Answers, Carried}
+use Rattle.world_law.specs.Outcomes.{Outcome}
+use Rattle.world_law.specs.Play.{placements_put}
+use Rattle.world_law.specs.State.{Cluster, Publication, Life, Placement, Running, World, new_world, server_at}
+use Rattle.world_law.specs.Steps.{WorldStep, Answers, Carried}
+use Rattle.settled_law.specs.Promise.{IsRight, IsDelivered}
 
 -- ---- the lists
 
@@ -177,6 +177,9 @@ pub record IsPart (old : Shown) (events : List Event) (new : Shown) : Type 0 whe
   pub outcomes : List Outcome
   pub run : Ran old (take made events) outcomes new
 
--- each subscription that has not closed is open at its server
-abbrev pub LivesAreOpen : World → Type 0
-LivesAreOpen w = Each (λ life. life.closed ≡ None → is_open w.nodes life.id ≡ true) w.lives
+-- What a publish with these events behind it gives where the cluster was settled for it and had room, and the events are the work
+-- that it makes, in an order of theirs: nothing is refused, and each plain subscription and each queue name has its message once.
+abbrev pub GivesOnce : Shown → ℕ → hub.Publication → List Event → List Outcome → Shown → Type 0
+GivesOnce old n p order outcomes new =
+    (a : Running) → IsRight old.cluster old.world n a p order
+    → ∥ IsDelivered old.world (next_id (server_at old.cluster n a.inc) a.node.hub) (subject_of p) outcomes new.world ∥₁

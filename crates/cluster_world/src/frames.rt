@@ -4,9 +4,9 @@ ghost use Rattle.std.specs.Prelude.{◌≡◌};
 ghost use Rattle.std.specs.Option.{option_copied, option_map};
 ghost use Rattle.std.specs.List.{flat_map};
 ghost use Rattle.node_core.specs.Lent.{asked_of};
-ghost use Rattle.cluster_world.specs.Events.{frame_at as frame_of_number, numbered_event as numbered_frame, info_on as info_of_frame, connect_on as connect_of_frame, event_for};
+ghost use Rattle.world_law.specs.Events.{frame_at as frame_of_number, numbered_event as numbered_frame, info_on as info_of_frame, connect_on as connect_of_frame, event_for};
 ghost use Rattle.cluster_world.specs.InCode.{event_of, items_of};
-ghost use Rattle.cluster_world.specs.State.{World};
+ghost use Rattle.world_law.specs.State.{World};
 
 use crate::events::Event;
 use node_core::Asked;

@@ -1,5 +1,4 @@
-//! The exact cluster: servers that start and stop, the frames that they send to each other, and what was published,
-//! subscribed and placed, found by comparing each server before and after a step.
+//! A cluster in code: one value whose steps are those of the exact cluster.
 //!
 //! ```text
 //! let mut world: World<ListTable, PlainRace> = World::new(alloc, names, 2)?.ok_or("a cluster")?;
@@ -8,44 +7,24 @@
 //! let placements = world.placements();
 //! ```
 //!
-//! The definitions of a cluster's step and their laws stand here, and in code [`World`], each of whose steps is such a step.
-//! Each law is a function with an empty body.
+//! Each step of a [`World`] is a step by the definitions of `world_law`, so what holds of every run holds of it: the headline, and
+//! that a cluster at rest delivers (`settled_law`).
 //!
 //! In reading order: `events` and `outcomes`, `records` (what is kept of what was done), `nodes`, `frames`, `lists` with `noted`, and
 //! `world`.
 #![tactic(auto)]
 
 mod events;
-mod faults;
 mod frames;
-mod laws;
 mod lists;
 mod nodes;
 mod noted;
 mod outcomes;
 mod records;
-mod values;
 mod world;
 
 pub use events::Event;
-pub use faults::WorldFault;
-pub use laws::{
-    a_cut_is_written, a_full_window_refuses_publishes, a_lower_incarnation_is_refused,
-    a_restart_is_written, a_restart_refuses_old_frames, a_snapshot_tells_what_was_collected,
-    a_stale_message_is_written, carried_worlds_keep_the_headline, carried_worlds_rest_on_this,
-    claims_are_written, connections_are_written, crossed_dials_are_written, each_event_goes_on,
-    each_event_has_a_step, each_server_ran, echo_is_kept, every_list_is_a_run, finished_turns_stay,
-    it_rests_on_this, lives_close_by_cause, names_are_unique, new_entries_were_put,
-    new_worlds_are_carried, open_lives_are_subscriptions, own_messages_are_written,
-    placements_are_one, publications_are_counted, publications_are_placed_once, puts_are_placed,
-    scripts_are_runs, servers_are_sound, servers_keep_their_laws, starts_and_stops_are_written,
-    steps_keep_worlds_carried, taken_frames_were_sent, two_shards_share_a_group,
-    two_words_are_written, waiting_entries_are_kept,
-};
-pub use outcomes::Outcome;
+pub use outcomes::{Delivery, Outcome};
 pub use records::{Life, LifeId, Placements, Publication};
-pub use values::{
-    carried_echo_is_kept, carried_frames_were_sent, carried_lives_are_open,
-    carried_names_are_unique,
-};
 pub use world::World;
+pub use world_law::WorldFault;

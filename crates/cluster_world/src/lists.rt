@@ -5,10 +5,11 @@ ghost use Rattle.std.specs.List.{list_any, flat_map};
 ghost use Rattle.std.specs.Option.{option_map, option_copied, option_to_list};
 ghost use Rattle.std.specs.Vec.{vec_len, vec_capacity};
 ghost use Rattle.node_core.specs.InCode.{answer_of};
-ghost use Rattle.cluster_world.specs.Refusals.{is_used};
+ghost use Rattle.world_law.specs.Refusals.{is_used};
 ghost use Rattle.cluster_world.specs.InCode.{started_of, publication_of, life_of, placements_in, items_of, placing_server};
-ghost use Rattle.cluster_world.specs.Play.{placements_put};
-ghost use Rattle.cluster_world.specs.Adding.{is_sub, closes, closed_if, opened_lives};
+ghost use Rattle.world_law.specs.Play.{placements_put};
+ghost use Rattle.cluster_world.specs.Adding.{closes, closed_if, opened_lives};
+ghost use Rattle.world_law.specs.State.{is_sub};
 ghost use Rattle.cluster_world.specs.Value.{listed_of, no_lists, with_start, with_closed, HasRoom, IsAdded};
 
 use crate::noted::{Noted, Opening};

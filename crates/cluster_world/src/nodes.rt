@@ -3,10 +3,9 @@
 ghost use Rattle.std.specs.Prelude.{◌≡◌, ◌<◌, length, None, Some, IfOk, OnErr, replicate, slice_get, set, is_some};
 ghost use Rattle.std.specs.Option.{option_map};
 ghost use Rattle.node_core.specs.Lent.{asked_of};
-ghost use Rattle.cluster_world.specs.Refusals.{start_refusal, stop_refusal};
+ghost use Rattle.world_law.specs.Refusals.{start_refusal, stop_refusal};
 ghost use Rattle.cluster_world.specs.Value.{slot_refusal, IsMade, inc_in, running_in, listed_of, server_in};
 
-use crate::faults::WorldFault;
 use crate::lists::Lists;
 use crate::noted::{Noted, note};
 use claim_race::Race;
@@ -15,6 +14,7 @@ use std::alloc::{AllocError, Global};
 use std::marker::Model;
 use sub_table::SubTable;
 use subj::{Incarnation, Server};
+use world_law::WorldFault;
 
 /// What a server's step came to.
 #[derive(Drop)]

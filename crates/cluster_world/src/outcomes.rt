@@ -3,8 +3,8 @@
 ghost use Rattle.std.specs.Prelude.{◌≡◌};
 ghost use Rattle.cluster_world.specs.InCode.{fault_in};
 
-use crate::faults::WorldFault;
 use node_core::Answer;
+use world_law::WorldFault;
 
 /// What a cluster answers to an event. (Profile.)
 #[derive(Debug, Drop)]
@@ -25,4 +25,13 @@ impl Outcome {
             Outcome::Done(_) => None,
         }
     }
+}
+
+/// What came of a publish and of the events behind it.
+#[derive(Drop)]
+pub struct Delivery {
+    /// Of the publish.
+    pub published: Outcome,
+    /// Of the events behind it, in order.
+    pub worked: Vec<Outcome>,
 }

@@ -1,38 +1,36 @@
 //! A cluster as one value.
 
-ghost use Rattle.std.specs.Prelude.{◌≡◌, ◌+◌, None, Some, IfOk, OnErr, map};
+ghost use Rattle.std.specs.Prelude.{◌≡◌, ◌+◌, ◌∷◌, None, Some, IfOk, OnErr, map};
 ghost use Rattle.std.specs.List.{flat_map};
-ghost use Rattle.cluster_world.specs.Events.{Event as Asked, Start, Stop};
-ghost use Rattle.cluster_world.specs.Outcomes.{Refused};
-ghost use Rattle.cluster_world.specs.Echo.{EchoIsKept};
-ghost use Rattle.cluster_world.specs.Headline.{Headline, Names, AreSent};
-ghost use Rattle.cluster_world.specs.InCode.{event_of, outcome_of, publication_of, life_of, placements_in, items_of};
-ghost use Rattle.cluster_world.specs.Refusals.{world_refusal};
-ghost use Rattle.cluster_world.specs.RestsOn.{CameSo};
-ghost use Rattle.cluster_world.specs.Value.{IsFor, IsStepped, Ran, IsPart, new_cluster};
+ghost use Rattle.world_law.specs.Events.{Event as Asked, Start, Stop, At};
+ghost use Rattle.node_law.specs.Events.{Publish};
+ghost use Rattle.world_law.specs.Outcomes.{Refused};
+ghost use Rattle.world_law.specs.Echo.{EchoIsKept};
+ghost use Rattle.world_law.specs.Headline.{Headline, Names, AreSent};
+ghost use Rattle.cluster_world.specs.InCode.{event_of, outcome_of, outcomes_in, publication_of, life_of, placements_in, items_of};
+ghost use Rattle.world_law.specs.Refusals.{world_refusal};
+ghost use Rattle.world_law.specs.RestsOn.{CameSo};
+ghost use Rattle.cluster_world.specs.Value.{IsFor, IsStepped, Ran, IsPart, GivesOnce, new_cluster};
 
 use crate::events::Event;
-use crate::faults::WorldFault;
 use crate::frames::asked_by;
-use crate::laws::{
-    carried_worlds_keep_the_headline, carried_worlds_rest_on_this, new_worlds_are_carried,
-    puts_are_placed, steps_keep_worlds_carried,
-};
 use crate::lists::{Acted, Lists};
 use crate::nodes::{Made, Nodes, server_of, start_fault, stop_fault};
-use crate::outcomes::Outcome;
+use crate::outcomes::{Delivery, Outcome};
 use crate::records::{Life, Placements, Publication};
-use crate::values::{
-    carried_echo_is_kept, carried_frames_were_sent, carried_lives_are_open,
-    carried_names_are_unique,
-};
 use claim_race::Race;
-use node_core::{Answer, Node};
+use node_core::{Answer, Node, OwnEvent};
 use route_values::RouteFrame;
+use settled_law::carried_worlds_deliver;
 use std::alloc::{AllocError, Global};
 use std::marker::Model;
 use sub_table::SubTable;
-use subj::{Incarnation, NodeId, Server};
+use subj::{ConnId, Incarnation, NodeId, Pub, Server};
+use world_law::{
+    WorldFault, carried_echo_is_kept, carried_frames_were_sent, carried_lives_are_open,
+    carried_names_are_unique, carried_worlds_keep_the_headline, carried_worlds_rest_on_this,
+    new_worlds_are_carried, puts_are_placed, steps_keep_worlds_carried,
+};
 
 /// A cluster of servers, over any table of subscriptions and any race. (Profile.)
 ///
@@ -312,6 +310,56 @@ impl<T: SubTable, R: Race> World<T, R> {
             outcomes.push_reserved(outcome);
         }
         Ok(outcomes)
+    }
+
+    /// The steps of an event and of those behind it in turn, up to the first for which memory is wanting.
+    fn make_behind(&mut self, first: &Event, rest: &[Event]) -> Result<Delivery, AllocError>
+        ensures ok { IfOk result (λ made. Ran self.old (event_of first.now ∷ map event_of rest.now) (outcomes_in made) self.new) }
+        ensures err { OnErr result (IsPart self.old (event_of first.now ∷ map event_of rest.now) self.new) }
+    {
+        let published = match self.step(first) {
+            Ok(outcome) => outcome,
+            Err(error) => return Err(error),
+        };
+        let worked = match self.make(rest) {
+            Ok(outcomes) => outcomes,
+            Err(error) => return Err(error),
+        };
+        Ok(Delivery { published, worked })
+    }
+
+    /// A publish of a connection at the server of this place, and then the events of `order` in turn: a run of the exact cluster.
+    /// The word decides which server serves each queue name. (NATS documentation, "Queue Groups".)
+    ///
+    /// Where the cluster was at rest, had room for the message and not too many queue names that match, where the publication may
+    /// come back to its own connection, and where `order` is the work that it makes (at its own server each shard begins its job,
+    /// claims each of its queue names and ends it; at each server that a frame is owed the same behind the frame), each plain
+    /// subscription that was open and matches has the message once, wherever it is, and so has each queue name with an open
+    /// member that matches; and nothing is refused. The work of a shard stands in its order, and else any order is right.
+    ///
+    /// Where memory is wanting, the events before it are made, as [`World::run`] says.
+    pub fn settled_publish(
+        &mut self,
+        node: usize,
+        conn: ConnId,
+        said: &Pub,
+        word: u64,
+        order: &[Event],
+    ) -> Result<Delivery, AllocError>
+        ensures ok { IfOk result (λ made. Ran self.old (At node (Publish (record { conn = conn; said = said.now; word = word })) ∷ map event_of order.now) (outcomes_in made) self.new) }
+        ensures delivers { IfOk result (λ made. GivesOnce self.old node (record { conn = conn; said = said.now; word = word }) (map event_of order.now) (outcomes_in made) self.new) }
+        ensures err { OnErr result (IsPart self.old (At node (Publish (record { conn = conn; said = said.now; word = word })) ∷ map event_of order.now) self.new) }
+    {
+        let _step = self.step;
+        carried_worlds_deliver();
+        let message = match said.message.try_clone() {
+            Ok(message) => message,
+            Err(error) => return Err(error),
+        };
+        let echo = said.echo;
+        let said = Pub { message, echo };
+        let event = OwnEvent::Publish { conn, said, word };
+        self.make_behind(&Event::At { node, event }, order)
     }
 
     /// Events in turn: a run of the exact cluster, with an outcome for each. Where memory is wanting, the events

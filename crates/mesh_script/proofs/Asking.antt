@@ -1,12 +1,12 @@
 -- What comes of asking the exact cluster, part by part.
 use Rattle.std.proofs.Common.{◌≡◌, suc, ◌+◌, List, [], ◌∷◌, ◌++◌, length, Option, Some, None, refl, ap, subst, arith}
-use Rattle.cluster_world.specs.declared.faults.WorldFault.{WorldFault}
-use Rattle.cluster_world.specs.Events.{Event, Start, Stop, Receive, OnInfo, OnConnect, At}
-use Rattle.cluster_world.specs.Outcomes.{Outcome}
-use Rattle.cluster_world.specs.Play.{next, outcome}
-use Rattle.cluster_world.specs.Refusals.{world_refusal}
-use Rattle.cluster_world.specs.State.{Cluster, World, new_world}
-use Rattle.cluster_world.specs.Steps.{Happens, Decided, WorldStep, Run}
+use Rattle.world_law.specs.declared.faults.WorldFault.{WorldFault}
+use Rattle.world_law.specs.Events.{Event, Start, Stop, Receive, OnInfo, OnConnect, At}
+use Rattle.world_law.specs.Outcomes.{Outcome}
+use Rattle.world_law.specs.Play.{next, outcome}
+use Rattle.world_law.specs.Refusals.{world_refusal}
+use Rattle.world_law.specs.State.{Cluster, World, new_world}
+use Rattle.world_law.specs.Steps.{Happens, Decided, WorldStep, Run}
 use Rattle.mesh_script.specs.Asks.{Asks, NoMore, Ask, and_then}
 use Rattle.mesh_script.specs.Playing.{Completed}
 use Rattle.mesh_script.specs.Told.{Told}

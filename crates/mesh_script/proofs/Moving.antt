@@ -1,11 +1,11 @@
 -- Events that are made in turn.
 use Rattle.std.proofs.Common.{◌≡◌, ℕ, suc, ◌+◌, List, [], ◌∷◌, ◌++◌, Option, Result, Ok, Err, true, false, refl, ap, sym, ◌∙◌, subst, append-nil, arith}
 use Rattle.std.specs.Prelude.{codes, decimal, IsErr}
-use Rattle.cluster_world.specs.Events.{Event}
-use Rattle.cluster_world.specs.Outcomes.{Outcome}
-use Rattle.cluster_world.specs.State.{World}
-use Rattle.cluster_world.specs.Steps.{WorldStep}
-use Rattle.cluster_world.specs.Written.{outcome_text, outcome_lines}
+use Rattle.world_law.specs.Events.{Event}
+use Rattle.world_law.specs.Outcomes.{Outcome}
+use Rattle.world_law.specs.State.{World}
+use Rattle.world_law.specs.Steps.{WorldStep}
+use Rattle.world_law.specs.Written.{outcome_text, outcome_lines}
 use Rattle.mesh_script.specs.declared.faults.PlayFault.{PlayFault}
 use Rattle.mesh_script.specs.Asks.{Asks, NoMore, Ask, and_then}
 use Rattle.mesh_script.specs.Lines.{lines_text}

@@ -6,11 +6,11 @@ use Rattle.std.proofs.lemmas.List.{at_drop_more}
 use Rattle.list_laws.proofs.Changes.{map_append}
 use Rattle.subj.specs.Servers.{Server}
 use Rattle.shard_core.specs.declared.calls.Placed.{Placed}
-use Rattle.cluster_world.specs.Changes.{placement_of}
-use Rattle.cluster_world.specs.Outcomes.{Outcome}
-use Rattle.cluster_world.specs.Play.{placements_put}
-use Rattle.cluster_world.specs.State.{Cluster, Life, Placement, World}
-use Rattle.cluster_world.specs.Written.{outcome_text, outcome_lines, placement_line, last_lines, run_lines}
+use Rattle.world_law.specs.Changes.{placement_of}
+use Rattle.world_law.specs.Outcomes.{Outcome}
+use Rattle.world_law.specs.Play.{placements_put}
+use Rattle.world_law.specs.State.{Cluster, Life, Placement, World}
+use Rattle.world_law.specs.Written.{outcome_text, outcome_lines, placement_line, last_lines, run_lines}
 use Rattle.mesh_script.specs.Lines.{lines_text, end_line}
 use Rattle.mesh_script.specs.Placing.{cluster_named, placements_text}
 

@@ -4,9 +4,9 @@ use Rattle.std.specs.Prelude.{IsErr, nat_le, nat_lt}
 use Rattle.list_laws.proofs.Tests.{and_true}
 use Rattle.subj.specs.Servers.{are_apart}
 use Rattle.subj.specs.declared.limits.TheConstants.{MAX_NODES, MAX_SHARDS}
-use Rattle.cluster_world.specs.Headline.{IsCluster}
-use Rattle.cluster_world.specs.State.{Cluster, new_world}
-use Rattle.cluster_world.specs.Written.{outcome_lines, last_lines, run_lines}
+use Rattle.world_law.specs.Headline.{IsCluster}
+use Rattle.world_law.specs.State.{Cluster, new_world}
+use Rattle.world_law.specs.Written.{outcome_lines, last_lines, run_lines}
 use Rattle.script_form.specs.Form.{Script, is_cluster}
 use Rattle.mesh_script.specs.declared.faults.PlayFault.{PlayFault}
 use Rattle.mesh_script.specs.Asks.{NoMore, steps_ask}

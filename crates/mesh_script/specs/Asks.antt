@@ -5,9 +5,9 @@ use Rattle.node_law.specs.Answers.{Answer, OnSession}
 use Rattle.node_law.specs.Events.{OfConn, AtShard, Publish, Collect, Dial, Accept, CutSession, TakeFrames}
 use Rattle.node_law.specs.declared.events.ConnEvent.TheVariants.{Subscribe, Unsubscribe, Detach, Take}
 use Rattle.node_law.specs.declared.events.ShardWork.TheVariants as work
-use Rattle.cluster_world.specs.Events.{Event, Start, Stop, Receive, OnInfo, OnConnect, At}
-use Rattle.cluster_world.specs.Outcomes.{Outcome, Refused, Done}
-use Rattle.cluster_world.specs.State.{World}
+use Rattle.world_law.specs.Events.{Event, Start, Stop, Receive, OnInfo, OnConnect, At}
+use Rattle.world_law.specs.Outcomes.{Outcome, Refused, Done}
+use Rattle.world_law.specs.State.{World}
 use Rattle.script_form.specs.declared.steps.Act.{Act}
 use Rattle.script_form.specs.declared.steps.Act.TheVariants as act
 use Rattle.script_form.specs.declared.steps.Step.{Step}

@@ -1,6 +1,6 @@
 -- The bytes of lines (profile).
 use Rattle.std.specs.Prelude.{ℕ, List, [], ◌∷◌, ◌++◌, codes, decimal}
-use Rattle.cluster_world.specs.Written.{fields}
+use Rattle.world_law.specs.Written.{fields}
 
 -- each ends with LF
 abbrev pub lines_text : List (List ℕ) → List ℕ

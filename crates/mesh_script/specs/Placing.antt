@@ -1,8 +1,8 @@
 -- What the calls put that write placements.
 use Rattle.std.specs.Prelude.{◌≡◌, ℕ, List, [], ◌++◌, length, map}
 use Rattle.cluster_world.specs.InCode.{life_id_of}
-use Rattle.cluster_world.specs.State.{Cluster, Life, Placement}
-use Rattle.cluster_world.specs.Written.{placement_line}
+use Rattle.world_law.specs.State.{Cluster, Life, Placement}
+use Rattle.world_law.specs.Written.{placement_line}
 use Rattle.mesh_script.specs.declared.placed.Message.{Message}
 use Rattle.mesh_script.specs.Lines.{lines_text}
 

@@ -1,11 +1,11 @@
 -- What is written of a script (profile): the text of a run of its events in the exact cluster.
 use Rattle.std.specs.Prelude.{◌≡◌, ℕ, ◌+◌, List, ◌++◌, Option, Result, Ok, Err}
 use Rattle.std.specs.Io.KnownBytes.{Appends}
-use Rattle.cluster_world.specs.Echo.{EchoIsKept}
-use Rattle.cluster_world.specs.Headline.{Headline, Names}
-use Rattle.cluster_world.specs.Outcomes.{Outcome}
-use Rattle.cluster_world.specs.State.{Cluster, World, new_world}
-use Rattle.cluster_world.specs.Written.{run_lines}
+use Rattle.world_law.specs.Echo.{EchoIsKept}
+use Rattle.world_law.specs.Headline.{Headline, Names}
+use Rattle.world_law.specs.Outcomes.{Outcome}
+use Rattle.world_law.specs.State.{Cluster, World, new_world}
+use Rattle.world_law.specs.Written.{run_lines}
 use Rattle.script_form.specs.Form.{Script}
 use Rattle.mesh_script.specs.declared.faults.PlayFault.{PlayFault}
 use Rattle.mesh_script.specs.declared.faults.PlayFault.TheVariants.{Write, OutOfMemory}

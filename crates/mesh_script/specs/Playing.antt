@@ -1,12 +1,12 @@
 -- What the player's calls do.
 use Rattle.std.specs.Prelude.{◌≡◌, ℕ, ◌+◌, List, [], ◌++◌, length, Option, Result, Ok, Err}
 use Rattle.cluster_world.specs.declared.outcomes.Outcome as code
-use Rattle.cluster_world.specs.Events.{Event}
+use Rattle.world_law.specs.Events.{Event}
 use Rattle.cluster_world.specs.InCode.{event_of, outcome_of}
-use Rattle.cluster_world.specs.Outcomes.{Outcome}
-use Rattle.cluster_world.specs.Headline.{IsCluster}
-use Rattle.cluster_world.specs.State.{Cluster, World, new_world}
-use Rattle.cluster_world.specs.Written.{outcome_lines, last_lines}
+use Rattle.world_law.specs.Outcomes.{Outcome}
+use Rattle.world_law.specs.Headline.{IsCluster}
+use Rattle.world_law.specs.State.{Cluster, World, new_world}
+use Rattle.world_law.specs.Written.{outcome_lines, last_lines}
 use Rattle.script_form.specs.Form.{Script}
 use Rattle.mesh_script.specs.declared.asks.Asked.{Asked}
 use Rattle.mesh_script.specs.declared.asks.Asked.TheVariants as asked

@@ -1,8 +1,8 @@
 -- What comes of asking the exact cluster.
 use Rattle.std.specs.Prelude.{◌≡◌, List, [], ◌∷◌}
-use Rattle.cluster_world.specs.Outcomes.{Outcome}
-use Rattle.cluster_world.specs.State.{Cluster, World}
-use Rattle.cluster_world.specs.Steps.{WorldStep}
+use Rattle.world_law.specs.Outcomes.{Outcome}
+use Rattle.world_law.specs.State.{Cluster, World}
+use Rattle.world_law.specs.Steps.{WorldStep}
 use Rattle.mesh_script.specs.Asks.{Asks, NoMore, Ask}
 
 -- these outcomes were told in turn, each of a step of the exact cluster; then this is left to ask, in this world

@@ -5,7 +5,7 @@ ghost use Rattle.std.specs.List.{position};
 ghost use Rattle.std.specs.Str.{bytes_eq};
 ghost use Rattle.node_core.specs.InCode.{own_event_of};
 ghost use Rattle.subj.specs.Servers.{place_in};
-ghost use Rattle.cluster_world.specs.Events as of_world;
+ghost use Rattle.world_law.specs.Events as of_world;
 ghost use Rattle.node_law.specs.Events as of_node;
 ghost use Rattle.node_law.specs.declared.events.ConnEvent.TheVariants as for_conn;
 ghost use Rattle.mesh_script.specs.Asks.{once, act_asks};

@@ -2,7 +2,7 @@
 
 ghost use Rattle.std.specs.Prelude.{◌≡◌, ◌++◌, codes, decimal, OnOk};
 ghost use Rattle.cluster_world.specs.InCode.{outcome_of};
-ghost use Rattle.cluster_world.specs.Written.{outcome_text, answer_text, sub_text, kept_text};
+ghost use Rattle.world_law.specs.Written.{outcome_text, answer_text, sub_text, kept_text};
 ghost use Rattle.node_core.specs.InCode.{answer_of};
 
 use crate::output::Output;

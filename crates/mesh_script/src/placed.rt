@@ -3,8 +3,8 @@
 ghost use Rattle.std.specs.Prelude.{◌≡◌, ◌+◌, ◌++◌, [], ◌∷◌, map, length, codes, decimal, OnOk, IfOk};
 ghost use Rattle.std.specs.List.{flat_map};
 ghost use Rattle.cluster_world.specs.InCode.{life_of, life_id_of, placements_in, placing_server};
-ghost use Rattle.cluster_world.specs.Changes.{placement_of};
-ghost use Rattle.cluster_world.specs.Written.{is_life as is_of_life, sid_of as sid_for, mode_text, name_at as name_for, fields, placement_line};
+ghost use Rattle.world_law.specs.Changes.{placement_of};
+ghost use Rattle.world_law.specs.Written.{is_life as is_of_life, sid_of as sid_for, mode_text, name_at as name_for, fields, placement_line};
 ghost use Rattle.mesh_script.specs.Lines.{end_line};
 ghost use Rattle.mesh_script.specs.Placing.{cluster_named, placement_in, HasPut, placements_text};
 ghost use Rattle.mesh_script.specs.Putting.{PutsOrStarts};

@@ -19,16 +19,16 @@ use wire_cut::Sink;
 fn plays_go_on()
     ensures { GoesOn }
 {
-    cluster_world::each_event_goes_on()
+    world_law::each_event_goes_on()
 }
 
 /// Of each run of a script's events: the headline holds of the lists that its text is written of.
 fn plays_are_safe()
     ensures { ArePlayedSafely }
 {
-    cluster_world::publications_are_placed_once();
-    cluster_world::names_are_unique();
-    cluster_world::echo_is_kept()
+    world_law::publications_are_placed_once();
+    world_law::names_are_unique();
+    world_law::echo_is_kept()
 }
 
 /// The cluster of a script, in which all servers are down.

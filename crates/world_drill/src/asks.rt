@@ -76,7 +76,8 @@ fn key_of(alloc: Global, pattern: &[u8], queue: &[u8]) -> anyhow::Result<Key> {
     Ok(Key { pattern, queue })
 }
 
-fn pub_of(alloc: Global, said: Said) -> anyhow::Result<Pub> {
+/// The publication.
+pub fn pub_of(alloc: Global, said: Said) -> anyhow::Result<Pub> {
     let subject = Subject::read(alloc, said.subject)?;
     let reply = if said.reply.is_empty() {
         None

@@ -33,14 +33,14 @@ use claim_cells::CellsRace;
 use claim_race::PlainRace;
 use drill::{Found, drill};
 use plants::PLANTS;
-use rows::{a_restart, a_stale_message, two_words};
+use rows::{a_restart, a_settled_pair, a_stale_message, said, two_words, work_of_a_pair};
 use seen::ANSWERS;
 use std::alloc::Global;
 use std::env;
 use std::rt::Env;
 use sub_table::ListTable;
 use sub_trie::TrieTable;
-use written::tell_list;
+use written::{tell_delivery, tell_list};
 
 /// How many lists are drawn where no number is given.
 const LISTS: u64 = 200;
@@ -90,7 +90,8 @@ fn tell_figures<R: Print>(rt: &R, found: &Found) -> anyhow::Result<()> {
 fn tell_rows<R: Print + Alloc<A = Global>>(rt: &R) -> anyhow::Result<()> {
     tell_list::<ListTable, PlainRace, _>(rt, &a_restart())?;
     tell_list::<TrieTable, CellsRace, _>(rt, &two_words())?;
-    tell_list::<TrieTable, PlainRace, _>(rt, &a_stale_message())
+    tell_list::<TrieTable, PlainRace, _>(rt, &a_stale_message())?;
+    tell_delivery::<TrieTable, CellsRace, _>(rt, &a_settled_pair(), said(0), &work_of_a_pair())
 }
 
 fn main(rt: HostRuntime) -> anyhow::Result<()> {

@@ -6,6 +6,9 @@ use node_core::ShardWork;
 /// A member of `q` on `foo`.
 const MEMBER: ByClient = ByClient::Open(b"foo", b"q", 1);
 
+/// The same, as the second subscription of a connection.
+const SECOND: ByClient = ByClient::Open(b"foo", b"q", 2);
+
 /// A subscription to `foo`.
 const PLAIN: ByClient = ByClient::Open(b"foo", b"", 1);
 
@@ -17,16 +20,20 @@ const END: Own = Own::At(1, ShardWork::End);
 
 const ATTACH: Own = Own::At(1, ShardWork::Attach);
 
-/// A publication on `foo` with this word, by the first connection.
-fn say(node: usize, word: u64) -> Ask {
-    let said = Said {
+/// A publication on `foo` with this word.
+pub fn said(word: u64) -> Said {
+    Said {
         subject: b"foo",
         reply: b"",
         payload: 1,
         echo: true,
         word,
-    };
-    Ask::At(node, Own::Say(1, said))
+    }
+}
+
+/// The same, by the first connection of this server.
+fn say(node: usize, word: u64) -> Ask {
+    Ask::At(node, Own::Say(1, said(word)))
 }
 
 /// The second server has a member of `q`; a message reaches it once, however often its frame comes, and not after a restart.
@@ -116,5 +123,43 @@ pub fn a_stale_message() -> [Ask; 21] {
         say(0, 0),
         Ask::Receive(1, 10),
         Ask::Receive(1, 5),
+    ]
+}
+
+/// Two servers that have heard all of each other: the first has a plain subscription, the second one too and a member of `q`.
+/// Frames 3 and 4 are the snapshots of n1 and n2, 5 is the change of n1, and 6 and 7 are those of n2.
+pub fn a_settled_pair() -> [Ask; 18] {
+    [
+        Ask::Start(0, 1),
+        Ask::Start(1, 4),
+        Ask::At(0, Own::Dial(1)),
+        Ask::At(1, Own::Accept),
+        Ask::OnInfo(0, 1, 1),
+        Ask::OnConnect(1, 1, 2),
+        Ask::Receive(1, 3),
+        Ask::Receive(0, 4),
+        Ask::At(0, ATTACH),
+        Ask::At(0, Own::Client(1, PLAIN)),
+        Ask::At(0, Own::Collect(1)),
+        Ask::Receive(1, 5),
+        Ask::At(1, ATTACH),
+        Ask::At(1, Own::Client(1, PLAIN)),
+        Ask::At(1, Own::Client(1, SECOND)),
+        Ask::At(1, Own::Collect(1)),
+        Ask::Receive(0, 6),
+        Ask::Receive(0, 7),
+    ]
+}
+
+/// The work of a publication on `foo` by the first server's connection then: frame 8 is its message for the second server, which
+/// serves the queue name.
+pub fn work_of_a_pair() -> [Ask; 6] {
+    [
+        Ask::At(0, BEGIN),
+        Ask::At(0, END),
+        Ask::Receive(1, 8),
+        Ask::At(1, BEGIN),
+        Ask::At(1, CLAIM),
+        Ask::At(1, END),
     ]
 }

@@ -1,14 +1,14 @@
 //! How outcomes and placements are written, line by line.
 
-use crate::asks::{Ask, event_of};
+use crate::asks::{Ask, Said, event_of, pub_of};
 use crate::lists::{Given, given_in};
 use crate::player::new_world;
 use claim_race::Race;
-use cluster_world::{Event, Life, Outcome, World};
+use cluster_world::{Delivery, Event, Life, Outcome, World};
 use node_core::Answer;
 use std::alloc::Global;
 use sub_table::SubTable;
-use subj::SubId;
+use subj::{ConnId, SubId};
 
 /// How many servers and shards the clusters of closed lists have.
 const NODES: usize = 2;
@@ -122,23 +122,95 @@ fn events_of(alloc: Global, asks: &[Ask]) -> anyhow::Result<Vec<Event>> {
     Ok(events)
 }
 
+/// Writes what came of the event of this number.
+fn tell_outcome<R: Print + Alloc<A = Global>>(
+    rt: &R,
+    number: usize,
+    outcome: &Outcome,
+) -> anyhow::Result<()> {
+    println!(rt; "{number} {}", outcome_text(rt.alloc(), outcome)?)?;
+    Ok(())
+}
+
+/// Writes these outcomes, behind so many.
+fn tell_outcomes<R: Print + Alloc<A = Global>>(
+    rt: &R,
+    before: usize,
+    outcomes: &[Outcome],
+) -> anyhow::Result<()> {
+    let mut number = before;
+    for outcome in outcomes {
+        number = usize::saturating_add(number, 1);
+        tell_outcome(rt, number, outcome)?;
+    }
+    Ok(())
+}
+
+/// Writes what was placed by so many events.
+fn tell_placed<T: SubTable, R: Race, X: Print + Alloc<A = Global>>(
+    rt: &X,
+    world: &World<T, R>,
+    events: usize,
+) -> anyhow::Result<()> {
+    let given = given_in(rt.alloc(), world.placements())?;
+    for message in &given {
+        tell_given(rt, world.lives(), message)?;
+    }
+    println!(rt; "end {events} {}", given.len())?;
+    Ok(())
+}
+
+/// Plays a closed list on a cluster, writes each outcome, and tells how many there are.
+fn play_list<T: SubTable, R: Race, X: Print + Alloc<A = Global>>(
+    rt: &X,
+    world: &mut World<T, R>,
+    asks: &[Ask],
+) -> anyhow::Result<usize> {
+    let events = events_of(rt.alloc(), asks)?;
+    let outcomes = world.run(&events)?;
+    tell_outcomes(rt, 0, &outcomes)?;
+    Ok(outcomes.len())
+}
+
 /// Plays a closed list on a cluster of two servers, and writes each outcome and what was placed.
 pub fn tell_list<T: SubTable, R: Race, X: Print + Alloc<A = Global>>(
     rt: &X,
     asks: &[Ask],
 ) -> anyhow::Result<()> {
-    let alloc = rt.alloc();
-    let mut world: World<T, R> = new_world(alloc, NODES, SHARDS)?;
-    let events = events_of(alloc, asks)?;
-    let outcomes = world.run(&events)?;
-    for (before, outcome) in outcomes.iter().enumerate() {
-        let number = usize::saturating_add(before, 1);
-        println!(rt; "{number} {}", outcome_text(alloc, outcome)?)?;
-    }
-    let given = given_in(alloc, world.placements())?;
-    for message in &given {
-        tell_given(rt, world.lives(), message)?;
-    }
-    println!(rt; "end {} {}", outcomes.len(), given.len())?;
-    Ok(())
+    let mut world: World<T, R> = new_world(rt.alloc(), NODES, SHARDS)?;
+    let count = play_list(rt, &mut world, asks)?;
+    tell_placed(rt, &world, count)
+}
+
+/// What comes of a publication by the first connection of the first server, with this work behind it.
+fn delivery_of<T: SubTable, R: Race>(
+    alloc: Global,
+    world: &mut World<T, R>,
+    said: Said,
+    work: &[Ask],
+) -> anyhow::Result<Delivery> {
+    let order = events_of(alloc, work)?;
+    let publication = pub_of(alloc, said)?;
+    Ok(world.settled_publish(0, ConnId::new(1), &publication, said.word, &order)?)
+}
+
+/// Plays a closed list on a cluster of two servers and then this publication with its work, and writes each outcome and what was
+/// placed.
+pub fn tell_delivery<T: SubTable, R: Race, X: Print + Alloc<A = Global>>(
+    rt: &X,
+    asks: &[Ask],
+    said: Said,
+    work: &[Ask],
+) -> anyhow::Result<()> {
+    let mut world: World<T, R> = new_world(rt.alloc(), NODES, SHARDS)?;
+    let count = play_list(rt, &mut world, asks)?;
+    let delivery = delivery_of(rt.alloc(), &mut world, said, work)?;
+    let published = usize::saturating_add(count, 1);
+    tell_outcome(rt, published, &delivery.published)?;
+    tell_outcomes(rt, published, &delivery.worked)?;
+    tell_placed(
+        rt,
+        &world,
+        usize::saturating_add(published, delivery.worked.len()),
+    )
 }

@@ -8,16 +8,17 @@ use Rattle.node_law.specs.Answers.{Nothing}
 use Rattle.node_law.specs.Events.{NodeEvent}
 use Rattle.node_core.specs.InCode.{answer_of}
 use Rattle.node_core.specs.Served.{Served, new_server}
-use Rattle.cluster_world.specs.declared.faults.WorldFault.{WorldFault}
+use Rattle.world_law.specs.Changes.{LivesAreFound}
+use Rattle.world_law.specs.declared.faults.WorldFault.{WorldFault}
 use Rattle.cluster_world.specs.declared.nodes.Made.{Made}
-use Rattle.cluster_world.specs.Events.{Event, Start, Stop, event_for}
-use Rattle.cluster_world.specs.Headline.{IsCluster}
-use Rattle.cluster_world.specs.Outcomes.{Outcome, Done, Refused}
-use Rattle.cluster_world.specs.Play.{PutsArePlaced}
-use Rattle.cluster_world.specs.Refusals.{world_refusal, start_refusal, stop_refusal}
-use Rattle.cluster_world.specs.State.{Cluster, World, server_at}
-use Rattle.cluster_world.specs.Steps.{WorldStep, Carried}
-use Rattle.cluster_world.specs.Value.{Listed, listed_with, with_start, with_closed, inc_in, running_in, slot_refusal, IsMade, Shown, value_of_parts, world_of, cluster_of, IsFor, IsKept, IsStepped, LivesAreOpen}
+use Rattle.world_law.specs.Events.{Event, Start, Stop, event_for}
+use Rattle.world_law.specs.Headline.{IsCluster}
+use Rattle.world_law.specs.Outcomes.{Outcome, Done, Refused}
+use Rattle.world_law.specs.Play.{PutsArePlaced}
+use Rattle.world_law.specs.Refusals.{world_refusal, start_refusal, stop_refusal}
+use Rattle.world_law.specs.State.{Cluster, World, server_at}
+use Rattle.world_law.specs.Steps.{WorldStep, Carried}
+use Rattle.cluster_world.specs.Value.{Listed, listed_with, with_start, with_closed, inc_in, running_in, slot_refusal, IsMade, Shown, value_of_parts, world_of, cluster_of, IsFor, IsKept, IsStepped}
 use Rattle.cluster_world.proofs.Clusters.Making.{cause_is, made_step, size_set}
 use Rattle.cluster_world.proofs.Clusters.Starting.{refused_step, free_at, up_at, start_step, start_places, stop_step, stop_places}
 
@@ -25,7 +26,7 @@ abbrev pub CarriedOn : Type 0
 CarriedOn = (c : Cluster) (w : World) (e : Event) (outcome : Outcome) (w' : World) → WorldStep c w e outcome w' → Carried c w → Carried c w'
 
 abbrev pub CarriedOpen : Type 0
-CarriedOpen = (c : Cluster) → IsCluster c → (w : World) → Carried c w → LivesAreOpen w
+CarriedOpen = (c : Cluster) → IsCluster c → (w : World) → Carried c w → LivesAreFound w
 
 module _ (server : Server) (step : ℕ) (nodes : List (Option Served)) (l : Listed) (v : Shown) (view_is : value_of_parts server step nodes l ≡ v) (kept : IsKept server nodes (world_of step nodes l)) where
   abbrev c : Cluster

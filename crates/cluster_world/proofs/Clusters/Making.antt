@@ -29,21 +29,21 @@ use Rattle.node_law.specs.Sound.{SoundNode}
 use Rattle.node_law.specs.State.{Line, Node}
 use Rattle.node_law.specs.Steps.{NodeStep, conn_line, conn_event, shard_line, node_refusal, node_after}
 use Rattle.node_law.specs.AsLaw.{is_open_in}
-use Rattle.cluster_world.specs.declared.faults.WorldFault.TheVariants as fault
+use Rattle.world_law.specs.declared.faults.WorldFault.TheVariants as fault
 use Rattle.cluster_world.specs.declared.nodes.Made.{Made}
-use Rattle.cluster_world.specs.Adding.{published_by, opening_by, opening_of, AreNoted, opened_lives, is_sub, closes, closed_if}
-use Rattle.cluster_world.specs.Changes.{AreGained, publications_of, lives_of, conn_lives, new_life, is_open, is_open_at, looked_at, placement_of}
-use Rattle.cluster_world.specs.Events as asked
-use Rattle.cluster_world.specs.Events.{Event, Start, Stop, At, event_for}
-use Rattle.cluster_world.specs.Outcomes.{Outcome, Done}
-use Rattle.cluster_world.specs.Play.{puts, placements_put, PutsArePlaced}
-use Rattle.cluster_world.specs.Refusals.{world_refusal, refusal_at}
-use Rattle.cluster_world.specs.State.{Cluster, Life, Placement, Running, World, server_at}
-use Rattle.cluster_world.specs.Steps.{Acts, Happens, Decided, WorldStep}
-use Rattle.cluster_world.specs.Value.{Listed, listed_with, running_in, slot_refusal, IsMade, world_of, cluster_of, InPlace, IsFor, LivesAreOpen}
-use Rattle.cluster_world.proofs.Subscriptions.Ended.{server_agrees}
-use Rattle.cluster_world.proofs.Runs.Plays.{put_of, puts_are}
-use Rattle.cluster_world.proofs.Seen.Worlds.{set_size}
+use Rattle.cluster_world.specs.Adding.{published_by, opening_by, opening_of, AreNoted, opened_lives, closes, closed_if}
+use Rattle.world_law.specs.Changes.{AreGained, publications_of, lives_of, conn_lives, new_life, is_open, is_open_at, looked_at, placement_of, LivesAreFound}
+use Rattle.world_law.specs.Events as asked
+use Rattle.world_law.specs.Events.{Event, Start, Stop, At, event_for}
+use Rattle.world_law.specs.Outcomes.{Outcome, Done}
+use Rattle.world_law.specs.Play.{puts, placements_put, PutsArePlaced}
+use Rattle.world_law.specs.Refusals.{world_refusal, refusal_at}
+use Rattle.world_law.specs.State.{Cluster, Life, Placement, Running, World, server_at, is_sub}
+use Rattle.world_law.specs.Steps.{Acts, Happens, Decided, WorldStep}
+use Rattle.cluster_world.specs.Value.{Listed, listed_with, running_in, slot_refusal, IsMade, world_of, cluster_of, InPlace, IsFor}
+use Rattle.cluster_world.proofs.Clusters.Ended.{server_agrees}
+use Rattle.world_law.proofs.Runs.Plays.{put_of, puts_are}
+use Rattle.world_law.proofs.Seen.Worlds.{set_size}
 
 -- ---- publications
 
@@ -125,7 +125,7 @@ closes_alike now n nodes a new ended l at tells was = go l.closed refl (nat_eq l
         ap (λ t. cond (t && closes ended l.id.sub) (record l { closed = Some now }) l) (true_eq l.id.inc a.inc (sym inc))
         ∙ ap (λ t. cond t (record l { closed = Some now }) l) (told ∙ ap (λ o. not (is_open_at l.id.inc l.id.sub o)) (sym (ap (slice_get after) here ∙ get_set_here nodes n (Some a) new at)))
 
-pub lives_are : (now n : ℕ) (w : World) (a : Running) (new : Option Running) (ended : Option (List SubId)) → LivesAreOpen w → slice_get w.nodes n ≡ Some (Some a) → Tells a new (closes ended) → map (closed_if now n a.inc ended) w.lives ≡ map (looked_at now (set w.nodes n new)) w.lives
+pub lives_are : (now n : ℕ) (w : World) (a : Running) (new : Option Running) (ended : Option (List SubId)) → LivesAreFound w → slice_get w.nodes n ≡ Some (Some a) → Tells a new (closes ended) → map (closed_if now n a.inc ended) w.lives ≡ map (looked_at now (set w.nodes n new)) w.lives
 lives_are now n w a new ended opens at tells = map_each (closed_if now n a.inc ended) (looked_at now (set w.nodes n new)) w.lives (λ l i. closes_alike now n w.nodes a new ended l at tells (opens l i))
 
 -- with a server that stops, all close
@@ -217,7 +217,7 @@ module _ (puts_placed : PutsArePlaced) (c : Cluster) (step n inc : ℕ) (nodes :
   server = server_at c n inc
 
   acts : (x y : Served) (e : NodeEvent) (won : Bool) (race : RaceState) (made : Made)
-      → LivesAreOpen w → slice_get nodes n ≡ Some (Some x) → x.server.inc ≡ inc → SoundNode server x.node → made.inc ≡ inc → AreNoted (next_id server x.node.hub) (suc step) e made.noted
+      → LivesAreFound w → slice_get nodes n ≡ Some (Some x) → x.server.inc ≡ inc → SoundNode server x.node → made.inc ≡ inc → AreNoted (next_id server x.node.hub) (suc step) e made.noted
       → y.server.inc ≡ inc → NodeStep server x.node e won race y.node → did_of made.did ≡ of_server.outcome_of server x.node e won
       → Acts c w n (Some e) (Done (answer_of made.did.answer)) (world_of (suc step) (set nodes n (Some y)) (listed_with (record { step = suc step; node = n; inc = made.inc }) made.noted made.did l))
   acts x y e won race made opens at own sound made_inc noted y_inc steps told = record {
@@ -272,7 +272,7 @@ module _ (puts_placed : PutsArePlaced) (c : Cluster) (step n inc : ℕ) (nodes :
 
 -- the step of a server that is not refused
 pub made_step : PutsArePlaced → (server : Server) (step now n : ℕ) (nodes new : List (Option Served)) (l : Listed) (e : Event) (found : Option NodeEvent) (made : Made)
-    → now ≡ step + 1 → InPlace (cluster_of server) nodes → LivesAreOpen (world_of step nodes l) → IsFor n e → found ≡ event_for (world_of step nodes l) e
+    → now ≡ step + 1 → InPlace (cluster_of server) nodes → LivesAreFound (world_of step nodes l) → IsFor n e → found ≡ event_for (world_of step nodes l) e
     → world_refusal (cluster_of server) (world_of step nodes l) e ≡ None
     → IsMade n now found nodes made new
     → WorldStep (cluster_of server) (world_of step nodes l) e (Done (answer_of made.did.answer)) (world_of now new (listed_with (record { step = now; node = n; inc = made.inc }) made.noted made.did l)) × InPlace (cluster_of server) new × (length new ≡ length nodes)

@@ -9,14 +9,15 @@ use Rattle.list_laws.proofs.Changes.{map_set}
 use Rattle.subj.specs.Servers.{Server, IsListed, is_server, server_of}
 use Rattle.node_law.specs.Answers.{Nothing}
 use Rattle.node_core.specs.Served.{Served, new_server}
-use Rattle.cluster_world.specs.declared.faults.WorldFault.{WorldFault}
-use Rattle.cluster_world.specs.declared.faults.WorldFault.TheVariants as fault
-use Rattle.cluster_world.specs.Events.{Event, Start, Stop}
-use Rattle.cluster_world.specs.Outcomes.{Outcome, Done, Refused}
-use Rattle.cluster_world.specs.Refusals.{world_refusal, start_refusal, stop_refusal}
-use Rattle.cluster_world.specs.State.{Cluster, World, new_world, server_at}
-use Rattle.cluster_world.specs.Steps.{Decided, WorldStep, outcomes_of, Answers, Carried}
-use Rattle.cluster_world.specs.Value.{Listed, no_lists, with_start, with_closed, running_in, inc_in, world_of, cluster_of, Shown, InPlace, IsKept, IsStepped, Ran, LivesAreOpen, server_in, new_cluster}
+use Rattle.world_law.specs.Changes.{LivesAreFound}
+use Rattle.world_law.specs.declared.faults.WorldFault.{WorldFault}
+use Rattle.world_law.specs.declared.faults.WorldFault.TheVariants as fault
+use Rattle.world_law.specs.Events.{Event, Start, Stop}
+use Rattle.world_law.specs.Outcomes.{Outcome, Done, Refused}
+use Rattle.world_law.specs.Refusals.{world_refusal, start_refusal, stop_refusal}
+use Rattle.world_law.specs.State.{Cluster, World, new_world, server_at}
+use Rattle.world_law.specs.Steps.{Decided, WorldStep, outcomes_of, Answers, Carried}
+use Rattle.cluster_world.specs.Value.{Listed, no_lists, with_start, with_closed, running_in, inc_in, world_of, cluster_of, Shown, InPlace, IsKept, IsStepped, Ran, server_in, new_cluster}
 use Rattle.cluster_world.proofs.Clusters.Making.{lives_are, all_close, in_place_set, shown_at}
 
 -- ---- at first
@@ -128,7 +129,7 @@ pub up_at : (c : Cluster) (step n : ℕ) (nodes : List (Option Served)) (l : Lis
 up_at c step n nodes l cause = up_of (slice_get nodes n) (ap stop_refusal (sym (slice_get-map running_in nodes n)) ∙ cause)
 
 pub stop_step : (server : Server) (step now n inc : ℕ) (nodes : List (Option Served)) (l l' : Listed)
-    → now ≡ step + 1 → LivesAreOpen (world_of step nodes l) → world_refusal (cluster_of server) (world_of step nodes l) (Stop n) ≡ None → Some inc ≡ inc_in (slice_get nodes n) → l' ≡ with_closed (record { step = now; node = n; inc = inc }) l
+    → now ≡ step + 1 → LivesAreFound (world_of step nodes l) → world_refusal (cluster_of server) (world_of step nodes l) (Stop n) ≡ None → Some inc ≡ inc_in (slice_get nodes n) → l' ≡ with_closed (record { step = now; node = n; inc = inc }) l
     → WorldStep (cluster_of server) (world_of step nodes l) (Stop n) (Done Nothing) (world_of now (set nodes n None) l')
 stop_step server step now n inc nodes l l' now_is opens cause inc_is lists =
     let s = up_at (cluster_of server) step n nodes l cause in

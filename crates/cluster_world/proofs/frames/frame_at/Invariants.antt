@@ -1,7 +1,7 @@
 use Rattle.std.proofs.Common.{◌≡◌, drop}
 use Rattle.std.specs.Prelude.{slice_get}
 use Rattle.std.specs.List.{flat_map}
-use Rattle.cluster_world.specs.Events.{frame_at}
+use Rattle.world_law.specs.Events.{frame_at}
 use Rattle.cluster_world.specs.InCode.{items_of}
 use Rattle.cluster_world.proofs.frames.frame_at.Given as goal
 

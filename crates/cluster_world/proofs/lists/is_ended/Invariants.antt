@@ -1,6 +1,6 @@
 use Rattle.std.proofs.Common.{◌≡◌, drop}
 use Rattle.std.specs.List.{list_any}
-use Rattle.cluster_world.specs.Adding.{is_sub}
+use Rattle.world_law.specs.State.{is_sub}
 use Rattle.cluster_world.proofs.lists.is_ended.Given as goal
 
 abbrev pub invariant-loop-other : goal.invariant-loop-other

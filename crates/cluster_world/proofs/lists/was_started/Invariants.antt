@@ -1,6 +1,6 @@
 use Rattle.std.proofs.Common.{◌≡◌, drop, map}
 use Rattle.cluster_world.specs.InCode.{started_of}
-use Rattle.cluster_world.specs.Refusals.{is_used}
+use Rattle.world_law.specs.Refusals.{is_used}
 use Rattle.cluster_world.proofs.lists.was_started.Given as goal
 
 abbrev pub invariant-loop-start : goal.invariant-loop-start

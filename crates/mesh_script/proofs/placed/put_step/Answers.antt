@@ -1,7 +1,7 @@
 use Rattle.std.proofs.Common.{[], refl, ◌∙◌, map, drop, arith, ◌+◌, ◌≡◌, length}
 use Rattle.cluster_world.specs.InCode.{life_of, placing_server}
-use Rattle.cluster_world.specs.Changes.{placement_of}
-use Rattle.cluster_world.specs.Play.{placements_put}
+use Rattle.world_law.specs.Changes.{placement_of}
+use Rattle.world_law.specs.Play.{placements_put}
 use Rattle.mesh_script.specs.Placing.{cluster_named}
 use Rattle.mesh_script.proofs.Putting.{puts_failed, some_breaks, some_stops, some_flushed, some_more}
 use Rattle.mesh_script.proofs.Texts.{put_dropped, text_split, count_split}

@@ -1,6 +1,6 @@
 use Rattle.std.proofs.Common.{◌≡◌, ◌+◌, length, drop, map}
 use Rattle.cluster_world.specs.InCode.{life_of, placing_server}
-use Rattle.cluster_world.specs.Play.{placements_put}
+use Rattle.world_law.specs.Play.{placements_put}
 use Rattle.mesh_script.specs.Placing.{cluster_named, placements_text}
 use Rattle.mesh_script.proofs.Putting.{PutsSome}
 use Rattle.mesh_script.proofs.placed.put_step.Given as goal

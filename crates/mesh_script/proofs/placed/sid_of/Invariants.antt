@@ -1,6 +1,6 @@
 use Rattle.std.proofs.Common.{◌≡◌, drop, map}
 use Rattle.cluster_world.specs.InCode.{life_of, life_id_of}
-use Rattle.cluster_world.specs.Written.{sid_of}
+use Rattle.world_law.specs.Written.{sid_of}
 use Rattle.mesh_script.proofs.placed.sid_of.Given as goal
 
 -- among the rest the same one is found

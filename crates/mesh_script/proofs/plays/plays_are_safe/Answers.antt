@@ -1,4 +1,4 @@
-use Rattle.cluster_world.specs.State.{new_world}
+use Rattle.world_law.specs.State.{new_world}
 use Rattle.mesh_script.specs.Played.{cluster_of}
 use Rattle.mesh_script.proofs.Asking.{run_of}
 use Rattle.mesh_script.proofs.plays.plays_are_safe.Goals as goal

@@ -4,7 +4,7 @@ use Rattle.std.specs.Option.{option_map}
 use Rattle.node_core.specs.InCode.{answer_of}
 use Rattle.node_core.specs.Lent.{asked_of}
 use Rattle.cluster_world.specs.InCode.{event_of, items_of}
-use Rattle.cluster_world.specs.Outcomes.{Done}
+use Rattle.world_law.specs.Outcomes.{Done}
 use Rattle.cluster_world.specs.Value.{Listed, listed_of, listed_with, value_of_parts, world_of, IsStepped}
 use Rattle.cluster_world.proofs.Clusters.Kept.{slot_free, made_steps, made_keeps}
 use Rattle.cluster_world.proofs.world.World.act.Goals as goal

@@ -1,9 +1,9 @@
 use Rattle.std.proofs.Common.{◌≤◌, ◌∙◌, None, sym, subst}
 use Rattle.std.proofs.lemmas.Option.{same_Some, slice_get_within}
 use Rattle.node_law.specs.Answers.{Nothing}
-use Rattle.cluster_world.specs.Events.{Start}
-use Rattle.cluster_world.specs.Outcomes.{Done}
-use Rattle.cluster_world.specs.State.{server_at}
+use Rattle.world_law.specs.Events.{Start}
+use Rattle.world_law.specs.Outcomes.{Done}
+use Rattle.world_law.specs.State.{server_at}
 use Rattle.cluster_world.specs.Value.{listed_of, cluster_of, value_of_parts, world_of, IsKept, IsStepped}
 use Rattle.cluster_world.proofs.Clusters.Kept.{start_at, start_within, start_steps, start_keeps}
 use Rattle.cluster_world.proofs.Clusters.Starting.{server_there}

@@ -1,7 +1,7 @@
 use Rattle.std.proofs.Common.{subst}
-use Rattle.cluster_world.specs.Echo.{EchoIsKept}
-use Rattle.cluster_world.specs.Headline.{Headline, Names, AreSent}
-use Rattle.cluster_world.specs.RestsOn.{CameSo}
+use Rattle.world_law.specs.Echo.{EchoIsKept}
+use Rattle.world_law.specs.Headline.{Headline, Names, AreSent}
+use Rattle.world_law.specs.RestsOn.{CameSo}
 use Rattle.cluster_world.proofs.world.World.keeps_headline.Goals as goal
 
 pub returns-clause-headline : goal.returns-clause-headline

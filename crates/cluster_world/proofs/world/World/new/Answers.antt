@@ -1,6 +1,6 @@
 use Rattle.std.proofs.Common.{◌≡◌, ◌∙◌, true, sym, ap, subst, length}
 use Rattle.subj.specs.Servers.{is_server}
-use Rattle.cluster_world.specs.State.{server_at}
+use Rattle.world_law.specs.State.{server_at}
 use Rattle.cluster_world.specs.Value.{listed_of, cluster_of, world_of}
 use Rattle.cluster_world.proofs.Clusters.Starting.{first_world, first_kept, made_server, new_made}
 use Rattle.cluster_world.proofs.world.World.new.Goals as goal

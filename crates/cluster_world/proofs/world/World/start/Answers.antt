@@ -1,5 +1,5 @@
 use Rattle.std.proofs.Common.{◌∙◌, sym, subst}
-use Rattle.cluster_world.specs.Events.{Start}
+use Rattle.world_law.specs.Events.{Start}
 use Rattle.cluster_world.specs.Value.{listed_of, IsStepped}
 use Rattle.cluster_world.proofs.Clusters.Kept.{start_cause}
 use Rattle.cluster_world.proofs.world.World.start.Goals as goal

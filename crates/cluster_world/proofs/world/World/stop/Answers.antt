@@ -1,5 +1,5 @@
 use Rattle.std.proofs.Common.{◌∙◌, sym, subst}
-use Rattle.cluster_world.specs.Events.{Stop}
+use Rattle.world_law.specs.Events.{Stop}
 use Rattle.cluster_world.specs.Value.{listed_of, IsStepped}
 use Rattle.cluster_world.proofs.Clusters.Kept.{stop_cause}
 use Rattle.cluster_world.proofs.world.World.stop.Goals as goal

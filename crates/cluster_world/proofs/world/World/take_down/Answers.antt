@@ -1,7 +1,7 @@
 use Rattle.std.proofs.Common.{◌∙◌, sym, subst}
 use Rattle.node_law.specs.Answers.{Nothing}
-use Rattle.cluster_world.specs.Events.{Stop}
-use Rattle.cluster_world.specs.Outcomes.{Done}
+use Rattle.world_law.specs.Events.{Stop}
+use Rattle.world_law.specs.Outcomes.{Done}
 use Rattle.cluster_world.specs.Value.{listed_of, value_of_parts, world_of, IsKept, IsStepped}
 use Rattle.cluster_world.proofs.Clusters.Kept.{stop_steps, stop_keeps}
 use Rattle.cluster_world.proofs.world.World.take_down.Goals as goal

@@ -2,7 +2,7 @@ use Rattle.std.proofs.Common.{◌≡◌, ◌++◌, length, map, refl, ap, ◌∙
 use Rattle.std.specs.Prelude.{codes}
 use Rattle.std.specs.List.{flat_map}
 use Rattle.cluster_world.specs.InCode.{life_of, placements_in}
-use Rattle.cluster_world.specs.Written.{last_lines}
+use Rattle.world_law.specs.Written.{last_lines}
 use Rattle.mesh_script.specs.Lines.{lines_text, end_line}
 use Rattle.mesh_script.specs.Placing.{cluster_named, placements_text}
 use Rattle.mesh_script.specs.Played.{Writes}

@@ -1,8 +1,0 @@
--- What the cluster law sees of the exact cluster.
-pub mod Machine
-pub mod Gained
-pub mod Given
-pub mod Order
-pub mod Waiting
-pub mod Worlds
-pub mod Whole

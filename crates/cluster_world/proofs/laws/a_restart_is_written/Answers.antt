@@ -1,5 +1,0 @@
-use Rattle.cluster_world.proofs.Examples.Printed.{writes_a_restart}
-use Rattle.cluster_world.proofs.laws.a_restart_is_written.Goals as goal
-
-pub returns : goal.returns
-returns start = writes_a_restart

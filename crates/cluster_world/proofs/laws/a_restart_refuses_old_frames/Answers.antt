@@ -1,5 +1,0 @@
-use Rattle.cluster_world.proofs.Examples.Scripts.{a_restart_refuses_old_frames}
-use Rattle.cluster_world.proofs.laws.a_restart_refuses_old_frames.Goals as goal
-
-pub returns : goal.returns
-returns start = a_restart_refuses_old_frames

@@ -1,5 +1,0 @@
-use Rattle.cluster_world.proofs.Examples.Printed.{writes_crossed_dials}
-use Rattle.cluster_world.proofs.laws.crossed_dials_are_written.Goals as goal
-
-pub returns : goal.returns
-returns start = writes_crossed_dials

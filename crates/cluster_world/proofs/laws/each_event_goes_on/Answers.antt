@@ -1,6 +1,0 @@
-use Rattle.cluster_world.proofs.Runs.Programs.{reached_step}
-use Rattle.cluster_world.proofs.Seen.Whole.{laws_of}
-use Rattle.cluster_world.proofs.laws.each_event_goes_on.Goals as goal
-
-pub returns : goal.returns
-returns c = reached_step c.entries_are_put.ensures (laws_of c.servers_follow_the_law.ensures c.servers_stay_sound.ensures c.entries_are_put.ensures)

@@ -1,5 +1,0 @@
-use Rattle.cluster_world.proofs.Runs.Plays.{has_step}
-use Rattle.cluster_world.proofs.laws.each_event_has_a_step.Goals as goal
-
-pub returns : goal.returns
-returns c = has_step c.entries_are_put.ensures

@@ -1,5 +1,0 @@
-use Rattle.cluster_world.proofs.Subscriptions.Lives.{lives_close_by_cause}
-use Rattle.cluster_world.proofs.laws.lives_close_by_cause.Goals as goal
-
-pub returns : goal.returns
-returns c = lives_close_by_cause c.shards_stay_held.ensures

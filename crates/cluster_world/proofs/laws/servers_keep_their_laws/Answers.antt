@@ -1,5 +1,0 @@
-use Rattle.cluster_world.proofs.Runs.OwnRuns.{each_keeps}
-use Rattle.cluster_world.proofs.laws.servers_keep_their_laws.Goals as goal
-
-pub returns : goal.returns
-returns c = each_keeps c.servers_keep_their_promises.ensures c.hubs_stay_sound.ensures c.shards_stay_held.ensures

@@ -1,5 +1,0 @@
-use Rattle.cluster_world.proofs.Examples.Printed.{writes_starts_and_stops}
-use Rattle.cluster_world.proofs.laws.starts_and_stops_are_written.Goals as goal
-
-pub returns : goal.returns
-returns start = writes_starts_and_stops

@@ -1,5 +1,0 @@
-use Rattle.cluster_world.proofs.Runs.Sent.{are_sent}
-use Rattle.cluster_world.proofs.laws.taken_frames_were_sent.Goals as goal
-
-pub returns : goal.returns
-returns start = are_sent

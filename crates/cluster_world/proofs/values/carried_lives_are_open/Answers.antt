@@ -1,6 +1,0 @@
-use Rattle.cluster_world.proofs.Runs.OfRuns.{lives_open}
-use Rattle.cluster_world.proofs.Seen.Whole.{laws_of}
-use Rattle.cluster_world.proofs.values.carried_lives_are_open.Goals as goal
-
-pub returns : goal.returns
-returns c = lives_open (laws_of c.servers_follow_the_law.ensures c.servers_stay_sound.ensures c.entries_are_put.ensures)

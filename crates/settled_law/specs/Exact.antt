@@ -1,0 +1,13 @@
+-- The tests tell just what they are to tell.
+use Rattle.std.specs.Prelude.{◌≡◌, ◌↔◌, ℕ, true, List}
+use Rattle.subj.specs.Messages.{Content}
+use Rattle.world_law.specs.Events.{Event}
+use Rattle.world_law.specs.Headline.{IsCluster}
+use Rattle.world_law.specs.State.{Cluster, World, new_world}
+use Rattle.world_law.specs.Steps.{Run}
+use Rattle.settled_law.specs.Settled.{IsSettled, IsRoomy}
+use Rattle.settled_law.specs.Tests.{settled_for, room_for}
+
+pub record TestsAreExact : Type 0 where
+  pub settled : (c : Cluster) → IsCluster c → (events : List Event) (w : World) → Run c (new_world c) events w → (subject : List ℕ) → (settled_for c w subject ≡ true) ↔ IsSettled c w subject
+  pub room : (w : World) (message : Content) → (room_for w message ≡ true) ↔ IsRoomy w message

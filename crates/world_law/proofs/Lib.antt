@@ -1,0 +1,4 @@
+pub mod Seen
+pub mod Runs
+mod Subscriptions
+mod Examples

@@ -1,0 +1,3 @@
+-- Which subscriptions are open, and why they close.
+pub mod Lives
+pub mod Echo
