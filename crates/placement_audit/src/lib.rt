@@ -1,0 +1,27 @@
+//! An audit of what was published, subscribed and placed in a cluster, whoever wrote it down.
+//!
+//! ```text
+//! let found = audit(alloc, &publications, &lives, &placements)?;
+//! ```
+//!
+//! [`audit`] tells the first placement that, with those before it, breaks the clause that every run of the exact cluster keeps: a
+//! publication is placed at most once for a plain subscription, and for a queue name for at most one member in the whole cluster; and
+//! what is placed is the exact `MSG` of a publication of an earlier step, for a subscription that matches and was open at that
+//! step. It reads the lists alone, and shares no code with the cluster that made them.
+//!
+//! In reading order: `placements` is a list of placements, one by one; `due` what a subscription is due of a publication; `keys` names
+//! as keys in order, `named` publications and subscriptions by their names, and `seen` what was placed so far; `audits` goes
+//! over the list, and `worlds` says what it tells of a run of the exact cluster.
+#![tactic(auto)]
+
+mod audits;
+mod due;
+mod keys;
+mod named;
+mod placements;
+mod seen;
+mod worlds;
+
+pub use audits::audit;
+pub use placements::{Placement, each_placement};
+pub use worlds::runs_pass_the_audit;
