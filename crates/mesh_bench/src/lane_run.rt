@@ -77,6 +77,26 @@ fn next_jobs(
     Ok(made)
 }
 
+/// Gives the last jobs of the list, at most so many, the turns behind this one, and pushes them as a run. Gives the
+/// turn of the last that was pushed.
+fn push_run<R: Wait>(
+    rt: &R,
+    alloc: Global,
+    writer: &mut LaneIn,
+    jobs: &mut Vec<Job>,
+    last: Turn,
+    most: usize,
+) -> Result<Turn, AllocError>
+    requires { last ≡ length writer.old.pushed }
+    ensures { IfOk result (λ turn. turn ≡ length writer.new.pushed) }
+{
+    let made = next_jobs(alloc, jobs, last, most)?;
+    let count = made.len() as u64;
+    push_jobs(rt, alloc, writer, made)?;
+    let turn = Turn::new(last.get().saturating_add(count)).ok_or(AllocError)?;
+    Ok(turn)
+}
+
 /// Gives the jobs their turns, from the last one of the list on, and pushes them by runs of so many.
 fn push_all<R: Wait>(
     rt: &R,
@@ -91,10 +111,7 @@ fn push_all<R: Wait>(
     let mut jobs = jobs;
     let mut last = Turn::zero();
     for _ in 0..jobs.len() {
-        let made = next_jobs(alloc, &mut jobs, last, length)?;
-        let count = made.len() as u64;
-        push_jobs(rt, alloc, &mut writer, made)?;
-        last = Turn::new(last.get().saturating_add(count)).ok_or(AllocError)?;
+        last = push_run(rt, alloc, &mut writer, &mut jobs, last, length)?;
     }
     Ok(())
 }

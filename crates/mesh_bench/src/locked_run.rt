@@ -1,9 +1,5 @@
 //! Jobs through a list under a lock, with room for as many as a lane.
 
-ghost use Rattle.std.specs.Prelude.{◌≤◌};
-ghost use Rattle.job_lane.specs.declared.ends.TheConstants.{LANE_CAPACITY};
-ghost use Rattle.std.specs.VecDeque.{deque_capacity};
-
 use job_lane::LANE_CAPACITY;
 use std::alloc::{AllocError, Global};
 use std::collections::VecDeque;
@@ -12,38 +8,23 @@ use std::thread;
 use std::thread::Threads;
 use subj::{Job, Turn};
 
-/// The jobs that wait, at most [`LANE_CAPACITY`].
-#[derive(Drop)]
-struct Waiting {
-    jobs: VecDeque<Job>,
-    ghost room: { LANE_CAPACITY ≤ deque_capacity jobs },
-}
-
-impl Waiting {
-    fn new(alloc: Global) -> Result<Waiting, AllocError> {
-        let jobs = VecDeque::with_capacity(alloc, LANE_CAPACITY)?;
-        Ok(Waiting { jobs })
+/// Pushes the job where there is room; else it comes back.
+fn push<R: Wait>(rt: &R, waiting: &Mutex<VecDeque<Job>>, job: Job) -> Result<(), Job> {
+    let mut jobs = waiting.lock(rt);
+    if jobs.len() >= LANE_CAPACITY {
+        return Err(job);
     }
-
-    fn push(&mut self, job: Job) -> Result<(), Job> {
-        if self.jobs.len() >= LANE_CAPACITY {
-            return Err(job);
-        }
-        self.jobs.push_back_reserved(job);
-        Ok(())
-    }
-
-    fn pop(&mut self) -> Option<Job> {
-        self.jobs.pop_front()
+    match jobs.push_back(job) {
+        Ok(()) => Ok(()),
+        Err(failed) => Err(failed.value),
     }
 }
 
 /// Pushes the job as soon as there is room.
-fn push_in_time<R: Wait>(rt: &R, waiting: &Mutex<Waiting>, job: Job) {
+fn push_in_time<R: Wait>(rt: &R, waiting: &Mutex<VecDeque<Job>>, job: Job) {
     let mut job = job;
     for _ in rt.forever() {
-        let pushed = waiting.lock(rt).push(job);
-        match pushed {
+        match push(rt, waiting, job) {
             Ok(()) => return,
             Err(back) => job = back,
         }
@@ -54,7 +35,7 @@ fn push_in_time<R: Wait>(rt: &R, waiting: &Mutex<Waiting>, job: Job) {
 }
 
 /// Gives the jobs their turns, from the last one of the list on, and pushes them.
-fn push_all<R: Wait>(rt: &R, waiting: &Mutex<Waiting>, jobs: Vec<Job>) {
+fn push_all<R: Wait>(rt: &R, waiting: &Mutex<VecDeque<Job>>, jobs: Vec<Job>) {
     let mut jobs = jobs;
     let mut last = Turn::zero();
     for _ in 0..jobs.len() {
@@ -66,11 +47,16 @@ fn push_all<R: Wait>(rt: &R, waiting: &Mutex<Waiting>, jobs: Vec<Job>) {
     }
 }
 
+/// Pops the next job, where there is one.
+fn pop<R: Wait>(rt: &R, waiting: &Mutex<VecDeque<Job>>) -> Option<Job> {
+    let mut jobs = waiting.lock(rt);
+    jobs.pop_front()
+}
+
 /// Pops the next job as soon as there is one.
-fn pop_in_time<R: Wait>(rt: &R, waiting: &Mutex<Waiting>) -> Job {
+fn pop_in_time<R: Wait>(rt: &R, waiting: &Mutex<VecDeque<Job>>) -> Job {
     for _ in rt.forever() {
-        let popped = waiting.lock(rt).pop();
-        if let Some(job) = popped {
+        if let Some(job) = pop(rt, waiting) {
             return job;
         }
         thread::yield_now();
@@ -80,7 +66,7 @@ fn pop_in_time<R: Wait>(rt: &R, waiting: &Mutex<Waiting>) -> Job {
 }
 
 /// Pops so many jobs: how many came in order.
-fn pop_all<R: Wait>(rt: &R, waiting: &Mutex<Waiting>, count: u64) -> u64 {
+fn pop_all<R: Wait>(rt: &R, waiting: &Mutex<VecDeque<Job>>, count: u64) -> u64 {
     let mut in_order = 0;
     for place in 0..count {
         let job = pop_in_time(rt, waiting);
@@ -99,7 +85,7 @@ pub fn pass_through_lock<R: Threads + Wait + Sync>(
     jobs: Vec<Job>,
 ) -> Result<u64, AllocError> {
     let count = jobs.len() as u64;
-    let waiting = Mutex::new(Waiting::new(alloc)?);
+    let waiting = Mutex::new(VecDeque::with_capacity(alloc, LANE_CAPACITY)?);
     let shared = &waiting;
     let ((), in_order) = thread::join(
         rt,

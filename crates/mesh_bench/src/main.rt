@@ -6,38 +6,29 @@
 //! mesh_bench lanes 200000
 //! ```
 //!
-//! In reading order: `command` finds the measure. Each has a module of its name, with what it makes first (`*_setup`, `*_jobs`,
-//! `*_subjects`, `*_stream`) and what it does over and over (`*_run`, `*_calls`, `*_reading`): `frames`, `matches`, `lanes` (with
-//! `locked_run` and `jobs`), `shards`, `hubs`, `nodes` and `threads`. `faults` is the error of all of them.
+//! In reading order: `command` finds the measure. Each has a module of its name: `frames`, `matches` (with
+//! `match_subjects` and `match_calls`), `lanes` (with `lane_run` and `locked_run`), `shards` and `nodes` (with `publishing`), `hubs`,
+//! and `threads` (with `thread_run`). `values` makes what they are made of, and `tell` tells what came of each case.
 #![tactic(auto)]
 
 mod command;
-mod faults;
-mod frame_reading;
-mod frame_stream;
 mod frames;
-mod hub_run;
-mod hub_setup;
 mod hubs;
-mod jobs;
-mod lane_jobs;
 mod lane_run;
 mod lanes;
 mod locked_run;
 mod match_calls;
 mod match_subjects;
 mod matches;
-mod node_run;
-mod node_setup;
 mod nodes;
-mod shard_run;
-mod shard_setup;
+mod publishing;
 mod shards;
+mod tell;
 mod thread_run;
-mod thread_setup;
 mod threads;
+mod values;
 
-use command::{Command, command_of};
+use command::{Command, MEASURES, Measure, command_of};
 use frames::measure_frames;
 use hubs::measure_hubs;
 use lanes::measure_lanes;
@@ -51,46 +42,46 @@ use std::thread::Threads;
 use std::{env, io};
 use threads::measure_threads;
 
-/// Makes the measures that the command names.
-fn run<R>(rt: &R, command: Command) -> io::Result<()>
+/// Makes one measure: at this size, or at a small one where none is given.
+fn make<R>(rt: &R, measure: Measure, given: Option<u64>) -> io::Result<()>
 where
     R: Alloc<A = Global> + Clock + Print + Threads + Wait + Sync,
 {
-    match command {
-        Command::All => {
-            measure_lanes(rt, None)?;
-            measure_frames(rt, None)?;
-            measure_matches(rt, None)?;
-            measure_shards(rt, None)?;
-            measure_hubs(rt, None)?;
-            measure_nodes(rt, None)?;
-            measure_threads(rt, None)
-        }
-        Command::Lanes(jobs) => measure_lanes(rt, Some(jobs)),
-        Command::Frames(megabytes) => measure_frames(rt, Some(megabytes)),
-        Command::Matches(subjects) => measure_matches(rt, Some(subjects)),
-        Command::Hubs(publications) => measure_hubs(rt, Some(publications)),
-        Command::Nodes(publications) => measure_nodes(rt, Some(publications)),
-        Command::Shards(entries) => measure_shards(rt, Some(entries)),
-        Command::Threads(publications) => measure_threads(rt, Some(publications)),
+    match measure {
+        Measure::Lanes => measure_lanes(rt, given),
+        Measure::Frames => measure_frames(rt, given),
+        Measure::Matches => measure_matches(rt, given),
+        Measure::Shards => measure_shards(rt, given),
+        Measure::Hubs => measure_hubs(rt, given),
+        Measure::Nodes => measure_nodes(rt, given),
+        Measure::Threads => measure_threads(rt, given),
     }
 }
 
-/// The command that the words of the command line give.
+/// Makes each measure at a small size.
+fn make_all<R>(rt: &R) -> io::Result<()>
+where
+    R: Alloc<A = Global> + Clock + Print + Threads + Wait + Sync,
+{
+    for (_word, measure) in MEASURES {
+        make(rt, measure, None)?;
+    }
+    Ok(())
+}
+
+/// The command that the words of the command line give; None where they give none.
 fn command_given<R: Env + Alloc<A = Global>>(rt: &R) -> io::Result<Option<Command>> {
     let mut words = env::args(rt)?;
     let _program = words.next();
-    let measure = words.next();
-    let number = words.next();
-    Ok(command_of(
-        measure.as_ref().map(|word| word.as_str()),
-        number.as_ref().map(|word| word.as_str()),
-    ))
+    let word = words.next();
+    let size = words.next();
+    Ok(command_of(word, size))
 }
 
 fn main(rt: HostRuntime) -> io::Result<()> {
     match command_given(&rt)? {
-        Some(command) => run(&rt, command),
+        Some(Command::All) => make_all(&rt),
+        Some(Command::One(measure, size)) => make(&rt, measure, Some(size)),
         None => Err(io::ErrorKind::InvalidInput.into()),
     }
 }

@@ -2,8 +2,9 @@
 
 ghost use Rattle.std.specs.Prelude.{◌<◌, ◌≤◌, All, OnOk};
 
-use crate::match_subjects::{Drawn, connection, sid, subscription};
+use crate::match_subjects::{Drawn, subscription};
 use std::alloc::{AllocError, Global};
+use std::io;
 use sub_table::{SubTable, Subscription};
 use subj::Subject;
 
@@ -17,7 +18,7 @@ fn open<T: SubTable>(table: &mut T, last: u64, sub: Subscription) -> Result<(), 
 }
 
 /// A table with so many subscriptions.
-pub fn filled_table<T: SubTable>(alloc: Global, drawn: Drawn, size: u64) -> Result<T, AllocError> {
+pub fn filled_table<T: SubTable>(alloc: Global, drawn: Drawn, size: u64) -> io::Result<T> {
     let mut table = T::new(alloc)?;
     for last in 0..size {
         let sub = subscription(alloc, drawn, last)?;
@@ -33,19 +34,6 @@ pub fn look_up<T: SubTable>(table: &mut T, subjects: &[Subject]) -> Result<u64, 
         table.remember(subject);
         let subs = table.matching(subject)?;
         found = u64::saturating_add(found, subs.len() as u64);
-    }
-    Ok(found)
-}
-
-/// How many are found by their connection and id.
-pub fn find_all<T: SubTable>(alloc: Global, table: &T, size: u64) -> Result<u64, AllocError> {
-    let mut found = 0;
-    for last in 0..size {
-        let serial = last + 1;
-        let sid = sid(alloc, serial)?;
-        if table.find(connection(serial), &sid) == Some(serial) {
-            found = u64::saturating_add(found, 1);
-        }
     }
     Ok(found)
 }

@@ -1,4 +1,4 @@
-use Rattle.mesh_bench.proofs.threads.measure_staff.Given as goal
+use Rattle.mesh_bench.proofs.threads.run_new.Given as goal
 
 -- the server of the parts that were just made
 abbrev pub ghosts-run : goal.ghosts-run

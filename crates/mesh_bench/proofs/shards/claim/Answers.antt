@@ -6,7 +6,7 @@ use Rattle.subj.specs.declared.jobs.Job.{Job}
 use Rattle.shard_core.specs.declared.calls.Candidate.{Candidate}
 use Rattle.shard_core.specs.Held.{Held, told_of}
 use Rattle.shard_core.specs.Owed.{candidate_of}
-use Rattle.mesh_bench.proofs.shard_run.claim.Goals as goal
+use Rattle.mesh_bench.proofs.shards.claim.Goals as goal
 
 is_chosen : (copies : Bool) (shard : ℕ) (hand : Option Job) (chosen : Option Subscription) (told : Candidate) → Some told ≡ told_of copies shard hand chosen → is_some chosen ≡ true
 is_chosen copies shard None chosen told e = absurd (none-some told (sym e))
