@@ -80,6 +80,25 @@ pub fn batch_of(window: u64, size: usize) -> u64 {
     fitting.min(window / 2).max(1)
 }
 
+/// Puts a payload of this size into a frame, with its publisher and no number yet, and the frame's end.
+fn put_payload(frame: &mut Vec<u8>, publisher: usize, size: usize) -> Result<(), AllocError> {
+    frame.extend_from_slice(&[0; 8])?;
+    frame.extend_from_slice(&publisher.to_le_bytes())?;
+    for _byte in LEAST_SIZE..size {
+        frame.push(PADDING)?;
+    }
+    frame.extend_from_slice(b"\r\n")
+}
+
+/// So many of this frame, one behind another.
+fn repeated(alloc: Global, frame: &[u8], count: u64) -> Result<Vec<u8>, AllocError> {
+    let mut bytes = Vec::new(alloc);
+    for _frame in 0..count {
+        bytes.extend_from_slice(frame)?;
+    }
+    Ok(bytes)
+}
+
 impl Batch {
     /// So many frames of this publisher, with these words behind `PUB`, payloads of this size, and the digits of one of
     /// so many subjects where there are more than one.
@@ -91,22 +110,12 @@ impl Batch {
         count: u64,
         subjects: u64,
     ) -> Result<Batch, AllocError> {
-        let mut frame = Vec::new(alloc);
         let line = format!(in alloc; "PUB {words} {size}\r\n")?;
-        frame.extend_from_slice(line.as_bytes())?;
-        let number_at = frame.len();
-        frame.extend_from_slice(&[0; 8])?;
-        frame.extend_from_slice(&publisher.to_le_bytes())?;
-        for _byte in LEAST_SIZE..size {
-            frame.push(PADDING)?;
-        }
-        frame.extend_from_slice(b"\r\n")?;
-        let mut bytes = Vec::new(alloc);
-        for _frame in 0..count {
-            bytes.extend_from_slice(&frame)?;
-        }
+        let number_at = line.len();
+        let mut frame = Vec::from_slice(alloc, line.as_bytes())?;
+        put_payload(&mut frame, publisher, size)?;
         Ok(Batch {
-            bytes,
+            bytes: repeated(alloc, &frame, count)?,
             length: frame.len(),
             number_at,
             chooser: Chooser { state: 1, subjects },

@@ -12,75 +12,129 @@ const MOST_SIZE: u64 = 1_048_576;
 /// The most messages that a publisher may send.
 const MOST_MESSAGES: u64 = 1_000_000_000;
 
-/// The option of this name, which is a number within these bounds.
-fn number<'a>(alloc: Global, name: &'a str, help: &'a str, from: u64, to: u64) -> Arg<'a> {
-    Arg::new(alloc, name)
-        .long(name)
-        .value_name("N")
-        .value_parser(ValueParser::Unsigned(from, to))
-        .help(help)
+/// The most seconds that a storm may last, and the most clients that it may have.
+const MOST_SECONDS: u64 = 1_000_000;
+
+const MOST_CLIENTS: u64 = 1_000;
+
+/// An option that is a number within these bounds.
+#[derive(Clone, Copy)]
+struct Number {
+    name: &'static str,
+    help: &'static str,
+    from: u64,
+    to: u64,
+    /// What it is where it is left out, if it is anything.
+    default: Option<&'static str>,
 }
 
-/// The option that gives a server's port.
-fn port<'a>(alloc: Global, name: &'a str, help: &'a str) -> Arg<'a> {
-    number(alloc, name, help, 1, 65_535)
+/// The numbers that the command line takes.
+const NUMBERS: [Number; 9] = [
+    Number {
+        name: "port",
+        help: "Where the clients of the first server come to",
+        from: 1,
+        to: 65_535,
+        default: Some("4222"),
+    },
+    Number {
+        name: "second",
+        help: "Where those of the second server come to, if there is one",
+        from: 1,
+        to: 65_535,
+        default: None,
+    },
+    Number {
+        name: "third",
+        help: "Where those of the third server come to, if there is one",
+        from: 1,
+        to: 65_535,
+        default: None,
+    },
+    Number {
+        name: "size",
+        help: "How many bytes a payload has",
+        from: 16,
+        to: MOST_SIZE,
+        default: Some("16"),
+    },
+    Number {
+        name: "messages",
+        help: "How many messages each publisher sends, or how many requests are made",
+        from: 1,
+        to: MOST_MESSAGES,
+        default: Some("100000"),
+    },
+    Number {
+        name: "window",
+        help: "How many messages are on the way at most, of all publishers together",
+        from: 1,
+        to: MOST_MESSAGES,
+        default: Some("512"),
+    },
+    Number {
+        name: "seconds",
+        help: "How many seconds a storm lasts",
+        from: 1,
+        to: MOST_SECONDS,
+        default: Some("60"),
+    },
+    Number {
+        name: "seed",
+        help: "What the clients of a storm draw from",
+        from: 0,
+        to: u64::MAX,
+        default: Some("1"),
+    },
+    Number {
+        name: "clients",
+        help: "How many clients a storm has",
+        from: 1,
+        to: MOST_CLIENTS,
+        default: Some("24"),
+    },
+];
+
+/// The option that is this number.
+fn option_of<'a>(alloc: Global, number: &Number) -> Arg<'a> {
+    let option = Arg::new(alloc, number.name)
+        .long(number.name)
+        .value_name("N")
+        .value_parser(ValueParser::Unsigned(number.from, number.to))
+        .help(number.help);
+    match number.default {
+        Some(text) => option.default_value(text),
+        None => option,
+    }
+}
+
+/// The command without its numbers.
+fn bare_line<'a>(alloc: Global) -> Result<Command<'a>, AllocError> {
+    Command::new(alloc, "serve_bench")
+        .about("Loads servers that speak the client protocol of NATS, and counts what comes")
+        .version("1.0.0")
+        .arg(
+            Arg::new(alloc, "CASE")
+                .required(true)
+                .value_parser(ValueParser::Names(&NAMES)),
+        )?
+        .arg(
+            Arg::new(alloc, "held")
+                .long("held")
+                .action(ArgAction::SetTrue)
+                .help(
+                    "Tells when all clients are ready, and waits for a line before anything is sent",
+                ),
+        )
 }
 
 /// What the command line may say.
 fn line<'a>(alloc: Global) -> Result<Command<'a>, AllocError> {
-    let case = Arg::new(alloc, "CASE")
-        .required(true)
-        .value_parser(ValueParser::Names(&NAMES));
-    let first = port(
-        alloc,
-        "port",
-        "Where the clients of the first server come to",
-    )
-    .default_value("4222");
-    let second = port(
-        alloc,
-        "second",
-        "Where those of the second server come to, if there is one",
-    );
-    let third = port(
-        alloc,
-        "third",
-        "Where those of the third server come to, if there is one",
-    );
-    let size = number(alloc, "size", "How many bytes a payload has", 16, MOST_SIZE).default_value(
-        "16",
-    );
-    let messages = number(
-        alloc,
-        "messages",
-        "How many messages each publisher sends, or how many requests are made",
-        1,
-        MOST_MESSAGES,
-    )
-    .default_value("100000");
-    let window = number(
-        alloc,
-        "window",
-        "How many messages are on the way at most, of all publishers together",
-        1,
-        MOST_MESSAGES,
-    )
-    .default_value("512");
-    let held = Arg::new(alloc, "held")
-        .long("held")
-        .action(ArgAction::SetTrue)
-        .help("Tells when all clients are ready, and waits for a line before anything is sent");
-    Command::new(alloc, "serve_bench")
-        .about("Loads servers that speak the client protocol of NATS, and counts what comes")
-        .version("1.0.0")
-        .arg(case)?
-        .arg(first)?
-        .arg(second)?
-        .arg(third)?
-        .arg(size)?
-        .arg(messages)?
-        .arg(window)?
-        .arg(held)
+    let mut command = bare_line(alloc)?;
+    for number in NUMBERS.iter() {
+        command = command.arg(option_of(alloc, number))?;
+    }
+    Ok(command)
 }
 
 /// What the line gives; none where something that is needed is missing.
@@ -99,6 +153,9 @@ fn given_in<'a>(found: &ArgMatches<'a>) -> Option<Given<'a>> {
         messages: found.get_one("messages")?,
         window: found.get_one("window")?,
         held: found.get_flag("held"),
+        seconds: found.get_one("seconds")?,
+        seed: found.get_one("seed")?,
+        clients: found.get_one("clients")?,
     })
 }
 

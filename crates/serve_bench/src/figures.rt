@@ -1,7 +1,7 @@
 //! What is told of a run.
 
-use crate::connection::{Complaints, Connection};
 use crate::given::Given;
+use load_client::{Complaints, Connection};
 use std::alloc::Global;
 use std::io;
 use std::time::Duration;
@@ -53,6 +53,18 @@ impl Figures {
         }
     }
 
+    /// How much went wrong.
+    pub fn flaws(&self) -> u64 {
+        let of_messages = self
+            .lost
+            .saturating_add(self.doubled)
+            .saturating_add(self.disordered);
+        let of_servers = self.closed.saturating_add(self.complaints.count);
+        of_messages
+            .saturating_add(self.strange)
+            .saturating_add(of_servers)
+    }
+
     /// Keeps a connection, and adds what its server has told it.
     pub fn keep(&mut self, connection: Connection) -> io::Result<()> {
         let told = &connection.complaints;
@@ -66,7 +78,7 @@ impl Figures {
 }
 
 /// How many of so many there are a second.
-fn rate(count: u64, time: Duration) -> u128 {
+pub fn rate(count: u64, time: Duration) -> u128 {
     u128::saturating_mul(count as u128, SECOND)
         .checked_div(time.as_nanos())
         .unwrap_or(0)
@@ -118,20 +130,29 @@ fn numbers(size: u64, figures: &Figures) -> [(&'static str, u128); 14] {
     ]
 }
 
-/// Tells the figures in one line of JSON.
+/// Tells these numbers, each with its name, behind what was told on the line.
+pub fn tell_numbers<R: Print>(rt: &R, numbers: &[(&'static str, u128)]) -> io::Result<()> {
+    for (name, number) in numbers {
+        print!(rt; ", \"{name}\": {number}")?;
+    }
+    Ok(())
+}
+
+/// Tells the figures in one line of JSON: true, since nothing is looked for that must not be.
 pub fn tell<R: Print + Alloc<A = Global>>(
     rt: &R,
     given: &Given,
-    figures: &mut Figures,
-) -> io::Result<()> {
-    let trips = trips_text(rt.alloc(), &mut figures.trips)?;
-    let refusal = complaint_text(&figures.complaints);
+    figures: Figures,
+) -> io::Result<bool> {
+    let mut figures = figures;
     print!(rt;
         "{{\"case\": \"{}\", \"payload\": {}",
         given.name, given.size
     )?;
-    for (name, number) in numbers(given.size as u64, figures) {
-        print!(rt; ", \"{name}\": {number}")?;
-    }
-    println!(rt; ", \"refusal\": \"{refusal}\"{trips}}}")
+    let counted = numbers(given.size as u64, &figures);
+    tell_numbers(rt, &counted)?;
+    let trips = trips_text(rt.alloc(), &mut figures.trips)?;
+    let refusal = complaint_text(&figures.complaints);
+    println!(rt; ", \"refusal\": \"{refusal}\"{trips}}}")?;
+    Ok(true)
 }

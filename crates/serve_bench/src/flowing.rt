@@ -1,15 +1,14 @@
 //! Messages that flow from publishers to receivers.
 
-use crate::connection::Connection;
 use crate::figures::Figures;
 use crate::given::Given;
 use crate::holding::hold;
-use crate::meeting::introduce;
 use crate::plan::Flow;
 use crate::progress::Progress;
 use crate::publisher::Publisher;
 use crate::receiver::Receiver;
 use crate::tally::Tally;
+use load_client::{Connection, introduce};
 use std::alloc::Global;
 use std::net::{Net, TcpStream};
 use std::rt::Clock;
@@ -45,6 +44,20 @@ impl Part {
     }
 }
 
+/// The receiver at this place, with its subscriptions made.
+fn ready_receiver<R: Net<Stream = TcpStream>>(
+    rt: &R,
+    alloc: Global,
+    flow: &Flow,
+    given: &Given,
+    place: usize,
+) -> io::Result<Receiver> {
+    let connection = Connection::new(rt, alloc, given.ports[place % 3])?;
+    let mut receiver = Receiver::new(alloc, connection, flow, given, place)?;
+    receiver.subscribe(alloc, flow, place)?;
+    Ok(receiver)
+}
+
 /// The receivers, with their subscriptions made.
 fn receivers<R: Net<Stream = TcpStream>>(
     rt: &R,
@@ -54,12 +67,39 @@ fn receivers<R: Net<Stream = TcpStream>>(
 ) -> io::Result<Vec<Receiver>> {
     let mut all = Vec::new(alloc);
     for place in 0..flow.receivers {
-        let connection = Connection::new(rt, alloc, given.ports[place % 3])?;
-        let mut receiver = Receiver::new(alloc, connection, flow, given, place)?;
-        receiver.subscribe(alloc, flow, place)?;
-        all.push(receiver)?;
+        all.push(ready_receiver(rt, alloc, flow, given, place)?)?;
     }
     Ok(all)
+}
+
+/// Waits until what the publisher publishes comes to each receiver.
+fn introduce_all<R: Clock>(
+    rt: &R,
+    publisher: &mut Publisher,
+    receivers: &mut [Receiver],
+) -> io::Result<()> {
+    for receiver in receivers.iter_mut() {
+        introduce(rt, &mut publisher.connection, &mut receiver.connection)?;
+    }
+    Ok(())
+}
+
+/// The publisher at this place. The messages of the first one find their way to the receivers, so that those of others
+/// at the same server do.
+fn ready_publisher<R: Net<Stream = TcpStream> + Clock>(
+    rt: &R,
+    alloc: Global,
+    flow: &Flow,
+    given: &Given,
+    receivers: &mut [Receiver],
+    place: usize,
+) -> io::Result<Publisher> {
+    let connection = Connection::new(rt, alloc, given.ports[0])?;
+    let mut publisher = Publisher::new(alloc, connection, flow, given, place)?;
+    if place == 0 {
+        introduce_all(rt, &mut publisher, receivers)?;
+    }
+    Ok(publisher)
 }
 
 /// The publishers, whose messages find their way to the receivers.
@@ -72,16 +112,37 @@ fn publishers<R: Net<Stream = TcpStream> + Clock>(
 ) -> io::Result<Vec<Publisher>> {
     let mut all = Vec::new(alloc);
     for place in 0..flow.publishers {
-        let connection = Connection::new(rt, alloc, given.ports[0])?;
-        let mut publisher = Publisher::new(alloc, connection, flow, given, place)?;
-        if place == 0 {
-            for receiver in receivers.iter_mut() {
-                introduce(rt, &mut publisher.connection, &mut receiver.connection)?;
-            }
-        }
-        all.push(publisher)?;
+        all.push(ready_publisher(rt, alloc, flow, given, receivers, place)?)?;
     }
     Ok(all)
+}
+
+/// All threads, the receivers' before those of the publishers.
+fn parts(
+    alloc: Global,
+    receivers: Vec<Receiver>,
+    publishers: Vec<Publisher>,
+) -> io::Result<Vec<Part>> {
+    let mut parts = Vec::new(alloc);
+    for receiver in receivers {
+        parts.push(Part::Receive(receiver))?;
+    }
+    for publisher in publishers {
+        parts.push(Part::Publish(publisher))?;
+    }
+    Ok(parts)
+}
+
+/// All threads, with what they need.
+fn ready_parts<R: Net<Stream = TcpStream> + Clock>(
+    rt: &R,
+    alloc: Global,
+    flow: &Flow,
+    given: &Given,
+) -> io::Result<Vec<Part>> {
+    let mut receivers = receivers(rt, alloc, flow, given)?;
+    let publishers = publishers(rt, alloc, flow, given, &mut receivers)?;
+    parts(alloc, receivers, publishers)
 }
 
 /// The figures of a run, and the tally of all receivers where they are one set.
@@ -144,22 +205,6 @@ impl Sum {
     }
 }
 
-/// All threads, the receivers' before those of the publishers.
-fn parts(
-    alloc: Global,
-    receivers: Vec<Receiver>,
-    publishers: Vec<Publisher>,
-) -> io::Result<Vec<Part>> {
-    let mut parts = Vec::new(alloc);
-    for receiver in receivers {
-        parts.push(Part::Receive(receiver))?;
-    }
-    for publisher in publishers {
-        parts.push(Part::Publish(publisher))?;
-    }
-    Ok(parts)
-}
-
 /// The figures of all threads, but for what was lost.
 fn sum_of(
     alloc: Global,
@@ -182,20 +227,28 @@ fn sum_of(
     Ok(figures)
 }
 
+/// Runs all threads to their end: their figures, but for what was lost.
+fn figures_of<R: Clock + Threads + Wait + Sync>(
+    rt: &R,
+    alloc: Global,
+    flow: &Flow,
+    parts: Vec<Part>,
+    progress: &Progress,
+) -> io::Result<Figures> {
+    let start = Instant::now(rt)?;
+    let ran = thread::map_vec(rt, parts, &|part: Part| part.run(rt, progress))?;
+    sum_of(alloc, flow, ran, start)
+}
+
 /// Runs a case in which messages flow.
 pub fn run_flow<R>(rt: &R, alloc: Global, flow: &Flow, given: &Given) -> io::Result<Figures>
 where
     R: Net<Stream = TcpStream> + Clock + Print + Input + Threads + Wait + Sync,
 {
-    let mut receivers = receivers(rt, alloc, flow, given)?;
-    let publishers = publishers(rt, alloc, flow, given, &mut receivers)?;
-    let parts = parts(alloc, receivers, publishers)?;
     let progress = Progress::new(alloc, flow.groups(), flow.publishers)?;
+    let parts = ready_parts(rt, alloc, flow, given)?;
     hold(rt, given)?;
-    let start = Instant::now(rt)?;
-    let shared = &progress;
-    let ran = thread::map_vec(rt, parts, &|part: Part| part.run(rt, shared))?;
-    let mut figures = sum_of(alloc, flow, ran, start)?;
+    let mut figures = figures_of(rt, alloc, flow, parts, &progress)?;
     let wanted = figures.sent.saturating_mul(flow.groups() as u64);
     figures.lost = wanted.saturating_sub(figures.delivered);
     Ok(figures)

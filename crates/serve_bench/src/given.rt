@@ -18,4 +18,8 @@ pub struct Given<'a> {
     pub window: u64,
     /// Whether a line is waited for before anything is sent.
     pub held: bool,
+    /// How many seconds a storm lasts, what its clients draw from, and how many there are.
+    pub seconds: u64,
+    pub seed: u64,
+    pub clients: usize,
 }

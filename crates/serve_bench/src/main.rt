@@ -1,32 +1,31 @@
 //! Loads servers that speak the client protocol of NATS: `serve_bench CASE --port PORT` makes publishers and
 //! subscribers, each with a connection and a thread of its own, and tells in one line of JSON how fast messages came
-//! and which of them were lost, doubled or out of order.
+//! and which of them were lost, doubled or out of order. `serve_bench storm` has clients that come and go, flood and
+//! stall, and judges each message that comes to one of them; its status is 1 where a server did what it must not do.
 //!
 //! ```text
 //! serve_bench one-to-eight --port 4222
+//! serve_bench storm --port 4222 --second 4223 --third 4224 --seconds 600
 //! ```
 //!
-//! In reading order: `command` and `given` are what is asked for, and `plan` the cases; `connection` is a client's, which reads (`window`,
-//! `frames`) and writes (`batch`). In `flowing` go messages from each `publisher` to each `receiver`, who wait for one another (`meeting`,
-//! `holding`, `progress`) and count (`tally`); in `trips` requests and replies. `figures` tells what came of it.
+//! In reading order: `command` and `given` are what is asked for, and `plan` the cases. In `flowing` go messages from each `publisher`, who
+//! writes a `batch` at once, to each `receiver`; they wait for one another (`holding`, `progress`) and count (`tally`). In `trips` go requests
+//! and replies. `figures` tells what came of it, and `stormy` what came of a storm.
 #![tactic(auto)]
 
 mod batch;
 mod command;
-mod connection;
 mod figures;
 mod flowing;
-mod frames;
 mod given;
 mod holding;
-mod meeting;
 mod plan;
 mod progress;
 mod publisher;
 mod receiver;
+mod stormy;
 mod tally;
 mod trips;
-mod window;
 
 use command::given_of;
 use command_line::{tell_line, words};
@@ -36,29 +35,37 @@ use given::Given;
 use plan::Case;
 use std::alloc::Global;
 use std::io;
-use std::net::{Net, TcpStream};
+use std::net::{Net, TcpListener, TcpStream};
 use std::process::ExitCode;
 use std::rt::Clock;
 use std::sync::Wait;
 use std::thread::Threads;
+use stormy::run_storm;
 use trips::run_trips;
 
-/// Runs the case, and tells its figures.
-fn measure<R>(rt: &R, given: &Given) -> io::Result<()>
+/// Runs the case, and tells its figures. Whether nothing was found that must not be, where anything is looked for.
+fn measure<R>(rt: &R, given: &Given) -> io::Result<bool>
 where
-    R: Net<Stream = TcpStream> + Clock + Print + Input + Alloc<A = Global> + Threads + Wait + Sync,
+    R: Net<Listener = TcpListener, Stream = TcpStream>
+        + Clock
+        + Print
+        + Input
+        + Alloc<A = Global>
+        + Threads
+        + Wait
+        + Sync,
 {
-    let mut figures = match given.case {
-        Case::Flow(flow) => run_flow(rt, rt.alloc(), &flow, given)?,
-        Case::RoundTrips => run_trips(rt, rt.alloc(), given)?,
-    };
-    tell(rt, given, &mut figures)
+    match given.case {
+        Case::Flow(flow) => tell(rt, given, run_flow(rt, rt.alloc(), &flow, given)?),
+        Case::RoundTrips => tell(rt, given, run_trips(rt, rt.alloc(), given)?),
+        Case::Storm => run_storm(rt, rt.alloc(), given),
+    }
 }
 
 /// Does what the command line asks for. Gives the exit status.
 fn run<R>(rt: &R, words: &[String]) -> u8
 where
-    R: Net<Stream = TcpStream>
+    R: Net<Listener = TcpListener, Stream = TcpStream>
         + Clock
         + Print
         + Eprint
@@ -70,7 +77,8 @@ where
 {
     match given_of(rt.alloc(), words) {
         Ok(given) => match measure(rt, &given) {
-            Ok(()) => 0,
+            Ok(true) => 0,
+            Ok(false) => 1,
             Err(error) => {
                 let _ = eprintln!(rt; "serve_bench: {error}");
                 1

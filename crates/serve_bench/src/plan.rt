@@ -28,6 +28,8 @@ pub enum Case {
     Flow(Flow),
     /// How long a reply takes. It comes from the second server, which may be the first.
     RoundTrips,
+    /// What servers do whose clients come and go, flood and stall: nothing is measured, each message is judged.
+    Storm,
 }
 
 /// How many subscriptions there are where there are many, and on how many connections they are.
@@ -41,7 +43,7 @@ const SUBSCRIPTIONS_EACH: usize = 15_000;
 const HOT: u64 = 16;
 
 /// The names of the cases.
-pub const NAMES: [&str; 10] = [
+pub const NAMES: [&str; 11] = [
     "publish",
     "one-to-one",
     "one-to-eight",
@@ -52,6 +54,7 @@ pub const NAMES: [&str; 10] = [
     "hot-subjects",
     "mesh-queue-group",
     "mesh-requests",
+    "storm",
 ];
 
 /// A case in which each receiver wants every message.
@@ -96,6 +99,7 @@ pub fn case_of(name: &str) -> Option<Case> {
         "random-subjects" => Some(many(MANY)),
         "hot-subjects" => Some(many(HOT)),
         "requests" | "mesh-requests" => Some(Case::RoundTrips),
+        "storm" => Some(Case::Storm),
         _ => None,
     }
 }

@@ -1,10 +1,10 @@
 //! A publisher.
 
 use crate::batch::{Batch, SUBJECT, batch_of, window_of};
-use crate::connection::Connection;
 use crate::given::Given;
 use crate::plan::Flow;
 use crate::progress::Progress;
+use load_client::Connection;
 use std::alloc::Global;
 use std::io;
 use std::rt::Clock;

@@ -1,11 +1,11 @@
 //! A receiver.
 
 use crate::batch::SUBJECT;
-use crate::connection::{Brought, Connection};
 use crate::given::Given;
 use crate::plan::{Flow, Wants};
 use crate::progress::Progress;
 use crate::tally::Tally;
+use load_client::{Brought, Connection};
 use std::alloc::Global;
 use std::io;
 use std::rt::Clock;
@@ -43,6 +43,19 @@ fn line_of(alloc: Global, flow: &Flow, receiver: usize, number: usize) -> io::Re
     Ok(line)
 }
 
+/// Puts the line of one subscription of a receiver behind these lines.
+fn put_line(
+    lines: &mut Vec<u8>,
+    alloc: Global,
+    flow: &Flow,
+    receiver: usize,
+    number: usize,
+) -> io::Result<()> {
+    let line = line_of(alloc, flow, receiver, number)?;
+    lines.extend_from_slice(line.as_bytes())?;
+    Ok(())
+}
+
 impl Receiver {
     /// The receiver of this place, on its connection.
     pub fn new(
@@ -66,8 +79,7 @@ impl Receiver {
     pub fn subscribe(&mut self, alloc: Global, flow: &Flow, place: usize) -> io::Result<()> {
         let mut lines: Vec<u8> = Vec::new(alloc);
         for number in 0..flow.subscriptions() {
-            let line = line_of(alloc, flow, place, number + 1)?;
-            lines.extend_from_slice(line.as_bytes())?;
+            put_line(&mut lines, alloc, flow, place, number + 1)?;
             if lines.len() >= WRITE_BYTES {
                 self.connection.send(&lines)?;
                 lines.clear();

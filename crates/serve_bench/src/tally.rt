@@ -1,7 +1,6 @@
 //! Which messages have come to a connection.
 
-use crate::connection::Listener;
-use crate::frames::Message;
+use load_client::{Listener, Message};
 use std::alloc::{AllocError, Global};
 use std::io;
 

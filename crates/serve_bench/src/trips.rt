@@ -1,14 +1,12 @@
 //! Requests, and how long their replies take.
 
 use crate::batch::Batch;
-use crate::connection::{Brought, Connection, Listener};
 use crate::figures::Figures;
-use crate::frames::Message;
 use crate::given::Given;
 use crate::holding::hold;
-use crate::meeting::introduce;
 use crate::progress::Progress;
 use crate::tally::Tally;
+use load_client::{Brought, Connection, Listener, Message, introduce};
 use std::alloc::Global;
 use std::net::{Net, TcpStream};
 use std::rt::Clock;
@@ -165,38 +163,71 @@ impl Part {
     }
 }
 
-/// One who asks at the first server and one who answers at the second, who hear each other.
-fn both<R: Net<Stream = TcpStream> + Clock>(
+/// A connection with this subscription, made.
+fn subscriber<R: Net<Stream = TcpStream>>(
     rt: &R,
     alloc: Global,
-    given: &Given,
-) -> io::Result<(Asker, Answerer)> {
-    let mut connection = Connection::new(rt, alloc, given.ports[0])?;
-    let mut answers = Connection::new(rt, alloc, given.ports[1])?;
-    connection.send(b"SUB _INBOX.bench.* 1\r\n")?;
-    answers.send(b"SUB bench.service 1\r\n")?;
-    introduce(rt, &mut connection, &mut answers)?;
-    introduce(rt, &mut answers, &mut connection)?;
-    let asker = Asker {
+    port: u16,
+    line: &[u8],
+) -> io::Result<Connection> {
+    let connection = Connection::new(rt, alloc, port)?;
+    connection.send(line)?;
+    Ok(connection)
+}
+
+/// One who asks, on this connection.
+fn asker_on(alloc: Global, connection: Connection, given: &Given) -> io::Result<Asker> {
+    let tally = Tally::new(alloc, 1, 1, given.messages)?;
+    let request = Batch::new(alloc, REQUEST, 0, given.size, 1, 1)?;
+    Ok(Asker {
         connection,
-        request: Batch::new(alloc, REQUEST, 0, given.size, 1, 1)?,
-        tally: Tally::new(alloc, 1, 1, given.messages)?,
+        request,
+        tally,
         trips: Vec::new(alloc),
         sent: 0,
         time: Duration::ZERO,
-    };
-    let answerer = Answerer {
-        connection: answers,
+    })
+}
+
+/// One who answers, on this connection.
+fn answerer_on(alloc: Global, connection: Connection) -> Answerer {
+    Answerer {
+        connection,
         replies: Replies {
             alloc,
             bytes: Vec::new(alloc),
         },
         closed: false,
-    };
-    Ok((asker, answerer))
+    }
 }
 
-/// The figures of what was asked.
+/// The connections of one who asks at the first server and of one who answers at the second, who hear each other.
+fn both<R: Net<Stream = TcpStream> + Clock>(
+    rt: &R,
+    alloc: Global,
+    given: &Given,
+) -> io::Result<(Connection, Connection)> {
+    let mut asks = subscriber(rt, alloc, given.ports[0], b"SUB _INBOX.bench.* 1\r\n")?;
+    let mut answers = subscriber(rt, alloc, given.ports[1], b"SUB bench.service 1\r\n")?;
+    introduce(rt, &mut asks, &mut answers)?;
+    introduce(rt, &mut answers, &mut asks)?;
+    Ok((asks, answers))
+}
+
+/// One who asks and one who answers.
+fn parts<R: Net<Stream = TcpStream> + Clock>(
+    rt: &R,
+    alloc: Global,
+    given: &Given,
+) -> io::Result<Vec<Part>> {
+    let (asks, answers) = both(rt, alloc, given)?;
+    let mut parts = Vec::new(alloc);
+    parts.push(Part::Answer(answerer_on(alloc, answers)))?;
+    parts.push(Part::Ask(asker_on(alloc, asks, given)?))?;
+    Ok(parts)
+}
+
+/// Adds what was asked.
 fn add_asker(figures: &mut Figures, asker: Asker) -> io::Result<()> {
     figures.sent = asker.sent;
     figures.delivered = asker.tally.arrived;
@@ -210,29 +241,34 @@ fn add_asker(figures: &mut Figures, asker: Asker) -> io::Result<()> {
     figures.keep(asker.connection)
 }
 
+/// Adds what was answered.
+fn add_answerer(figures: &mut Figures, answerer: Answerer) -> io::Result<()> {
+    figures.closed = answerer.closed as u64;
+    figures.keep(answerer.connection)
+}
+
+/// The figures of both.
+fn sum_of(alloc: Global, ran: Vec<io::Result<Part>>) -> io::Result<Figures> {
+    let mut figures = Figures::new(alloc);
+    for part in ran {
+        match part? {
+            Part::Ask(asker) => add_asker(&mut figures, asker)?,
+            Part::Answer(answerer) => add_answerer(&mut figures, answerer)?,
+        }
+    }
+    Ok(figures)
+}
+
 /// Runs a case of requests.
 pub fn run_trips<R>(rt: &R, alloc: Global, given: &Given) -> io::Result<Figures>
 where
     R: Net<Stream = TcpStream> + Clock + Print + Input + Threads + Sync,
 {
-    let (asker, answerer) = both(rt, alloc, given)?;
-    let mut parts = Vec::new(alloc);
-    parts.push(Part::Answer(answerer))?;
-    parts.push(Part::Ask(asker))?;
     let progress = Progress::new(alloc, 0, 1)?;
+    let parts = parts(rt, alloc, given)?;
     hold(rt, given)?;
     let shared = &progress;
     let requests = given.messages;
     let ran = thread::map_vec(rt, parts, &|part: Part| part.run(rt, shared, requests))?;
-    let mut figures = Figures::new(alloc);
-    for part in ran {
-        match part? {
-            Part::Ask(asker) => add_asker(&mut figures, asker)?,
-            Part::Answer(answerer) => {
-                figures.closed = answerer.closed as u64;
-                figures.keep(answerer.connection)?;
-            }
-        }
-    }
-    Ok(figures)
+    sum_of(alloc, ran)
 }

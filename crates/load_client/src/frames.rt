@@ -1,7 +1,6 @@
 //! What a server sends.
 
 use memchr::memchr;
-use thiserror::Error;
 
 /// The most digits that the number of a subscription or the size of a payload has here.
 const DIGITS: usize = 9;
@@ -9,6 +8,8 @@ const DIGITS: usize = 9;
 /// A message of a subscription.
 #[derive(Clone, Copy)]
 pub struct Message<'a> {
+    pub subject: &'a [u8],
+    /// The number that the client has given the subscription.
     pub subscription: usize,
     /// Where a reply to it goes; empty where none is wanted.
     pub reply: &'a [u8],
@@ -30,13 +31,11 @@ pub enum Frame<'a> {
 }
 
 /// Why there is no next frame.
-#[derive(Clone, Copy, Debug, Error)]
+#[derive(Clone, Copy)]
 pub enum Stop {
     /// More bytes are needed.
-    #[error("more bytes are needed")]
     Unfinished,
     /// These bytes are no frame.
-    #[error("these bytes are no frame")]
     Malformed,
 }
 
@@ -81,9 +80,9 @@ fn word_of(line: &[u8]) -> (&[u8], &[u8]) {
     }
 }
 
-/// The numbers of the subscription and of the payload's bytes in a message's line, and where a reply goes.
-fn head_of(line: &[u8]) -> Option<(usize, &[u8], usize)> {
-    let (_subject, line) = word_of(line);
+/// The message of this line, which has no payload yet, and how many bytes that has.
+fn head_of(line: &[u8]) -> Option<(Message<'_>, usize)> {
+    let (subject, line) = word_of(line);
     let (subscription, line) = word_of(line);
     let (third, fourth) = word_of(line);
     let (reply, size) = if fourth.is_empty() {
@@ -91,20 +90,27 @@ fn head_of(line: &[u8]) -> Option<(usize, &[u8], usize)> {
     } else {
         (third, fourth)
     };
-    Some((number_of(subscription)?, reply, number_of(size)?))
+    let head = Message {
+        subject,
+        subscription: number_of(subscription)?,
+        reply,
+        payload: b"",
+    };
+    Some((head, number_of(size)?))
 }
 
 /// The message of this line, with the payload that follows, and what is behind it.
 fn message_of<'a>(line: &'a [u8], rest: &'a [u8]) -> Result<(Frame<'a>, &'a [u8]), Stop> {
-    let Some((subscription, reply, size)) = head_of(line) else {
+    let Some((head, size)) = head_of(line) else {
         return Err(Stop::Malformed);
     };
     let Some((payload, rest)) = rest.split_at_checked(size) else {
         return Err(Stop::Unfinished);
     };
     let message = Frame::Message(Message {
-        subscription,
-        reply,
+        subject: head.subject,
+        subscription: head.subscription,
+        reply: head.reply,
         payload,
     });
     match rest {

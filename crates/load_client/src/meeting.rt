@@ -29,7 +29,8 @@ fn call<R: Clock>(rt: &R, from: &mut Connection, to: &mut Connection) -> io::Res
     Err(io::ErrorKind::TimedOut.into())
 }
 
-/// Waits until what the one publishes comes to the other.
+/// Waits until what the one publishes comes to the other. The kind of the error is `TimedOut` where it does not come
+/// in 2,000 calls, of some 5 milliseconds each; else it is that of [`Connection::settle`].
 pub fn introduce<R: Clock>(rt: &R, from: &mut Connection, to: &mut Connection) -> io::Result<()> {
     to.send(LISTEN)?;
     let _none = to.settle()?;

@@ -1,0 +1,160 @@
+"""Builds the programs that are measured, starts servers, and tells what these take."""
+import os
+import random
+import socket
+import subprocess
+import sys
+import time
+
+TOP = os.path.dirname(os.path.dirname(os.path.abspath(__file__)))
+
+# How long servers may take to start, in seconds.
+START_PATIENCE = 20
+
+# How long servers have to close what their clients have left, in seconds: longer than their own deadlines.
+CLOSING_PATIENCE = 20
+
+TICKS = os.sysconf("SC_CLK_TCK")
+
+
+class Failed(Exception):
+    """A run that gave no figures."""
+
+
+def is_stale(path):
+    """Whether a program is missing, or older than a source."""
+    if not os.path.exists(path):
+        return True
+    made = os.path.getmtime(path)
+    for folder, folders, names in os.walk(os.path.join(TOP, "crates")):
+        folders[:] = [name for name in folders if name != "out"]
+        if any(os.path.getmtime(os.path.join(folder, name)) > made for name in names):
+            return True
+    return os.path.getmtime(os.path.join(TOP, "crates.txt")) > made
+
+
+def built(name, is_proved=True):
+    """The program of this name, which is built first where it is missing or older than its sources: the proved one, or one of the same
+    sources that nobody has proved here."""
+    path = os.path.join(TOP, "crates", name, "out", name) if is_proved else os.path.join(TOP, ".unproved", name)
+    if is_stale(path):
+        tool = "build.py" if is_proved else "unproved.py"
+        subprocess.run([sys.executable, os.path.join(TOP, "tools", tool), name], stdin=subprocess.DEVNULL, stdout=sys.stderr, check=True)
+        os.utime(path)
+    return path
+
+
+def is_free(port):
+    with socket.socket() as probe:
+        try:
+            probe.bind(("127.0.0.1", port))
+        except OSError:
+            return False
+    return True
+
+
+def free_ports(count):
+    """The first of so many free ports in a row, below those that the system gives away itself."""
+    while True:
+        first = random.randrange(15_000, 30_000)
+        if all(is_free(first + place) for place in range(count)):
+            return first
+
+
+def wait_for_port(port):
+    deadline = time.monotonic() + START_PATIENCE
+    while time.monotonic() < deadline:
+        try:
+            socket.create_connection(("127.0.0.1", port)).close()
+            return
+        except OSError:
+            time.sleep(0.02)
+    raise Failed("nothing listens")
+
+
+class Servers:
+    """So many servers of one kind, which run."""
+
+    def __init__(self, commands, ports):
+        self.ports = ports
+        self.processes = [
+            subprocess.Popen(command, stdin=subprocess.DEVNULL, stdout=subprocess.DEVNULL, stderr=subprocess.DEVNULL)
+            for command in commands]
+
+    def __enter__(self):
+        try:
+            for port in self.ports:
+                wait_for_port(port)
+        except Failed:
+            self.stop()
+            raise
+        return self
+
+    def __exit__(self, *_error):
+        self.stop()
+
+    def stop(self):
+        for process in self.processes:
+            process.kill()
+            process.wait()
+
+    def have_ended(self):
+        """Whether one of them runs no longer."""
+        return any(process.poll() is not None for process in self.processes)
+
+    def processor_seconds(self):
+        """The time that the processors have worked for them."""
+        seconds = 0
+        for process in self.processes:
+            with open("/proc/%d/stat" % process.pid, encoding="utf-8") as file:
+                fields = file.read().rpartition(")")[2].split()
+            seconds += (int(fields[11]) + int(fields[12])) / TICKS
+        return seconds
+
+    def kilobytes(self, name):
+        """What the system tells of their memory under this name, in all."""
+        kilobytes = 0
+        for process in self.processes:
+            with open("/proc/%d/status" % process.pid, encoding="utf-8") as lines:
+                kilobytes += sum(int(line.split()[1]) for line in lines if line.startswith(name + ":"))
+        return kilobytes
+
+    def peak_kilobytes(self):
+        return self.kilobytes("VmHWM")
+
+    def resident_kilobytes(self):
+        return self.kilobytes("VmRSS")
+
+    def descriptors(self):
+        return sum(len(os.listdir("/proc/%d/fd" % process.pid)) for process in self.processes)
+
+    def descriptors_left(self, before):
+        """How many more descriptors they have than before, once they have had the time to close what their clients have left."""
+        deadline = time.monotonic() + CLOSING_PATIENCE
+        while self.descriptors() > before and time.monotonic() < deadline:
+            time.sleep(0.1)
+        return self.descriptors() - before
+
+
+def nats_mesh(program, count):
+    """So many servers of nats_mesh, in one process."""
+    first = free_ports(2 * count)
+    return Servers([[program, "serve", "--nodes", str(count), "--port", str(first)]], [first + place for place in range(count)])
+
+
+def nats_server(count):
+    """So many servers of nats-server, each a process."""
+    first = free_ports(2 * count)
+    routes = ["nats://127.0.0.1:%d" % (first + count + place) for place in range(count)]
+    commands = []
+    for place in range(count):
+        command = ["nats-server", "-a", "127.0.0.1", "-p", str(first + place)]
+        if count > 1:
+            command += ["--cluster_name", "bench", "--cluster", routes[place], "--routes", ",".join(routes)]
+        commands.append(command)
+    return Servers(commands, [first + place for place in range(count)])
+
+
+def port_words(ports):
+    """What a command line of serve_bench says of where clients come to."""
+    return [word for option, port in zip(["--port", "--second", "--third"], ports) for word in (option, str(port))]
