@@ -1,5 +1,6 @@
 //! Why a mesh is not served.
 
+use event_log::StartFault;
 use std::alloc::{AllocError, AllocFailed};
 use std::error::Error;
 use std::fmt::{Display, Formatter, Write};
@@ -14,6 +15,8 @@ pub enum ServeFault {
     Failed(io::Error),
     /// The servers would be no cluster.
     NoCluster,
+    /// No thread was to be had for what standard error is told.
+    NoLog,
     /// No thread was to be had for the server of this number, from 1.
     NoThread { server: u64 },
     /// The server of this number, from 1, could not go on: a socket, the clock or its memory failed.
@@ -30,6 +33,7 @@ impl Display for ServeFault {
             }
             ServeFault::Failed(error) => write!(f, "{error}"),
             ServeFault::NoCluster => f.write_str("the servers are no cluster"),
+            ServeFault::NoLog => f.write_str("no thread for what standard error is told"),
             ServeFault::NoThread { server } => write!(f, "n{server} cannot run: no thread for it"),
             ServeFault::Stopped { server, error } => write!(f, "n{server} cannot go on: {error}"),
             ServeFault::OutOfMemory => f.write_str("out of memory"),
@@ -48,6 +52,15 @@ impl From<AllocError> for ServeFault {
 impl<T: Drop> From<AllocFailed<T>> for ServeFault {
     fn from(_: AllocFailed<T>) -> ServeFault {
         ServeFault::OutOfMemory
+    }
+}
+
+impl From<StartFault> for ServeFault {
+    fn from(fault: StartFault) -> ServeFault {
+        match fault {
+            StartFault::NoThread => ServeFault::NoLog,
+            StartFault::OutOfMemory => ServeFault::OutOfMemory,
+        }
     }
 }
 

@@ -1,7 +1,7 @@
 //! A mesh of servers in one process: [`serve`] runs it as its options say.
 //!
 //! ```text
-//! let given = Given { nodes: 3, port: 4222, shards: 2, inc: 1, word: 0, stop_after: None };
+//! let given = Given { nodes: 3, port: 4222, shards: 2, inc: 1, word: 0, stop_after: None, log_level: "info" };
 //! let options = Options::new(given)?;
 //! serve(rt, rt.alloc(), &options)?;
 //! ```

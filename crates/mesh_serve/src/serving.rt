@@ -4,10 +4,12 @@ ghost use Rattle.std.specs.Prelude.{◌≡◌, ◌<◌};
 ghost use Rattle.router_command.specs.Ranges.{AreWithin};
 
 use crate::faults::ServeFault;
+use event_log::EventLog;
 use mio::net::TcpListener;
 use mio::{Poll, Waker};
 use node_net::{Company, Server as Connections, Sockets, WAKER};
 use router_command::Options;
+use server_events::{Event, SystemCause};
 use std::alloc::Global;
 use std::marker::Brand;
 use std::net::{Ipv4Addr, Net, SocketAddr, TcpListener as Listener, TcpStream as Stream};
@@ -114,6 +116,8 @@ struct Mesh<'a> {
     company: &'a Company,
     /// Why all of them stop, where one could not go on: the first cause.
     cause: &'a OnceLock<ServeFault>,
+    /// What tells of them.
+    log: &'a EventLog,
 }
 
 impl Mesh<'_> {
@@ -121,6 +125,19 @@ impl Mesh<'_> {
     fn stop<R: Wait>(&self, rt: &R, cause: ServeFault) {
         let _ = self.cause.set(rt, cause);
         self.company.fail();
+    }
+
+    /// The server of this name and number could not go on: all of them stop.
+    fn fail<R: Wait + Clock>(&self, rt: &R, name: NodeId, number: u64, error: io::Error) {
+        let cause = SystemCause::of(&error);
+        self.log.tell(rt, name, Event::Failed { cause });
+        self.stop(
+            rt,
+            ServeFault::Stopped {
+                server: number,
+                error,
+            },
+        );
     }
 }
 
@@ -142,7 +159,7 @@ fn run_named<N: NodeName, R: Wait + Net<Listener = Listener, Stream = Stream> + 
     } = station;
     let node: ThreadNode<TrieTable, N> = ThreadNode::start(alloc, parts)?;
     let mut connections = Connections::new(alloc, &node, life, port, word)?;
-    connections.run(rt, sockets, mesh.addresses, mesh.company)
+    connections.run(rt, sockets, mesh.addresses, mesh.company, mesh.log)
 }
 
 /// Runs a server.
@@ -165,14 +182,10 @@ fn work<R: Wait + Net<Listener = Listener, Stream = Stream> + Clock>(
     station: Station,
     mesh: Mesh<'_>,
 ) {
-    if let Err(error) = run_station(rt, alloc, station, mesh) {
-        mesh.stop(
-            rt,
-            ServeFault::Stopped {
-                server: number,
-                error,
-            },
-        );
+    let name = station.life.name();
+    match run_station(rt, alloc, station, mesh) {
+        Ok(()) => mesh.log.tell(rt, name, Event::Stopped),
+        Err(error) => mesh.fail(rt, name, number, error),
     }
 }
 
@@ -183,12 +196,14 @@ fn run_all<'m, R: Threads + Wait + Net<Listener = Listener, Stream = Stream> + C
     stations: Vec<Station>,
     addresses: &'m [SocketAddr],
     company: &'m Company,
+    log: &'m EventLog,
 ) -> Result<(), ServeFault> {
     let cause = OnceLock::new();
     let mesh = Mesh {
         addresses,
         company,
         cause: &cause,
+        log,
     };
     thread::scope(thread::scope_env(), rt, |scope| {
         let mut number = 0u64;
@@ -223,17 +238,69 @@ fn tell<R: Print>(rt: &R, options: &Options) -> io::Result<()>
     Ok(())
 }
 
-/// Serves the mesh that the options tell of, each server in a thread of its own. When all sockets are bound, a
-/// line for each server is on standard output. It ends where the options say so: never, or once so many
-/// clients have come and all of them have gone.
-///
-/// A port that is not to be had is told by its number, and of a server that cannot go on its number and the
-/// cause; the others stop then too. Required: options as [`Options::new`] gives them. May wait, and for ever.
-pub fn serve<R: Threads + Wait + Net<Listener = Listener, Stream = Stream> + Clock + Print + Sync>(
+/// Tells the log at which ports each server listens.
+fn tell_log<R: Wait + Clock>(rt: &R, options: &Options, log: &EventLog)
+    requires { AreWithin options.now }
+{
+    for place in 0..options.nodes {
+        let listening = Event::Listening {
+            clients: options.client_port(place),
+            routes: options.route_port(place),
+        };
+        if let Ok(name) = name_of(place) {
+            log.tell(rt, name, listening);
+        }
+    }
+}
+
+/// Runs all servers, whose sockets are bound, and tells what happens at them on standard error.
+fn run_told<R>(
     rt: &R,
     alloc: Global,
     options: &Options,
+    stations: Vec<Station>,
+    addresses: &[SocketAddr],
+    company: &Company,
 ) -> Result<(), ServeFault>
+where
+    R: Threads
+        + Wait
+        + Net<Listener = Listener, Stream = Stream>
+        + Clock
+        + Print
+        + Eprint
+        + Copy
+        + Send
+        + Sync
+        + 'static,
+    requires { AreWithin options.now }
+{
+    let log = EventLog::start(rt, alloc, options.log_level)?;
+    tell(rt, options)?;
+    tell_log(rt, options, &log);
+    let ended = run_all(rt, alloc, stations, addresses, company, &log);
+    log.end(rt);
+    ended
+}
+
+/// Serves the mesh that the options tell of, each server in a thread of its own. When all sockets are bound, a
+/// line for each server is on standard output. It ends where the options say so: never, or once so many
+/// clients have come and all of them have gone. Standard error tells what happens meanwhile, as far as the options let it.
+///
+/// A port that is not to be had is told by its number, and of a server that cannot go on its number and the
+/// cause; the others stop then too. Required: options as [`Options::new`] gives them. May wait, and for ever.
+pub fn serve<R>(rt: &R, alloc: Global, options: &Options) -> Result<(), ServeFault>
+where
+    R: Threads
+        + Wait
+        + Net<Listener = Listener, Stream = Stream>
+        + Clock
+        + Print
+        + Eprint
+        + Copy
+        + Send
+        + Sync
+        + 'static,
     requires { AreWithin options.now }
 {
     let mut stations = Vec::new(alloc);
@@ -245,6 +312,5 @@ pub fn serve<R: Threads + Wait + Net<Listener = Listener, Stream = Stream> + Clo
     }
     let addresses = addresses(alloc, options)?;
     let company = Company::new(options.stop_after, wakers);
-    tell(rt, options)?;
-    run_all(rt, alloc, stations, &addresses, &company)
+    run_told(rt, alloc, options, stations, &addresses, &company)
 }

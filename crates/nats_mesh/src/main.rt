@@ -67,7 +67,7 @@ fn run_script<R: Input + Print + Eprint + Alloc<A = Global>>(rt: &R) -> u8 {
 }
 
 /// Serves a mesh.
-fn run_serve<R>(rt: &R, given: Given) -> u8
+fn run_serve<R>(rt: &R, given: Given<'_>) -> u8
 where
     R: Threads
         + Wait
@@ -76,7 +76,10 @@ where
         + Print
         + Eprint
         + Alloc<A = Global>
-        + Sync,
+        + Copy
+        + Send
+        + Sync
+        + 'static,
 {
     match Options::new(given) {
         Ok(options) => report(rt, serve(rt, rt.alloc(), &options)),
@@ -98,7 +101,10 @@ where
         + Print
         + Eprint
         + Alloc<A = Global>
-        + Sync,
+        + Copy
+        + Send
+        + Sync
+        + 'static,
 {
     match command_of(rt.alloc(), words) {
         Ok(Command::Pipe) => run_pipe(rt),

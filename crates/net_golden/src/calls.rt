@@ -1,6 +1,6 @@
-//! The calls of a case, one a line.
+//! The calls of a case, one a line, and what is told of one that was made.
 
-use golden::Words;
+use golden::{Words, text};
 use std::alloc::{AllocError, Global};
 
 /// A call: what it is made on, its name, and its arguments.
@@ -30,15 +30,29 @@ pub fn put_call(calls: &mut String, name: &str, words: &Words<'_>) -> Result<(),
     calls.push_str("\n")
 }
 
-/// These calls with the number in place of each `%`.
-pub fn numbered(alloc: Global, calls: &String, number: u64) -> Result<String, AllocError> {
-    let mut all = String::new(alloc);
+/// Puts a value in the place of another one: what is let go of here would be proved anew wherever this is done.
+pub fn put<T: Drop>(place: &mut T, value: T) {
+    *place = value;
+}
+
+/// The text with the number in place of each mark.
+pub fn numbered(alloc: Global, text: &str, mark: &str, number: u64) -> Result<String, AllocError> {
     let spelt = format!(in alloc; "{number}")?;
-    for (place, part) in calls.as_str().split('%').enumerate() {
-        if place > 0 {
-            all.push_str(spelt.as_str())?;
-        }
-        all.push_str(part)?;
-    }
-    Ok(all)
+    text.replace(alloc, mark, spelt.as_str())
+}
+
+/// What is told of a call: whether there is one of its name, which was made then.
+pub fn made_told(alloc: Global, is_made: bool) -> Result<String, AllocError> {
+    text(alloc, if is_made { "ok" } else { "no such call" })
+}
+
+/// What is told of a call on a connection: whether that is there.
+pub fn found_told(alloc: Global, is_there: bool) -> Result<String, AllocError> {
+    text(alloc, if is_there { "ok" } else { "no connection" })
+}
+
+/// What is told of a call that is always made.
+pub fn done_told(alloc: Global, done: Result<(), AllocError>) -> Result<String, AllocError> {
+    done?;
+    text(alloc, "ok")
 }

@@ -2,7 +2,7 @@
 
 use crate::table::{Known, MemServer, Table, known_mut, known_of};
 use golden::{Words, text};
-use node_threads::NodeName;
+use server_calls::ServerCalls;
 use std::alloc::AllocError;
 use std::sync::Wait;
 
@@ -11,10 +11,10 @@ const ROUNDS: usize = 12;
 
 /// What the one server has written to its connection, and did not come to the other one yet, comes to that one's connection; half of it, or
 /// all. Gives how much.
-fn pass_some<M: NodeName, N: NodeName>(
-    from: &MemServer<'_, M>,
+fn pass_some<C: ServerCalls, D: ServerCalls>(
+    from: &MemServer<C>,
     known: Known,
-    to: &mut MemServer<'_, N>,
+    to: &mut MemServer<D>,
     key: usize,
     is_half: bool,
 ) -> Option<usize> {
@@ -30,11 +30,11 @@ fn pass_some<M: NodeName, N: NodeName>(
 }
 
 /// The same of all of it, which is noted.
-fn pass<M: NodeName, N: NodeName>(
-    from: &MemServer<'_, M>,
+fn pass<C: ServerCalls, D: ServerCalls>(
+    from: &MemServer<C>,
     from_known: &mut [Known],
     number: u64,
-    to: &mut MemServer<'_, N>,
+    to: &mut MemServer<D>,
     key: usize,
 ) -> Option<()> {
     let known = known_mut(from_known, number)?;
@@ -62,9 +62,9 @@ fn route_of(table: &Table, first: u64, second: u64) -> Option<Route> {
 }
 
 /// What the first server has written comes to the second one.
-fn pass_there<M: NodeName, N: NodeName>(
-    first: &MemServer<'_, M>,
-    second: &mut MemServer<'_, N>,
+fn pass_there<C: ServerCalls, D: ServerCalls>(
+    first: &MemServer<C>,
+    second: &mut MemServer<D>,
     table: &mut Table,
     route: Route,
 ) -> Option<()> {
@@ -73,9 +73,9 @@ fn pass_there<M: NodeName, N: NodeName>(
 }
 
 /// What the second server has written comes to the first one.
-fn pass_back<M: NodeName, N: NodeName>(
-    first: &mut MemServer<'_, M>,
-    second: &MemServer<'_, N>,
+fn pass_back<C: ServerCalls, D: ServerCalls>(
+    first: &mut MemServer<C>,
+    second: &MemServer<D>,
     table: &mut Table,
     route: Route,
 ) -> Option<()> {
@@ -84,10 +84,10 @@ fn pass_back<M: NodeName, N: NodeName>(
 }
 
 /// Each server makes turns, and what it has written to the route comes to the other one.
-fn carry<M: NodeName, N: NodeName, R: Wait>(
+fn carry<C: ServerCalls, D: ServerCalls, R: Wait>(
     rt: &R,
-    first: &mut MemServer<'_, M>,
-    second: &mut MemServer<'_, N>,
+    first: &mut MemServer<C>,
+    second: &mut MemServer<D>,
     table: &mut Table,
     route: Route,
 ) -> Option<()> {
@@ -101,10 +101,10 @@ fn carry<M: NodeName, N: NodeName, R: Wait>(
 }
 
 /// Half of what the first server has written to the route comes to the other one, and then it breaks.
-fn cut<M: NodeName, N: NodeName, R: Wait>(
+fn cut<C: ServerCalls, D: ServerCalls, R: Wait>(
     rt: &R,
-    first: &mut MemServer<'_, M>,
-    second: &mut MemServer<'_, N>,
+    first: &mut MemServer<C>,
+    second: &mut MemServer<D>,
     table: &Table,
     route: Route,
 ) -> Option<()> {
@@ -120,10 +120,10 @@ fn cut<M: NodeName, N: NodeName, R: Wait>(
 }
 
 /// A call on a route.
-fn made<M: NodeName, N: NodeName, R: Wait>(
+fn made<C: ServerCalls, D: ServerCalls, R: Wait>(
     rt: &R,
-    first: &mut MemServer<'_, M>,
-    second: &mut MemServer<'_, N>,
+    first: &mut MemServer<C>,
+    second: &mut MemServer<D>,
     table: &mut Table,
     call: &str,
     words: &Words<'_>,
@@ -139,10 +139,10 @@ fn made<M: NodeName, N: NodeName, R: Wait>(
 }
 
 /// The answer of a call.
-pub fn answer_of<M: NodeName, N: NodeName, R: Wait>(
+pub fn answer_of<C: ServerCalls, D: ServerCalls, R: Wait>(
     rt: &R,
-    first: &mut MemServer<'_, M>,
-    second: &mut MemServer<'_, N>,
+    first: &mut MemServer<C>,
+    second: &mut MemServer<D>,
     table: &mut Table,
     call: &str,
     words: &Words<'_>,

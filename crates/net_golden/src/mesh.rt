@@ -1,117 +1,110 @@
-//! Two servers over streams in memory that have just started, and the calls of a case on them. What is made here is borrowed by the calls:
-//! one that had made it would be proved to let go of it at each of its ends.
+//! Two servers that have just started, with streams in memory, and the calls of a case on them. What owns much is let go of by a call of
+//! [`drop`]: at the end of a function each of its parts would be proved to be let go of.
 
 ghost use Rattle.std.specs.Prelude.{◌≡◌};
 
-use crate::calls::{Line, call_of, numbered};
+use crate::calls::numbered;
+use crate::lanes::LanedNode;
+use crate::playing::play;
 use crate::table::{MemServer, Table};
-use crate::values::life_of;
-use crate::{link_calls, number_calls, server_acts, server_asks, stream_calls};
 use golden::{Words, text};
 use node_net::Server;
-use node_threads::NodeName;
+use server_calls::ServerCalls;
 use std::alloc::{AllocError, Global};
 use std::marker::Brand;
 use std::sync::Wait;
 use sub_trie::TrieTable;
-use subj::Server as Life;
-use thread_node::{Parts, ThreadNode};
+use subj::{Incarnation, NodeId, Server as Life};
+use thread_node::{NodeName, Parts, ThreadNode};
 
-/// How many servers are in the cluster and how many shards each has, and the numbers with which a case is played, from the one to before
-/// the other.
+/// How many servers are in the cluster and how many shards each has, how many times the first one's lanes take nothing, and the numbers with
+/// which a case is played, from the one to before the other.
 #[derive(Clone, Copy)]
 pub struct Mesh {
     nodes: u64,
     shards: u64,
+    refusals: u64,
     from: u64,
     to: u64,
 }
 
-/// Whether the call of this name asks something.
-pub fn is_question(name: &str) -> bool {
-    let (of, call) = name.split_once('.').unwrap_or((name, ""));
-    match of {
-        "n1" | "n2" => server_asks::is_question(call),
-        _ => of == "numbers",
-    }
+/// The names of the servers n1 to that of this number, of which there are three at most.
+fn names(alloc: Global, count: u64) -> Option<Vec<NodeId>> {
+    let all = [
+        NodeId::read(b"n1").ok()?,
+        NodeId::read(b"n2").ok()?,
+        NodeId::read(b"n3").ok()?,
+    ];
+    Vec::from_slice(alloc, all.get(..count as usize)?).ok()
 }
 
-/// A call on one server.
-fn server_answer<N: NodeName, R: Wait>(
-    rt: &R,
-    server: &mut MemServer<'_, N>,
-    table: &mut Table,
-    side: usize,
-    line: &Line<'_>,
-) -> Result<String, AllocError> {
-    if server_asks::is_question(line.call) {
-        server_asks::answer_of(rt, server, table, side, line.call, &line.words)
-    } else {
-        server_acts::answer_of(rt, server, table, side, line.call, &line.words)
-    }
+/// The server at this place of those names, or at the last one, in its first life, with so many shards.
+fn life_of(alloc: Global, count: u64, place: u64, shards: u64) -> Option<Life> {
+    let place = place.min(count.saturating_sub(1)) as usize;
+    let inc = Incarnation::new(1)?;
+    Life::new(names(alloc, count)?, place, inc, shards)
 }
 
-/// A call.
-fn answer_of<M: NodeName, N: NodeName, R: Wait>(
-    rt: &R,
-    first: &mut MemServer<'_, M>,
-    second: &mut MemServer<'_, N>,
-    table: &mut Table,
-    line: &Line<'_>,
-) -> Result<String, AllocError> {
-    match line.of {
-        "n1" => server_answer(rt, first, table, 0, line),
-        "n2" => server_answer(rt, second, table, 1, line),
-        "stream" => stream_calls::answer_of(table, line.call, &line.words),
-        "link" => link_calls::answer_of(rt, first, second, table, line.call, &line.words),
-        _ => number_calls::answer_of(first, second, table, line.call, &line.words),
-    }
-}
-
-/// Makes these calls, up to the first one that asks nothing and is not done. Gives the last one's answer.
-fn play<M: NodeName, N: NodeName, R: Wait>(
-    rt: &R,
-    first: &mut MemServer<'_, M>,
-    second: &mut MemServer<'_, N>,
-    table: &mut Table,
-    calls: &String,
-) -> Result<String, AllocError> {
-    let mut answer = String::new(table.alloc);
-    for text in calls.as_str().lines() {
-        let line = call_of(text);
-        answer = answer_of(rt, first, second, table, &line)?;
-        let is_asked = line.of == "numbers" || server_asks::is_question(line.call);
-        if !is_asked && answer.as_str() != "ok" {
-            return format!(in table.alloc; "{text}: {answer}");
-        }
-    }
-    Ok(answer)
-}
-
-/// The connections of a server, of which there are none.
-fn server_on<'n, N: NodeName>(
+/// A server without connections.
+fn server_on<C: ServerCalls>(
     alloc: Global,
-    node: &'n ThreadNode<TrieTable, N>,
+    node: C,
     life: Option<Life>,
     port: u16,
-) -> Result<MemServer<'n, N>, AllocError> {
-    let Some(life) = life else {
-        return Err(AllocError);
-    };
-    Server::new(alloc, node, life, port, 0)
+) -> Result<MemServer<C>, AllocError> {
+    match life {
+        Some(life) => Server::new(alloc, node, life, port, 0),
+        None => Err(AllocError),
+    }
 }
 
-/// Makes the calls on the connections of these servers.
-fn play_on<M: NodeName, N: NodeName, R: Wait>(
+/// Makes the calls on the first server and one without connections.
+fn play_beside<C: ServerCalls, D: ServerCalls, R: Wait>(
     rt: &R,
     alloc: Global,
     mesh: &Mesh,
-    nodes: (&ThreadNode<TrieTable, M>, &ThreadNode<TrieTable, N>),
-    calls: &String,
+    first: &mut MemServer<C>,
+    node: D,
+    calls: &str,
+) -> Result<String, AllocError> {
+    let mut second = server_on(alloc, node, mesh.life(alloc, 1), 4223)?;
+    let mut table = Table::new(alloc);
+    let answer = play(rt, first, &mut second, &mut table, calls);
+    drop(second);
+    drop(table);
+    answer
+}
+
+/// Makes the calls on two servers without connections.
+fn play_on<C: ServerCalls, D: ServerCalls, R: Wait>(
+    rt: &R,
+    alloc: Global,
+    mesh: &Mesh,
+    nodes: (C, D),
+    calls: &str,
 ) -> Result<String, AllocError> {
     let mut first = server_on(alloc, nodes.0, mesh.life(alloc, 0), 4222)?;
-    let mut second = server_on(alloc, nodes.1, mesh.life(alloc, 1), 4223)?;
-    play(rt, &mut first, &mut second, &mut Table::new(alloc), calls)
+    let answer = play_beside(rt, alloc, mesh, &mut first, nodes.1, calls);
+    drop(first);
+    answer
+}
+
+/// Makes the calls on a server and one of these parts.
+fn play_started<M: NodeName, N: NodeName, R: Wait>(
+    rt: &R,
+    alloc: Global,
+    mesh: &Mesh,
+    first: &LanedNode<M>,
+    others: Parts,
+    calls: &str,
+) -> Result<String, AllocError>
+    requires { (others.race ≡ N.race) × (others.lanes ≡ N.lanes) × (others.keep ≡ N.keep) }
+{
+    let second: ThreadNode<TrieTable, N> = ThreadNode::start(alloc, others)?;
+    let second = LanedNode::new(second, 0);
+    let answer = play_on(rt, alloc, mesh, (first, &second), calls);
+    drop(second);
+    answer
 }
 
 /// Makes the calls on the servers of these parts.
@@ -127,21 +120,24 @@ fn play_with<M: NodeName, N: NodeName, R: Wait>(
     requires second { (others.race ≡ N.race) × (others.lanes ≡ N.lanes) × (others.keep ≡ N.keep) }
 {
     let first: ThreadNode<TrieTable, M> = ThreadNode::start(alloc, parts)?;
-    let second: ThreadNode<TrieTable, N> = ThreadNode::start(alloc, others)?;
-    play_on(rt, alloc, mesh, (&first, &second), calls)
+    let first = LanedNode::new(first, mesh.refusals);
+    let answer = play_started::<M, N, _>(rt, alloc, mesh, &first, others, calls.as_str());
+    drop(first);
+    answer
 }
 
-/// Makes the calls on servers that have just started.
+/// Makes the calls on servers that have just started, the first one of these parts.
 fn play_anew<R: Wait>(
     rt: &R,
     alloc: Global,
     mesh: &Mesh,
+    parts: Parts,
     calls: &String,
 ) -> Result<String, AllocError> {
-    let (Some(parts), Some(others)) = (mesh.parts(alloc, 0), mesh.parts(alloc, 1)) else {
-        return text(alloc, "no servers");
-    };
-    play_with::<Brand, Brand, _>(rt, alloc, mesh, parts, others, calls)
+    match mesh.parts(alloc, 1) {
+        Some(others) => play_with::<Brand, Brand, _>(rt, alloc, mesh, parts, others, calls),
+        None => text(alloc, "no servers"),
+    }
 }
 
 /// The same, with the number in place of each `%`.
@@ -149,11 +145,31 @@ fn play_numbered<R: Wait>(
     rt: &R,
     alloc: Global,
     mesh: &Mesh,
-    calls: &String,
+    calls: &str,
     number: u64,
 ) -> Result<String, AllocError> {
-    let calls = numbered(alloc, calls, number)?;
-    play_anew(rt, alloc, mesh, &calls)
+    let calls = numbered(alloc, calls, "%", number)?;
+    match mesh.parts(alloc, 0) {
+        Some(parts) => play_anew(rt, alloc, mesh, parts, &calls),
+        None => text(alloc, "no servers"),
+    }
+}
+
+/// Both answers, where that with this number is another one than the first.
+fn differing<R: Wait>(
+    rt: &R,
+    alloc: Global,
+    mesh: &Mesh,
+    calls: &str,
+    number: u64,
+    first: &str,
+) -> Result<Option<String>, AllocError> {
+    let answer = play_numbered(rt, alloc, mesh, calls, number)?;
+    if answer.as_str() == first {
+        return Ok(None);
+    }
+    let both = format!(in alloc; "{first}, and for {number} {answer}")?;
+    Ok(Some(both))
 }
 
 impl Mesh {
@@ -162,6 +178,7 @@ impl Mesh {
         Mesh {
             nodes: 0,
             shards: 0,
+            refusals: 0,
             from: 0,
             to: 1,
         }
@@ -172,6 +189,7 @@ impl Mesh {
         let (first, second) = (words.number(0), words.number(1));
         match call {
             "new" => (self.nodes, self.shards) = (first, second),
+            "lanes_refuse" => self.refusals = first,
             "for_each" => (self.from, self.to) = (first, second),
             _ => return false,
         }
@@ -195,13 +213,12 @@ impl Mesh {
         &self,
         rt: &R,
         alloc: Global,
-        calls: &String,
+        calls: &str,
     ) -> Result<String, AllocError> {
         let answer = play_numbered(rt, alloc, self, calls, self.from)?;
         for number in self.from.saturating_add(1)..self.to {
-            let other = play_numbered(rt, alloc, self, calls, number)?;
-            if other.as_str() != answer.as_str() {
-                return format!(in alloc; "{answer}, and for {number} {other}");
+            if let Some(both) = differing(rt, alloc, self, calls, number, answer.as_str())? {
+                return Ok(both);
             }
         }
         Ok(answer)

@@ -2,7 +2,7 @@
 
 use crate::table::{MemServer, Table, known_of};
 use golden::{Words, number, text};
-use node_threads::NodeName;
+use server_calls::ServerCalls;
 use std::alloc::AllocError;
 
 /// How many numbers are counted, from 0.
@@ -21,9 +21,9 @@ fn count_lines(written: &[u8], times: &mut [u64]) {
 }
 
 /// What came to the connection that the word is, as `2:1` is the first one of the second server.
-fn written_to<'s, M: NodeName, N: NodeName>(
-    first: &'s MemServer<'_, M>,
-    second: &'s MemServer<'_, N>,
+fn written_to<'s, C: ServerCalls, D: ServerCalls>(
+    first: &'s MemServer<C>,
+    second: &'s MemServer<D>,
     table: &Table,
     word: &str,
 ) -> Option<&'s [u8]> {
@@ -37,9 +37,9 @@ fn written_to<'s, M: NodeName, N: NodeName>(
 }
 
 /// How often each number came to the connections that the words are.
-fn count_all<M: NodeName, N: NodeName>(
-    first: &MemServer<'_, M>,
-    second: &MemServer<'_, N>,
+fn count_all<C: ServerCalls, D: ServerCalls>(
+    first: &MemServer<C>,
+    second: &MemServer<D>,
     table: &Table,
     words: &str,
     times: &mut [u64],
@@ -72,9 +72,9 @@ fn share_of(call: &str, times: &[u64]) -> &'static str {
 }
 
 /// The answer of a call: whether none, some or all of the numbers from the one to before the other are missing, came once, or more often.
-pub fn answer_of<M: NodeName, N: NodeName>(
-    first: &MemServer<'_, M>,
-    second: &MemServer<'_, N>,
+pub fn answer_of<C: ServerCalls, D: ServerCalls>(
+    first: &MemServer<C>,
+    second: &MemServer<D>,
     table: &Table,
     call: &str,
     words: &Words<'_>,

@@ -1,10 +1,11 @@
 //! What stands, and whose call a line is.
 
-use crate::calls::put_call;
+use crate::calls::{made_told, put, put_call};
+use crate::company_calls::{self, company_of};
 use crate::mesh::Mesh;
-use crate::nodes::Setting;
-use crate::{mesh, nodes};
+use crate::playing::is_question;
 use golden::{Rig, Words, text};
+use node_net::Company;
 use std::alloc::{AllocError, Global};
 use std::sync::Wait;
 
@@ -14,8 +15,8 @@ pub struct NetRig<'r, R: Wait> {
     rt: &'r R,
     alloc: Global,
     mesh: Mesh,
-    setting: Setting,
-    /// The calls of this case, one a line.
+    company: Company,
+    /// The calls of this case on servers, one a line.
     calls: String,
 }
 
@@ -26,60 +27,38 @@ impl<'r, R: Wait> NetRig<'r, R> {
             rt,
             alloc,
             mesh: Mesh::new(),
-            setting: Setting::new(),
+            company: company_of(alloc, 0),
             calls: String::new(alloc),
         }
     }
 
-    /// A call on servers with connections.
-    fn mesh_answer(&mut self, name: &str, words: &Words<'_>) -> Result<String, AllocError> {
+    /// A call on servers with connections. One that asks nothing is answered at once, and made when the next one asks.
+    fn server_answer(&mut self, name: &str, words: &Words<'_>) -> Result<String, AllocError> {
         put_call(&mut self.calls, name, words)?;
-        if !mesh::is_question(name) {
-            return text(self.alloc, "ok");
+        if is_question(name) {
+            self.mesh.answer(self.rt, self.alloc, self.calls.as_str())
+        } else {
+            text(self.alloc, "ok")
         }
-        self.mesh.answer(self.rt, self.alloc, &self.calls)
-    }
-
-    /// A call on a server without connections.
-    fn node_answer(&mut self, name: &str, words: &Words<'_>) -> Result<String, AllocError> {
-        put_call(&mut self.calls, name, words)?;
-        nodes::answer(self.rt, self.alloc, self.setting, &self.calls)
-    }
-
-    /// Sets what is to be played.
-    fn set_mesh(&mut self, call: &str, words: &Words<'_>) -> Result<String, AllocError> {
-        text(
-            self.alloc,
-            if self.mesh.set(call, words) {
-                "ok"
-            } else {
-                "no such call"
-            },
-        )
-    }
-
-    fn set_node(&mut self, words: &Words<'_>) -> Result<String, AllocError> {
-        self.setting = Setting::of(words);
-        text(self.alloc, "ok")
     }
 }
 
 impl<'r, R: Wait> Rig for NetRig<'r, R> {
     fn renew(&mut self) -> Result<(), AllocError> {
         self.mesh = Mesh::new();
-        self.setting = Setting::new();
-        self.calls = String::new(self.alloc);
+        put(&mut self.company, company_of(self.alloc, 0));
+        put(&mut self.calls, String::new(self.alloc));
         Ok(())
     }
 
     fn answer(&mut self, name: &str, words: &Words<'_>) -> Result<String, AllocError> {
+        let alloc = self.alloc;
         let (of, call) = name.split_once('.').unwrap_or((name, ""));
         match of {
-            "mesh" => self.set_mesh(call, words),
-            "stream" | "n1" | "n2" | "link" | "numbers" => self.mesh_answer(name, words),
-            "node" if call == "new" => self.set_node(words),
-            "node" | "pass" => self.node_answer(name, words),
-            _ => text(self.alloc, "no such call"),
+            "mesh" => made_told(alloc, self.mesh.set(call, words)),
+            "company" => company_calls::answer_of(&mut self.company, alloc, call, words),
+            "stream" | "n1" | "n2" | "link" | "numbers" => self.server_answer(name, words),
+            _ => text(alloc, "no such call"),
         }
     }
 }

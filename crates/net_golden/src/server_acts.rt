@@ -1,10 +1,12 @@
 //! What is done with a server.
 
-use crate::feeding::{feed_each, feed_times};
+use crate::calls::{done_told, found_told, made_told};
+use crate::streams::{feed_each, feed_times};
 use crate::table::{Known, MemServer, Table, known_mut, known_of};
+use crate::timing;
 use golden::{Words, bytes_of, text};
 use node_net::{AddFault, MemStream, Side};
-use node_threads::NodeName;
+use server_calls::ServerCalls;
 use std::alloc::{AllocError, Global};
 use std::sync::Wait;
 
@@ -18,9 +20,9 @@ fn side_of(word: &str) -> Side {
 }
 
 /// Takes a stream. Gives why it is not taken.
-fn add<N: NodeName, R: Wait>(
+fn add<C: ServerCalls, R: Wait>(
     rt: &R,
-    server: &mut MemServer<'_, N>,
+    server: &mut MemServer<C>,
     known: &mut Vec<Known>,
     stream: MemStream,
     side: Side,
@@ -45,9 +47,9 @@ fn added(alloc: Global, added: Result<(), AddFault>) -> Result<String, AllocErro
 }
 
 /// Takes so many clients that have sent these bytes.
-fn add_many<N: NodeName, R: Wait>(
+fn add_many<C: ServerCalls, R: Wait>(
     rt: &R,
-    server: &mut MemServer<'_, N>,
+    server: &mut MemServer<C>,
     table: &mut Table,
     side: usize,
     words: &Words<'_>,
@@ -72,9 +74,9 @@ fn keys_of(alloc: Global, known: &[Known], numbers: &str) -> Result<Vec<usize>, 
 }
 
 /// A turn in which these connections are ready.
-fn turn<N: NodeName, R: Wait>(
+fn turn<C: ServerCalls, R: Wait>(
     rt: &R,
-    server: &mut MemServer<'_, N>,
+    server: &mut MemServer<C>,
     table: &mut Table,
     side: usize,
     numbers: &str,
@@ -86,7 +88,7 @@ fn turn<N: NodeName, R: Wait>(
 }
 
 /// So many turns at most in which no connection is ready, while something is to be done.
-fn turn_on<N: NodeName, R: Wait>(rt: &R, server: &mut MemServer<'_, N>, most: u64) {
+fn turn_on<C: ServerCalls, R: Wait>(rt: &R, server: &mut MemServer<C>, most: u64) {
     for _turn in 0..most {
         if !server.goes_on() {
             return;
@@ -96,9 +98,9 @@ fn turn_on<N: NodeName, R: Wait>(rt: &R, server: &mut MemServer<'_, N>, most: u6
 }
 
 /// The other end sends these bytes, so many before each turn; all at once for 0. It stops where the connection is gone.
-fn send<N: NodeName, R: Wait>(
+fn send<C: ServerCalls, R: Wait>(
     rt: &R,
-    server: &mut MemServer<'_, N>,
+    server: &mut MemServer<C>,
     key: usize,
     part: usize,
     bytes: &[u8],
@@ -113,9 +115,9 @@ fn send<N: NodeName, R: Wait>(
     Ok(())
 }
 
-fn send_text<N: NodeName, R: Wait>(
+fn send_text<C: ServerCalls, R: Wait>(
     rt: &R,
-    server: &mut MemServer<'_, N>,
+    server: &mut MemServer<C>,
     alloc: Global,
     key: usize,
     words: &Words<'_>,
@@ -125,9 +127,9 @@ fn send_text<N: NodeName, R: Wait>(
 }
 
 /// The stream takes one byte more, and a turn is made, until what was written ends with these bytes; so often at most.
-fn grant_until<N: NodeName, R: Wait>(
+fn grant_until<C: ServerCalls, R: Wait>(
     rt: &R,
-    server: &mut MemServer<'_, N>,
+    server: &mut MemServer<C>,
     key: usize,
     most: u64,
     bytes: &[u8],
@@ -144,9 +146,9 @@ fn grant_until<N: NodeName, R: Wait>(
     }
 }
 
-fn grant_until_text<N: NodeName, R: Wait>(
+fn grant_until_text<C: ServerCalls, R: Wait>(
     rt: &R,
-    server: &mut MemServer<'_, N>,
+    server: &mut MemServer<C>,
     alloc: Global,
     key: usize,
     words: &Words<'_>,
@@ -175,68 +177,62 @@ fn does(
 }
 
 /// The same on the connection of this key.
-fn on_stream<N: NodeName>(
-    server: &mut MemServer<'_, N>,
+fn on_stream<C: ServerCalls>(
+    server: &mut MemServer<C>,
     alloc: Global,
     key: usize,
     call: &str,
     words: &Words<'_>,
 ) -> Result<String, AllocError> {
     let Some(stream) = server.stream_mut(key) else {
-        return text(alloc, "no connection");
+        return found_told(alloc, false);
     };
-    let made = does(stream, alloc, call, words)?;
-    text(alloc, if made { "ok" } else { "no such call" })
+    let is_made = does(stream, alloc, call, words)?;
+    made_told(alloc, is_made)
 }
 
 /// How much was written to the connection now is marked.
-fn mark<N: NodeName>(server: &MemServer<'_, N>, known: &mut [Known], number: u64) -> Option<()> {
+fn mark<C: ServerCalls>(server: &MemServer<C>, known: &mut [Known], number: u64) -> Option<()> {
     let known = known_mut(known, number)?;
     known.mark = server.stream(known.key)?.written().len();
     Some(())
 }
 
-fn done(alloc: Global, made: Result<(), AllocError>) -> Result<String, AllocError> {
-    made?;
-    text(alloc, "ok")
-}
-
-fn found(alloc: Global, made: Option<()>) -> Result<String, AllocError> {
-    text(
-        alloc,
-        if made.is_some() {
-            "ok"
-        } else {
-            "no connection"
-        },
-    )
+fn marked_told<C: ServerCalls>(
+    server: &MemServer<C>,
+    table: &mut Table,
+    side: usize,
+    number: u64,
+) -> Result<String, AllocError> {
+    let is_there = mark(server, table.known(side), number).is_some();
+    found_told(table.alloc, is_there)
 }
 
 /// A call on one connection.
-fn connection_answer<N: NodeName, R: Wait>(
+fn connection_answer<C: ServerCalls, R: Wait>(
     rt: &R,
-    server: &mut MemServer<'_, N>,
+    server: &mut MemServer<C>,
     table: &mut Table,
     side: usize,
     call: &str,
     words: &Words<'_>,
 ) -> Result<String, AllocError> {
     let alloc = table.alloc;
-    let Some(Known { key, .. }) = known_of(table.known(side), words.number(0)) else {
-        return text(alloc, "no connection");
+    let Some(known) = known_of(table.known(side), words.number(0)) else {
+        return found_told(alloc, false);
     };
     match call {
-        "send" => done(alloc, send_text(rt, server, alloc, key, words)),
-        "grant_until" => done(alloc, grant_until_text(rt, server, alloc, key, words)),
-        "mark" => found(alloc, mark(server, table.known(side), words.number(0))),
-        _ => on_stream(server, alloc, key, call, words),
+        "send" => done_told(alloc, send_text(rt, server, alloc, known.key, words)),
+        "grant_until" => done_told(alloc, grant_until_text(rt, server, alloc, known.key, words)),
+        "mark" => marked_told(server, table, side, words.number(0)),
+        _ => on_stream(server, alloc, known.key, call, words),
     }
 }
 
 /// A turn of the server goes on alone.
-fn turned_on<N: NodeName, R: Wait>(
+fn turned_on<C: ServerCalls, R: Wait>(
     rt: &R,
-    server: &mut MemServer<'_, N>,
+    server: &mut MemServer<C>,
     alloc: Global,
     most: u64,
 ) -> Result<String, AllocError> {
@@ -245,9 +241,9 @@ fn turned_on<N: NodeName, R: Wait>(
 }
 
 /// Takes the stream that was made ready.
-fn add_ready<N: NodeName, R: Wait>(
+fn add_ready<C: ServerCalls, R: Wait>(
     rt: &R,
-    server: &mut MemServer<'_, N>,
+    server: &mut MemServer<C>,
     table: &mut Table,
     side: usize,
     word: &str,
@@ -261,9 +257,9 @@ fn add_ready<N: NodeName, R: Wait>(
 }
 
 /// The answer of a call that does something.
-pub fn answer_of<N: NodeName, R: Wait>(
+pub fn answer_of<C: ServerCalls, R: Wait>(
     rt: &R,
-    server: &mut MemServer<'_, N>,
+    server: &mut MemServer<C>,
     table: &mut Table,
     side: usize,
     call: &str,
@@ -273,8 +269,9 @@ pub fn answer_of<N: NodeName, R: Wait>(
     match call {
         "add" => add_ready(rt, server, table, side, words.at(0)),
         "add_many" => added(alloc, add_many(rt, server, table, side, words)),
-        "turn" => done(alloc, turn(rt, server, table, side, words.at(0))),
+        "turn" => done_told(alloc, turn(rt, server, table, side, words.at(0))),
         "turn_on" => turned_on(rt, server, alloc, words.number(0)),
+        "time" => timing::set_time(server, alloc, words.number(0)),
         _ => connection_answer(rt, server, table, side, call, words),
     }
 }

@@ -1,8 +1,9 @@
 //! What a server is asked.
 
 use crate::table::{Known, MemServer, Table, known_of};
+use crate::timing;
 use golden::{Words, bytes_of, shown, text, yes_or_no};
-use node_threads::NodeName;
+use server_calls::ServerCalls;
 use std::alloc::{AllocError, Global};
 use std::sync::Wait;
 
@@ -17,6 +18,7 @@ pub fn is_question(call: &str) -> bool {
             | "is_there"
             | "shard"
             | "goes_on"
+            | "next_turn"
             | "remove"
             | "remove_each"
             | "count_ends"
@@ -59,8 +61,8 @@ fn written_answer(
     }
 }
 
-fn on_written<N: NodeName>(
-    server: &MemServer<'_, N>,
+fn on_written<C: ServerCalls>(
+    server: &MemServer<C>,
     alloc: Global,
     known: Known,
     call: &str,
@@ -80,17 +82,17 @@ fn shard_told(alloc: Global, shard: Option<u64>) -> Result<String, AllocError> {
 }
 
 /// Takes a connection out: whether there was one.
-fn removes<N: NodeName, R: Wait>(
+fn removes<C: ServerCalls, R: Wait>(
     rt: &R,
-    server: &mut MemServer<'_, N>,
+    server: &mut MemServer<C>,
     key: usize,
 ) -> Result<bool, AllocError> {
     Ok(server.remove(rt, key)?.is_some())
 }
 
-fn remove<N: NodeName, R: Wait>(
+fn remove<C: ServerCalls, R: Wait>(
     rt: &R,
-    server: &mut MemServer<'_, N>,
+    server: &mut MemServer<C>,
     alloc: Global,
     key: usize,
 ) -> Result<String, AllocError> {
@@ -99,9 +101,9 @@ fn remove<N: NodeName, R: Wait>(
 }
 
 /// Takes out each `step`-th connection of these, the first one of them to begin with: how many there were.
-fn remove_each<N: NodeName, R: Wait>(
+fn remove_each<C: ServerCalls, R: Wait>(
     rt: &R,
-    server: &mut MemServer<'_, N>,
+    server: &mut MemServer<C>,
     known: &[Known],
     words: &Words<'_>,
 ) -> Result<u64, AllocError> {
@@ -120,8 +122,8 @@ fn remove_each<N: NodeName, R: Wait>(
 }
 
 /// How many of these connections, as far as they are there, were written what ends with the bytes, and how many not.
-fn end_counts<N: NodeName>(
-    server: &MemServer<'_, N>,
+fn end_counts<C: ServerCalls>(
+    server: &MemServer<C>,
     known: &[Known],
     from: u64,
     to: u64,
@@ -139,8 +141,8 @@ fn end_counts<N: NodeName>(
     (so, otherwise)
 }
 
-fn count_ends<N: NodeName>(
-    server: &MemServer<'_, N>,
+fn count_ends<C: ServerCalls>(
+    server: &MemServer<C>,
     known: &[Known],
     alloc: Global,
     words: &Words<'_>,
@@ -155,9 +157,9 @@ fn removed_told(alloc: Global, count: Result<u64, AllocError>) -> Result<String,
 }
 
 /// A question about one connection.
-fn connection_answer<N: NodeName, R: Wait>(
+fn connection_answer<C: ServerCalls, R: Wait>(
     rt: &R,
-    server: &mut MemServer<'_, N>,
+    server: &mut MemServer<C>,
     alloc: Global,
     known: Known,
     call: &str,
@@ -172,9 +174,9 @@ fn connection_answer<N: NodeName, R: Wait>(
 }
 
 /// The answer of a call that asks something.
-pub fn answer_of<N: NodeName, R: Wait>(
+pub fn answer_of<C: ServerCalls, R: Wait>(
     rt: &R,
-    server: &mut MemServer<'_, N>,
+    server: &mut MemServer<C>,
     table: &mut Table,
     side: usize,
     call: &str,
@@ -184,6 +186,7 @@ pub fn answer_of<N: NodeName, R: Wait>(
     let known = table.known(side);
     match call {
         "goes_on" => yes_or_no(alloc, server.goes_on()),
+        "next_turn" => timing::next_turn(server, alloc),
         "remove_each" => removed_told(alloc, remove_each(rt, server, known, words)),
         "count_ends" => count_ends(server, known, alloc, words),
         _ => match known_of(known, words.number(0)) {

@@ -2,11 +2,9 @@
 
 use node_net::{MemStream, Server};
 use std::alloc::Global;
-use sub_trie::TrieTable;
-use thread_node::ThreadNode;
 
-/// A server over streams in memory.
-pub type MemServer<'n, N> = Server<MemStream, &'n ThreadNode<TrieTable, N>>;
+/// A server over streams in memory, whatever makes its calls.
+pub type MemServer<C> = Server<MemStream, C>;
 
 /// What is known of a connection: its key, how much of what was written to it came to its other end, and how much was written when
 /// that was marked.

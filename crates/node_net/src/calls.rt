@@ -32,6 +32,12 @@ pub(crate) fn cut<C: ServerCalls, R: Wait>(rt: &R, node: C, session: SessionId) 
     hub.cut(session);
 }
 
+/// Hands the jobs to the shards that some of these do not have.
+pub(crate) fn push_jobs<C: ServerCalls, R: Wait>(rt: &R, node: C) {
+    let mut hub = node.hub(rt);
+    hub.push_jobs(rt);
+}
+
 /// Takes at most so many frames that wait for the server at this place; none where there is no such one.
 pub(crate) fn take_frames<C: ServerCalls, R: Wait>(
     rt: &R,

@@ -1,20 +1,17 @@
 //! A client's connection: what its bytes ask for, asked of its shard and of the hub.
 
+use crate::limits::SHARD_RUN;
 use crate::runs::{Ran, Run};
+use crate::sids::Sids;
 use crate::tallies::{HubTally, ShardTally};
-use client_calls::{ClientLink as Calls, Served};
+use client_calls::{ClientCalls, ClientLink as Calls, Served};
 use client_conn::{ReadFault, Refusal};
-use rand_core::SeedableRng;
 use rand_pcg::Pcg64;
 use server_calls::{HubCalls, ServerCalls, ShardCalls};
 use std::alloc::{AllocError, Global};
 use std::sync::Wait;
 use subj::{ConnId, Failure, Server as Life, WINDOW};
 use wire_cut::Source;
-
-/// The most asks that are answered under one hold of a shard's lock: a quarter of what an outbox has room for, and of
-/// what may wait for another server.
-const SHARD_RUN: u64 = 256;
 
 /// Of whom the next ask is asked first.
 #[derive(Clone, Copy, Debug, PartialEq, Eq)]
@@ -26,9 +23,13 @@ enum Place {
 /// A client's connection and its place in the server.
 #[derive(Drop)]
 pub(crate) struct ClientLink {
+    alloc: Global,
     calls: Calls,
     place: Place,
     pub shard: u64,
+    sids: Sids,
+    /// Whether its shard has forgotten it, so that it is a member of nothing.
+    has_left: bool,
 }
 
 /// What a run of calls has come to. A run that ends at what is for another place goes on there.
@@ -39,6 +40,28 @@ fn ran_of(served: Served) -> Ran {
         Served::Busy => Ran::Busy,
         Served::Short => Ran::Short,
         Served::Over => Ran::Shut,
+    }
+}
+
+/// Takes all that waits for a client behind what stands there.
+fn take_all<S: ShardCalls>(
+    shard: &mut S,
+    id: ConnId,
+    waiting: &mut Vec<u8>,
+) -> Result<(), AllocError> {
+    match shard.take_bytes(id, usize::MAX, waiting) {
+        Err(Failure::OutOfMemory) => Err(AllocError),
+        _ => Ok(()),
+    }
+}
+
+/// Closes so many of a client's subscriptions, where it calls so many by a name that is known.
+fn close_some<S: ShardCalls>(shard: &mut S, id: ConnId, sids: &mut Sids, count: u64) {
+    for _sid in 0..count {
+        let Some(sid) = sids.pop() else {
+            return;
+        };
+        let _closed = shard.unsubscribe(id, &sid, None);
     }
 }
 
@@ -62,9 +85,12 @@ impl ClientLink {
         let number = shard.shard();
         match Calls::attach(alloc, shard, life.name(), life.inc(), port) {
             Ok(calls) => Ok(ClientLink {
+                alloc,
                 calls,
                 place: Place::Shard,
                 shard: number,
+                sids: Sids::new(alloc),
+                has_left: false,
             }),
             Err(failure) => Err(failure),
         }
@@ -75,12 +101,44 @@ impl ClientLink {
         self.calls.id()
     }
 
-    /// The client goes with all that waits for it.
+    /// The client goes with all that waits for it, unless it has left.
     pub fn detach<C: ServerCalls, R: Wait>(&self, rt: &R, node: C) -> Result<(), AllocError> {
+        if self.has_left {
+            return Ok(());
+        }
         let Some(mut shard) = node.shard(rt, self.shard) else {
             return Ok(());
         };
         self.calls.detach(&mut shard)
+    }
+
+    /// Takes all that waits for the client behind what stands there, and has its shard forget it: from here on it is a member of
+    /// nothing. For want of memory it has not left, and what was taken stands there all the same.
+    pub fn leave<C: ServerCalls, R: Wait>(
+        &mut self,
+        rt: &R,
+        node: C,
+        waiting: &mut Vec<u8>,
+    ) -> Result<(), AllocError> {
+        let Some(mut shard) = node.shard(rt, self.shard) else {
+            return Ok(());
+        };
+        take_all(&mut shard, self.calls.id(), waiting)?;
+        self.calls.detach(&mut shard)?;
+        self.has_left = true;
+        Ok(())
+    }
+
+    /// Closes some of its subscriptions, where there are more than its server tells at once. Whether it did.
+    pub fn close_some<C: ServerCalls, R: Wait>(&mut self, rt: &R, node: C) -> bool {
+        if self.has_left || self.sids.len() as u64 <= SHARD_RUN {
+            return false;
+        }
+        let Some(mut shard) = node.shard(rt, self.shard) else {
+            return false;
+        };
+        close_some(&mut shard, self.calls.id(), &mut self.sids, SHARD_RUN);
+        true
     }
 
     /// Reads once, at most so many bytes.
@@ -114,7 +172,7 @@ impl ClientLink {
 
     /// Publishes what is asked up to another ask, at most a window.
     fn publish<C: ServerCalls, R: Wait>(&mut self, rt: &R, node: C, words: &mut Pcg64) -> Run {
-        let own = std::mem::replace(words, Pcg64::seed_from_u64(0));
+        let own = Pcg64::from_state(words.state(), words.stream());
         let mut tally = HubTally::new(node.hub(rt), own);
         let served = served_of(self.calls.serve(&mut tally, WINDOW));
         let run = tally.run(ran_of(served));
@@ -133,10 +191,12 @@ impl ClientLink {
         let Some(shard) = node.shard(rt, self.shard) else {
             return Run::of(Ran::Refused);
         };
-        let mut tally = ShardTally::new(shard);
+        let sids = std::mem::replace(&mut self.sids, Sids::new(self.alloc));
+        let mut tally = ShardTally::new(shard, sids);
         let served = served_of(self.calls.serve(&mut tally, SHARD_RUN));
         let mut run = tally.run(ran_of(served));
         run.has_deltas = !run.is_empty && tally.shard.has_deltas();
+        std::mem::swap(&mut self.sids, &mut tally.sids);
         if served == Served::Elsewhere {
             self.place = Place::Hub;
         }

@@ -1,16 +1,16 @@
 //! A connection of a server: its stream, and what is read of it and written to it.
 
+ghost use Rattle.std.specs.Prelude.{◌≤◌};
+
 use crate::client_link::ClientLink;
+use crate::limits::{FIRST_READ, IDLE_BYTES};
 use crate::route_link::RouteLink;
+use crate::telling::Cause;
 use client_conn::ReadFault;
 use net_streams::{Outgoing, Stream, Wire};
 use std::alloc::Global;
 use subj::{ConnId, READ_BYTES};
 use wire_cut::FillFault;
-
-/// How many bytes are read at once of a connection that has just come. A connection that sends more is read
-/// in greater parts, so that one that sends little has a small buffer.
-const FIRST_READ: usize = 512;
 
 /// By how much the parts grow.
 const READ_GROWTH: usize = 8;
@@ -53,6 +53,10 @@ pub(crate) struct Connection<S: Stream> {
     ending: Ending,
     /// How many bytes are read at once.
     part: usize,
+    /// How many bytes were read since its buffer was given back.
+    read: usize,
+    /// When its buffer is given back, in milliseconds since the loop began; never for the greatest number.
+    rests_at: u64,
     /// Whether there may be more to read.
     pub has_more: bool,
     /// Whether the other end is known to send nothing any more, so that it is read until its end.
@@ -65,8 +69,14 @@ pub(crate) struct Connection<S: Stream> {
     pub served_in: u64,
     /// Whether it is to be closed at the end of the turn.
     pub is_leaving: bool,
-    /// Whether it has a limit until which its last bytes are to be written.
-    pub is_limited: bool,
+    /// Why the server ends it, where it does.
+    pub cause: Option<Cause>,
+    /// Whether it is told that it ends.
+    pub is_told: bool,
+    /// When it is given up, in milliseconds since the loop began; never for the greatest number.
+    deadline: u64,
+    /// Whether its stream took a byte of what waited, since it was last watched.
+    has_moved: bool,
 }
 
 impl<S: Stream> Connection<S> {
@@ -78,13 +88,18 @@ impl<S: Stream> Connection<S> {
             out: Outgoing::new(alloc),
             ending: Ending::Open,
             part: FIRST_READ,
+            read: 0,
+            rests_at: u64::MAX,
             has_more: false,
             hangs_up: false,
             is_short: false,
             stands_again: false,
             served_in: 0,
             is_leaving: false,
-            is_limited: false,
+            cause: None,
+            is_told: false,
+            deadline: u64::MAX,
+            has_moved: false,
         }
     }
 
@@ -98,10 +113,17 @@ impl<S: Stream> Connection<S> {
         self.wire.stream_mut()
     }
 
-    /// Its link and its stream.
-    pub fn into_parts(self) -> (Link, S) {
-        let Connection { wire, link, .. } = self;
-        (link, wire.into_stream())
+    /// Its stream, of which nothing more is asked.
+    pub fn into_stream(self) -> S {
+        let Connection {
+            wire,
+            link,
+            out,
+            ..
+        } = self;
+        drop(link);
+        drop(out);
+        wire.into_stream()
     }
 
     /// Reads once, unless what was read before waits for memory.
@@ -118,6 +140,7 @@ impl<S: Stream> Connection<S> {
             Some(count) => {
                 self.has_more = count == part || self.hangs_up;
                 self.part = next_part(part, count);
+                self.read = self.read.saturating_add(count);
             }
             None => {
                 self.has_more = self.is_short;
@@ -126,6 +149,28 @@ impl<S: Stream> Connection<S> {
         }
         if self.wire.has_failed() || self.wire.has_ended() {
             self.has_more = false;
+        }
+    }
+
+    /// Its buffer is given back at this time, where it is a large one, unless this is told again before.
+    pub fn rest_at(&mut self, time: u64) {
+        if self.read > IDLE_BYTES {
+            self.rests_at = time;
+        }
+    }
+
+    /// When its buffer is given back, in milliseconds since the loop began; never for the greatest number.
+    pub fn rests_at(&self) -> u64 {
+        self.rests_at
+    }
+
+    /// Its buffer is given back, of a client's with the next read.
+    pub fn rest(&mut self) {
+        self.part = FIRST_READ;
+        self.read = 0;
+        self.rests_at = u64::MAX;
+        if let Link::Route(route) = &mut self.link {
+            route.rest();
         }
     }
 
@@ -172,26 +217,66 @@ impl<S: Stream> Connection<S> {
         self.wire.has_ended()
     }
 
-    /// It is closed once all that waits for it is written.
-    pub fn shut(&mut self) {
+    /// It is closed once all that waits for it is written, and at the latest at this time.
+    pub fn shut(&mut self, deadline: u64)
+        ensures { self.new.deadline ≤ deadline }
+    {
+        self.limit(deadline);
         if self.ending == Ending::Open {
             self.ending = Ending::Shut;
         }
     }
 
-    /// Its other end sends nothing any more: a client has what it asked for before written to it, once that
-    /// is done.
-    pub fn end(&mut self) {
+    /// When it is given up, in milliseconds since the loop began; never for the greatest number, and where it was given up.
+    pub fn deadline(&self) -> u64 {
+        if self.ending() == Ending::Gone {
+            return u64::MAX;
+        }
+        self.deadline
+    }
+
+    /// It is given up at this time, or earlier where it would have been.
+    pub fn limit(&mut self, deadline: u64)
+        ensures { self.new.deadline ≤ deadline }
+    {
+        self.deadline = self.deadline.min(deadline);
+    }
+
+    /// Its session is kept: it is not given up for having none.
+    pub fn lift_limit(&mut self) {
+        self.deadline = u64::MAX;
+    }
+
+    /// A route whose session is kept is given up at this time, counted from when its stream took a byte, where something waits for it.
+    pub fn watch(&mut self, deadline: u64) {
+        let has_moved = std::mem::replace(&mut self.has_moved, false);
+        if !self.is_kept() {
+            return;
+        }
+        if self.is_flushed() {
+            self.deadline = u64::MAX;
+        } else if has_moved || self.deadline == u64::MAX {
+            self.deadline = deadline;
+        }
+    }
+
+    /// Whether it is a route whose session is kept.
+    pub fn is_kept(&self) -> bool {
         match &self.link {
-            Link::Client(_) if self.is_short => {}
-            Link::Client(_) => self.shut(),
-            Link::Route(_) => self.give_up(),
+            Link::Client(_) => false,
+            Link::Route(route) => route.is_kept(),
         }
     }
 
     /// It is closed at the end of the turn.
     pub fn give_up(&mut self) {
         self.ending = Ending::Gone;
+    }
+
+    /// There is no memory for what it is owed: it is closed at the end of the turn.
+    pub fn want_memory(&mut self) {
+        self.cause = self.cause.or(Some(Cause::OutOfMemory));
+        self.give_up();
     }
 
     /// The client at the other end, where there is one.
@@ -234,12 +319,14 @@ impl<S: Stream> Connection<S> {
             bytes
         };
         if self.out.append(rest).is_err() {
-            self.give_up();
+            self.want_memory();
         }
     }
 
     /// Writes what was kept, as far as the stream takes it.
     pub fn resume(&mut self) {
+        let before = self.out.len();
         self.out.write_to(&mut self.wire);
+        self.has_moved |= self.out.len() < before;
     }
 }

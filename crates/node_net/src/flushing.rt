@@ -2,27 +2,18 @@
 
 use crate::calls::take_frames;
 use crate::connection::{Connection, Ending};
+use crate::limits::{FRAMES, KEPT_BYTES, LAST_BYTES, PEER_BACKLOG, TAKEN_AT_ONCE};
+use crate::placing::put;
+use crate::route_link::weight_of;
+use crate::runs::large_part;
 use crate::server::{Part, Server};
+use crate::telling::Cause;
 use net_streams::Stream;
 use route_frames::{Numbered, RouteFrame, encode};
 use server_calls::{ServerCalls, ShardCalls};
 use std::alloc::AllocError;
 use std::sync::Wait;
-use subj::Failure;
-
-/// How many frames are taken for another server at once.
-const FRAMES: usize = 64;
-
-/// How many bytes are taken under one hold of a shard's lock, at least, before they are written.
-const TAKEN_AT_ONCE: usize = 1_048_576;
-
-/// The most bytes of a buffer that stays once what is in it was written. A client's outbox may get the buffer
-/// in exchange for its own.
-const KEPT_BYTES: usize = 16_384;
-
-/// How many bytes are kept for another server whose stream does not take them, at least, before its frames
-/// wait in the hub, which has room for few.
-const PEER_BACKLOG: usize = 67_108_864;
+use subj::{Failure, MAX_PAYLOAD};
 
 /// Which connections may have something that waits for them.
 #[derive(Drop)]
@@ -48,27 +39,47 @@ impl Awaited {
     }
 }
 
-/// Takes what waits for a client behind what was taken, where all that was taken for it before is written.
-/// Tells whether there is something to be done for it.
+/// A client that its shard has shut is closed once its last bytes are written, and at the latest at this time, whatever its
+/// stream takes.
+fn close_if_shut<S: Stream, H: ShardCalls>(
+    shard: &H,
+    connection: &mut Connection<S>,
+    deadline: u64,
+) {
+    let Some(client) = connection.client_of(shard.shard()) else {
+        return;
+    };
+    if !shard.is_open(client) {
+        connection.shut(deadline);
+    }
+}
+
+/// Takes what waits for a client, where all that was taken for it before is written. Where it is much, and nothing stands in `lent`, it
+/// comes in the outbox's own buffer: so no outbox keeps a large one.
 fn take_for<S: Stream, H: ShardCalls>(
     shard: &mut H,
-    connection: &mut Connection<S>,
-    taken: &mut Vec<u8>,
-) -> Result<bool, AllocError> {
+    connection: &Connection<S>,
+    lent: &mut Vec<u8>,
+) -> Result<(), AllocError> {
     let Some(client) = connection.client_of(shard.shard()) else {
-        return Ok(false);
+        return Ok(());
     };
     if !connection.is_flushed() || connection.has_failed() {
-        return Ok(false);
+        return Ok(());
     }
-    let start = taken.len();
-    if let Err(Failure::OutOfMemory) = shard.take_bytes(client, usize::MAX, taken) {
-        return Err(AllocError);
+    match shard.take_bytes(client, usize::MAX, lent) {
+        Err(Failure::OutOfMemory) => Err(AllocError),
+        _ => Ok(()),
     }
-    if !shard.is_open(client) {
-        connection.shut();
+}
+
+/// Puts what was taken for a connection behind what was taken for others. Where there is no memory for that it is sent at once.
+fn put_behind<S: Stream>(connection: &mut Connection<S>, taken: &mut Vec<u8>, lent: &mut Vec<u8>) {
+    if taken.is_empty() {
+        std::mem::swap(taken, lent);
+    } else if taken.extend_from_slice(lent).is_err() {
+        connection.send(lent);
     }
-    Ok(taken.len() > start || connection.ending() == Ending::Shut)
 }
 
 /// Sends a connection its part of what was taken. It is given up once it is to be closed and all is written.
@@ -78,6 +89,22 @@ fn send_part<S: Stream>(connection: &mut Connection<S>, taken: &[u8], start: usi
     if connection.is_done() {
         connection.give_up();
     }
+}
+
+/// How many frames are taken at once for another server of which so many bytes wait already: no more than have room, as large as they
+/// may be.
+fn frames_beside(backlog: usize) -> usize {
+    let room = PEER_BACKLOG.saturating_sub(backlog) / MAX_PAYLOAD;
+    room.min(FRAMES).max(1)
+}
+
+/// As how many bytes the large messages among these frames count.
+fn large_of(frames: &[Numbered]) -> usize {
+    let mut large = 0_usize;
+    for frame in frames {
+        large = large.saturating_add(large_part(weight_of(frame)));
+    }
+    large
 }
 
 /// Spells frames behind what is spelt.
@@ -127,6 +154,7 @@ impl<S: Stream, C: ServerCalls> Server<S, C> {
                 continue;
             }
             connection.resume();
+            self.has_told |= connection.client().is_none();
             self.leave_if_gone(key);
         }
     }
@@ -198,15 +226,64 @@ impl<S: Stream, C: ServerCalls> Server<S, C> {
 
     /// Takes what waits for a client of the shard.
     fn take_one(&mut self, shard: &mut C::Shard, key: usize) -> Result<(), AllocError> {
-        let Some(connection) = self.connections.get_mut(key) else {
+        if !self.is_of_shard(key, shard.shard()) {
             return Ok(());
-        };
-        self.parts.reserve(1)?;
-        if take_for(shard, connection, &mut self.taken)? {
-            let end = self.taken.len();
-            let _ = self.parts.push(Part { key, end });
         }
+        self.parts.reserve(1)?;
+        self.lent.clear();
+        let is_slow = self.close_slow(&*shard, key);
+        let took = self.lend(shard, key);
+        let waiting = self.lent.len();
+        if is_slow {
+            self.blame(key, Cause::Slow, waiting);
+        }
+        took?;
+        self.put_part(key);
         Ok(())
+    }
+
+    /// Whether it is the connection of a client of this shard.
+    fn is_of_shard(&self, key: usize, shard: u64) -> bool {
+        match self.connections.get(key) {
+            None => false,
+            Some(connection) => connection.client_of(shard).is_some(),
+        }
+    }
+
+    /// Closes a client that its shard has shut. Whether it was open before.
+    fn close_slow(&mut self, shard: &C::Shard, key: usize) -> bool {
+        let deadline = self.now.saturating_add(LAST_BYTES);
+        let Some(connection) = self.connections.get_mut(key) else {
+            return false;
+        };
+        let was_open = connection.ending() == Ending::Open;
+        close_if_shut(shard, connection, deadline);
+        self.next_deadline = self.next_deadline.min(connection.deadline());
+        was_open && connection.ending() == Ending::Shut
+    }
+
+    /// Takes what waits for a client of the shard out of its outbox.
+    fn lend(&mut self, shard: &mut C::Shard, key: usize) -> Result<(), AllocError> {
+        match self.connections.get(key) {
+            None => Ok(()),
+            Some(connection) => take_for(shard, connection, &mut self.lent),
+        }
+    }
+
+    /// Puts what was taken for a client among what was taken for all, where there is something to be done for it.
+    fn put_part(&mut self, key: usize) {
+        let Some(connection) = self.connections.get_mut(key) else {
+            return;
+        };
+        if self.lent.is_empty() && connection.ending() != Ending::Shut {
+            return;
+        }
+        put_behind(connection, &mut self.taken, &mut self.lent);
+        let end = self.taken.len();
+        let _ = self.parts.push(Part { key, end });
+        if self.lent.capacity() > KEPT_BYTES {
+            put(&mut self.lent, Vec::new(self.alloc));
+        }
     }
 
     /// Writes what was taken for each client.
@@ -220,12 +297,16 @@ impl<S: Stream, C: ServerCalls> Server<S, C> {
                 continue;
             };
             send_part(connection, &self.taken, from, part.end);
-            self.await_closing(part.key);
             self.leave_if_gone(part.key);
         }
-        self.parts = parts;
+        put(&mut self.parts, parts);
+        self.let_go_of_taken();
+    }
+
+    /// What was taken is sent: a large buffer does not stay.
+    pub(crate) fn let_go_of_taken(&mut self) {
         if self.taken.capacity() > KEPT_BYTES {
-            self.taken = Vec::new(self.alloc);
+            put(&mut self.taken, Vec::new(self.alloc));
         }
     }
 
@@ -238,12 +319,14 @@ impl<S: Stream, C: ServerCalls> Server<S, C> {
         for peer in 0..self.peers.count() {
             if let Some(key) = self.peers.kept_connection(peer) {
                 self.write_to_peer(rt, peer, key);
+                self.watch_route(key);
             }
         }
     }
 
     /// Takes and writes what waits for another server. What its stream does not take is kept, up to
-    /// [`PEER_BACKLOG`]. A server for whose frames there is no memory once they are taken is cut, since it would miss them.
+    /// [`PEER_BACKLOG`], and as many bytes of large messages may wait in the hub: then it is cut. A server for whose frames there is no
+    /// memory once they are taken is cut, since it would miss them.
     fn write_to_peer<R: Wait>(&mut self, rt: &R, peer: usize, key: usize) {
         for _round in 0..u64::MAX {
             let Some(connection) = self.connections.get_mut(key) else {
@@ -252,27 +335,39 @@ impl<S: Stream, C: ServerCalls> Server<S, C> {
             if connection.ending() == Ending::Gone {
                 return;
             }
-            if connection.backlog() >= PEER_BACKLOG {
+            let backlog = connection.backlog();
+            if backlog >= PEER_BACKLOG {
                 self.has_told = true;
+                self.cut_if_full(peer, key);
                 return;
             }
-            let Ok(frames) = take_frames(rt, self.node, self.alloc, peer, FRAMES) else {
+            let count = frames_beside(backlog);
+            let Ok(frames) = take_frames(rt, self.node, self.alloc, peer, count) else {
                 self.has_told = true;
                 self.is_short = true;
                 return;
             };
             if frames.is_empty() {
+                self.peers.release(peer, usize::MAX);
                 return;
             }
+            self.peers.release(peer, large_of(&frames));
             self.spelt.clear();
             match spell(frames, &mut self.spelt) {
                 Ok(()) => connection.send(&self.spelt),
-                Err(_) => connection.give_up(),
+                Err(_) => connection.want_memory(),
             }
             self.leave_if_gone(key);
             if self.spelt.capacity() > TAKEN_AT_ONCE {
-                self.spelt = Vec::new(self.alloc);
+                put(&mut self.spelt, Vec::new(self.alloc));
             }
+        }
+    }
+
+    /// Cuts a route whose frames wait in the hub, where they may have too many bytes.
+    fn cut_if_full(&mut self, peer: usize, key: usize) {
+        if self.peers.held(peer) >= PEER_BACKLOG {
+            self.give_up_for(key, Cause::Full);
         }
     }
 }

@@ -9,6 +9,8 @@ pub(crate) struct Way {
     pub kept: Option<usize>,
     /// The connection that this server has dialed, while its session is not complete.
     pub dialed: Option<usize>,
+    /// As how many bytes the large messages count, at most, that wait for it in the hub.
+    pub held: usize,
 }
 
 /// What leads to each server of the cluster, by its place.
@@ -30,6 +32,7 @@ impl Peers {
             ways.push(Way {
                 kept: None,
                 dialed: None,
+                held: 0,
             })?;
         }
         Ok(Peers { ways })
@@ -43,6 +46,11 @@ impl Peers {
     /// The connection whose session with the server at this place is kept.
     pub fn kept_connection(&self, place: usize) -> Option<usize> {
         self.ways.get(place)?.kept
+    }
+
+    /// The place of the server whose session with this connection is kept.
+    pub fn place_of(&self, key: usize) -> Option<usize> {
+        self.ways.iter().position(|way| is_at(way.kept, key))
     }
 
     /// Whether the server at this place is reached, or is being dialed.
@@ -69,7 +77,30 @@ impl Peers {
         }
         let old = way.kept;
         way.kept = Some(key);
+        way.held = 0;
         old.filter(|old| *old != key)
+    }
+
+    /// Large messages that count as so many bytes may wait for each server.
+    pub fn hold(&mut self, bytes: usize) {
+        for way in &mut self.ways {
+            way.held = way.held.saturating_add(bytes);
+        }
+    }
+
+    /// Of those that may wait for the server at this place so many bytes do not any more.
+    pub fn release(&mut self, place: usize, bytes: usize) {
+        if let Some(way) = self.ways.get_mut(place) {
+            way.held = way.held.saturating_sub(bytes);
+        }
+    }
+
+    /// As how many bytes the large messages count, at most, that wait for the server at this place.
+    pub fn held(&self, place: usize) -> usize {
+        match self.ways.get(place) {
+            None => 0,
+            Some(way) => way.held,
+        }
     }
 
     /// The connection is gone.

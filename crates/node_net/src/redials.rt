@@ -1,16 +1,7 @@
-//! When other servers are dialed again, and how long a route may take to tell who it is.
+//! When other servers are dialed again.
 
-use route_session::SessionId;
+use crate::limits::{FIRST_PAUSE, LAST_PAUSE};
 use std::alloc::{AllocError, Global};
-
-/// The first pause between two dials of one server, in milliseconds.
-const FIRST_PAUSE: u64 = 25;
-
-/// The longest pause, in milliseconds.
-const LAST_PAUSE: u64 = 1_000;
-
-/// How long the session of a route may take to be complete, in milliseconds.
-const GREETING: u64 = 5_000;
 
 /// When a server is dialed next. Times are milliseconds since the loop began.
 #[derive(Clone, Copy, Debug, PartialEq, Eq)]
@@ -21,19 +12,10 @@ struct Redial {
     since: Option<u64>,
 }
 
-/// A route whose session is not complete.
-#[derive(Clone, Copy, Debug, PartialEq, Eq)]
-pub(crate) struct Greeting {
-    pub key: usize,
-    pub session: SessionId,
-    pub until: u64,
-}
-
-/// When each server of the cluster is dialed next, and which routes have not told who they are.
+/// When each server of the cluster is dialed next.
 #[derive(Debug, Drop)]
 pub(crate) struct Redials {
     redials: Vec<Redial>,
-    pub greetings: Vec<Greeting>,
 }
 
 impl Redials {
@@ -47,10 +29,7 @@ impl Redials {
                 since: None,
             })?;
         }
-        Ok(Redials {
-            redials,
-            greetings: Vec::new(alloc),
-        })
+        Ok(Redials { redials })
     }
 
     /// Whether the server at this place may be dialed now.
@@ -93,21 +72,5 @@ impl Redials {
             redial.at = 0;
             redial.pause = FIRST_PAUSE;
         }
-    }
-
-    /// The session of this route is to be complete soon.
-    pub fn await_greeting(
-        &mut self,
-        key: usize,
-        session: SessionId,
-        now: u64,
-    ) -> Result<(), AllocError> {
-        let until = now.saturating_add(GREETING);
-        self.greetings.push(Greeting {
-            key,
-            session,
-            until,
-        })?;
-        Ok(())
     }
 }

@@ -1,5 +1,6 @@
 //! A route: a connection to another server, cut into frames.
 
+use crate::placing::put;
 use crate::runs::{Ran, Run, cost_of};
 use bytes::Bytes;
 use hub_core::HubFault;
@@ -46,6 +47,8 @@ enum Missing {
 enum Heard {
     /// It was taken, and counts as so many bytes, or it had come before.
     Done(usize),
+    /// It was taken, counts as so many bytes, and is of another life of the server than the session: the route is closed.
+    Last(usize),
     Ended(Ran),
 }
 
@@ -73,7 +76,7 @@ fn end_of<F: Drop>(fault: Failure<F>) -> Ran {
 }
 
 /// As how many bytes a message counts; anything else counts as none.
-fn weight_of(frame: &Numbered) -> usize {
+pub(crate) fn weight_of(frame: &Numbered) -> usize {
     match frame.body() {
         Body::Msg { message, .. } => cost_of(message.payload().len()),
         _ => 0,
@@ -106,6 +109,15 @@ impl RouteLink {
         most: usize,
     ) -> Result<usize, FillFault> {
         self.cutter.read_from(source, most)
+    }
+
+    /// The memory of what was read is given back, where all of it is used up.
+    pub fn rest(&mut self) {
+        let has_frame = self.line.is_some() || self.unjoined.is_some() || self.ahead.is_some();
+        if !has_frame && self.cutter.unread_len() == 0 {
+            let cutter = Cutter::new(self.alloc, ROUTE_LINE, MAX_SNAPSHOT as u64);
+            put(&mut self.cutter, cutter);
+        }
     }
 
     /// The next line, which is used up once it was read.
@@ -151,10 +163,10 @@ impl RouteLink {
     fn begin_frame(&mut self) -> Result<(), Missing> {
         let line = self.next_line()?;
         match line.payload_size() {
-            None => self.unjoined = Some((line, Bytes::new())),
+            None => put(&mut self.unjoined, Some((line, Bytes::new()))),
             Some(size) => {
                 self.expect(size)?;
-                self.line = Some(line);
+                put(&mut self.line, Some(line));
             }
         }
         Ok(())
@@ -164,12 +176,12 @@ impl RouteLink {
     fn join(&mut self, line: RouteLine, payload: Bytes) -> Result<(), Missing> {
         match line.into_frame(self.alloc, payload) {
             Ok(frame) => {
-                self.ahead = Some(frame);
+                put(&mut self.ahead, Some(frame));
                 Ok(())
             }
             Err(Unjoined::Refused(_)) => Err(Missing::Refused),
             Err(Unjoined::OutOfMemory { line, payload }) => {
-                self.unjoined = Some((line, payload));
+                put(&mut self.unjoined, Some((line, payload)));
                 Err(Missing::Short)
             }
         }
@@ -247,7 +259,7 @@ impl RouteLink {
         drop(hub);
         match done {
             Ok(answer) => {
-                self.ahead = None;
+                put(&mut self.ahead, None);
                 self.stage = Stage::Kept {
                     peer,
                     inc: info.inc(),
@@ -277,7 +289,7 @@ impl RouteLink {
         drop(hub);
         match done {
             Ok(()) => {
-                self.ahead = None;
+                put(&mut self.ahead, None);
                 self.stage = Stage::Kept {
                     peer,
                     inc: connect.inc(),
@@ -294,7 +306,12 @@ impl RouteLink {
         let mut run = Run::of(Ran::Goes);
         for _frame in 0..WINDOW {
             match self.receive_next(&mut hub, life) {
-                Heard::Done(bytes) => run.issued = run.issued.saturating_add(bytes),
+                Heard::Done(bytes) => run.count(bytes),
+                Heard::Last(bytes) => {
+                    run.count(bytes);
+                    run.end = Ran::Refused;
+                    break;
+                }
                 Heard::Ended(end) => {
                     run.end = end;
                     break;
@@ -334,13 +351,13 @@ impl RouteLink {
         }
         let bytes = weight_of(frame);
         let done = match hub.receive(frame) {
-            Ok(_) if !self.is_of_life(frame) => Heard::Ended(Ran::Refused),
+            Ok(_) if !self.is_of_life(frame) => Heard::Last(bytes),
             Ok(_) => Heard::Done(bytes),
             Err(Failure::Refused(HubFault::Late)) => Heard::Done(0),
             Err(Failure::Refused(HubFault::Busy(_))) => return Heard::Ended(Ran::Busy),
             Err(fault) => return Heard::Ended(end_of(fault)),
         };
-        self.ahead = None;
+        put(&mut self.ahead, None);
         done
     }
 }

@@ -1,11 +1,14 @@
 //! The loop of a server's thread: it polls, accepts, dials, and turns.
 
 use crate::company::Company;
-use crate::redials::{Greeting, Redials};
+use crate::limits::{ACCEPTS, EVENTS, RETRY};
+use crate::redials::Redials;
 use crate::server::{Server, Side};
+use crate::telling::Cause;
 use mio::net::{TcpListener, TcpStream};
 use mio::{Events, Interest, Poll, Token};
 use server_calls::ServerCalls;
+use server_events::{Caller, EventSink, SystemCause};
 use std::alloc::Global;
 use std::io;
 use std::net::{Net, SocketAddr};
@@ -22,16 +25,6 @@ const ROUTES: Token = Token(usize::MAX - 1);
 /// The token by which another thread wakes the loop.
 pub const WAKER: Token = Token(usize::MAX - 2);
 
-/// The most connections that are accepted in a turn.
-const ACCEPTS: usize = 256;
-
-/// The most events that are told of in a turn.
-const EVENTS: usize = 1_024;
-
-/// How long to wait, in milliseconds, before something is tried again for which there was no memory, or no
-/// descriptor.
-const RETRY: u64 = 10;
-
 /// The sockets of a server.
 #[derive(Drop)]
 pub struct Sockets {
@@ -47,8 +40,6 @@ pub struct Sockets {
 #[derive(Drop)]
 struct Rounds {
     start: Instant,
-    /// Milliseconds since the start.
-    now: u64,
     redials: Redials,
     /// The connections that are ready.
     ready: Vec<usize>,
@@ -63,7 +54,6 @@ impl Rounds {
     fn new(alloc: Global, start: Instant, count: usize) -> io::Result<Rounds> {
         Ok(Rounds {
             start,
-            now: 0,
             redials: Redials::new(alloc, count)?,
             ready: Vec::with_capacity(alloc, EVENTS)?,
             has_clients: true,
@@ -72,11 +62,10 @@ impl Rounds {
         })
     }
 
-    /// Looks at the clock.
-    fn look<R: Clock>(&mut self, rt: &R) -> io::Result<()> {
+    /// Milliseconds since the start.
+    fn time<R: Clock>(&self, rt: &R) -> io::Result<u64> {
         let passed = self.start.elapsed(rt)?.as_millis();
-        self.now = passed.min(u64::MAX as u128) as u64;
-        Ok(())
+        Ok(passed.min(u64::MAX as u128) as u64)
     }
 }
 
@@ -84,7 +73,7 @@ impl Rounds {
 enum Accepted {
     Stream(TcpStream),
     Nothing,
-    Failed,
+    Failed(SystemCause),
 }
 
 /// The next connection.
@@ -92,21 +81,23 @@ fn accept(listener: &TcpListener) -> Accepted {
     match listener.accept() {
         Ok((stream, _)) => Accepted::Stream(stream),
         Err(error) if error.kind() == io::ErrorKind::WouldBlock => Accepted::Nothing,
-        Err(_) => Accepted::Failed,
+        Err(error) => Accepted::Failed(SystemCause::of(&error)),
     }
 }
 
 impl<C: ServerCalls> Server<TcpStream, C> {
     /// Serves until all servers of the company stop: waits until a socket is ready, takes clients and routes,
     /// dials each other server of the cluster that is not reached at its address, those of all servers in
-    /// their order, and makes a turn. May wait, and for ever.
-    pub fn run<R: Wait + Net + Clock>(
+    /// their order, and makes a turn. What happens is told to the log. May wait, and for ever.
+    pub fn run<R: Wait + Net + Clock, L: EventSink>(
         &mut self,
         rt: &R,
         sockets: Sockets,
         addresses: &[SocketAddr],
         company: &Company,
+        log: &L,
     ) -> io::Result<()> {
+        self.events.set_filter(log.filter());
         let Sockets {
             mut poll,
             mut clients,
@@ -118,19 +109,21 @@ impl<C: ServerCalls> Server<TcpStream, C> {
         let mut events = Events::with_capacity(self.alloc, EVENTS)?;
         let mut rounds = Rounds::new(self.alloc, Instant::now(rt)?, addresses.len())?;
         for _round in rt.forever() {
+            if company.is_over() {
+                return Ok(());
+            }
             self.accept_all(rt, &poll, &clients, &routes, &mut rounds, company);
             self.dial_all(rt, &poll, addresses, &mut rounds);
             self.turn(rt, &rounds.ready);
             rounds.ready.clear();
-            self.end_greetings(&mut rounds);
-            self.end_closings(rounds.now);
+            log.take(rt, self.life.name(), &mut self.events);
             company.lose(std::mem::replace(&mut self.gone, 0));
             if company.is_over() {
                 return Ok(());
             }
-            rounds.look(rt)?;
+            self.set_time(rounds.time(rt)?);
             poll.poll(&mut events, self.patience(&rounds))?;
-            rounds.look(rt)?;
+            self.set_time(rounds.time(rt)?);
             self.note_events(&events, &mut rounds)?;
         }
         Ok(())
@@ -146,7 +139,7 @@ impl<C: ServerCalls> Server<TcpStream, C> {
         rounds: &mut Rounds,
         company: &Company,
     ) {
-        rounds.has_failed = false;
+        let had_failed = std::mem::replace(&mut rounds.has_failed, false);
         for _accept in 0..ACCEPTS {
             if !rounds.has_clients {
                 break;
@@ -158,7 +151,8 @@ impl<C: ServerCalls> Server<TcpStream, C> {
                     }
                 }
                 Accepted::Nothing => rounds.has_clients = false,
-                Accepted::Failed => {
+                Accepted::Failed(cause) => {
+                    self.tell_first(Caller::Client, cause, had_failed || rounds.has_failed);
                     rounds.has_failed = true;
                     break;
                 }
@@ -170,11 +164,11 @@ impl<C: ServerCalls> Server<TcpStream, C> {
             }
             match accept(routes) {
                 Accepted::Stream(stream) => {
-                    let key = self.take(rt, poll, stream, Side::Accepted);
-                    self.await_greeting(key, rounds);
+                    let _key = self.take(rt, poll, stream, Side::Accepted);
                 }
                 Accepted::Nothing => rounds.has_routes = false,
-                Accepted::Failed => {
+                Accepted::Failed(cause) => {
+                    self.tell_first(Caller::Server, cause, had_failed || rounds.has_failed);
                     rounds.has_failed = true;
                     break;
                 }
@@ -191,50 +185,19 @@ impl<C: ServerCalls> Server<TcpStream, C> {
         side: Side,
     ) -> Option<usize> {
         let _ = stream.set_nodelay(true);
-        let Ok(key) = self.add(rt, stream, side) else {
-            return None;
+        let key = match self.add(rt, stream, side) {
+            Ok(key) => key,
+            Err(fault) => {
+                self.tell_refused(side, fault);
+                return None;
+            }
         };
         let stream = self.stream_mut(key)?;
         let both = Interest::READABLE | Interest::WRITABLE;
         if poll.registry().register(stream, Token(key), both).is_err() {
-            self.give_up(key);
+            self.give_up_for(key, Cause::Unwatched);
         }
         Some(key)
-    }
-
-    /// The session of this route is to be complete soon.
-    fn await_greeting(&mut self, key: Option<usize>, rounds: &mut Rounds) {
-        let Some(key) = key else {
-            return;
-        };
-        let Some(session) = self.incomplete(key) else {
-            return;
-        };
-        if rounds
-            .redials
-            .await_greeting(key, session, rounds.now)
-            .is_err()
-        {
-            self.give_up(key);
-        }
-    }
-
-    /// Gives up the routes that have not told in time who they are.
-    fn end_greetings(&mut self, rounds: &mut Rounds) {
-        let greetings = std::mem::replace(&mut rounds.redials.greetings, Vec::new(self.alloc));
-        for greeting in greetings {
-            let Greeting {
-                key,
-                session,
-                until,
-            } = greeting;
-            if self.incomplete(key) != Some(session) {
-                continue;
-            }
-            if until <= rounds.now || rounds.redials.greetings.push(greeting).is_err() {
-                self.give_up(key);
-            }
-        }
     }
 
     /// Dials the servers of the cluster that are not reached and are due.
@@ -247,40 +210,35 @@ impl<C: ServerCalls> Server<TcpStream, C> {
     ) {
         for (place, address) in addresses.iter().enumerate() {
             let is_reached = self.peers.kept_connection(place).is_some();
-            rounds.redials.look(place, rounds.now, is_reached);
-            if !self.is_missing(place) || !rounds.redials.is_due(place, rounds.now) {
+            rounds.redials.look(place, self.now, is_reached);
+            if !self.is_missing(place) || !rounds.redials.is_due(place, self.now) {
                 continue;
             }
-            rounds.redials.dial(place, rounds.now);
+            rounds.redials.dial(place, self.now);
             if let Ok(stream) = TcpStream::connect(rt, *address) {
-                let key = self.take(rt, poll, stream, Side::Dialed(place));
-                self.await_greeting(key, rounds);
+                let _key = self.take(rt, poll, stream, Side::Dialed(place));
             }
         }
     }
 
     /// How long to wait for a socket; None is for ever.
     fn patience(&self, rounds: &Rounds) -> Option<Duration> {
-        let accepts = (rounds.has_clients || rounds.has_routes) && !rounds.has_failed;
-        if accepts || (self.goes_on() && !self.is_short) {
+        if (rounds.has_clients || rounds.has_routes) && !rounds.has_failed {
             return Some(Duration::from_millis(0));
         }
-        let mut until = self.next_closing();
+        let mut until = self.next_turn().unwrap_or(u64::MAX);
         for place in 0..self.peers.count() {
             if self.is_missing(place) {
                 until = until.min(rounds.redials.due(place));
             }
         }
-        for greeting in &rounds.redials.greetings {
-            until = until.min(greeting.until);
-        }
-        if self.is_short || rounds.has_failed {
-            until = until.min(rounds.now.saturating_add(RETRY));
+        if rounds.has_failed {
+            until = until.min(self.now.saturating_add(RETRY));
         }
         if until == u64::MAX {
             return None;
         }
-        Some(Duration::from_millis(until.saturating_sub(rounds.now)))
+        Some(Duration::from_millis(until.saturating_sub(self.now)))
     }
 
     /// Notes which connections are ready.

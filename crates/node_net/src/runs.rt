@@ -1,5 +1,6 @@
 //! What a link has come to, after a run of what it asks.
 
+use crate::limits::LARGE_MESSAGE;
 use subj::{OUTBOX_BYTES, OUTBOX_ENTRIES};
 
 /// After how many bytes of payloads what waits for clients is taken before more is read: a client with few
@@ -13,6 +14,11 @@ const MESSAGE_COST: usize = TAKEN_EARLY / (OUTBOX_ENTRIES / 4);
 /// As how many bytes a message with a payload of so many counts; an answer counts as one without.
 pub(crate) fn cost_of(payload: usize) -> usize {
     payload.saturating_add(MESSAGE_COST)
+}
+
+/// As how many bytes a message counts among the large ones; a small one counts as none.
+pub(crate) fn large_part(bytes: usize) -> usize {
+    if bytes < LARGE_MESSAGE { 0 } else { bytes }
 }
 
 /// What a run came to. A run is what is done under one hold of a lock.
@@ -38,10 +44,16 @@ pub(crate) struct Run {
     pub end: Ran,
     /// As how many bytes the messages count that were handed to the shards.
     pub issued: usize,
+    /// The part of it that is large messages.
+    pub large: usize,
+    /// How many jobs each shard was handed.
+    pub jobs: u64,
     /// As how many bytes the lines count that were put for the client itself.
     pub replied: usize,
     /// Whether the hub has not heard of all that the shard opened and closed.
     pub has_deltas: bool,
+    /// Whether the client was told of a refusal behind which it is closed.
+    pub is_refused: bool,
     /// Whether nothing was asked in it.
     pub is_empty: bool,
 }
@@ -52,9 +64,21 @@ impl Run {
         Run {
             end,
             issued: 0,
+            large: 0,
+            jobs: 0,
             replied: 0,
             has_deltas: false,
+            is_refused: false,
             is_empty: true,
+        }
+    }
+
+    /// A message that counts as so many bytes was handed to the shards; none was for 0.
+    pub fn count(&mut self, bytes: usize) {
+        if bytes > 0 {
+            self.issued = self.issued.saturating_add(bytes);
+            self.large = self.large.saturating_add(large_part(bytes));
+            self.jobs = self.jobs.saturating_add(1);
         }
     }
 }

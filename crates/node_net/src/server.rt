@@ -6,9 +6,9 @@ ghost use Rattle.slab.specs.Slab.{Updates};
 use crate::calls::{accept, cut, dial};
 use crate::client_link::ClientLink;
 use crate::clients::Clients;
-use crate::closings::Closing;
 use crate::connection::{Connection, Link};
 use crate::faults::AddFault;
+use crate::limits::GREETING;
 use crate::peers::Peers;
 use crate::route_link::{RouteLink, Stage};
 use client_conn::Refusal;
@@ -18,6 +18,7 @@ use rand_pcg::Pcg64;
 use route_frames::{RouteFrame, encode};
 use route_session::SessionId;
 use server_calls::ServerCalls;
+use server_events::Events;
 use shard_core::Recipients;
 use slab::Slab;
 use std::alloc::{AllocError, AllocFailed, Global};
@@ -76,6 +77,8 @@ pub struct Server<S: Stream, C: ServerCalls> {
     pub(crate) awaits_any: bool,
     /// The clients of a shard that something was put for.
     pub(crate) recipients: Recipients,
+    /// How many jobs the shards are to work still, each counted once for each shard.
+    pub(crate) unworked: u64,
     /// Whether something may wait for other servers.
     pub(crate) has_told: bool,
     /// Connections for which something may wait.
@@ -88,17 +91,23 @@ pub struct Server<S: Stream, C: ServerCalls> {
     /// is room for all.
     pub(crate) leaving: Vec<usize>,
     pub(crate) going: Vec<usize>,
-    /// Connections that have a limit until which their last bytes are to be written.
-    pub(crate) closings: Vec<Closing>,
+    /// Milliseconds since the loop began.
+    pub(crate) now: u64,
+    /// No connection's deadline comes before this time; the greatest number where none comes.
+    pub(crate) next_deadline: u64,
     /// How many turns were made.
     pub(crate) turns: u64,
     /// What was taken for clients and is about to be written, and for whom.
     pub(crate) taken: Vec<u8>,
     pub(crate) parts: Vec<Part>,
+    /// What was taken for one client, before it stands among what was taken for all.
+    pub(crate) lent: Vec<u8>,
     /// Frames that are spelt and about to be written.
     pub(crate) spelt: Vec<u8>,
     /// Whether there was no memory for something, which is tried again.
     pub(crate) is_short: bool,
+    /// What has happened since it was told last.
+    pub(crate) events: Events,
 }
 
 impl<S: Stream, C: ServerCalls> Server<S, C> {
@@ -127,18 +136,22 @@ impl<S: Stream, C: ServerCalls> Server<S, C> {
             put: 0,
             awaits_any: false,
             recipients: Recipients::new(alloc),
+            unworked: 0,
             has_told: false,
             awaited: Vec::new(alloc),
             again: Vec::new(alloc),
             serving: Vec::new(alloc),
             leaving: Vec::new(alloc),
             going: Vec::new(alloc),
-            closings: Vec::new(alloc),
+            now: 0,
+            next_deadline: u64::MAX,
             turns: 0,
             taken: Vec::new(alloc),
             parts: Vec::new(alloc),
+            lent: Vec::new(alloc),
             spelt: Vec::new(alloc),
             is_short: false,
+            events: Events::new(alloc),
         })
     }
 
@@ -157,14 +170,6 @@ impl<S: Stream, C: ServerCalls> Server<S, C> {
         match &self.connections.get(key)?.link {
             Link::Client(client) => Some(client.shard),
             Link::Route(_) => None,
-        }
-    }
-
-    /// The session of a route that has not told who it is.
-    pub(crate) fn incomplete(&self, key: usize) -> Option<SessionId> {
-        match &self.connections.get(key)?.link {
-            Link::Route(route) if !route.is_kept() => Some(route.session),
-            _ => None,
         }
     }
 
@@ -191,9 +196,11 @@ impl<S: Stream, C: ServerCalls> Server<S, C> {
         if let Some(id) = client {
             self.clients.add(id, key);
         }
+        self.await_deadline(key);
         self.again
             .push(key)
             .map_err(|e: AllocFailed<usize>| AllocError::from(e))?;
+        self.tell_came(key);
         Ok(key)
     }
 
@@ -251,8 +258,7 @@ impl<S: Stream, C: ServerCalls> Server<S, C> {
             cut(rt, self.node, session);
             return Err(AddFault::OutOfMemory);
         }
-        let link = Link::Route(RouteLink::new(self.alloc, session, Stage::Accepted));
-        let mut connection = Connection::new(self.alloc, stream, link);
+        let mut connection = self.route(session, Stage::Accepted, stream);
         connection.send(&self.spelt);
         Ok(connection)
     }
@@ -269,8 +275,15 @@ impl<S: Stream, C: ServerCalls> Server<S, C> {
             Err(Failure::Refused(fault)) => return Err(AddFault::Route(fault)),
             Err(Failure::OutOfMemory) => return Err(AddFault::OutOfMemory),
         };
-        let link = Link::Route(RouteLink::new(self.alloc, session, Stage::Dialed(peer)));
-        Ok(Connection::new(self.alloc, stream, link))
+        Ok(self.route(session, Stage::Dialed(peer), stream))
+    }
+
+    /// The connection of a route that is to tell who it is before [`GREETING`] has passed.
+    fn route(&self, session: SessionId, stage: Stage, stream: S) -> Connection<S> {
+        let link = Link::Route(RouteLink::new(self.alloc, session, stage));
+        let mut connection = Connection::new(self.alloc, stream, link);
+        connection.limit(self.now.saturating_add(GREETING));
+        connection
     }
 
     /// Takes a connection out: a client's is detached, the session of a route is cut. No other connection
@@ -294,9 +307,10 @@ impl<S: Stream, C: ServerCalls> Server<S, C> {
     fn take_out(&mut self, key: usize) -> Option<S>
         ensures { Updates self.old.connections self.new.connections key None }
     {
-        let (link, stream) = self.connections.try_remove(key)?.into_parts();
-        self.forget(key, &link);
-        Some(stream)
+        let connection = self.connections.try_remove(key)?;
+        self.tell_gone(key, &connection);
+        self.forget(key, &connection.link);
+        Some(connection.into_stream())
     }
 
     /// Nothing leads any more to a connection that was taken out.

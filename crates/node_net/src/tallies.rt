@@ -3,6 +3,7 @@
 ghost use Rattle.std.specs.Prelude.{⊤};
 
 use crate::runs::{Ran, Run, cost_of};
+use crate::sids::Sids;
 use client_calls::{ClientCalls, Outcome};
 use client_conn::Refusal;
 use client_frames::{ErrText, ReplyFrame};
@@ -28,29 +29,35 @@ fn issued_by(said: &Pub, outcome: Outcome) -> usize {
     }
 }
 
-/// A shard that is held, and how much was put for the client itself.
+/// Notes what a client calls a subscription, where it was opened.
+fn note_opened(sids: &mut Sids, sid: &Sid, outcome: Outcome) {
+    if outcome == Outcome::Done {
+        sids.add(sid);
+    }
+}
+
+/// A shard that is held, what a client calls its subscriptions, and how much was put for the client itself.
 #[derive(Drop)]
 pub(crate) struct ShardTally<S: ShardCalls> {
     pub shard: S,
-    replied: usize,
-    is_empty: bool,
+    pub sids: Sids,
+    so_far: Run,
 }
 
 impl<S: ShardCalls> ShardTally<S> {
     /// Nothing was asked.
-    pub fn new(shard: S) -> ShardTally<S> {
+    pub fn new(shard: S, sids: Sids) -> ShardTally<S> {
         ShardTally {
             shard,
-            replied: 0,
-            is_empty: true,
+            sids,
+            so_far: Run::of(Ran::Goes),
         }
     }
 
     /// What was asked, in a run that came to this.
     pub fn run(&self, end: Ran) -> Run {
-        let mut run = Run::of(end);
-        run.replied = self.replied;
-        run.is_empty = self.is_empty;
+        let mut run = self.so_far;
+        run.end = end;
         run
     }
 }
@@ -64,29 +71,32 @@ impl<S: ShardCalls> ClientCalls for ShardTally<S> {
 
     fn reply(&mut self, conn: ConnId, frame: &ReplyFrame) -> Outcome {
         let outcome = self.shard.reply(conn, frame);
-        self.is_empty = false;
-        self.replied = replied_after(self.replied, outcome);
+        self.so_far.is_empty = false;
+        self.so_far.replied = replied_after(self.so_far.replied, outcome);
         outcome
     }
 
     fn shut(&mut self, conn: ConnId, text: ErrText) -> Outcome {
         let outcome = self.shard.shut(conn, text);
-        self.is_empty = false;
-        self.replied = replied_after(self.replied, outcome);
+        self.so_far.is_empty = false;
+        self.so_far.is_refused = outcome == Outcome::Shut;
+        self.so_far.replied = replied_after(self.so_far.replied, outcome);
         outcome
     }
 
     fn subscribe(&mut self, conn: ConnId, key: &Key, sid: &Sid) -> Outcome {
         let outcome = self.shard.subscribe(conn, key, sid);
-        self.is_empty = false;
-        self.replied = replied_after(self.replied, outcome);
+        self.so_far.is_empty = false;
+        note_opened(&mut self.sids, sid, outcome);
+        self.so_far.replied = replied_after(self.so_far.replied, outcome);
         outcome
     }
 
     fn unsubscribe(&mut self, conn: ConnId, sid: &Sid, max: Option<u64>) -> Outcome {
         let outcome = self.shard.unsubscribe(conn, sid, max);
-        self.is_empty = false;
-        self.replied = replied_after(self.replied, outcome);
+        self.so_far.is_empty = false;
+        self.sids.lose(sid);
+        self.so_far.replied = replied_after(self.so_far.replied, outcome);
         outcome
     }
 
@@ -99,13 +109,12 @@ impl<S: ShardCalls> ClientCalls for ShardTally<S> {
     }
 }
 
-/// A hub that is held, the words that it is given, and how much was published.
+/// A hub that is held, the words that it is given, and what was published.
 #[derive(Drop)]
 pub(crate) struct HubTally<H: HubCalls> {
     pub hub: H,
     pub words: Pcg64,
-    issued: usize,
-    is_empty: bool,
+    so_far: Run,
 }
 
 impl<H: HubCalls> HubTally<H> {
@@ -114,16 +123,14 @@ impl<H: HubCalls> HubTally<H> {
         HubTally {
             hub,
             words,
-            issued: 0,
-            is_empty: true,
+            so_far: Run::of(Ran::Goes),
         }
     }
 
     /// What was published, in a run that came to this.
     pub fn run(&self, end: Ran) -> Run {
-        let mut run = Run::of(end);
-        run.issued = self.issued;
-        run.is_empty = self.is_empty;
+        let mut run = self.so_far;
+        run.end = end;
         run
     }
 }
@@ -153,10 +160,10 @@ impl<H: HubCalls> ClientCalls for HubTally<H> {
     }
 
     fn publish(&mut self, conn: ConnId, said: &Pub) -> Outcome {
-        self.is_empty = false;
+        self.so_far.is_empty = false;
         let word = self.words.next_word();
         let outcome = self.hub.publish(conn, said, word);
-        self.issued = self.issued.saturating_add(issued_by(said, outcome));
+        self.so_far.count(issued_by(said, outcome));
         outcome
     }
 

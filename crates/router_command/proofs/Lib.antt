@@ -8,3 +8,5 @@ pub mod Taken
 pub mod Lines
 -- how the numbers of options are read
 pub mod Numbers
+-- how the texts of words and options are read
+pub mod Texts

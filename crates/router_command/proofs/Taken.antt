@@ -17,7 +17,7 @@ use Rattle.clap.specs.declared.error.kind.ErrorKind.TheVariants as kind
 use Rattle.clap.specs.declared.builder.value_parser.ValueParser.TheVariants as vp
 use Rattle.clap.proofs.ValueTestLemmas.{accepts-Accepts}
 use Rattle.router_command.specs.Line.{greatest_number, router}
-use Rattle.router_command.specs.Command.{AreNumbers, AreWords, HasNumber, IsNumber, IsWhole}
+use Rattle.router_command.specs.Command.{AreOptions, AreWords, HasNumber, IsNumber, IsWhole}
 use Rattle.router_command.proofs.Walks.{Each, IsNoHelp, Keeps, KeepsDefault, both_pass, level_keeps, walk_stops}
 use Rattle.router_command.proofs.Rows.{Passes, Reads, RowFits, default_comes, default_keeps, defaults_stay, given_found, help_keeps, row_found, row_of_rule, text_of_row, value_keeps}
 
@@ -139,7 +139,10 @@ serve_keeps = (
           value_keeps false serve_shape.rules (serve_rule (codes "word")) refl,
           (
             value_keeps false serve_shape.rules (serve_rule (codes "stop-after")) refl,
-            (help_keeps false (Each (RowFits serve_shape.rules)) (serve_rule (codes "help")), tt),
+            (
+              value_keeps false serve_shape.rules (serve_rule (codes "log-level")) refl,
+              (help_keeps false (Each (RowFits serve_shape.rules)) (serve_rule (codes "help")), tt),
+            ),
           ),
         ),
       ),
@@ -160,7 +163,10 @@ serve_defaults = (
           default_keeps serve_shape.rules (serve_rule (codes "word")) refl,
           (
             default_keeps serve_shape.rules (serve_rule (codes "stop-after")) refl,
-            (default_keeps serve_shape.rules (serve_rule (codes "help")) refl, tt),
+            (
+              default_keeps serve_shape.rules (serve_rule (codes "log-level")) refl,
+              (default_keeps serve_shape.rules (serve_rule (codes "help")) refl, tt),
+            ),
           ),
         ),
       ),
@@ -196,7 +202,15 @@ word_there rows =
     defaults_stay (codes "word") (drop 5 serve_shape.rules) (with_default before (serve_rule (codes "word")))
     (default_comes (serve_rule (codes "word")) (codes "0") before)
 
-serve_whole : (words : List Text) → level_fault serve_shape [] nothing_held words false [] ≡ [] → AreNumbers (rows_after serve_shape.rules [] words)
+level_there : (rows : List Row) → has_row (codes "log-level") (fold with_default rows serve_shape.rules) ≡ true
+level_there rows =
+    let early = with_default (with_default rows (serve_rule (codes "nodes"))) (serve_rule (codes "port")) in
+    let later = with_default (with_default (with_default early (serve_rule (codes "shards"))) (serve_rule (codes "inc"))) (serve_rule (codes "word")) in
+    let before = with_default later (serve_rule (codes "stop-after")) in
+    defaults_stay (codes "log-level") (drop 7 serve_shape.rules) (with_default before (serve_rule (codes "log-level")))
+    (default_comes (serve_rule (codes "log-level")) (codes "info") before)
+
+serve_whole : (words : List Text) → level_fault serve_shape [] nothing_held words false [] ≡ [] → AreOptions (rows_after serve_shape.rules [] words)
 serve_whole words e =
     let rows = rows_after serve_shape.rules [] words in
     let kept = level_keeps serve_shape (Each (RowFits serve_shape.rules)) serve_keeps [] nothing_held words false [] serve_defaults e tt in
@@ -210,6 +224,9 @@ serve_whole words e =
       word = serve_number (codes "word") (serve_rule (codes "word")) rows refl kept.0 (row_found (codes "word") rows (word_there used));
       stop_after = number_if_found (serve_rule (codes "stop-after")) (find (λ r. bytes_eq r.id (codes "stop-after")) rows)
           (row_of_rule serve_shape.rules (codes "stop-after") (serve_rule (codes "stop-after")) rows refl kept.0);
+      log_level = word_found (serve_rule (codes "log-level")) (find (λ r. bytes_eq r.id (codes "log-level")) rows)
+          (row_of_rule serve_shape.rules (codes "log-level") (serve_rule (codes "log-level")) rows refl kept.0)
+          (row_found (codes "log-level") rows (level_there used));
     }
 
 -- ---- the line

@@ -32,24 +32,26 @@ IsNumber text = IsUnsignedIn 0 greatest_number text
 abbrev pub HasNumber : Text → List Row → Type 0
 HasNumber name rows = IsSomeAnd (one_of name rows) IsNumber
 
--- all numbers of a mesh are there, but for that of its clients
-pub record AreNumbers (rows : List Row) : Type 0 where
+-- all options of a mesh are there, but for the number of its clients
+pub record AreOptions (rows : List Row) : Type 0 where
   pub nodes : HasNumber (codes "nodes") rows
   pub port : HasNumber (codes "port") rows
   pub shards : HasNumber (codes "shards") rows
   pub inc : HasNumber (codes "inc") rows
   pub word : HasNumber (codes "word") rows
   pub stop_after : IfSome (one_of (codes "stop-after") rows) IsNumber
+  pub log_level : IsSome (first_of (codes "log-level") rows)
 
--- each number of a mesh is what its option writes, in digits
-pub record HasNumbers (rows : List Row) (given : Given) : Type 0 where
-  pub written : AreNumbers rows
+-- each number of a mesh is what its option writes, in digits, and the level is the text of its option
+pub record HasOptions (rows : List Row) (given : Given) : Type 0 where
+  pub written : AreOptions rows
   pub nodes : number_in (codes "nodes") rows ≡ Some given.nodes
   pub port : number_in (codes "port") rows ≡ Some given.port
   pub shards : number_in (codes "shards") rows ≡ Some given.shards
   pub inc : number_in (codes "inc") rows ≡ Some given.inc
   pub word : number_in (codes "word") rows ≡ Some given.word
   pub stop_after : number_in (codes "stop-after") rows ≡ given.stop_after
+  pub log_level : first_of (codes "log-level") rows ≡ Some given.log_level.now
 
 -- the values of a command are those of its words
 abbrev pub HasValues : List Row → Command → Type 0
@@ -58,7 +60,7 @@ HasValues rows (Match pattern subject) =
     (first_of (codes "PATTERN") rows ≡ Some pattern.now)
     × (first_of (codes "SUBJECT") rows ≡ Some subject.now)
 HasValues rows Script = ⊤
-HasValues rows (Serve given) = HasNumbers rows given
+HasValues rows (Serve given) = HasOptions rows given
 
 -- what was found names the command, and has its values
 abbrev pub Names : Option (Text × List Row) → Command → Type 0
@@ -79,4 +81,4 @@ pub record AreWords (rows : List Row) : Type 0 where
 -- a command is named, and has the values that it needs
 abbrev pub IsWhole : Text × List Row → Type 0
 IsWhole found = (found.0 ≡ codes "pipe") ⊎ ((found.0 ≡ codes "match") × AreWords found.1)
-    ⊎ (found.0 ≡ codes "script") ⊎ ((found.0 ≡ codes "serve") × AreNumbers found.1)
+    ⊎ (found.0 ≡ codes "script") ⊎ ((found.0 ≡ codes "serve") × AreOptions found.1)

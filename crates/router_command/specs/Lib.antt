@@ -4,3 +4,5 @@ pub mod Line
 pub mod Command
 -- the ranges of the options of a mesh
 pub mod Ranges
+-- the levels of what standard error tells
+pub mod Levels

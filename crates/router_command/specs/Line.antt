@@ -42,9 +42,20 @@ serve_with_defaults = with_rule
     (with_value (number_rule (codes "inc")) (codes "1")))
     (with_value (number_rule (codes "word")) (codes "0"))
 
--- `serve`, with the number of clients after which it ends
+-- the number of clients after which it ends
+abbrev pub serve_with_end : App
+serve_with_end = with_rule serve_with_defaults (number_rule (codes "stop-after"))
+
+-- how grave an event has to be to be told, which is a text
+abbrev pub level_rule : Rule
+level_rule = with_value (record (new_rule (codes "log-level")) {
+  long = Some (codes "log-level");
+  value_names = 1;
+}) (codes "info")
+
+-- `serve`, with all its options
 abbrev pub serve_command : App
-serve_command = with_rule serve_with_defaults (number_rule (codes "stop-after"))
+serve_command = with_rule serve_with_end level_rule
 
 -- `match`, with its two words
 abbrev pub match_command : App

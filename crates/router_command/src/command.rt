@@ -3,8 +3,8 @@
 ghost use Rattle.std.specs.Prelude.{◌≡◌, IfErr, IfOk, IsSomeAnd, map, true};
 ghost use Rattle.std.specs.String.{string_bytes};
 ghost use Rattle.clap.specs.Words.{FailsBy, fault_of, found_of, kind_of, rows_of, subcommand_rows_of, takes};
-ghost use Rattle.router_command.specs.Command.{AreNumbers, AskFor, HasNumbers, IsWhole, Names};
-ghost use Rattle.router_command.specs.Line.{HasRule, IsLine, number_rule, router, serve_command};
+ghost use Rattle.router_command.specs.Command.{AreOptions, AskFor, HasOptions, IsWhole, Names};
+ghost use Rattle.router_command.specs.Line.{HasRule, IsLine, level_rule, number_rule, router, serve_command};
 
 use crate::options::Given;
 use clap::builder::ValueParser;
@@ -22,7 +22,7 @@ pub enum Command<'a> {
     /// To play the script on standard input.
     Script,
     /// To serve a mesh on sockets.
-    Serve(Given),
+    Serve(Given<'a>),
 }
 
 /// The option of this name, which is a number.
@@ -34,6 +34,17 @@ fn number<'a>(alloc: Global, name: &'a str, help: &'a str) -> Arg<'a>
         .value_name("N")
         .value_parser(ValueParser::Unsigned(0, u64::MAX))
         .help(help)
+}
+
+/// The option of how grave an event has to be to be told.
+fn log_level<'a>(alloc: Global) -> Arg<'a>
+    ensures { HasRule result level_rule }
+{
+    Arg::new(alloc, "log-level")
+        .long("log-level")
+        .value_name("LEVEL")
+        .default_value("info")
+        .help("What standard error tells: error, warn, info or debug")
 }
 
 /// The command that serves a mesh.
@@ -74,7 +85,8 @@ fn serve_line<'a>(alloc: Global) -> Result<clap::Command<'a>, AllocError>
         .arg(shards)?
         .arg(inc)?
         .arg(word)?
-        .arg(stop_after)
+        .arg(stop_after)?
+        .arg(log_level(alloc))
 }
 
 /// The command that plays scripts, that of one question, the pipe, and the mesh.
@@ -104,9 +116,9 @@ fn line<'a>(alloc: Global) -> Result<clap::Command<'a>, AllocError>
 }
 
 /// What the line says of a mesh.
-fn given_in(values: &ArgMatches<'_>) -> Given
-    requires { AreNumbers (rows_of (found_of values.now)) }
-    ensures { HasNumbers (rows_of (found_of values.now)) result }
+fn given_in<'a>(values: &ArgMatches<'a>) -> Given<'a>
+    requires { AreOptions (rows_of (found_of values.now)) }
+    ensures { HasOptions (rows_of (found_of values.now)) result }
 {
     Given {
         nodes: values.get_one("nodes").unwrap(),
@@ -115,6 +127,7 @@ fn given_in(values: &ArgMatches<'_>) -> Given
         inc: values.get_one("inc").unwrap(),
         word: values.get_one("word").unwrap(),
         stop_after: values.get_one("stop-after"),
+        log_level: values.get_str("log-level").unwrap(),
     }
 }
 

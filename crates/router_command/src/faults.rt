@@ -52,6 +52,8 @@ pub enum OptionFault {
     BadValue(OptionName),
     /// The last port would be above the greatest one.
     TooManyPorts,
+    /// The text is no level of what standard error tells.
+    NoLevel,
 }
 
 impl Display for OptionFault {
@@ -66,6 +68,7 @@ impl Display for OptionFault {
                 "the last port, that of --port and 2 * --nodes - 1 more, is above {}",
                 u16::MAX
             ),
+            OptionFault::NoLevel => f.write_str("--log-level takes error, warn, info or debug"),
         }
     }
 }

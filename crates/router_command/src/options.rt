@@ -1,24 +1,27 @@
 //! What the command line says of a mesh.
 
-ghost use Rattle.std.specs.Prelude.{◌≡◌, ◌≤◌, ◌<◌, ◌+◌, IfOk};
+ghost use Rattle.std.specs.Prelude.{◌≡◌, ◌≤◌, ◌<◌, ◌+◌, IfOk, Some};
+ghost use Rattle.router_command.specs.Levels.{level_named};
 ghost use Rattle.router_command.specs.Ranges.{AreWithin, range_of};
 
 use crate::faults::{OptionFault, OptionName};
+use log::LevelFilter;
 use subj::Incarnation;
 
-/// What the command line says of a mesh: each number as it was given.
+/// What the command line says of a mesh: each number and text as it was given.
 #[derive(Clone, Copy, Debug, PartialEq, Eq)]
-pub struct Given {
+pub struct Given<'a> {
     pub nodes: u64,
     pub port: u64,
     pub shards: u64,
     pub inc: u64,
     pub word: u64,
     pub stop_after: Option<u64>,
+    pub log_level: &'a str,
 }
 
-/// What a mesh is told: N servers, the first port P, K shards each, their incarnation I, the seed R, and after
-/// how many clients it ends. (Profile.)
+/// What a mesh is told: N servers, the first port P, K shards each, their incarnation I, the seed R, after
+/// how many clients it ends, and which events standard error tells. (Profile.)
 #[derive(Clone, Copy, Debug, PartialEq, Eq)]
 pub struct Options {
     pub nodes: u16,
@@ -27,6 +30,24 @@ pub struct Options {
     pub inc: Incarnation,
     pub word: u64,
     pub stop_after: Option<u64>,
+    pub log_level: LevelFilter,
+}
+
+/// The level that a text names.
+fn level_named(text: &str) -> Option<LevelFilter>
+    ensures { result ≡ level_named text.now }
+{
+    if text == "error" {
+        Some(LevelFilter::Error)
+    } else if text == "warn" {
+        Some(LevelFilter::Warn)
+    } else if text == "info" {
+        Some(LevelFilter::Info)
+    } else if text == "debug" {
+        Some(LevelFilter::Debug)
+    } else {
+        None
+    }
 }
 
 /// The value of an option, where it is in its range.
@@ -41,10 +62,11 @@ fn within(value: u64, name: OptionName) -> Result<u64, OptionFault>
 }
 
 impl Options {
-    /// The options of these numbers. Refused by the first that is out of its range, in the order of
-    /// [`OptionName`], and then where the last port would be above the greatest one. (Profile.)
-    pub fn new(given: Given) -> Result<Options, OptionFault>
-        ensures { IfOk result AreWithin }
+    /// The options of these numbers and this level. Refused by the first number that is out of its range, in the order of
+    /// [`OptionName`], then where the last port would be above the greatest one, and then where the text names no level. (Profile.)
+    pub fn new(given: Given<'_>) -> Result<Options, OptionFault>
+        ensures within { IfOk result AreWithin }
+        ensures level { IfOk result (λ options. level_named given.entry.log_level.now ≡ Some options.log_level) }
     {
         let nodes = within(given.nodes, OptionName::Nodes)? as u16;
         let port = within(given.port, OptionName::Port)? as u16;
@@ -58,6 +80,9 @@ impl Options {
         if port as u64 + 2 * nodes as u64 - 1 > u16::MAX as u64 {
             return Err(OptionFault::TooManyPorts);
         }
+        let Some(log_level) = level_named(given.log_level) else {
+            return Err(OptionFault::NoLevel);
+        };
         Ok(Options {
             nodes,
             port,
@@ -65,6 +90,7 @@ impl Options {
             inc,
             word: given.word,
             stop_after: given.stop_after,
+            log_level,
         })
     }
 

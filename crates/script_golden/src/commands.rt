@@ -36,16 +36,17 @@ fn choice_told(alloc: Global, number: Option<u64>) -> Result<String, AllocError>
 }
 
 /// What is asked of a mesh.
-fn mesh_told(alloc: Global, given: &Given) -> Result<String, AllocError> {
+fn mesh_told(alloc: Global, given: &Given<'_>) -> Result<String, AllocError> {
     let stop_after = choice_told(alloc, given.stop_after)?;
     format!(in alloc;
-        "serve {} {} {} {} {} {}",
+        "serve {} {} {} {} {} {} {}",
         given.nodes,
         given.port,
         given.shards,
         given.inc,
         given.word,
-        stop_after.as_str()
+        stop_after.as_str(),
+        given.log_level
     )
 }
 
@@ -158,8 +159,9 @@ fn end_told(alloc: Global, word: &str) -> Result<String, AllocError> {
     format!(in alloc; "status {}", status_of(&ended))
 }
 
-/// What a command line says of a mesh, in the order of `serve`: servers, port, shards, incarnation, word, and after how many clients it ends.
-fn given_of(words: &Words<'_>) -> Given {
+/// What a command line says of a mesh, in the order of `serve`: servers, port, shards, incarnation, word, after how many clients it ends, and
+/// what standard error tells.
+fn given_of<'a>(words: &Words<'a>) -> Given<'a> {
     let stop_after = words.at(5);
     Given {
         nodes: words.number(0),
@@ -168,6 +170,7 @@ fn given_of(words: &Words<'_>) -> Given {
         inc: words.number(3),
         word: words.number(4),
         stop_after: (stop_after != "none").then_some(number(stop_after)),
+        log_level: words.at(6),
     }
 }
 
@@ -175,17 +178,18 @@ fn given_of(words: &Words<'_>) -> Given {
 fn options_told(alloc: Global, options: &Options) -> Result<String, AllocError> {
     let stop_after = choice_told(alloc, options.stop_after)?;
     format!(in alloc;
-        "{} {} {} {} {} {}",
+        "{} {} {} {} {} {} {}",
         options.nodes,
         options.port,
         options.shards,
         options.inc.get(),
         options.word,
-        stop_after.as_str()
+        stop_after.as_str(),
+        options.log_level
     )
 }
 
-/// The options of these numbers.
+/// The options of these numbers and this level.
 fn options(alloc: Global, words: &Words<'_>) -> Result<String, AllocError> {
     match Options::new(given_of(words)) {
         Ok(options) => options_told(alloc, &options),
@@ -195,7 +199,7 @@ fn options(alloc: Global, words: &Words<'_>) -> Result<String, AllocError> {
 
 /// The ports of the server at this place, counted from 0, of a mesh with these options.
 fn ports(alloc: Global, words: &Words<'_>) -> Result<String, AllocError> {
-    let place = words.number(6).min(u64::from(u16::MAX)) as u16;
+    let place = words.number(7).min(u64::from(u16::MAX)) as u16;
     match Options::new(given_of(words)) {
         Ok(options) if place < options.nodes => {
             let (client, route) = (options.client_port(place), options.route_port(place));
@@ -206,7 +210,7 @@ fn ports(alloc: Global, words: &Words<'_>) -> Result<String, AllocError> {
 }
 
 /// `asks WORDS`, `refuses PART|WORDS` (what is told has the part), `tells WORDS` (all that is told), `pipe END`, `end done` or `end failed`, and with
-/// the numbers of a mesh `options NUMBERS` and `ports NUMBERS|PLACE`.
+/// what a mesh is asked for `options GIVEN` and `ports GIVEN|PLACE`.
 pub fn answer(alloc: Global, call: &str, words: &Words<'_>) -> Result<String, AllocError> {
     match call {
         "asks" => asks(alloc, words),

@@ -113,12 +113,13 @@ impl<N: NodeName> Beside<N> {
     }
 
     fn publish_each(&mut self, conn: u64, count: u64) -> Result<String, AllocError> {
-        match said(self.alloc) {
-            Some(said) if self.publishes(&said, conn, count) => {
-                format!(in self.alloc; "turns 1 to {count}")
-            }
-            _ => text(self.alloc, "another turn"),
+        let Some(said) = said(self.alloc) else {
+            return text(self.alloc, "no memory");
+        };
+        if self.publishes(&said, conn, count) {
+            return format!(in self.alloc; "turns 1 to {count}");
         }
+        text(self.alloc, "another turn")
     }
 
     /// Pushes the jobs that were given to the shard and are not pushed yet.

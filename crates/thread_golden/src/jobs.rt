@@ -16,10 +16,10 @@ const NAMES: [&[u8]; 2] = [b"audit", b"tasks"];
 const SUBJECT: &[u8] = b"orders.new";
 
 fn queue_names(alloc: Global) -> Option<QueueNames> {
-    let mut names = Vec::new(alloc);
-    for text in NAMES {
-        names.push(QueueName::read(alloc, text).ok()?).ok()?;
-    }
+    let [first, second] = NAMES;
+    let first = QueueName::read(alloc, first).ok()?;
+    let second = QueueName::read(alloc, second).ok()?;
+    let names = Vec::from_array(alloc, [first, second]).ok()?;
     QueueNames::from_names(alloc, names).ok()?
 }
 
@@ -70,11 +70,10 @@ fn is_message(message: &Message, number: u64) -> bool {
 }
 
 fn are_names(names: &[QueueName]) -> bool {
-    let alike = names
-        .iter()
-        .zip(NAMES)
-        .all(|(name, text)| name.bytes() == text);
-    names.len() == NAMES.len() && alike
+    match names {
+        [first, second] => first.bytes() == NAMES[0] && second.bytes() == NAMES[1],
+        _ => false,
+    }
 }
 
 /// Whether each part of the job is as it was made for this turn.

@@ -4,6 +4,7 @@ ghost use Rattle.std.specs.Prelude.{◌≡◌, length};
 ghost use Rattle.job_lane.specs.Turns.{AreNumberedBehind};
 
 use crate::jobs::{is_job, last_of, last_of_runs, run_behind};
+use crate::rig::put;
 use bytes::Bytes;
 use golden::{Words, text};
 use job_lane::{LaneIn, LaneOut, Run, lane, meet};
@@ -105,22 +106,21 @@ impl Both {
     }
 }
 
+/// What is told of a run that came back; it stood behind this turn.
+fn back_word(last: Turn, back: &Run) -> &'static str {
+    let wanted = last.get().saturating_add(back.jobs().len() as u64);
+    if last_of(back.jobs(), last.get()) == Some(wanted) {
+        "comes back whole"
+    } else {
+        "comes back changed"
+    }
+}
+
 /// What is told of a run that was pushed, or came back; it stands behind this turn.
 fn push_told(alloc: Global, last: Turn, back: Option<Run>) -> Result<String, AllocError> {
     match back {
         None => text(alloc, "pushed"),
-        Some(back) => {
-            let wanted = last.get().saturating_add(back.jobs().len() as u64);
-            let is_whole = last_of(back.jobs(), last.get()) == Some(wanted);
-            text(
-                alloc,
-                if is_whole {
-                    "comes back whole"
-                } else {
-                    "comes back changed"
-                },
-            )
-        }
+        Some(back) => text(alloc, back_word(last, &back)),
     }
 }
 
@@ -190,7 +190,7 @@ fn call<R: Wait>(
 
 /// A new lane in place of what stood.
 fn renew(lane: &mut Option<Both>, alloc: Global, capacity: usize) -> Result<String, AllocError> {
-    *lane = Some(Both::new(alloc, capacity)?);
+    put(lane, Some(Both::new(alloc, capacity)?));
     text(alloc, "ok")
 }
 
@@ -247,7 +247,7 @@ fn share<R: Wait>(
     let Some(run) = run_behind(alloc, first.last, count) else {
         return text(alloc, "no run");
     };
-    lanes.payload = payload_of(&run);
+    put(&mut lanes.payload, payload_of(&run));
     text(
         alloc,
         if push_both(rt, first, second, run) {

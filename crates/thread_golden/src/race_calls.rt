@@ -1,6 +1,7 @@
 //! The calls of races.
 
 use crate::races::{One, Races, Two};
+use crate::rig::put;
 use crate::seats::{Act, SeatTold};
 use claim_cells::Closed;
 use golden::{Words, text};
@@ -117,10 +118,9 @@ fn two_answer(two: &mut Two, alloc: Global, name: &str) -> Result<String, AllocE
 
 /// A new race, of one shard or of two.
 fn renew(races: &mut Races, alloc: Global, shards: u64) -> Result<String, AllocError> {
-    *races = Races::new();
     match shards {
-        1 => races.one = Some(One::new(alloc)?),
-        2 => races.two = Some(Two::new(alloc)?),
+        1 => put(races, Races::of_one(alloc)?),
+        2 => put(races, Races::of_two(alloc)?),
         _ => return text(alloc, "no race"),
     }
     text(alloc, "ok")

@@ -42,6 +42,24 @@ impl Races {
             two: None,
         }
     }
+
+    /// A race of one shard.
+    pub fn of_one(alloc: Global) -> Result<Races, AllocError> {
+        let one = One::new(alloc)?;
+        Ok(Races {
+            one: Some(one),
+            two: None,
+        })
+    }
+
+    /// A race of two shards.
+    pub fn of_two(alloc: Global) -> Result<Races, AllocError> {
+        let two = Two::new(alloc)?;
+        Ok(Races {
+            one: None,
+            two: Some(two),
+        })
+    }
 }
 
 impl One {

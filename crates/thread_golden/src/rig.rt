@@ -8,6 +8,11 @@ use golden::{Rig, Words, text};
 use std::alloc::{AllocError, Global};
 use std::sync::Wait;
 
+/// Puts a value in the place of another one: what is let go of here would be proved anew wherever this is done.
+pub fn put<T: Drop>(place: &mut T, value: T) {
+    *place = value;
+}
+
 /// What a case has made.
 #[derive(Drop)]
 pub struct ThreadRig<'r, R: Wait> {
@@ -36,10 +41,10 @@ impl<'r, R: Wait> ThreadRig<'r, R> {
 
 impl<'r, R: Wait> Rig for ThreadRig<'r, R> {
     fn renew(&mut self) -> Result<(), AllocError> {
-        self.races = Races::new();
-        self.single = None;
-        self.lanes = Lanes::new();
-        self.turns = String::new(self.alloc);
+        put(&mut self.races, Races::new());
+        put(&mut self.single, None);
+        put(&mut self.lanes, Lanes::new());
+        put(&mut self.turns, String::new(self.alloc));
         Ok(())
     }
 

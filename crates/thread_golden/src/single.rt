@@ -3,6 +3,7 @@
 ghost use Rattle.std.specs.Prelude.{◌≡◌, [], ◌∷◌};
 
 use crate::race_calls::issue_told;
+use crate::rig::put;
 use claim_cells::CellsRace;
 use claim_race::Race;
 use golden::{Words, text};
@@ -173,7 +174,7 @@ fn call(
 
 /// A new race.
 fn renew(single: &mut Option<Single>, alloc: Global) -> Result<String, AllocError> {
-    *single = Some(Single::new(alloc)?);
+    put(single, Some(Single::new(alloc)?));
     text(alloc, "ok")
 }
 

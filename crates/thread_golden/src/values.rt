@@ -109,15 +109,28 @@ pub fn said(alloc: Global) -> Option<Pub> {
     })
 }
 
+/// The name n1 alone.
+fn server_names(alloc: Global) -> Option<Vec<NodeId>> {
+    let name = NodeId::read(b"n1").ok()?;
+    Vec::from_array(alloc, [name]).ok()
+}
+
+/// The server, where it is of one shard.
+fn of_one_shard(server: Server) -> Option<Server>
+    ensures { IfSome result (λ server. server.shards ≡ 1) }
+{
+    if server.shards() == 1 {
+        Some(server)
+    } else {
+        None
+    }
+}
+
 /// The server n1, alone, of one shard.
 pub fn server(alloc: Global) -> Option<Server>
     ensures { IfSome result (λ server. server.shards ≡ 1) }
 {
-    let name = NodeId::read(b"n1").ok()?;
-    let names = Vec::from_array(alloc, [name]).ok()?;
-    let server = Server::new(names, 0, Incarnation::new(1)?, 1)?;
-    if server.shards() != 1 {
-        return None;
-    }
-    Some(server)
+    let inc = Incarnation::new(1)?;
+    let names = server_names(alloc)?;
+    of_one_shard(Server::new(names, 0, inc, 1)?)
 }

@@ -28,6 +28,7 @@ fn options(rt: &impl Abort, nodes: u64, port: u64, stop_after: u64) -> Options
         inc: 1,
         word: 0,
         stop_after: Some(stop_after),
+        log_level: "error",
     };
     match Options::new(given) {
         Ok(options) => options,

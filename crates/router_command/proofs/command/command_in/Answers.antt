@@ -1,11 +1,9 @@
-use Rattle.std.proofs.Common.{rules, ◌≡◌, ◌∙◌, ap, sym, codes, inl, inr, ℕ, true, false, true≢false, refl, List, Option, Some, None, subst}
+use Rattle.std.proofs.Common.{rules, ◌≡◌, ◌∙◌, sym, codes, inl, inr, true, false, true≢false, refl, List, Option, Some, subst}
 use Rattle.std.specs.Str.{bytes_eq}
-use Rattle.std.specs.Prelude.{IsSome, IsSomeAnd, is_some, option_map}
-use Rattle.std.specs.Borrow.{Bor}
-use Rattle.clap.specs.Words.{Row, Text, first_of, first_value, found_of, rows_of, subcommand_rows_of}
-use Rattle.clap.specs.declared.parser.matches.Found.{Found}
-use Rattle.clap.proofs.WalkLemmas.{first_value-rows}
+use Rattle.std.specs.Prelude.{IsSomeAnd}
+use Rattle.clap.specs.Words.{Row, Text, found_of, rows_of, subcommand_rows_of}
 use Rattle.router_command.specs.Command.{AreWords, IsWhole}
+use Rattle.router_command.proofs.Texts.{text_is, text_there}
 use Rattle.router_command.proofs.command.command_in.Goals as goal
 
 -- `match` is no other command
@@ -22,14 +20,6 @@ words_of name rows e (inr (inr (inr serve))) = absurd (differs name (codes "serv
 
 question : (found : Option (Text × List Row)) (name : Text) (rows : List Row) → found ≡ Some (name, rows) → name ≡ codes "match" → IsSomeAnd found IsWhole → AreWords rows
 question found name rows is e whole = words_of name rows e (subst (λ (o : Option (Text × List Row)). IsSomeAnd o IsWhole) is whole)
-
-text_there : (f : Found) (name : Text) (r : Option (Bor (List ℕ))) → option_map (λ s. s.now) r ≡ first_value f name → IsSome (first_of name (rows_of f)) → IsSome r
-text_there f name (Some v) e some = refl
-text_there f name None e some = ap (λ (o : Option Text). is_some o) (e ∙ first_value-rows f name) ∙ some
-
-text_is : (f : Found) (name : Text) (r : Option (Bor (List ℕ))) (v : Bor (List ℕ)) → option_map (λ s. s.now) r ≡ first_value f name → r ≡ Some v
-    → first_of name (rows_of f) ≡ Some v.now
-text_is f name r v e is = sym (first_value-rows f name) ∙ (sym e ∙ ap (λ (o : Option (Bor (List ℕ))). option_map (λ s. s.now) o) is)
 
 pub unwrap-requires-in-match : goal.unwrap-requires-in-match
 unwrap-requires-in-match c =

@@ -5,7 +5,7 @@ use Rattle.clap.specs.Simple.{app_of_fields}
 use Rattle.clap.specs.declared.builder.arg.Arg.{Arg}
 use Rattle.clap.specs.declared.builder.command.Command.{Command}
 use Rattle.clap.specs.declared.builder.command.Command.TheOpen.{Command-F}
-use Rattle.router_command.specs.Line.{HasRule, IsLine, required_rule, number_rule, serve_with_defaults, with_value}
+use Rattle.router_command.specs.Line.{HasRule, IsLine, level_rule, required_rule, number_rule, serve_with_defaults, serve_with_end, with_value}
 use Rattle.router_command.proofs.Lines.{with_arg}
 use Rattle.router_command.proofs.command.serve_line.Goals as goal
 
@@ -34,5 +34,6 @@ returns c =
     let three = with_arg c.in_ok-arg-2.field-0 c.in_ok-arg-3.field-0 c.default_value-shards.result _ (with_value (number_rule (codes "shards")) (codes "2")) two shards c.in_ok-arg-3.ensures in
     let four = with_arg c.in_ok-arg-3.field-0 c.in_ok-arg-4.field-0 c.default_value-inc.result _ (with_value (number_rule (codes "inc")) (codes "1")) three inc c.in_ok-arg-4.ensures in
     let five = with_arg c.in_ok-arg-4.field-0 c.in_ok-arg-5.field-0 c.default_value-word.result _ (with_value (number_rule (codes "word")) (codes "0")) four word c.in_ok-arg-5.ensures in
-    IfOk-weaker c.arg-6.result _ _
-    (λ command added. with_arg c.in_ok-arg-5.field-0 command c.number-stop_after.result serve_with_defaults (number_rule (codes "stop-after")) five c.number-stop_after.ensures added) c.arg-6.ensures
+    let six = with_arg c.in_ok-arg-5.field-0 c.in_ok-arg-6.field-0 c.number-stop_after.result serve_with_defaults (number_rule (codes "stop-after")) five c.number-stop_after.ensures c.in_ok-arg-6.ensures in
+    IfOk-weaker c.arg-7.result _ _
+    (λ command added. with_arg c.in_ok-arg-6.field-0 command c.log_level.result serve_with_end level_rule six c.log_level.ensures added) c.arg-7.ensures

@@ -1,4 +1,4 @@
-use Rattle.net_golden.proofs.nodes.answer.Given as goal
+use Rattle.report_golden.proofs.nodes.answer.Given as goal
 
 -- the server of the parts that were just made
 abbrev pub ghosts-play : goal.ghosts-play

@@ -1,4 +1,4 @@
-//! A server without connections that has just started, the calls of a case on it, and its report.
+//! A server that has just started, the calls of a case on it, and its report.
 
 ghost use Rattle.std.specs.Prelude.{◌≡◌};
 
@@ -7,12 +7,11 @@ use crate::node_calls::{self, Node};
 use crate::pass_calls::{serve_clients, serve_peer};
 use crate::values::life_of;
 use golden::{Words, text, yes_or_no};
-use node_threads::NodeName;
 use std::alloc::{AllocError, Global};
 use std::marker::Brand;
 use std::sync::Wait;
 use subj::ConnId;
-use thread_node::{Parts, ThreadNode};
+use thread_node::{NodeName, Parts, ThreadNode};
 use thread_report::{Pass, Report, Unfinished, finish};
 
 /// How many servers are in the cluster, how many shards each has, and whether what is done is written down.
@@ -43,55 +42,52 @@ impl Setting {
     }
 }
 
-/// The connections of a server, and what its clients and its peer asked and were answered.
+/// The connections of a server, and what its callers asked and were answered.
 #[derive(Drop)]
 struct Callers<N: NodeName> {
     alloc: Global,
     conns: Vec<ConnId>,
-    clients: Pass<N>,
-    peer: Pass<N>,
+    passes: Vec<Pass<N>>,
 }
 
 impl<N: NodeName> Callers<N> {
+    /// There are none.
     fn new(alloc: Global) -> Callers<N> {
         Callers {
             alloc,
             conns: Vec::new(alloc),
-            clients: Pass::new(alloc),
-            peer: Pass::new(alloc),
+            passes: Vec::new(alloc),
         }
-    }
-
-    /// What both were answered, or the clients alone.
-    fn passes(self, is_whole: bool) -> Result<Vec<Pass<N>>, AllocError> {
-        let Callers {
-            alloc,
-            clients,
-            peer,
-            ..
-        } = self;
-        let mut passes = Vec::with_capacity(alloc, 2)?;
-        passes.push(clients)?;
-        if is_whole {
-            passes.push(peer)?;
-        }
-        Ok(passes)
     }
 }
 
-/// A call of which a pass tells.
-fn pass_answer<N: NodeName, R: Wait>(
+/// What the caller of this name does: whether it is served.
+fn is_served<N: NodeName, R: Wait>(
     rt: &R,
+    alloc: Global,
     node: &Node<N>,
-    callers: &mut Callers<N>,
-    call: &str,
+    pass: &mut Pass<N>,
+    name: &str,
+) -> bool {
+    match name {
+        "clients" => serve_clients(rt, alloc, node, pass).is_some(),
+        "peer" => serve_peer(rt, alloc, node, pass).is_some(),
+        _ => false,
+    }
+}
+
+/// The same, and its pass is put behind the others.
+fn serve<N: NodeName, R: Wait>(
+    rt: &R,
+    alloc: Global,
+    node: &Node<N>,
+    passes: &mut Vec<Pass<N>>,
+    name: &str,
 ) -> Result<String, AllocError> {
-    let alloc = callers.alloc;
-    let made = match call {
-        "clients" => serve_clients(rt, alloc, node, &mut callers.clients),
-        _ => serve_peer(rt, alloc, node, &mut callers.peer),
-    };
-    text(alloc, if made.is_some() { "ok" } else { "refused" })
+    let mut pass = Pass::new(alloc);
+    let is_served = is_served(rt, alloc, node, &mut pass, name);
+    passes.push(pass)?;
+    text(alloc, if is_served { "ok" } else { "refused" })
 }
 
 /// The answer of a call.
@@ -103,12 +99,26 @@ fn answer_of<N: NodeName, R: Wait>(
 ) -> Result<String, AllocError> {
     let alloc = callers.alloc;
     match (line.of, line.call) {
-        ("pass", call) => pass_answer(rt, node, callers, call),
+        ("pass", call) => serve(rt, alloc, node, &mut callers.passes, call),
         (_, "finish") => text(alloc, "ok"),
         (_, call) => {
             node_calls::answer_of(rt, node, alloc, &mut callers.conns, call, &line.words)
         }
     }
+}
+
+/// Makes these calls. Gives the last one's answer.
+fn play_calls<N: NodeName, R: Wait>(
+    rt: &R,
+    node: &Node<N>,
+    callers: &mut Callers<N>,
+    calls: &str,
+) -> Result<String, AllocError> {
+    let mut answer = String::new(callers.alloc);
+    for text in calls.lines() {
+        answer = answer_of(rt, node, callers, &call_of(text))?;
+    }
+    Ok(answer)
 }
 
 /// How many steps the first shard wrote down.
@@ -152,30 +162,56 @@ fn end_told(
     }
 }
 
-/// Ends the server, where the last call is its end. Gives the last answer.
+/// Ends the server. The peer, whose pass comes last, is left out where that is asked for.
 fn end<N: NodeName, R: Wait>(
     rt: &R,
     node: Node<N>,
     callers: Callers<N>,
-    line: &Line<'_>,
+    what: &str,
 ) -> Result<String, AllocError> {
-    let (alloc, what) = (callers.alloc, line.words.at(0));
-    let passes = callers.passes(what != "without_peer")?;
+    let Callers {
+        alloc,
+        mut passes,
+        ..
+    } = callers;
+    if what == "without_peer" {
+        let _peer = passes.pop();
+    }
     end_told(alloc, finish(rt, alloc, node, passes), what)
 }
 
-/// Makes these calls. Gives the last one's answer.
-fn play_calls<N: NodeName, R: Wait>(
+/// Makes these calls, and ends the server: what the last call was answered is not asked then.
+fn play_to_the_end<N: NodeName, R: Wait>(
     rt: &R,
-    node: &Node<N>,
-    callers: &mut Callers<N>,
-    calls: &String,
+    alloc: Global,
+    node: Node<N>,
+    calls: &str,
+    what: &str,
 ) -> Result<String, AllocError> {
-    let mut answer = String::new(callers.alloc);
-    for text in calls.as_str().lines() {
-        answer = answer_of(rt, node, callers, &call_of(text))?;
-    }
-    Ok(answer)
+    let mut callers = Callers::new(alloc);
+    let _last = play_calls(rt, &node, &mut callers, calls);
+    end(rt, node, callers, what)
+}
+
+/// Makes these calls on the server, which is let go of then: by a call, since each of its parts would be proved to be let go of here. Gives
+/// the last one's answer.
+fn play_on<N: NodeName, R: Wait>(
+    rt: &R,
+    alloc: Global,
+    node: Node<N>,
+    calls: &str,
+) -> Result<String, AllocError> {
+    let mut callers = Callers::new(alloc);
+    let answer = play_calls(rt, &node, &mut callers, calls);
+    drop(node);
+    drop(callers);
+    answer
+}
+
+/// What is asked of the server's report, where the last call ends it.
+fn end_of(calls: &str) -> Option<&str> {
+    let last = call_of(calls.lines().last()?);
+    (last.call == "finish").then_some(last.words.at(0))
 }
 
 /// Makes these calls on the server of these parts. Gives the last one's answer.
@@ -188,18 +224,15 @@ fn play<N: NodeName, R: Wait>(
     requires { (parts.race ≡ N.race) × (parts.lanes ≡ N.lanes) × (parts.keep ≡ N.keep) }
 {
     let node: Node<N> = ThreadNode::start(alloc, parts)?;
-    let mut callers = Callers::new(alloc);
-    let answer = play_calls(rt, &node, &mut callers, calls)?;
-    let last = call_of(calls.as_str().lines().last().unwrap_or(""));
-    if last.call != "finish" {
-        return Ok(answer);
+    match end_of(calls.as_str()) {
+        Some(what) => play_to_the_end(rt, alloc, node, calls.as_str(), what),
+        None => play_on(rt, alloc, node, calls.as_str()),
     }
-    end(rt, node, callers, &last)
 }
 
 /// The parts of a server that has just started.
 fn parts_of(alloc: Global, setting: Setting) -> Option<Parts> {
-    let life = life_of(alloc, setting.nodes, 0, setting.shards)?;
+    let life = life_of(alloc, setting.nodes, setting.shards)?;
     let (parts, _parkers) = Parts::new(alloc, life, setting.keep).ok()?;
     Some(parts)
 }

@@ -1,0 +1,2 @@
+-- what the rule for one line comes to
+pub mod Spacing

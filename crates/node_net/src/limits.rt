@@ -1,0 +1,64 @@
+//! The limits of a server's connections and of its loop, each with its unit. All of them are this project's profile;
+//! `docs/OPERATING.md` says what comes of them.
+
+/// How long a client has for its last bytes once it was shut, or sends nothing any more, in milliseconds: as long as
+/// nats-server waits for a write.
+pub(crate) const LAST_BYTES: u64 = 10_000;
+
+/// How long a route may take no byte while something waits for it, in milliseconds. It is cut then.
+pub(crate) const ROUTE_STALL: u64 = 10_000;
+
+/// How long the session of a route may take to be complete, in milliseconds.
+pub(crate) const GREETING: u64 = 5_000;
+
+/// The first pause between two dials of one server, in milliseconds.
+pub(crate) const FIRST_PAUSE: u64 = 25;
+
+/// The longest pause between two dials of one server, in milliseconds.
+pub(crate) const LAST_PAUSE: u64 = 1_000;
+
+/// How long to wait, in milliseconds, before something is tried again for which there was no memory, or no
+/// descriptor.
+pub(crate) const RETRY: u64 = 10;
+
+/// How long nothing was read of a connection before the buffer of what it sent is given back, in milliseconds: a route's all of it, and a
+/// client's down to half a megabyte.
+pub(crate) const IDLE: u64 = 1_000;
+
+/// To what multiple of milliseconds that time is rounded up.
+pub(crate) const IDLE_STEP: u64 = IDLE / 4;
+
+/// Of how many bytes of what a connection sent the buffer stays, where nothing is read of it.
+pub(crate) const IDLE_BYTES: usize = 4_096;
+
+/// How many bytes are read at once of a connection that has just come. A connection that sends more is read
+/// in greater parts, so that one that sends little has a small buffer.
+pub(crate) const FIRST_READ: usize = 512;
+
+/// The most bytes of a buffer that stays once what is in it was written. A client's outbox may get the buffer
+/// in exchange for its own.
+pub(crate) const KEPT_BYTES: usize = 16_384;
+
+/// How many bytes are taken under one hold of a shard's lock, at least, before they are written.
+pub(crate) const TAKEN_AT_ONCE: usize = 1_048_576;
+
+/// How many bytes are kept for another server whose stream does not take them, at least, before its frames
+/// wait in the hub, which has room for few.
+pub(crate) const PEER_BACKLOG: usize = 67_108_864;
+
+/// As how many bytes a message counts, at least, that is counted among those that wait for another server in the hub. Smaller ones
+/// come to no more than [`PEER_BACKLOG`] there, since it has room for few frames.
+pub(crate) const LARGE_MESSAGE: usize = 65_536;
+
+/// How many frames are taken for another server at once.
+pub(crate) const FRAMES: usize = 64;
+
+/// The most asks that are answered under one hold of a shard's lock: a quarter of what an outbox has room for, and of
+/// what may wait for another server.
+pub(crate) const SHARD_RUN: u64 = 256;
+
+/// The most connections that are accepted in a turn.
+pub(crate) const ACCEPTS: usize = 256;
+
+/// The most events that are told of in a turn.
+pub(crate) const EVENTS: usize = 1_024;

@@ -1,0 +1,125 @@
+//! What happens at a server, and why.
+
+use std::io;
+use subj::{ConnId, NodeId};
+
+/// What the system said of a call that failed.
+#[derive(Clone, Copy)]
+pub struct SystemCause {
+    /// The number of its error, where it gave one.
+    pub code: Option<i32>,
+    /// The kind of its error.
+    pub kind: io::ErrorKind,
+}
+
+impl SystemCause {
+    /// What this error says.
+    pub fn of(error: &io::Error) -> SystemCause {
+        SystemCause {
+            code: error.raw_os_error(),
+            kind: error.kind(),
+        }
+    }
+}
+
+/// Who connected to a server.
+#[derive(Clone, Copy)]
+pub enum Caller {
+    /// A client.
+    Client,
+    /// Another server of the cluster, or who would be one.
+    Server,
+}
+
+/// Why a server closed the connection of a client.
+#[derive(Clone, Copy)]
+pub enum ClientCause {
+    /// More waited for it than a server keeps: it was told 'Slow Consumer'.
+    Slow,
+    /// It sent what closes a connection: it was told why.
+    Refused,
+    /// It was to be closed, and did not take its last bytes in time.
+    Unread,
+    /// There was no memory for what it was owed.
+    OutOfMemory,
+    /// The system does not tell when its socket is ready.
+    Unwatched,
+}
+
+/// Why the connection to another server ended.
+#[derive(Clone, Copy)]
+pub enum PeerCause {
+    /// The other end closed it, or it broke.
+    Broken,
+    /// What came on it is refused.
+    Refused,
+    /// It took no byte for too long while something waited for it.
+    Stalled,
+    /// A change of interest had no room behind what waited for it.
+    Full,
+    /// There was no memory for what it was owed.
+    OutOfMemory,
+    /// The system does not tell when its socket is ready.
+    Unwatched,
+}
+
+/// Why a connection was not taken.
+#[derive(Clone, Copy)]
+pub enum RefusalCause {
+    /// The system did not give it, as where no descriptor is left.
+    System(SystemCause),
+    /// The numbers of clients' connections are used up.
+    NumbersSpent,
+    /// So many connections of servers stand that no more is kept.
+    TooManyRoutes,
+    /// It did not tell in time which server it is.
+    Silent,
+    /// There was no memory for it.
+    OutOfMemory,
+}
+
+/// What happens at a server. Other servers are told by their names, and clients by the numbers that their server told them.
+#[derive(Clone, Copy)]
+pub enum Event {
+    /// Clients and other servers can connect, at these ports.
+    Listening {
+        clients: u16,
+        routes: u16,
+    },
+    /// Another server is reached.
+    PeerUp {
+        peer: NodeId,
+    },
+    /// Another server that was reached is so no more.
+    PeerDown {
+        peer: NodeId,
+        cause: PeerCause,
+    },
+    /// A client was taken.
+    ClientCame {
+        client: ConnId,
+    },
+    /// A client went of its own accord.
+    ClientGone {
+        client: ConnId,
+    },
+    /// The server closed the connection of a client, for whom so many bytes waited.
+    ClientClosed {
+        client: ConnId,
+        cause: ClientCause,
+        waiting: u64,
+    },
+    /// A connection was not taken.
+    ConnectionRefused {
+        caller: Caller,
+        cause: RefusalCause,
+    },
+    /// There was no memory for something, which is tried again.
+    OutOfMemory,
+    /// The server ends, since its mesh does.
+    Stopped,
+    /// The server cannot go on.
+    Failed {
+        cause: SystemCause,
+    },
+}

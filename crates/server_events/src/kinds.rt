@@ -1,0 +1,95 @@
+//! Of which kind an event is, and how grave.
+
+ghost use Rattle.std.specs.Prelude.{◌≡◌, ◌<◌};
+ghost use Rattle.server_events.specs.Kinds.{kind_of, level_of, place_of};
+
+use crate::event::Event;
+use log::Level;
+
+/// How many kinds of events there are.
+pub const KINDS: usize = 10;
+
+/// A kind of events: those of one are as grave as each other, and counted together.
+#[derive(Clone, Copy)]
+pub enum EventKind {
+    Listening,
+    PeerUp,
+    PeerDown,
+    ClientCame,
+    ClientGone,
+    ClientClosed,
+    ConnectionRefused,
+    OutOfMemory,
+    Stopped,
+    Failed,
+}
+
+impl EventKind {
+    /// All of them, each at its [place](EventKind::place).
+    pub const ALL: [EventKind; KINDS] = [
+        EventKind::Listening,
+        EventKind::PeerUp,
+        EventKind::PeerDown,
+        EventKind::ClientCame,
+        EventKind::ClientGone,
+        EventKind::ClientClosed,
+        EventKind::ConnectionRefused,
+        EventKind::OutOfMemory,
+        EventKind::Stopped,
+        EventKind::Failed,
+    ];
+
+    /// How grave it is. (Profile.)
+    pub fn level(self) -> Level
+        ensures { result ≡ level_of self }
+    {
+        match self {
+            EventKind::Failed => Level::Error,
+            EventKind::PeerDown
+            | EventKind::ClientClosed
+            | EventKind::ConnectionRefused
+            | EventKind::OutOfMemory => Level::Warn,
+            EventKind::Listening | EventKind::PeerUp | EventKind::Stopped => Level::Info,
+            EventKind::ClientCame | EventKind::ClientGone => Level::Debug,
+        }
+    }
+
+    /// Where it stands among all kinds, from 0.
+    pub fn place(self) -> usize
+        ensures same { result ≡ place_of self }
+        ensures within { result < KINDS }
+    {
+        match self {
+            EventKind::Listening => 0,
+            EventKind::PeerUp => 1,
+            EventKind::PeerDown => 2,
+            EventKind::ClientCame => 3,
+            EventKind::ClientGone => 4,
+            EventKind::ClientClosed => 5,
+            EventKind::ConnectionRefused => 6,
+            EventKind::OutOfMemory => 7,
+            EventKind::Stopped => 8,
+            EventKind::Failed => 9,
+        }
+    }
+}
+
+impl Event {
+    /// Its kind.
+    pub fn kind(&self) -> EventKind
+        ensures { result ≡ kind_of self.now }
+    {
+        match self {
+            Event::Listening { .. } => EventKind::Listening,
+            Event::PeerUp { .. } => EventKind::PeerUp,
+            Event::PeerDown { .. } => EventKind::PeerDown,
+            Event::ClientCame { .. } => EventKind::ClientCame,
+            Event::ClientGone { .. } => EventKind::ClientGone,
+            Event::ClientClosed { .. } => EventKind::ClientClosed,
+            Event::ConnectionRefused { .. } => EventKind::ConnectionRefused,
+            Event::OutOfMemory => EventKind::OutOfMemory,
+            Event::Stopped => EventKind::Stopped,
+            Event::Failed { .. } => EventKind::Failed,
+        }
+    }
+}
