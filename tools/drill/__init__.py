@@ -1,0 +1,158 @@
+"""Draws lists of steps for clusters and streams of one client, plays them with the program, and judges what it writes by a model of its own.
+
+  tools/dev drill [LISTS] [--seed N] [--program PATH] [--plants]
+  tools/dev drill [LISTS] [--seed N] --show script | stream
+
+For each of LISTS seeds from N on (500 from 1 on, where they are left out) one script is played by `nats_mesh script`, and one stream by `nats_mesh
+pipe`. PATH is the program, of whatever sources. Where it is left out, the proved one is played (crates/nats_mesh/out/nats_mesh), which is not
+built here: where it is missing, or older than a source of the router, nothing is played, and it is said how it is built (status 2). --plants also
+edits what the program wrote of each list, in each of several named ways, and sees that each is found. --show writes what is drawn, and plays nothing:
+`tools/dev drill 1 --seed 17 --show script | ./nats_mesh script`. Status 0: nothing differs, and each plant was found.
+
+The model is written from the pages docs/SCRIPTS.md, docs/PROTOCOL.md and docs/PROMISES.md, and from nothing of the router's code. A cluster has 1 to
+5 servers of 1 to 4 shards (8 where their share of subscriptions is filled). Judged of a script: each line; and of the placements as they are written,
+by the words of the headline, with no more of the model than which publications were made and when which subscription was open: each publication at
+most once for a plain subscription, and at most once for a queue name in the whole cluster; each for a subscription that was open at that step and
+matched, of a publication of an earlier step; those of an incarnation in rising number; without echo none for its publisher. Judged of a stream: each
+byte behind INFO, and the status.
+
+Not judged: the bytes of what is placed in a cluster, and of frames, since a script's text does not show them (a stream shows those of one server);
+what standard error tells; what is refused as no script (90 to 92); a settled delivery, which no script asks for; refusals that no script meets
+(`tally` names them); threads and sockets (`serve`); times, and want of memory.
+
+In reading order: `values`, `shard`, `server` and `cluster` are the model; `moves` and `lists` draw scripts by it, `judge` judges them, and `plants`
+edits what was written; `streams` has all that for one client; `tally` is what is told at the end.
+"""
+import os
+import subprocess
+import sys
+
+from repository import TOP
+
+from . import plants, streams
+from .judge import ENDED, Flaw, flaws_in
+from .lists import drawn
+from .tally import Tally
+
+PROGRAM = os.path.join(TOP, "crates", "nats_mesh", "out", "nats_mesh")
+
+# What to do where the program is missing or old. Only a word that needs the program builds it.
+HOW_TO_BUILD = """  without proofs, in minutes:  ./nats_mesh --unproved pipe </dev/null
+                               and then tools/dev drill --program .unproved/nats_mesh
+  the proved one:              ./nats_mesh pipe </dev/null"""
+
+LISTS = 500
+
+# How long the program may take for a list, in seconds, and how many flaws of one list are told.
+LAST_SECOND = 120
+MOST_FLAWS = 5
+
+
+def run(program, word, data):
+    """What the program writes of its input, and its status; none where it does not end."""
+    try:
+        done = subprocess.run([program, word], input=data, stdout=subprocess.PIPE, stderr=subprocess.DEVNULL, timeout=LAST_SECOND, check=False)
+    except subprocess.TimeoutExpired:
+        return "", None
+    return done.stdout.decode(errors="replace"), done.returncode
+
+
+def tell_flaws(seed, of, word, flaws, tally):
+    """Tells what is wrong with a list or a stream, and how it is played again."""
+    if flaws:
+        tally.differing += 1
+        print(f"seed {seed}, {of}: {len(flaws)} flaws; tools/dev drill 1 --seed {seed} --show {word} shows it")
+        for flaw in flaws[:MOST_FLAWS]:
+            print(f"  {flaw.kind}: {flaw.where}")
+
+
+def play_list(program, seed, with_plants, tally):
+    script = drawn(seed)
+    text, status = run(program, "script", script.text)
+    flaws = [] if status == 0 else [Flaw(ENDED, f"status {status}")]
+    flaws += flaws_in(script, text)
+    tally.note_list(script, text)
+    tell_flaws(seed, f"a script ({script.kind})", "script", flaws, tally)
+    if with_plants and not flaws:
+        for name, edited, kind in plants.planted(plants.PLANTS, plants.Written(script, text)):
+            tally.note_plant(name, any(flaw.kind == kind for flaw in flaws_in(script, edited)))
+
+
+def play_stream(program, seed, with_plants, tally):
+    stream = streams.Stream(seed)
+    text, status = run(program, "pipe", stream.text)
+    flaws = [] if status == stream.status else [Flaw(ENDED, f"status {status} (by the pages: {stream.status})")]
+    flaws += stream.flaws_in(text)
+    tally.note_stream(stream)
+    tell_flaws(seed, "a stream", "stream", flaws, tally)
+    if with_plants and not flaws:
+        info = text[:text.index("\r\n") + 2]
+        for name, edit in streams.PLANTS:
+            edited = edit(stream, info)
+            if edited is not None:
+                tally.note_plant(name, any(stream.flaws_in(edited)))
+
+
+def words_of(words):
+    """What a command line asks for, by the names of its words; none where it is none."""
+    asked = {"lists": str(LISTS), "--seed": "1", "--program": None, "--show": None, "--plants": False}
+    words = list(words)
+    while words:
+        word = words.pop(0)
+        if word == "--plants":
+            asked[word] = True
+        elif word in ("--seed", "--program", "--show") and words:
+            asked[word] = words.pop(0)
+        elif word.isdecimal():
+            asked["lists"] = word
+        else:
+            return None
+    is_known = asked["--seed"].isdecimal() and asked["--show"] in (None, "script", "stream")
+    return asked if is_known else None
+
+
+def show(asked, seeds):
+    """Writes what is drawn."""
+    for seed in seeds:
+        data = drawn(seed).text + b"\n" if asked["--show"] == "script" else streams.Stream(seed).text
+        sys.stdout.buffer.write(data)
+    return 0
+
+
+def newer_source(program):
+    """The first source that changed after the program was built; none where there is none."""
+    built = os.stat(program).st_mtime_ns
+    sources = [os.path.join(TOP, "crates.txt")]
+    for folder, folders, names in os.walk(os.path.join(TOP, "crates")):
+        folders[:] = sorted(set(folders) - {"out"})
+        sources += [os.path.join(folder, name) for name in sorted(names) if name.endswith((".rt", ".antt"))]
+    return next((os.path.relpath(path, TOP) for path in sources if os.stat(path).st_mtime_ns > built), None)
+
+
+def cause_against(program, is_named):
+    """Why a program is not played; none where it is. One that the caller names may be of whatever sources."""
+    if not os.access(program, os.X_OK):
+        return f"there is no program {program}"
+    source = None if is_named else newer_source(program)
+    return f"{source} changed after the proved program was built" if source else None
+
+
+def main(words):
+    asked = words_of(words)
+    if asked is None:
+        return None
+    seeds = range(int(asked["--seed"]), int(asked["--seed"]) + int(asked["lists"]))
+    if asked["--show"]:
+        return show(asked, seeds)
+    program, with_plants, tally = asked["--program"] or PROGRAM, asked["--plants"], Tally()
+    cause = cause_against(program, asked["--program"] is not None)
+    if cause:
+        print(f"tools/dev drill: {cause}\n{HOW_TO_BUILD}", file=sys.stderr)
+        return 2
+    for seed in seeds:
+        play_list(program, seed, with_plants, tally)
+        play_stream(program, seed, with_plants, tally)
+    names = [name for name, *_ in (*plants.PLANTS, *streams.PLANTS)] if with_plants else []
+    for line in tally.lines(names):
+        print(line)
+    return 1 if tally.differing or tally.missed(names) else 0

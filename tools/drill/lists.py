@@ -1,0 +1,176 @@
+"""Drawn lists of steps: what each begins with, and moves behind that."""
+import json
+
+from .moves import Draw, Moves
+from .values import OUTBOX_ENTRIES, QUEUE_NAMES, ROUTE_FRAMES, SESSIONS, WINDOW
+
+NAMES = [["n1", "n2", "n3", "n4", "n5"], ["b", "a", "Z-1", "x_2", "0"]]
+
+# How many events a list has at least that is not ended by its beginning; the last move may add a few.
+EVENTS = 300
+
+
+class Script:
+    """A list that was drawn: its steps, the bytes of the script, and the model's cluster behind them."""
+
+    def __init__(self, seed, moves, kind):
+        self.seed, self.kind, self.steps, self.cluster = seed, kind, moves.steps, moves.cluster
+        self.text = text_of(moves.cluster.names, moves.cluster.shards, moves.steps)
+        # The lines that have to be written.
+        self.wanted = moves.cluster.text().split("\n")[:-1]
+
+
+def text_of(names, shards, steps):
+    return json.dumps({"nodes": names, "shards": shards, "steps": steps}, separators=(",", ":"), ensure_ascii=False).encode()
+
+
+# ---- beginnings
+
+def blind(_):
+    """All servers are down."""
+
+
+def open_servers(moves):
+    """Servers that are up and joined, with connections."""
+    for node in moves.cluster.names:
+        moves.start(node)
+        for _ in range(3):
+            moves.attach(node)
+    for place, node in enumerate(moves.cluster.names):
+        for peer in moves.cluster.names[place + 1:]:
+            moves.join(node, peer)
+
+
+def joined(moves):
+    """The first two servers are up and have heard each other; each has a connection at its first shard."""
+    for node in moves.cluster.names[:2]:
+        moves.ask("start", node, inc=1)
+        moves.ask("attach", node)
+    if len(moves.cluster.names) > 1:
+        moves.ask("join", moves.cluster.names[0], peer=moves.cluster.names[1])
+        moves.hear_all()
+
+
+def fill_outbox(moves):
+    """More messages for one connection than may wait for it."""
+    joined(moves)
+    node = moves.cluster.names[0]
+    for sid in range(60):
+        moves.ask("sub", node, conn=1, pattern="foo", sid=str(sid), queue="q" if sid % 10 == 9 else None)
+    for count in range(OUTBOX_ENTRIES // 54 + 2):
+        moves.ask("publish", node, conn=1, subject="foo", payload=str(count), word=0)
+        moves.work_off(node)
+
+
+def fill_bytes(moves):
+    """More bytes for one connection than may wait for it."""
+    joined(moves)
+    node, count = moves.cluster.names[0], moves.draw.up_to(3)
+    for sid in range(20):
+        moves.ask("sub", node, conn=1, pattern="foo", sid=str(sid), queue="q" if sid == 15 else None)
+    for _ in range(count):
+        moves.ask("publish", node, conn=1, subject="foo", payload="x" * (900_000 // count - moves.draw.below(9)), word=0)
+        moves.work_off(node)
+
+
+def fill_window(moves):
+    """More publications than a shard may be behind, of which some come from another server."""
+    joined(moves)
+    last = moves.cluster.names[:2][-1]
+    moves.ask("sub", last, conn=1, pattern="foo", sid="1")
+    moves.collect(last)
+    moves.hear_all()
+    for count in range(WINDOW + 3):
+        moves.ask("publish", moves.cluster.names[0], conn=1, subject="foo", payload=str(count), word=0)
+        if moves.draw.is_one_in(2):
+            moves.ask("begin", moves.cluster.names[0], shard=moves.cluster.shards)
+            moves.ask("end", moves.cluster.names[0], shard=moves.cluster.shards)
+    for frame in range(moves.handed + 1, len(moves.cluster.frames) + 1):
+        moves.ask("receive", last, frame=frame)
+    while moves.ask("publish", last, conn=1, subject="foo", payload="late", word=0):
+        pass
+
+
+def fill_sessions(moves):
+    """More sessions than may stand."""
+    joined(moves)
+    for _ in range(SESSIONS + 2):
+        word = moves.draw.one_of(["accept", "dial"])
+        moves.ask(word, moves.cluster.names[0], peer=moves.cluster.names[-1] if word == "dial" else None)
+
+
+def fill_names(moves):
+    """More queue names for a subject than a publication may have, over up to two servers."""
+    joined(moves)
+    nodes = moves.cluster.names[:2]
+    for number in range(QUEUE_NAMES + 1):
+        node = moves.draw.one_of(nodes)
+        moves.ask("sub", node, conn=1, pattern="foo", queue=f"g{number}", sid=str(number))
+        if number >= QUEUE_NAMES - 1:
+            for each in nodes:
+                moves.collect(each)
+            moves.hear_all()
+            moves.ask("publish", nodes[0], conn=1, subject="foo", payload="", word=moves.draw.below(99))
+    for each in nodes:
+        moves.hear_all()
+        moves.work_off(each)
+
+
+def fill_route(moves):
+    """More frames for a peer than may wait for it: messages, and then a change of interest."""
+    joined(moves)
+    first, last = moves.cluster.names[0], moves.cluster.names[:2][-1]
+    moves.ask("sub", last, conn=1, pattern="foo", sid="1")
+    moves.ask("sub", last, conn=1, pattern="foo", queue="q", sid="2")
+    moves.collect(last)
+    moves.hear_all()
+    for count in range(ROUTE_FRAMES + 2):
+        moves.ask("publish", first, conn=1, subject="foo", payload="", word=count)
+        moves.work_off(first)
+        moves.handed = len(moves.cluster.frames)
+    if moves.draw.is_one_in(2):
+        moves.ask("take", first, peer=last, n=1)
+    moves.ask("sub", first, conn=1, pattern="bar", sid="3")
+    moves.ask("sub", first, conn=1, pattern="bar.*", sid="4")
+    moves.collect(first)
+
+
+def fill_share(moves):
+    """More bytes of subscriptions than a shard's share."""
+    joined(moves)
+    node, long = moves.cluster.names[0], "x" * 1_000
+    for number in range(520):
+        if not moves.ask("sub", node, conn=1, pattern=f"{number}.{long}", sid=str(number)):
+            break
+    moves.ask("sub", node, conn=1, pattern="foo", sid="foo")
+    moves.ask("unsub", node, conn=1, sid="0")
+    moves.ask("sub", node, conn=1, pattern="foo", sid="foo")
+
+
+# Each with how many of a thousand lists begin so, and how many shards the servers have at most.
+BEGINNINGS = [(open_servers, 640, 4), (blind, 120, 4), (fill_outbox, 80, 4), (fill_window, 60, 4), (fill_sessions, 30, 2), (fill_names, 30, 2),
+              (fill_bytes, 16, 4), (fill_share, 12, 8), (fill_route, 12, 1)]
+
+
+def beginning_of(draw):
+    left = draw.below(1_000)
+    for beginning, part, shards in BEGINNINGS:
+        if left < part:
+            return beginning, shards
+        left -= part
+    raise AssertionError("the parts of the beginnings are a thousand")
+
+
+def drawn(seed, events=EVENTS, beginning=None):
+    """The list of this seed."""
+    draw = Draw(seed)
+    begin, most = beginning_of(draw)
+    if beginning is not None:
+        begin, most = beginning, 4
+    shards = 8 if begin is fill_share else draw.up_to(most)
+    moves = Moves(draw, draw.one_of(NAMES)[:draw.up_to(5)], shards)
+    begin(moves)
+    least = max(events, moves.cluster.step + 50)
+    while moves.cluster.step < least:
+        moves.move()
+    return Script(seed, moves, begin.__name__)

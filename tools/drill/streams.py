@@ -1,0 +1,263 @@
+"""Drawn streams of one client for `nats_mesh pipe`, and what has to be written of each, byte for byte (docs/PROTOCOL.md, docs/PROMISES.md).
+
+The commands are drawn as values, and how they are spelt is drawn beside: the model never reads a line.
+"""
+import json
+
+from .judge import Flaw
+from .moves import PATTERNS, QUEUES, REPLIES, SUBJECTS, Draw
+from .shard import Shard
+from .values import OUTBOX_ENTRIES, QUEUE_NAMES, SLOW_CONSUMER, Job, Message, Refused, is_match
+
+OTHER_BYTES = "the bytes are not what the pages say"
+
+# How many commands a stream has.
+COMMANDS = 60
+
+BAD_NAMES = ["foo.", ".foo", "a..b", ">.a", "."]
+PAYLOADS = ["", "hello", "\r\n", "MSG foo 1 2\r\nhi\r\n", "Grüße", "x" * 5_000, "y" * 70_000]
+
+# Lines that close the connection, and what is told of them.
+CLOSING = [
+    ("FOO", "Unknown Protocol Operation"), ("", "Unknown Protocol Operation"), (" PING", "Unknown Protocol Operation"),
+    ("SUB foo", "Parser Error"), ("SUB foo q 1 2", "Parser Error"), ("PUB foo five", "Parser Error"), ("PUB foo 00000000005", "Parser Error"),
+    ("UNSUB", "Parser Error"), ("UNSUB 1 x", "Parser Error"), ("CONNECT", "Parser Error"), ("CONNECT {\"echo\":1}", "Parser Error"),
+    ("CONNECT []", "Parser Error"), ("PUB foo 2\r\nhixx", "Parser Error"), ("PUB foo 1048577", "Maximum Payload Violation"),
+    ("PING" + " " * 4_093, "Maximum Control Line Exceeded"),
+]
+
+
+class Client:
+    """The model of the one client: its options, and its server of one shard."""
+
+    def __init__(self):
+        self.shard = Shard(1, 1)
+        self.conn = self.shard.attach()
+        self.is_verbose, self.has_echo, self.turn, self.is_closed = True, True, 0, False
+        # What has to be written behind INFO, answer by answer.
+        self.pieces = []
+
+    def put(self, text):
+        self.pieces.append(text)
+
+    def confirm(self):
+        if self.is_verbose:
+            self.put("+OK\r\n")
+
+    def complain(self, text, closes=False):
+        self.put(f"-ERR '{text}'\r\n")
+        self.is_closed = closes
+
+    def connect(self, verbose, echo):
+        self.is_verbose, self.has_echo = verbose, echo
+        self.confirm()
+
+    def subscribe(self, pattern, queue, sid):
+        self.confirm()
+        try:
+            self.shard.subscribe(self.conn, pattern, queue, sid)
+        except Refused:
+            self.complain("Too Many Subscriptions")
+
+    def unsubscribe(self, sid, maximum):
+        self.confirm()
+        self.shard.unsubscribe(self.conn, sid, maximum)
+
+    def publish(self, message):
+        self.confirm()
+        names = sorted({sub.queue for sub in self.shard.subs if sub.queue is not None and is_match(sub.pattern, message.subject)}, key=str.encode)
+        if len(names) > QUEUE_NAMES:
+            self.complain("Too Many Queue Groups")
+            return
+        self.turn += 1
+        self.shard.waiting.append(Job(self.turn, ("n1", 1, self.turn), message, self.conn, self.has_echo, tuple(names)))
+        _, shut = self.shard.begin()
+        for index in range(0 if shut else len(names)):
+            self.shard.claim(index, set())
+        self.pieces += [message.text_for(sub.sid) for _, sub, _ in self.shard.placed]
+        self.shard.placed = []
+        if shut:
+            self.put(SLOW_CONSUMER)
+            self.is_closed = True
+        else:
+            self.shard.end()
+            self.shard.take(self.conn, len(self.shard.outboxes[self.conn].entries))
+
+
+class Stream:
+    """A stream that was drawn: its bytes, and what has to be written of it."""
+
+    def __init__(self, seed):
+        self.seed, self.draw, self.client = seed, Draw(f"stream {seed}"), Client()
+        self.lines = []
+        if self.draw.is_one_in(40):
+            self.draw_many(OUTBOX_ENTRIES + 1, None)
+        elif self.draw.is_one_in(40):
+            self.draw_many(QUEUE_NAMES + 1, "q")
+        for _ in range(COMMANDS):
+            self.draw_command()
+        self.text = "".join(self.lines).encode()
+        self.wanted = "".join(self.client.pieces)
+        self.status = 1 if self.client.is_closed else 0
+
+    # ---- spelling
+
+    def say(self, word, *fields):
+        """A line: the word in any case, and blanks between its fields and behind them."""
+        if not self.draw.is_one_in(4):
+            word = word.lower() if self.draw.is_one_in(2) else word.title()
+        blank = self.draw.one_of([" ", " ", " ", "  ", "\t"])
+        self.lines.append(blank.join([word, *fields]) + self.draw.one_of(["", "", " "]) + "\r\n")
+
+    def digits(self, number):
+        return str(number).zfill(self.draw.one_of([1, 1, 1, 4, 10]))
+
+    def say_publication(self, subject, reply, payload):
+        size = self.digits(len(payload.encode()))
+        self.say("PUB", *[field for field in (subject, reply, size) if field is not None])
+        self.lines.append(payload + "\r\n")
+
+    # ---- commands
+
+    def draw_many(self, count, queue):
+        """More subscriptions than one publication may have."""
+        for number in range(count):
+            name = f"{queue}{number}" if queue else None
+            self.say("SUB", "foo", *([name] if name else []), str(100 + number))
+            self.client.subscribe("foo", name, str(100 + number))
+
+    def draw_command(self):
+        if self.client.is_closed:
+            self.say("PING")
+            return
+        which = self.draw.below(40)
+        if which < 2:
+            self.draw_connect()
+        elif which < 12:
+            self.draw_sub()
+        elif which < 16:
+            self.draw_unsub()
+        elif which < 36:
+            self.draw_pub()
+        else:
+            self.draw_other()
+
+    def draw_connect(self):
+        verbose, echo = self.draw.one_of([None, True, False]), self.draw.one_of([None, None, True, False])
+        chosen = {name: value for name, value in (("verbose", verbose), ("lang", "none"), ("echo", echo)) if value is not None}
+        self.say("CONNECT", json.dumps(chosen))
+        self.client.connect(verbose is not False, echo is not False)
+
+    def draw_sub(self):
+        queue, sid = self.draw.one_of(QUEUES), str(self.draw.up_to(8))
+        pattern = self.draw.one_of(PATTERNS) if not self.draw.is_one_in(12) else self.draw.one_of(BAD_NAMES)
+        self.say("SUB", pattern, *([queue] if queue else []), sid)
+        if pattern in BAD_NAMES:
+            self.client.complain("Invalid Subject")
+        else:
+            self.client.subscribe(pattern, queue, sid)
+
+    def draw_unsub(self):
+        sid = str(self.draw.up_to(8))
+        maximum = self.draw.below(5) if self.draw.is_one_in(2) else None
+        self.say("UNSUB", sid, *([] if maximum is None else [self.digits(maximum)]))
+        self.client.unsubscribe(sid, maximum)
+
+    def draw_pub(self):
+        subject, reply = self.draw.one_of(SUBJECTS), self.draw.one_of(REPLIES)
+        payload = self.draw.one_of(PAYLOADS) if self.draw.is_one_in(2) else str(len(self.lines))
+        is_bad = self.draw.is_one_in(16)
+        if is_bad and self.draw.is_one_in(2):
+            subject = self.draw.one_of(BAD_NAMES + ["foo.*", ">"])
+        elif is_bad:
+            reply = self.draw.one_of(BAD_NAMES + ["*"])
+        self.say_publication(subject, reply, payload)
+        if is_bad:
+            self.client.complain("Invalid Subject")
+        else:
+            self.client.publish(Message(subject, reply, payload))
+
+    def draw_other(self):
+        which = self.draw.below(20)
+        if which < 10:
+            self.say("PING", *(["more"] if which < 2 else []))
+            self.client.put("PONG\r\n")
+        elif which < 18:
+            self.say("PONG")
+        else:
+            line, text = self.draw.one_of(CLOSING)
+            self.lines.append(line + "\r\n")
+            self.client.complain(text, closes=True)
+
+    # ---- judging
+
+    def flaws_in(self, text):
+        """What is wrong with what was written."""
+        info, _, rest = text.partition("\r\n")
+        word, _, told = info.partition(" ")
+        try:
+            is_info = word == "INFO" and json.loads(told).get("max_payload") == 1_048_576
+        except (ValueError, AttributeError):
+            is_info = False
+        if not is_info:
+            yield Flaw(OTHER_BYTES, f"no INFO comes first, but {info[:80]!r}")
+        if rest != self.wanted:
+            at = next((at for at, (one, other) in enumerate(zip(rest, self.wanted)) if one != other), min(len(rest), len(self.wanted)))
+            yield Flaw(OTHER_BYTES, f"behind {at} characters: {rest[at:at + 60]!r} (by the pages: {self.wanted[at:at + 60]!r})")
+
+
+# ---- what is planted
+
+def message_at(stream):
+    """The place of the first message with a payload, and the message."""
+    return next(((at, piece) for at, piece in enumerate(stream.client.pieces) if piece.startswith("MSG ") and not piece.endswith("\r\n\r\n")), None)
+
+
+def with_piece(stream, info, at, *pieces):
+    return info + "".join([*stream.client.pieces[:at], *pieces, *stream.client.pieces[at + 1:]])
+
+
+def payload_changed(stream, info):
+    found = message_at(stream)
+    return found and with_piece(stream, info, found[0], found[1][:-3] + chr(ord(found[1][-3]) ^ 1) + "\r\n")
+
+
+def message_twice(stream, info):
+    found = message_at(stream)
+    return found and with_piece(stream, info, found[0], found[1], found[1])
+
+
+def message_lost(stream, info):
+    found = message_at(stream)
+    return found and with_piece(stream, info, found[0])
+
+
+def other_id(stream, info):
+    found = message_at(stream)
+    if not found:
+        return None
+    word, subject, sid, rest = found[1].split(" ", 3)
+    return with_piece(stream, info, found[0], f"{word} {subject} 9{sid} {rest}")
+
+
+def reply_lost(stream, info):
+    for at, piece in enumerate(stream.client.pieces):
+        fields = piece.partition("\r\n")[0].split(" ")
+        if fields[0] == "MSG" and len(fields) == 5:
+            return with_piece(stream, info, at, " ".join([*fields[:3], fields[4]]) + "\r\n" + piece.partition("\r\n")[2])
+    return None
+
+
+def confirmed_twice(stream, info):
+    at = next((at for at, piece in enumerate(stream.client.pieces) if piece.startswith("+OK")), None)
+    return None if at is None else with_piece(stream, info, at, "+OK\r\n", "+OK\r\n")
+
+
+PLANTS = [
+    ("the payload of a message is changed", payload_changed),
+    ("a message comes twice", message_twice),
+    ("a message does not come", message_lost),
+    ("a message has the id of another subscription", other_id),
+    ("the reply of a message is left out", reply_lost),
+    ("a command is confirmed twice", confirmed_twice),
+]
