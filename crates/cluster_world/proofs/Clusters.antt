@@ -6,3 +6,4 @@ pub mod Kept
 pub mod Living
 pub mod Finds
 pub mod Settling
+pub mod Testing

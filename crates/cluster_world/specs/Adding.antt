@@ -9,8 +9,8 @@ use Rattle.node_law.specs.Answers.{Answer}
 use Rattle.node_law.specs.declared.events.ConnEvent.{ConnEvent}
 use Rattle.node_law.specs.declared.events.ConnEvent.TheVariants.{Subscribe, Unsubscribe, Reply, Shut, Detach, Take}
 use Rattle.node_law.specs.Events.{OwnEvent, OfConn, AtShard, Publish, Collect, Dial, Accept, CutSession, TakeFrames, NodeEvent, Own, Receive, OnInfo, OnConnect}
-use Rattle.cluster_world.specs.declared.noted.Noted.{Noted}
-use Rattle.cluster_world.specs.declared.noted.Opening.{Opening}
+use Rattle.cluster_world.specs.declared.lists.Noted.{Noted}
+use Rattle.cluster_world.specs.declared.lists.Opening.{Opening}
 use Rattle.cluster_world.specs.InCode.{publication_of}
 use Rattle.world_law.specs.State.{Publication, Life, is_sub}
 

@@ -18,7 +18,7 @@ use Rattle.world_law.specs.declared.faults.WorldFault.TheVariants as fault
 use Rattle.cluster_world.specs.declared.lists.Acted.{Acted}
 use Rattle.cluster_world.specs.declared.lists.Lists.{Lists}
 use Rattle.cluster_world.specs.declared.nodes.Made.{Made}
-use Rattle.cluster_world.specs.declared.noted.Noted.{Noted}
+use Rattle.cluster_world.specs.declared.lists.Noted.{Noted}
 use Rattle.cluster_world.specs.Adding.{AreNoted, opened_lives, closed_if}
 use Rattle.world_law.specs.Events.{Event, Start, Stop, Receive, OnInfo, OnConnect, At}
 use Rattle.world_law.specs.Headline.{IsCluster}

@@ -10,15 +10,13 @@
 //! Each step of a [`World`] is a step by the definitions of `world_law`, so what holds of every run holds of it: the headline, and
 //! that a cluster at rest delivers (`settled_law`).
 //!
-//! In reading order: `events` and `outcomes`, `records` (what is kept of what was done), `nodes`, `frames`, `lists` with `noted`, and
-//! `world`.
+//! In reading order: `events` and `outcomes`, `records` (what is kept of what was done), `nodes` (the servers, and what an event hands to
+//! one), `lists` (what a step adds), and `world`.
 #![tactic(auto)]
 
 mod events;
-mod frames;
 mod lists;
 mod nodes;
-mod noted;
 mod outcomes;
 mod records;
 mod world;

@@ -1,6 +1,6 @@
 //! The lists of a cluster, and how a step adds to them.
 
-ghost use Rattle.std.specs.Prelude.{◌≡◌, ◌<◌, ◌++◌, map, OnOk, OnErr, Some, None, true};
+ghost use Rattle.std.specs.Prelude.{◌≡◌, ◌<◌, ◌++◌, map, OnOk, OnErr, Some, None, true, IfOk};
 ghost use Rattle.std.specs.List.{list_any, flat_map};
 ghost use Rattle.std.specs.Option.{option_map, option_copied, option_to_list};
 ghost use Rattle.std.specs.Vec.{vec_len, vec_capacity};
@@ -8,17 +8,17 @@ ghost use Rattle.node_core.specs.InCode.{answer_of};
 ghost use Rattle.world_law.specs.Refusals.{is_used};
 ghost use Rattle.cluster_world.specs.InCode.{started_of, publication_of, life_of, placements_in, items_of, placing_server};
 ghost use Rattle.world_law.specs.Play.{placements_put};
-ghost use Rattle.cluster_world.specs.Adding.{closes, closed_if, opened_lives};
+ghost use Rattle.cluster_world.specs.Adding.{closes, closed_if, opened_lives, published_by, opening_by, AreNoted};
 ghost use Rattle.world_law.specs.State.{is_sub};
 ghost use Rattle.cluster_world.specs.Value.{listed_of, no_lists, with_start, with_closed, HasRoom, IsAdded};
+ghost use Rattle.node_core.specs.Lent.{asked_of};
 
-use crate::noted::{Noted, Opening};
 use crate::records::{Life, LifeId, Placements, Publication, Started};
-use node_core::{Answer, Did};
+use node_core::{Answer, Asked, ConnEvent, Did, OwnEvent};
 use route_values::RouteFrame;
 use shard_core::Placed;
 use std::alloc::{AllocError, Global};
-use subj::{Incarnation, SubId};
+use subj::{ConnId, Incarnation, Key, PubId, Sid, SubId};
 
 /// A step, and the server that makes it.
 #[derive(Clone, Copy)]
@@ -199,14 +199,21 @@ impl Lists {
         was_started(&self.started, node, inc)
     }
 
-    /// The incarnation was started there. Want of memory leaves all as it was.
-    pub(crate) fn add_start(&mut self, node: usize, inc: Incarnation) -> Result<(), AllocError>
-        ensures ok { OnOk result (listed_of self.new ≡ with_start node inc (listed_of self.old)) }
-        ensures err { OnErr result (listed_of self.new ≡ listed_of self.old) }
+    /// Makes one place more for an incarnation that is started.
+    pub(crate) fn make_start_room(&mut self) -> Result<(), AllocError>
+        ensures same { listed_of self.new ≡ listed_of self.old }
+        ensures room { OnOk result (vec_len self.new.started < vec_capacity self.new.started) }
     {
         self.started.reserve(1)?;
-        self.started.push_reserved(Started { node, inc });
         Ok(())
+    }
+
+    /// The incarnation was started there. Takes no memory.
+    pub(crate) fn add_start(&mut self, node: usize, inc: Incarnation)
+        requires { vec_len self.old.started < vec_capacity self.old.started }
+        ensures { listed_of self.new ≡ with_start node inc (listed_of self.old) }
+    {
+        self.started.push_reserved(Started { node, inc });
     }
 
     /// The server stops: its lives close. Takes no memory.
@@ -256,4 +263,76 @@ fn was_started(started: &[Started], node: usize, inc: Incarnation) -> bool
         }
     }
     false
+}
+
+/// A subscription that an event opens, if its id is free.
+#[derive(Drop)]
+pub(crate) struct Opening {
+    pub(crate) conn: ConnId,
+    pub(crate) key: Key,
+    pub(crate) sid: Sid,
+}
+
+/// What an event may add.
+#[derive(Drop)]
+pub(crate) struct Noted {
+    pub(crate) publication: Option<Publication>,
+    pub(crate) opening: Option<Opening>,
+}
+
+/// The publication that an event makes in this step, under this name.
+fn publication_in(
+    asked: &Asked<'_>,
+    id: PubId,
+    step: u64,
+) -> Result<Option<Publication>, AllocError>
+    ensures { IfOk result (λ noted. option_to_list (option_map publication_of noted) ≡ published_by id step (asked_of asked.now)) }
+{
+    let Asked::Own(OwnEvent::Publish { conn, said, .. }) = *asked else {
+        return Ok(None);
+    };
+    let message = said.message.try_clone()?;
+    Ok(Some(Publication {
+        step,
+        id,
+        message,
+        publisher: *conn,
+        echo: said.echo,
+    }))
+}
+
+/// The subscription that an event opens, if its id is free.
+fn opening_in(alloc: Global, asked: &Asked<'_>) -> Result<Option<Opening>, AllocError>
+    ensures { IfOk result (λ noted. noted ≡ opening_by (asked_of asked.now)) }
+{
+    let Asked::Own(OwnEvent::OfConn { conn, event }) = *asked else {
+        return Ok(None);
+    };
+    let ConnEvent::Subscribe { key, sid } = event else {
+        return Ok(None);
+    };
+    let key = key.try_clone(alloc)?;
+    let sid = sid.try_clone(alloc)?;
+    Ok(Some(Opening {
+        conn: *conn,
+        key,
+        sid,
+    }))
+}
+
+/// What an event may add in this step, where the next publication is called so.
+pub(crate) fn note(
+    alloc: Global,
+    asked: &Asked<'_>,
+    id: PubId,
+    step: u64,
+) -> Result<Noted, AllocError>
+    ensures { IfOk result (λ noted. AreNoted id step (asked_of asked.now) noted) }
+{
+    let publication = publication_in(asked, id, step)?;
+    let opening = opening_in(alloc, asked)?;
+    Ok(Noted {
+        publication,
+        opening,
+    })
 }

@@ -1,20 +1,36 @@
 //! The servers of a cluster, by place.
 
-ghost use Rattle.std.specs.Prelude.{◌≡◌, ◌<◌, length, None, Some, IfOk, OnErr, replicate, slice_get, set, is_some};
-ghost use Rattle.std.specs.Option.{option_map};
+ghost use Rattle.std.specs.Prelude.{◌≡◌, ◌<◌, ◌&&◌, ◌∷◌, [], length, map, None, Some, IfOk, OnErr, replicate, slice_get, set, is_some};
+ghost use Rattle.hub_core.specs.Settled.{has_few_names};
+ghost use Rattle.node_law.specs.Settled.{is_node_settled};
+ghost use Rattle.settled_law.specs.Tests.{are_peers_settled, are_settled, are_roomy};
+ghost use Rattle.world_law.specs.State.{Cluster, World};
+ghost use Rattle.std.specs.Option.{option_map, option_copied};
 ghost use Rattle.node_core.specs.Lent.{asked_of};
 ghost use Rattle.world_law.specs.Refusals.{start_refusal, stop_refusal};
-ghost use Rattle.cluster_world.specs.Value.{slot_refusal, IsMade, inc_in, running_in, listed_of, server_in};
+ghost use Rattle.cluster_world.specs.Value.{slot_refusal, IsMade, InPlace, inc_in, running_in, running_of, listed_of, server_in};
+ghost use Rattle.std.specs.List.{flat_map};
+ghost use Rattle.world_law.specs.Events.{frame_at as frame_of_number, numbered_event as numbered_frame, info_on as info_of_frame, connect_on as connect_of_frame, event_for};
+ghost use Rattle.cluster_world.specs.InCode.{event_of, items_of};
 
-use crate::lists::Lists;
-use crate::noted::{Noted, note};
+use crate::events::Event;
+use crate::lists::{Lists, Noted, note};
 use claim_race::Race;
 use node_core::{Asked, Did, Node, Refused};
+use route_session::SessionId;
+use route_values::RouteFrame;
 use std::alloc::{AllocError, Global};
 use std::marker::Model;
 use sub_table::SubTable;
-use subj::{Incarnation, Server};
+use subj::{Incarnation, Message, Server, Subject};
 use world_law::WorldFault;
+
+/// Puts a value in the place of another.
+fn put_in<V: Drop>(place: &mut V, value: V)
+    ensures { place.new ≡ value }
+{
+    *place = value;
+}
 
 /// What a server's step came to.
 #[derive(Drop)]
@@ -23,6 +39,17 @@ pub(crate) struct Made {
     pub(crate) inc: Incarnation,
     pub(crate) noted: Noted,
     pub(crate) did: Did,
+}
+
+/// Whether each connection of the server has room for the messages that its open subscriptions are due of this one; so it is
+/// where no server is up.
+fn has_room_at<T: SubTable, R: Race>(slot: &Option<Node<T, R>>, message: &Message) -> bool
+    ensures { result ≡ are_roomy message.now (running_in slot.now ∷ []) }
+{
+    match slot {
+        None => true,
+        Some(node) => node.has_room_for(message),
+    }
 }
 
 /// The servers that are up, each at its place.
@@ -59,6 +86,57 @@ impl<T: SubTable, R: Race> Nodes<T, R> {
     {
         let slot = self.slots.get(n)?;
         Some(slot.is_some())
+    }
+
+    /// Whether the server at the place, this one, knows each other one as it runs; not where one is down. Takes no memory.
+    fn is_met(&self, n: usize, node: &Node<T, R>) -> bool
+        ensures { result ≡ are_peers_settled n (running_of node.now) 0 (map running_in self.now) }
+    {
+        for (place, slot) in self.slots.iter().enumerate() {
+            let Some(other) = slot else {
+                return false;
+            };
+            if place != n && !node.knows(place, other) {
+                return false;
+            }
+        }
+        true
+    }
+
+    /// Whether the server at the place is at rest, knows each other one, and has not too many queue names for the subject.
+    fn is_settled_at(&self, n: usize, node: &Node<T, R>, subject: &Subject) -> bool
+        ensures { result ≡ (is_node_settled node.now.node && (are_peers_settled n (running_of node.now) 0 (map running_in self.now) && has_few_names node.now.server node.now.node.hub subject.now)) }
+    {
+        node.is_settled() && self.is_met(n, node) && node.has_few_names(subject)
+    }
+
+    /// Whether every server is up, at rest, and known to the others, with not too many queue names for the subject. Takes no
+    /// memory.
+    pub(crate) fn are_settled(&self, subject: &Subject) -> bool
+        ensures { (c : Cluster) → InPlace c self.now → result ≡ are_settled c subject.now (map running_in self.now) 0 (map running_in self.now) }
+    {
+        for (place, slot) in self.slots.iter().enumerate() {
+            let Some(node) = slot else {
+                return false;
+            };
+            if !self.is_settled_at(place, node, subject) {
+                return false;
+            }
+        }
+        true
+    }
+
+    /// Whether each connection of a server that is up has room for the messages that its open subscriptions are due of this
+    /// one, all together. Takes no memory.
+    pub(crate) fn have_room_for(&self, message: &Message) -> bool
+        ensures { result ≡ are_roomy message.now (map running_in self.now) }
+    {
+        for slot in &self.slots {
+            if !has_room_at(slot, message) {
+                return false;
+            }
+        }
+        true
     }
 
     /// Why the event is refused at the place; none of it where it hands over no frame. Takes no memory.
@@ -114,7 +192,7 @@ impl<T: SubTable, R: Race> Nodes<T, R> {
         requires { n < length self.old }
         ensures { self.new ≡ set self.old n node }
     {
-        self.slots[n] = node;
+        put_in(&mut self.slots[n], node);
     }
 
     /// The incarnation of the server at the place; none where none is up there.
@@ -168,5 +246,66 @@ pub(crate) fn stop_fault<T: SubTable, R: Race>(nodes: &Nodes<T, R>, n: usize) ->
         None => Some(WorldFault::NoSuch),
         Some(true) => None,
         Some(false) => Some(WorldFault::NodeDown),
+    }
+}
+
+/// The frame of this number among those sent, counted from 1.
+pub(crate) fn frame_at(sent: &[Vec<RouteFrame>], number: usize) -> Option<&RouteFrame>
+    ensures { option_copied result ≡ frame_of_number number (flat_map items_of sent.now) }
+{
+    if number == 0 {
+        return None;
+    }
+    let mut left = number - 1;
+    for frames in sent {
+        if left < frames.len() {
+            return Some(&frames[left]);
+        }
+        left -= frames.len();
+    }
+    None
+}
+
+/// The frame, where it is a numbered one, as what a server is asked.
+fn numbered_ask(frame: Option<&RouteFrame>) -> Option<Asked<'_>>
+    ensures { option_map asked_of result ≡ numbered_frame (option_copied frame.entry) }
+{
+    match frame {
+        Some(RouteFrame::Numbered(frame)) => Some(Asked::Receive(frame)),
+        _ => None,
+    }
+}
+
+/// The frame, where it is an `INFO`, as what a server is asked on this session.
+fn info_on(session: SessionId, frame: Option<&RouteFrame>) -> Option<Asked<'_>>
+    ensures { option_map asked_of result ≡ info_of_frame session (option_copied frame.entry) }
+{
+    match frame {
+        Some(RouteFrame::Info(info)) => Some(Asked::OnInfo(session, info)),
+        _ => None,
+    }
+}
+
+/// The frame, where it is a `CONNECT`, as what a server is asked on this session.
+fn connect_on(session: SessionId, frame: Option<&RouteFrame>) -> Option<Asked<'_>>
+    ensures { option_map asked_of result ≡ connect_of_frame session (option_copied frame.entry) }
+{
+    match frame {
+        Some(RouteFrame::Connect(connect)) => Some(Asked::OnConnect(session, connect)),
+        _ => None,
+    }
+}
+
+/// What an event asks of the server that it is for; none where there is no frame of that kind with its
+/// number.
+pub(crate) fn asked_by<'a>(event: &'a Event, sent: &'a [Vec<RouteFrame>]) -> Option<Asked<'a>>
+    ensures { (w : World) → w.sent ≡ flat_map items_of sent.now → option_map asked_of result ≡ event_for w (event_of event.now) }
+{
+    match event {
+        Event::Start { .. } | Event::Stop { .. } => None,
+        Event::Receive { frame, .. } => numbered_ask(frame_at(sent, *frame)),
+        Event::OnInfo { session, frame, .. } => info_on(*session, frame_at(sent, *frame)),
+        Event::OnConnect { session, frame, .. } => connect_on(*session, frame_at(sent, *frame)),
+        Event::At { event, .. } => Some(Asked::Own(event)),
     }
 }

@@ -1,6 +1,8 @@
 //! A cluster as one value.
 
-ghost use Rattle.std.specs.Prelude.{◌≡◌, ◌+◌, ◌∷◌, None, Some, IfOk, OnErr, map};
+ghost use Rattle.settled_law.specs.Settled.{IsSettled, IsRoomy};
+ghost use Rattle.settled_law.specs.Tests.{settled_for, room_for};
+ghost use Rattle.std.specs.Prelude.{◌≡◌, ◌↔◌, ◌+◌, ◌∷◌, true, None, Some, IfOk, OnErr, map};
 ghost use Rattle.std.specs.List.{flat_map};
 ghost use Rattle.world_law.specs.Events.{Event as Asked, Start, Stop, At};
 ghost use Rattle.node_law.specs.Events.{Publish};
@@ -13,19 +15,18 @@ ghost use Rattle.world_law.specs.RestsOn.{CameSo};
 ghost use Rattle.cluster_world.specs.Value.{IsFor, IsStepped, Ran, IsPart, GivesOnce, new_cluster};
 
 use crate::events::Event;
-use crate::frames::asked_by;
 use crate::lists::{Acted, Lists};
-use crate::nodes::{Made, Nodes, server_of, start_fault, stop_fault};
+use crate::nodes::{Made, Nodes, asked_by, server_of, start_fault, stop_fault};
 use crate::outcomes::{Delivery, Outcome};
 use crate::records::{Life, Placements, Publication};
 use claim_race::Race;
 use node_core::{Answer, Node, OwnEvent};
 use route_values::RouteFrame;
-use settled_law::carried_worlds_deliver;
+use settled_law::{carried_tests_are_exact, carried_worlds_deliver, tests_are_exact};
 use std::alloc::{AllocError, Global};
 use std::marker::Model;
 use sub_table::SubTable;
-use subj::{ConnId, Incarnation, NodeId, Pub, Server};
+use subj::{ConnId, Incarnation, NodeId, Pub, Server, Subject};
 use world_law::{
     WorldFault, carried_echo_is_kept, carried_frames_were_sent, carried_lives_are_open,
     carried_names_are_unique, carried_worlds_keep_the_headline, carried_worlds_rest_on_this,
@@ -144,6 +145,30 @@ impl<T: SubTable, R: Race> World<T, R> {
         carried_frames_were_sent()
     }
 
+    /// Whether the cluster is settled for a publication on this subject: every server is up; none has a job that waits or is in
+    /// hand, or an opening or a closing that its hub was not told of; each can number one more turn and one more publication;
+    /// each has each other one up in its incarnation, keeps a session with it, knows just its open subscriptions, and has room
+    /// for a frame to it; and no more than [`subj::MAX_QUEUE_NAMES`] queue names with an open member match. Takes no memory.
+    pub fn settled_for(&self, subject: &Subject) -> bool
+        ensures same { result ≡ settled_for self.now.cluster self.now.world subject.now }
+        ensures exact { ∥ (result ≡ true) ↔ IsSettled self.now.cluster self.now.world subject.now ∥₁ }
+    {
+        let _step = self.step;
+        carried_tests_are_exact();
+        self.nodes.are_settled(subject)
+    }
+
+    /// Whether each connection with open subscriptions that get the publication's subject has room for the messages of all of
+    /// them together. Takes no memory.
+    pub fn room_for(&self, said: &Pub) -> bool
+        ensures same { result ≡ room_for self.now.world said.now.message }
+        ensures exact { (result ≡ true) ↔ IsRoomy self.now.world said.now.message }
+    {
+        let _step = self.step;
+        tests_are_exact();
+        self.nodes.have_room_for(&said.message)
+    }
+
     /// A refusal: only the step is counted. Required: some event is refused so.
     fn refuse(&mut self, fault: WorldFault, now: u64) -> Outcome
         requires now { now ≡ self.old.world.step + 1 }
@@ -206,6 +231,7 @@ impl<T: SubTable, R: Race> World<T, R> {
     {
         steps_keep_worlds_carried();
         let _first = inc.get();
+        self.lists.make_start_room()?;
         let Some(server) = server_of(self.alloc, &self.server, n, inc)? else {
             // required: there is such a place
             unreachable!()
@@ -214,7 +240,7 @@ impl<T: SubTable, R: Race> World<T, R> {
             Ok(node) => node,
             Err(error) => return Err(error),
         };
-        self.lists.add_start(n, inc)?;
+        self.lists.add_start(n, inc);
         self.nodes.put(n, Some(node));
         self.step = now;
         Ok(Outcome::Done(Answer::Nothing))
@@ -331,7 +357,7 @@ impl<T: SubTable, R: Race> World<T, R> {
     /// A publish of a connection at the server of this place, and then the events of `order` in turn: a run of the exact cluster.
     /// The word decides which server serves each queue name. (NATS documentation, "Queue Groups".)
     ///
-    /// Where the cluster was at rest, had room for the message and not too many queue names that match, where the publication may
+    /// Where the cluster was settled for the subject ([`World::settled_for`]) and had room ([`World::room_for`]), where the publication may
     /// come back to its own connection, and where `order` is the work that it makes (at its own server each shard begins its job,
     /// claims each of its queue names and ends it; at each server that a frame is owed the same behind the frame), each plain
     /// subscription that was open and matches has the message once, wherever it is, and so has each queue name with an open

@@ -30,3 +30,5 @@ pub mod Examples
 pub mod Chosen
 -- who serves the queue names of a publication, as it is found in code
 pub mod Serving
+-- whether a hub has nothing left to hear, and can go on
+pub mod Settled

@@ -1,32 +1,45 @@
-//! The hub.
+//! The hub, with all that it is called for.
 
-ghost use Rattle.std.specs.Prelude.{◌≡◌, ◌<◌, nat_le, if◌then◌else◌, ⊤, Some, None, true, false, take, length, slice_get, IfOk, OnOk, OnErr};
-ghost use Rattle.std.specs.Option.{option_or};
-ghost use Rattle.subj.specs.Answers.{IsAnswered};
-ghost use Rattle.subj.specs.declared.limits.TheConstants.{MAX_COUNTER};
+ghost use Rattle.std.specs.Prelude.{◌≡◌, ◌<◌, nat_le, if◌then◌else◌, ⊤, Some, None, true, false, take, length, slice_get, IfOk, OnOk, OnErr, ℕ, ◌+◌, ◌≤◌, position, [], nat_lt, unwrap_or};
+ghost use Rattle.std.specs.Option.{option_or, option_copied};
+ghost use Rattle.subj.specs.Answers.{IsAnswered, IsDecided};
+ghost use Rattle.subj.specs.declared.limits.TheConstants.{MAX_COUNTER, MAX_SHARDS, MAX_QUEUE_NAMES};
 ghost use Rattle.subj.specs.Servers.{is_peer};
 ghost use Rattle.hub_core.specs.State.{seen_of as seen};
-ghost use Rattle.hub_core.specs.Events.{Receive, Up, Cut, TakeFrom, IsUp, WasCut, Taken};
+ghost use Rattle.hub_core.specs.Events.{Receive, Up, Cut, TakeFrom, IsUp, WasCut, Taken, Publish, Issued, Collect, Collected};
 ghost use Rattle.hub_core.specs.Steps.{IsMeeting};
 ghost use Rattle.hub_core.specs.Hubs.{hub_at_start, refusal, DoesStep};
-ghost use Rattle.hub_core.specs.declared.faults.HubFault.TheVariants.{Spent};
-ghost use Rattle.hub_core.specs.Publishing.{busy_fault};
+ghost use Rattle.hub_core.specs.declared.faults.HubFault.TheVariants.{Spent, TooManyQueues};
+ghost use Rattle.hub_core.specs.Publishing.{busy_fault, next_id as id_of_next, publish_refusal, frames_of};
 ghost use Rattle.hub_core.specs.Receiving.{receive_refusal, origin_fault as refused_of_origin, after_receive, has_message};
-ghost use Rattle.hub_core.specs.Calls.{job_of, IsTaken, answer_of, IsPlanned, after_frames};
+ghost use Rattle.hub_core.specs.Calls.{job_of, IsTaken, answer_of, IsPlanned, after_frames, IsTellingOf, AreCounted, after_changes};
 ghost use Rattle.hub_core.specs.Peers.{snapshot_to};
+ghost use Rattle.std.specs.List.{count_by};
+ghost use Rattle.hub_core.specs.Chosen.{publication, IsPlanOf, turn_refusal};
+ghost use Rattle.hub_core.specs.Telling.{collect_refusal, collect_frames};
+ghost use Rattle.claim_race.specs.Race.{busy_of, is_behind};
+ghost use Rattle.hub_core.specs.Choice.{queue_names as wanted_names};
+ghost use Rattle.hub_core.specs.Serving.{IsServed};
+ghost use Rattle.interest.specs.Told.{counts_told};
+ghost use Rattle.interest.specs.Recounts.{IsPlanOf as IsPlanOfCounts, IsRecountOf};
 
-use crate::answers::Received;
+use crate::answers::{Received, Told};
+use crate::collects::{CollectPlan, cut_slow, frames_of_changes, slow_peers};
 use crate::faults::HubFault;
-use crate::peers::{Peer, unknown_peers};
-use crate::putting::put_all;
-use crate::receiving::{address_fault, is_message, peer_place};
-use crate::telling::{frame_to, snapshot_of};
-use crate::window::busy;
-use interest::Local;
+use crate::peers::{
+    Peer, address_fault, frame_to, is_message, peer_place, put_all, snapshot_of, unknown_peers,
+};
+use crate::publishing::{
+    Outgoing, PublishPlan, frames_for, gather_names, is_name_wanted, own_job, servers_for,
+};
+use interest::{DeltaPlan, FoundNames, Local, Recount};
 use route_values::{Body, Numbered};
 use std::alloc::{AllocError, Global};
 use std::marker::Model;
-use subj::{Failure, Finished, Incarnation, Job, MAX_COUNTER, PubId, Server, Turn};
+use subj::{
+    Busy, ConnId, Delta, Failure, Finished, Incarnation, Job, MAX_COUNTER, NodeId, Pub, PubId,
+    Server, Subject, Turn, WINDOW,
+};
 
 /// The hub of a server. (Profile.)
 ///
@@ -299,5 +312,362 @@ impl Hub {
         self.issued = self.issued.next().unwrap();
         self.published += 1;
         put_all(&self.server, &mut self.peers, frames);
+    }
+}
+
+/// How many of the peers are up.
+fn count_up(peers: &[Peer]) -> usize
+    ensures { result ≡ count_by (λ peer. peer.up) peers.now }
+{
+    let mut count = 0;
+    for peer in peers {
+        if peer.up {
+            count += 1;
+        }
+    }
+    count
+}
+
+impl Hub {
+    /// How many peers are up. Takes no memory.
+    pub fn up_count(&self) -> usize
+        ensures { result ≡ count_by (λ peer. peer.up) self.now.state.peers }
+    {
+        count_up(&self.peers)
+    }
+}
+
+impl Hub {
+    /// What the next publication is called: that of its server and its life, with the next number.
+    /// Takes no memory.
+    pub fn next_id(&self) -> PubId
+        ensures { result ≡ id_of_next self.now.server self.now.state }
+    {
+        PubId {
+            origin: self.server.name(),
+            inc: self.server.inc(),
+            number: self.published + 1,
+        }
+    }
+}
+
+impl Hub {
+    /// Why [`Hub::plan_publish`] refuses. Takes no memory.
+    pub fn publish_fault(&self, said: &Pub, finished: &Finished) -> Option<HubFault>
+        ensures { (conn word : ℕ) → result ≡ publish_refusal self.now.server self.now.state (publication conn said.now word) finished.now }
+    {
+        if let Err(fault) = self.next_turn(finished) {
+            return Some(fault);
+        }
+        let subject = said.message.subject();
+        let mut names = FoundNames::new();
+        match gather_names(&self.server, &self.counts, &self.peers, subject, &mut names) {
+            Ok(()) => None,
+            Err(_) => Some(HubFault::TooManyQueues),
+        }
+    }
+
+    /// The frames that a collect of these deltas puts. It changes nothing. Refused as [`Hub::collect`] is.
+    pub fn frames_of_collect(&self, deltas: &[Delta]) -> Result<Vec<Numbered>, Failure<HubFault>>
+        ensures { IsAnswered (collect_refusal self.now.state deltas.now) (λ frames. frames.items ≡ collect_frames self.now.server self.now.state deltas.now) ⊤ result }
+    {
+        let plan = self.plan_collect(deltas)?;
+        Ok(plan.frames)
+    }
+}
+
+/// The place of the first shard that is a window behind.
+fn first_behind(issued: Turn, finished: &[Turn]) -> Option<usize>
+    ensures { result ≡ position (is_behind issued) finished.now }
+{
+    let next = issued.get() + 1;
+    finished.iter().position(|turn| turn.get() + WINDOW < next)
+}
+
+/// The first shard that is a window behind, of those that these turns are of.
+#[tactic(auto, using(crate::proofs::Steps::Behind::no_busy, crate::proofs::Steps::Behind::some_busy))]
+fn busy_among(issued: Turn, finished: &[Turn]) -> Option<Busy>
+    ensures { result ≡ busy_of issued finished.now }
+{
+    match first_behind(issued, finished) {
+        None => None,
+        Some(place) => Some(Busy {
+            shard: place as u64 + 1,
+            finished: finished[place],
+        }),
+    }
+}
+
+/// The first of so many shards that is a window behind.
+pub(crate) fn busy(issued: Turn, shards: u64, finished: &Finished) -> Option<Busy>
+    requires { shards ≤ MAX_SHARDS }
+    ensures { result ≡ busy_of issued (take shards finished.now) }
+{
+    busy_among(issued, &finished.as_slice()[..shards as usize])
+}
+
+impl Hub {
+    /// The turn of the next job. Refused: 60 where a shard is a window behind, 62 where the last number of
+    /// a publication or the last turn was used. Takes no memory.
+    pub(crate) fn next_turn(&self, finished: &Finished) -> Result<Turn, HubFault>
+        ensures { IsDecided (turn_refusal self.now.server self.now.state finished.now) (λ turn. (turn ≡ self.now.state.issued + 1) × (self.now.state.published < MAX_COUNTER)) ⊤ result }
+    {
+        if let Some(busy) = busy(self.issued, self.server.shards(), finished) {
+            return Err(HubFault::Busy(busy));
+        }
+        if self.published >= MAX_COUNTER {
+            return Err(HubFault::Spent);
+        }
+        match self.issued.next() {
+            Some(turn) => Ok(turn),
+            None => Err(HubFault::Spent),
+        }
+    }
+
+    /// What a publication owes that has this turn and these queue names, if any, each of which the server at its place
+    /// serves.
+    fn plan_by(
+        &self,
+        turn: Turn,
+        conn: ConnId,
+        said: &Pub,
+        word: u64,
+        names: Option<&FoundNames<'_>>,
+        servers: &[Option<NodeId>],
+    ) -> Result<PublishPlan, Failure<HubFault>>
+        requires turn { turn ≡ self.now.state.issued + 1 }
+        requires number { self.now.state.published < MAX_COUNTER }
+        requires names { unwrap_or (option_copied names) [] ≡ wanted_names self.now.server self.now.state said.now.message.subject }
+        requires servers { IsServed self.now.server self.now.state (publication conn said.now word) (unwrap_or (option_copied names) []) servers.now }
+        ensures { IsAnswered None (λ plan. IsPlanOf self.now.server self.now.state (publication conn said.now word) plan.job plan.frames.items) ⊤ result }
+    {
+        let _word = word;
+        let out = Outgoing {
+            alloc: self.alloc,
+            server: &self.server,
+            number: self.published + 1,
+            message: &said.message,
+            names,
+            servers,
+        };
+        let frames = frames_for(&out, &self.peers)?;
+        let job = own_job(&out, turn, conn, said.echo)?;
+        Ok(PublishPlan { job, frames })
+    }
+
+    /// What a publication owes that has this turn and these queue names, with a look at who serves each of them.
+    fn plan_split(
+        &self,
+        turn: Turn,
+        conn: ConnId,
+        said: &Pub,
+        word: u64,
+        names: &FoundNames<'_>,
+    ) -> Result<PublishPlan, Failure<HubFault>>
+        requires turn { turn ≡ self.now.state.issued + 1 }
+        requires number { self.now.state.published < MAX_COUNTER }
+        requires names { names.now ≡ wanted_names self.now.server self.now.state said.now.message.subject }
+        ensures { IsAnswered None (λ plan. IsPlanOf self.now.server self.now.state (publication conn said.now word) plan.job plan.frames.items) ⊤ result }
+    {
+        let subject = said.message.subject();
+        let servers = servers_for(
+            &self.server,
+            &self.counts,
+            &self.peers,
+            subject,
+            word,
+            names,
+        );
+        self.plan_by(turn, conn, said, word, Some(names), &servers)
+    }
+
+    /// What a publication owes that has this turn. Refused: 61 where more queue names want it than a publication may
+    /// have.
+    fn plan_named(
+        &self,
+        turn: Turn,
+        conn: ConnId,
+        said: &Pub,
+        word: u64,
+    ) -> Result<PublishPlan, Failure<HubFault>>
+        requires turn { turn ≡ self.now.state.issued + 1 }
+        requires number { self.now.state.published < MAX_COUNTER }
+        ensures { IsAnswered (if nat_lt MAX_QUEUE_NAMES (length (wanted_names self.now.server self.now.state said.now.message.subject)) then Some TooManyQueues else None) (λ plan. IsPlanOf self.now.server self.now.state (publication conn said.now word) plan.job plan.frames.items) ⊤ result }
+    {
+        let subject = said.message.subject();
+        let mut names = FoundNames::new();
+        match gather_names(&self.server, &self.counts, &self.peers, subject, &mut names) {
+            Ok(()) => self.plan_split(turn, conn, said, word, &names),
+            Err(_) => Err(Failure::Refused(HubFault::TooManyQueues)),
+        }
+    }
+
+    /// The same of one that no queue name wants: no room is made for names and for their servers.
+    fn plan_unnamed(
+        &self,
+        turn: Turn,
+        conn: ConnId,
+        said: &Pub,
+        word: u64,
+    ) -> Result<PublishPlan, Failure<HubFault>>
+        requires turn { turn ≡ self.now.state.issued + 1 }
+        requires number { self.now.state.published < MAX_COUNTER }
+        requires names { wanted_names self.now.server self.now.state said.now.message.subject ≡ [] }
+        ensures { IsAnswered None (λ plan. IsPlanOf self.now.server self.now.state (publication conn said.now word) plan.job plan.frames.items) ⊤ result }
+    {
+        self.plan_by(turn, conn, said, word, None, &[])
+    }
+
+    /// Whether some queue name wants the subject.
+    fn is_named(&self, subject: &Subject) -> bool
+        ensures { result ≡ false → wanted_names self.now.server self.now.state subject.now ≡ [] }
+    {
+        is_name_wanted(&self.server, &self.counts, &self.peers, subject)
+    }
+
+    /// What a publish of the connection owes, where the word decides who serves each queue name. It changes
+    /// nothing, and takes memory only for what somebody wants; copies of the message share its bytes.
+    ///
+    /// Refused: 60 where a shard is a window behind, of the last turns that the shards finished; 62 where
+    /// the last number of a publication or the last turn was used; 61 where more queue names want it than a
+    /// publication may have. (Profile.)
+    pub fn plan_publish(
+        &self,
+        conn: ConnId,
+        said: &Pub,
+        word: u64,
+        finished: &Finished,
+    ) -> Result<PublishPlan, Failure<HubFault>>
+        ensures { IsAnswered (publish_refusal self.now.server self.now.state (publication conn said.now word) finished.now) (λ plan. IsPlanOf self.now.server self.now.state (publication conn said.now word) plan.job plan.frames.items) ⊤ result }
+    {
+        let turn = match self.next_turn(finished) {
+            Ok(turn) => turn,
+            Err(fault) => return Err(Failure::Refused(fault)),
+        };
+        if self.is_named(said.message.subject()) {
+            return self.plan_named(turn, conn, said, word);
+        }
+        self.plan_unnamed(turn, conn, said, word)
+    }
+
+    /// [`Hub::plan_publish`] and [`Hub::commit_publish`] together: the publication takes the next number
+    /// and the next turn, its frames wait for their peers, and the job of the server's own shards is given.
+    /// Any `Err` leaves all as it was.
+    pub fn publish(
+        &mut self,
+        conn: ConnId,
+        said: &Pub,
+        word: u64,
+        finished: &Finished,
+    ) -> Result<Job, Failure<HubFault>>
+        ensures { let p = publication conn said.now word in IsAnswered (publish_refusal self.old.server self.old.state p finished.now) (λ job. DoesStep self.old (Publish p finished.now) (Issued job (frames_of self.old.server self.old.state p)) self.new) (self.new ≡ self.old) result }
+    {
+        let PublishPlan { job, frames } = self.plan_publish(conn, said, word, finished)?;
+        self.commit_publish(frames);
+        Ok(job)
+    }
+}
+
+impl Hub {
+    /// Why deltas are refused. Keeps no memory. The time grows with the deltas; where there is no memory for a
+    /// table of their keys, with their square.
+    pub fn collect_fault(&self, deltas: &[Delta]) -> Option<HubFault>
+        ensures { result ≡ collect_refusal self.now.state deltas.now }
+    {
+        match self.counts.changes_of(deltas) {
+            None => Some(HubFault::BadInterest),
+            Some(count) => (count > MAX_COUNTER - self.changed).then_some(HubFault::Spent),
+        }
+    }
+
+    /// What deltas do that are not refused, where this is what they make of the counts.
+    fn telling_of(&self, deltas: &[Delta], plan: DeltaPlan) -> Result<CollectPlan, AllocError>
+        requires taken { collect_refusal self.now.state deltas.now ≡ None }
+        requires planned { IsPlanOfCounts self.now.state.counts deltas.now (Some plan) }
+        ensures { IfOk result (λ plan. IsTellingOf self.now deltas.now plan.recount plan.changes.items plan.frames.items plan.cut.items) }
+    {
+        let alloc = self.alloc;
+        let DeltaPlan { recount, changes } = plan;
+        let frames = frames_of_changes(alloc, &self.server, &self.peers, self.changed, &changes)?;
+        let cut = slow_peers(alloc, &self.peers, changes.len())?;
+        Ok(CollectPlan {
+            recount,
+            changes,
+            frames,
+            cut,
+        })
+    }
+
+    /// What a collect of these deltas does. It changes nothing, and takes memory only for what changes and
+    /// for what is told. The time grows with the deltas, and hardly with the keys that are counted.
+    ///
+    /// Refused, all of them together, with [`HubFault::BadInterest`] where one could not be counted in its
+    /// turn, as [`Local::apply`](interest::Local::apply) tells, and then with [`HubFault::Spent`] where
+    /// their changes would go beyond the last number.
+    pub fn plan_collect(&self, deltas: &[Delta]) -> Result<CollectPlan, Failure<HubFault>>
+        ensures { IsAnswered (collect_refusal self.now.state deltas.now) (λ plan. IsTellingOf self.now deltas.now plan.recount plan.changes.items plan.frames.items plan.cut.items) ⊤ result }
+    {
+        let plan = match self.counts.plan(deltas) {
+            Ok(Some(plan)) => plan,
+            Ok(None) => return Err(Failure::Refused(HubFault::BadInterest)),
+            Err(_) => match self.collect_fault(deltas) {
+                Some(fault) => return Err(Failure::Refused(fault)),
+                None => return Err(Failure::OutOfMemory),
+            },
+        };
+        if plan.changes.len() as u64 > MAX_COUNTER - self.changed {
+            return Err(Failure::Refused(HubFault::Spent));
+        }
+        Ok(self.telling_of(deltas, plan)?)
+    }
+
+    /// Counts deltas, of which this is the recount: so many changes take the next numbers, peers without
+    /// room for all of them are cut, and the frames wait for the others.
+    fn tell(&mut self, deltas: &[Delta], recount: Recount, count: usize, frames: Vec<Numbered>)
+        requires recount { IsRecountOf self.old.state.counts deltas.now recount }
+        requires counted { AreCounted self.old.server self.old.state deltas.now count frames.items }
+        ensures { self.new ≡ record self.old { state = after_changes self.old.server self.old.state (counts_told self.old.state.counts deltas.now) count frames.items } }
+    {
+        self.counts.commit(deltas, recount);
+        self.changed += count as u64;
+        cut_slow(&mut self.peers, count);
+        put_all(&self.server, &mut self.peers, frames);
+    }
+
+    /// Counts deltas, and tells of them: their changes take the next numbers, peers without room for all of
+    /// them are cut, and the frames wait for the others. Required: the deltas are not refused, and the plan
+    /// is the one that [`Hub::plan_collect`] gives for them. Takes no memory.
+    pub fn commit_collect(&mut self, deltas: &[Delta], plan: CollectPlan) -> Told
+        requires taken { collect_refusal self.old.state deltas.now ≡ None }
+        requires planned { IsTellingOf self.old deltas.now plan.recount plan.changes.items plan.frames.items plan.cut.items }
+        ensures { (shard : ℕ) → DoesStep self.old (Collect shard deltas.now) (Collected result.changes.items (collect_frames self.old.server self.old.state deltas.now) result.cut.items) self.new }
+    {
+        let CollectPlan {
+            recount,
+            changes,
+            frames,
+            cut,
+        } = plan;
+        self.tell(deltas, recount, changes.len(), frames);
+        Told { changes, cut }
+    }
+
+    /// Counts the deltas of a shard, in their order, and tells each peer that is up of all that they
+    /// change; a peer that has no room for all of it is told nothing, and is cut. It is
+    /// [`Hub::plan_collect`] and [`Hub::commit_collect`] together; no deltas change nothing, and cost hardly
+    /// anything. Any `Err` leaves all as it was. (NATS documentation, "Cluster Protocol": `RS+` and `RS-`;
+    /// numbers, order and cuts: profile.)
+    ///
+    /// Refused, all of them together, with [`HubFault::BadInterest`] where one could not be counted in its
+    /// turn, as [`Local::apply`](interest::Local::apply) tells, and then with [`HubFault::Spent`] where
+    /// their changes would go beyond the last number.
+    pub fn collect(&mut self, deltas: &[Delta]) -> Result<Told, Failure<HubFault>>
+        ensures { (shard : ℕ) → IsAnswered (refusal self.old (Collect shard deltas.now)) (λ told. DoesStep self.old (Collect shard deltas.now) (Collected told.changes.items (collect_frames self.old.server self.old.state deltas.now) told.cut.items) self.new) (self.new ≡ self.old) result }
+    {
+        if deltas.is_empty() {
+            return Ok(Told::nothing(self.alloc));
+        }
+        let plan = self.plan_collect(deltas)?;
+        Ok(self.commit_collect(deltas, plan))
     }
 }

@@ -8,29 +8,21 @@
 //! let frames = hub.take_route(1, usize::MAX)?;
 //! ```
 //!
-//! In reading order: `hub` has the state; `publishing` with `choice` is what a publish owes, `receiving` what a frame of a peer does,
-//! `collects` with `collecting` what peers are told of interest, and `telling` the snapshot for one that comes up (`up`). `peers` keeps
-//! what is known of each, and `putting` puts frames for them. `window` and `refusals` say why a call is refused (`faults`), and `answers`
-//! what it gives, by the numbers of `ids`. `laws` and `examples` are what holds of all this.
+//! In reading order: `hub` has the state, and says why a call is refused (`faults`); `publishing` is what a publish owes, with the choice
+//! of who serves each queue name, and `collects` what peers are told of interest. `peers` keeps what is known of each: what a frame of a peer
+//! does, the snapshot for one that comes up, and the frames that wait. `answers` is what the calls give. `laws` and `examples` are what
+//! holds of all this.
 #![tactic(auto)]
 
 mod answers;
-mod choice;
-mod collecting;
 mod collects;
 mod examples;
 mod faults;
 mod hub;
-mod ids;
 mod laws;
 mod peers;
 mod publishing;
-mod putting;
-mod receiving;
-mod refusals;
-mod telling;
-mod up;
-mod window;
+mod settled;
 
 pub use answers::{Received, Told};
 pub use collects::CollectPlan;

@@ -1,31 +1,26 @@
-//! What a publish owes: a job for the server's own shards, and a frame for each peer that is owed one.
+//! What a publish owes: a job for the server's own shards, a frame for each peer that is owed one, and who serves each queue name.
 
-ghost use Rattle.std.specs.Prelude.{◌≡◌, ℕ, ◌+◌, ◌<◌, ◌≤◌, ◌++◌, ⊤, [], true, false, nat_lt, length, slice_get, unwrap_or, Some, None, IfOk, OnOk, if◌then◌else◌};
+ghost use Rattle.std.specs.Prelude.{◌≡◌, ℕ, ◌+◌, ◌<◌, ◌≤◌, ◌++◌, [], true, length, slice_get, unwrap_or, Some, IfOk, OnOk, if◌then◌else◌, ◌*◌, ◌&&◌, ◌||◌, map, option_and_then, option_to_list, take};
 ghost use Rattle.std.specs.Option.{option_copied};
-ghost use Rattle.subj.specs.Answers.{IsAnswered, IsDecided};
 ghost use Rattle.subj.specs.declared.limits.TheConstants.{MAX_QUEUE_NAMES};
-ghost use Rattle.subj.specs.Servers.{name_of};
+ghost use Rattle.subj.specs.Servers.{name_of, own_name};
+ghost use Rattle.route_values.specs.declared.bodies.Body.TheVariants.{Msg};
 ghost use Rattle.hub_core.specs.State.{Peer as KnownPeer};
-ghost use Rattle.hub_core.specs.Choice.{is_eligible as eligible, queue_names as wanted_names};
-ghost use Rattle.hub_core.specs.Publishing.{is_owed as owed, publish_refusal, frames_of};
-ghost use Rattle.hub_core.specs.Events.{Publish, Issued};
-ghost use Rattle.hub_core.specs.declared.faults.HubFault.TheVariants.{TooManyQueues};
-ghost use Rattle.hub_core.specs.Hubs.{DoesStep};
-ghost use Rattle.hub_core.specs.Chosen.{IsSplit, chosen_for, frame_at, sent_from, IsPlanOf, publication, turn_refusal};
-ghost use Rattle.hub_core.specs.Serving.{IsServed};
+ghost use Rattle.hub_core.specs.Choice.{is_eligible as eligible, weight_at as weighs, weights_from, names_from};
+ghost use Rattle.hub_core.specs.Publishing.{is_owed as owed};
+ghost use Rattle.hub_core.specs.Chosen.{IsSplit, chosen_for, frame_at, sent_from, AreFound, wants_name_from};
+ghost use Rattle.subj.specs.QueueNames.{is_named, are_queue_names};
+ghost use Rattle.pick.specs.Pick.{pick_of};
+ghost use Rattle.interest.specs.Matches.{has_queue_match, names_in, AreGathered};
 
-use crate::choice::{gather_names, is_eligible, is_name_wanted, names_for, servers_for};
-use crate::faults::HubFault;
-use crate::hub::Hub;
-use crate::peers::Peer;
-use crate::telling::frame_to;
-use crate::window::busy;
-use interest::FoundNames;
+use crate::peers::{Peer, frame_to};
+use interest::{FoundNames, Local, TooManyNames};
+use pick::choose;
 use route_values::{Body, Numbered};
 use std::alloc::{AllocError, Global};
 use subj::{
-    ConnId, Failure, Finished, Job, MAX_COUNTER, Message, NodeId, Pub, PubId, QueueNames, Server,
-    Subject, Turn,
+    ConnId, Incarnation, Job, MAX_COUNTER, MAX_KEYS, MAX_NODES, MAX_QUEUE_NAMES, MAX_WEIGHT,
+    Message, NodeId, PubId, QueueName, QueueNames, ROUTE_FRAMES, Server, Subject, Turn,
 };
 
 /// What a publish owes, found before anything is changed.
@@ -56,6 +51,23 @@ fn is_owed(peer: &Peer, message: &Message, queues: &QueueNames) -> bool
     peer.heard.has_plain(message.subject()) || !queues.as_slice().is_empty()
 }
 
+/// The frame for an incarnation of the peer at the place, with these queue names.
+fn frame_with(
+    out: &Outgoing<'_>,
+    place: usize,
+    inc: Incarnation,
+    queues: QueueNames,
+) -> Result<Numbered, AllocError>
+    requires place { place < length out.now.server.now.names }
+    requires first { 1 ≤ out.now.number }
+    requires last { out.now.number ≤ MAX_COUNTER }
+    ensures { IfOk result (λ frame. frame ≡ record { from = own_name out.now.server.now; inc = out.now.server.now.inc; to = name_of out.now.server.now place; to_inc = inc; number = out.now.number; body = Msg out.now.message.now queues }) }
+{
+    let message = out.message.try_clone()?;
+    let body = Body::Msg { message, queues };
+    Ok(frame_to(out.server, place, inc, out.number, body))
+}
+
 /// Puts the frame for an eligible peer behind the others, where it is owed one: where it has a plain key that matches,
 /// or was chosen for a queue name. Takes memory only for names, and for the copy of the message. (NATS documentation,
 /// "Cluster Protocol": `RMSG`.)
@@ -79,9 +91,8 @@ fn put_frame(
         return Ok(());
     }
     let inc = peer.incarnation();
-    let message = out.message.try_clone()?;
-    let body = Body::Msg { message, queues };
-    frames.push(frame_to(out.server, place, inc, out.number, body))?;
+    let frame = frame_with(out, place, inc, queues)?;
+    frames.push(frame)?;
     Ok(())
 }
 
@@ -122,180 +133,252 @@ pub(crate) fn frames_for(out: &Outgoing<'_>, peers: &[Peer]) -> Result<Vec<Numbe
     Ok(frames)
 }
 
-impl Hub {
-    /// The turn of the next job. Refused: 60 where a shard is a window behind, 62 where the last number of
-    /// a publication or the last turn was used. Takes no memory.
-    pub(crate) fn next_turn(&self, finished: &Finished) -> Result<Turn, HubFault>
-        ensures { IsDecided (turn_refusal self.now.server self.now.state finished.now) (λ turn. (turn ≡ self.now.state.issued + 1) × (self.now.state.published < MAX_COUNTER)) ⊤ result }
-    {
-        if let Some(busy) = busy(self.issued, self.server.shards(), finished) {
-            return Err(HubFault::Busy(busy));
-        }
-        if self.published >= MAX_COUNTER {
-            return Err(HubFault::Spent);
-        }
-        match self.issued.next() {
-            Some(turn) => Ok(turn),
-            None => Err(HubFault::Spent),
-        }
-    }
+/// The job of the server's own shards, for a message of this connection.
+pub(crate) fn own_job(
+    out: &Outgoing<'_>,
+    turn: Turn,
+    conn: ConnId,
+    echo: bool,
+) -> Result<Job, AllocError>
+    requires split { IsSplit (unwrap_or (option_copied out.now.names) []) out.now.servers.now }
+    ensures { IfOk result (λ job. job ≡ record { turn = turn; id = record { origin = own_name out.now.server.now; inc = out.now.server.now.inc; number = out.now.number }; message = out.now.message.now; publisher = Some conn; echo = echo; queues = chosen_for (own_name out.now.server.now) (unwrap_or (option_copied out.now.names) []) out.now.servers.now }) }
+{
+    let queues = names_for(out.alloc, out.names, out.servers, out.server.name())?;
+    let message = out.message.try_clone()?;
+    let id = PubId {
+        origin: out.server.name(),
+        inc: out.server.inc(),
+        number: out.number,
+    };
+    Ok(Job {
+        turn,
+        id,
+        message,
+        publisher: Some(conn),
+        echo,
+        queues,
+    })
+}
 
-    /// What a publication owes that has this turn and these queue names, if any, each of which the server at its place
-    /// serves.
-    fn plan_by(
-        &self,
-        turn: Turn,
-        conn: ConnId,
-        said: &Pub,
-        word: u64,
-        names: Option<&FoundNames<'_>>,
-        servers: &[Option<NodeId>],
-    ) -> Result<PublishPlan, Failure<HubFault>>
-        requires turn { turn ≡ self.now.state.issued + 1 }
-        requires number { self.now.state.published < MAX_COUNTER }
-        requires names { unwrap_or (option_copied names) [] ≡ wanted_names self.now.server self.now.state said.now.message.subject }
-        requires servers { IsServed self.now.server self.now.state (publication conn said.now word) (unwrap_or (option_copied names) []) servers.now }
-        ensures { IsAnswered None (λ plan. IsPlanOf self.now.server self.now.state (publication conn said.now word) plan.job plan.frames.items) ⊤ result }
-    {
-        let _word = word;
-        let queues = names_for(self.alloc, names, servers, self.server.name())?;
-        let out = Outgoing {
-            alloc: self.alloc,
-            server: &self.server,
-            number: self.published + 1,
-            message: &said.message,
-            names,
-            servers,
-        };
-        let frames = frames_for(&out, &self.peers)?;
-        let message = said.message.try_clone()?;
-        let id = PubId {
-            origin: self.server.name(),
-            inc: self.server.inc(),
-            number: self.published + 1,
-        };
-        Ok(PublishPlan {
-            job: Job {
-                turn,
-                id,
-                message,
-                publisher: Some(conn),
-                echo: said.echo,
-                queues,
-            },
-            frames,
-        })
-    }
+/// The most servers, as the length of a list.
+const SERVERS: usize = MAX_NODES as usize;
 
-    /// What a publication owes that has this turn and these queue names, with a look at who serves each of them.
-    fn plan_split(
-        &self,
-        turn: Turn,
-        conn: ConnId,
-        said: &Pub,
-        word: u64,
-        names: &FoundNames<'_>,
-    ) -> Result<PublishPlan, Failure<HubFault>>
-        requires turn { turn ≡ self.now.state.issued + 1 }
-        requires number { self.now.state.published < MAX_COUNTER }
-        requires names { names.now ≡ wanted_names self.now.server self.now.state said.now.message.subject }
-        ensures { IsAnswered None (λ plan. IsPlanOf self.now.server self.now.state (publication conn said.now word) plan.job plan.frames.items) ⊤ result }
-    {
-        let subject = said.message.subject();
-        let servers = servers_for(
-            &self.server,
-            &self.counts,
-            &self.peers,
-            subject,
-            word,
-            names,
-        );
-        self.plan_by(turn, conn, said, word, Some(names), &servers)
-    }
+/// The most queue names of a publication, as the length of a list.
+const NAMES: usize = MAX_QUEUE_NAMES as usize;
 
-    /// What a publication owes that has this turn. Refused: 61 where more queue names want it than a publication may
-    /// have.
-    fn plan_named(
-        &self,
-        turn: Turn,
-        conn: ConnId,
-        said: &Pub,
-        word: u64,
-    ) -> Result<PublishPlan, Failure<HubFault>>
-        requires turn { turn ≡ self.now.state.issued + 1 }
-        requires number { self.now.state.published < MAX_COUNTER }
-        ensures { IsAnswered (if nat_lt MAX_QUEUE_NAMES (length (wanted_names self.now.server self.now.state said.now.message.subject)) then Some TooManyQueues else None) (λ plan. IsPlanOf self.now.server self.now.state (publication conn said.now word) plan.job plan.frames.items) ⊤ result }
-    {
-        let subject = said.message.subject();
-        let mut names = FoundNames::new();
-        match gather_names(&self.server, &self.counts, &self.peers, subject, &mut names) {
-            Ok(()) => self.plan_split(turn, conn, said, word, &names),
-            Err(_) => Err(Failure::Refused(HubFault::TooManyQueues)),
+/// Whether the peer at the place is up, with room for one frame more.
+pub(crate) fn is_eligible(server: &Server, place: usize, peer: &Peer) -> bool
+    ensures { result ≡ eligible server.now place peer.now }
+{
+    place != server.me() && (peer.up && peer.outbox.len() < ROUTE_FRAMES)
+}
+
+/// Whether the peer is eligible, and has a key with a queue name that matches the subject.
+fn wants_name(server: &Server, place: usize, peer: &Peer, subject: &Subject) -> bool
+    ensures { result ≡ (eligible server.now place peer.now && has_queue_match subject.now peer.now.heard.keys) }
+{
+    is_eligible(server, place, peer) && peer.heard.has_queue(subject)
+}
+
+/// Whether some queue name wants the subject: whether [`gather_names`] would find any. Takes no memory.
+pub(crate) fn is_name_wanted(
+    server: &Server,
+    counts: &Local,
+    peers: &[Peer],
+    subject: &Subject,
+) -> bool
+    ensures { result ≡ (has_queue_match subject.now counts.now || wants_name_from server.now subject.now 0 peers.now) }
+{
+    if counts.has_queue(subject) {
+        return true;
+    }
+    for (place, peer) in peers.iter().enumerate() {
+        if wants_name(server, place, peer, subject) {
+            return true;
         }
     }
+    false
+}
 
-    /// The same of one that no queue name wants: no room is made for names and for their servers.
-    fn plan_unnamed(
-        &self,
-        turn: Turn,
-        conn: ConnId,
-        said: &Pub,
-        word: u64,
-    ) -> Result<PublishPlan, Failure<HubFault>>
-        requires turn { turn ≡ self.now.state.issued + 1 }
-        requires number { self.now.state.published < MAX_COUNTER }
-        requires names { wanted_names self.now.server self.now.state said.now.message.subject ≡ [] }
-        ensures { IsAnswered None (λ plan. IsPlanOf self.now.server self.now.state (publication conn said.now word) plan.job plan.frames.items) ⊤ result }
-    {
-        self.plan_by(turn, conn, said, word, None, &[])
+/// Adds the queue names that the peer wants, where it is eligible.
+fn add_names<'a>(
+    server: &Server,
+    place: usize,
+    peer: &'a Peer,
+    subject: &Subject,
+    names: &mut FoundNames<'a>,
+) -> Result<(), TooManyNames>
+    ensures { AreGathered (if eligible server.now place peer.now then names_in subject.now peer.now.heard.keys names.old else names.old) names.new result }
+{
+    if is_eligible(server, place, peer) {
+        return peer.heard.names_in(subject, names);
     }
+    Ok(())
+}
 
-    /// Whether some queue name wants the subject.
-    fn is_named(&self, subject: &Subject) -> bool
-        ensures { result ≡ false → wanted_names self.now.server self.now.state subject.now ≡ [] }
-    {
-        is_name_wanted(&self.server, &self.counts, &self.peers, subject)
+/// The queue names that want the subject: those of the server's own counts and of eligible peers, in the
+/// order of bytes, gathered in `names`, where there are none yet. Refused where they are more than a
+/// publication may have. Takes no memory. (Profile.)
+pub(crate) fn gather_names<'a>(
+    server: &Server,
+    counts: &'a Local,
+    peers: &'a [Peer],
+    subject: &Subject,
+    names: &mut FoundNames<'a>,
+) -> Result<(), TooManyNames>
+    requires { names.old ≡ [] }
+    ensures { AreFound (names_from server.now subject.now 0 peers.now (names_in subject.now counts.now [])) names.new result }
+{
+    counts.names_in(subject, names)?;
+    for (place, peer) in peers.iter().enumerate() {
+        add_names(server, place, peer, subject, names)?;
     }
+    let _count = names.len();
+    Ok(())
+}
 
-    /// What a publish of the connection owes, where the word decides who serves each queue name. It changes
-    /// nothing, and takes memory only for what somebody wants; copies of the message share its bytes.
-    ///
-    /// Refused: 60 where a shard is a window behind, of the last turns that the shards finished; 62 where
-    /// the last number of a publication or the last turn was used; 61 where more queue names want it than a
-    /// publication may have. (Profile.)
-    pub fn plan_publish(
-        &self,
-        conn: ConnId,
-        said: &Pub,
-        word: u64,
-        finished: &Finished,
-    ) -> Result<PublishPlan, Failure<HubFault>>
-        ensures { IsAnswered (publish_refusal self.now.server self.now.state (publication conn said.now word) finished.now) (λ plan. IsPlanOf self.now.server self.now.state (publication conn said.now word) plan.job plan.frames.items) ⊤ result }
-    {
-        let turn = match self.next_turn(finished) {
-            Ok(turn) => turn,
-            Err(fault) => return Err(Failure::Refused(fault)),
-        };
-        if self.is_named(said.message.subject()) {
-            return self.plan_named(turn, conn, said, word);
-        }
-        self.plan_unnamed(turn, conn, said, word)
+/// What the server at the place weighs for the queue name. (Profile.)
+fn weight_at(
+    server: &Server,
+    counts: &Local,
+    subject: &Subject,
+    name: &QueueName,
+    place: usize,
+    peer: &Peer,
+) -> u64
+    ensures same { result ≡ weighs server.now counts.now subject.now name.now place peer.now }
+    ensures most { result ≤ MAX_KEYS * MAX_WEIGHT }
+{
+    if place == server.me() {
+        return counts.weight_in(subject, name);
     }
+    if is_eligible(server, place, peer) {
+        return peer.heard.weight_in(subject, name);
+    }
+    0
+}
 
-    /// [`Hub::plan_publish`] and [`Hub::commit_publish`] together: the publication takes the next number
-    /// and the next turn, its frames wait for their peers, and the job of the server's own shards is given.
-    /// Any `Err` leaves all as it was.
-    pub fn publish(
-        &mut self,
-        conn: ConnId,
-        said: &Pub,
-        word: u64,
-        finished: &Finished,
-    ) -> Result<Job, Failure<HubFault>>
-        ensures { let p = publication conn said.now word in IsAnswered (publish_refusal self.old.server self.old.state p finished.now) (λ job. DoesStep self.old (Publish p finished.now) (Issued job (frames_of self.old.server self.old.state p)) self.new) (self.new ≡ self.old) result }
-    {
-        let PublishPlan { job, frames } = self.plan_publish(conn, said, word, finished)?;
-        self.commit_publish(frames);
-        Ok(job)
+/// The server that serves the queue name, picked by the word among those that weigh for it. Takes no
+/// memory. (Profile.)
+fn server_for(
+    server: &Server,
+    counts: &Local,
+    peers: &[Peer],
+    subject: &Subject,
+    word: u64,
+    name: &QueueName,
+) -> Option<NodeId>
+    requires { length peers.now ≡ length server.now.names }
+    ensures { result ≡ pick_of (weights_from server.now counts.now subject.now name.now 0 peers.now) word }
+{
+    let _me = server.me();
+    let mut weights = [(server.name(), 0); SERVERS];
+    for (place, peer) in peers.iter().enumerate() {
+        let weight = weight_at(server, counts, subject, name, place, peer);
+        weights[place] = (server.names()[place], weight);
     }
+    choose(&weights[..peers.len()], word)
+}
+
+/// The same of a name that may be none.
+fn server_at(
+    server: &Server,
+    counts: &Local,
+    peers: &[Peer],
+    subject: &Subject,
+    word: u64,
+    name: Option<&QueueName>,
+) -> Option<NodeId>
+    requires { length peers.now ≡ length server.now.names }
+    ensures { result ≡ option_and_then (λ name. pick_of (weights_from server.now counts.now subject.now name 0 peers.now) word) (option_copied name.entry) }
+{
+    server_for(server, counts, peers, subject, word, name?)
+}
+
+/// The servers of names, each at the place of its name.
+type Servers = [Option<NodeId>; NAMES];
+
+/// The server of each of the names, at its place. Takes no memory.
+pub(crate) fn servers_for(
+    server: &Server,
+    counts: &Local,
+    peers: &[Peer],
+    subject: &Subject,
+    word: u64,
+    names: &FoundNames<'_>,
+) -> Servers
+    requires { length peers.now ≡ length server.now.names }
+    ensures few { length names.now ≤ MAX_QUEUE_NAMES }
+    ensures same { take (length names.now) result ≡ map (λ name. pick_of (weights_from server.now counts.now subject.now name 0 peers.now) word) names.now }
+{
+    let mut servers = [None; NAMES];
+    for place in 0..names.len() {
+        servers[place] = server_at(server, counts, peers, subject, word, names.get(place));
+    }
+    servers
+}
+
+/// Whether the server was chosen.
+fn is_chosen(server: &Option<NodeId>, name: NodeId) -> bool
+    ensures { result ≡ is_named name server.now }
+{
+    match server {
+        Some(server) => server.bytes() == name.bytes(),
+        None => false,
+    }
+}
+
+/// Puts a copy of the name behind the others, where it is to be put.
+fn push_copy(
+    alloc: Global,
+    copies: &mut Vec<QueueName>,
+    name: Option<&QueueName>,
+    is_put: bool,
+) -> Result<(), AllocError>
+    ensures { OnOk result (copies.new.items ≡ copies.old.items ++ (if is_put then option_to_list (option_copied name.entry) else [])) }
+{
+    match name {
+        Some(name) if is_put => copies.push(name.try_clone(alloc)?)?,
+        _ => {}
+    }
+    Ok(())
+}
+
+/// Copies of the names for which the server of this name was chosen. Takes memory only where there are
+/// some.
+fn names_of(
+    alloc: Global,
+    names: &FoundNames<'_>,
+    servers: &[Option<NodeId>],
+    server_name: NodeId,
+) -> Result<Vec<QueueName>, AllocError>
+    requires { length names.now ≤ length servers.now }
+    ensures { IfOk result (λ chosen. chosen.items ≡ chosen_for server_name names.now servers.now) }
+{
+    let mut chosen = Vec::new(alloc);
+    for place in 0..names.len() {
+        let is_put = is_chosen(&servers[place], server_name);
+        push_copy(alloc, &mut chosen, names.get(place), is_put)?;
+    }
+    Ok(chosen)
+}
+
+/// The queue names for which the server of this name was chosen, of those that were found, if any. Takes memory only
+/// where there are some.
+pub(crate) fn names_for(
+    alloc: Global,
+    names: Option<&FoundNames<'_>>,
+    servers: &[Option<NodeId>],
+    server_name: NodeId,
+) -> Result<QueueNames, AllocError>
+    requires all { length (unwrap_or (option_copied names) []) ≤ length servers.now }
+    requires ordered { are_queue_names (chosen_for server_name (unwrap_or (option_copied names) []) servers.now) ≡ true }
+    ensures { IfOk result (λ queues. queues ≡ chosen_for server_name (unwrap_or (option_copied names.entry) []) servers.now) }
+{
+    let Some(names) = names else {
+        return Ok(QueueNames::new());
+    };
+    let chosen = names_of(alloc, names, servers, server_name)?;
+    let queues = QueueNames::from_names(alloc, chosen)?;
+    Ok(queues.unwrap())
 }

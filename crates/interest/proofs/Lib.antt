@@ -1,3 +1,4 @@
 pub mod Counting
 mod News
 pub mod Matching
+mod SameViews

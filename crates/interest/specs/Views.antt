@@ -1,6 +1,7 @@
 -- Interest views: what a peer has told of its interest (profile).
-use Rattle.std.specs.Prelude.{ℕ, ◌+◌, Bool, not, ◌&&◌, nat_lt, nat_le, List, [], ◌∷◌, length, map, take, Option, Some, None, is_some, if◌then◌else◌}
+use Rattle.std.specs.Prelude.{ℕ, ◌+◌, Bool, true, false, not, ◌&&◌, nat_eq, nat_lt, nat_le, List, [], ◌∷◌, length, map, take, Option, Some, None, is_some, if◌then◌else◌}
 use Rattle.std.specs.Map.{lookup, remove_entry}
+use Rattle.std.specs.Ordering.{is_eq}
 use Rattle.std.specs.BTreeMap.{is_at, insert_entry}
 use Rattle.subj.specs.declared.limits.TheConstants.{MAX_KEYS}
 use Rattle.subj.specs.declared.keys.Key.{Key}
@@ -19,6 +20,13 @@ View = List Weighted
 -- what counts are told as: with each key what it weighs to a peer
 abbrev pub told_view : Counts → View
 told_view counts = map (λ entry. (entry.0, told_weight entry.0 entry.1)) counts
+
+-- whether two views have the same keys, each with the same weight
+abbrev pub same_views : View → View → Bool
+same_views [] [] = true
+same_views [] (y ∷ ys) = false
+same_views (x ∷ xs) [] = false
+same_views (x ∷ xs) (y ∷ ys) = (is_eq (key_cmp x.0 y.0) && nat_eq x.1 y.1) && same_views xs ys
 
 -- ---- changes
 

@@ -35,7 +35,7 @@ pub use laws::{
     counts_and_changes_agree, counts_are_of_the_open, counts_can_be_told, openings_are_counted,
     views_are_of_their_origin,
 };
-pub use local::Local;
+pub use local::{Local, told_weight};
 pub use names::{FoundNames, TooManyNames};
 pub use recounts::{Numbers, Recount};
 pub use tally::DeltaPlan;

@@ -11,7 +11,7 @@ ghost use Rattle.subj.specs.Keys.{key_cmp};
 ghost use Rattle.interest.specs.KeysLeft.{keys_left};
 ghost use Rattle.interest.specs.Matches.{has_queue_match, weight_in, names_in as names_of, AreGathered};
 ghost use Rattle.interest.specs.Tally.{opens_key, key_if};
-ghost use Rattle.interest.specs.Counts.{count_after, with_count, count_of, change_between, is_plain_match, IsInterest, is_full, too_many_if, counts_after, delta_fault, change_of};
+ghost use Rattle.interest.specs.Counts.{count_after, with_count, count_of, change_between, is_plain_match, IsInterest, is_full, too_many_if, counts_after, delta_fault, change_of, told_weight as weight_told};
 
 use crate::changes::Change;
 use crate::faults::InterestFault;
@@ -40,6 +40,13 @@ pub(crate) fn number_after(up: bool, count: u64) -> u64
     }
 }
 
+/// What the other servers are told that a key with so many open subscriptions weighs. (Profile.)
+pub fn told_weight(key: &Key, count: u64) -> u64
+    ensures { result ≡ weight_told key.now count }
+{
+    if key.queue.is_none() { 1 } else { count }
+}
+
 /// What the other servers are told where the number of a key's open subscriptions changes.
 pub(crate) fn change(
     alloc: Global,
@@ -56,7 +63,7 @@ pub(crate) fn change(
     if key.queue.is_none() && 0 < before {
         return Ok(None);
     }
-    let weight = if key.queue.is_none() { 1 } else { after };
+    let weight = told_weight(key, after);
     let key = key.try_clone(alloc)?;
     Ok(WeightedKey::new(key, weight).map(Change::Up))
 }

@@ -1,6 +1,6 @@
 //! What a peer has told of its interest.
 
-ghost use Rattle.std.specs.Prelude.{◌≡◌, ◌+◌, ◌*◌, ◌≤◌, nat_lt, nat_le, None, Some, MatchResult, OnOk, OnErr, if◌then◌else◌};
+ghost use Rattle.std.specs.Prelude.{◌≡◌, ◌+◌, ◌*◌, ◌≤◌, ◌&&◌, nat_eq, nat_lt, nat_le, None, Some, MatchResult, OnOk, OnErr, if◌then◌else◌};
 ghost use Rattle.std.specs.BTreeMap.{is_at, insert_entry};
 ghost use Rattle.std.specs.List.Sorted.{IsStrictlySortedBy};
 ghost use Rattle.std.specs.Map.{keys_of, remove_entry};
@@ -9,17 +9,21 @@ ghost use Rattle.subj.specs.Keys.{key_cmp};
 ghost use Rattle.interest.specs.Places.{IsPlaceOf, IsGapFor};
 ghost use Rattle.interest.specs.Heard.{Changed, Whole, IsHeard, nothing_heard, news_fault, heard_after};
 ghost use Rattle.interest.specs.Matches.{has_plain_match, has_queue_match, weight_in, names_in as names_of, AreGathered};
-ghost use Rattle.interest.specs.Views.{follow_fault as fault_of_following, view_with_change, has_key};
+ghost use Rattle.std.specs.Ordering.{is_eq};
+ghost use Rattle.interest.specs.Counts.{told_weight as weight_told};
+ghost use Rattle.interest.specs.Views.{follow_fault as fault_of_following, view_with_change, has_key, same_views, told_view};
 ghost use Rattle.interest.specs.declared.changes.Change.TheVariants.{Up, Gone};
 ghost use Rattle.interest.specs.declared.faults.InterestFault.TheVariants.{Late, Gap};
 
 use crate::changes::Change;
 use crate::faults::InterestFault;
+use crate::local::{Local, told_weight};
 use crate::matches::{has_match, names_in, weight_of};
 use crate::names::{FoundNames, TooManyNames};
 use crate::seeks::next_match;
 use route_values::{SnapshotKeys, WeightedKey};
 use std::alloc::{AllocError, Global};
+use std::cmp::Ordering;
 use std::marker::Model;
 use subj::{Failure, Key, MAX_KEYS, MAX_WEIGHT, QueueName, Subject};
 
@@ -87,6 +91,14 @@ fn weight_among(keys: &[WeightedKey], subject: &Subject, name: &QueueName) -> u6
     total
 }
 
+/// Whether the key was told just as it is counted.
+fn is_as_counted(weighted: &WeightedKey, entry: &(Key, u64)) -> bool
+    ensures { result ≡ (is_eq (key_cmp weighted.now.0 entry.now.0) && nat_eq weighted.now.1 (weight_told entry.now.0 entry.now.1)) }
+{
+    weighted.key().order(&entry.0) == Ordering::Equal
+        && weighted.weight() == told_weight(&entry.0, entry.1)
+}
+
 /// What a server has heard of the interest of one peer's life: its keys with their weights, in the order
 /// of [`Key::order`], and the number of the last change that they stand for. (Profile.)
 ///
@@ -131,6 +143,22 @@ impl View {
         ensures valid { IsHeard self.now.keys }
     {
         &self.keys
+    }
+
+    /// Whether the keys are just those that are counted, each with the weight that it is told to have. Takes no memory.
+    pub fn tells(&self, counts: &Local) -> bool
+        ensures { result ≡ same_views self.now.keys (told_view counts.now) }
+    {
+        if self.keys.len() != counts.entries.len() {
+            return false;
+        }
+        for (place, weighted) in self.keys.iter().enumerate() {
+            let entry = &counts.entries[place];
+            if !is_as_counted(weighted, entry) {
+                return false;
+            }
+        }
+        true
     }
 
     /// Whether a plain key matches the subject. (NATS documentation, "Queue Groups".)

@@ -1,5 +1,5 @@
 -- What a step of a server comes to: its answer, what it puts into outboxes, and what closes.
-use Rattle.std.specs.Prelude.{◌≡◌, ℕ, Bool, List, [], Option, Some, None}
+use Rattle.std.specs.Prelude.{◌≡◌, ℕ, Bool, true, false, List, [], Option, Some, None, option_to_list}
 use Rattle.subj.specs.Servers.{Server}
 use Rattle.subj.specs.declared.identities.SubId.{SubId}
 use Rattle.route_values.specs.declared.frames.RouteFrame.{RouteFrame}
@@ -8,9 +8,10 @@ use Rattle.shard_core.specs.Puts.{put_by}
 use Rattle.shard_core.specs.ShardSteps.{shard_answer, shut_by, ended_of}
 use Rattle.node_parts.specs.declared.lines.Claimed.{Claimed}
 use Rattle.node_parts.specs.declared.lines.Claimed.TheVariants as code
-use Rattle.node_law.specs.Answers.{Answer, Won, Lost, Nobody, node_answer}
+use Rattle.node_law.specs.Answers.{Answer, Nothing, Won, Lost, Nobody, node_answer}
 use Rattle.node_law.specs.AsLaw.{Part, part_of}
 use Rattle.node_core.specs.declared.did.Did.{Did}
+use Rattle.node_core.specs.declared.node.stepping.ReplyPuts.{ReplyPuts}
 use Rattle.node_law.specs.Events.{NodeEvent}
 use Rattle.node_core.specs.InCode.{answer_of}
 use Rattle.node_core.specs.Served.{Served, DoesStep}
@@ -70,3 +71,26 @@ pub record Does (old : Served) (event : NodeEvent) (outcome : Outcome) (new : Se
 -- what the code tells of it
 abbrev pub did_of : Did → Outcome
 did_of did = record { answer = answer_of did.answer; entries = did.entries.items; frames = did.frames.items; shut = did.shut.items; ended = did.ended.items }
+
+-- ---- a reply
+
+-- what it comes to
+abbrev pub reply_outcome : ReplyPuts → Bool → List SubId → Outcome
+reply_outcome puts true ended = record { answer = Nothing; entries = puts.last.items; frames = []; shut = puts.shut.items; ended = ended }
+reply_outcome puts false ended = record { answer = Nothing; entries = puts.answer.items; frames = []; shut = []; ended = ended }
+
+-- ---- a claim
+
+-- copies of what was placed, and what closed
+abbrev pub entries_told : Claimed → List Placed
+entries_told code.Nobody = []
+entries_told code.Lost = []
+entries_told (code.Won sub placed ended) = option_to_list placed
+
+abbrev pub ended_told : Claimed → List SubId
+ended_told code.Nobody = []
+ended_told code.Lost = []
+ended_told (code.Won sub placed ended) = option_to_list ended
+
+abbrev pub claim_outcome : Claimed → Outcome
+claim_outcome claimed = record { answer = told_of_claim claimed; entries = entries_told claimed; frames = []; shut = []; ended = ended_told claimed }

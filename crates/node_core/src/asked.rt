@@ -1,6 +1,10 @@
 //! What a server is asked, lent.
 
-use node_law::OwnEvent;
+ghost use Rattle.std.specs.Prelude.{◌≡◌};
+ghost use Rattle.node_core.specs.InCode.{event_of};
+ghost use Rattle.node_core.specs.Lent.{asked_of};
+
+use node_law::{NodeEvent, OwnEvent};
 use route_session::SessionId;
 use route_values::{Numbered, RouteConnect, RouteInfo};
 
@@ -15,4 +19,16 @@ pub enum Asked<'a> {
     OnInfo(SessionId, &'a RouteInfo),
     /// The `CONNECT` of the server that dialed, on this session.
     OnConnect(SessionId, &'a RouteConnect),
+}
+
+/// The event, with its parts lent.
+pub(crate) fn lend(event: &NodeEvent) -> Asked<'_>
+    ensures { asked_of result ≡ event_of event.now }
+{
+    match event {
+        NodeEvent::Own(event) => Asked::Own(event),
+        NodeEvent::Receive(frame) => Asked::Receive(frame),
+        NodeEvent::OnInfo { session, info } => Asked::OnInfo(*session, info),
+        NodeEvent::OnConnect { session, connect } => Asked::OnConnect(*session, connect),
+    }
 }

@@ -12,17 +12,15 @@
 //! Each call of [`Node`] is a step of the server, by the definitions of `node_law`; a list of events is a run of such steps, which
 //! keeps the promises of one server.
 //!
-//! In reading order: `asked` and `did` are what a server is asked and what it did, `node` is the server with a call for each event,
-//! `issuing` and `telling` the calls that go over all shards, and `node/running` a list of events.
+//! In reading order: `asked` and `did` are what a server is asked and what it did, `node` is the server with a call for each event, why it
+//! refuses, and a list of events; `node/stepping` is the step of any event, with its answer alone or with all that it did.
 #![tactic(auto)]
 
 mod answers;
 mod asked;
 mod did;
-mod issuing;
 mod node;
 mod refused;
-mod telling;
 
 pub use answers::Answer;
 pub use asked::Asked;

@@ -1,29 +1,36 @@
 //! A server as one value.
 
-ghost use Rattle.std.specs.Prelude.{◌≡◌, ◌≤◌, Some, false, option_to_list, IfOk};
+ghost use Rattle.std.specs.Prelude.{◌≡◌, ◌≤◌, Some, false, option_to_list, IfOk, option_map, List, map, OnErr};
 ghost use Rattle.subj.specs.Answers.{IsAnswered, IsDecided};
 ghost use Rattle.subj.specs.declared.limits.TheConstants.{MAX_SHARDS};
 ghost use Rattle.shard_core.specs.Answers.{answer_of};
 ghost use Rattle.shard_core.specs.ShardEvents.{Attached, Unsubscribed, Replied, WasShut, Detached, Taken, Finished};
-ghost use Rattle.node_law.specs.Events.{Own, OfConn, AtShard, Dial, Accept, CutSession, TakeFrames, OnInfo, OnConnect};
+ghost use Rattle.node_law.specs.Events.{Own, OfConn, AtShard, Dial, Accept, CutSession, TakeFrames, OnInfo, OnConnect, Publish, Collect, Receive};
 ghost use Rattle.node_law.specs.declared.events.ConnEvent.TheVariants.{Subscribe, Unsubscribe, Reply, Shut, Detach, Take};
 ghost use Rattle.node_law.specs.declared.events.ShardWork.TheVariants.{Attach, Begin, Claim, End, DropJob};
-ghost use Rattle.node_core.specs.Served.{new_server, of_session_answer, of_session_decision, of_hub_answer, refusal, ConnStep, WorkStep, BeginStep, DialStep, AcceptStep, CutStep, FramesStep, DropStep, ClaimStep, InfoStep, ConnectStep};
+ghost use Rattle.node_core.specs.Served.{new_server, of_session_answer, of_session_decision, of_hub_answer, refusal, ConnStep, WorkStep, BeginStep, DialStep, AcceptStep, CutStep, FramesStep, DropStep, ClaimStep, InfoStep, ConnectStep, PublishStep, ReceiveStep, CollectStep};
 ghost use Rattle.node_law.specs.State.{lines_from};
+ghost use Rattle.hub_core.specs.Chosen.{publication};
+ghost use Rattle.node_law.specs.declared.faults.NodeFault.TheVariants.{Hub};
+ghost use Rattle.node_core.specs.InCode.{event_of, own_event_of};
+ghost use Rattle.node_core.specs.OneRun.{GoesOn, IsRun, done_with, is_short, outcome_told};
+ghost use Rattle.node_law.specs.Runs.{Done, Ran};
+ghost use Rattle.node_core.specs.TakesBytes.{TakesBytes};
 
-mod applying;
-mod lent;
-mod refusals;
-mod running;
-mod sending;
+mod resting;
 mod stepping;
-mod taking;
 
+use crate::asked::lend;
+use crate::did::Did;
+use crate::refused::Refused;
 use claim_race::Race;
 use client_frames::{ErrText, ReplyFrame};
-use hub_core::HubFault;
-use node_law::NodeFault;
-use node_parts::{Claimed, Line, Side, place_of_conn, place_of_shard};
+use hub_core::{HubFault, PublishPlan};
+use node_law::{ConnEvent, NodeEvent, NodeFault, OwnEvent, ShardWork, servers_keep_their_promises};
+use node_parts::{
+    Claimed, Issued, Line, Received, Side, Told, fill, finished_by, issue, place_of_conn,
+    place_of_shard, route, take_in,
+};
 use outbox::Entry;
 use route_session::{Kept, SessionFault, SessionId};
 use route_values::{Numbered, RouteConnect, RouteInfo};
@@ -31,7 +38,7 @@ use shard_core::{Begun, Closed, ShardFault, Subscribed};
 use std::alloc::{AllocError, Global};
 use std::marker::Model;
 use sub_table::SubTable;
-use subj::{ConnId, Failure, Job, Key, Server, Sid, SubId, Turn};
+use subj::{ConnId, Failure, Job, Key, Pub, Server, Sid, SubId, Turn};
 
 /// The lines of a server of so many shards.
 #[tactic(auto, using(crate::proofs::Calls::Starts::lines_more))]
@@ -69,7 +76,7 @@ fn of_decision<X>(decision: Result<X, SessionFault>) -> Result<X, NodeFault>
 }
 
 /// What the hub answers, as its server's answer.
-pub(crate) fn of_hub<X>(answer: Result<X, Failure<HubFault>>) -> Result<X, Failure<NodeFault>>
+fn of_hub<X>(answer: Result<X, Failure<HubFault>>) -> Result<X, Failure<NodeFault>>
     ensures { result ≡ of_hub_answer answer }
 {
     match answer {
@@ -336,5 +343,269 @@ impl<T: SubTable, R: Race> Node<T, R> {
         ensures { IsAnswered (refusal self.old (Own (TakeFrames peer count))) (λ frames. FramesStep self.old peer count frames.items self.new) (self.new ≡ self.old) result }
     {
         of_hub(self.side.take_frames(peer, count))
+    }
+}
+
+/// Why the hub refuses, as its server's fault.
+fn of_hub_fault(fault: Option<HubFault>) -> Option<NodeFault>
+    ensures { result ≡ option_map Hub fault }
+{
+    Some(NodeFault::Hub(fault?))
+}
+
+impl<T: SubTable, R: Race> Node<T, R> {
+    /// Why it refuses what is asked for a connection.
+    fn conn_fault(&self, conn: ConnId, event: &ConnEvent) -> Option<NodeFault>
+        ensures { result ≡ refusal self.now (Own (OfConn conn event.now)) }
+    {
+        let Some(place) = place_of_conn(self.lines.len(), conn) else {
+            return Some(NodeFault::Shard(ShardFault::NoConn));
+        };
+        let line = &self.lines[place];
+        line.conn_fault(conn, event)
+    }
+
+    /// Why it refuses a subscribe.
+    fn subscribe_fault(&self, conn: ConnId, key: &Key, sid: &Sid) -> Option<NodeFault>
+        ensures { result ≡ refusal self.now (Own (OfConn conn (Subscribe key.now sid.now))) }
+    {
+        let Some(place) = place_of_conn(self.lines.len(), conn) else {
+            return Some(NodeFault::Shard(ShardFault::NoConn));
+        };
+        let line = &self.lines[place];
+        line.subscribe_fault(conn, key, sid)
+    }
+
+    /// Why it refuses what a shard is asked to do.
+    fn work_fault(&self, shard: u64, work: ShardWork) -> Option<NodeFault>
+        ensures { result ≡ refusal self.now (Own (AtShard shard work)) }
+    {
+        let Some(place) = place_of_shard(self.lines.len(), shard) else {
+            return Some(NodeFault::NoShard);
+        };
+        let line = &self.lines[place];
+        line.work_fault(work)
+    }
+
+    /// Why it refuses an `INFO`.
+    fn info_fault(&self, session: SessionId, info: &RouteInfo) -> Option<NodeFault>
+        ensures { result ≡ refusal self.now (OnInfo session info.now) }
+    {
+        let fault = self.side.info_fault(session, info)?;
+        Some(NodeFault::Session(fault))
+    }
+
+    /// Why it refuses a `CONNECT`.
+    fn connect_fault(&self, session: SessionId, connect: &RouteConnect) -> Option<NodeFault>
+        ensures { result ≡ refusal self.now (OnConnect session connect.now) }
+    {
+        let fault = self.side.connect_fault(session, connect)?;
+        Some(NodeFault::Session(fault))
+    }
+
+    /// Why it refuses a publish.
+    fn publish_fault(&self, conn: ConnId, said: &Pub, word: u64) -> Option<NodeFault>
+        ensures { result ≡ refusal self.now (Own (Publish (publication conn said.now word))) }
+    {
+        let count = self.lines.len();
+        let finished = finished_by(&self.race, count as u64);
+        of_hub_fault(self.side.hub().publish_fault(said, &finished))
+    }
+
+    /// Why it refuses a frame of a peer.
+    fn receive_fault(&self, frame: &Numbered) -> Option<NodeFault>
+        ensures { result ≡ refusal self.now (Receive frame.now) }
+    {
+        let count = self.lines.len();
+        let finished = finished_by(&self.race, count as u64);
+        of_hub_fault(self.side.hub().receive_fault(frame, &finished))
+    }
+
+    /// Why it refuses a collect.
+    fn collect_fault(&self, shard: u64) -> Option<NodeFault>
+        ensures { result ≡ refusal self.now (Own (Collect shard)) }
+    {
+        let Some(place) = place_of_shard(self.lines.len(), shard) else {
+            return Some(NodeFault::NoShard);
+        };
+        let line = &self.lines[place];
+        of_hub_fault(self.side.hub().collect_fault(line.deltas()))
+    }
+
+    /// Why it refuses to take frames.
+    fn take_frames_fault(&self, peer: usize, count: usize) -> Option<NodeFault>
+        ensures { result ≡ refusal self.now (Own (TakeFrames peer count)) }
+    {
+        if self.side.hub().server().is_peer(peer) {
+            return None;
+        }
+        Some(NodeFault::Hub(HubFault::NotInCluster))
+    }
+
+    /// Why it refuses an event of its own.
+    fn own_fault(&self, event: &OwnEvent) -> Option<NodeFault>
+        ensures { result ≡ refusal self.now (Own (own_event_of event.now)) }
+    {
+        match event {
+            OwnEvent::OfConn { conn, event } => self.conn_fault(*conn, event),
+            OwnEvent::AtShard { shard, work } => self.work_fault(*shard, *work),
+            OwnEvent::Publish { conn, said, word } => self.publish_fault(*conn, said, *word),
+            OwnEvent::Collect { shard } => self.collect_fault(*shard),
+            OwnEvent::Dial { peer } => {
+                Some(NodeFault::Session(self.side.sessions().dial_fault(*peer)?))
+            }
+            OwnEvent::Accept => Some(NodeFault::Session(self.side.sessions().accept_fault()?)),
+            OwnEvent::CutSession { session } => {
+                Some(NodeFault::Session(self.side.sessions().cut_fault(*session)?))
+            }
+            OwnEvent::TakeFrames { peer, count } => self.take_frames_fault(*peer, *count),
+        }
+    }
+
+    /// Why it refuses the event: the first cause, and none where [`Node::step`] does it or wants memory.
+    /// Wants no memory, and changes nothing: where the deltas of a collect are many, it uses what memory there is,
+    /// and keeps none.
+    pub fn fault(&self, event: &NodeEvent) -> Option<NodeFault>
+        ensures { result ≡ refusal self.now (event_of event.now) }
+    {
+        self.fault_of(&lend(event))
+    }
+}
+
+/// Whether memory was wanting.
+fn is_out_of_memory(answer: &Result<Did, Refused>) -> bool
+    ensures { result ≡ is_short answer.now }
+{
+    matches!(answer, Err(Refused::OutOfMemory))
+}
+
+impl<T: SubTable, R: Race> Node<T, R> {
+    /// Makes the steps of these events, one behind another, and gives the answer of each, in order: a refusal leaves all as it was,
+    /// and the next event comes. The memory of the list is taken first; where there is none nothing is done.
+    ///
+    /// A step that meets want of memory is the last one made, and its answer the last: then fewer answers are given than there are
+    /// events, and what stands is the run of as many of the first events.
+    ///
+    /// Whatever the server had done since its start, it keeps the promises of one server of all of it together: see
+    /// [`servers_keep_their_promises`].
+    pub fn run(&mut self, events: &[NodeEvent]) -> Result<Vec<Result<Did, Refused>>, AllocError>
+        ensures run { IfOk result (λ answers. IsRun self.old (map event_of events.now) (map outcome_told answers.items) self.new) }
+        ensures promises { IfOk result (λ answers. (h : List Done) → Ran self.old.server h self.old.node → GoesOn (done_with (map event_of events.now) (map outcome_told answers.items)) h self.new) }
+        ensures short { OnErr result (self.new ≡ self.old) }
+    {
+        servers_keep_their_promises();
+        let mut answers = Vec::with_capacity(self.alloc, events.len())?;
+        for event in events {
+            let answer = self.step(event);
+            let is_last = is_out_of_memory(&answer);
+            answers.push_reserved(answer);
+            if is_last {
+                return Ok(answers);
+            }
+        }
+        Ok(answers)
+    }
+}
+
+impl<T: SubTable, R: Race> Node<T, R> {
+    /// Moves the bytes of the first entries that wait for a connection, or of all where there are fewer,
+    /// behind those that are in `out`, in order, and removes these entries: [`Node::take`] without
+    /// entries. Gives how many they were. A refusal or want of memory leaves `out` as it was.
+    pub fn take_bytes(
+        &mut self,
+        conn: ConnId,
+        count: usize,
+        out: &mut Vec<u8>,
+    ) -> Result<usize, Failure<NodeFault>>
+        ensures { IsAnswered (refusal self.old (Own (OfConn conn (Take count)))) (λ taken. TakesBytes self.old conn count taken out.old.items out.new.items self.new) ((self.new ≡ self.old) × (out.new.items ≡ out.old.items)) result }
+    {
+        let Some(place) = place_of_conn(self.lines.len(), conn) else {
+            return Err(Failure::Refused(NodeFault::Shard(ShardFault::NoConn)));
+        };
+        let line = &mut self.lines[place];
+        line.take_bytes(conn, count, out)
+    }
+}
+
+impl<T: SubTable, R: Race> Node<T, R> {
+    /// Publishes for a connection: the publication takes the next number and the next turn, each shard gets its job, and the
+    /// frames that are owed wait for their peers. The word decides which server serves each queue name.
+    ///
+    /// Refused, in this order, with [`HubFault::Busy`] where a shard is a window behind, with
+    /// [`HubFault::Spent`] where the last number or the last turn was used, and with
+    /// [`HubFault::TooManyQueues`]: [`Hub::plan_publish`].
+    pub fn publish(
+        &mut self,
+        conn: ConnId,
+        said: &Pub,
+        word: u64,
+    ) -> Result<Issued, Failure<NodeFault>>
+        ensures { let p = publication conn said.now word in IsAnswered (refusal self.old (Own (Publish p))) (λ done. PublishStep self.old p done.turn done.frames self.new) (self.new ≡ self.old) result }
+    {
+        let count = self.lines.len();
+        let finished = finished_by(&self.race, count as u64);
+        let PublishPlan { job, frames } = match self
+            .side
+            .plan_publish(conn, said, word, &finished)
+        {
+            Ok(plan) => plan,
+            Err(fault) => return of_hub(Err(fault)),
+        };
+        let issued = Issued {
+            turn: job.turn,
+            frames: frames.len(),
+        };
+        let Ok(()) = fill(&mut self.copies, &job, count) else {
+            return Err(Failure::OutOfMemory);
+        };
+        self.side.commit_publish(frames);
+        let lines = self.lines.as_mut_slice();
+        issue(&mut self.race, lines, job, &mut self.copies);
+        Ok(issued)
+    }
+
+    /// Takes a frame of a peer: of a message each shard gets its job, and news are heard. A frame of a
+    /// later life of the peer than was seen ends the session that was kept with it. Nothing is sent on
+    /// (NATS documentation, "Cluster Protocol"). Refused as [`Hub::plan_receive`] is.
+    pub fn receive(&mut self, frame: &Numbered) -> Result<Received, Failure<NodeFault>>
+        ensures { IsAnswered (refusal self.old (Receive frame.now)) (λ received. ReceiveStep self.old frame.now received self.new) (self.new ≡ self.old) result }
+    {
+        let count = self.lines.len();
+        let finished = finished_by(&self.race, count as u64);
+        let received = match take_in(&mut self.side, frame, &finished, &mut self.copies, count) {
+            Ok(received) => received,
+            Err(fault) => return of_hub(Err(fault)),
+        };
+        let lines = self.lines.as_mut_slice();
+        route(&mut self.race, lines, &mut self.copies, frame);
+        Ok(received)
+    }
+}
+
+impl<T: SubTable, R: Race> Node<T, R> {
+    /// Counts what the subscriptions of a shard have changed since its last collect, and tells each peer
+    /// that is up: [`Hub::collect`](hub_core::Hub::collect). A peer without room for all of it is cut, and
+    /// the session that was kept with it ends. Refused with [`NodeFault::NoShard`] where there is no such
+    /// shard, and as the hub's call is.
+    pub fn collect(&mut self, shard: u64) -> Result<Told, Failure<NodeFault>>
+        ensures { IsAnswered (refusal self.old (Own (Collect shard))) (λ told. CollectStep self.old shard told.changes told.frames told.cut.items self.new) (self.new ≡ self.old) result }
+    {
+        let Some(place) = place_of_shard(self.lines.len(), shard) else {
+            return Err(Failure::Refused(NodeFault::NoShard));
+        };
+        let _me = self.side.hub().server().me();
+        let line = &mut self.lines[place];
+        let told = match self.side.collect(shard, line.deltas()) {
+            Ok(told) => told,
+            Err(fault) => return of_hub(Err(fault)),
+        };
+        line.take_deltas();
+        let changes = told.changes.len();
+        let frames = changes * self.side.hub().up_count();
+        Ok(Told {
+            changes,
+            frames,
+            cut: told.cut,
+        })
     }
 }

@@ -32,3 +32,5 @@ pub mod HubsSound
 pub mod Promises
 -- what every shard of a server keeps over its runs
 pub mod EachShard
+-- whether a server is at rest, and knows another one as it runs
+pub mod Settled

@@ -4,3 +4,4 @@ pub mod Sides
 pub mod Receiving
 pub mod Handing
 pub mod Routing
+mod Resting

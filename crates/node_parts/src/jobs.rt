@@ -1,6 +1,6 @@
 //! Jobs on their way to the shards: each line gets one of what is published or received.
 
-ghost use Rattle.std.specs.Prelude.{◌≡◌, ℕ, ◌≤◌, ◌<◌, ◌∷◌, ◌++◌, [], map, replicate, take, length, slice_get, Some, OnOk};
+ghost use Rattle.std.specs.Prelude.{◌≡◌, ℕ, ◌≤◌, ◌<◌, ◌∷◌, ◌++◌, [], map, replicate, take, length, slice_get, Some, IfOk, OnOk};
 ghost use Rattle.subj.specs.Answers.{IsAnswered};
 ghost use Rattle.subj.specs.declared.jobs.Job.{Job as OneJob};
 ghost use Rattle.subj.specs.declared.limits.TheConstants.{MAX_SHARDS, WINDOW};
@@ -22,7 +22,7 @@ use hub_core::HubFault;
 use route_values::Numbered;
 use std::alloc::AllocError;
 use sub_table::SubTable;
-use subj::{Failure, Finished, Job};
+use subj::{Failure, Finished, Job, Turn};
 
 /// The last turns that so many shards finished, as the race knows them.
 pub fn finished_by<R: Race>(race: &R, shards: u64) -> Finished
@@ -47,6 +47,18 @@ pub fn fill(copies: &mut Vec<Job>, job: &Job, count: usize) -> Result<(), AllocE
         copies.push(job.try_clone()?)?;
     }
     Ok(())
+}
+
+/// Fills the list with a job and copies of it, which are so many together. Gives the turn of the job.
+fn copy_all(copies: &mut Vec<Job>, job: Job, count: usize) -> Result<Turn, AllocError>
+    requires { 1 ≤ count }
+    ensures turn { IfOk result (λ turn. turn ≡ job.turn) }
+    ensures copies { OnOk result (copies.new.items ≡ replicate count job) }
+{
+    fill(copies, &job, count)?;
+    let turn = job.turn;
+    copies.push(job)?;
+    Ok(turn)
 }
 
 /// Each line gets one of the jobs. Takes no memory.
@@ -124,9 +136,7 @@ pub fn take_in(
         // a frame that is a message has a job
         unreachable!()
     };
-    let turn = job.turn;
-    fill(copies, &job, count)?;
-    copies.push(job)?;
+    let turn = copy_all(copies, job, count)?;
     side.take_message(frame);
     Ok(Received::Routed(turn))
 }

@@ -7,6 +7,7 @@ ghost use Rattle.shard_core.specs.Answers.{answer_of};
 ghost use Rattle.shard_core.specs.Lines.{first_of};
 ghost use Rattle.shard_core.specs.ShardEvents.{Attach, Subscribe, Unsubscribe, Reply, Shut, Detach, Take, Claim, End, Collect, Attached, Unsubscribed, Replied, WasShut, Detached, Taken, Collected};
 ghost use Rattle.node_parts.specs.Lines.{LineStep, LineBegins, LineEnds, LineDrops, LineClaims, MayClaim, WaitsNext, of_answer, of_decision};
+ghost use Rattle.node_law.specs.Settled.{is_line_settled, has_room_in};
 ghost use Rattle.node_law.specs.State.{new_line};
 ghost use Rattle.node_law.specs.Steps.{begin_of, drop_of, event_refusal, no_job as no_job_of, line_with_job};
 
@@ -24,7 +25,7 @@ use std::alloc::{AllocError, Global};
 use std::collections::VecDeque;
 use std::marker::Model;
 use sub_table::SubTable;
-use subj::{ConnId, Delta, Failure, Job, Key, Sid, SubId, Turn, WINDOW};
+use subj::{ConnId, Delta, Failure, Job, Key, Message, Sid, SubId, Turn, WINDOW};
 
 /// What a shard answers, as its server's answer.
 fn shard_answer<X>(answer: Result<X, Failure<ShardFault>>) -> Result<X, Failure<NodeFault>>
@@ -233,6 +234,21 @@ impl<T: SubTable> Line<T> {
         ensures { LineStep self.old Collect (Collected self.old.shard.deltas) self.new }
     {
         self.shard.take_deltas();
+    }
+
+    /// Whether no job waits or is in hand, and the hub was told of all openings and closings. Takes no memory.
+    #[tactic(auto, using(crate::proofs::Resting::empty_by_length))]
+    pub fn is_settled(&self) -> bool
+        ensures { result ≡ is_line_settled self.now }
+    {
+        self.waiting.is_empty() && self.shard.hand().is_none() && self.shard.deltas().is_empty()
+    }
+
+    /// [`Shard::has_room_for`].
+    pub fn has_room_for(&self, message: &Message) -> bool
+        ensures { result ≡ has_room_in message.now self.now }
+    {
+        self.shard.has_room_for(message)
     }
 
     /// The job stands behind those that wait. Required: less than a window of jobs wait. Takes no

@@ -1,6 +1,6 @@
 //! The hub's part of a server: its hub and its sessions.
 
-ghost use Rattle.std.specs.Prelude.{◌≡◌, ⊤, [], true, false, option_map, IfOk};
+ghost use Rattle.std.specs.Prelude.{◌≡◌, ◌&&◌, ⊤, [], true, false, option_map, slice_get, IfOk};
 ghost use Rattle.subj.specs.Answers.{IsAnswered, IsDecided};
 ghost use Rattle.hub_core.specs.Calls.{IsPlanned, IsTaken, job_of, after_frames};
 ghost use Rattle.hub_core.specs.Chosen.{IsPlanOf, publication};
@@ -9,10 +9,12 @@ ghost use Rattle.hub_core.specs.Publishing.{publish_refusal};
 ghost use Rattle.hub_core.specs.Receiving.{has_message, receive_refusal};
 ghost use Rattle.hub_core.specs.Hubs.{DoesStep};
 ghost use Rattle.hub_core.specs.Peers.{snapshot_to};
+ghost use Rattle.hub_core.specs.Settled.{knows_at};
 ghost use Rattle.hub_core.specs.Steps.{hub_refusal};
 ghost use Rattle.hub_core.specs.Telling.{collect_frames};
 ghost use Rattle.route_session.specs.Calls.{peer_of as peer_by_name};
 ghost use Rattle.route_session.specs.Events.{Dial, Accept, OnInfo, OnConnect, Cut, Dialed, Accepted, KeptAfterInfo, Kept as WasKept, WasCut};
+ghost use Rattle.route_session.specs.State.{has_session};
 ghost use Rattle.route_session.specs.Steps.{session_refusal};
 ghost use Rattle.subj.specs.Servers.{IsListed};
 ghost use Rattle.node_parts.specs.Sides.{ByHub, BySessions, OfHub, OfSessions, IsDone, new_side, seen_name, side_after};
@@ -85,6 +87,14 @@ impl Side {
         ensures state { result.now.state ≡ self.now.sessions }
     {
         &self.sessions
+    }
+
+    /// Whether the other server, at this place, is known as it runs: a session with its incarnation is kept, and
+    /// [`Hub::knows`]. Takes no memory.
+    pub fn knows(&self, place: usize, other: &Side) -> bool
+        ensures { result ≡ (has_session place other.now.server.inc self.now.sessions.standing && knows_at (slice_get self.now.hub.peers place) other.now.server.inc other.now.hub.counts) }
+    {
+        self.sessions.keeps(place, other.hub.server().inc()) && self.hub.knows(place, &other.hub)
     }
 
     /// [`Sessions::info_fault`], with the greatest incarnation that the hub has seen of the sender.

@@ -1,7 +1,7 @@
 -- Entries that are kept as bytes one behind another.
 use Rattle.std.proofs.Common.{◌≡◌, ℕ, zero, suc, ◌+◌, ◌-◌, ◌<◌, ◌≤◌, List, [], ◌∷◌, ◌++◌, length, take, drop, get_or, refl, sym, ap, ◌∙◌, arith, append_assoc, append-nil, length-append, length-drop, length-take-le}
 use Rattle.std.proofs.lemmas.List.{drop-drop, drop-take, take-take, take-append-le, take-append-drop, take_more}
-use Rattle.std.proofs.lemmas.List.Sums.{sum_by-take-drop}
+use Rattle.std.proofs.lemmas.List.Sums.{sum_by-append, sum_by-take-drop}
 use Rattle.std.proofs.Math.Seq.{take-append_seam}
 use Rattle.outbox.specs.Views.{Written, size_of, bytes_of_all}
 use Rattle.outbox.specs.declared.entries.Tag.{Tag}
@@ -132,6 +132,18 @@ bytes_next ks bytes i at k lt here = ap bytes_of_all (take_next ks bytes i at k 
 
 pub copied_next : (ks : List Kept) (i : ℕ) (k : Kept) → i < length ks → copied_of (take (i + 1) ks) ≡ copied_of (take i ks) + copied_len (get_or ks i k)
 copied_next ks i k lt = ap copied_of (take_more ks i k lt) ∙ copied_behind (take i ks) (get_or ks i k ∷ []) ∙ omega arith
+
+-- the bytes of the first ones, and those of the one that comes next
+pub size_next : (ks : List Kept) (bytes : List ℕ) (i n : ℕ) (k : Kept) → i < length ks → copied_of ks ≤ length bytes → k ≡ get_or ks i k → ((text : List ℕ) → copied_len k ≤ length text → n ≡ length (written_at k text).bytes)
+    → size_of (take (i + 1) (written_in ks bytes)) ≡ size_of (take i (written_in ks bytes)) + n
+size_next ks bytes i n k lt fits is size =
+    let at = copied_of (take i ks) in
+    let one = written_at (get_or ks i k) (drop at bytes) in
+    let here : copied_len k ≤ length (drop at bytes) = let within = copied_within ks i k lt in let same = ap copied_len is in let left = length-drop at bytes in omega (arith, within, same, fits, left) in
+    let bytes_of_one : n ≡ length one.bytes = size (drop at bytes) here ∙ ap (λ j. length (written_at j (drop at bytes)).bytes) is in
+    let next : size_of (take (i + 1) (written_in ks bytes)) ≡ size_of (take i (written_in ks bytes)) + size_of (one ∷ []) = ap size_of (take_next ks bytes i at k lt refl) ∙ sum_by-append (λ (entry : Written). length entry.bytes) (take i (written_in ks bytes)) (one ∷ []) in
+    let alone : size_of (one ∷ []) ≡ length one.bytes = omega arith in
+    omega (arith, bytes_of_one, next, alone)
 
 pub queued_same : (es fs : List Written) (n m : ℕ) → es ≡ fs → n ≡ m → ◌≡◌ {A = Queued} (record { entries = es; places = n }) (record { entries = fs; places = m })
 queued_same es fs n m same places = ap (λ l. record { entries = l; places = n }) same ∙ ap (λ k. record { entries = fs; places = k }) places

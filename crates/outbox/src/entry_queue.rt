@@ -354,6 +354,20 @@ impl EntryQueue {
         Ok(())
     }
 
+    /// What is left of so many bytes behind those of the first entries; 0 where these have as many or more.
+    #[tactic(auto, using(crate::proofs::Seen::length_seen))]
+    pub(crate) fn bytes_left(&self, count: usize, bytes: usize) -> usize
+        requires { count ≤ length self.now.entries }
+        ensures { result ≡ bytes - size_of (take count self.now.entries) }
+    {
+        let mut left = bytes;
+        for place in 0..count {
+            let (all, _) = sizes_of(&self.kept[place]);
+            left = left.saturating_sub(all);
+        }
+        left
+    }
+
     /// Copies of the first entries.
     #[tactic(auto, using(crate::proofs::Seen::length_seen))]
     pub(crate) fn copies(&self, alloc: Global, count: usize) -> Result<Vec<Entry>, AllocError>

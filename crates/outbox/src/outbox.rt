@@ -2,7 +2,7 @@
 
 ghost use Rattle.std.specs.Prelude.{◌≡◌, ◌+◌, ◌-◌, ◌≤◌, ◌<◌, ◌++◌, ◌==◌, vec_capacity, length, take, [], true, false, IfOk, OnOk, OnErr, IsTrue, Some, None, ◌^◌};
 ghost use Rattle.outbox.specs.Bytes.{bytes_of};
-ghost use Rattle.outbox.specs.Views.{Waiting, empty_outbox, bytes_of_all, has_room, reply_entry, message_entry, with_entry, with_last, without_first, on_both};
+ghost use Rattle.outbox.specs.Views.{Waiting, empty_outbox, bytes_of_all, size_of, has_room, reply_entry, message_entry, with_entry, with_last, without_first, on_both};
 
 use crate::entries::{Entry, Mode, Tag};
 use crate::entry_queue::EntryQueue;
@@ -119,6 +119,25 @@ impl Outbox {
             && self.entries.len() < self.max_entries
             && len <= self.max_bytes
             && self.bytes <= self.max_bytes - len
+    }
+
+    /// How many entries more may wait: none where as many as the limit wait, or more. Takes no memory.
+    pub fn entries_left(&self) -> usize
+        ensures { result ≡ self.now.max_entries - length self.now.shown.entries }
+    {
+        self.max_entries.saturating_sub(self.shown)
+    }
+
+    /// How many bytes more may wait: none where as many as the limit wait, or more. Takes no memory; where the last line was
+    /// put it goes over all entries.
+    pub fn bytes_left(&self) -> usize
+        ensures { result ≡ self.now.max_bytes - size_of self.now.shown.entries }
+    {
+        if self.shut {
+            self.entries.bytes_left(self.shown, self.max_bytes)
+        } else {
+            self.max_bytes - self.shown_bytes
+        }
     }
 
     /// Whether an answer of this line, given without its CR LF, may be put behind all that was put or

@@ -1,5 +1,6 @@
 -- The sessions of a server as its callers see them (profile; INFO and CONNECT: NATS documentation, "Cluster Protocol").
-use Rattle.std.specs.Prelude.{ℕ, Bool, false, nat_eq, List, [], find, Option, Some, None}
+use Rattle.std.specs.Prelude.{ℕ, Bool, false, ◌&&◌, nat_eq, List, [], find, Option, Some, None}
+use Rattle.std.specs.List.{list_any}
 use Rattle.std.specs.Option.{option_and_then, option_map}
 use Rattle.route_session.specs.Best.{Offer}
 
@@ -39,3 +40,11 @@ number_kept q standing = option_map (λ session. session.number) (kept_for q sta
 -- the place of the peer whose kept session this is
 abbrev pub peer_of_session : ℕ → List Session → Option ℕ
 peer_of_session number standing = option_map (λ offer. offer.peer) (option_and_then (λ session. session.kept) (session_at number standing))
+
+-- a session with this incarnation of the peer at this place is kept
+abbrev pub is_kept_at : ℕ → ℕ → Option Offer → Bool
+is_kept_at q inc None = false
+is_kept_at q inc (Some offer) = nat_eq offer.peer q && nat_eq offer.inc inc
+
+abbrev pub has_session : ℕ → ℕ → List Session → Bool
+has_session q inc standing = list_any (λ session. is_kept_at q inc session.kept) standing

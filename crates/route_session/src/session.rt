@@ -2,13 +2,14 @@
 
 ghost use Rattle.std.specs.Prelude.{◌≡◌, map, filter};
 ghost use Rattle.std.specs.Option.{option_map};
-ghost use Rattle.route_session.specs.State.{session_at as at, kept_for as for_peer, is_of_peer as of_peer, number_kept};
+ghost use Rattle.route_session.specs.State.{session_at as at, kept_for as for_peer, is_of_peer as of_peer, is_kept_at, has_session, number_kept};
 ghost use Rattle.route_session.specs.Steps.{duplicate_fault, kept_at, is_not_of_peer, is_another};
 
 use crate::faults::SessionFault;
 use crate::offers::Offer;
 use crate::session_ids::SessionId;
 use std::marker::Model;
+use subj::Incarnation;
 
 /// A session that stands.
 ///
@@ -53,6 +54,16 @@ impl Session {
         self.peer() == Some(peer)
     }
 
+    /// Whether this is a kept session with this incarnation of the peer at this place.
+    fn is_kept_with(self, peer: usize, inc: Incarnation) -> bool
+        ensures { result ≡ is_kept_at peer inc self.kept }
+    {
+        match self.kept {
+            None => false,
+            Some(offer) => offer.peer == peer && offer.inc == inc,
+        }
+    }
+
     /// The session, which keeps what is offered if it is the one of this number.
     fn kept_at(self, number: u64, offer: Offer) -> Session
         ensures { result ≡ kept_at number offer self }
@@ -85,6 +96,18 @@ pub fn kept_for(standing: &[Session], peer: usize) -> Option<Session>
         .iter()
         .find(|session| session.is_of_peer(peer))
         .copied()
+}
+
+/// Whether a session with this incarnation of the peer at this place is kept.
+pub fn is_kept(standing: &[Session], peer: usize, inc: Incarnation) -> bool
+    ensures { result ≡ has_session peer inc standing.now }
+{
+    for session in standing {
+        if session.is_kept_with(peer, inc) {
+            return true;
+        }
+    }
+    false
 }
 
 /// The number of the kept session of the peer at this place.

@@ -4,19 +4,19 @@ ghost use Rattle.std.specs.Prelude.{◌≡◌, nat_eq, true, IfOk, IfSome, ⊤};
 ghost use Rattle.subj.specs.Answers.{IsAnswered, IsDecided};
 ghost use Rattle.subj.specs.Servers.{place, is_peer as peer};
 ghost use Rattle.route_values.specs.Records.{is_serial};
-ghost use Rattle.route_session.specs.State.{number_kept, kept_for};
+ghost use Rattle.route_session.specs.State.{number_kept, kept_for, has_session};
 ghost use Rattle.route_session.specs.Events.{Dial, Accept, OnInfo, OnConnect, Cut, Dialed, Accepted, KeptAfterInfo, Kept as WasKept, WasCut};
 ghost use Rattle.route_session.specs.Steps.{duplicate_fault, after_completion, without_peer, own_connect as connect_to};
 ghost use Rattle.route_session.specs.Calls.{new_sessions, refusal, DoesStep, AreSessions, is_dial, peer_of, open_session, IsInfoOffer, IsConnectOffer};
 
 use crate::faults::SessionFault;
 use crate::offers::Offer;
-use crate::session::{Session, complete, drop_kept, duplicate, end, kept_id, session_at};
+use crate::session::{Session, complete, drop_kept, duplicate, end, is_kept, kept_id, session_at};
 use crate::session_ids::SessionId;
 use route_values::{RouteConnect, RouteInfo};
 use std::alloc::Global;
 use std::marker::Model;
-use subj::{Failure, MAX_COUNTER, MAX_SESSIONS, NodeId, Server};
+use subj::{Failure, Incarnation, MAX_COUNTER, MAX_SESSIONS, NodeId, Server};
 
 /// What a `CONNECT` of this peer offers.
 fn offer_of_connect(connect: &RouteConnect, peer: usize) -> Offer
@@ -108,6 +108,13 @@ impl Sessions {
         ensures { AreSessions self.now.server self.now.state }
     {
         let _ = &self.numbers;
+    }
+
+    /// Whether a session with this incarnation of the peer at this place is kept. Takes no memory.
+    pub fn keeps(&self, place: usize, inc: Incarnation) -> bool
+        ensures { result ≡ has_session place inc self.now.state.standing }
+    {
+        is_kept(&self.standing, place, inc)
     }
 
     /// Why a [`Sessions::accept`] is refused.

@@ -1,7 +1,7 @@
 //! Laws of settled delivery, each the contract of a function that does nothing.
 
 ghost use Rattle.settled_law.specs.Marks.{MarksStayReached};
-ghost use Rattle.settled_law.specs.Exact.{TestsAreExact};
+ghost use Rattle.settled_law.specs.Exact.{CarriedTestsAreExact, TestsAreExact};
 ghost use Rattle.settled_law.specs.Orders.{SomeOrderIsRight};
 ghost use Rattle.settled_law.specs.Promise.{CarriedDelivers, SettledDelivers};
 ghost use Rattle.settled_law.specs.Rows.{APairSettles};
@@ -31,6 +31,13 @@ pub fn tests_are_exact()
     world_law::servers_are_sound();
     world_law::servers_keep_their_laws();
     world_law::it_rests_on_this()
+}
+
+/// And so they do of each world that a value carries, as the code's cluster does.
+pub fn carried_tests_are_exact()
+    ensures { CarriedTestsAreExact }
+{
+    tests_are_exact()
 }
 
 /// Two servers that join and hear each other are settled once all is heard, and not before; an order of work from there is

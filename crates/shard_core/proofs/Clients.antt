@@ -5,3 +5,4 @@ pub mod Staging
 pub mod Outboxes
 pub mod Limits
 pub mod Messages
+pub mod Rooms

@@ -1,5 +1,5 @@
 -- How the calls of a shard answer.
-use Rattle.std.specs.Prelude.{◌≡◌, ℕ, Bool, true, false, List, [], ◌++◌, length, take, Option, Some, None, Result, Ok, Err}
+use Rattle.std.specs.Prelude.{◌≡◌, ℕ, ◌+◌, Bool, true, false, List, [], ◌++◌, length, take, Option, Some, None, is_some, Result, Ok, Err}
 use Rattle.subj.specs.declared.failures.Failure.{Failure}
 use Rattle.subj.specs.declared.failures.Failure.TheVariants.{Refused, OutOfMemory}
 use Rattle.subj.specs.declared.jobs.Job.{Job}
@@ -24,6 +24,11 @@ use Rattle.outbox.specs.Views.{bytes_of_all}
 abbrev pub answer_of : Subscribed → Answer
 answer_of (New sub) = Opened sub
 answer_of Same = AlreadyOpen
+
+-- the serial of the subscription that `subscribe` opens; none where its id calls one
+abbrev pub Opens : State → Option Subscription → Option ℕ → Type 0
+Opens s called None = is_some called ≡ true
+Opens s called (Some serial) = (is_some called ≡ false) × (serial ≡ s.opened + 1)
 
 -- a subscription that an id calls, and whether a maximum closes it at once
 abbrev pub call_of : Option ℕ → Subscription → CalledSub

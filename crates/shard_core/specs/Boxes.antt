@@ -1,7 +1,8 @@
 -- Connections as a shard keeps them: what waits for each, and what will wait once all that was staged is shown.
-use Rattle.std.specs.Prelude.{◌≡◌, ℕ, ◌<◌, List, ◌∷◌, length, map, slice_index_or, nat_eq, false}
+use Rattle.std.specs.Prelude.{◌≡◌, ℕ, ◌-◌, ◌<◌, List, ◌∷◌, length, map, slice_index_or, nat_eq, false, slice_get, slice_set, Some, true}
 use Rattle.std.specs.List.{AllPairs, list_any}
-use Rattle.outbox.specs.Views.{Waiting, Backlog}
+use Rattle.outbox.specs.Views.{Waiting, Backlog, size_of, has_room}
+use Rattle.sub_table.specs.declared.Room.{Room}
 use Rattle.shard_core.specs.declared.connections.Conn.{Conn}
 use Rattle.shard_core.specs.Shards.{Client}
 
@@ -45,3 +46,19 @@ pub record AreConns (places : List ℕ) (conns : List Conn) : Type 0 where
 -- nothing is staged at this place any more
 abbrev pub IsSettledAt : ℕ → List Conn → List Conn → Type 0
 IsSettledAt place old new = (places : List ℕ) → AreConns (place ∷ places) old → AreConns places new
+
+-- what may still be put for a connection
+abbrev pub room_left : Client → Room
+room_left client = record { entries = client.max_entries - length client.outbox.entries; bytes = client.max_bytes - size_of client.outbox.entries }
+
+-- the connection at this place is there, with room for an entry of so many bytes,
+abbrev pub HasRoomAt : ℕ → ℕ → List Conn → Type 0
+HasRoomAt place len conns = (conn : Conn) → slice_get conns place ≡ Some conn → has_room conn.outbox.max_entries conn.outbox.max_bytes len conn.outbox.next ≡ true
+
+-- or it is not shut,
+abbrev pub IsOpenAt : ℕ → List Conn → Type 0
+IsOpenAt place conns = (conn : Conn) → slice_get conns place ≡ Some conn → conn.outbox.next.shut ≡ false
+
+-- or it has this change staged
+abbrev pub IsBoxStaged : ℕ → (Backlog → Backlog) → List Conn → List Conn → Type 0
+IsBoxStaged place change old new = (conn : Conn) → slice_get old place ≡ Some conn → new ≡ slice_set old place (record { number = conn.number; outbox = record conn.outbox { next = change conn.outbox.next } })

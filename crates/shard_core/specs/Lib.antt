@@ -38,3 +38,5 @@ pub mod Examples
 pub mod Limits
 -- why subscriptions close, and connections; and what every shard keeps of those that are open
 pub mod Causes
+-- room for the messages of a publication
+pub mod Room

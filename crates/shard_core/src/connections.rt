@@ -1,9 +1,11 @@
 //! Connections, and what waits for them.
 
-ghost use Rattle.std.specs.Prelude.{map, filter, not, ◌≡◌, ◌==◌, ◌≤◌, ◌+◌, ◌<◌, ◌^◌, ◌++◌, ◌∷◌, [], true, false, position, take, length, All, IsTrue, IfOk, OnOk, OnErr};
+ghost use Rattle.std.specs.List.{list_all};
+ghost use Rattle.sub_table.specs.Subscriptions.{is_room, matching_of};
+ghost use Rattle.shard_core.specs.Boxes.{room_left, AreRising, AreConns, IsSettled, IsSettledAt, on_both, client_in_view, shown_backlog, next_backlog, number_of, HasRoomAt, IsBoxStaged, IsOpenAt};
+ghost use Rattle.std.specs.Prelude.{map, filter, not, ◌≡◌, ◌==◌, ◌≤◌, ◌+◌, ◌-◌, ◌<◌, ◌^◌, ◌++◌, ◌∷◌, [], true, false, position, take, length, All, IsTrue, IfOk, OnOk, OnErr, Some};
 ghost use Rattle.std.specs.Option.{option_map, option_copied};
-ghost use Rattle.outbox.specs.Views.{with_entry, with_last, without_first, reply_entry, message_entry, bytes_of_all};
-ghost use Rattle.shard_core.specs.Boxes.{AreRising, AreConns, IsSettled, IsSettledAt, on_both, client_in_view, shown_backlog, next_backlog, number_of};
+ghost use Rattle.outbox.specs.Views.{with_entry, with_last, without_first, size_of, reply_entry, message_entry, bytes_of_all};
 ghost use Rattle.shard_core.specs.Shards.{is_open as opened, is_known as known, client_at, clients_with_change, without_client, fits, fits_len, waits_for};
 ghost use Rattle.shard_core.specs.ShardSteps.{new_client};
 
@@ -12,7 +14,8 @@ use bytes::Bytes;
 use outbox::{Entry, LAST_LINE_TEXT, Mode, Outbox};
 use std::alloc::{AllocError, Global};
 use std::marker::Model;
-use subj::{ConnId, OUTBOX_BYTES, OUTBOX_ENTRIES, PubId, SubId};
+use sub_table::{Room, SubTable};
+use subj::{ConnId, OUTBOX_BYTES, OUTBOX_ENTRIES, PubId, SubId, Subject};
 
 /// A connection.
 #[derive(Drop)]
@@ -110,6 +113,84 @@ fn note(recipients: &mut Recipients, conns: &[Conn], place: usize, conn: ConnId)
 {
     let is_urgent = is_half_full(&conns[place].outbox);
     recipients.note(conn, conns.len(), is_urgent);
+}
+
+/// What room is left behind the entries that wait.
+fn room_of(outbox: &Outbox) -> Room
+    ensures { result ≡ record { entries = outbox.now.max_entries - length outbox.now.shown.entries; bytes = outbox.now.max_bytes - size_of outbox.now.shown.entries } }
+{
+    Room {
+        entries: outbox.entries_left(),
+        bytes: outbox.bytes_left(),
+    }
+}
+
+/// Where the connection stands, noted among the places where something is staged, and as a recipient.
+fn place_staged(
+    conns: &Vec<Conn>,
+    places: &mut Vec<usize>,
+    recipients: &mut Recipients,
+    conn: ConnId,
+) -> Result<usize, AllocError>
+    requires rising { AreRising conns.now.items }
+    requires there { known conn (map (client_in_view next_backlog) conns.now.items) ≡ true }
+    ensures place { IfOk result (λ place. position (λ other. other.number == conn) conns.now.items ≡ Some place) }
+    ensures noted { IfOk result (λ place. places.new.items ≡ places.old.items ++ place ∷ []) }
+    ensures err { OnErr result (places.new.items ≡ places.old.items) }
+{
+    let Some(place) = place_in(conns, conn) else {
+        // required: the connection is there
+        unreachable!()
+    };
+    places.push(place)?;
+    note(recipients, conns, place, conn);
+    Ok(place)
+}
+
+/// Stages an entry for the connection at the place, which has room for it.
+fn stage_at(conns: &mut Vec<Conn>, place: usize, entry: Entry) -> Result<(), AllocError>
+    requires within { place < length conns.old.items }
+    requires room { HasRoomAt place (length entry.bytes) conns.old.items }
+    ensures ok { OnOk result (IsBoxStaged place (with_entry entry) conns.old.items conns.new.items) }
+    ensures err { OnErr result (IsBoxStaged place (λ backlog. backlog) conns.old.items conns.new.items) }
+{
+    let conn = &mut conns[place];
+    conn.outbox.stage(entry)?;
+    Ok(())
+}
+
+/// The same of a message, given by its line and its payload.
+fn stage_message_at(
+    conns: &mut Vec<Conn>,
+    place: usize,
+    id: PubId,
+    sub: SubId,
+    mode: Mode,
+    line: &[u8],
+    payload: &Bytes,
+) -> Result<(), AllocError>
+    requires within { place < length conns.old.items }
+    requires fits { length line.now + length payload.now + 4 < 2 ^ 64 }
+    requires room { HasRoomAt place (length (message_entry id sub mode line.now payload.now).bytes) conns.old.items }
+    ensures ok { OnOk result (IsBoxStaged place (with_entry (message_entry id sub mode line.now payload.now)) conns.old.items conns.new.items) }
+    ensures err { OnErr result (IsBoxStaged place (λ backlog. backlog) conns.old.items conns.new.items) }
+{
+    let conn = &mut conns[place];
+    conn.outbox.stage_message(id, sub, mode, line, payload)?;
+    Ok(())
+}
+
+/// Stages the last line of the connection at the place, which is open.
+fn stage_last_at(conns: &mut Vec<Conn>, place: usize, line: &[u8]) -> Result<(), AllocError>
+    requires within { place < length conns.old.items }
+    requires once { IsOpenAt place conns.old.items }
+    requires small { length line.now ≤ LAST_LINE_TEXT }
+    ensures ok { OnOk result (IsBoxStaged place (with_last line.now) conns.old.items conns.new.items) }
+    ensures err { OnErr result (IsBoxStaged place (λ backlog. backlog) conns.old.items conns.new.items) }
+{
+    let conn = &mut conns[place];
+    conn.outbox.stage_last(line)?;
+    Ok(())
 }
 
 /// Removes the connection of this number.
@@ -213,6 +294,20 @@ impl Conns {
         }
     }
 
+    /// Whether each connection has room for the messages to all its open subscriptions that get the subject. The message has
+    /// so many bytes beside the id of a subscription. Takes no memory.
+    pub fn have_room<T: SubTable>(&self, table: &T, subject: &Subject, len: usize) -> bool
+        ensures { result ≡ list_all (λ client. is_room len (room_left client) (matching_of client.number subject.now (T.contents table.now))) self.now.shown }
+    {
+        for conn in &self.conns {
+            let number = ConnId::new(conn.number);
+            if !table.has_room(number, subject, len, room_of(&conn.outbox)) {
+                return false;
+            }
+        }
+        true
+    }
+
     /// Whether the connection is there and has room for an entry of so many bytes behind all that was put
     /// or staged.
     pub fn has_room(&self, conn: ConnId, len: usize) -> bool
@@ -231,12 +326,8 @@ impl Conns {
         ensures ok { OnOk result (self.new.next ≡ clients_with_change (with_entry entry) conn self.old.next) }
         ensures err { OnErr result (self.new.next ≡ self.old.next) }
     {
-        if let Some(place) = place_in(&self.conns, conn) {
-            self.places.push(place)?;
-            note(&mut self.recipients, &self.conns, place, conn);
-            let conn = &mut self.conns[place];
-            conn.outbox.stage(entry)?;
-        }
+        let place = place_staged(&self.conns, &mut self.places, &mut self.recipients, conn)?;
+        stage_at(&mut self.conns, place, entry)?;
         Ok(())
     }
 
@@ -257,12 +348,8 @@ impl Conns {
         ensures ok { OnOk result (self.new.next ≡ clients_with_change (with_entry (message_entry id sub mode line.now payload.now)) conn self.old.next) }
         ensures err { OnErr result (self.new.next ≡ self.old.next) }
     {
-        if let Some(place) = place_in(&self.conns, conn) {
-            self.places.push(place)?;
-            note(&mut self.recipients, &self.conns, place, conn);
-            let conn = &mut self.conns[place];
-            conn.outbox.stage_message(id, sub, mode, line, payload)?;
-        }
+        let place = place_staged(&self.conns, &mut self.places, &mut self.recipients, conn)?;
+        stage_message_at(&mut self.conns, place, id, sub, mode, line, payload)?;
         Ok(())
     }
 
@@ -275,12 +362,8 @@ impl Conns {
         ensures ok { OnOk result (self.new.next ≡ clients_with_change (with_last line.now) conn self.old.next) }
         ensures err { OnErr result (self.new.next ≡ self.old.next) }
     {
-        if let Some(place) = place_in(&self.conns, conn) {
-            self.places.push(place)?;
-            note(&mut self.recipients, &self.conns, place, conn);
-            let conn = &mut self.conns[place];
-            conn.outbox.stage_last(line)?;
-        }
+        let place = place_staged(&self.conns, &mut self.places, &mut self.recipients, conn)?;
+        stage_last_at(&mut self.conns, place, line)?;
         Ok(())
     }
 

@@ -20,7 +20,9 @@ fn reserve_for(deltas: &mut Vec<Delta>, closings: usize) -> Result<(), AllocErro
     ensures places { OnOk result (length deltas.old.items + closings + 2 ≤ vec_capacity deltas.new) }
     ensures kept { vec_capacity deltas.old ≤ vec_capacity deltas.new }
 {
-    let places = closings.checked_add(2).ok_or(AllocError)?;
+    let Some(places) = closings.checked_add(2) else {
+        return Err(AllocError);
+    };
     deltas.reserve(places)
 }
 

@@ -1,13 +1,16 @@
 //! The choice of a member of a queue group.
 
-ghost use Rattle.std.specs.Prelude.{◌≡◌, filter, IfOk, OnErr};
+ghost use Rattle.std.specs.Prelude.{◌≡◌, filter, IfOk, IsTrue, OnErr, OnOk};
 ghost use Rattle.client_frames.specs.Messages.{line_parts};
+ghost use Rattle.outbox.specs.Views.{with_entry};
 ghost use Rattle.shard_core.specs.Boxes.{IsSettled};
 ghost use Rattle.shard_core.specs.Claims.{is_member};
 ghost use Rattle.shard_core.specs.Held.{ClaimsAreWhole, HasChosen, candidate_told, shard_with};
+ghost use Rattle.shard_core.specs.Opened.{AreRising};
+ghost use Rattle.sub_table.specs.Subscriptions.{gets};
 ghost use Rattle.subj.specs.QueueNames.{is_named as named};
 ghost use Rattle.shard_core.specs.Owed.{due_entry as entry_due};
-ghost use Rattle.shard_core.specs.Shards.{client_at, fits};
+ghost use Rattle.shard_core.specs.Shards.{client_at, clients_with_change, fits};
 ghost use Rattle.shard_core.specs.Tallies.{lent_subs};
 
 use crate::calls::{Candidate, Placed};
@@ -98,7 +101,65 @@ fn chosen_candidate(
     Ok(Candidate { sub, placed })
 }
 
+/// The candidates among the members of the queue group, in order of opening.
+fn open_candidates<'a, T: SubTable>(
+    claim: &QueueClaim,
+    lines: &MessageLines,
+    conns: &Conns,
+    openings: &'a Openings<T>,
+) -> Result<Vec<&'a Subscription>, AllocError>
+    requires { lines.now ≡ line_parts claim.now.job.now.message }
+    ensures all { IfOk result (λ subs. lent_subs subs.items ≡ filter (is_member claim.now.shard conns.now.next claim.now.job.now claim.now.name.now) (filter (gets claim.now.job.now.message.subject) openings.now.subs)) }
+    ensures rising { AreRising openings.now.subs }
+{
+    let matching = openings.members(claim.job.message.subject(), claim.name)?;
+    candidates(claim, lines, conns, &matching)
+}
+
+/// Stages the entry of the member that is chosen, and tells of it.
+fn stage_chosen(
+    claim: &QueueClaim,
+    lines: &MessageLines,
+    conns: &mut Conns,
+    sub: &Subscription,
+) -> Result<Candidate, AllocError>
+    requires lines { lines.now ≡ line_parts claim.now.job.now.message }
+    requires room { IsTrue (fits (client_at sub.now.conn conns.old.next) (entry_due claim.now.shard claim.now.job.now sub.now.key.queue sub.now)) }
+    ensures shown { conns.new.shown ≡ conns.old.shown }
+    ensures told { IfOk result (λ candidate. candidate ≡ candidate_told claim.now.copies claim.now.shard claim.now.job.now sub.now) }
+    ensures staged { OnOk result (conns.new.next ≡ clients_with_change (with_entry (entry_due claim.now.shard claim.now.job.now sub.now.key.queue sub.now)) sub.now.conn conns.old.next) }
+    ensures err { OnErr result (conns.new.next ≡ conns.old.next) }
+{
+    let entry = due_entry(claim.alloc, claim.shard, claim.job, lines, sub)?;
+    let candidate = chosen_candidate(claim, sub, &entry)?;
+    conns.stage(sub.conn, entry)?;
+    Ok(candidate)
+}
+
 /// The member that is chosen, whose entry is staged; none where there is no candidate.
+fn choose_with<T: SubTable>(
+    claim: &QueueClaim,
+    lines: &MessageLines,
+    conns: &mut Conns,
+    openings: &Openings<T>,
+) -> Result<Option<Candidate>, AllocError>
+    requires lines { lines.now ≡ line_parts claim.now.job.now.message }
+    requires settled { IsSettled conns.old }
+    ensures shown { conns.new.shown ≡ conns.old.shown }
+    ensures ok { IfOk result (λ candidate. HasChosen claim.now.copies (shard_with claim.now.shard conns.old.shown openings.now.subs) claim.now.job.now claim.now.name.now candidate conns.new.next) }
+    ensures err { OnErr result (conns.new.next ≡ conns.old.next) }
+{
+    let subs = open_candidates(claim, lines, conns, openings)?;
+    let count = subs.len() as u64;
+    if count == 0 {
+        return Ok(None);
+    }
+    let place = claim.job.turn.get() % count;
+    let candidate = stage_chosen(claim, lines, conns, subs[place as usize])?;
+    Ok(Some(candidate))
+}
+
+/// As [`choose_with`], with the lines of the job's message.
 pub fn choose<T: SubTable>(
     claim: &QueueClaim,
     conns: &mut Conns,
@@ -110,18 +171,7 @@ pub fn choose<T: SubTable>(
     ensures err { OnErr result (conns.new.next ≡ conns.old.next) }
 {
     let lines = MessageLines::new(claim.alloc, &claim.job.message)?;
-    let matching = openings.members(claim.job.message.subject(), claim.name)?;
-    let subs = candidates(claim, &lines, conns, &matching)?;
-    let count = subs.len() as u64;
-    if count == 0 {
-        return Ok(None);
-    }
-    let place = claim.job.turn.get() % count;
-    let sub = subs[place as usize];
-    let entry = due_entry(claim.alloc, claim.shard, claim.job, &lines, sub)?;
-    let candidate = chosen_candidate(claim, sub, &entry)?;
-    conns.stage(sub.conn, entry)?;
-    Ok(Some(candidate))
+    choose_with(claim, &lines, conns, openings)
 }
 
 /// A candidate that is placed by the next call is the step of a claim that is won, and one that is not is the step

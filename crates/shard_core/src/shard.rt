@@ -12,6 +12,7 @@ ghost use Rattle.shard_core.specs.Boxes.{IsSettled, on_both};
 ghost use Rattle.shard_core.specs.Closings.{left_of, ended_ids};
 ghost use Rattle.shard_core.specs.Held.{DoesStep, IsLeft, Chooses, Stands, held_at_rest, serial_told, after_put_chosen, ended_by_chosen};
 ghost use Rattle.shard_core.specs.Opened.{AreApart, AreRising, with_closings};
+ghost use Rattle.shard_core.specs.Room.{has_room_for as room_for_all};
 ghost use Rattle.shard_core.specs.Shards.{new_shard, clients_with_change, client_at, fits, is_open as opened, waits_for};
 ghost use Rattle.shard_core.specs.ShardEvents.{Attach, Subscribe, Unsubscribe, Reply, Shut, Detach, Take, Begin, Claim, End, DropJob, Collect, Attached, Unsubscribed, Replied, WasShut, Detached, Taken, Finished, Dropped, Collected};
 ghost use Rattle.shard_core.specs.ShardSteps.{shard_refusal, sub_called as call, ended_now, IsHanded};
@@ -25,14 +26,14 @@ use crate::openings::Openings;
 use crate::queue_claim::{QueueClaim, choose};
 use crate::recipients::Recipients;
 use crate::tally::{Tally, is_last, place_all, sub_ids};
-use client_frames::{ErrText, ReplyFrame, reply_line};
+use client_frames::{ErrText, ReplyFrame, message_len, reply_line};
 use outbox::{Entry, LAST_LINE_TEXT};
 use std::alloc::{AllocError, Global};
 use std::marker::Model;
 use sub_table::{SubTable, Subscription};
 use subj::{
-    ConnId, Delta, Failure, Job, Key, MAX_COUNTER, MAX_SERIAL, MAX_SHARDS, SUBSCRIPTION_BYTES,
-    SUBSCRIPTIONS, Sid, SubId, Turn,
+    ConnId, Delta, Failure, Job, Key, MAX_COUNTER, MAX_SERIAL, MAX_SHARDS, Message,
+    SUBSCRIPTION_BYTES, SUBSCRIPTIONS, Sid, SubId, Turn,
 };
 
 /// Drops a candidate that stands, with its entry.
@@ -282,20 +283,11 @@ impl<T: SubTable> Shard<T> {
         ensures { IsAnswered (shard_refusal self.old.state (Subscribe conn key sid)) (λ done. DoesStep self.old (Subscribe conn key sid) (answer_of done) self.new) (IsLeft self.old self.new) result }
     {
         drop_candidate(&mut self.conns, &mut self.chosen);
-        if !self.conns.is_open(conn) {
-            return Err(Failure::Refused(ShardFault::NoConn));
-        }
-        let table = self.openings.table();
-        if table.find(conn, &sid).is_some() {
-            return Ok(Subscribed::Same);
-        }
-        if is_full(table, self.shards, &key) {
-            return Err(Failure::Refused(ShardFault::TooManySubs));
-        }
-        if self.opened >= MAX_SERIAL {
-            return Err(Failure::Refused(ShardFault::Spent));
-        }
-        let serial = self.opened + 1;
+        let serial = match self.serial_for(conn, &key, &sid) {
+            Ok(Some(serial)) => serial,
+            Ok(None) => return Ok(Subscribed::Same),
+            Err(fault) => return Err(Failure::Refused(fault)),
+        };
         self.openings.open(Subscription {
             serial,
             conn,
@@ -438,6 +430,16 @@ impl<T: SubTable> Shard<T> {
         ensures { result ≡ (length (waits_for conn self.now.state.clients) == 0) }
     {
         self.conns.has_nothing_for(conn)
+    }
+
+    /// Whether each connection has room for the messages that its open subscriptions are due of this one, all together: one for
+    /// each that gets its subject. Takes no memory.
+    pub fn has_room_for(&self, message: &Message) -> bool
+        ensures { result ≡ room_for_all message.now self.now.state }
+    {
+        let table = self.openings.table();
+        self.conns
+            .have_room(table, message.subject(), message_len(message))
     }
 
     /// Whether the recipients that are told next are to be asked for soon ([`Recipients::is_urgent`]).

@@ -9,7 +9,7 @@ ghost use Rattle.shard_core.specs.Opened.{AreRising, AreApart};
 ghost use Rattle.shard_core.specs.Owed.{is_due, is_permitted, due_entry as entry_due, walk_after_put, walk, reaches, slow_consumer};
 ghost use Rattle.shard_core.specs.Shards.{State, is_open as opened, clients_with_change, client_at, fits};
 ghost use Rattle.shard_core.specs.Puts.{put_line};
-ghost use Rattle.shard_core.specs.Tallies.{lent_subs, is_placed, Follows, HasPlaced, IsStaged, none_tallied, with_given, with_shut, with_lines, put_if_due as put_matching};
+ghost use Rattle.shard_core.specs.Tallies.{lent_subs, is_placed, Follows, HasPlaced, IsStaged, none_tallied, with_given, with_shut, with_lines, put_if_due as put_matching, walk_matching};
 
 use crate::calls::{Begun, Placed};
 use crate::connections::Conns;
@@ -319,6 +319,45 @@ impl Tally {
         self.put(conns, openings, job, lines, sub)
     }
 
+    /// The walk over those that match, unseen.
+    fn put_each<T: SubTable>(
+        &mut self,
+        conns: &mut Conns,
+        openings: &Openings<T>,
+        job: &Job,
+        lines: &MessageLines,
+        matching: &[&Subscription],
+    ) -> Result<(), AllocError>
+        requires lines { lines.now ≡ line_parts job.now.message }
+        requires counts { All (λ sub. sub.delivered + 1 < 2 ^ 64) (lent_subs matching.now) }
+        ensures shown { conns.new.shown ≡ conns.old.shown }
+        ensures ok { OnOk result (Follows openings.now.subs job.now (λ s w. walk_matching s job.now (lent_subs matching.now) w) conns.old.next self.old conns.new.next self.new) }
+    {
+        for sub in matching {
+            self.put_if_due(conns, openings, job, lines, sub)?;
+        }
+        Ok(())
+    }
+
+    /// The walk over those that match, unseen; without the lines of the message where it is due to none.
+    fn put_due<T: SubTable>(
+        &mut self,
+        conns: &mut Conns,
+        openings: &Openings<T>,
+        job: &Job,
+        matching: &[&Subscription],
+    ) -> Result<(), AllocError>
+        requires counts { All (λ sub. sub.delivered + 1 < 2 ^ 64) (lent_subs matching.now) }
+        ensures shown { conns.new.shown ≡ conns.old.shown }
+        ensures ok { OnOk result (Follows openings.now.subs job.now (λ s w. walk_matching s job.now (lent_subs matching.now) w) conns.old.next self.old conns.new.next self.new) }
+    {
+        if !any_due(job, matching) {
+            return Ok(());
+        }
+        let lines = MessageLines::new(self.alloc, &job.message)?;
+        self.put_each(conns, openings, job, &lines, matching)
+    }
+
     /// The whole walk, unseen.
     fn walk<T: SubTable>(
         &mut self,
@@ -332,14 +371,7 @@ impl Tally {
         ensures ok { OnOk result (Follows openings.now.subs job.now (λ s w. walk s job.now (filter (is_due job.now) s.subs) w) conns.old.next self.old conns.new.next self.new) }
     {
         let matching = openings.table().matching(job.message.subject())?;
-        if !any_due(job, &matching) {
-            return Ok(());
-        }
-        let lines = MessageLines::new(self.alloc, &job.message)?;
-        for sub in &matching {
-            self.put_if_due(conns, openings, job, &lines, sub)?;
-        }
-        Ok(())
+        self.put_due(conns, openings, job, &matching)
     }
 }
 

@@ -1,10 +1,11 @@
 -- Lists of open subscriptions.
-use Rattle.std.specs.Prelude.{ℕ, Bool, not, ◌&&◌, nat_eq, List, [], ◌∷◌, map, filter, sum_by, Option, if◌then◌else◌}
+use Rattle.std.specs.Prelude.{ℕ, ◌+◌, ◌-◌, Bool, not, ◌&&◌, nat_eq, nat_le, List, [], ◌∷◌, length, map, filter, sum_by, Option, Some, None, if◌then◌else◌}
 use Rattle.std.specs.Option.{option_map}
 use Rattle.std.specs.List.{find}
 use Rattle.std.specs.Str.{bytes_eq}
 use Rattle.subj.specs.Keys.{cost_of}
 use Rattle.subj.specs.Matching.{subject_matches}
+use Rattle.sub_table.specs.declared.Room.{Room}
 use Rattle.sub_table.specs.declared.Subscription.{Subscription}
 
 -- NATS documentation, "Client Protocol": a subscription gets what its pattern matches
@@ -53,3 +54,25 @@ with_max serial max subs = with_changed serial (λ sub. record sub { max = max }
 -- profile: a subscription counts what its key does
 abbrev pub total_cost : List Subscription → ℕ
 total_cost subs = sum_by (λ sub. cost_of sub.key) subs
+
+-- ---- room for a message
+
+-- those of a connection that get the subject
+abbrev pub matching_of : ℕ → List ℕ → List Subscription → List Subscription
+matching_of conn subject subs = filter (λ sub. is_of conn sub && gets subject sub) subs
+
+-- the bytes of a message for the subscription that has so many beside the id
+abbrev pub length_for : ℕ → Subscription → ℕ
+length_for len sub = len + length sub.sid
+
+-- there is room for one such message for each of these
+abbrev pub is_room : ℕ → Room → List Subscription → Bool
+is_room len room subs = nat_le (length subs) room.entries && nat_le (sum_by (length_for len) subs) room.bytes
+
+-- what is left of room behind an entry of so many bytes
+abbrev pub room_behind : ℕ → Room → Option Room
+room_behind len room = if nat_le 1 room.entries && nat_le len room.bytes then Some (record { entries = room.entries - 1; bytes = room.bytes - len }) else None
+
+-- and behind the message for a subscription, if it is one of these
+abbrev pub room_left : ℕ → List ℕ → ℕ → Subscription → Room → Option Room
+room_left conn subject len sub room = if is_of conn sub && gets subject sub then room_behind (length_for len sub) room else Some room

@@ -10,7 +10,7 @@
 ghost use Rattle.std.specs.Prelude.{◌≡◌, ◌<◌, ◌+◌, nat_le, [], ◌∷◌, ◌++◌, length, map, filter, position, IfOk, OnOk, OnErr, All};
 ghost use Rattle.std.specs.List.{find as find_in};
 ghost use Rattle.std.specs.Option.{option_copied};
-ghost use Rattle.sub_table.specs.Subscriptions.{total_cost, gets, is_of_another, has_serial, without_serial, serial_called, serials_of, with_delivered, with_max};
+ghost use Rattle.sub_table.specs.Subscriptions.{total_cost, gets, is_of_another, has_serial, without_serial, serial_called, serials_of, with_delivered, with_max, matching_of, is_room, room_left as left_of_room};
 
 use std::alloc::{AllocError, Global};
 use subj::{ConnId, Key, Sid, Subject};
@@ -30,6 +30,33 @@ pub struct Subscription {
     pub delivered: u64,
     /// How many messages it is to get in all, where there is a limit.
     pub max: Option<u64>,
+}
+
+/// How many entries, and how many bytes, may still be put for a connection.
+#[derive(Clone, Copy)]
+pub struct Room {
+    pub entries: usize,
+    pub bytes: usize,
+}
+
+/// What is left of the room behind a message for the subscription, where it is one of the connection that gets the subject; else
+/// all of it. The message has so many bytes beside the id of the subscription. None where there is no room for it.
+pub fn room_left(
+    conn: ConnId,
+    subject: &Subject,
+    len: usize,
+    sub: &Subscription,
+    room: Room,
+) -> Option<Room>
+    ensures { result ≡ left_of_room conn subject.now len sub.now room }
+{
+    if sub.conn != conn || !sub.key.pattern.matches(subject) {
+        return Some(room);
+    }
+    let entries = room.entries.checked_sub(1)?;
+    let behind_len = room.bytes.checked_sub(len)?;
+    let bytes = behind_len.checked_sub(sub.sid.bytes().len())?;
+    Some(Room { entries, bytes })
 }
 
 /// The open subscriptions of a shard, however they are kept.
@@ -77,6 +104,11 @@ pub trait SubTable: Sized + Drop {
     /// Those whose pattern matches the subject, in order of opening.
     fn matching(&self, subject: &Subject) -> Result<Vec<&Subscription>, AllocError>
         ensures { IfOk result (λ subs. map (λ sub. sub.now) subs.items ≡ filter (gets subject.now) (contents self.now)) };
+
+    /// Whether there is room for a message to each subscription of the connection whose pattern matches the subject. The
+    /// message has so many bytes beside the id of the subscription. Takes no memory.
+    fn has_room(&self, conn: ConnId, subject: &Subject, len: usize, room: Room) -> bool
+        ensures { result ≡ is_room len room (matching_of conn subject.now (contents self.now)) };
 
     /// Puts the serials of a connection's subscriptions behind those that are there, in order of
     /// opening. Want of memory leaves the list as it was.
@@ -171,6 +203,17 @@ impl SubTable for ListTable {
             }
         }
         Ok(subs)
+    }
+
+    fn has_room(&self, conn: ConnId, subject: &Subject, len: usize, room: Room) -> bool {
+        let mut room = room;
+        for sub in &self.subs {
+            let Some(left) = room_left(conn, subject, len, sub, room) else {
+                return false;
+            };
+            room = left;
+        }
+        true
     }
 
     fn serials_of(&self, conn: ConnId, serials: &mut Vec<u64>) -> Result<(), AllocError> {

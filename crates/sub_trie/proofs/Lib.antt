@@ -5,3 +5,4 @@ mod Keyed
 mod Owned
 mod Closing
 mod Listing
+mod Rooms

@@ -78,6 +78,19 @@ pub(crate) fn take_all<K: Eq + Hash + Drop>(
     }
 }
 
+/// The serials under the key, in order. Takes no memory.
+pub(crate) fn serials_under<'a, K: Eq + Hash + Drop>(
+    groups: &'a HashMap<K, Vec<u64>>,
+    key: &K,
+) -> &'a [u64]
+    ensures { result.now ≡ list_at K.eq groups.now key.now }
+{
+    match groups.get(key) {
+        Some(list) => list.as_slice(),
+        None => &[],
+    }
+}
+
 /// The first serial under the key. Takes no memory.
 pub(crate) fn first_serial<K: Eq + Hash + Drop>(
     groups: &HashMap<K, Vec<u64>>,

@@ -4,7 +4,7 @@ ghost use Rattle.std.specs.Prelude.{◌≡◌, ◌<◌, ◌+◌, nat_le, true, [
 ghost use Rattle.std.specs.List.{find as find_in};
 ghost use Rattle.std.specs.Option.{option_copied};
 ghost use Rattle.std.proofs.Props.{props};
-ghost use Rattle.sub_table.specs.Subscriptions.{total_cost, gets, has_serial, without_serial, with_delivered, with_max};
+ghost use Rattle.sub_table.specs.Subscriptions.{total_cost, gets, has_serial, without_serial, with_delivered, with_max, matching_of, is_room};
 ghost use Rattle.pattern_trie.specs.Held.{Holds};
 ghost use Rattle.pattern_trie.specs.Starts.{node_count};
 ghost use Rattle.sub_trie.specs.Rising.{is_keyed, is_rising, held_of, rows, subs_in_order};
@@ -14,8 +14,8 @@ use crate::recent::Recent;
 use pattern_trie::PatternTrie;
 use std::alloc::{AllocError, Global};
 use std::collections::HashMap;
-use sub_table::Subscription;
-use subj::Subject;
+use sub_table::{Room, Subscription, room_left};
+use subj::{ConnId, Subject};
 
 /// Open subscriptions, each under its serial, and their serials in a trie of patterns.
 #[derive(Drop)]
@@ -113,6 +113,31 @@ impl Opened {
             }
         }
         Ok(subs)
+    }
+
+    /// Whether there is room for a message to those of these serials that are of the connection and match the subject. The
+    /// message has so many bytes beside the id of the subscription. Takes no memory.
+    pub(crate) fn has_room(
+        &self,
+        serials: &[u64],
+        conn: ConnId,
+        subject: &Subject,
+        len: usize,
+        room: Room,
+    ) -> bool
+        ensures { result ≡ is_room len room (matching_of conn subject.now (subs_of_serials (subs_in_order self.now.subs) serials.now)) }
+    {
+        let mut room = room;
+        for serial in serials {
+            let Some(sub) = self.get(*serial) else {
+                continue;
+            };
+            let Some(left) = room_left(conn, subject, len, sub, room) else {
+                return false;
+            };
+            room = left;
+        }
+        true
     }
 
     /// Those whose pattern matches the subject, in order of opening.

@@ -7,12 +7,14 @@ ghost use Rattle.pattern_trie.specs.Starts.{node_count};
 ghost use Rattle.sub_trie.specs.Groups.{list_at, AreCalled, without_each};
 ghost use Rattle.sub_trie.specs.Rising.{held_of, subs_in_order};
 
-use crate::groups::{copy_serials, first_serial, push_serial, take_all, take_serial};
+use crate::groups::{
+    copy_serials, first_serial, push_serial, serials_under, take_all, take_serial,
+};
 use crate::opened::Opened;
 use arrayvec::ArrayVec;
 use std::alloc::{AllocError, Global};
 use std::collections::HashMap;
-use sub_table::{SubTable, Subscription};
+use sub_table::{Room, SubTable, Subscription};
 use subj::{ConnId, MAX_SID, Sid, Subject};
 
 /// A connection, and what it calls a subscription.
@@ -126,6 +128,11 @@ impl SubTable for TrieTable {
 
     fn matching(&self, subject: &Subject) -> Result<Vec<&Subscription>, AllocError> {
         self.opened.matching(subject)
+    }
+
+    fn has_room(&self, conn: ConnId, subject: &Subject, len: usize, room: Room) -> bool {
+        let serials = serials_under(&self.by_conn, &conn.get());
+        self.opened.has_room(serials, conn, subject, len, room)
     }
 
     fn serials_of(&self, conn: ConnId, serials: &mut Vec<u64>) -> Result<(), AllocError> {

@@ -2,8 +2,8 @@
 use Rattle.std.proofs.Common.{◌≡◌, ◌≢◌, ℕ, zero, suc, ◌+◌, ◌-◌, ◌%◌, ◌≤◌, ◌||◌, Bool, true, false, cond, nat_eq, nat_lt, List, [], ◌∷◌, length, set, map, Option, Some, None, Result, Ok, Err, refl, sym, ap, ◌∙◌, subst, arith}
 use Rattle.std.specs.Prelude.{slice_get, slice_index}
 use Rattle.std.specs.Option.{option_map, option_or}
-use Rattle.std.proofs.lemmas.Option.{none-some, same_Some}
-use Rattle.list_laws.proofs.Tests.{eq_false, lt_false}
+use Rattle.std.proofs.lemmas.Option.{none-some, same_Some, slice_get_past}
+use Rattle.list_laws.proofs.Tests.{eq_false, lt_false, lt_true}
 use Rattle.subj.specs.Servers.{Server}
 use Rattle.claim_race.specs.Race.{RaceState, IsInTurn, IsFinished, finished_of}
 use Rattle.subj.specs.Answers.{IsAnswered, IsDecided}
@@ -11,6 +11,8 @@ use Rattle.subj.specs.declared.failures.Failure.{Failure}
 use Rattle.subj.specs.declared.failures.Failure.TheVariants.{Refused, OutOfMemory}
 use Rattle.shard_core.specs.ShardEvents as of_shard
 use Rattle.node_law.specs.declared.faults.NodeFault.{NodeFault}
+use Rattle.node_law.specs.declared.faults.NodeFault.TheVariants.{Shard}
+use Rattle.shard_core.specs.declared.faults.ShardFault.TheVariants.{NoConn}
 use Rattle.node_law.specs.Events.{NodeEvent, Own, OfConn, AtShard}
 use Rattle.node_law.specs.declared.events.ConnEvent.{ConnEvent}
 use Rattle.node_law.specs.declared.events.ShardWork.{ShardWork}
@@ -102,6 +104,32 @@ shard_found a shard count place o line is_count given some here = go (nat_eq sha
           first = positive shard apart;
           last = omega arith;
         }
+
+-- ---- where there is no line
+
+-- a server has some shards
+pub some_lines : (side : Side) (race : RaceState) (lines : List Line) (count : ℕ) → IsKept (served_of_parts side race lines) → count ≡ length lines → 1 ≤ count
+some_lines side race lines count kept is_count = subst (λ n. 1 ≤ n) (sym (is_count ∙ kept.sound.size)) kept.some
+
+pub no_conn : (side : Side) (race : RaceState) (lines : List Line) (conn count : ℕ) (o : Option ℕ) (event : ConnEvent) → o ≡ place_of_conn count conn → o ≡ None → refusal (served_of_parts side race lines) (Own (OfConn conn event)) ≡ Some (Shard NoConn)
+no_conn side race lines conn count o event given none = go (nat_eq conn 0) refl (sym given ∙ none)
+  where
+    go : (b : Bool) → nat_eq conn 0 ≡ b → cond b None (Some ((conn - 1) % count)) ≡ None → refusal (served_of_parts side race lines) (Own (OfConn conn event)) ≡ Some (Shard NoConn)
+    go true z e = ap (λ b. conn_refusal event conn (cond b None (slice_get lines (conn_place side.server conn)))) z
+    go false z e = absurd (none-some ((conn - 1) % count) (sym e))
+
+pub no_shard : (a : Node) (shard count : ℕ) (o : Option ℕ) → count ≡ length a.lines → o ≡ place_of_shard count shard → o ≡ None → shard_line a shard ≡ None
+no_shard a shard count o is_count given none = go (nat_eq shard 0) refl (nat_lt count shard) refl (sym given ∙ none)
+  where
+    here : Bool → Option Line
+    here b = cond b None (slice_get a.lines (shard - 1))
+
+    go : (b : Bool) → nat_eq shard 0 ≡ b → (d : Bool) → nat_lt count shard ≡ d → cond (b || d) None (Some (shard - 1)) ≡ None → here (nat_eq shard 0) ≡ None
+    go true z d y e = ap here z
+    go false z true y e =
+        let over = lt_true count shard y in
+        ap here z ∙ slice_get_past a.lines (shard - 1) (omega arith)
+    go false z false y e = absurd (none-some (shard - 1) (sym e))
 
 -- ---- connections
 

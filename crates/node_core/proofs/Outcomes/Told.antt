@@ -1,5 +1,5 @@
 -- What the calls of a server put and close, as the outcome of its step.
-use Rattle.std.proofs.Common.{◌≡◌, ℕ, Bool, true, false, not, cond, List, [], ◌∷◌, length, ◌-◌, Option, Some, None, sym, ap, ◌∙◌, refl}
+use Rattle.std.proofs.Common.{◌≡◌, ℕ, Bool, true, false, not, cond, List, [], ◌∷◌, length, ◌-◌, Option, Some, None, sym, ap, subst, ◌∙◌, refl}
 use Rattle.std.specs.Prelude.{option_to_list}
 use Rattle.std.proofs.lemmas.Option.{none-some, same_Some}
 use Rattle.client_frames.specs.ErrTexts.{err_line}
@@ -23,13 +23,14 @@ use Rattle.shard_core.specs.declared.calls.Begun.{Begun}
 use Rattle.shard_core.specs.declared.calls.Placed.{Placed}
 use Rattle.node_parts.specs.declared.lines.Claimed.{Claimed}
 use Rattle.node_parts.specs.declared.lines.Claimed.TheVariants as code
-use Rattle.node_law.specs.Answers.{Answer, Nothing, Began, Won, told_of_shard, told_at}
+use Rattle.node_law.specs.Answers.{Answer, Nothing, Began, told_of_shard, told_at}
 use Rattle.node_law.specs.AsLaw.{Part, part_at, part_if, part_of}
 use Rattle.node_law.specs.Events.{NodeEvent, Own, OfConn, AtShard}
 use Rattle.node_law.specs.declared.events.ConnEvent.{ConnEvent}
 use Rattle.node_law.specs.declared.events.ConnEvent.TheVariants.{Subscribe, Unsubscribe, Reply, Shut, Detach, Take}
 use Rattle.node_law.specs.declared.events.ShardWork.TheVariants.{Attach, Begin, Claim, End, DropJob}
-use Rattle.node_core.specs.Outcome.{Answers, Does, put_at, shut_at, ended_at, told_of_claim}
+use Rattle.node_core.specs.declared.node.stepping.ReplyPuts.{ReplyPuts}
+use Rattle.node_core.specs.Outcome.{Answers, Does, Outcome, claim_outcome, ended_told, entries_told, put_at, reply_outcome, shut_at, ended_at}
 use Rattle.node_core.specs.Served.{Served, ConnStep, BeginStep, ClaimStep, IsToldAt, IsClaimTold, IsClaimToldAt, answer_at, work_answer, is_won}
 use Rattle.node_law.specs.State.{Line, Node}
 use Rattle.node_law.specs.Steps.{conn_line, conn_place, conn_event, shard_line, work_event, begin_of, drop_of, node_frames}
@@ -113,6 +114,15 @@ reply_put old new conn frame shut ended is d = conn_does old new conn (Reply fra
     (λ line e. chosen false (answer_fits line.shard conn (reply_line frame)) (conn ∷ []) [] (sym is ∙ ap was_shut e))
     d
 
+pub reply_does : (old new : Served) (conn : ℕ) (frame : ReplyFrame) (puts : ReplyPuts) (shut : Bool) (ended : List SubId) → puts.answer.items ≡ put_line (reply_line frame) conn ∷ [] → puts.last.items ≡ put_line slow_consumer conn ∷ [] → puts.shut.items ≡ conn ∷ [] → ConnStep old conn (Reply frame) (of_shard.Replied shut ended) new
+    → Does old (Own (OfConn conn (Reply frame))) (reply_outcome puts shut ended) new
+reply_does old new conn frame puts true ended answer last over d =
+    let made : ◌≡◌ {A = Outcome} (record { answer = Nothing; entries = put_line slow_consumer conn ∷ []; frames = []; shut = conn ∷ []; ended = ended }) (reply_outcome puts true ended) = λ k. record { answer = Nothing; entries = sym last k; frames = []; shut = sym over k; ended = ended } in
+    subst (λ (o : Outcome). Does old (Own (OfConn conn (Reply frame))) o new) made (reply_shut old new conn frame true ended refl d)
+reply_does old new conn frame puts false ended answer last over d =
+    let made : ◌≡◌ {A = Outcome} (record { answer = Nothing; entries = put_line (reply_line frame) conn ∷ []; frames = []; shut = []; ended = ended }) (reply_outcome puts false ended) = λ k. record { answer = Nothing; entries = sym answer k; frames = []; shut = []; ended = ended } in
+    subst (λ (o : Outcome). Does old (Own (OfConn conn (Reply frame))) o new) made (reply_put old new conn frame false ended refl d)
+
 -- ---- shards
 
 begin_put : (place : ℕ) (line : Line) (job : Job) (waits : Option Job) (begun : Begun) → waits ≡ Some job → IsTold true line.shard job begun → begun.put.items ≡ put_at (part_if place line (begin_of waits))
@@ -170,17 +180,6 @@ claim_put s (Some job) None won = refl
 claim_put s (Some job) (Some sub) true = refl
 claim_put s (Some job) (Some sub) false = refl
 
--- copies of what was placed, and what closed
-abbrev pub entries_told : Claimed → List Placed
-entries_told code.Nobody = []
-entries_told code.Lost = []
-entries_told (code.Won sub placed ended) = option_to_list placed
-
-abbrev pub ended_told : Claimed → List SubId
-ended_told code.Nobody = []
-ended_told code.Lost = []
-ended_told (code.Won sub placed ended) = option_to_list ended
-
 claim_entries : (claimed : Claimed) (answer : of_shard.Answer) → IsClaimTold true claimed answer → entries_told claimed ≡ placed_of answer
 claim_entries code.Nobody answer e = sym (ap placed_of e)
 claim_entries code.Lost answer e = sym (ap placed_of e)
@@ -202,15 +201,11 @@ claim_at place index (Some line) claimed e =
     }
 
 pub claim_does : (old new : Served) (shard index : ℕ) (claimed : Claimed) → ClaimStep true old shard index claimed new
-    → Does old (Own (AtShard shard (Claim index))) (record { answer = told_of_claim claimed; entries = entries_told claimed; frames = []; shut = []; ended = ended_told claimed }) new
+    → Does old (Own (AtShard shard (Claim index))) (claim_outcome claimed) new
 claim_does old new shard index claimed d =
     let p = claim_at (shard - 1) index (shard_line old.node shard) claimed d.told in
     let told = told_claim_at true claimed index (shard_line old.node shard) d.told in
     record { won = is_won claimed; step = d.step; told = λ k. record { answer = told k; entries = p.put k; frames = []; shut = p.closed k; ended = p.over k } }
-
-pub claim_won_does : (old new : Served) (shard index : ℕ) (sub : SubId) (placed : Option Placed) (ended : Option SubId) → ClaimStep true old shard index (code.Won sub placed ended) new
-    → Does old (Own (AtShard shard (Claim index))) (record { answer = Won sub; entries = option_to_list placed; frames = []; shut = []; ended = option_to_list ended }) new
-claim_won_does old new shard index sub placed ended d = claim_does old new shard index (code.Won sub placed ended) d
 
 -- ---- where nothing is put and nothing closes
 

@@ -1,30 +1,42 @@
 //! A server's step, with copies of what it puts, and what closes.
 
-ghost use Rattle.std.specs.Prelude.{◌≡◌, ◌≤◌, ◌+◌, ◌∷◌, [], map, None, IfOk, option_to_list, vec_len, vec_capacity};
+ghost use Rattle.std.specs.Prelude.{◌≡◌, ◌≤◌, ◌+◌, ◌∷◌, [], map, None, IfOk, option_to_list, vec_len, vec_capacity, ⊤};
 ghost use Rattle.client_frames.specs.ErrTexts.{err_line};
-ghost use Rattle.route_values.specs.declared.frames.RouteFrame.TheVariants.{Numbered as NumberedFrame};
+ghost use Rattle.client_frames.specs.Frames.{reply_line as line_of_reply};
+ghost use Rattle.route_values.specs.declared.frames.RouteFrame.TheVariants.{Numbered as NumberedFrame, Connect as ConnectFrame};
+ghost use Rattle.shard_core.specs.Owed.{slow_consumer};
 ghost use Rattle.shard_core.specs.Puts.{put_line};
 ghost use Rattle.subj.specs.Answers.{IsAnswered};
-ghost use Rattle.node_law.specs.Events.{Own, OfConn, AtShard};
-ghost use Rattle.node_law.specs.declared.events.ConnEvent.TheVariants.{Unsubscribe, Reply, Shut, Detach};
+ghost use Rattle.node_law.specs.Events.{Own, OfConn, AtShard, OnInfo, OnConnect, Publish, Collect, Accept, Receive};
+ghost use Rattle.node_law.specs.declared.events.ConnEvent.TheVariants.{Unsubscribe, Reply, Shut, Detach, Subscribe};
 ghost use Rattle.node_law.specs.declared.events.ShardWork.TheVariants.{Begin, Claim};
-ghost use Rattle.node_core.specs.Outcome.{Does, did_of};
+ghost use Rattle.node_core.specs.Outcome.{Does, did_of, Answers, claim_outcome, reply_outcome, told_of_claim};
 ghost use Rattle.node_core.specs.Served.{refusal};
+ghost use Rattle.node_core.specs.InCode.{answer_of, result_in_code, event_of, own_event_of};
+ghost use Rattle.hub_core.specs.Chosen.{publication};
+ghost use Rattle.node_law.specs.Steps.{node_frames, shard_line};
+ghost use Rattle.std.specs.Option.{option_copied};
+ghost use Rattle.hub_core.specs.Publishing.{next_id as id_of_next};
+ghost use Rattle.node_core.specs.Lent.{asked_of};
+ghost use Rattle.node_law.specs.Sound.{SoundNode};
 
-use super::Node;
+use super::{Node, of_hub};
 use crate::answers::Answer;
+use crate::asked::{Asked, lend};
 use crate::did::Did;
+use crate::refused::{Refused, as_refused};
 use claim_race::Race;
 use client_frames::{ErrText, ReplyFrame, reply_line};
-use node_law::{ConnEvent, NodeFault, ShardWork};
-use node_parts::Claimed;
+use node_law::{ConnEvent, NodeEvent, NodeFault, OwnEvent, ShardWork};
+use node_parts::{Claimed, Line, Received, finished_by, place_of_shard};
 use outbox::Entry;
-use route_values::{Numbered, RouteFrame};
-use shard_core::Placed;
+use route_session::SessionId;
+use route_values::{Numbered, RouteConnect, RouteFrame, RouteInfo};
+use shard_core::{Closed, Placed, Subscribed};
 use std::alloc::{AllocError, Global};
 use std::collections::VecDeque;
 use sub_table::SubTable;
-use subj::{ConnId, Failure, Sid};
+use subj::{ConnId, Failure, Key, Pub, PubId, Server, Sid, SubId};
 
 /// A line for a connection, as the list of what is put.
 fn line_for(alloc: Global, conn: ConnId, line: &[u8]) -> Result<Vec<Placed>, AllocError>
@@ -41,6 +53,46 @@ fn last_line(alloc: Global, conn: ConnId, text: ErrText) -> Result<Vec<Placed>, 
     ensures { IfOk result (λ put. put.items ≡ put_line (err_line text) conn ∷ []) }
 {
     line_for(alloc, conn, text.line())
+}
+
+/// What a reply may put: the answer, or, where it has no room, the last line of the connection that is shut.
+#[derive(Drop)]
+struct ReplyPuts {
+    answer: Vec<Placed>,
+    last: Vec<Placed>,
+    shut: Vec<ConnId>,
+}
+
+/// The answer for a connection, as the list of what is put.
+fn answer_for(alloc: Global, conn: ConnId, frame: &ReplyFrame) -> Result<Vec<Placed>, AllocError>
+    ensures { IfOk result (λ put. put.items ≡ put_line (line_of_reply frame.now) conn ∷ []) }
+{
+    let line = reply_line(alloc, frame)?;
+    line_for(alloc, conn, &line)
+}
+
+/// What a reply may put, of both.
+fn reply_puts(alloc: Global, conn: ConnId, frame: &ReplyFrame) -> Result<ReplyPuts, AllocError>
+    ensures answer { IfOk result (λ puts. puts.answer.items ≡ put_line (line_of_reply frame.now) conn ∷ []) }
+    ensures last { IfOk result (λ puts. puts.last.items ≡ put_line slow_consumer conn ∷ []) }
+    ensures shut { IfOk result (λ puts. puts.shut.items ≡ conn ∷ []) }
+{
+    let answer = answer_for(alloc, conn, frame)?;
+    let last = last_line(alloc, conn, ErrText::SlowConsumer)?;
+    let shut = list_of_one(alloc, conn)?;
+    Ok(ReplyPuts { answer, last, shut })
+}
+
+/// What a server did that answered so. Takes no memory.
+fn did_of_reply(alloc: Global, puts: ReplyPuts, closed: Closed) -> Did
+    ensures { did_of result ≡ reply_outcome puts closed.shut closed.ended.items }
+{
+    let ReplyPuts { answer, last, shut } = puts;
+    if closed.shut {
+        return Did::of_shard(alloc, Answer::Nothing, last, shut, closed.ended);
+    }
+    let none = Vec::new(alloc);
+    Did::of_shard(alloc, Answer::Nothing, answer, none, closed.ended)
 }
 
 /// A list of one.
@@ -65,11 +117,47 @@ fn list_with<X: Drop>(list: Vec<X>, item: Option<X>) -> Vec<X>
     list
 }
 
+/// Room for what a claim may put, and for what may close with it.
+#[derive(Drop)]
+struct ClaimPuts {
+    entries: Vec<Placed>,
+    ended: Vec<SubId>,
+}
+
+/// Room for one entry, and for one subscription that closes.
+fn claim_puts(alloc: Global) -> Result<ClaimPuts, AllocError>
+    ensures no_entries { IfOk result (λ puts. puts.entries.items ≡ []) }
+    ensures entries { IfOk result (λ puts. vec_len puts.entries + 1 ≤ vec_capacity puts.entries) }
+    ensures none_ended { IfOk result (λ puts. puts.ended.items ≡ []) }
+    ensures ended { IfOk result (λ puts. vec_len puts.ended + 1 ≤ vec_capacity puts.ended) }
+{
+    let entries = Vec::with_capacity(alloc, 1)?;
+    let ended = Vec::with_capacity(alloc, 1)?;
+    Ok(ClaimPuts { entries, ended })
+}
+
+/// What a server did that claimed so. Takes no memory.
+fn did_of_claim(alloc: Global, puts: ClaimPuts, claimed: Claimed) -> Did
+    requires no_entries { puts.entries.items ≡ [] }
+    requires entries { vec_len puts.entries + 1 ≤ vec_capacity puts.entries }
+    requires none_ended { puts.ended.items ≡ [] }
+    requires ended { vec_len puts.ended + 1 ≤ vec_capacity puts.ended }
+    ensures { did_of result ≡ claim_outcome claimed }
+{
+    match claimed {
+        Claimed::Nobody => Did::answer_alone(alloc, Answer::Nobody),
+        Claimed::Lost => Did::answer_alone(alloc, Answer::Lost),
+        Claimed::Won { sub, placed, ended } => {
+            let entries = list_with(puts.entries, placed);
+            let over = list_with(puts.ended, ended);
+            let shut = Vec::new(alloc);
+            Did::of_shard(alloc, Answer::Won(sub), entries, shut, over)
+        }
+    }
+}
+
 /// Numbered frames, as frames of a route.
-pub(super) fn route_frames(
-    alloc: Global,
-    numbered: Vec<Numbered>,
-) -> Result<Vec<RouteFrame>, AllocError>
+fn route_frames(alloc: Global, numbered: Vec<Numbered>) -> Result<Vec<RouteFrame>, AllocError>
     ensures { IfOk result (λ frames. frames.items ≡ map NumberedFrame numbered.items) }
 {
     let mut frames = Vec::with_capacity(alloc, numbered.len())?;
@@ -106,22 +194,14 @@ impl<T: SubTable, R: Race> Node<T, R> {
     }
 
     /// Puts an answer, or shuts the connection for want of room.
-    #[tactic(auto, using(crate::proofs::Outcomes::Told::reply_shut, crate::proofs::Outcomes::Told::reply_put))]
     fn did_reply(&mut self, conn: ConnId, frame: &ReplyFrame) -> Result<Did, Failure<NodeFault>>
         requires { refusal self.old (Own (OfConn conn (Reply frame.now))) ≡ None }
         ensures { IsAnswered (refusal self.old (Own (OfConn conn (Reply frame.now)))) (λ did. Does self.old (Own (OfConn conn (Reply frame.now))) (did_of did) self.new) (self.new ≡ self.old) result }
     {
         let alloc = self.alloc;
-        let line = reply_line(alloc, frame)?;
-        let answer = line_for(alloc, conn, &line)?;
-        let last = last_line(alloc, conn, ErrText::SlowConsumer)?;
-        let shut = list_of_one(alloc, conn)?;
+        let puts = reply_puts(alloc, conn, frame)?;
         let closed = self.reply(conn, frame)?;
-        if closed.shut {
-            return Ok(Did::of_shard(alloc, Answer::Nothing, last, shut, closed.ended));
-        }
-        let none = Vec::new(alloc);
-        Ok(Did::of_shard(alloc, Answer::Nothing, answer, none, closed.ended))
+        Ok(did_of_reply(alloc, puts, closed))
     }
 
     /// Shuts a connection.
@@ -150,11 +230,7 @@ impl<T: SubTable, R: Race> Node<T, R> {
 
     /// The step of an event of a connection.
     #[tactic(auto, using(crate::proofs::Outcomes::Told::subscribe_does, crate::proofs::Outcomes::Told::take_does, crate::proofs::Outcomes::Answered::conn_answers))]
-    pub(super) fn did_of_conn(
-        &mut self,
-        conn: ConnId,
-        event: &ConnEvent,
-    ) -> Result<Did, Failure<NodeFault>>
+    fn did_of_conn(&mut self, conn: ConnId, event: &ConnEvent) -> Result<Did, Failure<NodeFault>>
         ensures { IsAnswered (refusal self.old (Own (OfConn conn event.now))) (λ did. Does self.old (Own (OfConn conn event.now)) (did_of did) self.new) (self.new ≡ self.old) result }
     {
         if let Some(fault) = self.conn_fault(conn, event) {
@@ -195,33 +271,19 @@ impl<T: SubTable, R: Race> Node<T, R> {
     }
 
     /// Claims a queue name of the job in hand.
-    #[tactic(auto, using(crate::proofs::Outcomes::Told::claim_does, crate::proofs::Outcomes::Told::claim_won_does))]
     fn did_claim(&mut self, shard: u64, index: u64) -> Result<Did, Failure<NodeFault>>
         requires { refusal self.old (Own (AtShard shard (Claim index))) ≡ None }
         ensures { IsAnswered (refusal self.old (Own (AtShard shard (Claim index)))) (λ did. Does self.old (Own (AtShard shard (Claim index))) (did_of did) self.new) (self.new ≡ self.old) result }
     {
         let alloc = self.alloc;
-        let entries = Vec::with_capacity(alloc, 1)?;
-        let over = Vec::with_capacity(alloc, 1)?;
-        match self.claim(shard, index, true)? {
-            Claimed::Nobody => Ok(Did::answer_alone(alloc, Answer::Nobody)),
-            Claimed::Lost => Ok(Did::answer_alone(alloc, Answer::Lost)),
-            Claimed::Won { sub, placed, ended } => {
-                let entries = list_with(entries, placed);
-                let over = list_with(over, ended);
-                let shut = Vec::new(alloc);
-                Ok(Did::of_shard(alloc, Answer::Won(sub), entries, shut, over))
-            }
-        }
+        let puts = claim_puts(alloc)?;
+        let claimed = self.claim(shard, index, true)?;
+        Ok(did_of_claim(alloc, puts, claimed))
     }
 
     /// The step of what a shard is asked to do.
     #[tactic(auto, using(crate::proofs::Outcomes::Told::attach_does, crate::proofs::Outcomes::Told::end_does, crate::proofs::Outcomes::Told::drop_does))]
-    pub(super) fn did_of_shard(
-        &mut self,
-        shard: u64,
-        work: ShardWork,
-    ) -> Result<Did, Failure<NodeFault>>
+    fn did_of_shard(&mut self, shard: u64, work: ShardWork) -> Result<Did, Failure<NodeFault>>
         ensures { IsAnswered (refusal self.old (Own (AtShard shard work))) (λ did. Does self.old (Own (AtShard shard work)) (did_of did) self.new) (self.new ≡ self.old) result }
     {
         if let Some(fault) = self.work_fault(shard, work) {
@@ -235,5 +297,430 @@ impl<T: SubTable, R: Race> Node<T, R> {
                 Ok(Did::answer_alone(self.alloc, answer))
             }
         }
+    }
+}
+
+/// What a claim answers.
+fn answer_of_claim(claimed: Claimed) -> Answer
+    ensures { answer_of result ≡ told_of_claim claimed }
+{
+    match claimed {
+        Claimed::Nobody => Answer::Nobody,
+        Claimed::Lost => Answer::Lost,
+        Claimed::Won { sub, .. } => Answer::Won(sub),
+    }
+}
+
+impl<T: SubTable, R: Race> Node<T, R> {
+    /// Opens a subscription, with copies of the key and of the id.
+    #[tactic(auto, using(crate::proofs::Outcomes::Answered::conn_answers))]
+    fn answer_of_subscribe(
+        &mut self,
+        conn: ConnId,
+        key: &Key,
+        sid: &Sid,
+    ) -> Result<Answer, Failure<NodeFault>>
+        ensures { IsAnswered (refusal self.old (Own (OfConn conn (Subscribe key.now sid.now)))) (λ answer. Answers self.old (Own (OfConn conn (Subscribe key.now sid.now))) (answer_of answer) self.new) (self.new ≡ self.old) result }
+    {
+        if let Some(fault) = self.subscribe_fault(conn, key, sid) {
+            return Err(Failure::Refused(fault));
+        }
+        let key = key.try_clone(self.alloc)?;
+        let sid = sid.try_clone(self.alloc)?;
+        match self.subscribe(conn, key, sid)? {
+            Subscribed::New(sub) => Ok(Answer::Opened(sub)),
+            Subscribed::Same => Ok(Answer::AlreadyOpen),
+        }
+    }
+
+    /// The step of an event of a connection.
+    #[tactic(auto, using(crate::proofs::Outcomes::Answered::conn_answers))]
+    fn answer_of_conn(
+        &mut self,
+        conn: ConnId,
+        event: &ConnEvent,
+    ) -> Result<Answer, Failure<NodeFault>>
+        ensures { IsAnswered (refusal self.old (Own (OfConn conn event.now))) (λ answer. Answers self.old (Own (OfConn conn event.now)) (answer_of answer) self.new) (self.new ≡ self.old) result }
+    {
+        match event {
+            ConnEvent::Subscribe { key, sid } => self.answer_of_subscribe(conn, key, sid),
+            ConnEvent::Unsubscribe { sid, max } => match self.unsubscribe(conn, sid, *max) {
+                Ok(_) => Ok(Answer::Nothing),
+                Err(fault) => Err(Failure::Refused(fault)),
+            },
+            ConnEvent::Reply { frame } => {
+                self.reply(conn, frame)?;
+                Ok(Answer::Nothing)
+            }
+            ConnEvent::Shut { text } => {
+                self.shut(conn, *text)?;
+                Ok(Answer::Nothing)
+            }
+            ConnEvent::Detach => {
+                self.detach(conn)?;
+                Ok(Answer::Nothing)
+            }
+            ConnEvent::Take { count } => {
+                let entries = self.take(conn, *count)?;
+                Ok(Answer::TakenEntries(entries))
+            }
+        }
+    }
+
+    /// The step of what a shard is asked to do.
+    #[tactic(auto, using(crate::proofs::Outcomes::Answered::work_answers, crate::proofs::Outcomes::Answered::claim_answers, crate::proofs::Outcomes::Answered::begin_answers, crate::proofs::Outcomes::Answered::drop_answers))]
+    fn answer_of_shard(&mut self, shard: u64, work: ShardWork) -> Result<Answer, Failure<NodeFault>>
+        ensures { IsAnswered (refusal self.old (Own (AtShard shard work))) (λ answer. Answers self.old (Own (AtShard shard work)) (answer_of answer) self.new) (self.new ≡ self.old) result }
+    {
+        match work {
+            ShardWork::Attach => {
+                let conn = self.attach(shard)?;
+                Ok(Answer::Attached(conn))
+            }
+            ShardWork::Begin => {
+                let begun = self.begin(shard, false)?;
+                Ok(Answer::Began {
+                    placed: begun.given,
+                    shut: begun.closed.len(),
+                })
+            }
+            ShardWork::Claim { index } => {
+                let claimed = self.claim(shard, index, false)?;
+                Ok(answer_of_claim(claimed))
+            }
+            ShardWork::End => match self.end(shard) {
+                Ok(()) => Ok(Answer::Nothing),
+                Err(fault) => Err(Failure::Refused(fault)),
+            },
+            ShardWork::DropJob => match self.drop_job(shard) {
+                Ok(_) => Ok(Answer::Nothing),
+                Err(fault) => Err(Failure::Refused(fault)),
+            },
+        }
+    }
+
+    /// The step of an event of its own.
+    #[tactic(auto, using(crate::proofs::Outcomes::Answered::publish_answers, crate::proofs::Outcomes::Answered::collect_answers, crate::proofs::Outcomes::Answered::dial_answers, crate::proofs::Outcomes::Answered::accept_answers, crate::proofs::Outcomes::Answered::cut_answers, crate::proofs::Outcomes::Answered::frames_answers))]
+    fn own_answer(&mut self, event: &OwnEvent) -> Result<Answer, Failure<NodeFault>>
+        ensures { IsAnswered (refusal self.old (Own (own_event_of event.now))) (λ answer. Answers self.old (Own (own_event_of event.now)) (answer_of answer) self.new) (self.new ≡ self.old) result }
+    {
+        match event {
+            OwnEvent::OfConn { conn, event } => self.answer_of_conn(*conn, event),
+            OwnEvent::AtShard { shard, work } => self.answer_of_shard(*shard, *work),
+            OwnEvent::Publish { conn, said, word } => {
+                let issued = self.publish(*conn, said, *word)?;
+                Ok(Answer::Issued {
+                    turn: issued.turn,
+                    frames: issued.frames,
+                })
+            }
+            OwnEvent::Collect { shard } => {
+                let told = self.collect(*shard)?;
+                Ok(Answer::Collected {
+                    changes: told.changes,
+                    frames: told.frames,
+                    cut: told.cut,
+                })
+            }
+            OwnEvent::Dial { peer } => Ok(Answer::OnSession(self.dial(*peer)?)),
+            OwnEvent::Accept => Ok(Answer::OnSession(self.accept()?.0)),
+            OwnEvent::CutSession { session } => match self.cut(*session) {
+                Ok(_) => Ok(Answer::Nothing),
+                Err(fault) => Err(Failure::Refused(fault)),
+            },
+            OwnEvent::TakeFrames { peer, count } => {
+                let frames = self.take_frames(*peer, *count)?;
+                Ok(Answer::TakenFrames(frames))
+            }
+        }
+    }
+
+    /// The step of an `INFO` on a session.
+    #[tactic(auto, using(crate::proofs::Outcomes::Answered::info_answers))]
+    fn answer_of_info(
+        &mut self,
+        session: SessionId,
+        info: &RouteInfo,
+    ) -> Result<Answer, Failure<NodeFault>>
+        ensures { IsAnswered (refusal self.old (OnInfo session info.now)) (λ answer. Answers self.old (OnInfo session info.now) (answer_of answer) self.new) (self.new ≡ self.old) result }
+    {
+        let (kept, _) = self.info(session, info)?;
+        Ok(Answer::Kept {
+            instead_of: kept.instead_of,
+        })
+    }
+
+    /// The step of a `CONNECT` on a session.
+    #[tactic(auto, using(crate::proofs::Outcomes::Answered::connect_answers))]
+    fn answer_of_connect(
+        &mut self,
+        session: SessionId,
+        connect: &RouteConnect,
+    ) -> Result<Answer, Failure<NodeFault>>
+        ensures { IsAnswered (refusal self.old (OnConnect session connect.now)) (λ answer. Answers self.old (OnConnect session connect.now) (answer_of answer) self.new) (self.new ≡ self.old) result }
+    {
+        let kept = self.connect(session, connect)?;
+        Ok(Answer::Kept {
+            instead_of: kept.instead_of,
+        })
+    }
+
+    /// The step of an event.
+    #[tactic(auto, using(crate::proofs::Outcomes::Answered::receive_answers, crate::proofs::Outcomes::Answered::info_answers, crate::proofs::Outcomes::Answered::connect_answers))]
+    fn answer(&mut self, event: &NodeEvent) -> Result<Answer, Failure<NodeFault>>
+        ensures { IsAnswered (refusal self.old (event_of event.now)) (λ answer. Answers self.old (event_of event.now) (answer_of answer) self.new) (self.new ≡ self.old) result }
+    {
+        match event {
+            NodeEvent::Own(event) => self.own_answer(event),
+            NodeEvent::Receive(frame) => match self.receive(frame)? {
+                Received::Routed(turn) => Ok(Answer::Routed(turn)),
+                Received::Heard(mark) => Ok(Answer::Heard(mark)),
+            },
+            NodeEvent::OnInfo { session, info } => self.answer_of_info(*session, info),
+            NodeEvent::OnConnect { session, connect } => {
+                self.answer_of_connect(*session, connect)
+            }
+        }
+    }
+
+    /// Makes the step of an event, and gives its answer alone: [`Node::step`] without copies of what is put
+    /// and of what closes. It is refused as the call for the event is, and by the first cause; want of
+    /// memory comes only where there is no cause. Both leave all as it was.
+    pub fn apply(&mut self, event: &NodeEvent) -> Result<Answer, Refused>
+        ensures { IsAnswered (refusal self.old (event_of event.now)) (λ answer. Answers self.old (event_of event.now) (answer_of answer) self.new) (self.new ≡ self.old) (result_in_code result) }
+    {
+        as_refused(self.answer(event))
+    }
+}
+
+/// A `CONNECT` to send and the snapshot that waits behind it, in a list that has no items and two places.
+/// Takes no memory.
+fn sent_on_info(
+    list: Vec<RouteFrame>,
+    connect: RouteConnect,
+    snapshot: Option<Numbered>,
+) -> Vec<RouteFrame>
+    requires empty { list.items ≡ [] }
+    requires room { vec_len list + 2 ≤ vec_capacity list }
+    ensures { result.items ≡ ConnectFrame connect ∷ map NumberedFrame (option_to_list snapshot) }
+{
+    let mut list = list;
+    list.push_reserved(RouteFrame::Connect(connect));
+    if let Some(snapshot) = snapshot {
+        list.push_reserved(RouteFrame::Numbered(snapshot));
+    }
+    list
+}
+
+/// The snapshot that waits, in a list that has no items and a place. Takes no memory.
+fn sent_on_connect(list: Vec<RouteFrame>, snapshot: Option<Numbered>) -> Vec<RouteFrame>
+    requires empty { list.items ≡ [] }
+    requires room { vec_len list + 1 ≤ vec_capacity list }
+    ensures { result.items ≡ map NumberedFrame (option_to_list snapshot) }
+{
+    let mut list = list;
+    if let Some(snapshot) = snapshot {
+        list.push_reserved(RouteFrame::Numbered(snapshot));
+    }
+    list
+}
+
+impl<T: SubTable, R: Race> Node<T, R> {
+    /// The frames that a publish puts. It changes nothing.
+    fn publish_frames(
+        &self,
+        conn: ConnId,
+        said: &Pub,
+        word: u64,
+    ) -> Result<Vec<RouteFrame>, Failure<NodeFault>>
+        ensures { let e = Own (Publish (publication conn said.now word)) in IsAnswered (refusal self.now e) (λ frames. frames.items ≡ node_frames self.now.server self.now.node e) ⊤ result }
+    {
+        let count = self.lines.len();
+        let finished = finished_by(&self.race, count as u64);
+        let plan = match self.side.plan_publish(conn, said, word, &finished) {
+            Ok(plan) => plan,
+            Err(fault) => return of_hub(Err(fault)),
+        };
+        let Ok(frames) = route_frames(self.alloc, plan.frames) else {
+            return Err(Failure::OutOfMemory);
+        };
+        Ok(frames)
+    }
+
+    /// The frames that a collect puts. It changes nothing.
+    fn collect_frames(&self, shard: u64) -> Result<Vec<RouteFrame>, Failure<NodeFault>>
+        ensures { let e = Own (Collect shard) in IsAnswered (refusal self.now e) (λ frames. frames.items ≡ node_frames self.now.server self.now.node e) ⊤ result }
+    {
+        let Some(place) = place_of_shard(self.lines.len(), shard) else {
+            return Err(Failure::Refused(NodeFault::NoShard));
+        };
+        let line = &self.lines[place];
+        let frames = match self.side.hub().frames_of_collect(line.deltas()) {
+            Ok(frames) => frames,
+            Err(fault) => return of_hub(Err(fault)),
+        };
+        let Ok(frames) = route_frames(self.alloc, frames) else {
+            return Err(Failure::OutOfMemory);
+        };
+        Ok(frames)
+    }
+
+    /// Accepts a session, with the `INFO` to send.
+    #[tactic(auto, using(crate::proofs::Outcomes::Sending::accept_does))]
+    fn did_accept(&mut self) -> Result<Did, Failure<NodeFault>>
+        ensures { IsAnswered (refusal self.old (Own Accept)) (λ did. Does self.old (Own Accept) (did_of did) self.new) (self.new ≡ self.old) result }
+    {
+        if let Some(fault) = self.side.sessions().accept_fault() {
+            return Err(Failure::Refused(NodeFault::Session(fault)));
+        }
+        let mut frames = Vec::with_capacity(self.alloc, 1)?;
+        let (session, info) = self.accept()?;
+        frames.push_reserved(RouteFrame::Info(info));
+        Ok(Did::of_frames(self.alloc, Answer::OnSession(session), frames))
+    }
+
+    /// The step of an event of its own.
+    #[tactic(auto, using(crate::proofs::Outcomes::Sending::publish_does, crate::proofs::Outcomes::Sending::collect_does, crate::proofs::Outcomes::Sending::dial_does, crate::proofs::Outcomes::Sending::cut_does, crate::proofs::Outcomes::Sending::frames_does))]
+    fn own_did(&mut self, event: &OwnEvent) -> Result<Did, Failure<NodeFault>>
+        ensures { IsAnswered (refusal self.old (Own (own_event_of event.now))) (λ did. Does self.old (Own (own_event_of event.now)) (did_of did) self.new) (self.new ≡ self.old) result }
+    {
+        match event {
+            OwnEvent::OfConn { conn, event } => self.did_of_conn(*conn, event),
+            OwnEvent::AtShard { shard, work } => self.did_of_shard(*shard, *work),
+            OwnEvent::Publish { conn, said, word } => {
+                let frames = self.publish_frames(*conn, said, *word)?;
+                let answer = self.own_answer(event)?;
+                Ok(Did::of_frames(self.alloc, answer, frames))
+            }
+            OwnEvent::Collect { shard } => {
+                let frames = self.collect_frames(*shard)?;
+                let answer = self.own_answer(event)?;
+                Ok(Did::of_frames(self.alloc, answer, frames))
+            }
+            OwnEvent::Accept => self.did_accept(),
+            OwnEvent::Dial { .. } | OwnEvent::CutSession { .. } | OwnEvent::TakeFrames { .. } => {
+                let answer = self.own_answer(event)?;
+                Ok(Did::answer_alone(self.alloc, answer))
+            }
+        }
+    }
+
+    /// Completes a dialed session, with the `CONNECT` to send and the snapshot that waits.
+    #[tactic(auto, using(crate::proofs::Outcomes::Sending::info_does))]
+    fn did_info(&mut self, session: SessionId, info: &RouteInfo) -> Result<Did, Failure<NodeFault>>
+        ensures { IsAnswered (refusal self.old (OnInfo session info.now)) (λ did. Does self.old (OnInfo session info.now) (did_of did) self.new) (self.new ≡ self.old) result }
+    {
+        if let Some(fault) = self.info_fault(session, info) {
+            return Err(Failure::Refused(fault));
+        }
+        let snapshot = self.side.snapshot_for(info.server_name(), info.inc())?;
+        let frames = Vec::with_capacity(self.alloc, 2)?;
+        let (kept, connect) = self.info(session, info)?;
+        let frames = sent_on_info(frames, connect, snapshot);
+        let answer = Answer::Kept {
+            instead_of: kept.instead_of,
+        };
+        Ok(Did::of_frames(self.alloc, answer, frames))
+    }
+
+    /// Completes an accepted session, with the snapshot that waits.
+    #[tactic(auto, using(crate::proofs::Outcomes::Sending::connect_does))]
+    fn did_connect(
+        &mut self,
+        session: SessionId,
+        connect: &RouteConnect,
+    ) -> Result<Did, Failure<NodeFault>>
+        ensures { IsAnswered (refusal self.old (OnConnect session connect.now)) (λ did. Does self.old (OnConnect session connect.now) (did_of did) self.new) (self.new ≡ self.old) result }
+    {
+        if let Some(fault) = self.connect_fault(session, connect) {
+            return Err(Failure::Refused(fault));
+        }
+        let snapshot = self
+            .side
+            .snapshot_for(connect.server_name(), connect.inc())?;
+        let frames = Vec::with_capacity(self.alloc, 1)?;
+        let kept = self.connect(session, connect)?;
+        let frames = sent_on_connect(frames, snapshot);
+        let answer = Answer::Kept {
+            instead_of: kept.instead_of,
+        };
+        Ok(Did::of_frames(self.alloc, answer, frames))
+    }
+
+    /// Makes the step of an event. Gives its answer, with copies of the entries and frames that it puts, and
+    /// what closes; all copies are made before anything changes. It is refused as the call for the event is,
+    /// and by the first cause; want of memory comes only where there is no cause. Both leave all as it was.
+    pub fn step(&mut self, event: &NodeEvent) -> Result<Did, Refused>
+        ensures { IsAnswered (refusal self.old (event_of event.now)) (λ did. Does self.old (event_of event.now) (did_of did) self.new) (self.new ≡ self.old) (result_in_code result) }
+    {
+        self.step_of(&lend(event))
+    }
+}
+
+impl<T: SubTable, R: Race> Node<T, R> {
+    /// Who it is.
+    pub fn server(&self) -> &Server
+        ensures same { result.now ≡ self.now.server }
+        ensures sound { SoundNode self.now.server self.now.node }
+    {
+        self.side.hub().server()
+    }
+
+    /// The shard of this number with the jobs that wait for it, where there is such a shard.
+    pub fn line(&self, shard: u64) -> Option<&Line<T>>
+        ensures { option_copied result ≡ shard_line self.now.node shard }
+    {
+        let place = place_of_shard(self.lines.len(), shard)?;
+        Some(&self.lines[place])
+    }
+
+    /// What its next publication is called. Takes no memory.
+    pub fn next_id(&self) -> PubId
+        ensures { result ≡ id_of_next self.now.server self.now.node.hub }
+    {
+        self.side.hub().next_id()
+    }
+
+    /// Why it refuses the event: [`Node::fault`], where the parts of the event are lent.
+    pub fn fault_of(&self, asked: &Asked<'_>) -> Option<NodeFault>
+        ensures { result ≡ refusal self.now (asked_of asked.now) }
+    {
+        match *asked {
+            Asked::Own(event) => self.own_fault(event),
+            Asked::Receive(frame) => self.receive_fault(frame),
+            Asked::OnInfo(session, info) => self.info_fault(session, info),
+            Asked::OnConnect(session, connect) => self.connect_fault(session, connect),
+        }
+    }
+
+    /// Takes a frame of a peer.
+    #[tactic(auto, using(crate::proofs::Outcomes::Answered::receive_answers, crate::proofs::Outcomes::Sending::receive_does))]
+    fn did_receive(&mut self, frame: &Numbered) -> Result<Did, Failure<NodeFault>>
+        ensures { IsAnswered (refusal self.old (Receive frame.now)) (λ did. Does self.old (Receive frame.now) (did_of did) self.new) (self.new ≡ self.old) result }
+    {
+        let answer = match self.receive(frame)? {
+            Received::Routed(turn) => Answer::Routed(turn),
+            Received::Heard(mark) => Answer::Heard(mark),
+        };
+        Ok(Did::answer_alone(self.alloc, answer))
+    }
+
+    /// The step of an event whose parts are lent.
+    fn did_asked(&mut self, asked: &Asked<'_>) -> Result<Did, Failure<NodeFault>>
+        ensures { IsAnswered (refusal self.old (asked_of asked.now)) (λ did. Does self.old (asked_of asked.now) (did_of did) self.new) (self.new ≡ self.old) result }
+    {
+        match *asked {
+            Asked::Own(event) => self.own_did(event),
+            Asked::Receive(frame) => self.did_receive(frame),
+            Asked::OnInfo(session, info) => self.did_info(session, info),
+            Asked::OnConnect(session, connect) => self.did_connect(session, connect),
+        }
+    }
+
+    /// Makes the step of an event: [`Node::step`], where the parts of the event are lent.
+    pub fn step_of(&mut self, asked: &Asked<'_>) -> Result<Did, Refused>
+        ensures { IsAnswered (refusal self.old (asked_of asked.now)) (λ did. Does self.old (asked_of asked.now) (did_of did) self.new) (self.new ≡ self.old) (result_in_code result) }
+    {
+        as_refused(self.did_asked(asked))
     }
 }

@@ -22,10 +22,10 @@ use Rattle.subj.specs.declared.limits.TheConstants.{MAX_COUNTER, MAX_QUEUE_NAMES
 use Rattle.subj.specs.Keys.{key_cmp}
 use Rattle.interest.specs.Counts.{Counts, count_of, told_weight}
 use Rattle.interest.specs.Laws.{times}
-use Rattle.interest.specs.Views.{View, told_view}
+use Rattle.interest.specs.Views.{View, told_view, same_views}
 use Rattle.interest.proofs.Counting.Limits.{absent_behind}
 use Rattle.route_session.specs.Best.{Offer}
-use Rattle.route_session.specs.State.{Session}
+use Rattle.route_session.specs.State.{Session, is_kept_at, has_session}
 use Rattle.hub_core.specs.Choice.{queue_names}
 use Rattle.hub_core.specs.Publishing.{Publication}
 use Rattle.hub_core.specs.State.{Peer}
@@ -34,11 +34,15 @@ use Rattle.node_law.specs.CountsOpen.{CountsAreOpen, open_keys}
 use Rattle.node_law.specs.PeersKept.{KeptAt}
 use Rattle.node_law.specs.Sound.{SoundNode}
 use Rattle.node_law.specs.State.{Line}
+use Rattle.sub_table.specs.Subscriptions.{matching_of}
+use Rattle.shard_core.specs.Room.{due_length, takes_all}
+use Rattle.node_law.specs.Settled.{is_peer_settled, is_line_settled, is_node_settled, has_room_in}
+use Rattle.hub_core.specs.Settled.{has_few_names, knows_at}
 use Rattle.world_law.specs.Headline.{IsCluster, EachUp}
 use Rattle.world_law.specs.State.{Cluster, World, Running, server_at}
-use Rattle.settled_law.specs.Room.{TakesAll, matching_of, due_length}
+use Rattle.settled_law.specs.Room.{TakesAll}
 use Rattle.settled_law.specs.Settled.{Tells, PeerIsSettled, LineIsSettled, NodeIsSettled, IsWantedName, IsQuiet, IsSettled, IsRoomy}
-use Rattle.settled_law.specs.Tests.{same_views, is_kept_at, has_session, is_peer_settled, are_peers_settled, is_line_settled, is_node_settled, has_few_names, are_settled, settled_for, takes_all, has_room_in, are_roomy, room_for}
+use Rattle.settled_law.specs.Tests.{are_peers_settled, are_settled, settled_for, are_roomy, room_for}
 use Rattle.settled_law.proofs.Lists.{in_at, all_in}
 use Rattle.settled_law.proofs.Plans.Interest.{is_self, same_if, counted_in, in_counted, counts_of_open}
 use Rattle.settled_law.proofs.Plans.Plan.{wanted_is_named}
@@ -159,7 +163,7 @@ module _ (c : Cluster) (cluster : IsCluster c) (w : World) (size : length w.node
       let g = and_true (is_none line.shard.hand) (is_empty line.shard.deltas) h.1 in
       record { waiting = empty_is line.waiting h.0; hand = none_is line.shard.hand g.0; told = empty_is line.shard.deltas g.1 }
 
-  node_settled : (a : Running) → is_node_settled a ≡ true → NodeIsSettled a
+  node_settled : (a : Running) → is_node_settled a.node ≡ true → NodeIsSettled a
   node_settled a e =
       let h = and_true (list_all is_line_settled a.node.lines) (nat_lt a.node.hub.issued MAX_COUNTER && nat_lt a.node.hub.published MAX_COUNTER) e in
       let g = and_true (nat_lt a.node.hub.issued MAX_COUNTER) (nat_lt a.node.hub.published MAX_COUNTER) h.1 in
@@ -184,13 +188,13 @@ module _ (c : Cluster) (cluster : IsCluster c) (w : World) (size : length w.node
   pub counts_are : (q : ℕ) (b : Running) → slice_get w.nodes q ≡ Some (Some b) → NodeIsSettled b → (key : Key) → count_of b.node.hub.counts key ≡ times key (open_keys b.node.lines)
   counts_are q b at s key = counts_of_open b.node.hub.counts b.node.lines key (λ line i. let k = in_at b.node.lines line i in (s.lines k.0 line k.1).told) ((counted q b at).counts key)
 
-  peer_settled : (a b : Running) (q : ℕ) → slice_get w.nodes q ≡ Some (Some b) → NodeIsSettled b → (o : Option Peer) → slice_get a.node.hub.peers q ≡ o → is_peer_settled a b q o ≡ true → PeerIsSettled a b q
-  peer_settled a b q at s None f e = absurd (true≢false (sym e))
+  peer_settled : (a b : Running) (q : ℕ) → slice_get w.nodes q ≡ Some (Some b) → NodeIsSettled b → (o : Option Peer) → slice_get a.node.hub.peers q ≡ o → (has_session q b.inc a.node.sessions.standing && knows_at o b.inc b.node.hub.counts) ≡ true → PeerIsSettled a b q
+  peer_settled a b q at s None f e = absurd (true≢false (sym (and_true (has_session q b.inc a.node.sessions.standing) false e).1))
   peer_settled a b q at s (Some peer) f e =
-      let h = and_true peer.up (nat_eq peer.seen b.inc && (has_session q b.inc a.node.sessions.standing && (same_views peer.heard.keys (told_view b.node.hub.counts) && nat_lt (length peer.outbox) ROUTE_FRAMES))) e in
-      let g = and_true (nat_eq peer.seen b.inc) (has_session q b.inc a.node.sessions.standing && (same_views peer.heard.keys (told_view b.node.hub.counts) && nat_lt (length peer.outbox) ROUTE_FRAMES)) h.1 in
-      let k = and_true (has_session q b.inc a.node.sessions.standing) (same_views peer.heard.keys (told_view b.node.hub.counts) && nat_lt (length peer.outbox) ROUTE_FRAMES) g.1 in
-      let l = and_true (same_views peer.heard.keys (told_view b.node.hub.counts)) (nat_lt (length peer.outbox) ROUTE_FRAMES) k.1 in
+      let k = and_true (has_session q b.inc a.node.sessions.standing) (knows_at (Some peer) b.inc b.node.hub.counts) e in
+      let h = and_true peer.up (nat_eq peer.seen b.inc && (same_views peer.heard.keys (told_view b.node.hub.counts) && nat_lt (length peer.outbox) ROUTE_FRAMES)) k.1 in
+      let g = and_true (nat_eq peer.seen b.inc) (same_views peer.heard.keys (told_view b.node.hub.counts) && nat_lt (length peer.outbox) ROUTE_FRAMES) h.1 in
+      let l = and_true (same_views peer.heard.keys (told_view b.node.hub.counts)) (nat_lt (length peer.outbox) ROUTE_FRAMES) g.1 in
       let valid = (sound q b at).counts in
       record {
         peer = peer;
@@ -202,37 +206,37 @@ module _ (c : Cluster) (cluster : IsCluster c) (w : World) (size : length w.node
         room = lt_true (length peer.outbox) ROUTE_FRAMES l.1;
       }
 
-  peers_settled : (m : ℕ) (a : Running) (q : ℕ) (nodes : List (Option Running)) → are_peers_settled m a q nodes ≡ true → (k j : ℕ) (b : Running) → k ≡ q + j → m ≢ k → slice_get nodes j ≡ Some (Some b) → is_peer_settled a b k (slice_get a.node.hub.peers k) ≡ true
+  peers_settled : (m : ℕ) (a : Running) (q : ℕ) (nodes : List (Option Running)) → are_peers_settled m a q nodes ≡ true → (k j : ℕ) (b : Running) → k ≡ q + j → m ≢ k → slice_get nodes j ≡ Some (Some b) → is_peer_settled a.node b.node b.inc k ≡ true
   peers_settled m a q [] e k j b sum apart at = absurd (none-some (Some b) at)
   peers_settled m a q (None ∷ nodes) e k j b sum apart at = absurd (true≢false (sym e))
   peers_settled m a q (Some x ∷ nodes) e k zero b sum apart at =
-      let h = and_true (nat_eq m q || is_peer_settled a x q (slice_get a.node.hub.peers q)) (are_peers_settled m a (suc q) nodes) e in
+      let h = and_true (nat_eq m q || is_peer_settled a.node x.node x.inc q) (are_peers_settled m a (suc q) nodes) e in
       let same : q ≡ k = omega (arith, sum) in
       let x_is : x ≡ b = same_Some x b (same_Some (Some x) (Some b) at) in
       let other : nat_eq m q ≡ false = false_eq m q (λ f. apart (f ∙ same)) in
-      subst (λ n. is_peer_settled a b n (slice_get a.node.hub.peers n) ≡ true) same (subst (λ y. is_peer_settled a y q (slice_get a.node.hub.peers q) ≡ true) x_is (sym (ap (λ t. t || is_peer_settled a x q (slice_get a.node.hub.peers q)) other) ∙ h.0))
+      subst (λ n. is_peer_settled a.node b.node b.inc n ≡ true) same (subst (λ y. is_peer_settled a.node y.node y.inc q ≡ true) x_is (sym (ap (λ t. t || is_peer_settled a.node x.node x.inc q) other) ∙ h.0))
   peers_settled m a q (Some x ∷ nodes) e k (suc j) b sum apart at =
-      let h = and_true (nat_eq m q || is_peer_settled a x q (slice_get a.node.hub.peers q)) (are_peers_settled m a (suc q) nodes) e in
+      let h = and_true (nat_eq m q || is_peer_settled a.node x.node x.inc q) (are_peers_settled m a (suc q) nodes) e in
       peers_settled m a (suc q) nodes h.1 k j b (omega (arith, sum)) apart at
 
   record Each_so (subject : List ℕ) (m : ℕ) (a : Running) : Type 0 where
-    node : is_node_settled a ≡ true
+    node : is_node_settled a.node ≡ true
     peers : are_peers_settled m a 0 w.nodes ≡ true
-    few : has_few_names c m a subject ≡ true
+    few : has_few_names (server_at c m a.inc) a.node.hub subject ≡ true
 
   each_so : (subject : List ℕ) (q : ℕ) (nodes : List (Option Running)) → are_settled c subject w.nodes q nodes ≡ true → (k j : ℕ) (o : Option Running) → k ≡ q + j → slice_get nodes j ≡ Some o → (a : Running) × (o ≡ Some a) × Each_so subject k a
   each_so subject q [] e k j o sum at = absurd (none-some o at)
   each_so subject q (None ∷ nodes) e k j o sum at = absurd (true≢false (sym e))
   each_so subject q (Some x ∷ nodes) e k zero o sum at =
-      let h = and_true (is_node_settled x) (are_peers_settled q x 0 w.nodes && (has_few_names c q x subject && are_settled c subject w.nodes (suc q) nodes)) e in
-      let g = and_true (are_peers_settled q x 0 w.nodes) (has_few_names c q x subject && are_settled c subject w.nodes (suc q) nodes) h.1 in
-      let l = and_true (has_few_names c q x subject) (are_settled c subject w.nodes (suc q) nodes) g.1 in
+      let h = and_true (is_node_settled x.node) (are_peers_settled q x 0 w.nodes && (has_few_names (server_at c q x.inc) x.node.hub subject && are_settled c subject w.nodes (suc q) nodes)) e in
+      let g = and_true (are_peers_settled q x 0 w.nodes) (has_few_names (server_at c q x.inc) x.node.hub subject && are_settled c subject w.nodes (suc q) nodes) h.1 in
+      let l = and_true (has_few_names (server_at c q x.inc) x.node.hub subject) (are_settled c subject w.nodes (suc q) nodes) g.1 in
       let same : q ≡ k = omega (arith, sum) in
       (x, sym (same_Some (Some x) o at), subst (λ n. Each_so subject n x) same (record { node = h.0; peers = g.0; few = l.0 }))
   each_so subject q (Some x ∷ nodes) e k (suc j) o sum at =
-      let h = and_true (is_node_settled x) (are_peers_settled q x 0 w.nodes && (has_few_names c q x subject && are_settled c subject w.nodes (suc q) nodes)) e in
-      let g = and_true (are_peers_settled q x 0 w.nodes) (has_few_names c q x subject && are_settled c subject w.nodes (suc q) nodes) h.1 in
-      let l = and_true (has_few_names c q x subject) (are_settled c subject w.nodes (suc q) nodes) g.1 in
+      let h = and_true (is_node_settled x.node) (are_peers_settled q x 0 w.nodes && (has_few_names (server_at c q x.inc) x.node.hub subject && are_settled c subject w.nodes (suc q) nodes)) e in
+      let g = and_true (are_peers_settled q x 0 w.nodes) (has_few_names (server_at c q x.inc) x.node.hub subject && are_settled c subject w.nodes (suc q) nodes) h.1 in
+      let l = and_true (has_few_names (server_at c q x.inc) x.node.hub subject) (are_settled c subject w.nodes (suc q) nodes) g.1 in
       each_so subject (suc q) nodes l.1 k j o (omega (arith, sum)) at
 
   module _ (subject : List ℕ) (e : settled_for c w subject ≡ true) where

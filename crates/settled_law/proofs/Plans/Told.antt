@@ -16,11 +16,11 @@ use Rattle.subj.specs.declared.limits.TheConstants.{MAX_COUNTER, MAX_QUEUE_NAMES
 use Rattle.subj.specs.Keys.{key_cmp}
 use Rattle.interest.specs.Counts.{Counts, told_weight}
 use Rattle.interest.specs.KeyOrder.{key_order_total}
-use Rattle.interest.specs.Views.{View, told_view, view_with_change, view_after, view_at}
+use Rattle.interest.specs.Views.{View, told_view, view_with_change, view_after, view_at, same_views}
 use Rattle.interest.specs.declared.changes.Change.{Change}
 use Rattle.interest.specs.declared.changes.Change.TheVariants.{Up, Gone}
 use Rattle.interest.proofs.Counting.Places.{sorted_inserted, sorted_removed}
-use Rattle.route_session.specs.State.{Session}
+use Rattle.route_session.specs.State.{Session, is_kept_at, has_session}
 use Rattle.hub_core.specs.Choice.{queue_names}
 use Rattle.hub_core.specs.State.{Peer}
 use Rattle.hub_core.proofs.Choices.Names.{names_distinct}
@@ -29,11 +29,15 @@ use Rattle.sub_table.specs.declared.Subscription.{Subscription}
 use Rattle.node_law.specs.CountsOpen.{CountsAreOpen}
 use Rattle.node_law.specs.Sound.{SoundNode}
 use Rattle.node_law.specs.State.{Line}
+use Rattle.sub_table.specs.Subscriptions.{matching_of}
+use Rattle.node_law.specs.Settled.{is_peer_settled, is_line_settled, is_node_settled, has_room_in}
+use Rattle.hub_core.specs.Settled.{has_few_names, knows_at}
+use Rattle.shard_core.specs.Room.{takes_all}
 use Rattle.world_law.specs.Headline.{IsCluster, EachUp}
 use Rattle.world_law.specs.State.{Cluster, World, Running, server_at}
-use Rattle.settled_law.specs.Room.{TakesAll, matching_of}
+use Rattle.settled_law.specs.Room.{TakesAll}
 use Rattle.settled_law.specs.Settled.{Tells, LineIsSettled, IsSettled, IsRoomy}
-use Rattle.settled_law.specs.Tests.{same_views, is_kept_at, has_session, is_peer_settled, are_peers_settled, is_line_settled, is_node_settled, has_few_names, are_settled, settled_for, takes_all, has_room_in, are_roomy, room_for}
+use Rattle.settled_law.specs.Tests.{are_peers_settled, are_settled, settled_for, are_roomy, room_for}
 use Rattle.settled_law.proofs.Lists.{in_at, all_so, is_less, is_at_most}
 use Rattle.settled_law.proofs.Plans.Interest.{is_self, self_equal}
 use Rattle.settled_law.proofs.Plans.Plan.{name_is_wanted}
@@ -118,13 +122,13 @@ module _ (c : Cluster) (cluster : IsCluster c) (w : World) (size : length w.node
   line_told : (line : Line) → LineIsSettled line → is_line_settled line ≡ true
   line_told line s = λ i. is_empty (s.waiting i) && (is_none (s.hand i) && is_empty (s.told i))
 
-  node_told : (n : ℕ) (a : Running) → slice_get w.nodes n ≡ Some (Some a) → is_node_settled a ≡ true
+  node_told : (n : ℕ) (a : Running) → slice_get w.nodes n ≡ Some (Some a) → is_node_settled a.node ≡ true
   node_told n a at =
       let s = settled.quiet.nodes n a at in
       let lines = all_so is_line_settled a.node.lines (λ line i. let k = in_at a.node.lines line i in line_told line (s.lines k.0 line k.1)) in
       λ i. lines i && (is_less a.node.hub.issued MAX_COUNTER s.issued i && is_less a.node.hub.published MAX_COUNTER s.published i)
 
-  peer_told : (m q : ℕ) (a b : Running) → m ≢ q → slice_get w.nodes m ≡ Some (Some a) → slice_get w.nodes q ≡ Some (Some b) → is_peer_settled a b q (slice_get a.node.hub.peers q) ≡ true
+  peer_told : (m q : ℕ) (a b : Running) → m ≢ q → slice_get w.nodes m ≡ Some (Some a) → slice_get w.nodes q ≡ Some (Some b) → is_peer_settled a.node b.node b.inc q ≡ true
   peer_told m q a b apart at at2 =
       let s = settled.quiet.peers m q a b apart at at2 in
       let k = s.session in
@@ -134,7 +138,7 @@ module _ (c : Cluster) (cluster : IsCluster c) (w : World) (size : length w.node
       let same : s.peer.heard.keys ≡ told_view b.node.hub.counts = same_entries s.peer.heard.keys (told_view b.node.hub.counts) (rising m a at q s.peer s.at) (told_rises b.node.hub.counts valid.rising)
       (same_told s.peer.heard.keys (told_view b.node.hub.counts) b.node.lines s.view told) (same_told (told_view b.node.hub.counts) s.peer.heard.keys b.node.lines told s.view) in
       let views : same_views s.peer.heard.keys (told_view b.node.hub.counts) ≡ true = ap (λ v. same_views v (told_view b.node.hub.counts)) same ∙ same_self (told_view b.node.hub.counts) in
-      ap (is_peer_settled a b q) s.at ∙ (λ i. s.up i && (true_eq s.peer.seen b.inc s.seen i && (session i && (views i && is_less (length s.peer.outbox) ROUTE_FRAMES s.room i))))
+      ap (λ o. has_session q b.inc a.node.sessions.standing && knows_at o b.inc b.node.hub.counts) s.at ∙ (λ i. session i && (s.up i && (true_eq s.peer.seen b.inc s.seen i && (views i && is_less (length s.peer.outbox) ROUTE_FRAMES s.room i))))
 
   peers_told : (m : ℕ) (a : Running) → slice_get w.nodes m ≡ Some (Some a) → (q : ℕ) (nodes : List (Option Running)) → ((k j : ℕ) → k ≡ q + j → j < length nodes → (b : Running) × (slice_get nodes j ≡ Some (Some b)) × (slice_get w.nodes k ≡ Some (Some b))) → are_peers_settled m a q nodes ≡ true
   peers_told m a at q [] each = refl
@@ -148,11 +152,11 @@ module _ (c : Cluster) (cluster : IsCluster c) (w : World) (size : length w.node
       let rest = peers_told m a at (suc q) nodes (λ k j sum lt. each k (suc j) (omega (arith, sum)) (omega (arith, lt))) in
       λ i. first here (nat_eq m q) refl i && rest i
     where
-      first : slice_get w.nodes q ≡ Some (Some b) → (t : Bool) → nat_eq m q ≡ t → (nat_eq m q || is_peer_settled a b q (slice_get a.node.hub.peers q)) ≡ true
-      first here true e = ap (λ t. t || is_peer_settled a b q (slice_get a.node.hub.peers q)) e
-      first here false e = ap (λ t. t || is_peer_settled a b q (slice_get a.node.hub.peers q)) e ∙ peer_told m q a b (eq_false m q e) at here
+      first : slice_get w.nodes q ≡ Some (Some b) → (t : Bool) → nat_eq m q ≡ t → (nat_eq m q || is_peer_settled a.node b.node b.inc q) ≡ true
+      first here true e = ap (λ t. t || is_peer_settled a.node b.node b.inc q) e
+      first here false e = ap (λ t. t || is_peer_settled a.node b.node b.inc q) e ∙ peer_told m q a b (eq_false m q e) at here
 
-  few_told : (n : ℕ) (a : Running) → n < length c.names → slice_get w.nodes n ≡ Some (Some a) → has_few_names c n a subject ≡ true
+  few_told : (n : ℕ) (a : Running) → n < length c.names → slice_get w.nodes n ≡ Some (Some a) → has_few_names (server_at c n a.inc) a.node.hub subject ≡ true
   few_told n a lt at = is_at_most (length (queue_names (server_at c n a.inc) a.node.hub subject)) MAX_QUEUE_NAMES
       (settled.few (queue_names (server_at c n a.inc) a.node.hub subject) (names_distinct (server_at c n a.inc) a.node.hub subject)
       (λ name i. name_is_wanted c cluster w n a (record { conn = 0; said = record { message = record { subject = subject; reply = None; payload = [] }; echo = true }; word = 0 }) lt at sound counted settled.quiet name i))

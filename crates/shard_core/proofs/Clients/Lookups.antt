@@ -1,5 +1,5 @@
 -- A connection of the code, looked up and changed in a list of clients.
-use Rattle.std.proofs.Common.{◌≡◌, ℕ, suc, ◌+◌, ◌<◌, ◌≤◌, ◌==◌, Bool, true, false, not, cond, List, [], ◌∷◌, length, map, filter, get_or, Some, None, refl, sym, ap, ◌∙◌, arith}
+use Rattle.std.proofs.Common.{◌≡◌, ℕ, suc, ◌+◌, ◌<◌, ◌≤◌, ◌==◌, Bool, true, false, not, cond, List, [], ◌∷◌, length, map, filter, get_or, Some, None, refl, sym, ap, subst, ◌∙◌, arith}
 use Rattle.std.proofs.Math.Seq.{map-set_same}
 use Rattle.std.specs.Prelude.{position, slice_set, slice_index_or, nat_lt}
 use Rattle.std.specs.List.{position_or_len}
@@ -23,6 +23,11 @@ past a b e = grind (arith, nat_tests)
 
 within : (a b i : ℕ) → cond (nat_lt a b) (Some a) None ≡ Some i → (a < b) × (a ≡ i)
 within a b i e = grind (arith, nat_tests)
+
+pub place_within : (n : ℕ) (conns : List Conn) (i : ℕ) → position (λ (x : Conn). x.number == n) conns ≡ Some i → i < length conns
+place_within n conns i at =
+    let is = within (position_or_len (has_conn n) conns) (length conns) i at in
+    subst (λ k. k < length conns) is.1 is.0
 
 -- the place behind the first element
 get_next : {A : Type 0} (x : A) (xs : List A) (k : ℕ) (d : A) → get_or (x ∷ xs) (1 + k) d ≡ get_or xs k d

@@ -1,5 +1,5 @@
 -- What waits and what will wait, where entries are staged at some places.
-use Rattle.std.proofs.Common.{◌≡◌, ℕ, ◌<◌, ◌≤◌, Bool, true, false, List, [], ◌∷◌, ◌++◌, length, map, get_or, refl, sym, ap, ◌∙◌, arith}
+use Rattle.std.proofs.Common.{◌≡◌, ℕ, zero, Option, Some, None, ◌<◌, ◌≤◌, Bool, true, false, List, [], ◌∷◌, ◌++◌, length, map, get_or, refl, sym, ap, ◌∙◌, arith}
 use Rattle.std.specs.Prelude.{nat_eq, ◌||◌, slice_set}
 use Rattle.std.specs.List.{list_any}
 use Rattle.std.proofs.lemmas.Bool.Decides.{nat_tests}
@@ -7,15 +7,16 @@ use Rattle.std.proofs.Common.{cond}
 use Rattle.std.proofs.lemmas.List.{nil_from_length, map-append, ext_get_or, get_or-map, length-map, length-set, get_or-set_other}
 use Rattle.std.proofs.lemmas.Grind.{common_steps}
 use Rattle.shard_core.specs.declared.connections.Conn.{Conn}
-use Rattle.shard_core.specs.Shards.{Client}
+use Rattle.shard_core.specs.Shards.{Client, client_at, clients_with_change, fits, fits_len, is_open, takes_events}
 use Rattle.std.proofs.Common.{subst, filter, not, suc}
 use Rattle.std.specs.List.{AllPairs}
-use Rattle.std.specs.Prelude.{◌==◌, All, slice_index_or}
+use Rattle.std.specs.Prelude.{◌==◌, All, OnErr, Result, Ok, Err, slice_index_or, slice_get, position, is_some}
+use Rattle.std.proofs.lemmas.Option.{same_Some, slice_get-get_or}
 use Rattle.std.proofs.lemmas.List.Kept.{AllPairs-filter}
 use Rattle.std.proofs.lemmas.List.Quantifiers.{all_pairs_push}
-use Rattle.outbox.specs.Views.{Waiting}
-use Rattle.shard_core.specs.Boxes.{AreRising, AreConns, IsStagedWithin, client_in_view, number_of, shown_backlog, next_backlog}
-use Rattle.shard_core.proofs.Clients.Lookups.{numbers_stay}
+use Rattle.outbox.specs.Views.{Waiting, Backlog, Written, has_room}
+use Rattle.shard_core.specs.Boxes.{AreRising, AreConns, HasRoomAt, IsBoxStaged, IsOpenAt, IsStagedWithin, client_in_view, number_of, shown_backlog, next_backlog}
+use Rattle.shard_core.proofs.Clients.Lookups.{numbers_stay, place_within, changed_is, same_is, room_is, open_is, not_shut}
 
 -- ---- places
 
@@ -167,3 +168,98 @@ numbers_below n (c ∷ cs) above k d within =
     let same : (get_or (map (client_in_view shown_backlog) conns) k (client_in_view shown_backlog c)).number ≡ (get_or conns k c).number = ap (λ (x : Client). x.number) client in
     let below : (get_or (map (client_in_view shown_backlog) conns) k (client_in_view shown_backlog c)).number < n = above k (client_in_view shown_backlog c) (omega (arith, length-map conns (client_in_view shown_backlog))) in
     omega (arith, number, same, below)
+
+-- ---- the connection at a place
+
+there_is : (conns : List Conn) (i : ℕ) → i < length conns → (x : Conn) × (slice_get conns i ≡ Some x)
+there_is [] i within = absurd (omega arith)
+there_is (c ∷ cs) zero within = (c, refl)
+there_is (c ∷ cs) (suc i) within = there_is cs i (omega arith)
+
+read_is : (conns : List Conn) (i : ℕ) (x : Conn) → i < length conns → x ≡ slice_index_or conns i x → slice_get conns i ≡ Some x
+read_is conns i x within is = slice_get-get_or conns i x within ∙ ap Some (sym is)
+
+pub room_at : (conns : List Conn) (i len : ℕ) (x : Conn) → i < length conns → x ≡ slice_index_or conns i x → HasRoomAt i len conns → has_room x.outbox.max_entries x.outbox.max_bytes len x.outbox.next ≡ true
+room_at conns i len x within is room = room x (read_is conns i x within is)
+
+pub open_at : (conns : List Conn) (i : ℕ) (x : Conn) → i < length conns → x ≡ slice_index_or conns i x → IsOpenAt i conns → x.outbox.next.shut ≡ false
+open_at conns i x within is once = once x (read_is conns i x within is)
+
+pub box_staged : (change : Backlog → Backlog) (conns : List Conn) (i : ℕ) (x : Conn) (box : Waiting) → i < length conns → x ≡ slice_index_or conns i x → box ≡ record x.outbox { next = change x.outbox.next } → IsBoxStaged i change conns (slice_set conns i (record { number = x.number; outbox = box }))
+box_staged change conns i x box within is made y at =
+    ap (λ (b : Waiting). slice_set conns i (record { number = x.number; outbox = b })) made
+    ∙ ap (λ (z : Conn). slice_set conns i (record { number = z.number; outbox = record z.outbox { next = change z.outbox.next } })) (same_Some x y (sym (read_is conns i x within is) ∙ at))
+
+pub none_staged_at : (conns : List Conn) (i : ℕ) (x : Conn) (box : Waiting) → i < length conns → x ≡ slice_index_or conns i x → box ≡ x.outbox → IsBoxStaged i (λ backlog. backlog) conns (slice_set conns i (record { number = x.number; outbox = box }))
+none_staged_at conns i x box within is same = box_staged (λ backlog. backlog) conns i x box within is same
+
+-- a failure leaves it so
+pub left_after : {T E P : Type 0} (r : Result T E) → P → OnErr r P
+left_after (Ok x) p = tt
+left_after (Err e) p = p
+
+-- ---- a connection has a change staged
+
+-- what is seen then
+pub record IsStaged (change : Backlog → Backlog) (n i : ℕ) (places : List ℕ) (old new : List Conn) : Type 0 where
+  pub keeps : AreConns (places ++ i ∷ []) new
+  pub shown : map (client_in_view shown_backlog) new ≡ map (client_in_view shown_backlog) old
+  pub next : map (client_in_view next_backlog) new ≡ clients_with_change change n (map (client_in_view next_backlog) old)
+
+-- and where nothing was staged but the place is noted
+pub record IsLeftStaged (i : ℕ) (places : List ℕ) (old new : List Conn) : Type 0 where
+  pub keeps : AreConns (places ++ i ∷ []) new
+  pub shown : map (client_in_view shown_backlog) new ≡ map (client_in_view shown_backlog) old
+  pub next : map (client_in_view next_backlog) new ≡ map (client_in_view next_backlog) old
+
+module _ (n : ℕ) (conns : List Conn) (i : ℕ) (at : position (λ (c : Conn). c.number == n) conns ≡ Some i) where
+  inside : i < length conns
+  inside = place_within n conns i at
+
+  is_read : (x : Conn) → slice_get conns i ≡ Some x → x ≡ slice_index_or conns i x
+  is_read x there = same_Some x (slice_index_or conns i x) (sym there ∙ slice_get-get_or conns i x inside)
+
+  pub staged_is : (change : Backlog → Backlog) (places : List ℕ) (new : List Conn) → AreConns places conns → IsBoxStaged i change conns new → IsStaged change n i places conns new
+  staged_is change places new was staged =
+      let there = there_is conns i inside in
+      let x = there.0 in
+      let is = is_read x there.1 in
+      let box : Waiting = record x.outbox { next = change x.outbox.next } in
+      let made = staged x there.1 in
+      record {
+        keeps = subst (AreConns (places ++ i ∷ [])) (sym made) (conns_staged places conns i x box is was);
+        shown = ap (map (client_in_view shown_backlog)) made ∙ same_is shown_backlog n conns i x at is box refl;
+        next = ap (map (client_in_view next_backlog)) made ∙ changed_is next_backlog n conns i x at is change box refl;
+      }
+
+  -- without a change
+  pub left_is : (places : List ℕ) (new : List Conn) → AreConns places conns → IsBoxStaged i (λ backlog. backlog) conns new → IsLeftStaged i places conns new
+  left_is places new was staged =
+      let there = there_is conns i inside in
+      let x = there.0 in
+      let is = is_read x there.1 in
+      let made = staged x there.1 in
+      record {
+        keeps = subst (AreConns (places ++ i ∷ [])) (sym made) (conns_staged places conns i x x.outbox is was);
+        shown = ap (map (client_in_view shown_backlog)) made ∙ same_is shown_backlog n conns i x at is x.outbox refl;
+        next = ap (map (client_in_view next_backlog)) made ∙ same_is next_backlog n conns i x at is x.outbox refl;
+      }
+
+  pub has_room_at : (entry : Written) → fits (client_at n (map (client_in_view next_backlog) conns)) entry ≡ true → HasRoomAt i (length entry.bytes) conns
+  has_room_at entry room x there =
+      let is = is_read x there in
+      sym (room_is next_backlog n conns i x at is entry) ∙ room
+
+  pub is_open_at : is_open n (map (client_in_view next_backlog) conns) ≡ true → IsOpenAt i conns
+  is_open_at once x there =
+      let is = is_read x there in
+      not_shut x.outbox.next.shut (sym (open_is next_backlog n conns i x at is) ∙ once)
+
+-- a connection with room, or one that is open, is there
+pub known_with_room : (client : Option Client) (len : ℕ) → fits_len client len ≡ true → is_some client ≡ true
+known_with_room None len room = absurd (cc)
+known_with_room (Some client) len room = refl
+
+pub known_open : (client : Option Client) → takes_events client ≡ true → is_some client ≡ true
+known_open None once = absurd (cc)
+known_open (Some client) once = refl

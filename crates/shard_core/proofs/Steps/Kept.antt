@@ -14,6 +14,7 @@ use Rattle.shard_core.specs.Owed.{Walk, walk, whole_walk, first_step, walk_with_
 use Rattle.shard_core.specs.declared.calls.Begun.{Begun}
 use Rattle.shard_core.specs.Tallies.{HasPlaced}
 use Rattle.shard_core.specs.ShardSteps.{new_client}
+use Rattle.shard_core.specs.Answers.{Opens}
 use Rattle.shard_core.specs.Boxes.{Clients, on_both}
 use Rattle.shard_core.specs.Opened.{Opened, part_of, with_closings}
 use Rattle.shard_core.specs.Held.{AreNumbered, HasTurns, IsNextTurn, IsPossible, ArePossible, IsSound, with_serial, most_counts, each_turn}
@@ -134,6 +135,10 @@ sound_closed s chosen next serial mid conns change openings ended was none dropp
     (subst (λ (o : Opened). ArePossible s.opened (most_counts s.hand None s.finished s.next_index) o.subs) (sym closes) (possible_left s.opened _ ended s.subs (possible_dropped s chosen was.possible)))
 
 -- subscriptions alone change
+-- the serial of a subscription that is opened
+pub opens_next : (s : State) (called : Option Subscription) (o : Option ℕ) (serial : ℕ) → Opens s called o → o ≡ Some serial → serial ≡ s.opened + 1
+opens_next s called o serial opens is = (subst (Opens s called) is opens).1
+
 pub sound_opened : (s : State) (chosen : Option Subscription) (next : List Client) (serial : Option ℕ) (conns : Clients) (openings : Opened) (opened : ℕ)
     → IsSound s chosen next → serial ≡ None → conns ≡ record { shown = s.clients; next = s.clients } → ArePossible opened (most_counts s.hand None s.finished s.next_index) openings.subs
     → IsSound (record s { opened = opened; clients = conns.shown; subs = openings.subs; deltas = openings.deltas }) (with_serial serial openings.subs) conns.next

@@ -68,9 +68,9 @@ empty_of : {A : Type 0} (xs : List A) → length xs ≡ 0 → xs ≡ []
 empty_of [] e = refl
 empty_of (x ∷ xs) e = absurd (omega arith)
 
-module _ (copies : Bool) (shard : ℕ) (shown next : List Client) (job : Job) (name : List ℕ) (subs : List Subscription) (looks : List Subscription) (items : List (Bor Subscription)) (settled : next ≡ shown) (matching : looks ≡ filter (gets job.message.subject) subs) (members : lent_subs items ≡ filter (is_member shard next job name) looks) where
+module _ (copies : Bool) (shard : ℕ) (shown next : List Client) (job : Job) (name : List ℕ) (subs : List Subscription) (items : List (Bor Subscription)) (settled : next ≡ shown) (members : lent_subs items ≡ filter (is_member shard next job name) (filter (gets job.message.subject) subs)) where
   candidates : lent_subs items ≡ filter (is_candidate (shard_with shard shown subs) job name) subs
-  candidates = members ∙ ap (λ (l : List Client). filter (is_member shard l job name) looks) settled ∙ ap (filter (is_member shard shown job name)) matching ∙ members_are shard shown job name subs subs
+  candidates = members ∙ ap (λ (l : List Client). filter (is_member shard l job name) (filter (gets job.message.subject) subs)) settled ∙ members_are shard shown job name subs subs
 
   pub nobody_chosen : length items ≡ 0 → HasChosen copies (shard_with shard shown subs) job name None next
   nobody_chosen none =
@@ -79,12 +79,12 @@ module _ (copies : Bool) (shard : ℕ) (shown next : List Client) (job : Job) (n
 
   -- the one at the place of the turn
   module _ (i : ℕ) (b : Bor Subscription) (at : slice_get items i ≡ Some b) where
-    there : In b.now (filter (is_member shard next job name) looks)
+    there : In b.now (filter (is_member shard next job name) (filter (gets job.message.subject) subs))
     there = subst (In b.now) members (in_mapped (λ (x : Bor Subscription). x.now) items b (in_read items i b at))
 
     pub chosen_fits : (entry : Written) → entry ≡ due_entry shard job b.now.key.queue b.now → fits (client_at b.now.conn next) entry ≡ true
     chosen_fits entry due =
-        let both = and_true (is_named name b.now.key.queue) _ (in_filter (is_member shard next job name) looks b.now there).1 in
+        let both = and_true (is_named name b.now.key.queue) _ (in_filter (is_member shard next job name) (filter (gets job.message.subject) subs) b.now there).1 in
         ap (fits (client_at b.now.conn next)) due ∙ (and_true (is_permitted job b.now) (fits (client_at b.now.conn next) (due_entry shard job b.now.key.queue b.now)) both.1).1
 
     pub one_chosen : (entry : Written) (candidate : Candidate) (after : List Client) → candidate ≡ candidate_told copies shard job b.now → AreRising subs → i ≡ job.turn % length items → entry ≡ due_entry shard job b.now.key.queue b.now → after ≡ clients_with_change (with_entry entry) b.now.conn next → HasChosen copies (shard_with shard shown subs) job name (Some candidate) after

@@ -92,9 +92,11 @@ put_as_due subs job sub next after t t2 due step copies s w of is = subst (λ v.
 -- ---- all of them
 
 -- what holds of all holds of each that matches
-pub holds_of_each : (P : Subscription → Type 0) (q : Subscription → Bool) (looks : List (Bor Subscription)) (subs : List Subscription) (i : ℕ) (d : Bor Subscription) → lent_subs looks ≡ filter q subs → All P subs → i < length looks → P (get_or looks i d).now
-holds_of_each P q looks subs i d is all within =
-    let each : All P (lent_subs looks) = subst (All P) (sym is) (All-filter q P subs all) in
+pub holds_of_all : (P : Subscription → Type 0) (q : Subscription → Bool) (looks : List (Bor Subscription)) (subs : List Subscription) → lent_subs looks ≡ filter q subs → All P subs → All P (lent_subs looks)
+holds_of_all P q looks subs is all = subst (All P) (sym is) (All-filter q P subs all)
+
+pub holds_at : (P : Subscription → Type 0) (looks : List (Bor Subscription)) (i : ℕ) (d : Bor Subscription) → All P (lent_subs looks) → i < length looks → P (get_or looks i d).now
+holds_at P looks i d each within =
     subst P (get_or-map (λ (x : Bor Subscription). x.now) looks i d d.now within) (All-get_or P (lent_subs looks) i d.now (omega (arith, length-map looks (λ (x : Bor Subscription). x.now))) each)
 
 walk_more : (s : State) (job : Job) (subs : List Subscription) (sub : Subscription) (w : Walk) → walk_matching s job (subs ++ sub ∷ []) w ≡ put_if_due s job (walk_matching s job subs w) sub

@@ -1,8 +1,10 @@
 //! Why a shard refuses: the first cause, told without a step. No test takes memory.
 
-ghost use Rattle.std.specs.Prelude.{◌≡◌, false};
+ghost use Rattle.std.specs.Prelude.{◌≡◌, ⊤, false};
+ghost use Rattle.subj.specs.Answers.{IsDecided};
+ghost use Rattle.shard_core.specs.Answers.{Opens};
 ghost use Rattle.shard_core.specs.ShardEvents.{Attach, Subscribe, Begin, Claim, End};
-ghost use Rattle.shard_core.specs.ShardSteps.{shard_refusal, open_refusal, known_refusal};
+ghost use Rattle.shard_core.specs.ShardSteps.{shard_refusal, open_refusal, known_refusal, sub_called as call};
 
 use super::{Shard, is_full};
 use crate::faults::ShardFault;
@@ -17,21 +19,40 @@ impl<T: SubTable> Shard<T> {
         (self.next_conn > MAX_COUNTER).then_some(ShardFault::Spent)
     }
 
+    /// The serial of the subscription that [`Shard::subscribe`] opens; none where the connection has one of this id
+    /// open. Refused as that call is.
+    pub(super) fn serial_for(
+        &self,
+        conn: ConnId,
+        key: &Key,
+        sid: &Sid,
+    ) -> Result<Option<u64>, ShardFault>
+        ensures { IsDecided (shard_refusal self.now.state (Subscribe conn key.now sid.now)) (λ serial. Opens self.now.state (call conn sid.now self.now.state.subs) serial) ⊤ result }
+    {
+        if !self.conns.is_open(conn) {
+            return Err(ShardFault::NoConn);
+        }
+        let table = self.openings.table();
+        if table.find(conn, sid).is_some() {
+            return Ok(None);
+        }
+        if is_full(table, self.shards, key) {
+            return Err(ShardFault::TooManySubs);
+        }
+        if self.opened >= MAX_SERIAL {
+            return Err(ShardFault::Spent);
+        }
+        Ok(Some(self.opened + 1))
+    }
+
     /// Why [`Shard::subscribe`] refuses.
     pub fn subscribe_fault(&self, conn: ConnId, key: &Key, sid: &Sid) -> Option<ShardFault>
         ensures { result ≡ shard_refusal self.now.state (Subscribe conn key.now sid.now) }
     {
-        if !self.conns.is_open(conn) {
-            return Some(ShardFault::NoConn);
+        match self.serial_for(conn, key, sid) {
+            Ok(_) => None,
+            Err(fault) => Some(fault),
         }
-        let table = self.openings.table();
-        if table.find(conn, sid).is_some() {
-            return None;
-        }
-        if is_full(table, self.shards, key) {
-            return Some(ShardFault::TooManySubs);
-        }
-        (self.opened >= MAX_SERIAL).then_some(ShardFault::Spent)
     }
 
     /// Why a call for a connection is refused that must be there and not shut: [`Shard::unsubscribe`],

@@ -1,7 +1,6 @@
 use Rattle.std.proofs.Common.{◌≡◌, ◌++◌, [], ◌∷◌, List, sym, ap, ◌∙◌, append-nil}
 use Rattle.std.specs.Prelude.{unwrap_or}
 use Rattle.std.specs.Option.{option_copied}
-use Rattle.route_values.specs.declared.bodies.Body.TheVariants.{Msg}
 use Rattle.route_values.specs.Frames.{Frame}
 use Rattle.hub_core.specs.Chosen.{message_frame}
 use Rattle.hub_core.proofs.Neighbours.Sending.{listed_name, none_owed, one_owed}
@@ -21,6 +20,6 @@ returns c =
     let name = c.index-names-place.result in let peer = c.args.peer.now in
     let called = listed_name server c.names.result.now c.args.place name c.names.ensures c.requires.place c.index-names-place.is in
     let one = one_owed server out.number out.message.now names out.servers.now c.args.place peer name queues called c.in_ok-queues.ensures c.requires.eligible (sym c.is_owed.ensures ∙ c.if-not-is_owed.false) in
-    let frame : c.frame_to.result ≡ message_frame server out.number out.message.now queues c.args.place peer =
-    c.frame_to.ensures ∙ (λ k. record (message_frame server out.number out.message.now queues c.args.place peer) { to_inc = c.incarnation-inc.ensures k; body = Msg (c.in_ok-message.ensures k) queues }) in
+    let frame : c.in_ok-frame.frame ≡ message_frame server out.number out.message.now queues c.args.place peer =
+    c.in_ok-frame.ensures ∙ (λ k. record (message_frame server out.number out.message.now queues c.args.place peer) { to_inc = c.incarnation-inc.ensures k }) in
     c.in_ok-push.ensures.items ∙ ap (λ (f : Frame). c.args.frames.now.items ++ f ∷ []) frame ∙ ap (λ (l : List Frame). c.args.frames.now.items ++ l) (sym one)

@@ -2,11 +2,12 @@ use Rattle.std.proofs.Common.{◌≡◌, ◌<◌, false, length, set, Some, refl
 use Rattle.std.specs.Prelude.{slice_get}
 use Rattle.std.proofs.lemmas.Option.{slice_get-get_or}
 use Rattle.subj.specs.Answers.{IsAnswered}
+use Rattle.node_law.specs.declared.faults.NodeFault.TheVariants.{NoShard}
 use Rattle.node_law.specs.Events.{Own, AtShard}
 use Rattle.node_law.specs.declared.events.ShardWork.TheVariants.{Begin}
 use Rattle.node_core.specs.Served.{DoesStep, LineBegins, BeginStep, IsToldAt, served_of_parts, refusal}
-use Rattle.node_law.specs.Steps.{shard_line, begin_of, line_after_if}
-use Rattle.node_core.proofs.Calls.Composed.{work_call, reworded}
+use Rattle.node_law.specs.Steps.{work_refusal, shard_line, begin_of, line_after_if}
+use Rattle.node_core.proofs.Calls.Composed.{no_shard, work_call, reworded}
 use Rattle.node_core.proofs.node.Node.begin.Goals as goal
 
 pub invariant_of-self : goal.invariant_of-self
@@ -34,3 +35,10 @@ returns g c =
     let after = served_of_parts old.side (g.R.Race.contents old.race) (set lines c.in-Some.place c.begin.new.self) in
     subst (λ s. IsAnswered (refusal s (Own (AtShard c.args.shard Begin))) (λ y. BeginStep c.args.copies s c.args.shard y after) (after ≡ s) c.begin.result) c.self.view_is
     (reworded (refusal before (Own (AtShard c.args.shard Begin))) (after ≡ before) (λ y. DoesStep before (Own (AtShard c.args.shard Begin)) false after × IsToldAt c.args.copies (shard_line before.node c.args.shard) y) (λ y. BeginStep c.args.copies before c.args.shard y after) c.begin.result (λ y d. record { step = d.0; told = d.1 }) called.answers)
+
+pub returns-in_default : goal.returns-in_default
+returns-in_default g c =
+    let old = c.self.inside in
+    let race = g.R.Race.contents old.race in
+    let lines = old.lines.items in
+    (subst (λ s. refusal s (Own (AtShard c.args.shard Begin)) ≡ Some NoShard) c.self.view_is (ap (work_refusal Begin) (no_shard (served_of_parts old.side race lines).node c.args.shard c.len.result c.place_of_shard.result (c.len.ensures ∙ old.lines.ok.0) c.place_of_shard.ensures.place c.in_default.is)), refl)

@@ -1,11 +1,13 @@
-use Rattle.std.proofs.Common.{◌≡◌, ◌<◌, length, set, Some, sym, ap, ◌∙◌, subst}
+use Rattle.std.proofs.Common.{◌≡◌, ◌<◌, length, set, Some, sym, ap, ◌∙◌, subst, refl}
 use Rattle.std.specs.Prelude.{slice_get}
 use Rattle.std.proofs.lemmas.Option.{slice_get-get_or}
 use Rattle.subj.specs.Answers.{IsAnswered}
+use Rattle.node_law.specs.declared.faults.NodeFault.TheVariants.{NoShard}
 use Rattle.node_law.specs.Events.{Own, AtShard}
 use Rattle.node_law.specs.declared.events.ShardWork.TheVariants.{Claim}
 use Rattle.node_core.specs.Served.{ClaimStep, served_of_parts, refusal}
-use Rattle.node_core.proofs.Calls.Composed.{shard_found}
+use Rattle.node_law.specs.Steps.{work_refusal}
+use Rattle.node_core.proofs.Calls.Composed.{no_shard, shard_found}
 use Rattle.node_core.proofs.Calls.Claiming.{may_claim, claim_call}
 use Rattle.node_core.proofs.node.Node.claim.Goals as goal
 
@@ -47,3 +49,10 @@ returns g c =
     let called = claim_call c.args.copies old.side (g.R.Race.contents old.race) (g.R.Race.contents c.claim.new.race) lines c.args.shard c.in-Some.place c.args.index x c.claim.new.self c.claim.result c.self.invariant p here c.claim.ensures in
     let after = served_of_parts old.side (g.R.Race.contents c.claim.new.race) (set lines c.in-Some.place c.claim.new.self) in
     subst (λ s. IsAnswered (refusal s (Own (AtShard c.args.shard (Claim c.args.index)))) (λ y. ClaimStep c.args.copies s c.args.shard c.args.index y after) (after ≡ s) c.claim.result) c.self.view_is called.answers
+
+pub returns-in_default : goal.returns-in_default
+returns-in_default g c =
+    let old = c.self.inside in
+    let race = g.R.Race.contents old.race in
+    let lines = old.lines.items in
+    (subst (λ s. refusal s (Own (AtShard c.args.shard (Claim c.args.index))) ≡ Some NoShard) c.self.view_is (ap (work_refusal (Claim c.args.index)) (no_shard (served_of_parts old.side race lines).node c.args.shard c.len.result c.place_of_shard.result (c.len.ensures ∙ old.lines.ok.0) c.place_of_shard.ensures.place c.in_default.is)), refl)

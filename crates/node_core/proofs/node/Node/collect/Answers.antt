@@ -10,10 +10,11 @@ use Rattle.hub_core.specs.State as hub
 use Rattle.hub_core.specs.Telling.{collect_refusal}
 use Rattle.node_law.specs.declared.faults.NodeFault.TheVariants as node_fault
 use Rattle.node_parts.specs.declared.told.Told.{Told}
+use Rattle.node_law.specs.declared.faults.NodeFault.TheVariants.{NoShard}
 use Rattle.node_law.specs.Events.{Own, Collect}
 use Rattle.node_law.specs.Steps.{collect_refusal_at}
 use Rattle.node_core.specs.Served.{Served, CollectStep, served_of_parts, refusal}
-use Rattle.node_core.proofs.Calls.Composed.{shard_found, step_keeps, same_keeps}
+use Rattle.node_core.proofs.Calls.Composed.{no_shard, shard_found, step_keeps, same_keeps}
 use Rattle.node_core.proofs.Calls.GivenJobs.{hub_refuses, refused_same, refused_as}
 use Rattle.node_core.proofs.Calls.Collects.{is_up, told_of, changes_told, ups_told, frames_within, collect_done, collect_left}
 use Rattle.node_core.proofs.node.Node.collect.Goals as goal
@@ -93,3 +94,10 @@ returns g c =
     let changes : c.len-changes.result ≡ length c.in-Ok.told.changes.items = c.len-changes.ensures ∙ c.in-Ok.told.changes.ok.0 in
     subst (λ (s : Served). (refusal s (Own (Collect c.args.shard)) ≡ None) × CollectStep s c.args.shard c.len-changes.result (c.len-changes.result * c.up_count.result) c.in-Ok.told.cut.items after) c.self.view_is
     (does.step.step.cause, subst (λ n. CollectStep before c.args.shard n (n * c.up_count.result) c.in-Ok.told.cut.items after) (sym changes) does)
+
+pub returns-in_default : goal.returns-in_default
+returns-in_default g c =
+    let old = c.self.inside in
+    let race = g.R.Race.contents old.race in
+    let lines = old.lines.items in
+    (subst (λ s. refusal s (Own (Collect c.args.shard)) ≡ Some NoShard) c.self.view_is (ap (collect_refusal_at old.side.hub) (no_shard (served_of_parts old.side race lines).node c.args.shard c.len.result c.place_of_shard.result (c.len.ensures ∙ old.lines.ok.0) c.place_of_shard.ensures.place c.in_default.is)), refl)

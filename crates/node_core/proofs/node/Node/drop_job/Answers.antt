@@ -1,11 +1,12 @@
-use Rattle.std.proofs.Common.{◌≡◌, ◌<◌, false, length, set, Some, None, sym, ap, ◌∙◌, subst}
+use Rattle.std.proofs.Common.{◌≡◌, ◌<◌, false, length, set, Some, None, sym, ap, ◌∙◌, subst, refl}
 use Rattle.std.specs.Prelude.{slice_get}
 use Rattle.std.proofs.lemmas.Option.{slice_get-get_or}
+use Rattle.node_law.specs.declared.faults.NodeFault.TheVariants.{NoShard}
 use Rattle.node_law.specs.Events.{Own, AtShard}
 use Rattle.node_law.specs.declared.events.ShardWork.TheVariants.{DropJob}
 use Rattle.node_core.specs.Served.{DropStep, served_of_parts, refusal}
 use Rattle.node_law.specs.Steps.{work_refusal}
-use Rattle.node_core.proofs.Calls.Composed.{shard_found, dropped_held, waits_next, drop_done, step_keeps, lines_same}
+use Rattle.node_core.proofs.Calls.Composed.{no_shard, shard_found, dropped_held, waits_next, drop_done, step_keeps, lines_same}
 use Rattle.node_core.proofs.node.Node.drop_job.Goals as goal
 
 pub drop_job-requires : goal.drop_job-requires
@@ -74,3 +75,10 @@ returns-in-Ok g c =
     let after = served_of_parts old.side (g.R.Race.contents c.finish.new.self) (set lines c.in-Some.place c.drop_job.new.self) in
     subst (λ s. (refusal s (Own (AtShard c.args.shard DropJob)) ≡ None) × DropStep s c.args.shard c.in-Ok.turn after) c.self.view_is
     (ap (work_refusal DropJob) p.is ∙ c.in-Ok.ensures.0, does)
+
+pub returns-in_default : goal.returns-in_default
+returns-in_default g c =
+    let old = c.self.inside in
+    let race = g.R.Race.contents old.race in
+    let lines = old.lines.items in
+    (subst (λ s. refusal s (Own (AtShard c.args.shard DropJob)) ≡ Some NoShard) c.self.view_is (ap (work_refusal DropJob) (no_shard (served_of_parts old.side race lines).node c.args.shard c.len.result c.place_of_shard.result (c.len.ensures ∙ old.lines.ok.0) c.place_of_shard.ensures.place c.in_default.is)), refl)

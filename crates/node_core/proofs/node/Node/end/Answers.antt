@@ -1,12 +1,13 @@
-use Rattle.std.proofs.Common.{◌≡◌, ◌<◌, false, length, set, Some, None, sym, ap, ◌∙◌, subst}
+use Rattle.std.proofs.Common.{◌≡◌, ◌<◌, false, length, set, Some, None, sym, ap, ◌∙◌, subst, refl}
 use Rattle.std.specs.Prelude.{slice_get}
 use Rattle.std.proofs.lemmas.Option.{slice_get-get_or}
 use Rattle.shard_core.specs.ShardEvents.{Finished}
+use Rattle.node_law.specs.declared.faults.NodeFault.TheVariants.{NoShard}
 use Rattle.node_law.specs.Events.{Own, AtShard}
 use Rattle.node_law.specs.declared.events.ShardWork.TheVariants.{End}
 use Rattle.node_core.specs.Served.{WorkStep, served_of_parts, refusal}
 use Rattle.node_law.specs.Steps.{work_refusal}
-use Rattle.node_core.proofs.Calls.Composed.{shard_found, held_turn, end_done, step_keeps, lines_same}
+use Rattle.node_core.proofs.Calls.Composed.{no_shard, shard_found, held_turn, end_done, step_keeps, lines_same}
 use Rattle.node_core.proofs.node.Node.end.Goals as goal
 
 pub finish-requires : goal.finish-requires
@@ -63,3 +64,10 @@ returns-in-Ok g c =
     let after = served_of_parts old.side (g.R.Race.contents c.finish.new.self) (set lines c.in-Some.place c.end.new.self) in
     subst (λ s. (refusal s (Own (AtShard c.args.shard End)) ≡ None) × WorkStep s c.args.shard End false Finished after) c.self.view_is
     (ap (work_refusal End) p.is ∙ c.in-Ok.ensures.0, does)
+
+pub returns-in_default : goal.returns-in_default
+returns-in_default g c =
+    let old = c.self.inside in
+    let race = g.R.Race.contents old.race in
+    let lines = old.lines.items in
+    (subst (λ s. refusal s (Own (AtShard c.args.shard End)) ≡ Some NoShard) c.self.view_is (ap (work_refusal End) (no_shard (served_of_parts old.side race lines).node c.args.shard c.len.result c.place_of_shard.result (c.len.ensures ∙ old.lines.ok.0) c.place_of_shard.ensures.place c.in_default.is)), refl)

@@ -1,12 +1,14 @@
-use Rattle.std.proofs.Common.{◌≡◌, ◌<◌, length, set, Some, sym, ap, ◌∙◌, subst, option_to_list}
+use Rattle.std.proofs.Common.{◌≡◌, ◌<◌, length, set, Some, sym, ap, ◌∙◌, subst, option_to_list, refl}
 use Rattle.std.specs.Prelude.{slice_get}
 use Rattle.std.proofs.lemmas.Option.{slice_get-get_or}
 use Rattle.subj.specs.Answers.{IsDecided}
 use Rattle.shard_core.specs.ShardEvents.{Unsubscribed}
 use Rattle.node_law.specs.Events.{Own, OfConn}
+use Rattle.node_law.specs.declared.faults.NodeFault.TheVariants.{Shard}
+use Rattle.shard_core.specs.declared.faults.ShardFault.TheVariants.{NoConn}
 use Rattle.node_law.specs.declared.events.ConnEvent.TheVariants.{Unsubscribe}
 use Rattle.node_core.specs.Served.{ConnStep, served_of_parts, refusal}
-use Rattle.node_core.proofs.Calls.Composed.{conn_decision}
+use Rattle.node_core.proofs.Calls.Composed.{conn_decision, some_lines, no_conn}
 use Rattle.node_core.proofs.node.Node.unsubscribe.Goals as goal
 
 pub invariant_of-self : goal.invariant_of-self
@@ -31,3 +33,16 @@ returns g c =
     let here : slice_get lines c.in-Some.place ≡ Some x = slice_get-get_or lines c.in-Some.place x within ∙ ap Some (sym c.index_mut-line.ensures.value) in
     subst (λ s. IsDecided (refusal s (Own (OfConn c.args.conn e))) (λ y. ConnStep s c.args.conn e (Unsubscribed (option_to_list y)) after) (after ≡ s) c.unsubscribe.result) c.self.view_is
     (conn_decision old.side (g.R.Race.contents old.race) lines c.args.conn c.len.result c.in-Some.place c.place_of_conn.result e x c.unsubscribe.new.self (λ ended. Unsubscribed (option_to_list ended)) c.unsubscribe.result c.self.invariant count c.place_of_conn.ensures.place c.in-Some.is here c.unsubscribe.ensures).answers
+
+pub place_of_conn-requires : goal.place_of_conn-requires
+place_of_conn-requires g c =
+    let old = c.self.inside in
+    some_lines old.side (g.R.Race.contents old.race) old.lines.items c.len.result c.self.invariant (c.len.ensures ∙ old.lines.ok.0)
+
+pub returns-in_default : goal.returns-in_default
+returns-in_default g c =
+    let old = c.self.inside in (
+      subst (λ s. refusal s (Own (OfConn c.args.conn (Unsubscribe c.args.sid.now c.args.max))) ≡ Some (Shard NoConn)) c.self.view_is
+          (no_conn old.side (g.R.Race.contents old.race) old.lines.items c.args.conn c.len.result c.place_of_conn.result (Unsubscribe c.args.sid.now c.args.max) c.place_of_conn.ensures.place c.in_default.is),
+      refl,
+    )

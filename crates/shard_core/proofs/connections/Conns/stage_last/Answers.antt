@@ -1,52 +1,55 @@
-use Rattle.std.proofs.Common.{◌≡◌, ◌==◌, Some, ap, sym, ◌∙◌, subst}
-use Rattle.std.specs.Prelude.{position, slice_set}
-use Rattle.outbox.specs.Views.{Waiting, with_last}
-use Rattle.shard_core.specs.declared.connections.Conn.{Conn}
-use Rattle.shard_core.specs.Boxes.{Clients, AreConns, client_in_view, shown_backlog, next_backlog}
+use Rattle.std.proofs.Common.{sym, ap, subst, ◌∙◌}
+use Rattle.outbox.specs.Views.{with_last}
 use Rattle.shard_core.specs.Shards.{clients_with_change, is_open}
-use Rattle.shard_core.proofs.Clients.Lookups.{changed_none, open_is, changed_is, same_is, not_shut}
-use Rattle.shard_core.proofs.Clients.Staging.{conns_staged}
+use Rattle.shard_core.specs.Boxes.{Clients, AreConns}
+use Rattle.shard_core.proofs.Clients.Staging.{is_open_at, left_after, left_is, staged_is}
 use Rattle.shard_core.proofs.connections.Conns.stage_last.Goals as goal
 
-pub stage_last-requires-clause-once : goal.stage_last-requires-clause-once
-stage_last-requires-clause-once c =
+pub stage_last_at-requires-clause-once : goal.stage_last_at-requires-clause-once
+stage_last_at-requires-clause-once c =
     let conns = c.self.inside.conns.items in
     let n = c.args.conn in
-    let i = c.in-Some.place in
-    let x = c.index_mut-conn.result.now in
-    let is = c.index_mut-conn.ensures.value in
-    let at : position (λ (y : Conn). y.number == n) conns ≡ Some i = sym c.place_in.ensures ∙ c.in-Some.is in
-    not_shut x.outbox.next.shut (sym (open_is next_backlog n conns i x at is) ∙ ap (λ (l : Clients). is_open n l.next) c.self.view_is ∙ c.requires.once)
+    let i = c.in_ok-place.place in
+    is_open_at n conns i c.in_ok-place.ensures.place (ap (λ (l : Clients). is_open n l.next) c.self.view_is ∙ c.requires.once)
 
-pub invariant_of-self-in-Continue-branch-2 : goal.invariant_of-self-in-Continue-branch-2
-invariant_of-self-in-Continue-branch-2 c =
+pub invariant_of-self-in_err-stage_last_at : goal.invariant_of-self-in_err-stage_last_at
+invariant_of-self-in_err-stage_last_at c =
     let conns = c.self.inside.conns.items in
     let n = c.args.conn in
-    let i = c.in-Some.place in
-    let x = c.index_mut-conn.result.now in
-    let is = c.index_mut-conn.ensures.value in
-    let at : position (λ (y : Conn). y.number == n) conns ≡ Some i = sym c.place_in.ensures ∙ c.in-Some.is in
-    subst (λ places. AreConns places (slice_set conns i (record { number = x.number; outbox = c.stage_last.new.self }))) (sym c.in_ok-push.ensures.items) (conns_staged c.self.inside.places.items conns i x c.stage_last.new.self is c.self.invariant)
+    let i = c.in_ok-place.place in
+    subst (λ places. AreConns places c.stage_last_at.new.conns.items) (sym c.in_ok-place.ensures.noted) (left_is n conns i c.in_ok-place.ensures.place c.self.inside.places.items c.stage_last_at.new.conns.items c.self.invariant c.in_err-stage_last_at.ensures.err).keeps
 
-pub returns-in_ok-stage_last-clause-shown : goal.returns-in_ok-stage_last-clause-shown
-returns-in_ok-stage_last-clause-shown c =
+pub returns-in_err-stage_last_at-clause-shown : goal.returns-in_err-stage_last_at-clause-shown
+returns-in_err-stage_last_at-clause-shown c =
     let conns = c.self.inside.conns.items in
     let n = c.args.conn in
-    let i = c.in-Some.place in
-    let x = c.index_mut-conn.result.now in
-    let is = c.index_mut-conn.ensures.value in
-    let at : position (λ (y : Conn). y.number == n) conns ≡ Some i = sym c.place_in.ensures ∙ c.in-Some.is in
-    same_is shown_backlog n conns i x at is c.stage_last.new.self (ap (λ (b : Waiting). client_in_view shown_backlog (record { number = x.number; outbox = b })) c.in_ok-stage_last.ensures.ok) ∙ ap (λ (l : Clients). l.shown) c.self.view_is
+    let i = c.in_ok-place.place in
+    (left_is n conns i c.in_ok-place.ensures.place c.self.inside.places.items c.stage_last_at.new.conns.items c.self.invariant c.in_err-stage_last_at.ensures.err).shown ∙ ap (λ (l : Clients). l.shown) c.self.view_is
 
-pub returns-in_ok-stage_last-clause-ok : goal.returns-in_ok-stage_last-clause-ok
-returns-in_ok-stage_last-clause-ok c =
+pub returns-in_err-stage_last_at-clause-err : goal.returns-in_err-stage_last_at-clause-err
+returns-in_err-stage_last_at-clause-err c =
     let conns = c.self.inside.conns.items in
     let n = c.args.conn in
-    let i = c.in-Some.place in
-    let x = c.index_mut-conn.result.now in
-    let is = c.index_mut-conn.ensures.value in
-    let at : position (λ (y : Conn). y.number == n) conns ≡ Some i = sym c.place_in.ensures ∙ c.in-Some.is in
-    changed_is next_backlog n conns i x at is (with_last c.args.line.now) c.stage_last.new.self (ap (λ (b : Waiting). client_in_view next_backlog (record { number = x.number; outbox = b })) c.in_ok-stage_last.ensures.ok) ∙ ap (λ (l : Clients). clients_with_change (with_last c.args.line.now) n l.next) c.self.view_is
+    let i = c.in_ok-place.place in
+    left_after c.from_residual-in_err-stage_last_at.result ((left_is n conns i c.in_ok-place.ensures.place c.self.inside.places.items c.stage_last_at.new.conns.items c.self.invariant c.in_err-stage_last_at.ensures.err).next ∙ ap (λ (l : Clients). l.next) c.self.view_is)
 
-pub returns-in_default-clause-ok : goal.returns-in_default-clause-ok
-returns-in_default-clause-ok c = ap (λ (l : Clients). l.next) (sym c.self.view_is) ∙ sym (changed_none next_backlog c.args.conn (with_last c.args.line.now) c.self.inside.conns.items (sym c.place_in.ensures ∙ c.in_default.is)) ∙ ap (λ (l : Clients). clients_with_change (with_last c.args.line.now) c.args.conn l.next) c.self.view_is
+pub invariant_of-self-2 : goal.invariant_of-self-2
+invariant_of-self-2 c =
+    let conns = c.self.inside.conns.items in
+    let n = c.args.conn in
+    let i = c.in_ok-place.place in
+    subst (λ places. AreConns places c.stage_last_at.new.conns.items) (sym c.in_ok-place.ensures.noted) (staged_is n conns i c.in_ok-place.ensures.place (with_last c.args.line.now) c.self.inside.places.items c.stage_last_at.new.conns.items c.self.invariant c.in_ok-stage_last_at.ensures.ok).keeps
+
+pub returns-clause-shown : goal.returns-clause-shown
+returns-clause-shown c =
+    let conns = c.self.inside.conns.items in
+    let n = c.args.conn in
+    let i = c.in_ok-place.place in
+    (staged_is n conns i c.in_ok-place.ensures.place (with_last c.args.line.now) c.self.inside.places.items c.stage_last_at.new.conns.items c.self.invariant c.in_ok-stage_last_at.ensures.ok).shown ∙ ap (λ (l : Clients). l.shown) c.self.view_is
+
+pub returns-clause-ok : goal.returns-clause-ok
+returns-clause-ok c =
+    let conns = c.self.inside.conns.items in
+    let n = c.args.conn in
+    let i = c.in_ok-place.place in
+    (staged_is n conns i c.in_ok-place.ensures.place (with_last c.args.line.now) c.self.inside.places.items c.stage_last_at.new.conns.items c.self.invariant c.in_ok-stage_last_at.ensures.ok).next ∙ ap (λ (l : Clients). clients_with_change (with_last c.args.line.now) n l.next) c.self.view_is

@@ -1,0 +1,24 @@
+use Rattle.outbox.specs.Views.{with_entry}
+use Rattle.shard_core.proofs.Clients.Staging.{room_at, box_staged, left_after, none_staged_at}
+use Rattle.shard_core.proofs.connections.stage_at.Goals as goal
+
+pub stage-requires : goal.stage-requires
+stage-requires c =
+    let conns = c.args.conns.now.items in
+    let x = c.index_mut-conn.result.now in
+    let is = c.index_mut-conn.ensures.value in
+    room_at conns c.args.place _ x c.requires.within is c.requires.room
+
+pub returns-in_err-stage-clause-err : goal.returns-in_err-stage-clause-err
+returns-in_err-stage-clause-err c =
+    let conns = c.args.conns.now.items in
+    let x = c.index_mut-conn.result.now in
+    let is = c.index_mut-conn.ensures.value in
+    left_after c.from_residual.result (none_staged_at conns c.args.place x c.stage.new.self c.requires.within is c.in_err-stage.ensures.err)
+
+pub returns-clause-ok : goal.returns-clause-ok
+returns-clause-ok c =
+    let conns = c.args.conns.now.items in
+    let x = c.index_mut-conn.result.now in
+    let is = c.index_mut-conn.ensures.value in
+    box_staged (with_entry c.args.entry) conns c.args.place x c.stage.new.self c.requires.within is c.in_ok-stage.ensures.ok
