@@ -3,17 +3,17 @@ use Rattle.std.proofs.Common.{◌≡◌, ℕ, Bool, true, false, not, ◌&&◌, 
 use Rattle.std.specs.Prelude.{if◌then◌else◌, OnErr, slice_get}
 use Rattle.wire_cut.specs.Cut.{first_cr_lf}
 use Rattle.wire_cut.specs.Reading.{End, waits, closed, reading_within, with_items}
-use Rattle.client_frames.specs.declared.awaited.Awaited.{Awaited}
-use Rattle.client_frames.specs.declared.awaited.Awaited.TheVariants as awaits
+use Rattle.client_frames.specs.declared.client_line.Awaited.{Awaited}
+use Rattle.client_frames.specs.declared.client_line.Awaited.TheVariants as awaits
 use Rattle.client_frames.specs.declared.client_line.Options.{Options}
 use Rattle.client_frames.specs.Streams.{StreamItem}
 use Rattle.client_conn.specs.declared.ask.Ask.{Ask}
 use Rattle.client_conn.specs.declared.ask.Refusal.TheVariants.{Other}
 use Rattle.client_conn.specs.declared.faults.ReadFault.{ReadFault}
 use Rattle.client_conn.specs.declared.faults.ReadFault.TheVariants.{Closed}
-use Rattle.client_conn.specs.declared.reader.ItemReader.{ItemReader}
-use Rattle.client_conn.specs.declared.reader.Looked.{Looked}
-use Rattle.client_conn.specs.declared.reader.Looked.TheVariants.{Announced, Told}
+use Rattle.client_conn.specs.declared.conn.ItemReader.{ItemReader}
+use Rattle.client_conn.specs.declared.conn.Looked.{Looked}
+use Rattle.client_conn.specs.declared.conn.Looked.TheVariants.{Announced, Told}
 use Rattle.client_conn.specs.Items.{OpenState, first_options, options_behind, item_asks, items_asks, asked_by}
 use Rattle.client_conn.specs.Asks.{Asking, listens, over, asked_before, asking_of, Answer, asks_after_answer, asks_after_bytes, no_asks}
 use Rattle.client_conn.specs.Feeding.{HasRead, ClosedWhere, AnswersClosed}

@@ -5,8 +5,8 @@ use Rattle.wire_cut.specs.Cut.{Answer, bytes_of}
 use Rattle.wire_cut.specs.declared.faults.CutFault.{CutFault}
 use Rattle.wire_cut.specs.declared.faults.CutFault.TheVariants.{LineTooLong, PayloadTooLong, NoCrLfAfterPayload}
 use Rattle.wire_cut.specs.Reading.{End, waits, closed, Reading, reading_of, reading_within, reading_after, Told, going_on, ending, Found, nothing, something, the_end, finding, finding_by, finding_before, finding_next, cut_awaited}
-use Rattle.client_frames.specs.declared.awaited.Awaited.{Awaited}
-use Rattle.client_frames.specs.declared.awaited.Awaited.TheVariants as awaits
+use Rattle.client_frames.specs.declared.client_line.Awaited.{Awaited}
+use Rattle.client_frames.specs.declared.client_line.Awaited.TheVariants as awaits
 use Rattle.client_frames.specs.declared.client_line.ClientLine.{ClientLine}
 use Rattle.client_frames.specs.declared.client_line.ClientLine.TheVariants.{Connect, Pub, PubBad, Sub, Unsub, Ping, Pong}
 use Rattle.client_frames.specs.declared.client_line.Options.{Options}
@@ -18,7 +18,7 @@ use Rattle.client_frames.specs.Lines.{Meaning, line_meaning}
 use Rattle.client_frames.specs.Streams.{StreamItem, refused, unreadable, client_grammar, piece_told, line_told, command_told}
 use Rattle.client_conn.specs.declared.ask.Ask.{Ask}
 use Rattle.client_conn.specs.declared.ask.Ask.TheVariants.{Reply, Shut}
-use Rattle.client_conn.specs.declared.reader.ItemReader.{ItemReader}
+use Rattle.client_conn.specs.declared.conn.ItemReader.{ItemReader}
 use Rattle.client_conn.specs.Items.{OpenState, options_after, items_asks, refusal_asks}
 use Rattle.client_conn.specs.Asks.{over, listens, asking_of, onward_of, read_onward, is_over, no_asks, is_finished}
 use Rattle.client_conn.specs.Shuts.{AsksToShut}

@@ -10,8 +10,8 @@ use Rattle.wire_cut.specs.declared.faults.CutFault.{CutFault}
 use Rattle.wire_cut.specs.Reading.{End, waits, closed, Reading, reading_of, with_items, last_reading, Told, going_on, ending, Found, nothing, something, the_end, finding, finding_by, finding_before, finding_next, size_fault, reading_by_look, StandsAt}
 use Rattle.wire_cut.proofs.CutLemmas.{cut_of-piece_length}
 use Rattle.wire_cut.proofs.ReadingLemmas.{cuts_alike, reads_by_looks, waits_for_more}
-use Rattle.client_frames.specs.declared.awaited.Awaited.{Awaited}
-use Rattle.client_frames.specs.declared.awaited.Awaited.TheVariants as awaits
+use Rattle.client_frames.specs.declared.client_line.Awaited.{Awaited}
+use Rattle.client_frames.specs.declared.client_line.Awaited.TheVariants as awaits
 use Rattle.client_frames.specs.declared.client_line.PubHead.{PubHead}
 use Rattle.client_frames.specs.Lines.{Meaning, ClientLineMeans, line_meaning}
 use Rattle.client_frames.specs.declared.client_line.ClientLine.{ClientLine}
@@ -22,9 +22,9 @@ use Rattle.client_frames.specs.declared.faults.LineFault.TheVariants.{BadSubject
 use Rattle.client_frames.specs.ErrTexts.{text_closes, line_fault_text, cut_fault_text}
 use Rattle.client_frames.specs.Streams.{StreamItem, asked, published, refused, unreadable, client_grammar, piece_told, line_told, command_told, refusal_told}
 use Rattle.client_conn.specs.declared.ask.Ask.TheVariants.{Publish}
-use Rattle.client_conn.specs.declared.reader.ItemReader.{ItemReader}
-use Rattle.client_conn.specs.declared.reader.Looked.{Looked}
-use Rattle.client_conn.specs.declared.reader.Looked.TheVariants.{Waits, Announced, Told as told_item}
+use Rattle.client_conn.specs.declared.conn.ItemReader.{ItemReader}
+use Rattle.client_conn.specs.declared.conn.Looked.{Looked}
+use Rattle.client_conn.specs.declared.conn.Looked.TheVariants.{Waits, Announced, Told as told_item}
 use Rattle.client_conn.specs.Items.{OpenState, publication_of, with_confirmation, message_of, refusal_asks, asked_by}
 use Rattle.client_conn.specs.Streams.{end_of, reading_at, left_of, IsInStep, IsBehindLine, FoundAlone, TellsFound, Moves, HasMoved, HasLooked, HasTaken, HasNone}
 

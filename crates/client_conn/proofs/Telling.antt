@@ -2,7 +2,7 @@
 use Rattle.std.proofs.Common.{◌≡◌, ℕ, List, [], ◌∷◌, ◌++◌, refl, ap, sym, ◌∙◌, append_assoc}
 use Rattle.wire_cut.specs.Reading.{End, waits, closed, Reading, reading_of, with_items, continuation}
 use Rattle.wire_cut.proofs.ReadingLemmas.{reads_on}
-use Rattle.client_frames.specs.declared.awaited.Awaited.{Awaited}
+use Rattle.client_frames.specs.declared.client_line.Awaited.{Awaited}
 use Rattle.client_frames.specs.declared.client_line.Options.{Options}
 use Rattle.client_frames.specs.Streams.{StreamItem, client_grammar}
 use Rattle.client_conn.specs.declared.ask.Ask.{Ask}

@@ -1,8 +1,8 @@
 -- Asks of a client: what a connection asks of its server, as a function of the bytes fed and of the answers given.
 use Rattle.std.specs.Prelude.{ℕ, List, [], ◌∷◌, ◌++◌, Result, Ok, Err, Bool, true, false, ◌&&◌}
 use Rattle.wire_cut.specs.Reading.{End, waits, closed, Reading, reading_of}
-use Rattle.client_frames.specs.declared.awaited.Awaited.{Awaited}
-use Rattle.client_frames.specs.declared.awaited.Awaited.TheVariants as awaits
+use Rattle.client_frames.specs.declared.client_line.Awaited.{Awaited}
+use Rattle.client_frames.specs.declared.client_line.Awaited.TheVariants as awaits
 use Rattle.client_frames.specs.declared.client_line.Options.{Options}
 use Rattle.client_frames.specs.declared.err_texts.ErrText.{ErrText}
 use Rattle.client_frames.specs.declared.err_texts.ErrText.TheVariants as text

@@ -3,13 +3,13 @@ use Rattle.std.specs.Prelude.{◌≡◌, ℕ, suc, ◌<◌, ◌≤◌, true, fal
 use Rattle.std.specs.Io.KnownBytes.{Consumes, IsAtEnd}
 use Rattle.subj.specs.Messages.{Content}
 use Rattle.wire_cut.specs.Reading.{End, waits, closed, Reading, reading_of, with_items, last_reading, StandsAt, Found, nothing, something, the_end, finding}
-use Rattle.client_frames.specs.declared.awaited.Awaited.{Awaited}
-use Rattle.client_frames.specs.declared.awaited.Awaited.TheVariants as awaits
+use Rattle.client_frames.specs.declared.client_line.Awaited.{Awaited}
+use Rattle.client_frames.specs.declared.client_line.Awaited.TheVariants as awaits
 use Rattle.client_frames.specs.declared.client_line.PubHead.{PubHead}
 use Rattle.client_frames.specs.Streams.{StreamItem, client_grammar}
-use Rattle.client_conn.specs.declared.reader.ItemReader.{ItemReader}
-use Rattle.client_conn.specs.declared.reader.Looked.{Looked}
-use Rattle.client_conn.specs.declared.reader.Looked.TheVariants.{Waits, Announced, Told}
+use Rattle.client_conn.specs.declared.conn.ItemReader.{ItemReader}
+use Rattle.client_conn.specs.declared.conn.Looked.{Looked}
+use Rattle.client_conn.specs.declared.conn.Looked.TheVariants.{Waits, Announced, Told}
 use Rattle.client_conn.specs.Items.{OpenState, message_of, asked_by}
 use Rattle.client_conn.specs.Asks.{Asking, asked_before, asking_of}
 

@@ -5,7 +5,7 @@ use subj::{Key, Pub, Sid};
 use thiserror::Error;
 
 /// What a connection asks of its server. Whoever hands it on knows which connection asks.
-#[derive(Debug, Drop)]
+#[derive(Drop)]
 pub enum Ask {
     /// To put this line for the client.
     Reply(ReplyFrame),

@@ -1,21 +1,493 @@
-//! One client's connection.
+//! One client's connection: what its stream tells is read, and items of it ask for something.
 
-ghost use Rattle.std.specs.Prelude.{◌≡◌, [], IsTrue, IsSome, IsOkAnd, IfOk, OnOk, OnErr, slice_get, option_copied, Err};
-ghost use Rattle.std.specs.Borrow.{sem};
+ghost use Rattle.client_frames.specs.declared.server_frames.ReplyFrame.TheVariants as reply;
+ghost use Rattle.client_conn.specs.declared.ask.Ask.TheVariants as ask;
+ghost use Rattle.client_frames.specs.declared.client_line.Awaited.TheVariants as awaits;
+ghost use Rattle.client_conn.specs.declared.conn.Looked.TheVariants as looks;
+ghost use Rattle.std.specs.Prelude.{◌≡◌, ◌∷◌, ◌++◌, List, [], drop, is_some, not, slice_get, option_copied, option_to_list, ◌≤◌, length, false, true, None, Some, IfOk, OnOk, OnErr, IsTrue, IsSome, IsOkAnd, Err};
+ghost use Rattle.client_frames.specs.Streams.{asked, client_grammar, command_told, refusal_told};
+ghost use Rattle.client_conn.specs.declared.ask.Ask.{Ask};
+ghost use Rattle.client_conn.specs.Asks.{no_asks, first_asking, asks_after_bytes, asks_after_answer, is_finished};
+ghost use Rattle.client_conn.specs.Items.{asked_by, with_confirmation, first_options, publication_of, refusal_asks};
+ghost use Rattle.wire_cut.specs.Reading.{waits, finding_before};
 ghost use Rattle.std.specs.Io.KnownBytes.{Keeps};
-ghost use Rattle.client_conn.specs.Asks.{first_asking, asks_after_bytes, asks_after_answer, is_finished};
-ghost use Rattle.client_conn.specs.Feeding.{HasRead, CountsRead, AnswersClosed};
-ghost use Rattle.client_conn.specs.Streams.{IsInStep, asking_at, end_of};
+ghost use Rattle.subj.specs.declared.limits.TheConstants.{MAX_PAYLOAD};
+ghost use Rattle.client_conn.specs.Feeding.{CountsRead, ClosedWhere, HasRead, AnswersClosed};
+ghost use Rattle.client_conn.specs.Streams.{end_of, longer, IsInStep, IsBehindLine, AwaitsPayload, AwaitsLostPayload, IsMessageOf, TellsFound, HasLooked, HasLookedAt, HasFilled, asking_at};
+ghost use Rattle.std.specs.Borrow.{sem};
 ghost use Rattle.client_conn.specs.Shown.{Stays};
 
 use crate::ask::{Ask, Refusal};
 use crate::faults::ReadFault;
-use crate::open_asks::OpenAsks;
-use crate::reader::{ItemReader, Looked};
-use client_frames::{ErrText, InfoData, ReplyFrame};
-use std::alloc::{AllocError, Global};
+use bytes::Bytes;
+use client_frames::{
+    Awaited, ClientLine, ErrText, InfoData, LineFault, Options, PubHead, ReplyFrame, SharedTexts,
+    decode_line,
+};
+use std::alloc::{AllocError, AllocFailed, Global};
 use std::marker::Model;
-use wire_cut::Source;
+use std::mem;
+use subj::{CLIENT_LINE, Failure, Key, MAX_PAYLOAD, Message, MessageParts, Pub, Subject};
+use wire_cut::{Cutter, FeedFault, FillFault, Piece, Source};
+
+/// The asks of one item that are not answered yet, of which there are at most two, and the options by which the next
+/// items ask.
+///
+/// Seen as the list of the asks, and the options.
+#[derive(Drop)]
+pub struct OpenAsks {
+    options: Options,
+    /// What is asked before the item's own, where that is asked too.
+    confirmation: Option<Ask>,
+    own: Option<Ask>,
+}
+
+impl Model for OpenAsks {
+    ghost use Rattle.std.specs.Prelude.{◌++◌, option_to_list};
+    ghost use Rattle.client_conn.specs.Items.{OpenState};
+
+    ghost Value = { OpenState };
+
+    ghost view = { λ s. record { asks = option_to_list s.confirmation ++ option_to_list s.own; options = s.options } };
+}
+
+/// Asks for `+OK` in verbose mode, before what a command asks for itself.
+fn confirm(confirmation: &mut Option<Ask>, options: Options)
+    ensures { (own : List Ask) → option_to_list confirmation.new ++ own ≡ with_confirmation options own }
+{
+    if options.verbose {
+        *confirmation = Some(Ask::Reply(ReplyFrame::Ok));
+    } else {
+        *confirmation = None;
+    }
+}
+
+/// The message that it asks to publish, if it does.
+fn message_in(ask: Option<Ask>) -> Option<Message> {
+    match ask {
+        Some(Ask::Publish(said)) => {
+            let Pub { message, .. } = said;
+            Some(message)
+        }
+        _ => None,
+    }
+}
+
+impl OpenAsks {
+    /// This alone is asked, of a client that has chosen no options yet.
+    pub fn of(ask: Ask) -> OpenAsks
+        ensures { result ≡ record { asks = ask ∷ []; options = first_options } }
+    {
+        OpenAsks {
+            options: Options {
+                verbose: true,
+                echo: true,
+            },
+            confirmation: None,
+            own: Some(ask),
+        }
+    }
+
+    /// What a command asks for stands in place of what stood. It may change the options first.
+    pub fn ask_command(&mut self, command: ClientLine)
+        ensures { self.new ≡ asked_by (asked command) self.old.options }
+    {
+        match command {
+            ClientLine::Connect(chosen) => {
+                self.options = chosen;
+                confirm(&mut self.confirmation, self.options);
+                self.own = None;
+            }
+            ClientLine::Sub {
+                pattern,
+                queue,
+                sid,
+            } => {
+                let key = Key { pattern, queue };
+                confirm(&mut self.confirmation, self.options);
+                self.own = Some(Ask::Subscribe { key, sid });
+            }
+            ClientLine::Unsub { sid, max } => {
+                confirm(&mut self.confirmation, self.options);
+                self.own = Some(Ask::Unsubscribe { sid, max });
+            }
+            ClientLine::Ping => self.ask_alone(Ask::Reply(ReplyFrame::Pong)),
+            ClientLine::Pong | ClientLine::Pub(_) | ClientLine::PubBad { .. } => self.clear(),
+        }
+    }
+
+    /// What a publication asks for stands in place of what stood.
+    pub fn ask_publication(&mut self, message: Message)
+        ensures { self.new ≡ record self.old { asks = with_confirmation self.old.options (ask.Publish (publication_of message self.old.options) ∷ []) } }
+    {
+        let publication = Pub {
+            message,
+            echo: self.options.echo,
+        };
+        confirm(&mut self.confirmation, self.options);
+        self.own = Some(Ask::Publish(publication));
+    }
+
+    /// What a refusal with this text asks for stands in place of what stood.
+    pub fn refuse(&mut self, text: ErrText)
+        ensures { self.new ≡ record self.old { asks = refusal_asks text } }
+    {
+        if text.closes() {
+            self.ask_alone(Ask::Shut(text));
+        } else {
+            self.ask_alone(Ask::Reply(ReplyFrame::Err(text)));
+        }
+    }
+
+    fn ask_alone(&mut self, ask: Ask)
+        ensures { self.new ≡ record self.old { asks = ask ∷ [] } }
+    {
+        self.confirmation = None;
+        self.own = Some(ask);
+    }
+
+    /// Whether nothing is asked.
+    pub fn is_empty(&self) -> bool
+        ensures { result ≡ no_asks self.now.asks }
+    {
+        self.confirmation.is_none() && self.own.is_none()
+    }
+
+    /// What is asked first.
+    pub fn first(&self) -> Option<&Ask>
+        ensures value { option_copied result ≡ slice_get self.now.asks 0 }
+        ensures some { is_some result ≡ not (no_asks self.now.asks) }
+    {
+        match &self.confirmation {
+            Some(confirmation) => Some(confirmation),
+            None => self.own.as_ref(),
+        }
+    }
+
+    /// The first was answered. Gives its message, where it was a publication.
+    pub fn advance(&mut self) -> Option<Message>
+        ensures { self.new ≡ record self.old { asks = drop 1 self.old.asks } }
+    {
+        if self.confirmation.is_some() {
+            self.confirmation = None;
+            return None;
+        }
+        message_in(self.own.take())
+    }
+
+    /// The client is told this in place of the first.
+    pub fn tell(&mut self, text: ErrText)
+        ensures { self.new ≡ record self.old { asks = ask.Reply (reply.Err text) ∷ drop 1 self.old.asks } }
+    {
+        let told = Some(Ask::Reply(ReplyFrame::Err(text)));
+        if self.confirmation.is_some() {
+            self.confirmation = told;
+        } else {
+            self.own = told;
+        }
+    }
+
+    /// Nothing is asked any more.
+    pub fn clear(&mut self)
+        ensures { self.new ≡ record self.old { asks = [] } }
+    {
+        self.confirmation = None;
+        self.own = None;
+    }
+}
+
+/// Reads the items of a client's stream, each of which asks for something. An item is read only once there is memory
+/// for it, so none is lost.
+#[derive(Drop)]
+pub struct ItemReader {
+    alloc: Global,
+    cutter: Cutter,
+    texts: SharedTexts,
+    awaited: Awaited,
+    /// Whether nothing is read any more.
+    ended: bool,
+}
+
+/// What a look at the bytes has found.
+#[derive(Clone, Copy)]
+pub enum Looked {
+    /// More bytes are needed.
+    Waits,
+    /// The line of a publication, which tells nothing before its payload is there.
+    Announced,
+    /// An item.
+    Told,
+}
+
+/// The message of the head that is awaited, with this payload; a line is awaited behind it. Want of memory leaves the head.
+fn message_with(alloc: Global, awaited: &mut Awaited, payload: Bytes) -> Result<Message, AllocError>
+    requires due { AwaitsPayload awaited.old }
+    requires fits { length payload ≤ MAX_PAYLOAD }
+    ensures ok { IfOk result (λ message. IsMessageOf awaited.old payload message × (awaited.new ≡ awaits.Line)) }
+    ensures err { OnErr result (awaited.new ≡ awaited.old) }
+{
+    let Awaited::Payload(head) = mem::replace(awaited, Awaited::Line) else {
+        // required: a payload is awaited
+        unreachable!()
+    };
+    let PubHead {
+        subject,
+        reply,
+        size,
+    } = head;
+    let parts = MessageParts {
+        subject,
+        reply,
+        payload,
+    };
+    match Message::from_parts(alloc, parts) {
+        Ok(message) => Ok(message),
+        Err(AllocFailed { value }) => {
+            let MessageParts { subject, reply, .. } = value;
+            *awaited = Awaited::Payload(PubHead {
+                subject,
+                reply,
+                size,
+            });
+            Err(AllocError)
+        }
+    }
+}
+
+/// The subject of a message, which is its own where no copy of the message is left, and else a copy.
+fn subject_of(message: Message) -> Option<Subject> {
+    match message.into_parts() {
+        Ok(parts) => {
+            let MessageParts { subject, .. } = parts;
+            Some(subject)
+        }
+        Err(message) => message.subject().try_clone().ok(),
+    }
+}
+
+impl ItemReader {
+    /// A reader to which nothing was fed.
+    pub fn new(alloc: Global) -> ItemReader
+        ensures end { end_of result ≡ waits awaits.Line [] }
+        ensures step { IsInStep result }
+    {
+        ItemReader {
+            alloc,
+            cutter: Cutter::new(alloc, CLIENT_LINE, MAX_PAYLOAD as u64),
+            texts: SharedTexts::new(alloc),
+            awaited: Awaited::Line,
+            ended: false,
+        }
+    }
+
+    /// Takes back the message of a publication that was answered, if it was one: the next is on its subject most often.
+    pub fn take_back(&mut self, message: Option<Message>)
+        ensures { self.new ≡ self.old }
+    {
+        let Some(message) = message else {
+            return;
+        };
+        if let Some(subject) = subject_of(message) {
+            self.texts.keep(subject);
+        }
+    }
+
+    /// Whether nothing is read any more.
+    pub fn has_ended(&self) -> bool
+        ensures { result ≡ self.now.ended }
+    {
+        self.ended
+    }
+
+    /// Nothing is read any more.
+    pub fn close(&mut self)
+        ensures ended { self.new ≡ record self.old { ended = true } }
+    {
+        self.ended = true;
+    }
+
+    /// Takes the next bytes of the stream. Nothing is kept once the stream has ended.
+    pub fn feed(&mut self, bytes: &[u8]) -> Result<(), AllocError>
+        requires { IsInStep self.old }
+        ensures ok { OnOk result (end_of self.new ≡ longer bytes.now (end_of self.old)) }
+        ensures err { OnErr result (end_of self.new ≡ end_of self.old) }
+        ensures step { IsInStep self.new }
+    {
+        if self.ended {
+            return Ok(());
+        }
+        match self.cutter.feed(bytes) {
+            Ok(()) => Ok(()),
+            Err(FeedFault::OutOfMemory) => Err(AllocError),
+            // the reader ends with the first fault of its cutter
+            Err(FeedFault::Cut(_)) => unreachable!(),
+        }
+    }
+
+    /// Reads the next bytes of the stream, at most `most`, straight into the buffer of the cutter, and answers how many.
+    pub fn read_from<S: Source>(&mut self, source: &mut S, most: usize) -> Result<usize, ReadFault>
+        requires { IsInStep self.old }
+        ensures ok { IfOk result (λ n. HasFilled (end_of self.old) (end_of self.new) (S.remaining source.old) (S.remaining source.new) most n) }
+        ensures err { OnErr result (end_of self.new ≡ end_of self.old) }
+        ensures kept { OnErr result (Keeps (S.remaining source.old) (S.remaining source.new)) }
+        ensures read { CountsRead result (source.new ≡ source.old) (S.reads source.old) (S.reads source.new) (S.failures source.old) (S.failures source.new) }
+        ensures closed { ClosedWhere self.old.ended result }
+        ensures step { IsInStep self.new }
+    {
+        if self.ended {
+            return Err(ReadFault::Closed);
+        }
+        match self.cutter.read_from(source, most) {
+            Ok(count) => Ok(count),
+            Err(FillFault::Read) => Err(ReadFault::Failed),
+            Err(FillFault::OutOfMemory) => Err(ReadFault::OutOfMemory),
+            // the reader ends with the first fault of its cutter
+            Err(FillFault::Cut(_)) => unreachable!(),
+        }
+    }
+
+    /// Looks at the next piece, and puts what an item asks for in place of what is asked. Want of memory changes nothing.
+    pub fn look(&mut self, open_asks: &mut OpenAsks) -> Result<Looked, AllocError>
+        requires { IsInStep self.old }
+        ensures ok { IfOk result (λ looked. HasLooked looked open_asks.old open_asks.new (end_of self.old) (end_of self.new)) }
+        ensures err { OnErr result ((self.new ≡ self.old) × (open_asks.new ≡ open_asks.old)) }
+        ensures step { IsInStep self.new }
+    {
+        if self.ended {
+            return Ok(Looked::Waits);
+        }
+        match &self.awaited {
+            Awaited::Line => self.line(open_asks),
+            Awaited::Payload(_) => self.publication(open_asks),
+            Awaited::LostPayload { .. } => Ok(self.lost_publication(open_asks)),
+        }
+    }
+
+    /// Looks at the next line.
+    fn line(&mut self, open_asks: &mut OpenAsks) -> Result<Looked, AllocError>
+        requires step { IsInStep self.old }
+        requires reads { self.old.ended ≡ false }
+        requires due { self.old.awaited ≡ awaits.Line }
+        ensures ok { IfOk result (λ looked. HasLookedAt looked open_asks.old open_asks.new self.old self.new) }
+        ensures err { OnErr result ((self.new ≡ self.old) × (open_asks.new ≡ open_asks.old)) }
+        ensures step { IsInStep self.new }
+    {
+        let (size, meaning) = match self.cutter.peek() {
+            Ok(None) => return Ok(Looked::Waits),
+            Ok(Some(Piece::Line(line))) => (line.len(), decode_line(&mut self.texts, line)),
+            // a payload comes only where one was announced
+            Ok(Some(Piece::Payload(_))) => unreachable!(),
+            Err(fault) => return Ok(self.end_with(ErrText::of_cut(fault), open_asks)),
+        };
+        match meaning {
+            Ok(command) => {
+                self.cutter.use_up(size);
+                Ok(self.tell(command, open_asks))
+            }
+            Err(Failure::Refused(fault)) => {
+                self.cutter.use_up(size);
+                Ok(self.refuse(fault, open_asks))
+            }
+            Err(Failure::OutOfMemory) => Err(AllocError),
+        }
+    }
+
+    /// The client is told this text, and nothing is read behind it.
+    fn end_with(&mut self, text: ErrText, open_asks: &mut OpenAsks) -> Looked
+        ensures told { result ≡ looks.Told }
+        ensures asks { open_asks.new ≡ record open_asks.old { asks = refusal_asks text } }
+        ensures ended { self.new ≡ record self.old { ended = true } }
+    {
+        self.ended = true;
+        open_asks.refuse(text);
+        Looked::Told
+    }
+
+    /// What a command tells whose line was used up.
+    fn tell(&mut self, command: ClientLine, open_asks: &mut OpenAsks) -> Looked
+        requires behind { IsBehindLine self.old }
+        ensures tells { TellsFound result open_asks.old open_asks.new (finding_before client_grammar self.old.cutter.unread (command_told command)) (end_of self.new) }
+        ensures step { IsInStep self.new }
+    {
+        match command {
+            ClientLine::Pub(head) => {
+                if let Err(fault) = self.cutter.expect(head.size) {
+                    return self.end_with(ErrText::of_cut(fault), open_asks);
+                }
+                self.awaited = Awaited::Payload(head);
+                Looked::Announced
+            }
+            ClientLine::PubBad { size } => {
+                if let Err(fault) = self.cutter.expect(size) {
+                    return self.end_with(ErrText::of_cut(fault), open_asks);
+                }
+                self.awaited = Awaited::LostPayload { size };
+                Looked::Announced
+            }
+            command => {
+                open_asks.ask_command(command);
+                Looked::Told
+            }
+        }
+    }
+
+    /// A line is refused, and nothing is read behind it where its text closes.
+    fn refuse(&mut self, fault: LineFault, open_asks: &mut OpenAsks) -> Looked
+        requires behind { IsBehindLine self.old }
+        ensures tells { TellsFound result open_asks.old open_asks.new (finding_before client_grammar self.old.cutter.unread (refusal_told fault)) (end_of self.new) }
+        ensures step { IsInStep self.new }
+    {
+        let text = ErrText::of_line(fault);
+        if text.closes() {
+            return self.end_with(text, open_asks);
+        }
+        open_asks.refuse(text);
+        Looked::Told
+    }
+
+    /// Looks at the payload of a publication, and copies it.
+    fn publication(&mut self, open_asks: &mut OpenAsks) -> Result<Looked, AllocError>
+        requires step { IsInStep self.old }
+        requires reads { self.old.ended ≡ false }
+        requires due { AwaitsPayload self.old.awaited }
+        ensures ok { IfOk result (λ looked. HasLookedAt looked open_asks.old open_asks.new self.old self.new) }
+        ensures err { OnErr result ((self.new ≡ self.old) × (open_asks.new ≡ open_asks.old)) }
+        ensures step { IsInStep self.new }
+    {
+        let (size, payload) = match self.cutter.peek() {
+            Ok(None) => return Ok(Looked::Waits),
+            Ok(Some(Piece::Payload(payload))) => (payload.len(), self.texts.copy(payload)?),
+            // a line comes only where no payload was announced
+            Ok(Some(Piece::Line(_))) => unreachable!(),
+            Err(fault) => return Ok(self.end_with(ErrText::of_cut(fault), open_asks)),
+        };
+        let message = message_with(self.alloc, &mut self.awaited, payload)?;
+        self.cutter.use_up(size);
+        open_asks.ask_publication(message);
+        Ok(Looked::Told)
+    }
+
+    /// Looks at the payload of a publication that is refused.
+    fn lost_publication(&mut self, open_asks: &mut OpenAsks) -> Looked
+        requires step { IsInStep self.old }
+        requires reads { self.old.ended ≡ false }
+        requires due { AwaitsLostPayload self.old.awaited }
+        ensures looked { HasLookedAt result open_asks.old open_asks.new self.old self.new }
+        ensures step { IsInStep self.new }
+    {
+        let size = match self.cutter.peek() {
+            Ok(None) => return Looked::Waits,
+            Ok(Some(Piece::Payload(payload))) => payload.len(),
+            // a line comes only where no payload was announced
+            Ok(Some(Piece::Line(_))) => unreachable!(),
+            Err(fault) => return self.end_with(ErrText::of_cut(fault), open_asks),
+        };
+        self.cutter.use_up(size);
+        self.awaited = Awaited::Line;
+        open_asks.refuse(ErrText::of_line(LineFault::BadSubject));
+        Looked::Told
+    }
+}
 
 /// One client's connection: its bytes go in, what it asks of its server comes out, and the answers to that go in.
 ///

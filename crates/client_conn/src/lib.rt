@@ -10,16 +10,14 @@
 //!
 //! The asks are a function of the bytes and of the answers, however the bytes were cut (`asks_follow_bytes_and_answers`).
 //!
-//! In reading order: `ask` is what is asked, and `open_asks` what one item of a stream asks for; `reader` reads the items; `conn` is
-//! the connection.
+//! In reading order: `ask` is what is asked; `conn` reads the items of a stream, asks for what they want, and is the connection;
+//! `faults` has why it reads no bytes.
 #![tactic(auto)]
 
 mod ask;
 mod conn;
 mod faults;
 mod laws;
-mod open_asks;
-mod reader;
 
 pub use ask::{Ask, Refusal};
 pub use conn::Conn;

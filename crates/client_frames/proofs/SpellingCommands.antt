@@ -7,8 +7,8 @@ use Rattle.subj.specs.Names.{pattern_fault, sid_fault}
 use Rattle.line_fields.specs.Fields.{is_word, line_fields}
 use Rattle.line_fields.specs.Spelling.{IsLineOf}
 use Rattle.line_fields.proofs.SpellingFields.{line_fields_are, begins_with_fields}
-use Rattle.client_frames.specs.declared.operation.Operation.{Operation}
-use Rattle.client_frames.specs.declared.operation.Operation.TheVariants as operation
+use Rattle.client_frames.specs.declared.decoding.Operation.{Operation}
+use Rattle.client_frames.specs.declared.decoding.Operation.TheVariants as operation
 use Rattle.client_frames.specs.declared.client_line.ClientLine.{ClientLine}
 use Rattle.client_frames.specs.declared.client_line.ClientLine.TheVariants.{Connect, Pub, PubBad, Sub, Unsub, Ping, Pong}
 use Rattle.client_frames.specs.declared.client_line.Options.{Options}

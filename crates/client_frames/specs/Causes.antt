@@ -1,8 +1,8 @@
 -- Why a line is refused (profile): each line that spells no command has one of these causes, and no other.
 use Rattle.std.specs.Prelude.{◌≡◌, ℕ, true, List, [], Option, None, Err, is_some}
 use Rattle.subj.specs.Names.{pattern_fault}
-use Rattle.client_frames.specs.declared.operation.Operation.{Operation}
-use Rattle.client_frames.specs.declared.operation.Operation.TheVariants.{Connect, Pub, Sub, Unsub, Ping, Pong}
+use Rattle.client_frames.specs.declared.decoding.Operation.{Operation}
+use Rattle.client_frames.specs.declared.decoding.Operation.TheVariants.{Connect, Pub, Sub, Unsub, Ping, Pong}
 use Rattle.client_frames.specs.declared.client_line.ClientLine.{ClientLine}
 use Rattle.client_frames.specs.declared.faults.LineFault.{LineFault}
 use Rattle.client_frames.specs.declared.faults.LineFault.TheVariants.{UnknownOp, BadArgs, BadJson, BadSubject}

@@ -7,8 +7,8 @@ use Rattle.subj.specs.declared.faults.NameFault.{NameFault}
 use Rattle.subj.specs.declared.failures.Failure.{Failure}
 use Rattle.subj.specs.declared.failures.Failure.TheVariants.{Refused, OutOfMemory}
 use Rattle.line_fields.specs.Fields.{line_fields}
-use Rattle.client_frames.specs.declared.operation.Operation.{Operation}
-use Rattle.client_frames.specs.declared.operation.Operation.TheVariants as operation
+use Rattle.client_frames.specs.declared.decoding.Operation.{Operation}
+use Rattle.client_frames.specs.declared.decoding.Operation.TheVariants as operation
 use Rattle.client_frames.specs.declared.client_line.ClientLine.{ClientLine}
 use Rattle.client_frames.specs.declared.client_line.ClientLine.TheVariants.{Connect, Pub, PubBad, Sub, Unsub, Ping, Pong}
 use Rattle.client_frames.specs.declared.client_line.Options.{Options}

@@ -1,8 +1,8 @@
 -- The operations that clients ask for.
 use Rattle.std.specs.Prelude.{ℕ, List, [], ◌∷◌, codes, Option, Some, None, if◌then◌else◌}
 use Rattle.line_fields.specs.Fields.{is_word}
-use Rattle.client_frames.specs.declared.operation.Operation.{Operation}
-use Rattle.client_frames.specs.declared.operation.Operation.TheVariants.{Connect, Pub, Sub, Unsub, Ping, Pong}
+use Rattle.client_frames.specs.declared.decoding.Operation.{Operation}
+use Rattle.client_frames.specs.declared.decoding.Operation.TheVariants.{Connect, Pub, Sub, Unsub, Ping, Pong}
 
 -- NATS documentation, "Client Protocol"
 abbrev pub word_of : Operation → List ℕ

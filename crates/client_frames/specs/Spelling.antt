@@ -4,8 +4,8 @@ use Rattle.std.specs.Option.{option_to_list}
 use Rattle.subj.specs.Names.{pattern_fault, sid_fault}
 use Rattle.line_fields.specs.Fields.{is_word}
 use Rattle.line_fields.specs.Spelling.{IsLineOf}
-use Rattle.client_frames.specs.declared.operation.Operation.{Operation}
-use Rattle.client_frames.specs.declared.operation.Operation.TheVariants as operation
+use Rattle.client_frames.specs.declared.decoding.Operation.{Operation}
+use Rattle.client_frames.specs.declared.decoding.Operation.TheVariants as operation
 use Rattle.client_frames.specs.declared.client_line.ClientLine.{ClientLine}
 use Rattle.client_frames.specs.declared.client_line.ClientLine.TheVariants.{Connect, Pub, PubBad, Sub, Unsub, Ping, Pong}
 use Rattle.client_frames.specs.declared.client_line.Options.{Options}

@@ -3,8 +3,8 @@ use Rattle.std.specs.Prelude.{ℕ, List, [], ◌∷◌, Option, Some, None, Ok, 
 use Rattle.subj.specs.declared.limits.TheConstants.{CLIENT_LINE, MAX_PAYLOAD}
 use Rattle.wire_cut.specs.declared.faults.CutFault.{CutFault}
 use Rattle.wire_cut.specs.Reading.{Told, going_on, ending, Grammar, Reading, reading_of}
-use Rattle.client_frames.specs.declared.awaited.Awaited.{Awaited}
-use Rattle.client_frames.specs.declared.awaited.Awaited.TheVariants.{Line, Payload, LostPayload}
+use Rattle.client_frames.specs.declared.client_line.Awaited.{Awaited}
+use Rattle.client_frames.specs.declared.client_line.Awaited.TheVariants.{Line, Payload, LostPayload}
 use Rattle.client_frames.specs.declared.client_line.PubHead.{PubHead}
 use Rattle.client_frames.specs.declared.client_line.ClientLine.{ClientLine}
 use Rattle.client_frames.specs.declared.client_line.ClientLine.TheVariants.{Connect, Pub, PubBad, Sub, Unsub, Ping, Pong}

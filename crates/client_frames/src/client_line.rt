@@ -1,9 +1,12 @@
-//! What a control line of a client asks for.
+//! What a control line of a client asks for, and what has to come next in its stream.
+
+ghost use Rattle.std.specs.Prelude.{◌≡◌};
+ghost use Rattle.client_frames.specs.Streams.{size_awaited};
 
 use subj::{Pattern, QueueName, Reply, Sid, Subject};
 
 /// What a client has chosen for its connection. (NATS documentation, "Client Protocol": `CONNECT`.)
-#[derive(Clone, Copy, Debug, PartialEq, Eq)]
+#[derive(Clone, Copy)]
 pub struct Options {
     /// Whether each well-formed command is answered by `+OK`.
     pub verbose: bool,
@@ -12,7 +15,7 @@ pub struct Options {
 }
 
 /// The line of a publication, whose payload follows.
-#[derive(Debug, Drop)]
+#[derive(Drop)]
 pub struct PubHead {
     pub subject: Subject,
     pub reply: Option<Reply>,
@@ -21,7 +24,7 @@ pub struct PubHead {
 }
 
 /// What a control line asks for. (NATS documentation, "Client Protocol".)
-#[derive(Debug, Drop)]
+#[derive(Drop)]
 pub enum ClientLine {
     /// `CONNECT`: all options of the connection, of which those before count no more.
     Connect(Options),
@@ -47,4 +50,28 @@ pub enum ClientLine {
     Ping,
     /// `PONG`, which nothing answers.
     Pong,
+}
+
+/// What has to come next in a client's stream. (NATS documentation, "Client Protocol".)
+#[derive(Drop)]
+pub enum Awaited {
+    /// A control line.
+    Line,
+    /// The payload of a publication.
+    Payload(PubHead),
+    /// The payload of a publication with a bad subject or reply, which is dropped.
+    LostPayload { size: u64 },
+}
+
+impl Awaited {
+    /// How many bytes the payload has that has to come. None where a line has to.
+    pub fn size(&self) -> Option<u64>
+        ensures { result ≡ size_awaited self.now }
+    {
+        match self {
+            Awaited::Line => None,
+            Awaited::Payload(head) => Some(head.size),
+            Awaited::LostPayload { size } => Some(*size),
+        }
+    }
 }

@@ -1,21 +1,229 @@
-//! Reading control lines.
+//! Reading control lines: operations, the fields behind them, and what the text of a `CONNECT` chooses.
 
-ghost use Rattle.std.specs.Prelude.{◌≡◌, None, IfOk};
+ghost use Rattle.std.specs.Prelude.{◌≡◌, None, Some, MatchOption, IfOk, option_map, ⊤, is_some, if◌then◌else◌, OnErr};
+ghost use Rattle.client_frames.specs.Operations.{operation_of};
 ghost use Rattle.std.specs.Option.{option_copied};
-ghost use Rattle.subj.specs.Names.{sid_fault};
 ghost use Rattle.line_fields.specs.Fields.{fields};
 ghost use Rattle.client_frames.specs.Arguments.{two_or_three};
+ghost use Rattle.serde_json.specs.Find.{get};
+ghost use Rattle.serde_json.specs.View.{view};
+ghost use Rattle.client_frames.specs.Choices.{json_of, options_in, options_of, truth_of};
+ghost use Rattle.subj.specs.Names.{subject_fault, sid_fault};
 ghost use Rattle.client_frames.specs.Lines.{ClientLineMeans, line_meaning, operation_meaning, connection_of, publication_of, subscription_of, unsubscription_of, maximum_of, reply_fault, queue_fault};
 
-use crate::arguments::Arguments;
-use crate::choices::read_options;
-use crate::client_line::{ClientLine, PubHead};
+use crate::client_line::{ClientLine, Options, PubHead};
 use crate::faults::LineFault;
-use crate::operation::Operation;
-use crate::shared_texts::SharedTexts;
-use line_fields::{read_digits, split_field, split_line};
+use bytes::{Bytes, BytesMut};
+use line_fields::{is_word, read_digits, split_field, split_line};
+use serde_json::Value;
 use std::alloc::{AllocError, Global};
+use std::marker::Model;
 use subj::{Failure, NameFault, Pattern, QueueName, Reply, Sid, Subject};
+
+/// The first field of a control line. (NATS documentation, "Client Protocol".)
+#[derive(Clone, Copy)]
+pub(crate) enum Operation {
+    Connect,
+    Pub,
+    Sub,
+    Unsub,
+    Ping,
+    Pong,
+}
+
+impl Operation {
+    /// The operation that a field names. The most frequent ones are tried first.
+    pub(crate) fn read(field: &[u8]) -> Option<Operation>
+        ensures { result ≡ operation_of field.now }
+    {
+        if is_word(b"PUB", field) {
+            return Some(Operation::Pub);
+        }
+        if is_word(b"SUB", field) {
+            return Some(Operation::Sub);
+        }
+        if is_word(b"PING", field) {
+            return Some(Operation::Ping);
+        }
+        if is_word(b"PONG", field) {
+            return Some(Operation::Pong);
+        }
+        if is_word(b"UNSUB", field) {
+            return Some(Operation::Unsub);
+        }
+        if is_word(b"CONNECT", field) {
+            return Some(Operation::Connect);
+        }
+        None
+    }
+}
+
+/// Two fields, and perhaps one between them.
+#[derive(Clone, Copy)]
+pub(crate) struct Arguments<'a> {
+    pub(crate) first: &'a [u8],
+    pub(crate) between: Option<&'a [u8]>,
+    pub(crate) last: &'a [u8],
+}
+
+impl<'a> Arguments<'a> {
+    /// The fields of a text, where these are two or three.
+    pub(crate) fn read(text: &'a [u8]) -> Option<Arguments<'a>>
+        ensures { MatchOption result (two_or_three (fields text.now) ≡ None) (λ a. two_or_three (fields text.now)
+            ≡ Some (record { first = a.first.now; between = option_copied a.between; last = a.last.now })) }
+    {
+        let (first, behind) = split_field(text)?;
+        let (second, behind) = split_field(behind)?;
+        let Some((third, behind)) = split_field(behind) else {
+            return Some(Arguments {
+                first,
+                between: None,
+                last: second,
+            });
+        };
+        match split_field(behind) {
+            None => Some(Arguments {
+                first,
+                between: Some(second),
+                last: third,
+            }),
+            Some(_) => None,
+        }
+    }
+}
+
+/// The JSON that a text is, where it is any.
+fn read_json(alloc: Global, text: &[u8]) -> Result<Option<Value>, AllocError>
+    ensures { IfOk result (λ json. option_map view json ≡ json_of text.now) }
+{
+    match Value::from_slice(alloc, text) {
+        Ok(json) => Ok(Some(json)),
+        Err(error) => {
+            if error.is_memory() {
+                return Err(AllocError);
+            }
+            Ok(None)
+        }
+    }
+}
+
+/// Whether an option is on: it is where it is absent. None where it is no truth value.
+fn is_on(json: &Value, name: &str) -> Option<bool>
+    ensures { result ≡ truth_of (get name.now (view json.now)) }
+{
+    match json.get(name) {
+        None => Some(true),
+        Some(value) => value.as_bool(),
+    }
+}
+
+/// The options in an object.
+fn options_within(json: &Value) -> Option<Options>
+    ensures { result ≡ options_in (view json.now) }
+{
+    if !json.is_object() {
+        return None;
+    }
+    let verbose = is_on(json, "verbose")?;
+    let echo = is_on(json, "echo")?;
+    Some(Options { verbose, echo })
+}
+
+/// The options that the text of a `CONNECT` chooses. None where it is no JSON object, or where one of
+/// them is no truth value.
+pub(crate) fn read_options(alloc: Global, text: &[u8]) -> Result<Option<Options>, AllocError>
+    ensures { IfOk result (λ options. options ≡ options_of text.now) }
+{
+    let Some(json) = read_json(alloc, text)? else {
+        return Ok(None);
+    };
+    Ok(options_within(&json))
+}
+
+/// The most bytes of a text that shares its memory with others.
+const SMALL: usize = 256;
+
+/// For how many bytes of small texts memory is taken at once.
+const BLOCK: usize = 2_048;
+
+/// Copies texts, such as the subjects and the payloads of publications. Small ones share blocks of memory, each of
+/// which is given back with the last text in it, so that most of them take none of their own.
+///
+/// A client mostly publishes on the subject that it has just published on: one that is handed back with [`SharedTexts::keep`] is
+/// neither judged nor copied again.
+///
+/// Nothing is seen of it but what it copies.
+#[derive(Drop)]
+pub struct SharedTexts {
+    pub(crate) alloc: Global,
+    block: BytesMut,
+    last_subject: Option<Subject>,
+}
+
+impl Model for SharedTexts {
+    ghost Value = { ⊤ };
+
+    ghost view = { λ _. tt };
+}
+
+impl SharedTexts {
+    /// It takes no memory before there is something to copy.
+    pub fn new(alloc: Global) -> SharedTexts {
+        SharedTexts {
+            alloc,
+            block: BytesMut::new(alloc),
+            last_subject: None,
+        }
+    }
+
+    /// A copy of the text.
+    pub fn copy(&mut self, text: &[u8]) -> Result<Bytes, AllocError>
+        ensures { IfOk result (λ copy. copy ≡ text.now) }
+    {
+        if text.len() > SMALL {
+            return Bytes::copy_from_slice(self.alloc, text);
+        }
+        if !self.block.is_empty() || self.block.capacity() < text.len() {
+            self.block = BytesMut::with_capacity(self.alloc, BLOCK)?;
+        }
+        self.block.extend_reserved(text);
+        self.block.freeze_to(text.len())
+    }
+
+    /// A copy of bytes that are a subject.
+    pub(crate) fn new_subject(&mut self, text: &[u8]) -> Result<Subject, AllocError>
+        requires { subject_fault text.now ≡ None }
+        ensures { IfOk result (λ subject. subject ≡ text.now) }
+    {
+        match Subject::from_shared(self.copy(text)?) {
+            Ok(subject) => Ok(subject),
+            // required: the bytes are a subject
+            Err(_) => unreachable!(),
+        }
+    }
+
+    /// Keeps a subject that is not used any more: where the next line names the same one, its text is not copied again.
+    pub fn keep(&mut self, subject: Subject) {
+        self.last_subject = Some(subject);
+    }
+
+    /// A copy of bytes, where they are a subject; the one that is kept, where they are its own. Want of memory comes only
+    /// where they are one.
+    pub(crate) fn subject(&mut self, text: &[u8]) -> Result<Option<Subject>, AllocError>
+        ensures ok { IfOk result (λ subject. subject ≡ (if is_some (subject_fault text.now) then None else Some text.now)) }
+        ensures err { OnErr result (subject_fault text.now ≡ None) }
+    {
+        if let Some(last) = self.last_subject.take() {
+            if last.bytes() == text {
+                return Ok(Some(last));
+            }
+        }
+        if Subject::fault(text).is_some() {
+            return Ok(None);
+        }
+        Ok(Some(self.new_subject(text)?))
+    }
+}
 
 /// The most digits of a size or of a maximum. (Profile.)
 const COUNT_DIGITS: usize = 10;

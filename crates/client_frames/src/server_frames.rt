@@ -18,7 +18,7 @@ pub enum ReplyFrame {
 }
 
 /// A message on its way to one subscription.
-#[derive(Debug, Drop)]
+#[derive(Drop)]
 pub struct Delivery {
     /// What was published.
     pub message: Message,
@@ -27,7 +27,7 @@ pub struct Delivery {
 }
 
 /// What a server sends to a client.
-#[derive(Debug, Drop)]
+#[derive(Drop)]
 pub enum ServerFrame {
     Reply(ReplyFrame),
     Msg(Delivery),

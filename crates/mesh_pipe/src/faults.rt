@@ -7,7 +7,7 @@ use std::fmt::{Display, Formatter, Write};
 use wire_cut::WriteFailed;
 
 /// Why a pipe broke off.
-#[derive(Clone, Copy, Debug, PartialEq, Eq)]
+#[derive(Clone, Copy, Debug)]
 pub enum PipeFault {
     /// The reader failed, or 2^64 - 1 reads did not come to its end.
     Read,

@@ -7,18 +7,13 @@
 //! let end = pipe_run(rt.alloc(), &mut source, &mut sink)?;
 //! ```
 //!
-//! In reading order: `pipe` is the loop and what its contract says of all bytes that were written;
-//! `pipe_server` answers each thing that the connection asks, by a `confirmation` most often; `serving` makes the server's calls.
-//! `ending` is how a program ends then.
+//! In reading order: `pipe` is the loop and what its contract says of all bytes that were written, and how a program ends then;
+//! `pipe_server` makes the server's calls, and answers each thing that the connection asks.
 #![tactic(auto)]
 
-mod confirmation;
-mod ending;
 mod faults;
 mod pipe;
 mod pipe_server;
-mod serving;
 
-pub use ending::{pipe_complaint, pipe_status};
 pub use faults::PipeFault;
-pub use pipe::{PipeEnd, pipe_run};
+pub use pipe::{PipeEnd, pipe_complaint, pipe_run, pipe_status};

@@ -1,23 +1,23 @@
-//! One client on a reader and a writer.
+//! One client on a reader and a writer, and how a program ends whose pipe has ended.
 
-ghost use Rattle.std.specs.Prelude.{◌≡◌, ◌≤◌, ◌+◌, [], IfOk, OnOk, OnErr};
+ghost use Rattle.std.specs.Prelude.{◌≡◌, ◌≤◌, ◌+◌, [], IfOk, OnOk, OnErr, ◌≢◌, ◌↔◌, IsSome};
 ghost use Rattle.wire_cut.specs.Flow.{AppendsFront};
 ghost use Rattle.mesh_pipe.specs.PipeTheorem.{Pipes, CountsReads, CountsFailedWrites, all_reads};
 ghost use Rattle.client_conn.specs.Asks.{first_asking};
 ghost use Rattle.mesh_pipe.specs.PipeText.{pipe_info};
 ghost use Rattle.mesh_pipe.specs.PipeStates.{IsNew};
 ghost use Rattle.mesh_pipe.specs.PipeRuns.{IsInStep, IsFlushed, CountsWrites, HasLooked, Works, AnswersAll};
+ghost use Rattle.mesh_pipe.specs.Ending.{exit_status};
 
 use crate::faults::PipeFault;
-use crate::pipe_server::{Outcome, PipeServer};
-use crate::serving::info;
+use crate::pipe_server::{Outcome, PipeServer, info};
 use client_conn::{Conn, ReadFault};
 use std::alloc::{AllocError, Global};
 use subj::READ_BYTES;
 use wire_cut::{Sink, Source};
 
 /// Whether the connection goes on.
-#[derive(Clone, Copy, Debug, PartialEq, Eq)]
+#[derive(Clone, Copy)]
 pub enum Flow {
     /// More bytes are needed.
     Open,
@@ -26,7 +26,7 @@ pub enum Flow {
 }
 
 /// How a pipe ended.
-#[derive(Clone, Copy, Debug, PartialEq, Eq)]
+#[derive(Clone, Copy)]
 pub enum PipeEnd {
     /// The reader came to its end. An unfinished frame is dropped.
     Ended,
@@ -149,5 +149,27 @@ fn look(conn: &mut Conn, server: &mut PipeServer) -> Result<Option<Flow>, AllocE
             conn.answer(answer);
             Ok(Some(Flow::Open))
         }
+    }
+}
+
+/// The exit status of a pipe: 0 where its input came to its end, and else 1. (Profile.)
+pub fn pipe_status(ended: Result<PipeEnd, PipeFault>) -> u8
+    ensures { result ≡ exit_status ended }
+{
+    match ended {
+        Ok(PipeEnd::Ended) => 0,
+        Ok(PipeEnd::Closed) => 1,
+        Err(_) => 1,
+    }
+}
+
+/// What is told of a pipe whose exit status is not 0.
+pub fn pipe_complaint(ended: Result<PipeEnd, PipeFault>) -> Option<&'static str>
+    ensures { IsSome result ↔ (exit_status ended ≢ 0) }
+{
+    match ended {
+        Ok(PipeEnd::Ended) => None,
+        Ok(PipeEnd::Closed) => Some("the connection was closed by an -ERR"),
+        Err(fault) => Some(fault.text()),
     }
 }

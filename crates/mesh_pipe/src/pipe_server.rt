@@ -1,23 +1,347 @@
-//! What a pipe's server makes of what its client's connection asks.
+//! The server of a pipe, event by event: alone in its cluster, with one shard that has one connection; and what it makes of what
+//! its client's connection asks.
 
-ghost use Rattle.std.specs.Prelude.{◌≡◌, [], IfOk, OnOk};
-ghost use Rattle.mesh_pipe.specs.PipeText.{after_event, output_of_subscribe, output_of_publish, ask_said};
+ghost use Rattle.client_frames.specs.declared.server_frames.ReplyFrame.TheVariants as reply_frame;
+ghost use Rattle.client_frames.specs.declared.server_frames.ServerFrame.TheVariants as server_frame;
+ghost use Rattle.std.specs.Prelude.{◌≡◌, ◌≤◌, ◌++◌, [], true, not, length, None, IfOk, OnOk, is_some};
+ghost use Rattle.client_frames.specs.Frames.{frame_bytes, reply_line};
+ghost use Rattle.subj.specs.declared.limits.TheConstants.{MAX_QUEUE_NAMES};
+ghost use Rattle.shard_core.specs.ShardEvents.{Subscribe, Unsubscribe, Reply, Shut, Take, Claim, End, Collect};
+ghost use Rattle.shard_core.specs.ShardSteps.{answer_fits, shard_refusal};
+ghost use Rattle.shard_core.specs.Shards.{is_known, is_open};
+ghost use Rattle.mesh_pipe.specs.PipeText.{pipe_info, at_first, at_rest, after_event, output_of_subscribe, output_of_publish, ask_said};
+ghost use Rattle.mesh_pipe.specs.PipeServing.{refusal_of as refused, line_in, shard_in, waiting_in, all_entries, waiting_bytes, placing_refused, pipe_server, IsServing, Steps, IsPublished, IsOpened, AreFree, HasBegun, HasClaimed, HasEnded, HasClaimedAll, HasWorkedOff, queues_in, first_queues};
 ghost use Rattle.mesh_pipe.specs.PipeStates.{outcome_by, served_state, IsNew, IsReady, HasServed, MayBeTold};
-ghost use Rattle.shard_core.specs.ShardEvents.{Unsubscribe, Reply, Shut};
 
-use crate::confirmation::Confirmation;
-use crate::serving::{
-    PipeNode, collect, new_node, publish, reply, shut, subscribe, take, take_any, unsubscribe,
-    work_off,
-};
+use claim_race::PlainRace;
 use client_conn::{Ask, Refusal};
-use client_frames::{ErrText, ReplyFrame, reply_line};
+use client_frames::{ErrText, InfoData, ReplyFrame, ServerFrame, encode, reply_line};
+use client_refusals::{refusal_of_hub, refusal_of_shard};
+use hub_core::queue_names_are_wanted;
 use line_fields::{CR_LF, append_reserved};
+use node_core::{Line, Node, NodeFault, counts_are_open};
 use std::alloc::{AllocError, Global};
-use subj::{ConnId, Key, OUTBOX_BYTES, Pub, Sid};
+use std::marker::Model;
+use sub_trie::TrieTable;
+use subj::{ConnId, Failure, Incarnation, Key, NodeId, OUTBOX_BYTES, Pub, Server, Sid};
+
+/// `+OK` with its line end, put together once, since in verbose mode each command is answered by it.
+#[derive(Drop)]
+struct Confirmation {
+    text: Vec<u8>,
+}
+
+impl Model for Confirmation {
+    ghost use Rattle.std.specs.Prelude.{◌≡◌, ⊤};
+    ghost use Rattle.client_frames.specs.Frames.{frame_bytes};
+    ghost use Rattle.client_frames.specs.declared.server_frames.ReplyFrame.TheVariants as reply;
+    ghost use Rattle.client_frames.specs.declared.server_frames.ServerFrame.TheVariants as frame;
+
+    ghost Value = { ⊤ };
+
+    ghost view = { λ _. tt };
+
+    ghost invariant = { λ c. c.text.items ≡ frame_bytes (frame.Reply reply.Ok) };
+}
+
+impl Confirmation {
+    /// The one text of all of them.
+    fn new(alloc: Global) -> Result<Confirmation, AllocError> {
+        let mut text = Vec::new(alloc);
+        encode(&ServerFrame::Reply(ReplyFrame::Ok), &mut text)?;
+        Ok(Confirmation { text })
+    }
+
+    /// Its bytes.
+    fn text(&self) -> &[u8]
+        ensures { result.now ≡ frame_bytes (server_frame.Reply reply_frame.Ok) }
+    {
+        self.text.as_slice()
+    }
+}
+
+/// A server over the trie, with a race for one thread.
+type PipeNode = Node<TrieTable, PlainRace>;
+
+/// The number of its shard.
+const SHARD: u64 = 1;
+
+/// What the client is told first.
+pub fn info() -> InfoData
+    ensures { result ≡ pipe_info }
+{
+    let Ok(name) = NodeId::read(b"n1") else {
+        // `n1` is a name
+        unreachable!()
+    };
+    let Some(inc) = Incarnation::new(1) else {
+        // 1 is an incarnation
+        unreachable!()
+    };
+    InfoData {
+        name,
+        inc,
+        client_id: ConnId::new(1),
+        port: 0,
+    }
+}
+
+/// Node `n1`, alone in its cluster, in its first life, with one shard.
+fn only_server(alloc: Global) -> Result<Server, AllocError>
+    ensures { IfOk result (λ server. server ≡ pipe_server) }
+{
+    let info = info();
+    let mut names = Vec::new(alloc);
+    names.push(info.name)?;
+    match Server::new(names, 0, info.inc, SHARD) {
+        Some(server) => Ok(server),
+        // one name, the first place and one shard are a server
+        None => unreachable!(),
+    }
+}
+
+/// A server that has just taken its one connection.
+fn new_node(alloc: Global) -> Result<PipeNode, AllocError>
+    ensures { IfOk result (λ node. IsServing node × (shard_in node ≡ at_rest at_first) × (waiting_in node ≡ [])) }
+{
+    let mut node = Node::new(alloc, only_server(alloc)?)?;
+    match node.attach(SHARD) {
+        Ok(_) => Ok(node),
+        // the shard is there, and no number is spent yet
+        Err(Failure::Refused(_)) => unreachable!(),
+        Err(Failure::OutOfMemory) => Err(AllocError),
+    }
+}
+
+/// What the client is told of a refusal.
+fn refusal_of(fault: NodeFault) -> Refusal
+    ensures { result ≡ refused fault }
+{
+    match fault {
+        NodeFault::Shard(fault) => refusal_of_shard(fault),
+        NodeFault::Hub(fault) => refusal_of_hub(fault),
+        NodeFault::NoShard | NodeFault::Session(_) => Refusal::Other,
+    }
+}
+
+/// Puts a line for the client. Tells whether it was shut instead, for want of room.
+fn reply(node: &mut PipeNode, conn: ConnId, frame: &ReplyFrame) -> Result<bool, AllocError>
+    requires serving { IsServing node.old }
+    requires conn { conn ≡ 1 }
+    requires open { is_open 1 (shard_in node.old).clients ≡ true }
+    ensures steps { OnOk result (Steps node.old (Reply 1 frame.now) node.new) }
+    ensures shut { IfOk result (λ shut. shut ≡ not (answer_fits (shard_in node.old) 1 (reply_line frame.now))) }
+{
+    match node.reply(conn, frame) {
+        Ok(closed) => Ok(closed.shut),
+        // required: the connection is open
+        Err(Failure::Refused(_)) => unreachable!(),
+        Err(Failure::OutOfMemory) => Err(AllocError),
+    }
+}
+
+/// Shuts the client with this text.
+fn shut(node: &mut PipeNode, conn: ConnId, text: ErrText) -> Result<(), AllocError>
+    requires serving { IsServing node.old }
+    requires conn { conn ≡ 1 }
+    requires open { is_open 1 (shard_in node.old).clients ≡ true }
+    ensures { OnOk result (Steps node.old (Shut 1 text) node.new) }
+{
+    match node.shut(conn, text) {
+        Ok(_ended) => Ok(()),
+        // required: the connection is open
+        Err(Failure::Refused(_)) => unreachable!(),
+        Err(Failure::OutOfMemory) => Err(AllocError),
+    }
+}
+
+/// Opens a subscription for the client, or tells why not.
+fn subscribe(
+    node: &mut PipeNode,
+    conn: ConnId,
+    key: Key,
+    sid: Sid,
+) -> Result<Result<(), Refusal>, AllocError>
+    requires serving { IsServing node.old }
+    requires conn { conn ≡ 1 }
+    ensures { IfOk result (λ opened. IsOpened (shard_refusal (shard_in node.old) (Subscribe 1 key sid)) (Subscribe 1 key sid) node.old opened node.new) }
+{
+    match node.subscribe(conn, key, sid) {
+        Ok(_) => Ok(Ok(())),
+        Err(Failure::Refused(fault)) => Ok(Err(refusal_of(fault))),
+        Err(Failure::OutOfMemory) => Err(AllocError),
+    }
+}
+
+/// Closes what the client calls so.
+fn unsubscribe(node: &mut PipeNode, conn: ConnId, sid: &Sid, max: Option<u64>)
+    requires serving { IsServing node.old }
+    requires conn { conn ≡ 1 }
+    requires open { is_open 1 (shard_in node.old).clients ≡ true }
+    ensures { Steps node.old (Unsubscribe 1 sid.now max) node.new }
+{
+    match node.unsubscribe(conn, sid, max) {
+        Ok(_) => {}
+        // required: the connection is open
+        Err(_) => unreachable!(),
+    }
+}
+
+/// Publishes for the client, or tells why not: a job of the next turn waits.
+fn publish(node: &mut PipeNode, conn: ConnId, said: &Pub) -> Result<Result<(), Refusal>, AllocError>
+    requires serving { IsServing node.old }
+    requires conn { conn ≡ 1 }
+    requires idle { waiting_in node.old ≡ [] }
+    requires none { (shard_in node.old).hand ≡ None }
+    requires told { (shard_in node.old).deltas ≡ [] }
+    ensures { IfOk result (λ published. IsPublished (placing_refused said.now (shard_in node.old)) said.now node.old published node.new) }
+{
+    queue_names_are_wanted();
+    counts_are_open();
+    match node.publish(conn, said, 0) {
+        Ok(_) => Ok(Ok(())),
+        Err(Failure::Refused(fault)) => Ok(Err(refusal_of(fault))),
+        Err(Failure::OutOfMemory) => Err(AllocError),
+    }
+}
+
+/// Begins the job that waits. Tells whether the client was shut for want of room.
+fn begin(node: &mut PipeNode) -> Result<bool, AllocError>
+    requires serving { IsServing node.old }
+    requires none { (shard_in node.old).hand ≡ None }
+    requires one { length (waiting_in node.old) ≡ 1 }
+    ensures { IfOk result (λ shut. HasBegun node.old shut node.new) }
+{
+    match node.begin(SHARD, false) {
+        Ok(begun) => Ok(!begun.closed.is_empty()),
+        // required: no job is in hand, and one waits
+        Err(Failure::Refused(_)) => unreachable!(),
+        Err(Failure::OutOfMemory) => Err(AllocError),
+    }
+}
+
+/// Claims the queue name of this index of the job in hand, which is the next one.
+fn claim(node: &mut PipeNode, index: u64) -> Result<(), AllocError>
+    requires serving { IsServing node.old }
+    requires due { shard_refusal (shard_in node.old) (Claim index true) ≡ None }
+    requires last { waiting_in node.old ≡ [] }
+    requires free { AreFree index node.old.node.race }
+    ensures { OnOk result (HasClaimed index node.old node.new) }
+{
+    match node.claim(SHARD, index, false) {
+        Ok(_claimed) => Ok(()),
+        // required: the claim is not refused
+        Err(Failure::Refused(_)) => unreachable!(),
+        Err(Failure::OutOfMemory) => Err(AllocError),
+    }
+}
+
+/// Ends the job in hand, where all its queue names were claimed. Tells whether they were.
+fn end(node: &mut PipeNode) -> bool
+    requires serving { IsServing node.old }
+    requires hand { is_some (shard_in node.old).hand ≡ true }
+    ensures { HasEnded (shard_refusal (shard_in node.old) End) node.old result node.new }
+{
+    match node.end(SHARD) {
+        Ok(()) => true,
+        Err(_) => false,
+    }
+}
+
+/// Claims the queue names of the job in hand, one after the other, and ends it.
+fn claim_and_end(node: &mut PipeNode) -> Result<(), AllocError>
+    requires serving { IsServing node.old }
+    requires hand { is_some (shard_in node.old).hand ≡ true }
+    requires fresh { (shard_in node.old).next_index ≡ 0 }
+    requires last { waiting_in node.old ≡ [] }
+    requires free { AreFree 0 node.old.node.race }
+    requires few { queues_in node.old ≤ MAX_QUEUE_NAMES }
+    ensures { OnOk result (HasClaimedAll node.old node.new) }
+{
+    let mut index = 0;
+    while !end(node) {
+        claim(node, index)?;
+        index += 1;
+    }
+    Ok(())
+}
+
+/// Works off the job that waits: it is begun, its queue names are claimed, and it is ended. Tells whether
+/// the client was shut.
+fn work_off(node: &mut PipeNode) -> Result<bool, AllocError>
+    requires serving { IsServing node.old }
+    requires none { (shard_in node.old).hand ≡ None }
+    requires one { length (waiting_in node.old) ≡ 1 }
+    requires free { AreFree 0 node.old.node.race }
+    requires few { first_queues (waiting_in node.old) ≤ MAX_QUEUE_NAMES }
+    ensures { IfOk result (λ shut. HasWorkedOff node.old shut node.new) }
+{
+    let shut = begin(node)?;
+    claim_and_end(node)?;
+    Ok(shut)
+}
+
+/// Its one shard, and the jobs that wait for it.
+fn only_line(node: &PipeNode) -> &Line<TrieTable>
+    requires { IsServing node.now }
+    ensures { result.now ≡ line_in node.now }
+{
+    match node.line(SHARD) {
+        Some(line) => line,
+        // required: the server has one shard
+        None => unreachable!(),
+    }
+}
+
+/// Has the hub count what was opened and closed, where anything was.
+fn collect(node: &mut PipeNode) -> Result<(), AllocError>
+    requires { IsServing node.old }
+    ensures { OnOk result (Steps node.old Collect node.new) }
+{
+    if only_line(node).deltas().is_empty() {
+        return Ok(());
+    }
+    counts_are_open();
+    match node.collect(SHARD) {
+        Ok(_told) => Ok(()),
+        // a shard closes only what it opened, and opens no more than can be counted
+        Err(Failure::Refused(_)) => unreachable!(),
+        Err(Failure::OutOfMemory) => Err(AllocError),
+    }
+}
+
+/// Moves the bytes of all that waits for the client behind those that are to be written.
+fn take(node: &mut PipeNode, conn: ConnId, out: &mut Vec<u8>) -> Result<(), AllocError>
+    requires serving { IsServing node.old }
+    requires conn { conn ≡ 1 }
+    requires known { is_known 1 (shard_in node.old).clients ≡ true }
+    ensures steps { OnOk result (Steps node.old (Take 1 all_entries) node.new) }
+    ensures text { OnOk result (out.new.items ≡ out.old.items ++ waiting_bytes (shard_in node.old)) }
+{
+    match node.take_bytes(conn, usize::MAX, out) {
+        Ok(_) => Ok(()),
+        // required: the connection is known
+        Err(Failure::Refused(_)) => unreachable!(),
+        Err(Failure::OutOfMemory) => Err(AllocError),
+    }
+}
+
+/// [`take`], where often nothing waits: that is seen at once.
+fn take_any(node: &mut PipeNode, conn: ConnId, out: &mut Vec<u8>) -> Result<(), AllocError>
+    requires serving { IsServing node.old }
+    requires conn { conn ≡ 1 }
+    requires known { is_known 1 (shard_in node.old).clients ≡ true }
+    ensures steps { OnOk result (Steps node.old (Take 1 all_entries) node.new) }
+    ensures text { OnOk result (out.new.items ≡ out.old.items ++ waiting_bytes (shard_in node.old)) }
+{
+    if only_line(node).has_nothing_for(conn) {
+        return Ok(());
+    }
+    take(node, conn, out)
+}
 
 /// What an ask came to.
-#[derive(Clone, Copy, Debug, PartialEq, Eq)]
+#[derive(Clone, Copy)]
 pub enum Outcome {
     /// It is answered, and the connection goes on.
     Answered(Result<(), Refusal>),

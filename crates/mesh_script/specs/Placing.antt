@@ -3,7 +3,7 @@ use Rattle.std.specs.Prelude.{◌≡◌, ℕ, List, [], ◌++◌, length, map}
 use Rattle.cluster_world.specs.InCode.{life_id_of}
 use Rattle.world_law.specs.State.{Cluster, Life, Placement}
 use Rattle.world_law.specs.Written.{placement_line}
-use Rattle.mesh_script.specs.declared.placed.Message.{Message}
+use Rattle.mesh_script.specs.declared.output.Message.{Message}
 use Rattle.mesh_script.specs.Lines.{lines_text}
 
 -- of a cluster, the lines of its placements have the names of the servers alone

@@ -8,8 +8,8 @@ use Rattle.world_law.specs.Headline.{IsCluster}
 use Rattle.world_law.specs.State.{Cluster, World, new_world}
 use Rattle.world_law.specs.Written.{outcome_lines, last_lines}
 use Rattle.script_form.specs.Form.{Script}
-use Rattle.mesh_script.specs.declared.asks.Asked.{Asked}
-use Rattle.mesh_script.specs.declared.asks.Asked.TheVariants as asked
+use Rattle.mesh_script.specs.declared.player.Asked.{Asked}
+use Rattle.mesh_script.specs.declared.player.Asked.TheVariants as asked
 use Rattle.mesh_script.specs.declared.faults.PlayFault.{PlayFault}
 use Rattle.mesh_script.specs.Asks.{Asks, NoMore, Ask, once, dial_asks}
 use Rattle.mesh_script.specs.Lines.{lines_text}

@@ -7,7 +7,7 @@ use thiserror::Error;
 use wire_cut::WriteFailed;
 
 /// Why playing a script broke off. What was written by then is a beginning of its text.
-#[derive(Clone, Copy, Debug, PartialEq, Eq, Error)]
+#[derive(Clone, Copy, Debug, Error)]
 pub enum PlayFault {
     /// The writer failed.
     #[error("writing failed")]
@@ -40,7 +40,7 @@ impl From<WriteFailed> for PlayFault {
 }
 
 /// Why a script was not read and played to its end.
-#[derive(Clone, Copy, Debug, PartialEq, Eq, Error)]
+#[derive(Clone, Copy, Debug, Error)]
 pub enum RunFault {
     /// The bytes are no script. Its refusal was written.
     #[error("script refused: {0}")]
@@ -57,7 +57,7 @@ pub enum RunFault {
 }
 
 /// Why it was not told whether a pattern matches a subject.
-#[derive(Clone, Copy, Debug, PartialEq, Eq, Error)]
+#[derive(Clone, Copy, Debug, Error)]
 pub enum MatchFault {
     /// The pattern is none. Its refusal was written.
     #[error("pattern refused: {0}")]

@@ -8,22 +8,15 @@
 //! ```
 //!
 //! [`play`] makes the events of a script in the exact cluster and writes a line for each of them, then one for each message
-//! that was placed, and a last line; [`script_run`] reads the script first. In reading order: `running`, `plays`, `player`,
-//! which makes the events of a step, `asks`, which says what they are, and `outcomes` and `placed`, which write lines. Beside
-//! it, [`match_run`] tells whether one pattern matches one subject.
+//! that was placed, and a last line; [`script_run`] reads the script first. Beside it, [`match_run`] tells whether one pattern
+//! matches one subject. In reading order: `player`, which asks for the events of each step and makes them, and `output`, which
+//! writes lines.
 #![tactic(auto)]
 
-mod asks;
 mod faults;
-mod matching;
-mod outcomes;
 mod output;
-mod placed;
 mod player;
-mod plays;
-mod running;
 
 pub use faults::{MatchFault, PlayFault, RunFault};
-pub use matching::match_run;
-pub use plays::play;
-pub use running::script_run;
+pub use output::match_run;
+pub use player::{play, script_run};

@@ -1,36 +1,207 @@
-//! The events of a step are made in the cluster, and a line is put for each.
+//! The events of a script are asked for and made in the cluster, and a line is put for each; a script is read and played.
 
-ghost use Rattle.std.specs.Prelude.{◌≡◌, IfOk, Some, []};
+ghost use Rattle.world_law.specs.Events as of_world;
+ghost use Rattle.node_law.specs.Events as of_node;
+ghost use Rattle.node_law.specs.declared.events.ConnEvent.TheVariants as for_conn;
+ghost use Rattle.std.specs.Prelude.{◌≡◌, IfOk, Some, [], length, OnErr};
+ghost use Rattle.std.specs.List.{position};
+ghost use Rattle.std.specs.Str.{bytes_eq};
+ghost use Rattle.node_core.specs.InCode.{own_event_of};
+ghost use Rattle.subj.specs.Servers.{place_in};
+ghost use Rattle.mesh_script.specs.Asks.{once as asked_once, act_asks, session_in as session_told, step_asks, dial_asks, accept_asks, info_asks, connect_asks, next_frame as frame_after, steps_ask};
+ghost use Rattle.mesh_script.specs.Playing.{asks_of, Makes, AsksOne, Finishes, first_standing, GoesOn, ArePlayedSafely};
 ghost use Rattle.cluster_world.specs.InCode.{event_of, outcome_of};
-ghost use Rattle.mesh_script.specs.Asks.{once as asked_once, session_in as session_told, step_asks, dial_asks, accept_asks, info_asks, connect_asks, next_frame as frame_after};
-ghost use Rattle.mesh_script.specs.Playing.{Makes, AsksOne, Finishes, asks_of};
-ghost use Rattle.mesh_script.specs.Played.{CountsWrites};
+ghost use Rattle.mesh_script.specs.Played.{CountsWrites, Plays, cluster_of};
+ghost use Rattle.wire_cut.specs.Flow.{Gains};
+ghost use Rattle.mesh_script.specs.Runs.{RunsScript, CountsReads, CountsFailedWrites, HasRead, HasReadSome, ReadsAway, CountsFailedReads, broken_by};
 
-use crate::asks::{Asked, asked_by, place_of};
-use crate::faults::PlayFault;
-use crate::outcomes::put_line;
-use crate::output::Output;
-use crate::placed::{Known, put_end, put_placements};
+use crate::faults::{PlayFault, RunFault};
+use crate::output::{Known, Output, put_end, put_line, put_placements, write_refusal};
 use claim_race::Race;
 use cluster_world::{Event, Outcome, World};
-use node_core::{Answer, OwnEvent};
+use node_core::{Answer, ConnEvent, OwnEvent, ShardWork};
 use route_session::SessionId;
-use script_form::Step;
+use script_form::{Act, Script, Step};
 use std::alloc::{AllocError, Global};
 use std::marker::Model;
 use sub_table::SubTable;
-use subj::NodeId;
-use wire_cut::Sink;
+use subj::{ConnId, Failure, Key, NodeId, Pub, SCRIPT_BYTES, Sid};
+use wire_cut::{Sink, Source};
+
+/// What a step asks of the cluster: one event, or a join.
+#[derive(Drop)]
+enum Asked {
+    Event(Event),
+    /// The servers at these places: the one that dials, and the one that is dialed.
+    Join(usize, usize),
+}
+
+/// The place of the server of this name, or None where none has it.
+fn listed_place(names: &[NodeId], name: NodeId) -> Option<usize>
+    ensures { result ≡ position (λ other. bytes_eq other name) names.now }
+{
+    names.iter().position(|other| other.bytes() == name.bytes())
+}
+
+/// The place of the server of this name; of a name that is not listed, the number of names.
+fn place_of(names: &[NodeId], name: NodeId) -> usize
+    ensures { result ≡ place_in name names.now }
+{
+    match listed_place(names, name) {
+        Some(place) => place,
+        None => names.len(),
+    }
+}
+
+fn own(node: usize, event: OwnEvent) -> Asked
+    ensures { asks_of result ≡ asked_once (of_world.At node (own_event_of event)) }
+{
+    Asked::Event(Event::At { node, event })
+}
+
+fn of_conn(node: usize, conn: ConnId, event: ConnEvent) -> Asked
+    ensures { asks_of result ≡ asked_once (of_world.At node (of_node.OfConn conn event)) }
+{
+    own(node, OwnEvent::OfConn { conn, event })
+}
+
+fn at_shard(node: usize, shard: u64, work: ShardWork) -> Asked
+    ensures { asks_of result ≡ asked_once (of_world.At node (of_node.AtShard shard work)) }
+{
+    own(node, OwnEvent::AtShard { shard, work })
+}
+
+fn subscribe(
+    alloc: Global,
+    node: usize,
+    conn: ConnId,
+    key: &Key,
+    sid: &Sid,
+) -> Result<Asked, AllocError>
+    ensures { IfOk result (λ asked. asks_of asked ≡ asked_once (of_world.At node (of_node.OfConn conn (for_conn.Subscribe key.now sid.now)))) }
+{
+    let key = key.try_clone(alloc)?;
+    let sid = sid.try_clone(alloc)?;
+    Ok(of_conn(node, conn, ConnEvent::Subscribe { key, sid }))
+}
+
+fn unsubscribe(
+    alloc: Global,
+    node: usize,
+    conn: ConnId,
+    sid: &Sid,
+    max: Option<u64>,
+) -> Result<Asked, AllocError>
+    ensures { IfOk result (λ asked. asks_of asked ≡ asked_once (of_world.At node (of_node.OfConn conn (for_conn.Unsubscribe sid.now max)))) }
+{
+    let sid = sid.try_clone(alloc)?;
+    Ok(of_conn(node, conn, ConnEvent::Unsubscribe { sid, max }))
+}
+
+fn publish(node: usize, conn: ConnId, said: &Pub, word: u64) -> Result<Asked, AllocError>
+    ensures { IfOk result (λ asked. asks_of asked ≡ asked_once (of_world.At node (of_node.Publish (record { conn = conn; said = said.now; word = word })))) }
+{
+    let said = Pub {
+        message: said.message.try_clone()?,
+        echo: said.echo,
+    };
+    Ok(own(node, OwnEvent::Publish { conn, said, word }))
+}
+
+fn take_entries(node: usize, conn: ConnId, count: u64) -> Asked
+    ensures { asks_of result ≡ asked_once (of_world.At node (of_node.OfConn conn (for_conn.Take count))) }
+{
+    let count = count as usize;
+    of_conn(node, conn, ConnEvent::Take { count })
+}
+
+fn receive(node: usize, frame: u64) -> Asked
+    ensures { asks_of result ≡ asked_once (of_world.Receive node frame) }
+{
+    let frame = frame as usize;
+    Asked::Event(Event::Receive { node, frame })
+}
+
+fn on_info(node: usize, session: u64, frame: u64) -> Asked
+    ensures { asks_of result ≡ asked_once (of_world.OnInfo node session frame) }
+{
+    Asked::Event(Event::OnInfo {
+        node,
+        session: SessionId::new(session),
+        frame: frame as usize,
+    })
+}
+
+fn on_connect(node: usize, session: u64, frame: u64) -> Asked
+    ensures { asks_of result ≡ asked_once (of_world.OnConnect node session frame) }
+{
+    Asked::Event(Event::OnConnect {
+        node,
+        session: SessionId::new(session),
+        frame: frame as usize,
+    })
+}
+
+fn cut(node: usize, session: u64) -> Asked
+    ensures { asks_of result ≡ asked_once (of_world.At node (of_node.CutSession session)) }
+{
+    let session = SessionId::new(session);
+    own(node, OwnEvent::CutSession { session })
+}
+
+fn dial(node: usize, peer: usize) -> Asked
+    ensures { asks_of result ≡ asked_once (of_world.At node (of_node.Dial peer)) }
+{
+    own(node, OwnEvent::Dial { peer })
+}
+
+fn take_frames(node: usize, peer: usize, count: u64) -> Asked
+    ensures { asks_of result ≡ asked_once (of_world.At node (of_node.TakeFrames peer count)) }
+{
+    let count = count as usize;
+    own(node, OwnEvent::TakeFrames { peer, count })
+}
+
+/// What is asked for this act of the server at the place.
+fn asked_by(alloc: Global, names: &[NodeId], node: usize, act: &Act) -> Result<Asked, AllocError>
+    ensures { IfOk result (λ asked. asks_of asked ≡ act_asks names.now node act.now) }
+{
+    match act {
+        Act::Start { inc } => Ok(Asked::Event(Event::Start { node, inc: *inc })),
+        Act::Stop => Ok(Asked::Event(Event::Stop { node })),
+        Act::Attach { shard } => Ok(at_shard(node, *shard, ShardWork::Attach)),
+        Act::Sub { conn, key, sid } => subscribe(alloc, node, *conn, key, sid),
+        Act::Unsub { conn, sid, max } => unsubscribe(alloc, node, *conn, sid, *max),
+        Act::Detach { conn } => Ok(of_conn(node, *conn, ConnEvent::Detach)),
+        Act::Publish { conn, said, word } => publish(node, *conn, said, *word),
+        Act::Receive { frame } => Ok(receive(node, *frame)),
+        Act::Collect { shard } => Ok(own(node, OwnEvent::Collect { shard: *shard })),
+        Act::Begin { shard } => Ok(at_shard(node, *shard, ShardWork::Begin)),
+        Act::End { shard } => Ok(at_shard(node, *shard, ShardWork::End)),
+        Act::DropJob { shard } => Ok(at_shard(node, *shard, ShardWork::DropJob)),
+        Act::Claim { shard, index } => {
+            Ok(at_shard(node, *shard, ShardWork::Claim { index: *index }))
+        }
+        Act::Dial { peer } => Ok(dial(node, place_of(names, *peer))),
+        Act::Accept => Ok(own(node, OwnEvent::Accept)),
+        Act::Info { session, frame } => Ok(on_info(node, *session, *frame)),
+        Act::Connect { session, frame } => Ok(on_connect(node, *session, *frame)),
+        Act::Cut { session } => Ok(cut(node, *session)),
+        Act::TakeEntries { conn, count } => Ok(take_entries(node, *conn, *count)),
+        Act::TakeFrames { peer, count } => { Ok(take_frames(node, place_of(names, *peer), *count)) }
+        Act::Join { peer } => Ok(Asked::Join(node, place_of(names, *peer))),
+    }
+}
 
 /// A cluster, how many events were made in it, and what stands to be written of them.
 ///
 /// Seen as these.
 #[derive(Drop)]
-pub(crate) struct Player<T: SubTable, R: Race> {
+struct Player<T: SubTable, R: Race> {
     alloc: Global,
-    pub(crate) world: World<T, R>,
-    pub(crate) number: u64,
-    pub(crate) output: Output,
+    world: World<T, R>,
+    number: u64,
+    output: Output,
 }
 
 impl<T: SubTable, R: Race> Model for Player<T, R> {
@@ -60,7 +231,7 @@ fn session_in(outcome: &Outcome) -> Option<SessionId>
 
 impl<T: SubTable, R: Race> Player<T, R> {
     /// No event was made in the cluster.
-    pub(crate) fn new(alloc: Global, world: World<T, R>) -> Player<T, R>
+    fn new(alloc: Global, world: World<T, R>) -> Player<T, R>
         ensures { result ≡ record { cluster = world.cluster; world = world.world; number = 0; text = [] } }
     {
         Player {
@@ -201,7 +372,7 @@ impl<T: SubTable, R: Race> Player<T, R> {
     }
 
     /// Makes the events of a step, of a server of these names.
-    pub(crate) fn make<S: Sink>(
+    fn make<S: Sink>(
         &mut self,
         names: &[NodeId],
         step: &Step,
@@ -216,11 +387,7 @@ impl<T: SubTable, R: Race> Player<T, R> {
     }
 
     /// Puts what was placed, and the last line, and writes all that stands to be written.
-    pub(crate) fn finish<S: Sink>(
-        &mut self,
-        names: &[NodeId],
-        sink: &mut S,
-    ) -> Result<(), PlayFault>
+    fn finish<S: Sink>(&mut self, names: &[NodeId], sink: &mut S) -> Result<(), PlayFault>
         ensures text { Finishes result names.now self.old (S.written sink.old) (S.written sink.new) }
         ensures failures { CountsWrites result (S.failures sink.old) (S.failures sink.new) }
     {
@@ -230,5 +397,152 @@ impl<T: SubTable, R: Race> Player<T, R> {
         let count = put_placements(&mut self.output, known, placements, sink)?;
         put_end(&mut self.output, self.number, count)?;
         self.output.flush(sink)
+    }
+}
+
+/// Whatever was told of what a script asks, the rest can be told too: each event has a step in each world that a run
+/// reaches.
+fn plays_go_on()
+    ensures { GoesOn }
+{
+    world_law::each_event_goes_on()
+}
+
+/// Of each run of a script's events: the headline holds of the lists that its text is written of.
+fn plays_are_safe()
+    ensures { ArePlayedSafely }
+{
+    world_law::publications_are_placed_once();
+    world_law::names_are_unique();
+    world_law::echo_is_kept()
+}
+
+/// The cluster of a script, in which all servers are down.
+fn new_player<T: SubTable, R: Race>(
+    alloc: Global,
+    script: &Script,
+) -> Result<Player<T, R>, AllocError>
+    ensures { IfOk result (λ player. player ≡ first_standing (cluster_of script.now)) }
+{
+    let shards = script.shards();
+    let names = Vec::from_slice(alloc, script.names())?;
+    let Some(world) = World::new(alloc, names, shards)? else {
+        // the servers of a script are a cluster
+        unreachable!()
+    };
+    Ok(Player::new(alloc, world))
+}
+
+/// Makes the events of all steps.
+fn make_all<T: SubTable, R: Race, S: Sink>(
+    player: &mut Player<T, R>,
+    script: &Script,
+    sink: &mut S,
+) -> Result<(), PlayFault>
+    ensures makes { Makes result player.old (S.written sink.old) (steps_ask script.now.names script.now.steps) player.new (S.written sink.new) }
+    ensures failures { CountsWrites result (S.failures sink.old) (S.failures sink.new) }
+{
+    for step in script.steps() {
+        player.make(script.names(), step, sink)?;
+    }
+    Ok(())
+}
+
+/// Plays a script: makes its events in turn in a cluster in which all servers are down, over any table of
+/// subscriptions and any race, and writes a line for each, then one for each message that was placed, and a last line.
+/// (Profile.)
+///
+/// What is written is the text of a run of these events in the exact cluster; after a failed write, and where memory is
+/// wanting, a beginning of such a text. The headline holds of the lists that it is written of, as
+/// [`World::keeps_headline`] says.
+pub fn play<T: SubTable, R: Race, S: Sink>(
+    alloc: Global,
+    script: &Script,
+    sink: &mut S,
+) -> Result<(), PlayFault>
+    ensures text { Plays script.now result (S.written sink.old) (S.written sink.new) }
+    ensures failures { CountsWrites result (S.failures sink.old) (S.failures sink.new) }
+{
+    plays_go_on();
+    plays_are_safe();
+    let _many = script.shards();
+    let mut player = new_player::<T, R>(alloc, script)?;
+    make_all(&mut player, script, sink)?;
+    player.finish(script.names(), sink)
+}
+
+/// How many bytes are read at once at most.
+const CHUNK: usize = 4_096;
+
+/// Reads bytes behind the others, at most as many as there is room for; none is the end.
+fn read_behind<S: Source>(
+    bytes: &mut Vec<u8>,
+    room: &mut [u8],
+    source: &mut S,
+) -> Result<usize, RunFault>
+    ensures ok { IfOk result (λ n. Gains bytes.old.items bytes.new.items (S.remaining source.old) (S.remaining source.new) (length room.old) n) }
+    ensures err { OnErr result (ReadsAway (S.remaining source.old) (S.remaining source.new) (length room.old)) }
+    ensures failures { CountsFailedReads result (S.failures source.old) (S.failures source.new) }
+{
+    let Ok(count) = source.read(room) else {
+        return Err(RunFault::Read);
+    };
+    if bytes.extend_from_slice(&room[..count]).is_err() {
+        return Err(RunFault::OutOfMemory);
+    }
+    Ok(count)
+}
+
+/// Reads all that is left, but at most one byte more than a script has.
+fn read_all<S: Source>(alloc: Global, source: &mut S) -> Result<Vec<u8>, RunFault>
+    ensures ok { IfOk result (λ bytes. HasRead bytes.items (S.remaining source.old) (S.remaining source.new)) }
+    ensures err { OnErr result (HasReadSome (S.remaining source.old) (S.remaining source.new)) }
+    ensures failures { CountsFailedReads result (S.failures source.old) (S.failures source.new) }
+{
+    let mut bytes = Vec::new(alloc);
+    let mut chunk = [0u8; CHUNK];
+    while bytes.len() <= SCRIPT_BYTES {
+        let most = CHUNK.min(SCRIPT_BYTES + 1 - bytes.len());
+        if read_behind(&mut bytes, &mut chunk[..most], source)? == 0 {
+            break;
+        }
+    }
+    Ok(bytes)
+}
+
+/// Why it broke off.
+fn run_fault(fault: PlayFault) -> RunFault
+    ensures { result ≡ broken_by fault }
+{
+    match fault {
+        PlayFault::Write => RunFault::Write,
+        PlayFault::OutOfMemory => RunFault::OutOfMemory,
+    }
+}
+
+/// Reads a script to the end of its bytes, or up to [`SCRIPT_BYTES`] and one of them, and plays it; of what is no
+/// script, writes `script refused` with the number of its refusal in one line. (Profile.)
+pub fn script_run<T: SubTable, R: Race, I: Source, O: Sink>(
+    alloc: Global,
+    source: &mut I,
+    sink: &mut O,
+) -> Result<(), RunFault>
+    ensures text { RunsScript result (I.remaining source.old) (I.remaining source.new) (O.written sink.old) (O.written sink.new) }
+    ensures reads { CountsReads result (I.failures source.old) (I.failures source.new) }
+    ensures writes { CountsFailedWrites result (O.failures sink.old) (O.failures sink.new) }
+{
+    let bytes = read_all(alloc, source)?;
+    match Script::read(alloc, &bytes) {
+        Ok(script) => match play::<T, R, O>(alloc, &script, sink) {
+            Ok(()) => Ok(()),
+            Err(fault) => Err(run_fault(fault)),
+        },
+        Err(Failure::Refused(error)) => {
+            match write_refusal(alloc, b"script", error.fault.number(), sink) {
+                Ok(()) => Err(RunFault::Refused(error)),
+                Err(fault) => Err(run_fault(fault)),
+            }
+        }
+        Err(Failure::OutOfMemory) => Err(RunFault::OutOfMemory),
     }
 }

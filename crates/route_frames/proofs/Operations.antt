@@ -8,8 +8,8 @@ use Rattle.std.proofs.lemmas.Slice.Eq.{bytes_eq-Decides}
 use Rattle.list_laws.specs.Lists.{is_empty}
 use Rattle.line_fields.specs.Fields.{is_blank, is_word}
 use Rattle.line_fields.specs.Spelling.{IsField}
-use Rattle.route_frames.specs.declared.operation.Operation.{Operation}
-use Rattle.route_frames.specs.declared.operation.Operation.TheVariants as operation
+use Rattle.route_frames.specs.declared.line_reading.Operation.{Operation}
+use Rattle.route_frames.specs.declared.line_reading.Operation.TheVariants as operation
 use Rattle.route_frames.specs.Operations.{word_of, operations, operation_among, operation_of}
 
 found_among_is_named : (among : List Operation) (field : List ℕ) (o : Operation) → operation_among among field ≡ Some o → is_word (word_of o) field ≡ true

@@ -12,8 +12,8 @@ use Rattle.route_values.specs.declared.frames.RouteFrame.TheVariants as frame
 use Rattle.route_values.specs.Records.{Info, Connect}
 use Rattle.route_values.specs.Frames.{Frame}
 use Rattle.route_values.specs.Snapshots.{line_end, snapshot_text}
-use Rattle.route_frames.specs.declared.operation.Operation.{Operation}
-use Rattle.route_frames.specs.declared.operation.Operation.TheVariants as operation
+use Rattle.route_frames.specs.declared.line_reading.Operation.{Operation}
+use Rattle.route_frames.specs.declared.line_reading.Operation.TheVariants as operation
 use Rattle.route_frames.specs.Operations.{word_of}
 
 -- ---- INFO and CONNECT

@@ -12,10 +12,10 @@ use Rattle.subj.specs.declared.limits.TheConstants.{MAX_INCARNATION, MAX_COUNTER
 use Rattle.line_fields.specs.Fields.{line_fields, number_of}
 use Rattle.route_frames.specs.declared.faults.RouteFault.{RouteFault}
 use Rattle.route_frames.specs.declared.faults.RouteFault.TheVariants.{UnknownOp, BadArgs, BadNumber, TooManyQueues}
-use Rattle.route_frames.specs.declared.common.TheConstants.{INCARNATION_DIGITS, NUMBER_DIGITS}
+use Rattle.route_frames.specs.declared.line_reading.TheConstants.{INCARNATION_DIGITS, NUMBER_DIGITS}
 use Rattle.route_frames.specs.declared.line_reading.TheConstants.{WEIGHT_DIGITS, SIZE_DIGITS}
-use Rattle.route_frames.specs.declared.operation.Operation.{Operation}
-use Rattle.route_frames.specs.declared.operation.Operation.TheVariants as operation
+use Rattle.route_frames.specs.declared.line_reading.Operation.{Operation}
+use Rattle.route_frames.specs.declared.line_reading.Operation.TheVariants as operation
 use Rattle.route_frames.specs.Operations.{operation_of}
 use Rattle.route_frames.specs.CommonFields.{CommonFields, common_fields}
 use Rattle.route_frames.specs.Arguments.{PlusFields, MinusFields, MessageFields, plus_fields, minus_fields, snapshot_field, message_fields}

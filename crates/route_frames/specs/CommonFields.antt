@@ -6,9 +6,9 @@ use Rattle.subj.specs.declared.faults.NameFault.{NameFault}
 use Rattle.subj.specs.Numbers.{incarnation_of}
 use Rattle.line_fields.specs.Fields.{number_of}
 use Rattle.route_frames.specs.declared.faults.RouteFault.TheVariants.{BadArgs, BadNumber}
-use Rattle.route_frames.specs.declared.common.TheConstants.{INCARNATION_DIGITS, NUMBER_DIGITS}
-use Rattle.route_frames.specs.declared.common.Numbers.{Numbers}
-use Rattle.route_frames.specs.declared.common.Digits.{Digits}
+use Rattle.route_frames.specs.declared.line_reading.TheConstants.{INCARNATION_DIGITS, NUMBER_DIGITS}
+use Rattle.route_frames.specs.declared.line_reading.Numbers.{Numbers}
+use Rattle.route_frames.specs.declared.line_reading.Digits.{Digits}
 use Rattle.route_frames.specs.Meaning.{Meaning, ◌>>=◌}
 
 pub record CommonFields : Type 0 where

@@ -12,14 +12,14 @@ use Rattle.route_frames.specs.declared.faults.RouteFault.TheVariants.{BadArgs}
 use Rattle.subj.specs.declared.failures.Failure.{Failure}
 use Rattle.subj.specs.declared.failures.Failure.TheVariants as failure
 use Rattle.route_frames.specs.declared.faults.RouteFault.{RouteFault}
-use Rattle.route_frames.specs.declared.common.Numbers.{Numbers}
-use Rattle.route_frames.specs.declared.lines.LineBody.{LineBody}
-use Rattle.route_frames.specs.declared.lines.LineBody.TheVariants as body
-use Rattle.route_frames.specs.declared.lines.NumberedLine.{NumberedLine}
-use Rattle.route_frames.specs.declared.lines.RouteLine.{RouteLine}
-use Rattle.route_frames.specs.declared.lines.RouteLine.TheVariants as line
-use Rattle.route_frames.specs.declared.lines.Unjoined.{Unjoined}
-use Rattle.route_frames.specs.declared.lines.Unjoined.TheVariants.{Refused, OutOfMemory}
+use Rattle.route_frames.specs.declared.line_reading.Numbers.{Numbers}
+use Rattle.route_frames.specs.declared.reading.LineBody.{LineBody}
+use Rattle.route_frames.specs.declared.reading.LineBody.TheVariants as body
+use Rattle.route_frames.specs.declared.reading.NumberedLine.{NumberedLine}
+use Rattle.route_frames.specs.declared.reading.RouteLine.{RouteLine}
+use Rattle.route_frames.specs.declared.reading.RouteLine.TheVariants as line
+use Rattle.route_frames.specs.declared.reading.Unjoined.{Unjoined}
+use Rattle.route_frames.specs.declared.reading.Unjoined.TheVariants.{Refused, OutOfMemory}
 use Rattle.route_frames.specs.Meaning.{Meaning, ◌>>=◌}
 use Rattle.route_frames.specs.Lines.{announced_size, line_meaning}
 use Rattle.route_frames.specs.Operations.{is_json_line}

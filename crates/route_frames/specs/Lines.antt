@@ -4,18 +4,18 @@ use Rattle.std.specs.Prelude.{ℕ, List, [], ◌∷◌, length, drop, Option, So
 use Rattle.std.specs.Option.{ok_or}
 use Rattle.line_fields.specs.Fields.{line_fields}
 use Rattle.route_frames.specs.declared.faults.RouteFault.TheVariants.{UnknownOp, BadArgs}
-use Rattle.route_frames.specs.declared.operation.Operation.{Operation}
-use Rattle.route_frames.specs.declared.operation.Operation.TheVariants as operation
-use Rattle.route_frames.specs.declared.lines.NumberedLine.{NumberedLine}
-use Rattle.route_frames.specs.declared.lines.RouteLine.{RouteLine}
-use Rattle.route_frames.specs.declared.lines.RouteLine.TheVariants.{Info, Connect, Numbered}
+use Rattle.route_frames.specs.declared.line_reading.Operation.{Operation}
+use Rattle.route_frames.specs.declared.line_reading.Operation.TheVariants as operation
+use Rattle.route_frames.specs.declared.reading.NumberedLine.{NumberedLine}
+use Rattle.route_frames.specs.declared.reading.RouteLine.{RouteLine}
+use Rattle.route_frames.specs.declared.reading.RouteLine.TheVariants.{Info, Connect, Numbered}
 use Rattle.route_frames.specs.Meaning.{Meaning, ◌>>=◌}
 use Rattle.route_frames.specs.Operations.{operation_of}
 use Rattle.route_frames.specs.CommonFields.{CommonFields, common_fields}
 use Rattle.route_frames.specs.NumberedLines.{plus_line, minus_line, snapshot_line, message_line}
 use Rattle.route_frames.specs.Greetings.{info_of, connect_text_of}
-use Rattle.route_frames.specs.declared.lines.LineBody.{LineBody}
-use Rattle.route_frames.specs.declared.lines.LineBody.TheVariants.{Plus, Minus, Snapshot, Msg}
+use Rattle.route_frames.specs.declared.reading.LineBody.{LineBody}
+use Rattle.route_frames.specs.declared.reading.LineBody.TheVariants.{Plus, Minus, Snapshot, Msg}
 
 -- the line of a numbered frame, by what stands behind its common fields
 abbrev pub line_of_fields : (CommonFields → List (List ℕ) → Meaning NumberedLine) → List (List ℕ) → Meaning RouteLine

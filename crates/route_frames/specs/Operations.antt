@@ -1,8 +1,8 @@
 -- The operations of a route.
 use Rattle.std.specs.Prelude.{ℕ, Bool, true, false, List, [], ◌∷◌, codes, Option, Some, None, if◌then◌else◌}
 use Rattle.line_fields.specs.Fields.{is_word, line_fields}
-use Rattle.route_frames.specs.declared.operation.Operation.{Operation}
-use Rattle.route_frames.specs.declared.operation.Operation.TheVariants.{Info, Connect, Plus, Minus, Snapshot, Msg}
+use Rattle.route_frames.specs.declared.line_reading.Operation.{Operation}
+use Rattle.route_frames.specs.declared.line_reading.Operation.TheVariants.{Info, Connect, Plus, Minus, Snapshot, Msg}
 
 -- NATS documentation, "Cluster Protocol"; `RSS` is this project's own
 abbrev pub word_of : Operation → List ℕ

@@ -6,7 +6,7 @@ use Rattle.subj.specs.declared.failures.Failure.TheVariants.{Refused, OutOfMemor
 use Rattle.route_values.specs.declared.frames.RouteFrame.{RouteFrame}
 use Rattle.route_frames.specs.declared.faults.RouteFault.{RouteFault}
 use Rattle.route_frames.specs.declared.faults.RouteFault.TheVariants.{BadArgs}
-use Rattle.route_frames.specs.declared.lines.RouteLine.{RouteLine}
+use Rattle.route_frames.specs.declared.reading.RouteLine.{RouteLine}
 use Rattle.route_frames.specs.Lines.{announced_size}
 use Rattle.route_frames.specs.Spelling.{SpellsLine, Spells}
 use Rattle.route_frames.specs.Causes.{line_cause}

@@ -16,9 +16,9 @@ use Rattle.route_values.specs.Records.{Info, Connect}
 use Rattle.route_values.specs.Frames.{Frame}
 use Rattle.route_values.specs.Snapshots.{Weighted, line_end}
 use Rattle.route_values.specs.Valid.{IsRouteFrame}
-use Rattle.route_frames.specs.declared.common.TheConstants.{INCARNATION_DIGITS, NUMBER_DIGITS}
+use Rattle.route_frames.specs.declared.line_reading.TheConstants.{INCARNATION_DIGITS, NUMBER_DIGITS}
 use Rattle.route_frames.specs.declared.line_reading.TheConstants.{WEIGHT_DIGITS, SIZE_DIGITS}
-use Rattle.route_frames.specs.declared.operation.Operation.TheVariants as operation
+use Rattle.route_frames.specs.declared.line_reading.Operation.TheVariants as operation
 use Rattle.route_frames.specs.Operations.{word_of}
 use Rattle.route_frames.specs.Greetings.{json_of}
 use Rattle.route_frames.specs.Canonical.{number_data, operation_word, form_fields}

@@ -10,24 +10,24 @@ use Rattle.route_values.specs.declared.frames.RouteFrame.{RouteFrame}
 use Rattle.route_frames.specs.Decoding.{frame_of_line}
 use Rattle.subj.specs.declared.keys.Key.{Key}
 use Rattle.route_values.specs.Snapshots.{Weighted}
-use Rattle.route_frames.specs.declared.lines.LineBody.{LineBody}
-use Rattle.route_frames.specs.declared.lines.LineBody.TheVariants as body
-use Rattle.route_frames.specs.declared.lines.NumberedLine.{NumberedLine}
-use Rattle.route_frames.specs.declared.lines.RouteLine.{RouteLine}
-use Rattle.route_frames.specs.declared.lines.RouteLine.TheVariants as line
-use Rattle.route_frames.specs.declared.texts.KeyText.{KeyText}
-use Rattle.route_frames.specs.declared.texts.WeightedText.{WeightedText}
-use Rattle.route_frames.specs.declared.texts.BodyText.{BodyText}
-use Rattle.route_frames.specs.declared.texts.BodyText.TheVariants.{Plus, Minus, Snapshot, Msg}
-use Rattle.route_frames.specs.declared.texts.NumberedText.{NumberedText}
-use Rattle.route_frames.specs.declared.texts.LineText.{LineText}
-use Rattle.route_frames.specs.declared.texts.LineText.TheVariants.{Info, Connect, Numbered}
-use Rattle.route_frames.specs.declared.common.Common.{Common}
+use Rattle.route_frames.specs.declared.reading.LineBody.{LineBody}
+use Rattle.route_frames.specs.declared.reading.LineBody.TheVariants as body
+use Rattle.route_frames.specs.declared.reading.NumberedLine.{NumberedLine}
+use Rattle.route_frames.specs.declared.reading.RouteLine.{RouteLine}
+use Rattle.route_frames.specs.declared.reading.RouteLine.TheVariants as line
+use Rattle.route_frames.specs.declared.reading.KeyText.{KeyText}
+use Rattle.route_frames.specs.declared.reading.WeightedText.{WeightedText}
+use Rattle.route_frames.specs.declared.reading.BodyText.{BodyText}
+use Rattle.route_frames.specs.declared.reading.BodyText.TheVariants.{Plus, Minus, Snapshot, Msg}
+use Rattle.route_frames.specs.declared.reading.NumberedText.{NumberedText}
+use Rattle.route_frames.specs.declared.reading.LineText.{LineText}
+use Rattle.route_frames.specs.declared.reading.LineText.TheVariants.{Info, Connect, Numbered}
+use Rattle.route_frames.specs.declared.line_reading.Common.{Common}
 use Rattle.route_frames.specs.CommonFields.{CommonFields}
 use Rattle.line_fields.specs.Fields.{fields}
-use Rattle.route_frames.specs.declared.arguments.Form.{Form}
-use Rattle.route_frames.specs.declared.arguments.MessageFields.{MessageFields}
-use Rattle.route_frames.specs.declared.names.Names.{Names}
+use Rattle.route_frames.specs.declared.line_reading.Form.{Form}
+use Rattle.route_frames.specs.declared.line_reading.MessageFields.{MessageFields}
+use Rattle.route_frames.specs.declared.line_reading.Names.{Names}
 use Rattle.route_frames.specs.Arguments as arguments
 
 -- ---- fields

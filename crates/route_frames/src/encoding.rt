@@ -9,8 +9,7 @@ ghost use Rattle.route_values.specs.Snapshots.{snapshot_text, line_end};
 ghost use Rattle.route_frames.specs.Canonical.{info_json, connect_json, fields_with_spaces, operation_word, common_of, form_fields, body_fields, numbered_line, canonical_line, frame_bytes};
 ghost use Rattle.std.specs.Option.{option_copied};
 
-use crate::arguments::{NAMES_MARK, REPLY_MARK};
-use crate::common::ACCOUNT;
+use crate::line_reading::{ACCOUNT, NAMES_MARK, REPLY_MARK};
 use itoa::Buffer;
 use line_fields::{CR_LF, append_reserved};
 use route_values::{

@@ -8,24 +8,15 @@
 //! encode(&frame, &mut out)?;
 //! ```
 //!
-//! In reading order: `operation`, `common`, `arguments` and `names` split a line, `texts` is a line as it stands there, and
-//! `line_reading` judges it; `lines` keeps what it says until its payload comes. `greetings` and `snapshot_reading` read the rest,
-//! `reading` reads whole frames, and `encoding` writes them.
+//! In reading order: `line_reading` splits a line and judges it as it stands there, the lines of snapshots too; `reading` copies
+//! what a line says, keeps it until its payload comes, and reads whole frames; `encoding` writes them; `faults` has the refusals.
 #![tactic(auto)]
 
-mod arguments;
-mod common;
 mod encoding;
 mod faults;
-mod greetings;
 mod laws;
 mod line_reading;
-mod lines;
-mod names;
-mod operation;
 mod reading;
-mod snapshot_reading;
-mod texts;
 
 pub use encoding::encode;
 pub use faults::RouteFault;
@@ -33,8 +24,7 @@ pub use laws::{
     canonical_is_read_again, spelling_begins_no_other, spelt_is_what_is_read,
     written_is_read_in_any_parts,
 };
-pub use lines::{NumberedLine, RouteLine, Unjoined};
-pub use reading::{decode, payload_size};
+pub use reading::{NumberedLine, RouteLine, Unjoined, decode, payload_size};
 pub use route_values::{
     Body, Numbered, RouteConnect, RouteFrame, RouteInfo, SnapshotKeys, WeightedKey,
 };

@@ -1,26 +1,428 @@
-//! Judging the lines of numbered frames, without memory.
+//! Judging the lines of numbered frames and the texts of snapshots, without memory: the operations, the five fields behind them,
+//! the fields behind those, and what they say.
 
-ghost use Rattle.std.specs.Prelude.{◌≡◌};
+ghost use Rattle.std.specs.Prelude.{◌≡◌, ◌≤◌, None, Some, MatchOption, IfOk, ◌∷◌, [], length, option_map, true, nat_eq, position};
+ghost use Rattle.route_frames.specs.Operations.{operation_of};
+ghost use Rattle.std.specs.Option.{ok_or, option_copied};
+ghost use Rattle.line_fields.specs.Fields.{fields};
+ghost use Rattle.subj.specs.Names.{node_name_fault, pattern_fault, subject_fault, queue_name_fault};
+ghost use Rattle.route_frames.specs.CommonFields.{CommonFields, common_fields, digits_of, within as in_range, name_of, numbers_of, numbers_in_range};
+ghost use Rattle.route_frames.specs.TextViews.{names_view, common_view, message_view, key_view, weighted_view, numbered_view};
+ghost use Rattle.route_frames.specs.Arguments.{plus_fields, minus_fields, snapshot_field, form_of, form_by_mark as marked_form, message_fields as fields_of_message, split_last as last_split_off};
 ghost use Rattle.std.specs.List.{list_all};
-ghost use Rattle.subj.specs.Names.{pattern_fault, subject_fault, queue_name_fault};
 ghost use Rattle.subj.specs.QueueNames.{is_before_first as before_first, are_rising as rising};
 ghost use Rattle.route_values.specs.Snapshots.{weighted_key};
-ghost use Rattle.std.specs.Option.{option_copied, ok_or};
-ghost use Rattle.line_fields.specs.Fields.{fields};
 ghost use Rattle.route_frames.specs.declared.faults.RouteFault.TheVariants.{BadArgs};
-ghost use Rattle.route_frames.specs.Meaning.{Says, Checks};
-ghost use Rattle.route_frames.specs.CommonFields.{name_of};
-ghost use Rattle.route_frames.specs.TextViews.{common_view, names_view, message_view, key_view, weighted_view, numbered_view};
+ghost use Rattle.route_frames.specs.Meaning.{Says, Checks, RouteMeans, MeansBy};
 ghost use Rattle.route_frames.specs.NumberedLines.{account_of, optional as optionally, key_of, queue_names_in, is_queue_name, weight_digits, plus_line, minus_line, snapshot_line, message_line, message_fields_in};
+ghost use Rattle.route_frames.specs.SnapshotTexts.{pieces, plain_key, queue_key, weighted_of, before_cr as before_the_cr, key_line_of, keys_in, snapshot_in};
 
-use crate::arguments::{MessageFields, MinusFields, PlusFields, size_alone};
-use crate::common::{ACCOUNT, Common, node, spelt_number, within};
 use crate::faults::RouteFault;
-use crate::names::Names;
-use crate::texts::{BodyText, KeyText, NumberedText, WeightedText};
+use crate::reading::{BodyText, KeyText, NumberedText, WeightedText};
+use line_fields::{MAX_DIGITS, is_word, read_digits, split_field};
+use route_values::{SnapshotKeys, WeightedKey};
+use std::alloc::Global;
 use subj::{
-    MAX_PAYLOAD, MAX_QUEUE_NAMES, MAX_SNAPSHOT, MAX_WEIGHT, NameFault, Pattern, QueueName, Subject,
+    Failure, Incarnation, MAX_COUNTER, MAX_PAYLOAD, MAX_QUEUE_NAMES, MAX_SNAPSHOT, MAX_WEIGHT,
+    NameFault, NodeId, Pattern, QueueName, Subject,
 };
+
+/// The first field of a route's line. (NATS documentation, "Cluster Protocol"; snapshots: profile.)
+#[derive(Clone, Copy)]
+pub(crate) enum Operation {
+    Info,
+    Connect,
+    Plus,
+    Minus,
+    Snapshot,
+    Msg,
+}
+
+impl Operation {
+    /// The operation that a field names. The most frequent one is tried first.
+    pub(crate) fn read(field: &[u8]) -> Option<Operation>
+        ensures { result ≡ operation_of field.now }
+    {
+        if is_word(b"RMSG", field) {
+            return Some(Operation::Msg);
+        }
+        if is_word(b"RS+", field) {
+            return Some(Operation::Plus);
+        }
+        if is_word(b"RS-", field) {
+            return Some(Operation::Minus);
+        }
+        if is_word(b"RSS", field) {
+            return Some(Operation::Snapshot);
+        }
+        if is_word(b"INFO", field) {
+            return Some(Operation::Info);
+        }
+        if is_word(b"CONNECT", field) {
+            return Some(Operation::Connect);
+        }
+        None
+    }
+}
+
+/// The most digits of an incarnation. (Profile.)
+pub(crate) const INCARNATION_DIGITS: usize = 16;
+
+/// The most digits of the number of a frame. (Profile.)
+pub(crate) const NUMBER_DIGITS: usize = 15;
+
+/// The one account that there is. (Profile.)
+pub(crate) const ACCOUNT: &[u8] = b"$G";
+
+/// The number that a field spells.
+pub(crate) fn spelt_number(field: &[u8], most: usize) -> Result<u64, RouteFault>
+    requires { most ≤ MAX_DIGITS }
+    ensures { result ≡ digits_of most field.now }
+{
+    read_digits(field, most).ok_or(RouteFault::BadArgs)
+}
+
+/// A number that has to be in a range.
+pub(crate) fn within(least: u64, most: u64, number: u64) -> Result<u64, RouteFault>
+    ensures { result ≡ in_range least most number }
+{
+    if least <= number && number <= most {
+        Ok(number)
+    } else {
+        Err(RouteFault::BadNumber)
+    }
+}
+
+/// The server's name that a field is.
+pub(crate) fn node(field: &[u8]) -> Result<NodeId, RouteFault>
+    ensures means { result ≡ name_of node_name_fault field.now }
+    ensures same { IfOk result (λ node. node ≡ field.now) }
+{
+    match NodeId::read(field) {
+        Ok(node) => Ok(node),
+        Err(_) => Err(RouteFault::BadArgs),
+    }
+}
+
+/// The numbers of the common fields, as they are spelt.
+#[derive(Clone, Copy)]
+pub(crate) struct Digits {
+    pub(crate) inc: u64,
+    pub(crate) to_inc: u64,
+    pub(crate) number: u64,
+}
+
+/// The numbers of the common fields, in their ranges.
+#[derive(Clone, Copy)]
+pub(crate) struct Numbers {
+    pub(crate) inc: Incarnation,
+    pub(crate) to_inc: Incarnation,
+    pub(crate) number: u64,
+}
+
+impl Digits {
+    /// The same, where each is in its range; that of the frame's number begins with `least`.
+    #[tactic(auto, unfolding(crate::specs::CommonFields::numbers_in_range))]
+    pub(crate) fn in_range(self, least: u64) -> Result<Numbers, RouteFault>
+        ensures means { result ≡ numbers_in_range least self }
+        ensures same { IfOk result (λ numbers. numbers ≡ record { inc = self.inc; to_inc = self.to_inc; number = self.number }) }
+    {
+        let inc = Incarnation::new(self.inc).ok_or(RouteFault::BadNumber)?;
+        let to_inc = Incarnation::new(self.to_inc).ok_or(RouteFault::BadNumber)?;
+        let number = within(least, MAX_COUNTER, self.number)?;
+        Ok(Numbers {
+            inc,
+            to_inc,
+            number,
+        })
+    }
+}
+
+/// The five fields behind the operation of a numbered frame: who sends it, in which incarnation, to
+/// whom, in which incarnation, and the frame's number. (Profile.)
+#[derive(Clone, Copy)]
+pub(crate) struct Common<'a> {
+    pub(crate) from: &'a [u8],
+    pub(crate) inc: &'a [u8],
+    pub(crate) to: &'a [u8],
+    pub(crate) to_inc: &'a [u8],
+    pub(crate) number: &'a [u8],
+}
+
+impl<'a> Common<'a> {
+    ghost use Rattle.route_frames.specs.TextViews.{common_view};
+
+    /// The first five fields of a text, and what stands behind them, where there are so many.
+    pub(crate) fn read(text: &'a [u8]) -> Option<(Common<'a>, &'a [u8])>
+        ensures { MatchOption result (common_fields (fields text.now) ≡ None)
+            (λ read. common_fields (fields text.now) ≡ Some (common_view read.0, fields read.1.now)) }
+    {
+        let (from, behind) = split_field(text)?;
+        let (inc, behind) = split_field(behind)?;
+        let (to, behind) = split_field(behind)?;
+        let (to_inc, behind) = split_field(behind)?;
+        let (number, behind) = split_field(behind)?;
+        let common = Common {
+            from,
+            inc,
+            to,
+            to_inc,
+            number,
+        };
+        Some((common, behind))
+    }
+
+    /// The numbers that the fields spell.
+    #[tactic(auto, unfolding(crate::specs::CommonFields::numbers_of))]
+    pub(crate) fn digits(self) -> Result<Digits, RouteFault>
+        ensures { result ≡ numbers_of (common_view self.entry) }
+    {
+        let inc = spelt_number(self.inc, INCARNATION_DIGITS)?;
+        let to_inc = spelt_number(self.to_inc, INCARNATION_DIGITS)?;
+        let number = spelt_number(self.number, NUMBER_DIGITS)?;
+        Ok(Digits {
+            inc,
+            to_inc,
+            number,
+        })
+    }
+}
+
+/// The first so many fields of a text. They are found each time they are looked at, so that a line is
+/// judged without memory.
+#[derive(Clone, Copy)]
+pub(crate) struct Names<'a> {
+    pub(crate) text: &'a [u8],
+    pub(crate) count: usize,
+}
+
+impl<'a> Names<'a> {
+    pub(crate) fn none() -> Names<'a>
+        ensures { names_view result ≡ [] }
+    {
+        Names {
+            text: &[],
+            count: 0,
+        }
+    }
+
+    /// The first of them, and the others.
+    pub(crate) fn split_first(self) -> Option<(&'a [u8], Names<'a>)>
+        ensures { MatchOption result (names_view self.entry ≡ []) (λ split. names_view self.entry ≡ split.0.now ∷ names_view split.1) }
+    {
+        if self.count == 0 {
+            return None;
+        }
+        let (first, text) = split_field(self.text)?;
+        let others = Names {
+            text,
+            count: self.count - 1,
+        };
+        Some((first, others))
+    }
+
+    /// How many they are.
+    #[tactic(auto, using(crate::proofs::Meaning::Forms::few_names))]
+    pub(crate) fn len(self) -> usize
+        ensures { result ≡ length (names_view self.entry) }
+    {
+        let mut len = 0;
+        let mut rest = self;
+        while let Some((_, others)) = rest.split_first() {
+            len += 1;
+            rest = others;
+        }
+        len
+    }
+}
+
+/// What stands in front of queue names alone. (NATS documentation, "Cluster Protocol": `RMSG`.)
+pub(crate) const NAMES_MARK: &[u8] = b"|";
+
+/// What stands in front of a reply and queue names.
+pub(crate) const REPLY_MARK: &[u8] = b"+";
+
+/// What stands behind `RS+` and the common fields.
+#[derive(Clone, Copy)]
+pub(crate) struct PlusFields<'a> {
+    pub(crate) account: &'a [u8],
+    pub(crate) pattern: &'a [u8],
+    pub(crate) queue: Option<&'a [u8]>,
+    pub(crate) weight: Option<&'a [u8]>,
+}
+
+impl<'a> PlusFields<'a> {
+    /// The fields of a text, where these are two or four.
+    pub(crate) fn read(text: &'a [u8]) -> Option<PlusFields<'a>>
+        ensures { MatchOption result (plus_fields (fields text.now) ≡ None)
+            (λ f. plus_fields (fields text.now) ≡ Some (record { account = f.account.now; pattern = f.pattern.now; queue = option_copied f.queue; weight = option_copied f.weight })) }
+    {
+        let (account, behind) = split_field(text)?;
+        let (pattern, behind) = split_field(behind)?;
+        let Some((queue, behind)) = split_field(behind) else {
+            return Some(PlusFields {
+                account,
+                pattern,
+                queue: None,
+                weight: None,
+            });
+        };
+        let (weight, behind) = split_field(behind)?;
+        if split_field(behind).is_some() {
+            return None;
+        }
+        Some(PlusFields {
+            account,
+            pattern,
+            queue: Some(queue),
+            weight: Some(weight),
+        })
+    }
+}
+
+/// What stands behind `RS-` and the common fields.
+#[derive(Clone, Copy)]
+pub(crate) struct MinusFields<'a> {
+    pub(crate) account: &'a [u8],
+    pub(crate) pattern: &'a [u8],
+    pub(crate) queue: Option<&'a [u8]>,
+}
+
+impl<'a> MinusFields<'a> {
+    /// The fields of a text, where these are two or three.
+    pub(crate) fn read(text: &'a [u8]) -> Option<MinusFields<'a>>
+        ensures { MatchOption result (minus_fields (fields text.now) ≡ None)
+            (λ f. minus_fields (fields text.now) ≡ Some (record { account = f.account.now; pattern = f.pattern.now; queue = option_copied f.queue })) }
+    {
+        let (account, behind) = split_field(text)?;
+        let (pattern, behind) = split_field(behind)?;
+        let Some((queue, behind)) = split_field(behind) else {
+            return Some(MinusFields {
+                account,
+                pattern,
+                queue: None,
+            });
+        };
+        if split_field(behind).is_some() {
+            return None;
+        }
+        Some(MinusFields {
+            account,
+            pattern,
+            queue: Some(queue),
+        })
+    }
+}
+
+/// The one field of a text, where it has one: the size behind `RSS` and the common fields.
+pub(crate) fn size_alone(text: &[u8]) -> Option<&[u8]>
+    ensures { option_copied result ≡ snapshot_field (fields text.now) }
+{
+    let (size, behind) = split_field(text)?;
+    if split_field(behind).is_some() {
+        return None;
+    }
+    Some(size)
+}
+
+/// All fields of a text but the last, and the last.
+#[tactic(auto, using(crate::proofs::Meaning::Forms::last_at, crate::proofs::Meaning::Forms::drop_more, crate::proofs::Meaning::Forms::count_at, crate::proofs::Meaning::Forms::few_fields))]
+fn split_last(text: &[u8]) -> Option<(Names<'_>, &[u8])>
+    ensures { MatchOption result (last_split_off (fields text.now) ≡ None)
+        (λ split. last_split_off (fields text.now) ≡ Some (names_view split.0, split.1.now)) }
+{
+    let (mut last, mut rest) = split_field(text)?;
+    let mut count = 0;
+    while let Some((field, behind)) = split_field(rest) {
+        last = field;
+        rest = behind;
+        count += 1;
+    }
+    Some((Names { text, count }, last))
+}
+
+/// What stands behind the subject of an `RMSG`.
+#[derive(Clone, Copy)]
+pub(crate) struct Form<'a> {
+    pub(crate) reply: Option<&'a [u8]>,
+    pub(crate) names: Names<'a>,
+    pub(crate) size: &'a [u8],
+}
+
+impl<'a> Form<'a> {
+    ghost use Rattle.route_frames.specs.TextViews.{form_view};
+
+    /// The form of a message by its first field, those between, and its last.
+    fn of_mark(mark: &[u8], between: Names<'a>, size: &'a [u8]) -> Option<Form<'a>>
+        ensures { option_map form_view result ≡ marked_form mark.now (names_view between.entry) size.now }
+    {
+        if mark == NAMES_MARK {
+            return Some(Form {
+                reply: None,
+                names: between,
+                size,
+            });
+        }
+        if mark != REPLY_MARK {
+            return None;
+        }
+        let (reply, names) = between.split_first()?;
+        let _first = names.split_first()?;
+        Some(Form {
+            reply: Some(reply),
+            names,
+            size,
+        })
+    }
+
+    /// The form that the fields of a text have, where they have one.
+    pub(crate) fn read(text: &'a [u8]) -> Option<Form<'a>>
+        ensures { option_map form_view result ≡ form_of (fields text.now) }
+    {
+        let (first, behind) = split_field(text)?;
+        let Some((between, size)) = split_last(behind) else {
+            return Some(Form {
+                reply: None,
+                names: Names::none(),
+                size: first,
+            });
+        };
+        match between.split_first() {
+            None => Some(Form {
+                reply: Some(first),
+                names: Names::none(),
+                size,
+            }),
+            Some(_) => Form::of_mark(first, between, size),
+        }
+    }
+}
+
+/// What stands behind `RMSG` and the common fields.
+#[derive(Clone, Copy)]
+pub(crate) struct MessageFields<'a> {
+    pub(crate) account: &'a [u8],
+    pub(crate) subject: &'a [u8],
+    pub(crate) form: Form<'a>,
+}
+
+impl<'a> MessageFields<'a> {
+    ghost use Rattle.route_frames.specs.TextViews.{message_view};
+
+    /// The fields of a text, where their number is that of one of the forms.
+    pub(crate) fn read(text: &'a [u8]) -> Option<MessageFields<'a>>
+        ensures { option_map message_view result ≡ fields_of_message (fields text.now) }
+    {
+        let (account, behind) = split_field(text)?;
+        let (subject, behind) = split_field(behind)?;
+        let form = Form::read(behind)?;
+        Some(MessageFields {
+            account,
+            subject,
+            form,
+        })
+    }
+}
 
 /// The most digits of a weight. (Profile.)
 pub(crate) const WEIGHT_DIGITS: usize = 5;
@@ -28,7 +430,7 @@ pub(crate) const WEIGHT_DIGITS: usize = 5;
 /// The most digits of a size. (Profile.)
 pub(crate) const SIZE_DIGITS: usize = 10;
 
-fn account(field: &[u8]) -> Result<(), RouteFault>
+fn check_account(field: &[u8]) -> Result<(), RouteFault>
     ensures { result ≡ account_of field.now }
 {
     if field == ACCOUNT {
@@ -113,7 +515,7 @@ pub(crate) fn read_plus<'a>(
     let weight = weight(fields.weight)?;
     let _numbers = digits.in_range(1)?;
     let weight = within(1, MAX_WEIGHT, weight)?;
-    account(fields.account)?;
+    check_account(fields.account)?;
     let _from = node(common.from)?;
     let _to = node(common.to)?;
     let key = key(fields.pattern, fields.queue)?;
@@ -137,7 +539,7 @@ pub(crate) fn read_minus<'a>(
     let fields = MinusFields::read(text).ok_or(RouteFault::BadArgs)?;
     let digits = common.digits()?;
     let _numbers = digits.in_range(1)?;
-    account(fields.account)?;
+    check_account(fields.account)?;
     let _from = node(common.from)?;
     let _to = node(common.to)?;
     let key = key(fields.pattern, fields.queue)?;
@@ -246,7 +648,7 @@ pub(crate) fn read_message<'a>(
     let size = spelt_number(message.form.size, SIZE_DIGITS)?;
     let _numbers = digits.in_range(1)?;
     let size = within(0, MAX_PAYLOAD as u64, size)?;
-    account(message.account)?;
+    check_account(message.account)?;
     let _from = node(common.from)?;
     let _to = node(common.to)?;
     let subject = name(message.subject, Subject::fault(message.subject))?;
@@ -263,4 +665,112 @@ pub(crate) fn read_message<'a>(
             size,
         },
     })
+}
+
+fn first_of(text: &[u8], byte: u8) -> Option<usize>
+    ensures { result ≡ position (λ b. nat_eq b byte) text.now }
+{
+    text.iter().position(|b| *b == byte)
+}
+
+/// What stands before the first such byte of a text, and behind it.
+fn split_at_byte(text: &[u8], byte: u8) -> Option<(&[u8], &[u8])>
+    ensures { MatchOption result (pieces byte text.now ≡ text.now ∷ [])
+        (λ split. pieces byte text.now ≡ split.0.now ∷ pieces byte split.1.now) }
+{
+    let Some(place) = first_of(text, byte) else {
+        return None;
+    };
+    let (piece, _) = text.split_at(place);
+    let (_, behind) = text.split_at(place + 1);
+    Some((piece, behind))
+}
+
+#[tactic(auto, unfolding(crate::specs::SnapshotTexts::plain_key))]
+fn plain(pattern: &[u8]) -> Result<WeightedText<'_>, RouteFault>
+    ensures { Says weighted_view (plain_key pattern.now) result }
+{
+    let key = key(pattern, None)?;
+    weighted_text(key, 1)
+}
+
+#[tactic(auto, unfolding(crate::specs::SnapshotTexts::queue_key))]
+fn with_queue<'a>(
+    pattern: &'a [u8],
+    queue: &'a [u8],
+    weight: &[u8],
+) -> Result<WeightedText<'a>, RouteFault>
+    ensures { Says weighted_view (queue_key pattern.now queue.now weight.now) result }
+{
+    let weight = spelt_number(weight, WEIGHT_DIGITS)?;
+    let key = key(pattern, Some(queue))?;
+    weighted_text(key, weight)
+}
+
+/// The key of a line without its CR LF.
+fn read_weighted(line: &[u8]) -> Result<WeightedText<'_>, RouteFault>
+    ensures { Says weighted_view (weighted_of (pieces 32 line.now)) result }
+{
+    let Some((pattern, behind)) = split_at_byte(line, b' ') else {
+        return plain(line);
+    };
+    let Some((queue, weight)) = split_at_byte(behind, b' ') else {
+        return Err(RouteFault::BadArgs);
+    };
+    match split_at_byte(weight, b' ') {
+        None => with_queue(pattern, queue, weight),
+        Some(_) => Err(RouteFault::BadArgs),
+    }
+}
+
+/// What stands before the CR at the end.
+fn before_cr(text: &[u8]) -> Option<&[u8]>
+    ensures { option_copied result ≡ before_the_cr text.now }
+{
+    let (line, end) = text.split_at(text.len().saturating_sub(1));
+    if end == b"\r".as_slice() {
+        Some(line)
+    } else {
+        None
+    }
+}
+
+/// The key of a line with its CR.
+#[tactic(auto, unfolding(crate::specs::SnapshotTexts::key_line_of))]
+fn read_key_line(text: &[u8]) -> Result<WeightedText<'_>, RouteFault>
+    ensures { Says weighted_view (key_line_of text.now) result }
+{
+    let line = before_cr(text).ok_or(RouteFault::BadArgs)?;
+    read_weighted(line)
+}
+
+/// The keys of all lines of a text.
+fn read_keys(alloc: Global, text: &[u8]) -> Result<Vec<WeightedKey>, Failure<RouteFault>>
+    ensures { MeansBy (λ keys. keys.items) true (keys_in (pieces 10 text.now)) result }
+{
+    let mut keys = Vec::new(alloc);
+    let mut rest = text;
+    while let Some((line, behind)) = split_at_byte(rest, b'\n') {
+        let read = read_key_line(line)?;
+        let key = read.copy(alloc)?;
+        keys.push(key)?;
+        rest = behind;
+    }
+    if !rest.is_empty() {
+        return Err(Failure::Refused(RouteFault::BadArgs));
+    }
+    Ok(keys)
+}
+
+/// The keys of the text of a snapshot.
+#[tactic(auto, unfolding(crate::specs::SnapshotTexts::snapshot_in))]
+pub(crate) fn read_snapshot_keys(
+    alloc: Global,
+    text: &[u8],
+) -> Result<SnapshotKeys, Failure<RouteFault>>
+    ensures { RouteMeans true (snapshot_in text.now) result }
+{
+    let keys = read_keys(alloc, text)?;
+    let keys = SnapshotKeys::from_keys(keys).ok_or(RouteFault::BadArgs)?;
+    Ok(keys)
 }

@@ -10,10 +10,10 @@ use Rattle.subj.specs.Publications.{new_publication}
 use Rattle.script_form.specs.declared.steps.Act.{Act}
 use Rattle.script_form.specs.declared.steps.Act.TheVariants.{Start, Stop, Attach, Sub, Unsub, Detach, Publish, Receive, Collect, Begin, End, DropJob, Claim, Dial, Accept, Info, Connect, Cut, TakeEntries, TakeFrames, Join}
 use Rattle.script_form.specs.declared.steps.Step.{Step}
-use Rattle.script_form.specs.declared.verbs.Verb.{Verb}
-use Rattle.script_form.specs.declared.verbs.Verb.TheVariants as verb
-use Rattle.script_form.specs.declared.member.Member.{Member}
-use Rattle.script_form.specs.declared.member.Member.TheVariants as key
+use Rattle.script_form.specs.declared.steps.Verb.{Verb}
+use Rattle.script_form.specs.declared.steps.Verb.TheVariants as verb
+use Rattle.script_form.specs.declared.steps.Member.{Member}
+use Rattle.script_form.specs.declared.steps.Member.TheVariants as key
 use Rattle.script_form.specs.Members.{name_of, ◌>>=◌, member, optional, whole, text, truth, name_at, optional_name_at}
 use Rattle.script_form.specs.Words.{verb_of}
 

@@ -13,7 +13,7 @@ use Rattle.script_form.specs.declared.faults.ScriptFault.{ScriptFault}
 use Rattle.script_form.specs.declared.faults.ScriptFault.TheVariants.{NotJson, BadShape, TooLong}
 use Rattle.script_form.specs.declared.faults.ScriptError.{ScriptError}
 use Rattle.script_form.specs.declared.steps.Step.{Step}
-use Rattle.script_form.specs.declared.member.Member.TheVariants as key
+use Rattle.script_form.specs.declared.steps.Member.TheVariants as key
 use Rattle.script_form.specs.Members.{◌>>=◌, member, whole, node}
 use Rattle.script_form.specs.Acts.{step_in, events_of}
 

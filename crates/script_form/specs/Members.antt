@@ -7,8 +7,8 @@ use Rattle.subj.specs.declared.faults.NameFault.{NameFault}
 use Rattle.subj.specs.declared.failures.Failure.{Failure}
 use Rattle.subj.specs.declared.failures.Failure.TheVariants.{Refused, OutOfMemory}
 use Rattle.subj.specs.Names.{node_name_fault}
-use Rattle.script_form.specs.declared.member.Member.{Member}
-use Rattle.script_form.specs.declared.member.Member.TheVariants.{Do, Node, Inc, Conn, Shard, Pattern, Queue, Sid, Max, Subject, Reply, Payload, Echo, Word, Frame, Session, Peer, Index, Count, Nodes, Shards, Steps}
+use Rattle.script_form.specs.declared.steps.Member.{Member}
+use Rattle.script_form.specs.declared.steps.Member.TheVariants.{Do, Node, Inc, Conn, Shard, Pattern, Queue, Sid, Max, Subject, Reply, Payload, Echo, Word, Frame, Session, Peer, Index, Count, Nodes, Shards, Steps}
 
 -- ---- how members are called
 

@@ -1,8 +1,8 @@
 -- The words of the member `do` (profile).
 use Rattle.std.specs.Prelude.{ℕ, List, [], ◌∷◌, codes, Option, Some, None, if◌then◌else◌}
 use Rattle.std.specs.Str.{bytes_eq}
-use Rattle.script_form.specs.declared.verbs.Verb.{Verb}
-use Rattle.script_form.specs.declared.verbs.Verb.TheVariants.{Start, Stop, Attach, Sub, Unsub, Detach, Publish, Receive, Collect, Begin, End, Drop, Claim, Dial, Accept, Info, Connect, Cut, Take, Join}
+use Rattle.script_form.specs.declared.steps.Verb.{Verb}
+use Rattle.script_form.specs.declared.steps.Verb.TheVariants.{Start, Stop, Attach, Sub, Unsub, Detach, Publish, Receive, Collect, Begin, End, Drop, Claim, Dial, Accept, Info, Connect, Cut, Take, Join}
 
 abbrev pub word_of : Verb → List ℕ
 word_of Start = codes "start"

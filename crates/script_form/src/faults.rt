@@ -4,14 +4,14 @@ ghost use Rattle.std.specs.Prelude.{◌≡◌};
 ghost use Rattle.script_form.specs.declared.faults.ScriptFault.TheVariants.{BadShape, TooLong};
 ghost use Rattle.script_form.specs.Faults.{script_fault_number};
 
-use crate::member::Member;
+use crate::steps::Member;
 use std::fmt;
 use std::fmt::{Display, Formatter, Write};
 use subj::{Failure, JOIN_EVENTS, SCRIPT_BYTES, SCRIPT_EVENTS};
 use thiserror::Error;
 
 /// Why bytes are no script. The first cause that holds is told. (Profile.)
-#[derive(Clone, Copy, Debug, PartialEq, Eq, Error)]
+#[derive(Clone, Copy, Debug, Error)]
 pub enum ScriptFault {
     /// The bytes are no JSON, or not UTF-8.
     #[error("the script is not JSON")]
@@ -35,7 +35,7 @@ impl ScriptFault {
 }
 
 /// Where a script is not as it has to be.
-#[derive(Clone, Copy, Debug, PartialEq, Eq)]
+#[derive(Clone, Copy, Debug)]
 pub enum Place {
     /// The script as a whole.
     Whole,
@@ -63,7 +63,7 @@ impl Display for Place {
 }
 
 /// Why bytes are no script, and where.
-#[derive(Clone, Copy, Debug, PartialEq, Eq, Error)]
+#[derive(Clone, Copy, Debug, Error)]
 #[error("{place}: {fault}")]
 pub struct ScriptError {
     /// The first cause that holds.
@@ -93,7 +93,7 @@ impl ScriptError {
 }
 
 /// A member of an object is missing, or is not what it has to be.
-#[derive(Clone, Copy, Debug, PartialEq, Eq)]
+#[derive(Clone, Copy)]
 pub(crate) struct Misfit {
     pub(crate) member: Member,
 }

@@ -10,19 +10,14 @@
 //! A script is JSON that names the servers of a cluster and says step by step what is done in it. [`Script::read`] reads just
 //! those bytes that are one, and tells of all others the first cause for which they are none.
 //!
-//! In reading order: `steps` is what a script says, `verbs` and `member` the words that it is said with; `members` reads members of a JSON
-//! object, `acts` a step, and `script` the whole. `faults` has the causes, and where they hold.
+//! In reading order: `steps` is what a script says, and the words that it is said with; `script` reads members of a JSON object,
+//! a step, and the whole. `faults` has the causes, and where they hold.
 #![tactic(auto)]
 
-mod acts;
 mod faults;
-mod member;
-mod members;
 mod script;
 mod steps;
-mod verbs;
 
 pub use faults::{Place, ScriptError, ScriptFault};
-pub use member::Member;
 pub use script::Script;
-pub use steps::{Act, Step};
+pub use steps::{Act, Member, Step};

@@ -1,27 +1,406 @@
-//! Reading scripts.
+//! Reading scripts: the members of JSON objects, the steps, and the whole.
 
-ghost use Rattle.std.specs.Prelude.{◌≡◌, nat_lt};
-ghost use Rattle.serde_json.specs.Find.{as_array};
+ghost use Rattle.std.specs.Prelude.{◌≡◌, Option, Some, None, is_some, option_map, ⊤, if◌then◌else◌, nat_lt};
+ghost use Rattle.std.specs.Option.{option_copied};
 ghost use Rattle.serde_json.specs.View.{view, items_view};
-ghost use Rattle.script_form.specs.Acts.{step_in};
-ghost use Rattle.script_form.specs.Members.{MemberMeans, MeansBy, SaysBy, member as there, node as is_node};
+ghost use Rattle.subj.specs.declared.faults.NameFault.{NameFault as Cause};
+ghost use Rattle.subj.specs.Answers.{IsAnswered};
+ghost use Rattle.subj.specs.Names.{node_name_fault, pattern_fault, subject_fault, queue_name_fault, sid_fault};
+ghost use Rattle.script_form.specs.Members.{MemberMeans, Says, SaysBy, member as there, optional, whole, text as is_text, truth as is_truth, node as is_node, name_at, optional_name_at, MeansBy};
+ghost use Rattle.script_form.specs.Acts.{start_in, attach_in, key_in, sub_in, unsub_in, publish_in, claim_in, take_entries_in, take_frames_in, take_in, act_in, verb_in, step_in, shard, peer, session, frame, conn};
+ghost use Rattle.serde_json.specs.Find.{as_array};
 ghost use Rattle.script_form.specs.Form.{each, count_of, script_in, Reads, ReadsJson};
 
-use crate::acts::read_step;
 use crate::faults::{Misfit, Place, ScriptError, ScriptFault};
-use crate::member::Member;
-use crate::members::{node_of, number};
-use crate::steps::Step;
+use crate::steps::{Act, Member, Step, Verb};
+use bytes::Bytes;
 use serde_json::Value;
 use std::alloc::Global;
 use std::marker::Model;
-use subj::{Failure, Incarnation, NodeId, SCRIPT_BYTES, SCRIPT_EVENTS, Server};
+use subj::{
+    ConnId, Failure, Incarnation, Key, NameFault, NodeId, Pattern, Pub, QueueName, SCRIPT_BYTES,
+    SCRIPT_EVENTS, Server, Sid, Subject,
+};
+
+/// A whole number of at least 0.
+fn number(object: &Value, member: Member) -> Result<u64, Misfit>
+    ensures { Says (there whole member (view object.now)) result }
+{
+    object
+        .get(member.name())
+        .and_then(Value::as_u64)
+        .ok_or(Misfit { member })
+}
+
+/// A whole number of at least 0, where the member is there.
+fn optional_number(object: &Value, member: Member) -> Result<Option<u64>, Misfit>
+    ensures { Says (optional whole member (view object.now)) result }
+{
+    match object.get(member.name()) {
+        None => Ok(None),
+        Some(value) => match value.as_u64() {
+            Some(number) => Ok(Some(number)),
+            None => Err(Misfit { member }),
+        },
+    }
+}
+
+/// A truth value, where the member is there.
+fn optional_truth(object: &Value, member: Member) -> Result<Option<bool>, Misfit>
+    ensures { Says (optional is_truth member (view object.now)) result }
+{
+    match object.get(member.name()) {
+        None => Ok(None),
+        Some(value) => match value.as_bool() {
+            Some(truth) => Ok(Some(truth)),
+            None => Err(Misfit { member }),
+        },
+    }
+}
+
+/// A text.
+fn text<'a>(object: &'a Value, member: Member) -> Result<&'a str, Misfit>
+    ensures { SaysBy (λ s. s.now) (there is_text member (view object.now)) result }
+{
+    object
+        .get(member.name())
+        .and_then(Value::as_str)
+        .ok_or(Misfit { member })
+}
+
+/// A text, where the member is there.
+fn optional_text<'a>(object: &'a Value, member: Member) -> Result<Option<&'a str>, Misfit>
+    ensures { SaysBy (λ s. option_copied s) (optional is_text member (view object.now)) result }
+{
+    match object.get(member.name()) {
+        None => Ok(None),
+        Some(value) => match value.as_str() {
+            Some(text) => Ok(Some(text)),
+            None => Err(Misfit { member }),
+        },
+    }
+}
+
+/// What was read as a name, or that the member is none.
+fn member_name<T>(read: Result<T, Failure<NameFault>>, member: Member) -> Result<T, Failure<Misfit>>
+    ensures { (cause : Option Cause) (value : T) → IsAnswered cause (λ x. x ≡ value) ⊤ read → MemberMeans (if is_some cause then None else Some value) result }
+{
+    match read {
+        Ok(value) => Ok(value),
+        Err(Failure::Refused(_)) => Err(Failure::Refused(Misfit { member })),
+        Err(Failure::OutOfMemory) => Err(Failure::OutOfMemory),
+    }
+}
+
+/// The same of a member that may be absent, and is there.
+fn some_member_name<T>(
+    read: Result<T, Failure<NameFault>>,
+    member: Member,
+) -> Result<Option<T>, Failure<Misfit>>
+    ensures { (cause : Option Cause) (value : T) → IsAnswered cause (λ x. x ≡ value) ⊤ read → MemberMeans (option_map Some (if is_some cause then None else Some value)) result }
+{
+    match read {
+        Ok(value) => Ok(Some(value)),
+        Err(Failure::Refused(_)) => Err(Failure::Refused(Misfit { member })),
+        Err(Failure::OutOfMemory) => Err(Failure::OutOfMemory),
+    }
+}
+
+/// A server's name, as an item of a list.
+#[tactic(auto, unfolding(crate::specs::Members::node))]
+fn node_of(value: &Value) -> Option<NodeId>
+    ensures { result ≡ is_node (view value.now) }
+{
+    let text = value.as_str()?;
+    match NodeId::read(text.as_bytes()) {
+        Ok(node) => Some(node),
+        Err(_) => None,
+    }
+}
+
+/// A server's name.
+#[tactic(auto, unfolding(crate::specs::Members::name_at))]
+fn node(object: &Value, member: Member) -> Result<NodeId, Misfit>
+    ensures { Says (name_at node_name_fault member (view object.now)) result }
+{
+    let text = text(object, member)?;
+    match NodeId::read(text.as_bytes()) {
+        Ok(node) => Ok(node),
+        Err(_) => Err(Misfit { member }),
+    }
+}
+
+/// What a client calls a subscription.
+#[tactic(auto, unfolding(crate::specs::Members::name_at))]
+fn sid(alloc: Global, object: &Value, member: Member) -> Result<Sid, Failure<Misfit>>
+    ensures { MemberMeans (name_at sid_fault member (view object.now)) result }
+{
+    let text = text(object, member)?;
+    member_name(Sid::read(alloc, text.as_bytes()), member)
+}
+
+/// What a subscription asks for.
+#[tactic(auto, unfolding(crate::specs::Members::name_at))]
+fn pattern(alloc: Global, object: &Value, member: Member) -> Result<Pattern, Failure<Misfit>>
+    ensures { MemberMeans (name_at pattern_fault member (view object.now)) result }
+{
+    let text = text(object, member)?;
+    member_name(Pattern::read(alloc, text.as_bytes()), member)
+}
+
+/// What is published on.
+#[tactic(auto, unfolding(crate::specs::Members::name_at))]
+fn subject(alloc: Global, object: &Value, member: Member) -> Result<Subject, Failure<Misfit>>
+    ensures { MemberMeans (name_at subject_fault member (view object.now)) result }
+{
+    let text = text(object, member)?;
+    member_name(Subject::read(alloc, text.as_bytes()), member)
+}
+
+/// Where an answer is awaited, where the member is there.
+#[tactic(auto, unfolding(crate::specs::Members::optional_name_at))]
+fn optional_subject(
+    alloc: Global,
+    object: &Value,
+    member: Member,
+) -> Result<Option<Subject>, Failure<Misfit>>
+    ensures { MemberMeans (optional_name_at subject_fault member (view object.now)) result }
+{
+    match optional_text(object, member)? {
+        None => Ok(None),
+        Some(text) => some_member_name(Subject::read(alloc, text.as_bytes()), member),
+    }
+}
+
+/// The name of a queue group, where the member is there.
+#[tactic(auto, unfolding(crate::specs::Members::optional_name_at))]
+fn optional_queue(
+    alloc: Global,
+    object: &Value,
+    member: Member,
+) -> Result<Option<QueueName>, Failure<Misfit>>
+    ensures { MemberMeans (optional_name_at queue_name_fault member (view object.now)) result }
+{
+    match optional_text(object, member)? {
+        None => Ok(None),
+        Some(text) => some_member_name(QueueName::read(alloc, text.as_bytes()), member),
+    }
+}
+
+fn read_conn(object: &Value) -> Result<ConnId, Misfit>
+    ensures { Says (conn (view object.now)) result }
+{
+    let number = number(object, Member::Conn)?;
+    Ok(ConnId::new(number))
+}
+
+fn read_shard(object: &Value) -> Result<u64, Misfit>
+    ensures { Says (shard (view object.now)) result }
+{
+    number(object, Member::Shard)
+}
+
+fn read_session(object: &Value) -> Result<u64, Misfit>
+    ensures { Says (session (view object.now)) result }
+{
+    number(object, Member::Session)
+}
+
+fn read_frame(object: &Value) -> Result<u64, Misfit>
+    ensures { Says (frame (view object.now)) result }
+{
+    number(object, Member::Frame)
+}
+
+fn read_peer(object: &Value) -> Result<NodeId, Misfit>
+    ensures { Says (peer (view object.now)) result }
+{
+    node(object, Member::Peer)
+}
+
+#[tactic(auto, unfolding(crate::specs::Acts::start_in))]
+fn read_start(object: &Value) -> Result<Act, Misfit>
+    ensures { Says (start_in (view object.now)) result }
+{
+    let number = number(object, Member::Inc)?;
+    let inc = Incarnation::new(number).ok_or(Misfit {
+        member: Member::Inc,
+    })?;
+    Ok(Act::Start { inc })
+}
+
+#[tactic(auto, unfolding(crate::specs::Acts::attach_in))]
+fn read_attach(object: &Value) -> Result<Act, Misfit>
+    ensures { Says (attach_in (view object.now)) result }
+{
+    let shard = optional_number(object, Member::Shard)?;
+    Ok(Act::Attach {
+        shard: shard.unwrap_or(1),
+    })
+}
+
+#[tactic(auto, unfolding(crate::specs::Acts::key_in))]
+fn read_key(alloc: Global, object: &Value) -> Result<Key, Failure<Misfit>>
+    ensures { MemberMeans (key_in (view object.now)) result }
+{
+    let pattern = pattern(alloc, object, Member::Pattern)?;
+    let queue = optional_queue(alloc, object, Member::Queue)?;
+    Ok(Key { pattern, queue })
+}
+
+#[tactic(auto, unfolding(crate::specs::Acts::sub_in))]
+fn read_sub(alloc: Global, object: &Value) -> Result<Act, Failure<Misfit>>
+    ensures { MemberMeans (sub_in (view object.now)) result }
+{
+    let conn = read_conn(object)?;
+    let key = read_key(alloc, object)?;
+    let sid = sid(alloc, object, Member::Sid)?;
+    Ok(Act::Sub { conn, key, sid })
+}
+
+#[tactic(auto, unfolding(crate::specs::Acts::unsub_in))]
+fn read_unsub(alloc: Global, object: &Value) -> Result<Act, Failure<Misfit>>
+    ensures { MemberMeans (unsub_in (view object.now)) result }
+{
+    let conn = read_conn(object)?;
+    let sid = sid(alloc, object, Member::Sid)?;
+    let max = optional_number(object, Member::Max)?;
+    Ok(Act::Unsub { conn, sid, max })
+}
+
+#[tactic(auto, unfolding(crate::specs::Acts::publish_in))]
+fn read_publish(alloc: Global, object: &Value) -> Result<Act, Failure<Misfit>>
+    ensures { MemberMeans (publish_in (view object.now)) result }
+{
+    let conn = read_conn(object)?;
+    let subject = subject(alloc, object, Member::Subject)?;
+    let reply = optional_subject(alloc, object, Member::Reply)?;
+    let payload = text(object, Member::Payload)?;
+    let echo = optional_truth(object, Member::Echo)?.unwrap_or(true);
+    let word = number(object, Member::Word)?;
+    let payload = Bytes::copy_from_slice(alloc, payload.as_bytes())?;
+    let said = Pub::new(alloc, subject, reply, payload, echo)?.ok_or(Misfit {
+        member: Member::Payload,
+    })?;
+    Ok(Act::Publish { conn, said, word })
+}
+
+#[tactic(auto, unfolding(crate::specs::Acts::claim_in))]
+fn read_claim(object: &Value) -> Result<Act, Misfit>
+    ensures { Says (claim_in (view object.now)) result }
+{
+    let shard = read_shard(object)?;
+    let index = number(object, Member::Index)?;
+    Ok(Act::Claim { shard, index })
+}
+
+#[tactic(auto, unfolding(crate::specs::Acts::take_entries_in))]
+fn read_take_entries(object: &Value) -> Result<Act, Misfit>
+    ensures { Says (take_entries_in (view object.now)) result }
+{
+    let conn = read_conn(object)?;
+    let count = number(object, Member::Count)?;
+    Ok(Act::TakeEntries { conn, count })
+}
+
+#[tactic(auto, unfolding(crate::specs::Acts::take_frames_in))]
+fn read_take_frames(object: &Value) -> Result<Act, Misfit>
+    ensures { Says (take_frames_in (view object.now)) result }
+{
+    let peer = read_peer(object)?;
+    let count = number(object, Member::Count)?;
+    Ok(Act::TakeFrames { peer, count })
+}
+
+/// From the connection; where none is named, from the peer.
+fn read_take(object: &Value) -> Result<Act, Misfit>
+    ensures { Says (take_in (view object.now)) result }
+{
+    if object.get(Member::Conn.name()).is_some() {
+        read_take_entries(object)
+    } else {
+        read_take_frames(object)
+    }
+}
+
+/// What is done, of what the verb says.
+#[tactic(auto, unfolding(crate::specs::Acts::of_shard, crate::specs::Acts::of_peer, crate::specs::Acts::of_session, crate::specs::Acts::detach_in, crate::specs::Acts::receive_in, crate::specs::Acts::cut_in))]
+fn read_act(alloc: Global, verb: Verb, object: &Value) -> Result<Act, Failure<Misfit>>
+    ensures { MemberMeans (act_in verb (view object.now)) result }
+{
+    match verb {
+        Verb::Start => Ok(read_start(object)?),
+        Verb::Stop => Ok(Act::Stop),
+        Verb::Attach => Ok(read_attach(object)?),
+        Verb::Sub => read_sub(alloc, object),
+        Verb::Unsub => read_unsub(alloc, object),
+        Verb::Detach => Ok(Act::Detach {
+            conn: read_conn(object)?,
+        }),
+        Verb::Publish => read_publish(alloc, object),
+        Verb::Receive => Ok(Act::Receive {
+            frame: read_frame(object)?,
+        }),
+        Verb::Collect => Ok(Act::Collect {
+            shard: read_shard(object)?,
+        }),
+        Verb::Begin => Ok(Act::Begin {
+            shard: read_shard(object)?,
+        }),
+        Verb::End => Ok(Act::End {
+            shard: read_shard(object)?,
+        }),
+        Verb::Drop => Ok(Act::DropJob {
+            shard: read_shard(object)?,
+        }),
+        Verb::Claim => Ok(read_claim(object)?),
+        Verb::Dial => Ok(Act::Dial {
+            peer: read_peer(object)?,
+        }),
+        Verb::Accept => Ok(Act::Accept),
+        Verb::Info => Ok(Act::Info {
+            session: read_session(object)?,
+            frame: read_frame(object)?,
+        }),
+        Verb::Connect => Ok(Act::Connect {
+            session: read_session(object)?,
+            frame: read_frame(object)?,
+        }),
+        Verb::Cut => Ok(Act::Cut {
+            session: read_session(object)?,
+        }),
+        Verb::Take => Ok(read_take(object)?),
+        Verb::Join => Ok(Act::Join {
+            peer: read_peer(object)?,
+        }),
+    }
+}
+
+/// What a step does, by name.
+#[tactic(auto, unfolding(crate::specs::Acts::verb_in))]
+fn read_verb(object: &Value) -> Result<Verb, Misfit>
+    ensures { Says (verb_in (view object.now)) result }
+{
+    let word = text(object, Member::Do)?;
+    Verb::read(word).ok_or(Misfit { member: Member::Do })
+}
+
+/// One step.
+#[tactic(auto, unfolding(crate::specs::Acts::step_in))]
+fn read_step(alloc: Global, object: &Value) -> Result<Step, Failure<Misfit>>
+    ensures { MemberMeans (step_in (view object.now)) result }
+{
+    let verb = read_verb(object)?;
+    let node = node(object, Member::Node)?;
+    let act = read_act(alloc, verb, object)?;
+    Ok(Step { node, act })
+}
 
 /// A script: the servers of a cluster, and what is done in it, step by step. (Profile.)
 ///
 /// Seen as the names of the servers, 1 to [`subj::MAX_NODES`] and all apart, the number of shards of each, 1 to
 /// [`subj::MAX_SHARDS`], and the steps.
-#[derive(Debug, Drop)]
+#[derive(Drop)]
 pub struct Script {
     /// The names of the servers and the number of shards, as a server's at the first place.
     server: Server,

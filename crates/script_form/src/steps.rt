@@ -1,7 +1,9 @@
-//! What is done in a cluster, as scripts say it.
+//! What is done in a cluster, as scripts say it, and the words that it is said with.
 
 ghost use Rattle.std.specs.Prelude.{◌≡◌, ◌≤◌};
 ghost use Rattle.script_form.specs.Acts.{events_of};
+ghost use Rattle.script_form.specs.Members.{name_of};
+ghost use Rattle.script_form.specs.Words.{verb_of};
 
 use subj::{ConnId, Incarnation, JOIN_EVENTS, Key, NodeId, Pub, Sid};
 
@@ -9,7 +11,7 @@ use subj::{ConnId, Incarnation, JOIN_EVENTS, Key, NodeId, Pub, Sid};
 ///
 /// Connections, shards, sessions and frames are counted from 1, frames in the whole cluster; each number may be
 /// any, and a peer's name may be that of no server: what is not there is refused when the script is played.
-#[derive(Debug, Drop)]
+#[derive(Drop)]
 pub enum Act {
     /// The server starts, in an incarnation that it never had.
     Start {
@@ -106,7 +108,7 @@ pub enum Act {
 }
 
 /// One step of a script: a server, and what it does.
-#[derive(Debug, Drop)]
+#[derive(Drop)]
 pub struct Step {
     /// The name of the server; it may be that of none.
     pub node: NodeId,
@@ -122,6 +124,121 @@ impl Act {
         match self {
             Act::Join { .. } => JOIN_EVENTS,
             _ => 1,
+        }
+    }
+}
+
+/// A member of a script or of a step. (Profile.)
+#[derive(Clone, Copy, Debug)]
+pub enum Member {
+    Do,
+    Node,
+    Inc,
+    Conn,
+    Shard,
+    Pattern,
+    Queue,
+    Sid,
+    Max,
+    Subject,
+    Reply,
+    Payload,
+    Echo,
+    Word,
+    Frame,
+    Session,
+    Peer,
+    Index,
+    Count,
+    Nodes,
+    Shards,
+    Steps,
+}
+
+impl Member {
+    /// What it is called.
+    pub fn name(self) -> &'static str
+        ensures { result.now ≡ name_of self }
+    {
+        match self {
+            Member::Do => "do",
+            Member::Node => "node",
+            Member::Inc => "inc",
+            Member::Conn => "conn",
+            Member::Shard => "shard",
+            Member::Pattern => "pattern",
+            Member::Queue => "queue",
+            Member::Sid => "sid",
+            Member::Max => "max",
+            Member::Subject => "subject",
+            Member::Reply => "reply",
+            Member::Payload => "payload",
+            Member::Echo => "echo",
+            Member::Word => "word",
+            Member::Frame => "frame",
+            Member::Session => "session",
+            Member::Peer => "peer",
+            Member::Index => "index",
+            Member::Count => "n",
+            Member::Nodes => "nodes",
+            Member::Shards => "shards",
+            Member::Steps => "steps",
+        }
+    }
+}
+
+/// What a step does: its member `do`. (Profile.)
+#[derive(Clone, Copy)]
+pub(crate) enum Verb {
+    Start,
+    Stop,
+    Attach,
+    Sub,
+    Unsub,
+    Detach,
+    Publish,
+    Receive,
+    Collect,
+    Begin,
+    End,
+    Drop,
+    Claim,
+    Dial,
+    Accept,
+    Info,
+    Connect,
+    Cut,
+    Take,
+    Join,
+}
+
+impl Verb {
+    /// The one of this word.
+    pub(crate) fn read(word: &str) -> Option<Verb>
+        ensures { result ≡ verb_of word.now }
+    {
+        match word {
+            "start" => Some(Verb::Start),
+            "stop" => Some(Verb::Stop),
+            "attach" => Some(Verb::Attach),
+            "sub" => Some(Verb::Sub),
+            "unsub" => Some(Verb::Unsub),
+            "detach" => Some(Verb::Detach),
+            "publish" => Some(Verb::Publish),
+            "receive" => Some(Verb::Receive),
+            "collect" => Some(Verb::Collect),
+            "begin" => Some(Verb::Begin),
+            "end" => Some(Verb::End),
+            "drop" => Some(Verb::Drop),
+            "claim" => Some(Verb::Claim),
+            "dial" => Some(Verb::Dial),
+            "accept" => Some(Verb::Accept),
+            "info" => Some(Verb::Info),
+            "connect" => Some(Verb::Connect),
+            "cut" => Some(Verb::Cut),
+            "take" => Some(Verb::Take),
+            "join" => Some(Verb::Join),
+            _ => None,
         }
     }
 }

@@ -12,7 +12,7 @@ use Rattle.route_values.specs.declared.frames.RouteFrame.TheVariants as route
 use Rattle.route_values.specs.Frames.{Frame}
 use Rattle.route_values.specs.Snapshots.{Weighted, queue_fields, key_line, snapshot_text, are_rising, line_end}
 use Rattle.route_values.specs.Valid.{IsWeighted, AreWeighted, IsBody, IsFrame}
-use Rattle.route_frames.specs.declared.common.TheConstants.{INCARNATION_DIGITS, NUMBER_DIGITS}
+use Rattle.route_frames.specs.declared.line_reading.TheConstants.{INCARNATION_DIGITS, NUMBER_DIGITS}
 use Rattle.route_frames.specs.declared.line_reading.TheConstants.{WEIGHT_DIGITS, SIZE_DIGITS}
 use Rattle.route_frames.specs.Canonical.{fields_with_spaces, operation_word, common_of, member_fields, body_fields, numbered_line, body_payload, info_json, connect_json}
 use Rattle.route_frames.specs.Spelling.{HasCommon, SpellsWeight, SpellsBody, SpellsKey, SpellsKeys, SpellsBehind, body_announces, Spells, SpellsNumbered}

@@ -10,11 +10,11 @@ use Rattle.subj.specs.Messages.{Content}
 use Rattle.route_values.specs.Snapshots.{Weighted}
 use Rattle.route_values.specs.Valid.{IsKey, IsWeighted, IsMessage, IsIncarnation}
 use Rattle.route_frames.specs.declared.faults.RouteFault.TheVariants.{BadArgs}
-use Rattle.route_frames.specs.declared.common.TheConstants.{INCARNATION_DIGITS, NUMBER_DIGITS}
+use Rattle.route_frames.specs.declared.line_reading.TheConstants.{INCARNATION_DIGITS, NUMBER_DIGITS}
 use Rattle.route_frames.specs.declared.line_reading.TheConstants.{WEIGHT_DIGITS, SIZE_DIGITS}
-use Rattle.route_frames.specs.declared.lines.LineBody.{LineBody}
-use Rattle.route_frames.specs.declared.lines.LineBody.TheVariants as said
-use Rattle.route_frames.specs.declared.lines.NumberedLine.{NumberedLine}
+use Rattle.route_frames.specs.declared.reading.LineBody.{LineBody}
+use Rattle.route_frames.specs.declared.reading.LineBody.TheVariants as said
+use Rattle.route_frames.specs.declared.reading.NumberedLine.{NumberedLine}
 use Rattle.route_frames.specs.CommonFields.{CommonFields, digits_of, numbers_of}
 use Rattle.route_frames.specs.NumberedLines.{plus_line, minus_line, snapshot_line, message_line}
 use Rattle.route_frames.specs.Canonical.{form_fields}

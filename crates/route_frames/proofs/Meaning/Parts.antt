@@ -11,8 +11,8 @@ use Rattle.subj.specs.Numbers.{incarnation_of}
 use Rattle.route_values.specs.Snapshots.{Weighted, is_weight, weighted_key}
 use Rattle.route_values.specs.Valid.{IsQueue, IsKey, IsIncarnation}
 use Rattle.route_frames.specs.declared.faults.RouteFault.TheVariants.{BadArgs, BadNumber}
-use Rattle.route_frames.specs.declared.common.Digits.{Digits}
-use Rattle.route_frames.specs.declared.common.Numbers.{Numbers}
+use Rattle.route_frames.specs.declared.line_reading.Digits.{Digits}
+use Rattle.route_frames.specs.declared.line_reading.Numbers.{Numbers}
 use Rattle.route_frames.specs.Meaning.{◌>>=◌}
 use Rattle.route_frames.specs.CommonFields.{within, numbers_in_range, name_of}
 use Rattle.route_frames.specs.NumberedLines.{optional, key_of}

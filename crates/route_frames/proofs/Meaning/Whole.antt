@@ -14,13 +14,13 @@ use Rattle.route_values.specs.declared.frames.RouteFrame.TheVariants as route
 use Rattle.route_values.specs.Frames.{Frame, is_number}
 use Rattle.route_values.specs.Valid.{IsFrame, IsRouteFrame}
 use Rattle.route_frames.specs.declared.faults.RouteFault.TheVariants.{BadArgs}
-use Rattle.route_frames.specs.declared.lines.LineBody.{LineBody}
-use Rattle.route_frames.specs.declared.lines.LineBody.TheVariants as said
-use Rattle.route_frames.specs.declared.lines.NumberedLine.{NumberedLine}
-use Rattle.route_frames.specs.declared.lines.RouteLine.{RouteLine}
-use Rattle.route_frames.specs.declared.lines.RouteLine.TheVariants as line
-use Rattle.route_frames.specs.declared.operation.Operation.{Operation}
-use Rattle.route_frames.specs.declared.operation.Operation.TheVariants as operation
+use Rattle.route_frames.specs.declared.reading.LineBody.{LineBody}
+use Rattle.route_frames.specs.declared.reading.LineBody.TheVariants as said
+use Rattle.route_frames.specs.declared.reading.NumberedLine.{NumberedLine}
+use Rattle.route_frames.specs.declared.reading.RouteLine.{RouteLine}
+use Rattle.route_frames.specs.declared.reading.RouteLine.TheVariants as line
+use Rattle.route_frames.specs.declared.line_reading.Operation.{Operation}
+use Rattle.route_frames.specs.declared.line_reading.Operation.TheVariants as operation
 use Rattle.route_frames.specs.Meaning.{Meaning, ◌>>=◌}
 use Rattle.route_frames.specs.Operations.{word_of}
 use Rattle.route_frames.specs.CommonFields.{CommonFields}

@@ -1,12 +1,12 @@
 -- What a reader answers is spelt, or refused for its cause.
-use Rattle.route_frames.specs.declared.lines.RouteLine.{RouteLine}
+use Rattle.route_frames.specs.declared.reading.RouteLine.{RouteLine}
 use Rattle.route_frames.specs.Lines.{body_size, announced_size, line_meaning}
 use Rattle.route_frames.specs.TextViews.{is_json, text_meaning, size_in, joined_text}
-use Rattle.route_frames.specs.declared.texts.LineText.TheVariants as said
+use Rattle.route_frames.specs.declared.reading.LineText.TheVariants as said
 use Rattle.std.specs.Borrow.{Bor}
-use Rattle.route_frames.specs.declared.texts.LineText.{LineText}
-use Rattle.route_frames.specs.declared.lines.NumberedLine.{NumberedLine}
-use Rattle.route_frames.specs.declared.lines.RouteLine.TheVariants as route_line
+use Rattle.route_frames.specs.declared.reading.LineText.{LineText}
+use Rattle.route_frames.specs.declared.reading.NumberedLine.{NumberedLine}
+use Rattle.route_frames.specs.declared.reading.RouteLine.TheVariants as route_line
 use Rattle.std.proofs.Common.{◌≡◌, ℕ, Bool, true, false, ◌||◌, ◌&&◌, is_ok, true≢false, List, refl, sym, ◌∙◌, ◌⊎◌, inl, inr, Option, Some, None, Result, Ok, Err, ap, subst}
 use Rattle.std.specs.Prelude.{unwrap_or}
 use Rattle.subj.specs.declared.failures.Failure.{Failure}
@@ -17,8 +17,8 @@ use Rattle.route_frames.specs.declared.faults.RouteFault.TheVariants.{BadArgs}
 use Rattle.route_frames.specs.Meaning.{Meaning, RouteMeans, MeansBy, ◌>>=◌}
 use Rattle.route_frames.specs.Decoding.{size_meaning, frame_meaning, payload_meaning, frame_of_line, takes_memory, is_snapshot_body, is_snapshot_behind, body_has_payload, line_has_payload, frame_behind, JoinsBy, Joins, failure_of}
 use Rattle.route_frames.specs.Operations.{is_json_line}
-use Rattle.route_frames.specs.declared.lines.Unjoined.{Unjoined}
-use Rattle.route_frames.specs.declared.lines.Unjoined.TheVariants as back
+use Rattle.route_frames.specs.declared.reading.Unjoined.{Unjoined}
+use Rattle.route_frames.specs.declared.reading.Unjoined.TheVariants as back
 use Rattle.route_frames.specs.Causes.{line_cause}
 use Rattle.route_frames.specs.Refusals.{IsSizeOf, IsFrameOf, IsReadOf}
 use Rattle.route_frames.specs.Laws.{SpellsOneFrame, AnnouncesOneSize}

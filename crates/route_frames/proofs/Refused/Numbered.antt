@@ -12,12 +12,12 @@ use Rattle.line_fields.specs.Fields.{number_of}
 use Rattle.route_values.specs.Snapshots.{weighted_key}
 use Rattle.route_frames.specs.declared.faults.RouteFault.{RouteFault}
 use Rattle.route_frames.specs.declared.faults.RouteFault.TheVariants.{BadArgs, BadNumber, TooManyQueues}
-use Rattle.route_frames.specs.declared.common.TheConstants.{INCARNATION_DIGITS, NUMBER_DIGITS}
+use Rattle.route_frames.specs.declared.line_reading.TheConstants.{INCARNATION_DIGITS, NUMBER_DIGITS}
 use Rattle.route_frames.specs.declared.line_reading.TheConstants.{WEIGHT_DIGITS, SIZE_DIGITS}
-use Rattle.route_frames.specs.declared.common.Numbers.{Numbers}
-use Rattle.route_frames.specs.declared.common.Digits.{Digits}
-use Rattle.route_frames.specs.declared.lines.LineBody.TheVariants.{Plus, Msg}
-use Rattle.route_frames.specs.declared.lines.NumberedLine.{NumberedLine}
+use Rattle.route_frames.specs.declared.line_reading.Numbers.{Numbers}
+use Rattle.route_frames.specs.declared.line_reading.Digits.{Digits}
+use Rattle.route_frames.specs.declared.reading.LineBody.TheVariants.{Plus, Msg}
+use Rattle.route_frames.specs.declared.reading.NumberedLine.{NumberedLine}
 use Rattle.route_frames.specs.Meaning.{Meaning, ◌>>=◌}
 use Rattle.route_frames.specs.CommonFields.{CommonFields, within, numbers_of, numbers_in_range, name_of}
 use Rattle.route_frames.specs.Arguments.{PlusFields, MessageFields, plus_fields, minus_fields, snapshot_field, message_fields}

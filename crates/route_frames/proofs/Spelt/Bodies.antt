@@ -8,8 +8,8 @@ use Rattle.route_values.specs.Snapshots.{Weighted, weighted_key}
 use Rattle.route_values.specs.Valid.{IsKey, IsWeighted}
 use Rattle.route_frames.specs.declared.faults.RouteFault.TheVariants.{BadArgs}
 use Rattle.route_frames.specs.declared.line_reading.TheConstants.{WEIGHT_DIGITS, SIZE_DIGITS}
-use Rattle.route_frames.specs.declared.lines.LineBody.TheVariants as said
-use Rattle.route_frames.specs.declared.lines.NumberedLine.{NumberedLine}
+use Rattle.route_frames.specs.declared.reading.LineBody.TheVariants as said
+use Rattle.route_frames.specs.declared.reading.NumberedLine.{NumberedLine}
 use Rattle.route_frames.specs.CommonFields.{CommonFields, digits_of, within, numbers_of, numbers_in_range, name_of}
 use Rattle.route_frames.specs.Arguments.{PlusFields, MinusFields, plus_fields, minus_fields, snapshot_field}
 use Rattle.route_frames.specs.NumberedLines.{account_of, key_of, weight_digits, plus_line, minus_line, snapshot_line}

@@ -13,11 +13,11 @@ use Rattle.subj.specs.Numbers.{incarnation_of}
 use Rattle.route_values.specs.Snapshots.{Weighted, is_weight, weighted_key}
 use Rattle.route_values.specs.Valid.{IsQueue, IsReply, IsKey, IsIncarnation}
 use Rattle.route_frames.specs.declared.faults.RouteFault.TheVariants.{BadArgs, BadNumber}
-use Rattle.route_frames.specs.declared.common.TheConstants.{INCARNATION_DIGITS, NUMBER_DIGITS}
-use Rattle.route_frames.specs.declared.common.Digits.{Digits}
-use Rattle.route_frames.specs.declared.common.Numbers.{Numbers}
-use Rattle.route_frames.specs.declared.lines.LineBody.{LineBody}
-use Rattle.route_frames.specs.declared.lines.NumberedLine.{NumberedLine}
+use Rattle.route_frames.specs.declared.line_reading.TheConstants.{INCARNATION_DIGITS, NUMBER_DIGITS}
+use Rattle.route_frames.specs.declared.line_reading.Digits.{Digits}
+use Rattle.route_frames.specs.declared.line_reading.Numbers.{Numbers}
+use Rattle.route_frames.specs.declared.reading.LineBody.{LineBody}
+use Rattle.route_frames.specs.declared.reading.NumberedLine.{NumberedLine}
 use Rattle.route_frames.specs.CommonFields.{CommonFields, digits_of, within, numbers_of, numbers_in_range, name_of}
 use Rattle.route_frames.specs.NumberedLines.{account_of, optional, key_of}
 use Rattle.route_frames.specs.Spelling.{IsNumber}

@@ -10,8 +10,8 @@ use Rattle.subj.specs.QueueNames.{queue_names_of, are_queue_names}
 use Rattle.route_values.specs.Valid.{IsReply, AreNames}
 use Rattle.route_frames.specs.declared.faults.RouteFault.TheVariants.{BadArgs, TooManyQueues}
 use Rattle.route_frames.specs.declared.line_reading.TheConstants.{SIZE_DIGITS}
-use Rattle.route_frames.specs.declared.lines.LineBody.TheVariants as said
-use Rattle.route_frames.specs.declared.lines.NumberedLine.{NumberedLine}
+use Rattle.route_frames.specs.declared.reading.LineBody.TheVariants as said
+use Rattle.route_frames.specs.declared.reading.NumberedLine.{NumberedLine}
 use Rattle.route_frames.specs.CommonFields.{CommonFields, digits_of, within, numbers_of, numbers_in_range, name_of}
 use Rattle.route_frames.specs.Arguments.{Form, MessageFields, split_last_of, reply_form, form_between, form_of, message_form, message_fields}
 use Rattle.route_frames.specs.NumberedLines.{account_of, optional, are_names, queue_names_in, message_fields_in, message_line}

@@ -9,9 +9,9 @@ use Rattle.route_values.specs.declared.bodies.Body.TheVariants.{Plus, Minus, Sna
 use Rattle.route_values.specs.Frames.{Frame, is_number}
 use Rattle.route_values.specs.Snapshots.{Weighted}
 use Rattle.route_values.specs.Valid.{AreSnapshotKeys, IsBody, IsFrame}
-use Rattle.route_frames.specs.declared.lines.LineBody.{LineBody}
-use Rattle.route_frames.specs.declared.lines.LineBody.TheVariants as said
-use Rattle.route_frames.specs.declared.lines.NumberedLine.{NumberedLine}
+use Rattle.route_frames.specs.declared.reading.LineBody.{LineBody}
+use Rattle.route_frames.specs.declared.reading.LineBody.TheVariants as said
+use Rattle.route_frames.specs.declared.reading.NumberedLine.{NumberedLine}
 use Rattle.route_frames.specs.CommonFields.{CommonFields, common_fields}
 use Rattle.route_frames.specs.NumberedLines.{plus_line, minus_line, snapshot_line, message_line}
 use Rattle.route_frames.specs.Canonical.{operation_word, form_fields}

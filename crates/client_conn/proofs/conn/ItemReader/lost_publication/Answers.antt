@@ -1,0 +1,18 @@
+use Rattle.std.proofs.Common.{sym}
+use Rattle.wire_cut.specs.Cut.{payload}
+use Rattle.client_conn.specs.declared.conn.Looked.TheVariants as looks
+use Rattle.client_conn.proofs.Looking.{moved, lost_found, line_due, unread_moved}
+use Rattle.client_conn.proofs.conn.ItemReader.lost_publication.Goals as goal
+
+pub returns-in-Err-clause-looked : goal.returns-in-Err-clause-looked
+returns-in-Err-clause-looked c =
+    let cut = rw c.in-Err.fault-is at c.in-Err.ensures.answer in
+    unread_moved c.end_with.result c.args.open_asks.now c.end_with.new.open_asks c.args.self.now c.end_with.new.self c.in-Err.fault c.of_cut.result c.requires.step c.requires.reads (sym cut)
+    c.end_with.ensures.told c.of_cut.ensures c.end_with.ensures.asks c.end_with.ensures.ended
+
+pub returns-clause-looked : goal.returns-clause-looked
+returns-clause-looked c =
+    let cut = rw (c.in-Ok-Some-Payload.field-0-is, c.in-Ok-Some-Payload.field-0-0-is) at c.in-Ok-Some-Payload.ensures.answer in
+    moved looks.Told c.args.open_asks.now c.refuse.new.self c.args.self.now (payload c.in-Ok-Some-Payload.payload.now) _ c.requires.step c.requires.reads (sym cut)
+    (lost_found c.args.open_asks.now c.refuse.new.self c.requires.due.0 c.args.self.now.awaited c.in-Ok-Some-Payload.payload.now _ c.of_line.result _ c.requires.due.1 c.of_line.ensures c.refuse.ensures
+    (line_due c.args.self.now.cutter c.use_up.new.self c.args.self.now.ended c.requires.reads c.use_up.ensures))
