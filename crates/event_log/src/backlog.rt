@@ -1,6 +1,7 @@
 //! The queue of lines that wait to be written, and the counts of those that are not.
 
-ghost use Rattle.std.specs.Prelude.{◌≡◌, ◌≤◌, ◌∷◌, ◌++◌, [], false, if◌then◌else◌};
+ghost use Rattle.std.specs.Prelude.{◌≡◌, ◌==◌, ◌||◌, ◌≤◌, ◌∷◌, ◌++◌, [], false, if◌then◌else◌, length, nat_lt, IfOk};
+ghost use Rattle.std.specs.List.{list_any};
 ghost use Rattle.std.specs.Vec.{vec_capacity, vec_len};
 ghost use Rattle.event_log.specs.Backlog.{IsFateOf, counted};
 
@@ -61,7 +62,9 @@ fn put<T: Drop>(items: &mut Vec<T>, item: T) -> bool
 
 impl Backlog {
     /// No line waits, and there is memory for all that may.
-    pub fn new(alloc: Global) -> Result<Backlog, AllocError> {
+    pub fn new(alloc: Global) -> Result<Backlog, AllocError>
+        ensures { IfOk result (λ made. (made.lines.items ≡ []) × (made.lost ≡ 0)) }
+    {
         let lines = Vec::with_capacity(alloc, LINES)?;
         Ok(Backlog {
             rates: Rates::new(),
@@ -72,8 +75,7 @@ impl Backlog {
 
     /// So many lines are lost.
     pub fn lose(&mut self, count: u64)
-        ensures lost { self.new.lost ≡ counted self.old.lost count }
-        ensures lines { self.new.lines.items ≡ self.old.lines.items }
+        ensures { self.new ≡ record self.old { lost = counted self.old.lost count } }
     {
         self.lost = self.lost.saturating_add(count);
     }
@@ -97,12 +99,16 @@ impl Backlog {
     }
 
     /// Whether no line waits.
-    pub fn is_empty(&self) -> bool {
+    pub fn is_empty(&self) -> bool
+        ensures { result ≡ (length self.now.lines.items == 0) }
+    {
         self.lines.is_empty()
     }
 
     /// Whether some lines were not told, and their counts neither.
-    pub fn has_counts(&self) -> bool {
+    pub fn has_counts(&self) -> bool
+        ensures { result ≡ (nat_lt 0 self.now.lost || list_any (λ rate. nat_lt 0 rate.held) self.now.rates.all) }
+    {
         self.lost > 0 || self.rates.has_held()
     }
 
@@ -110,6 +116,7 @@ impl Backlog {
     pub fn take_lines(&mut self, lines: &mut Vec<Line>)
         ensures taken { lines.new.items ≡ self.old.lines.items }
         ensures none { self.new.lines.items ≡ [] }
+        ensures rates { self.new.rates ≡ self.old.rates }
         ensures lost { self.new.lost ≡ self.old.lost }
     {
         lines.clear();

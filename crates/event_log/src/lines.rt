@@ -16,7 +16,7 @@ use std::{fmt, io};
 pub const PROCESS: &str = "mesh";
 
 /// A line as it is written: when, how grave, at which server and what, with a blank between each two.
-#[derive(Clone, Copy, Drop)]
+#[derive(Drop)]
 pub struct Form<'a, T, W> {
     pub stamp: T,
     pub level: Level,

@@ -1,6 +1,7 @@
 //! How many lines of a kind are told in a second.
 
-ghost use Rattle.std.specs.Prelude.{◌≡◌, ◌∷◌, [], take};
+ghost use Rattle.std.specs.Prelude.{◌≡◌, ◌∷◌, [], take, nat_lt};
+ghost use Rattle.std.specs.List.{list_any};
 ghost use Rattle.event_log.specs.Rates.{Admits, has_room, held_after, kept_after};
 ghost use Rattle.server_events.specs.Kinds.{place_of};
 
@@ -120,7 +121,9 @@ impl Rates {
     }
 
     /// Whether some were held back.
-    pub fn has_held(&self) -> bool {
+    pub fn has_held(&self) -> bool
+        ensures { result ≡ list_any (λ rate. nat_lt 0 rate.held) self.now.all }
+    {
         self.all.iter().any(|rate| rate.held > 0)
     }
 }

@@ -9,6 +9,7 @@ use mio::net::TcpListener;
 use mio::{Poll, Waker};
 use node_net::{Company, Server as Connections, Sockets, WAKER};
 use router_command::Options;
+use server_calls::ServerCalls;
 use server_events::{Event, SystemCause};
 use std::alloc::Global;
 use std::marker::Brand;
@@ -18,7 +19,7 @@ use std::sync::{OnceLock, Wait};
 use std::thread::Threads;
 use std::{io, thread};
 use sub_trie::TrieTable;
-use subj::{NodeId, Server};
+use subj::{MAX_NODES, NodeId, Server};
 use thread_node::{NodeName, Parts, ThreadNode};
 
 /// A server before it runs.
@@ -58,13 +59,15 @@ fn sockets<R: Net>(rt: &R, options: &Options, place: u16) -> Result<Sockets, Ser
     })
 }
 
-/// The name of the server at this place: `n1` at the first.
+/// The name of the server at this place, `n1` at the first: its number is one digit.
 fn name_of(place: u16) -> Result<NodeId, ServeFault> {
-    let names: [&[u8]; 8] = [b"n1", b"n2", b"n3", b"n4", b"n5", b"n6", b"n7", b"n8"];
-    let Some(name) = names.get(place as usize) else {
+    if place as u64 >= MAX_NODES {
         return Err(ServeFault::NoCluster);
-    };
-    NodeId::read(*name).map_err(|_| ServeFault::NoCluster)
+    }
+    match NodeId::read(&[b'n', b'1' + place as u8]) {
+        Ok(name) => Ok(name),
+        Err(_) => Err(ServeFault::NoCluster),
+    }
 }
 
 /// The life of the server at this place.
@@ -141,6 +144,24 @@ impl Mesh<'_> {
     }
 }
 
+/// Runs the connections of a server.
+fn run_connections<C: ServerCalls, R: Wait + Net<Listener = Listener, Stream = Stream> + Clock>(
+    rt: &R,
+    alloc: Global,
+    node: C,
+    station: Station,
+    mesh: Mesh<'_>,
+) -> io::Result<()> {
+    let Station {
+        life,
+        port,
+        word,
+        sockets,
+    } = station;
+    let mut connections = Connections::new(alloc, node, life, port, word)?;
+    connections.run(rt, sockets, mesh.addresses, mesh.company, mesh.log)
+}
+
 /// Runs a server of these parts.
 fn run_named<N: NodeName, R: Wait + Net<Listener = Listener, Stream = Stream> + Clock>(
     rt: &R,
@@ -151,15 +172,8 @@ fn run_named<N: NodeName, R: Wait + Net<Listener = Listener, Stream = Stream> + 
 ) -> io::Result<()>
     requires { (parts.race ≡ N.race) × (parts.lanes ≡ N.lanes) × (parts.keep ≡ N.keep) }
 {
-    let Station {
-        life,
-        port,
-        word,
-        sockets,
-    } = station;
     let node: ThreadNode<TrieTable, N> = ThreadNode::start(alloc, parts)?;
-    let mut connections = Connections::new(alloc, &node, life, port, word)?;
-    connections.run(rt, sockets, mesh.addresses, mesh.company, mesh.log)
+    run_connections(rt, alloc, &node, station, mesh)
 }
 
 /// Runs a server.
@@ -253,34 +267,68 @@ fn tell_log<R: Wait + Clock>(rt: &R, options: &Options, log: &EventLog)
     }
 }
 
-/// Runs all servers, whose sockets are bound, and tells what happens at them on standard error.
+/// The servers of a mesh, with their sockets bound.
+fn stations<R: Net>(rt: &R, alloc: Global, options: &Options) -> Result<Vec<Station>, ServeFault>
+    requires { AreWithin options.now }
+{
+    let mut all = Vec::new(alloc);
+    for place in 0..options.nodes {
+        all.push(bound_station(rt, alloc, options, place)?)?;
+    }
+    Ok(all)
+}
+
+/// What wakes each server.
+fn wakers(alloc: Global, stations: &[Station]) -> Result<Vec<Waker>, ServeFault> {
+    let mut all = Vec::new(alloc);
+    for station in stations {
+        all.push(Waker::new(station.sockets.poll.registry(), WAKER)?)?;
+    }
+    Ok(all)
+}
+
+/// A mesh before it runs: its servers, where other servers connect to each, and what they share.
+#[derive(Drop)]
+struct BoundMesh {
+    stations: Vec<Station>,
+    addresses: Vec<SocketAddr>,
+    company: Company,
+}
+
+/// A mesh whose sockets are bound.
+fn bound_mesh<R: Net>(rt: &R, alloc: Global, options: &Options) -> Result<BoundMesh, ServeFault>
+    requires { AreWithin options.now }
+{
+    let addresses = addresses(alloc, options)?;
+    let stations = stations(rt, alloc, options)?;
+    let company = Company::new(options.stop_after, wakers(alloc, &stations)?);
+    Ok(BoundMesh {
+        stations,
+        addresses,
+        company,
+    })
+}
+
+/// Tells standard output and the log that the mesh is ready, and runs it, whose sockets are bound.
 fn run_told<R>(
     rt: &R,
     alloc: Global,
     options: &Options,
-    stations: Vec<Station>,
-    addresses: &[SocketAddr],
-    company: &Company,
+    bound: BoundMesh,
+    log: &EventLog,
 ) -> Result<(), ServeFault>
 where
-    R: Threads
-        + Wait
-        + Net<Listener = Listener, Stream = Stream>
-        + Clock
-        + Print
-        + Eprint
-        + Copy
-        + Send
-        + Sync
-        + 'static,
+    R: Threads + Wait + Net<Listener = Listener, Stream = Stream> + Clock + Print + Sync,
     requires { AreWithin options.now }
 {
-    let log = EventLog::start(rt, alloc, options.log_level)?;
     tell(rt, options)?;
-    tell_log(rt, options, &log);
-    let ended = run_all(rt, alloc, stations, addresses, company, &log);
-    log.end(rt);
-    ended
+    tell_log(rt, options, log);
+    let BoundMesh {
+        stations,
+        addresses,
+        company,
+    } = bound;
+    run_all(rt, alloc, stations, &addresses, &company, log)
 }
 
 /// Serves the mesh that the options tell of, each server in a thread of its own. When all sockets are bound, a
@@ -303,14 +351,9 @@ where
         + 'static,
     requires { AreWithin options.now }
 {
-    let mut stations = Vec::new(alloc);
-    let mut wakers = Vec::new(alloc);
-    for place in 0..options.nodes {
-        let station = bound_station(rt, alloc, options, place)?;
-        wakers.push(Waker::new(station.sockets.poll.registry(), WAKER)?)?;
-        stations.push(station)?;
-    }
-    let addresses = addresses(alloc, options)?;
-    let company = Company::new(options.stop_after, wakers);
-    run_told(rt, alloc, options, stations, &addresses, &company)
+    let bound = bound_mesh(rt, alloc, options)?;
+    let log = EventLog::start(rt, alloc, options.log_level)?;
+    let ended = run_told(rt, alloc, options, bound, &log);
+    log.end(rt);
+    ended
 }

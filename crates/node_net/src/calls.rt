@@ -1,8 +1,9 @@
-//! Calls of a server that take its hub's lock for one call.
+//! Calls of a server that take the lock of its hub or of a shard for one call.
 
 use route_session::{SessionFault, SessionId};
 use route_values::{Numbered, RouteInfo};
-use server_calls::{HubCalls, ServerCalls};
+use server_calls::{HubCalls, ServerCalls, ShardCalls};
+use shard_core::Recipients;
 use std::alloc::{AllocError, Global};
 use std::sync::Wait;
 use subj::Failure;
@@ -38,7 +39,21 @@ pub(crate) fn push_jobs<C: ServerCalls, R: Wait>(rt: &R, node: C) {
     hub.push_jobs(rt);
 }
 
-/// Takes at most so many frames that wait for the server at this place; none where there is no such one.
+/// Takes at most so many frames that wait for the server at this place, of a hub that is held; none where there is no such one.
+fn frames_of<H: HubCalls>(
+    hub: &mut H,
+    alloc: Global,
+    peer: usize,
+    count: usize,
+) -> Result<Vec<Numbered>, AllocError> {
+    match hub.take_frames(peer, count) {
+        Ok(frames) => Ok(frames),
+        Err(Failure::Refused(_)) => Ok(Vec::new(alloc)),
+        Err(Failure::OutOfMemory) => Err(AllocError),
+    }
+}
+
+/// The same, of a hub that is held for this call.
 pub(crate) fn take_frames<C: ServerCalls, R: Wait>(
     rt: &R,
     node: C,
@@ -47,9 +62,17 @@ pub(crate) fn take_frames<C: ServerCalls, R: Wait>(
     count: usize,
 ) -> Result<Vec<Numbered>, AllocError> {
     let mut hub = node.hub(rt);
-    match hub.take_frames(peer, count) {
-        Ok(frames) => Ok(frames),
-        Err(Failure::Refused(_)) => Ok(Vec::new(alloc)),
-        Err(Failure::OutOfMemory) => Err(AllocError),
+    frames_of(&mut hub, alloc, peer, count)
+}
+
+/// Hands out for which clients of a shard something was put since the last time, for those that were handed out then.
+pub(crate) fn swap_recipients<C: ServerCalls, R: Wait>(
+    rt: &R,
+    node: C,
+    shard: u64,
+    recipients: &mut Recipients,
+) {
+    if let Some(mut shard) = node.shard(rt, shard) {
+        shard.swap_recipients(recipients);
     }
 }

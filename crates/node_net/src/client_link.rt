@@ -1,20 +1,226 @@
-//! A client's connection: what its bytes ask for, asked of its shard and of the hub.
+//! A client's connection: what its bytes ask for, asked of its shard and of the hub, which are held with a count of what is asked in a run.
+
+ghost use Rattle.std.specs.Prelude.{⊤};
 
 use crate::limits::SHARD_RUN;
-use crate::runs::{Ran, Run};
-use crate::sids::Sids;
-use crate::tallies::{HubTally, ShardTally};
-use client_calls::{ClientCalls, ClientLink as Calls, Served};
+use crate::runs::{Ran, Run, cost_of};
+use client_calls::{ClientCalls, ClientLink as Calls, Outcome, Served};
 use client_conn::{ReadFault, Refusal};
+use client_frames::{ErrText, ReplyFrame};
+use rand_core::utils::NextWord;
 use rand_pcg::Pcg64;
 use server_calls::{HubCalls, ServerCalls, ShardCalls};
 use std::alloc::{AllocError, Global};
+use std::collections::BTreeSet;
 use std::sync::Wait;
-use subj::{ConnId, Failure, Server as Life, WINDOW};
+use subj::{ConnId, Failure, Key, Pub, SUBSCRIPTIONS, Server as Life, Sid, WINDOW};
 use wire_cut::Source;
 
+/// What a client calls its open subscriptions, but for those that end by themselves (`UNSUB` with a maximum), and those for which there was
+/// no memory here. A hint by which many are closed some at a time.
+#[derive(Drop)]
+struct Sids {
+    alloc: Global,
+    texts: BTreeSet<Vec<u8>>,
+}
+
+impl Sids {
+    /// There are none.
+    fn new(alloc: Global) -> Sids {
+        Sids {
+            alloc,
+            texts: BTreeSet::new(alloc),
+        }
+    }
+
+    /// How many there are.
+    fn len(&self) -> usize {
+        self.texts.len()
+    }
+
+    /// One more is open. Of no more than a server has in all is it kept what they are called.
+    fn add(&mut self, sid: &Sid) {
+        if self.texts.len() as u64 >= SUBSCRIPTIONS {
+            return;
+        }
+        if let Ok(text) = Vec::from_slice(self.alloc, sid.bytes()) {
+            let _ = self.texts.insert(text);
+        }
+    }
+
+    /// One is closed, or ends by itself.
+    fn lose(&mut self, sid: &Sid) {
+        self.texts.remove(sid.bytes());
+    }
+
+    /// Takes one of them out. None where there is none, and for want of memory.
+    fn pop(&mut self) -> Option<Sid> {
+        let text = self.texts.pop_last()?;
+        Sid::read(self.alloc, &text).ok()
+    }
+}
+
+/// How much was put for the client itself, with an answer to what came to this; none where it is not answered.
+fn replied_after(replied: usize, outcome: Outcome) -> usize {
+    match outcome {
+        Outcome::Done | Outcome::Refused(_) => replied.saturating_add(cost_of(0)),
+        Outcome::Shut | Outcome::Short | Outcome::Elsewhere => replied,
+    }
+}
+
+/// As how many bytes a publication counts that came to this; one that was not handed on counts as none.
+fn issued_by(said: &Pub, outcome: Outcome) -> usize {
+    match outcome {
+        Outcome::Done => cost_of(said.message.payload().len()),
+        _ => 0,
+    }
+}
+
+/// Notes what a client calls a subscription, where it was opened.
+fn note_opened(sids: &mut Sids, sid: &Sid, outcome: Outcome) {
+    if outcome == Outcome::Done {
+        sids.add(sid);
+    }
+}
+
+/// A shard that is held, what a client calls its subscriptions, and how much was put for the client itself.
+#[derive(Drop)]
+struct ShardTally<S: ShardCalls> {
+    shard: S,
+    sids: Sids,
+    so_far: Run,
+}
+
+impl<S: ShardCalls> ShardTally<S> {
+    /// Nothing was asked.
+    fn new(shard: S, sids: Sids) -> ShardTally<S> {
+        ShardTally {
+            shard,
+            sids,
+            so_far: Run::of(Ran::Goes),
+        }
+    }
+
+    /// What was asked, in a run that came to this.
+    fn run(&self, end: Ran) -> Run {
+        let mut run = self.so_far;
+        run.end = end;
+        run
+    }
+}
+
+impl<S: ShardCalls> ClientCalls for ShardTally<S> {
+    ghost made = { λ before called after. S.made before.shard called after.shard };
+
+    fn attach(&mut self) -> Result<ConnId, Failure<Refusal>> {
+        self.shard.attach()
+    }
+
+    fn reply(&mut self, conn: ConnId, frame: &ReplyFrame) -> Outcome {
+        let outcome = self.shard.reply(conn, frame);
+        self.so_far.is_empty = false;
+        self.so_far.replied = replied_after(self.so_far.replied, outcome);
+        outcome
+    }
+
+    fn shut(&mut self, conn: ConnId, text: ErrText) -> Outcome {
+        let outcome = self.shard.shut(conn, text);
+        self.so_far.is_empty = false;
+        self.so_far.is_refused = outcome == Outcome::Shut;
+        self.so_far.replied = replied_after(self.so_far.replied, outcome);
+        outcome
+    }
+
+    fn subscribe(&mut self, conn: ConnId, key: &Key, sid: &Sid) -> Outcome {
+        let outcome = self.shard.subscribe(conn, key, sid);
+        self.so_far.is_empty = false;
+        note_opened(&mut self.sids, sid, outcome);
+        self.so_far.replied = replied_after(self.so_far.replied, outcome);
+        outcome
+    }
+
+    fn unsubscribe(&mut self, conn: ConnId, sid: &Sid, max: Option<u64>) -> Outcome {
+        let outcome = self.shard.unsubscribe(conn, sid, max);
+        self.so_far.is_empty = false;
+        self.sids.lose(sid);
+        self.so_far.replied = replied_after(self.so_far.replied, outcome);
+        outcome
+    }
+
+    fn publish(&mut self, conn: ConnId, said: &Pub) -> Outcome {
+        self.shard.publish(conn, said)
+    }
+
+    fn detach(&mut self, conn: ConnId) -> Result<(), AllocError> {
+        self.shard.detach(conn)
+    }
+}
+
+/// A hub that is held, the words that it is given, and what was published.
+#[derive(Drop)]
+struct HubTally<H: HubCalls> {
+    hub: H,
+    words: Pcg64,
+    so_far: Run,
+}
+
+impl<H: HubCalls> HubTally<H> {
+    /// Nothing was published.
+    fn new(hub: H, words: Pcg64) -> HubTally<H> {
+        HubTally {
+            hub,
+            words,
+            so_far: Run::of(Ran::Goes),
+        }
+    }
+
+    /// What was published, in a run that came to this.
+    fn run(&self, end: Ran) -> Run {
+        let mut run = self.so_far;
+        run.end = end;
+        run
+    }
+}
+
+// What a publication made of the hub is not told, since `HubCalls` does not tell it. A hub has no connections of its own.
+impl<H: HubCalls> ClientCalls for HubTally<H> {
+    ghost made = { λ _ _ _. ⊤ };
+
+    fn attach(&mut self) -> Result<ConnId, Failure<Refusal>> {
+        Err(Failure::Refused(Refusal::Other))
+    }
+
+    fn reply(&mut self, _conn: ConnId, _frame: &ReplyFrame) -> Outcome {
+        Outcome::Elsewhere
+    }
+
+    fn shut(&mut self, _conn: ConnId, _text: ErrText) -> Outcome {
+        Outcome::Elsewhere
+    }
+
+    fn subscribe(&mut self, _conn: ConnId, _key: &Key, _sid: &Sid) -> Outcome {
+        Outcome::Elsewhere
+    }
+
+    fn unsubscribe(&mut self, _conn: ConnId, _sid: &Sid, _max: Option<u64>) -> Outcome {
+        Outcome::Elsewhere
+    }
+
+    fn publish(&mut self, conn: ConnId, said: &Pub) -> Outcome {
+        self.so_far.is_empty = false;
+        let word = self.words.next_word();
+        let outcome = self.hub.publish(conn, said, word);
+        self.so_far.count(issued_by(said, outcome));
+        outcome
+    }
+
+    fn detach(&mut self, _conn: ConnId) -> Result<(), AllocError> {
+        Ok(())
+    }
+}
+
 /// Of whom the next ask is asked first.
-#[derive(Clone, Copy, Debug, PartialEq, Eq)]
+#[derive(Clone, Copy, PartialEq, Eq)]
 enum Place {
     Shard,
     Hub,
@@ -188,12 +394,19 @@ impl ClientLink {
 
     /// Asks its shard, up to a publication.
     fn ask<C: ServerCalls, R: Wait>(&mut self, rt: &R, node: C) -> Run {
-        let Some(shard) = node.shard(rt, self.shard) else {
-            return Run::of(Ran::Refused);
-        };
-        let sids = std::mem::replace(&mut self.sids, Sids::new(self.alloc));
-        let mut tally = ShardTally::new(shard, sids);
-        let served = served_of(self.calls.serve(&mut tally, SHARD_RUN));
+        match node.shard(rt, self.shard) {
+            None => Run::of(Ran::Refused),
+            Some(shard) => {
+                let sids = std::mem::replace(&mut self.sids, Sids::new(self.alloc));
+                let mut tally = ShardTally::new(shard, sids);
+                self.ask_held(&mut tally)
+            }
+        }
+    }
+
+    /// Asks its shard, which is held, up to a publication.
+    fn ask_held<S: ShardCalls>(&mut self, tally: &mut ShardTally<S>) -> Run {
+        let served = served_of(self.calls.serve(tally, SHARD_RUN));
         let mut run = tally.run(ran_of(served));
         run.has_deltas = !run.is_empty && tally.shard.has_deltas();
         std::mem::swap(&mut self.sids, &mut tally.sids);

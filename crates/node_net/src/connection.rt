@@ -2,14 +2,18 @@
 
 ghost use Rattle.std.specs.Prelude.{◌≤◌};
 
+use crate::calls::cut;
 use crate::client_link::ClientLink;
 use crate::limits::{FIRST_READ, IDLE_BYTES};
-use crate::route_link::RouteLink;
-use crate::telling::Cause;
+use crate::route_link::{RouteLink, Stepped};
 use client_conn::ReadFault;
 use net_streams::{Outgoing, Stream, Wire};
-use std::alloc::Global;
-use subj::{ConnId, READ_BYTES};
+use rand_pcg::Pcg64;
+use server_calls::{ServerCalls, ShardCalls};
+use server_events::{ClientCause, Event};
+use std::alloc::{AllocError, Global};
+use std::sync::Wait;
+use subj::{ConnId, Failure, READ_BYTES, Server as Life};
 use wire_cut::FillFault;
 
 /// By how much the parts grow.
@@ -34,7 +38,7 @@ pub(crate) enum Link {
 }
 
 /// Whether a connection goes on.
-#[derive(Clone, Copy, Debug, PartialEq, Eq)]
+#[derive(Clone, Copy, PartialEq, Eq)]
 pub(crate) enum Ending {
     /// It goes on.
     Open,
@@ -44,11 +48,48 @@ pub(crate) enum Ending {
     Gone,
 }
 
+/// Why the server ends a connection.
+#[derive(Clone, Copy)]
+pub(crate) enum Cause {
+    /// More waited for a client than its outbox has room for.
+    Slow,
+    /// What came is refused.
+    Refused,
+    /// Its deadline came.
+    Overdue,
+    /// A change of interest had no room among what waits for another server.
+    Full,
+    /// There was no memory for what it was owed.
+    OutOfMemory,
+    /// Its stream cannot be watched.
+    Unwatched,
+}
+
+/// What is told of a client whose connection was ended for this cause.
+fn client_cause(cause: Cause) -> ClientCause {
+    match cause {
+        Cause::Slow => ClientCause::Slow,
+        Cause::Refused | Cause::Full => ClientCause::Refused,
+        Cause::Overdue => ClientCause::Unread,
+        Cause::OutOfMemory => ClientCause::OutOfMemory,
+        Cause::Unwatched => ClientCause::Unwatched,
+    }
+}
+
+/// The connection of a client is closed for this cause, and so many bytes wait for it.
+fn closed(client: ConnId, cause: Cause, waiting: usize) -> Event {
+    Event::ClientClosed {
+        client,
+        cause: client_cause(cause),
+        waiting: waiting as u64,
+    }
+}
+
 /// A connection.
 #[derive(Drop)]
 pub(crate) struct Connection<S: Stream> {
     wire: Wire<S>,
-    pub link: Link,
+    link: Link,
     out: Outgoing,
     ending: Ending,
     /// How many bytes are read at once.
@@ -58,7 +99,7 @@ pub(crate) struct Connection<S: Stream> {
     /// When its buffer is given back, in milliseconds since the loop began; never for the greatest number.
     rests_at: u64,
     /// Whether there may be more to read.
-    pub has_more: bool,
+    has_more: bool,
     /// Whether the other end is known to send nothing any more, so that it is read until its end.
     pub hangs_up: bool,
     /// Whether what was read waits for memory.
@@ -72,7 +113,7 @@ pub(crate) struct Connection<S: Stream> {
     /// Why the server ends it, where it does.
     pub cause: Option<Cause>,
     /// Whether it is told that it ends.
-    pub is_told: bool,
+    is_told: bool,
     /// When it is given up, in milliseconds since the loop began; never for the greatest number.
     deadline: u64,
     /// Whether its stream took a byte of what waited, since it was last watched.
@@ -126,8 +167,14 @@ impl<S: Stream> Connection<S> {
         wire.into_stream()
     }
 
-    /// Reads once, unless what was read before waits for memory.
-    pub fn read(&mut self) {
+    /// Reads once, unless what was read before waits for memory. Whether memory is wanting now, and was not before.
+    pub fn read(&mut self) -> bool {
+        let was_short = self.is_short;
+        self.read_once();
+        self.is_short && !was_short
+    }
+
+    fn read_once(&mut self) {
         if self.ending != Ending::Open {
             return;
         }
@@ -164,8 +211,16 @@ impl<S: Stream> Connection<S> {
         self.rests_at
     }
 
-    /// Its buffer is given back, of a client's with the next read.
-    pub fn rest(&mut self) {
+    /// Its buffer is given back where the time has come, of a client's with the next read. Whether it was.
+    pub fn rest_if_idle(&mut self, now: u64) -> bool {
+        if self.rests_at > now {
+            return false;
+        }
+        self.rest();
+        true
+    }
+
+    fn rest(&mut self) {
         self.part = FIRST_READ;
         self.read = 0;
         self.rests_at = u64::MAX;
@@ -194,6 +249,24 @@ impl<S: Stream> Connection<S> {
         }
     }
 
+    /// Does what was read asks next, where it goes on.
+    pub fn step<C: ServerCalls, R: Wait>(
+        &mut self,
+        rt: &R,
+        node: C,
+        life: &Life,
+        words: &mut Pcg64,
+    ) -> Option<Stepped> {
+        if self.ending() != Ending::Open {
+            return None;
+        }
+        self.is_short = false;
+        Some(match &mut self.link {
+            Link::Client(client) => Stepped::Ran(client.advance(rt, node, words)),
+            Link::Route(route) => route.advance(rt, node, life),
+        })
+    }
+
     /// Whether it goes on, with something to be done although nothing may tell of it.
     pub fn goes_on(&self) -> bool {
         self.ending() == Ending::Open && (self.has_more || self.is_short)
@@ -215,6 +288,41 @@ impl<S: Stream> Connection<S> {
     /// Whether the other end sends nothing any more.
     pub fn has_ended(&self) -> bool {
         self.wire.has_ended()
+    }
+
+    /// Its other end sends nothing any more: a route is closed. Whether it is a client that goes on.
+    pub fn end(&mut self) -> bool {
+        if self.ending() != Ending::Open {
+            return false;
+        }
+        if self.client().is_none() {
+            self.give_up();
+            return false;
+        }
+        true
+    }
+
+    /// A client leaves its shard, and has what waits for it sent to it, which stands in the list then.
+    pub fn leave<C: ServerCalls, R: Wait>(
+        &mut self,
+        rt: &R,
+        node: C,
+        waiting: &mut Vec<u8>,
+    ) -> Result<(), AllocError> {
+        let left = match &mut self.link {
+            Link::Client(client) => client.leave(rt, node, waiting),
+            Link::Route(_) => Ok(()),
+        };
+        self.send(waiting);
+        left
+    }
+
+    /// Closes some of the subscriptions of a client that has many. Whether it did.
+    pub fn close_some<C: ServerCalls, R: Wait>(&mut self, rt: &R, node: C) -> bool {
+        match &mut self.link {
+            Link::Client(client) => client.close_some(rt, node),
+            Link::Route(_) => false,
+        }
     }
 
     /// It is closed once all that waits for it is written, and at the latest at this time.
@@ -261,7 +369,7 @@ impl<S: Stream> Connection<S> {
     }
 
     /// Whether it is a route whose session is kept.
-    pub fn is_kept(&self) -> bool {
+    fn is_kept(&self) -> bool {
         match &self.link {
             Link::Client(_) => false,
             Link::Route(route) => route.is_kept(),
@@ -277,6 +385,59 @@ impl<S: Stream> Connection<S> {
     pub fn want_memory(&mut self) {
         self.cause = self.cause.or(Some(Cause::OutOfMemory));
         self.give_up();
+    }
+
+    /// The server ends it for this cause, unless there was another before. What is to be told of a client then, with how many bytes wait for
+    /// it, beside so many that are about to be written.
+    pub fn blame(&mut self, cause: Cause, taken: usize) -> Option<Event> {
+        if self.cause.is_some() {
+            return None;
+        }
+        self.cause = Some(cause);
+        let client = self.client()?;
+        self.is_told = true;
+        Some(closed(client, cause, self.backlog().saturating_add(taken)))
+    }
+
+    /// What is to be told of a client that is gone, of its own accord, or for a cause that was not told.
+    pub fn farewell(&self, client: ConnId) -> Option<Event> {
+        match self.cause {
+            None => Some(Event::ClientGone { client }),
+            Some(cause) if !self.is_told => Some(closed(client, cause, self.backlog())),
+            Some(_) => None,
+        }
+    }
+
+    /// Whether it is a route whose other end is to tell still who it is.
+    pub fn is_unknown(&self) -> bool {
+        match &self.link {
+            Link::Client(_) => false,
+            Link::Route(route) => !route.is_kept(),
+        }
+    }
+
+    /// Whether it is to be closed at the end of the turn, and is not noted among those.
+    pub fn is_to_leave(&self) -> bool {
+        self.ending() == Ending::Gone && !self.is_leaving
+    }
+
+    /// A client is detached, the session of a route is cut. Want of memory changes nothing.
+    pub fn detach<C: ServerCalls, R: Wait>(&self, rt: &R, node: C) -> Result<(), AllocError> {
+        match &self.link {
+            Link::Client(client) => client.detach(rt, node),
+            Link::Route(route) => {
+                cut(rt, node, route.session);
+                Ok(())
+            }
+        }
+    }
+
+    /// The shard that a client is of, counted from 1.
+    pub fn shard(&self) -> Option<u64> {
+        match &self.link {
+            Link::Client(client) => Some(client.shard),
+            Link::Route(_) => None,
+        }
     }
 
     /// The client at the other end, where there is one.
@@ -295,9 +456,37 @@ impl<S: Stream> Connection<S> {
         }
     }
 
-    /// Whether it is to be closed, and all that waited for it is written.
-    pub fn is_done(&self) -> bool {
-        self.ending == Ending::Shut && self.is_flushed()
+    /// A client of this shard that is shut there is closed once its last bytes are written, and at the latest at this time, whatever its
+    /// stream takes. Whether it was open before.
+    pub fn shut_if_slow<H: ShardCalls>(&mut self, shard: &H, deadline: u64) -> bool {
+        let Some(client) = self.client_of(shard.shard()) else {
+            return false;
+        };
+        if shard.is_open(client) {
+            return false;
+        }
+        let was_open = self.ending() == Ending::Open;
+        self.shut(deadline);
+        was_open
+    }
+
+    /// Takes what waits for a client of this shard, where all that was taken for it before is written. Where it is much, and nothing stands
+    /// in `lent`, it comes in the outbox's own buffer: so no outbox keeps a large one.
+    pub fn take_from<H: ShardCalls>(
+        &self,
+        shard: &mut H,
+        lent: &mut Vec<u8>,
+    ) -> Result<(), AllocError> {
+        let Some(client) = self.client_of(shard.shard()) else {
+            return Ok(());
+        };
+        if !self.is_flushed() || self.has_failed() {
+            return Ok(());
+        }
+        match shard.take_bytes(client, usize::MAX, lent) {
+            Err(Failure::OutOfMemory) => Err(AllocError),
+            _ => Ok(()),
+        }
     }
 
     /// Whether all bytes that were sent are written.
@@ -319,6 +508,23 @@ impl<S: Stream> Connection<S> {
             bytes
         };
         if self.out.append(rest).is_err() {
+            self.want_memory();
+        }
+    }
+
+    /// Sends what was taken for it. It is given up once it is to be closed and all is written.
+    pub fn send_taken(&mut self, bytes: &[u8]) {
+        self.send(bytes);
+        if self.ending == Ending::Shut && self.is_flushed() {
+            self.give_up();
+        }
+    }
+
+    /// Sends what was spelt, where there was memory for it.
+    pub fn send_spelt(&mut self, spelt: &[u8], is_whole: bool) {
+        if is_whole {
+            self.send(spelt);
+        } else {
             self.want_memory();
         }
     }

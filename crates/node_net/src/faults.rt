@@ -3,10 +3,11 @@
 use client_conn::Refusal;
 use route_session::SessionFault;
 use std::alloc::AllocError;
+use subj::Failure;
 use thiserror::Error;
 
 /// Why a stream is not taken. It is closed.
-#[derive(Clone, Copy, Debug, PartialEq, Eq, Error)]
+#[derive(Clone, Copy, Debug, Error)]
 pub enum AddFault {
     /// No client is taken any more: the numbers of connections have come to their limit.
     #[error("no client is taken any more: {0}")]
@@ -22,5 +23,23 @@ pub enum AddFault {
 impl From<AllocError> for AddFault {
     fn from(_: AllocError) -> AddFault {
         AddFault::OutOfMemory
+    }
+}
+
+impl From<Failure<Refusal>> for AddFault {
+    fn from(failure: Failure<Refusal>) -> AddFault {
+        match failure {
+            Failure::Refused(refusal) => AddFault::Client(refusal),
+            Failure::OutOfMemory => AddFault::OutOfMemory,
+        }
+    }
+}
+
+impl From<Failure<SessionFault>> for AddFault {
+    fn from(failure: Failure<SessionFault>) -> AddFault {
+        match failure {
+            Failure::Refused(fault) => AddFault::Route(fault),
+            Failure::OutOfMemory => AddFault::OutOfMemory,
+        }
     }
 }

@@ -10,11 +10,11 @@
 //!
 //! The server is whatever makes the calls of `server_calls`.
 //!
-//! In reading order: `client_link` and `route_link` make calls of what was read (`calls`), count them (`tallies`, `sids`), and tell what
-//! they have come to (`runs`);
-//! `connection` has one of them with its stream; `server` has all connections, and finds those of clients (`clients`) and of other servers
-//! (`peers`); `turning`, `flushing` and `leaving` are a turn of its loop, and `running` is the loop. `deadlines`, `redials` and `company`
-//! say when connections are closed, other servers dialed again, and the loop ended, by the `limits`; `faults` why no stream is taken.
+//! In reading order: `client_link` and `route_link` make calls of what was read (`calls`), and tell what they have come to (`runs`);
+//! `connection` has one of them with its stream; `connections` has all of them, and what is noted of each until it is done; `server` takes them
+//! and lets them go, and finds those of clients (`clients`) and of other servers (`peers`); `turning` and `flushing` are a turn of its loop, by
+//! what was `taken` for clients, and `running` is the loop. `company` says when the loop ends, the `limits` when and how much of everything, and
+//! `faults` why no stream is taken.
 #![tactic(auto)]
 
 mod calls;
@@ -22,21 +22,17 @@ mod client_link;
 mod clients;
 mod company;
 mod connection;
-mod deadlines;
+mod connections;
 mod faults;
 mod flushing;
-mod leaving;
 mod limits;
 mod peers;
 mod placing;
-mod redials;
 mod route_link;
 mod running;
 mod runs;
 mod server;
-mod sids;
-mod tallies;
-mod telling;
+mod taken;
 mod turning;
 
 pub use company::Company;

@@ -1,20 +1,21 @@
-//! Over which connections the other servers of the cluster are reached.
+//! Over which connections the other servers of the cluster are reached, and when they are dialed again.
 
+use crate::limits::{FIRST_PAUSE, LAST_PAUSE};
 use std::alloc::{AllocError, Global};
 
 /// What leads to one other server.
-#[derive(Clone, Copy, Debug, PartialEq, Eq)]
-pub(crate) struct Way {
+#[derive(Clone, Copy)]
+struct Way {
     /// The connection whose session is kept.
-    pub kept: Option<usize>,
+    kept: Option<usize>,
     /// The connection that this server has dialed, while its session is not complete.
-    pub dialed: Option<usize>,
+    dialed: Option<usize>,
     /// As how many bytes the large messages count, at most, that wait for it in the hub.
-    pub held: usize,
+    held: usize,
 }
 
 /// What leads to each server of the cluster, by its place.
-#[derive(Debug, Drop)]
+#[derive(Drop)]
 pub(crate) struct Peers {
     ways: Vec<Way>,
 }
@@ -50,7 +51,12 @@ impl Peers {
 
     /// The place of the server whose session with this connection is kept.
     pub fn place_of(&self, key: usize) -> Option<usize> {
-        self.ways.iter().position(|way| is_at(way.kept, key))
+        for (place, way) in self.ways.iter().enumerate() {
+            if is_at(way.kept, key) {
+                return Some(place);
+            }
+        }
+        None
     }
 
     /// Whether the server at this place is reached, or is being dialed.
@@ -78,7 +84,10 @@ impl Peers {
         let old = way.kept;
         way.kept = Some(key);
         way.held = 0;
-        old.filter(|old| *old != key)
+        match old {
+            Some(old) if old != key => Some(old),
+            _ => None,
+        }
     }
 
     /// Large messages that count as so many bytes may wait for each server.
@@ -112,6 +121,78 @@ impl Peers {
             if is_at(way.dialed, key) {
                 way.dialed = None;
             }
+        }
+    }
+}
+
+/// When a server is dialed next. Times are milliseconds since the loop began.
+#[derive(Clone, Copy)]
+struct Redial {
+    at: u64,
+    pause: u64,
+    /// Since when it is reached, where it is.
+    since: Option<u64>,
+}
+
+/// When each server of the cluster is dialed next.
+#[derive(Drop)]
+pub(crate) struct Redials {
+    redials: Vec<Redial>,
+}
+
+impl Redials {
+    /// All of so many may be dialed at once.
+    pub fn new(alloc: Global, count: usize) -> Result<Redials, AllocError> {
+        let mut redials = Vec::with_capacity(alloc, count)?;
+        for _place in 0..count {
+            redials.push(Redial {
+                at: 0,
+                pause: FIRST_PAUSE,
+                since: None,
+            })?;
+        }
+        Ok(Redials { redials })
+    }
+
+    /// Whether the server at this place may be dialed now.
+    pub fn is_due(&self, place: usize, now: u64) -> bool {
+        match self.redials.get(place) {
+            None => false,
+            Some(redial) => redial.at <= now,
+        }
+    }
+
+    /// When the server at this place may be dialed.
+    pub fn due(&self, place: usize) -> u64 {
+        match self.redials.get(place) {
+            None => u64::MAX,
+            Some(redial) => redial.at,
+        }
+    }
+
+    /// The server at this place is dialed now: the pause before the next time is twice as long.
+    pub fn dial(&mut self, place: usize, now: u64) {
+        if let Some(redial) = self.redials.get_mut(place) {
+            redial.at = now.saturating_add(redial.pause);
+            redial.pause = redial.pause.saturating_mul(2).min(LAST_PAUSE);
+        }
+    }
+
+    /// The server at this place is reached now, or is not. Once it was reached as long as the longest pause it is
+    /// dialed at once where it is lost, and before only after the pause: its other end may refuse each route.
+    pub fn look(&mut self, place: usize, now: u64, is_reached: bool) {
+        let Some(redial) = self.redials.get_mut(place) else {
+            return;
+        };
+        if !is_reached {
+            redial.since = None;
+            return;
+        }
+        let since = redial.since.unwrap_or(now);
+        redial.since = Some(since);
+        if now.saturating_sub(since) >= LAST_PAUSE {
+            redial.at = 0;
+            redial.pause = FIRST_PAUSE;
         }
     }
 }

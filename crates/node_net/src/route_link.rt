@@ -13,7 +13,7 @@ use subj::{Failure, Incarnation, MAX_SNAPSHOT, ROUTE_LINE, Server as Life, WINDO
 use wire_cut::{Cutter, FillFault, Piece, Source};
 
 /// How far the session of a route is.
-#[derive(Clone, Copy, Debug, PartialEq, Eq)]
+#[derive(Clone, Copy)]
 pub(crate) enum Stage {
     /// This server dialed the one at this place, and waits for its `INFO`.
     Dialed(usize),
@@ -24,7 +24,7 @@ pub(crate) enum Stage {
 }
 
 /// What a route was told to send, and with whom its session is kept now.
-#[derive(Debug, Drop)]
+#[derive(Drop)]
 pub(crate) struct Greeted {
     pub peer: usize,
     pub answer: Option<RouteConnect>,
@@ -80,6 +80,28 @@ pub(crate) fn weight_of(frame: &Numbered) -> usize {
     match frame.body() {
         Body::Msg { message, .. } => cost_of(message.payload().len()),
         _ => 0,
+    }
+}
+
+impl Heard {
+    /// Whether the frame is done with.
+    fn is_taken(&self) -> bool {
+        match self {
+            Heard::Done(_) | Heard::Last(_) => true,
+            Heard::Ended(_) => false,
+        }
+    }
+}
+
+/// What has become of a frame that counts as so many bytes, and may be of the life of the server that the session is kept with, by what the
+/// hub made of it.
+fn heard_of(done: Result<(), Failure<HubFault>>, bytes: usize, is_of_life: bool) -> Heard {
+    match done {
+        Ok(()) if is_of_life => Heard::Done(bytes),
+        Ok(()) => Heard::Last(bytes),
+        Err(Failure::Refused(HubFault::Late)) => Heard::Done(0),
+        Err(Failure::Refused(HubFault::Busy(_))) => Heard::Ended(Ran::Busy),
+        Err(fault) => Heard::Ended(end_of(fault)),
     }
 }
 
@@ -156,20 +178,25 @@ impl RouteLink {
         if !self.cutter.after_line() {
             return Err(Missing::Refused);
         }
-        self.cutter.expect(size).map_err(|_| Missing::Refused)
+        match self.cutter.expect(size) {
+            Ok(()) => Ok(()),
+            Err(_) => Err(Missing::Refused),
+        }
     }
 
     /// Reads the next line, and announces its payload.
     fn begin_frame(&mut self) -> Result<(), Missing> {
         let line = self.next_line()?;
         match line.payload_size() {
-            None => put(&mut self.unjoined, Some((line, Bytes::new()))),
+            None => {
+                put(&mut self.unjoined, Some((line, Bytes::new())));
+                Ok(())
+            }
             Some(size) => {
-                self.expect(size)?;
                 put(&mut self.line, Some(line));
+                self.expect(size)
             }
         }
-        Ok(())
     }
 
     /// Joins a line and its payload.
@@ -343,21 +370,26 @@ impl RouteLink {
         if let Some(end) = self.look_ahead() {
             return Heard::Ended(end);
         }
-        let Some(RouteFrame::Numbered(frame)) = &self.ahead else {
-            return Heard::Ended(Ran::Goes);
-        };
+        let heard = self.hear_ahead(hub, life);
+        if heard.is_taken() {
+            put(&mut self.ahead, None);
+        }
+        heard
+    }
+
+    /// Has the hub take the frame that is to be taken next, where it is a numbered one.
+    fn hear_ahead<H: HubCalls>(&self, hub: &mut H, life: &Life) -> Heard {
+        match &self.ahead {
+            Some(RouteFrame::Numbered(frame)) => self.hear(hub, life, frame),
+            _ => Heard::Ended(Ran::Goes),
+        }
+    }
+
+    /// Has the hub take a frame, where it is of the server that the session is kept with.
+    fn hear<H: HubCalls>(&self, hub: &mut H, life: &Life, frame: &Numbered) -> Heard {
         if !self.is_of_peer(frame, life) {
             return Heard::Ended(Ran::Refused);
         }
-        let bytes = weight_of(frame);
-        let done = match hub.receive(frame) {
-            Ok(_) if !self.is_of_life(frame) => Heard::Last(bytes),
-            Ok(_) => Heard::Done(bytes),
-            Err(Failure::Refused(HubFault::Late)) => Heard::Done(0),
-            Err(Failure::Refused(HubFault::Busy(_))) => return Heard::Ended(Ran::Busy),
-            Err(fault) => return Heard::Ended(end_of(fault)),
-        };
-        put(&mut self.ahead, None);
-        done
+        heard_of(hub.receive(frame), weight_of(frame), self.is_of_life(frame))
     }
 }

@@ -1,15 +1,16 @@
 //! The loop of a server's thread: it polls, accepts, dials, and turns.
 
 use crate::company::Company;
+use crate::connection::Cause;
+use crate::faults::AddFault;
 use crate::limits::{ACCEPTS, EVENTS, RETRY};
-use crate::redials::Redials;
+use crate::peers::Redials;
 use crate::server::{Server, Side};
-use crate::telling::Cause;
 use mio::net::{TcpListener, TcpStream};
 use mio::{Events, Interest, Poll, Token};
 use server_calls::ServerCalls;
-use server_events::{Caller, EventSink, SystemCause};
-use std::alloc::Global;
+use server_events::{Caller, Event, EventSink, RefusalCause, SystemCause};
+use std::alloc::{AllocError, Global};
 use std::io;
 use std::net::{Net, SocketAddr};
 use std::rt::Clock;
@@ -36,36 +37,40 @@ pub struct Sockets {
     pub routes: TcpListener,
 }
 
-/// What the loop keeps beside the connections.
+/// Where connections come in.
 #[derive(Drop)]
-struct Rounds {
-    start: Instant,
-    redials: Redials,
-    /// The connections that are ready.
-    ready: Vec<usize>,
-    /// Whether there may be more connections to accept.
-    has_clients: bool,
-    has_routes: bool,
-    /// Whether accepting failed for another cause than that there is none.
-    has_failed: bool,
+struct Door {
+    listener: TcpListener,
+    /// Who is at the other end.
+    side: Side,
+    /// Whether there may be more to accept.
+    has_more: bool,
 }
 
-impl Rounds {
-    fn new(alloc: Global, start: Instant, count: usize) -> io::Result<Rounds> {
-        Ok(Rounds {
-            start,
-            redials: Redials::new(alloc, count)?,
-            ready: Vec::with_capacity(alloc, EVENTS)?,
-            has_clients: true,
-            has_routes: true,
-            has_failed: false,
-        })
+impl Door {
+    fn new(listener: TcpListener, side: Side) -> Door {
+        Door {
+            listener,
+            side,
+            has_more: true,
+        }
     }
 
-    /// Milliseconds since the start.
-    fn time<R: Clock>(&self, rt: &R) -> io::Result<u64> {
-        let passed = self.start.elapsed(rt)?.as_millis();
-        Ok(passed.min(u64::MAX as u128) as u64)
+    /// Whether clients come in here.
+    fn is_for_clients(&self) -> bool {
+        match self.side {
+            Side::Client => true,
+            Side::Accepted | Side::Dialed(_) => false,
+        }
+    }
+
+    /// The next connection.
+    fn accept(&self) -> Accepted {
+        match self.listener.accept() {
+            Ok((stream, _)) => Accepted::Stream(stream),
+            Err(error) if error.kind() == io::ErrorKind::WouldBlock => Accepted::Nothing,
+            Err(error) => Accepted::Failed(SystemCause::of(&error)),
+        }
     }
 }
 
@@ -76,12 +81,82 @@ enum Accepted {
     Failed(SystemCause),
 }
 
-/// The next connection.
-fn accept(listener: &TcpListener) -> Accepted {
-    match listener.accept() {
-        Ok((stream, _)) => Accepted::Stream(stream),
-        Err(error) if error.kind() == io::ErrorKind::WouldBlock => Accepted::Nothing,
-        Err(error) => Accepted::Failed(SystemCause::of(&error)),
+/// What the loop keeps beside the connections.
+#[derive(Drop)]
+struct Rounds {
+    start: Instant,
+    poll: Poll,
+    clients: Door,
+    routes: Door,
+    redials: Redials,
+    /// The connections that are ready.
+    ready: Vec<usize>,
+    /// Whether accepting failed for another cause than that there is none.
+    has_failed: bool,
+}
+
+/// Has the sockets tell when connections come in.
+fn register(poll: &Poll, clients: &mut TcpListener, routes: &mut TcpListener) -> io::Result<()> {
+    let registry = poll.registry();
+    registry.register(clients, CLIENTS, Interest::READABLE)?;
+    registry.register(routes, ROUTES, Interest::READABLE)
+}
+
+impl Rounds {
+    fn new(alloc: Global, start: Instant, sockets: Sockets, count: usize) -> io::Result<Rounds> {
+        let redials = Redials::new(alloc, count)?;
+        let ready = Vec::with_capacity(alloc, EVENTS)?;
+        let Sockets {
+            poll,
+            clients,
+            routes,
+        } = sockets;
+        Ok(Rounds {
+            start,
+            poll,
+            clients: Door::new(clients, Side::Client),
+            routes: Door::new(routes, Side::Accepted),
+            redials,
+            ready,
+            has_failed: false,
+        })
+    }
+
+    /// Milliseconds since the start.
+    fn time<R: Clock>(&self, rt: &R) -> io::Result<u64> {
+        let passed = self.start.elapsed(rt)?.as_millis();
+        Ok(passed.min(u64::MAX as u128) as u64)
+    }
+
+    /// Whether something may be accepted at once.
+    fn may_accept(&self) -> bool {
+        (self.clients.has_more || self.routes.has_more) && !self.has_failed
+    }
+
+    /// A connection is ready.
+    fn note(&mut self, key: usize) -> Result<(), AllocError> {
+        match self.ready.push(key) {
+            Ok(()) => Ok(()),
+            Err(_) => Err(AllocError),
+        }
+    }
+}
+
+/// Who connected, where another end did.
+fn caller_of(side: Side) -> Option<Caller> {
+    match side {
+        Side::Client => Some(Caller::Client),
+        Side::Accepted => Some(Caller::Server),
+        Side::Dialed(_) => None,
+    }
+}
+
+/// Why a connection was not taken.
+fn refusal_of(fault: AddFault) -> RefusalCause {
+    match fault {
+        AddFault::Client(_) => RefusalCause::NumbersSpent,
+        AddFault::Route(_) => RefusalCause::TooManyRoutes,
+        AddFault::OutOfMemory => RefusalCause::OutOfMemory,
     }
 }
 
@@ -92,140 +167,200 @@ impl<C: ServerCalls> Server<TcpStream, C> {
     pub fn run<R: Wait + Net + Clock, L: EventSink>(
         &mut self,
         rt: &R,
-        sockets: Sockets,
+        mut sockets: Sockets,
         addresses: &[SocketAddr],
         company: &Company,
         log: &L,
     ) -> io::Result<()> {
-        self.events.set_filter(log.filter());
-        let Sockets {
-            mut poll,
-            mut clients,
-            mut routes,
-        } = sockets;
-        let registry = poll.registry();
-        registry.register(&mut clients, CLIENTS, Interest::READABLE)?;
-        registry.register(&mut routes, ROUTES, Interest::READABLE)?;
+        self.connections.events.set_filter(log.filter());
+        register(&sockets.poll, &mut sockets.clients, &mut sockets.routes)?;
+        let mut rounds = Rounds::new(self.alloc, Instant::now(rt)?, sockets, addresses.len())?;
+        self.run_rounds(rt, &mut rounds, addresses, company, log)
+    }
+
+    /// Serves until all servers of the company stop, over sockets that are registered.
+    fn run_rounds<R: Wait + Net + Clock, L: EventSink>(
+        &mut self,
+        rt: &R,
+        rounds: &mut Rounds,
+        addresses: &[SocketAddr],
+        company: &Company,
+        log: &L,
+    ) -> io::Result<()> {
         let mut events = Events::with_capacity(self.alloc, EVENTS)?;
-        let mut rounds = Rounds::new(self.alloc, Instant::now(rt)?, addresses.len())?;
+        self.go_round(rt, rounds, &mut events, addresses, company, log)
+    }
+
+    /// Goes round, until all servers of the company stop.
+    fn go_round<R: Wait + Net + Clock, L: EventSink>(
+        &mut self,
+        rt: &R,
+        rounds: &mut Rounds,
+        events: &mut Events,
+        addresses: &[SocketAddr],
+        company: &Company,
+        log: &L,
+    ) -> io::Result<()> {
         for _round in rt.forever() {
             if company.is_over() {
                 return Ok(());
             }
-            self.accept_all(rt, &poll, &clients, &routes, &mut rounds, company);
-            self.dial_all(rt, &poll, addresses, &mut rounds);
-            self.turn(rt, &rounds.ready);
-            rounds.ready.clear();
-            log.take(rt, self.life.name(), &mut self.events);
-            company.lose(std::mem::replace(&mut self.gone, 0));
+            self.go_once(rt, rounds, addresses, company);
+            self.tell(rt, company, log);
             if company.is_over() {
                 return Ok(());
             }
-            self.set_time(rounds.time(rt)?);
-            poll.poll(&mut events, self.patience(&rounds))?;
-            self.set_time(rounds.time(rt)?);
-            self.note_events(&events, &mut rounds)?;
+            self.wait(rt, rounds, events)?;
         }
         Ok(())
     }
 
+    /// Takes clients and routes, dials, and makes a turn for the connections that are ready.
+    fn go_once<R: Wait + Net + Clock>(
+        &mut self,
+        rt: &R,
+        rounds: &mut Rounds,
+        addresses: &[SocketAddr],
+        company: &Company,
+    ) {
+        self.accept_all(rt, rounds, company);
+        self.dial_all(rt, rounds, addresses);
+        self.turn(rt, &rounds.ready);
+        rounds.ready.clear();
+    }
+
+    /// Tells the log what has happened, and the company who is gone.
+    fn tell<R: Wait + Clock, L: EventSink>(&mut self, rt: &R, company: &Company, log: &L) {
+        log.take(rt, self.life.name(), &mut self.connections.events);
+        company.lose(std::mem::replace(&mut self.gone, 0));
+    }
+
+    /// Waits until a socket is ready, or something is to be done, and notes which connections are ready. May wait, and for ever.
+    fn wait<R: Clock>(
+        &mut self,
+        rt: &R,
+        rounds: &mut Rounds,
+        events: &mut Events,
+    ) -> io::Result<()> {
+        self.set_time(rounds.time(rt)?);
+        let patience = self.patience(rounds);
+        rounds.poll.poll(events, patience)?;
+        self.set_time(rounds.time(rt)?);
+        self.note_events(events, rounds)
+    }
+
     /// Takes all clients and routes that wait.
-    fn accept_all<R: Wait>(
+    fn accept_all<R: Wait>(&mut self, rt: &R, rounds: &mut Rounds, company: &Company) {
+        let had_failed = rounds.has_failed;
+        let clients_fail = self.accept_from(
+            rt,
+            &rounds.poll,
+            &mut rounds.clients,
+            company,
+            had_failed,
+        );
+        let has_failed = had_failed || clients_fail;
+        let routes_fail = self.accept_from(
+            rt,
+            &rounds.poll,
+            &mut rounds.routes,
+            company,
+            has_failed,
+        );
+        rounds.has_failed = clients_fail || routes_fail;
+    }
+
+    /// Takes all that wait here. Whether accepting failed, which is told where it had not failed before.
+    fn accept_from<R: Wait>(
         &mut self,
         rt: &R,
         poll: &Poll,
-        clients: &TcpListener,
-        routes: &TcpListener,
-        rounds: &mut Rounds,
+        door: &mut Door,
         company: &Company,
-    ) {
-        let had_failed = std::mem::replace(&mut rounds.has_failed, false);
+        had_failed: bool,
+    ) -> bool {
         for _accept in 0..ACCEPTS {
-            if !rounds.has_clients {
-                break;
+            if !door.has_more {
+                return false;
             }
-            match accept(clients) {
+            match door.accept() {
                 Accepted::Stream(stream) => {
-                    if self.take(rt, poll, stream, Side::Client).is_some() {
+                    if self.take(rt, poll, stream, door.side) && door.is_for_clients() {
                         company.take();
                     }
                 }
-                Accepted::Nothing => rounds.has_clients = false,
+                Accepted::Nothing => door.has_more = false,
                 Accepted::Failed(cause) => {
-                    self.tell_first(Caller::Client, cause, had_failed || rounds.has_failed);
-                    rounds.has_failed = true;
-                    break;
+                    if !had_failed {
+                        self.tell_refused(door.side, RefusalCause::System(cause));
+                    }
+                    return true;
                 }
             }
         }
-        for _accept in 0..ACCEPTS {
-            if !rounds.has_routes {
-                break;
+        false
+    }
+
+    /// A connection was not taken for this cause.
+    fn tell_refused(&mut self, side: Side, cause: RefusalCause) {
+        if let Some(caller) = caller_of(side) {
+            self.connections
+                .tell(Event::ConnectionRefused { caller, cause });
+        }
+    }
+
+    /// Takes a stream. Whether it is not refused.
+    fn take<R: Wait>(&mut self, rt: &R, poll: &Poll, stream: TcpStream, side: Side) -> bool {
+        let _ = stream.set_nodelay(true);
+        match self.add(rt, stream, side) {
+            Ok(key) => {
+                if !self.watch(poll, key) {
+                    self.connections.give_up_for(key, Cause::Unwatched);
+                }
+                true
             }
-            match accept(routes) {
-                Accepted::Stream(stream) => {
-                    let _key = self.take(rt, poll, stream, Side::Accepted);
-                }
-                Accepted::Nothing => rounds.has_routes = false,
-                Accepted::Failed(cause) => {
-                    self.tell_first(Caller::Server, cause, had_failed || rounds.has_failed);
-                    rounds.has_failed = true;
-                    break;
-                }
+            Err(fault) => {
+                self.tell_refused(side, refusal_of(fault));
+                false
             }
         }
     }
 
-    /// Takes a stream. None where it is refused.
-    fn take<R: Wait>(
-        &mut self,
-        rt: &R,
-        poll: &Poll,
-        stream: TcpStream,
-        side: Side,
-    ) -> Option<usize> {
-        let _ = stream.set_nodelay(true);
-        let key = match self.add(rt, stream, side) {
-            Ok(key) => key,
-            Err(fault) => {
-                self.tell_refused(side, fault);
-                return None;
-            }
-        };
-        let stream = self.stream_mut(key)?;
+    /// Has the system tell when a connection is ready. Whether it does.
+    fn watch(&mut self, poll: &Poll, key: usize) -> bool {
         let both = Interest::READABLE | Interest::WRITABLE;
-        if poll.registry().register(stream, Token(key), both).is_err() {
-            self.give_up_for(key, Cause::Unwatched);
+        match self.stream_mut(key) {
+            None => false,
+            Some(stream) => poll.registry().register(stream, Token(key), both).is_ok(),
         }
-        Some(key)
     }
 
     /// Dials the servers of the cluster that are not reached and are due.
-    fn dial_all<R: Wait + Net>(
-        &mut self,
-        rt: &R,
-        poll: &Poll,
-        addresses: &[SocketAddr],
-        rounds: &mut Rounds,
-    ) {
+    fn dial_all<R: Wait + Net>(&mut self, rt: &R, rounds: &mut Rounds, addresses: &[SocketAddr]) {
         for (place, address) in addresses.iter().enumerate() {
             let is_reached = self.peers.kept_connection(place).is_some();
-            rounds.redials.look(place, self.now, is_reached);
-            if !self.is_missing(place) || !rounds.redials.is_due(place, self.now) {
-                continue;
+            let now = self.connections.now;
+            rounds.redials.look(place, now, is_reached);
+            if self.is_missing(place) && rounds.redials.is_due(place, now) {
+                rounds.redials.dial(place, now);
+                self.dial(rt, &rounds.poll, place, *address);
             }
-            rounds.redials.dial(place, self.now);
-            if let Ok(stream) = TcpStream::connect(rt, *address) {
-                let _key = self.take(rt, poll, stream, Side::Dialed(place));
-            }
+        }
+    }
+
+    /// Dials the server at this place.
+    fn dial<R: Wait + Net>(&mut self, rt: &R, poll: &Poll, place: usize, address: SocketAddr) {
+        if let Ok(stream) = TcpStream::connect(rt, address) {
+            let _is_taken = self.take(rt, poll, stream, Side::Dialed(place));
         }
     }
 
     /// How long to wait for a socket; None is for ever.
     fn patience(&self, rounds: &Rounds) -> Option<Duration> {
-        if (rounds.has_clients || rounds.has_routes) && !rounds.has_failed {
+        if rounds.may_accept() {
             return Some(Duration::from_millis(0));
         }
+        let now = self.connections.now;
         let mut until = self.next_turn().unwrap_or(u64::MAX);
         for place in 0..self.peers.count() {
             if self.is_missing(place) {
@@ -233,12 +368,12 @@ impl<C: ServerCalls> Server<TcpStream, C> {
             }
         }
         if rounds.has_failed {
-            until = until.min(self.now.saturating_add(RETRY));
+            until = until.min(now.saturating_add(RETRY));
         }
         if until == u64::MAX {
             return None;
         }
-        Some(Duration::from_millis(until.saturating_sub(self.now)))
+        Some(Duration::from_millis(until.saturating_sub(now)))
     }
 
     /// Notes which connections are ready.
@@ -246,21 +381,18 @@ impl<C: ServerCalls> Server<TcpStream, C> {
         for event in events {
             let token = event.token();
             if token == CLIENTS {
-                rounds.has_clients = true;
+                rounds.clients.has_more = true;
             } else if token == ROUTES {
-                rounds.has_routes = true;
+                rounds.routes.has_more = true;
             } else if token != WAKER {
-                let key = token.0;
-                if event.is_read_closed() || event.is_error() {
-                    self.hang_up(key);
+                let has_closed = event.is_read_closed() || event.is_error();
+                if has_closed {
+                    self.connections.hang_up(token.0);
                 }
-                if event.is_readable() || event.is_read_closed() || event.is_error() {
-                    rounds
-                        .ready
-                        .push(key)
-                        .map_err(|e| std::alloc::AllocError::from(e))?;
+                if has_closed || event.is_readable() {
+                    rounds.note(token.0)?;
                 } else {
-                    self.resume(key);
+                    self.connections.resume(token.0);
                 }
             }
         }

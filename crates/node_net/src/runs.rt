@@ -22,7 +22,7 @@ pub(crate) fn large_part(bytes: usize) -> usize {
 }
 
 /// What a run came to. A run is what is done under one hold of a lock.
-#[derive(Clone, Copy, Debug, PartialEq, Eq)]
+#[derive(Clone, Copy, PartialEq, Eq)]
 pub(crate) enum Ran {
     /// More bytes are needed.
     Waits,
@@ -39,7 +39,7 @@ pub(crate) enum Ran {
 }
 
 /// What a run has done beside what it came to.
-#[derive(Clone, Copy, Debug, PartialEq, Eq)]
+#[derive(Clone, Copy)]
 pub(crate) struct Run {
     pub end: Ran,
     /// As how many bytes the messages count that were handed to the shards.

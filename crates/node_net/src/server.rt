@@ -6,11 +6,13 @@ ghost use Rattle.slab.specs.Slab.{Updates};
 use crate::calls::{accept, cut, dial};
 use crate::client_link::ClientLink;
 use crate::clients::Clients;
-use crate::connection::{Connection, Link};
+use crate::connection::{Cause, Connection, Link};
+use crate::connections::Connections;
 use crate::faults::AddFault;
 use crate::limits::GREETING;
 use crate::peers::Peers;
 use crate::route_link::{RouteLink, Stage};
+use crate::taken::Taken;
 use client_conn::Refusal;
 use net_streams::Stream;
 use rand_core::SeedableRng;
@@ -18,15 +20,14 @@ use rand_pcg::Pcg64;
 use route_frames::{RouteFrame, encode};
 use route_session::SessionId;
 use server_calls::ServerCalls;
-use server_events::Events;
+use server_events::{Event, Events, PeerCause};
 use shard_core::Recipients;
-use slab::Slab;
-use std::alloc::{AllocError, AllocFailed, Global};
+use std::alloc::{AllocError, Global};
 use std::sync::Wait;
-use subj::{Failure, Server as Life};
+use subj::{ConnId, NodeId, Server as Life};
 
 /// Who is at the other end of a stream.
-#[derive(Clone, Copy, Debug, PartialEq, Eq)]
+#[derive(Clone, Copy)]
 pub enum Side {
     /// A client.
     Client,
@@ -45,11 +46,31 @@ pub fn shard_of_client(client: u64, shards: u64) -> u64
     client.saturating_sub(1) % shards + 1
 }
 
-/// What was taken for one connection: up to this place of all that was taken.
-#[derive(Clone, Copy, Debug, PartialEq, Eq)]
-pub(crate) struct Part {
-    pub key: usize,
-    pub end: usize,
+/// The next client of this shard, who is told first of this life of a server with this port.
+fn attach<C: ServerCalls, R: Wait>(
+    rt: &R,
+    node: C,
+    alloc: Global,
+    shard: u64,
+    life: &Life,
+    port: u16,
+) -> Result<ClientLink, AddFault> {
+    match node.shard(rt, shard) {
+        None => Err(AddFault::Client(Refusal::Other)),
+        Some(mut shard) => Ok(ClientLink::attach(alloc, &mut shard, life, port)?),
+    }
+}
+
+/// What is told of another server whose route ended for this cause; without one its connection broke.
+fn peer_cause(cause: Option<Cause>) -> PeerCause {
+    match cause {
+        None => PeerCause::Broken,
+        Some(Cause::Refused) => PeerCause::Refused,
+        Some(Cause::Slow | Cause::Overdue) => PeerCause::Stalled,
+        Some(Cause::Full) => PeerCause::Full,
+        Some(Cause::OutOfMemory) => PeerCause::OutOfMemory,
+        Some(Cause::Unwatched) => PeerCause::Unwatched,
+    }
 }
 
 /// The connections of one server, over any kind of stream: what comes in on them becomes calls of the server,
@@ -62,7 +83,7 @@ pub struct Server<S: Stream, C: ServerCalls> {
     pub(crate) life: Life,
     pub(crate) port: u16,
     pub(crate) words: Pcg64,
-    pub(crate) connections: Slab<Connection<S>>,
+    pub(crate) connections: Connections<S>,
     pub(crate) peers: Peers,
     pub(crate) clients: Clients,
     /// How many clients were taken.
@@ -73,41 +94,14 @@ pub struct Server<S: Stream, C: ServerCalls> {
     pub(crate) first: u64,
     /// How much was put since the last time that what waits for clients was taken, as bytes.
     pub(crate) put: usize,
-    /// Whether something may wait for any client.
-    pub(crate) awaits_any: bool,
     /// The clients of a shard that something was put for.
     pub(crate) recipients: Recipients,
     /// How many jobs the shards are to work still, each counted once for each shard.
     pub(crate) unworked: u64,
-    /// Whether something may wait for other servers.
-    pub(crate) has_told: bool,
-    /// Connections for which something may wait.
-    pub(crate) awaited: Vec<usize>,
-    /// Connections that are to be served in the next turn, although nothing tells of them, and those of this turn.
-    /// Each stands there once, and there is room for all.
-    pub(crate) again: Vec<usize>,
-    pub(crate) serving: Vec<usize>,
-    /// Connections that go at the end of the turn, and those that are going. Each stands there once, and there
-    /// is room for all.
-    pub(crate) leaving: Vec<usize>,
-    pub(crate) going: Vec<usize>,
-    /// Milliseconds since the loop began.
-    pub(crate) now: u64,
-    /// No connection's deadline comes before this time; the greatest number where none comes.
-    pub(crate) next_deadline: u64,
-    /// How many turns were made.
-    pub(crate) turns: u64,
-    /// What was taken for clients and is about to be written, and for whom.
-    pub(crate) taken: Vec<u8>,
-    pub(crate) parts: Vec<Part>,
-    /// What was taken for one client, before it stands among what was taken for all.
-    pub(crate) lent: Vec<u8>,
+    /// What was taken for clients and is about to be written.
+    pub(crate) taken: Taken,
     /// Frames that are spelt and about to be written.
     pub(crate) spelt: Vec<u8>,
-    /// Whether there was no memory for something, which is tried again.
-    pub(crate) is_short: bool,
-    /// What has happened since it was told last.
-    pub(crate) events: Events,
 }
 
 impl<S: Stream, C: ServerCalls> Server<S, C> {
@@ -127,50 +121,38 @@ impl<S: Stream, C: ServerCalls> Server<S, C> {
             life,
             port,
             words: Pcg64::seed_from_u64(seed),
-            connections: Slab::new(alloc),
+            connections: Connections::new(alloc),
             peers,
             clients: Clients::new(alloc),
             came: 0,
             gone: 0,
             first: 0,
             put: 0,
-            awaits_any: false,
             recipients: Recipients::new(alloc),
             unworked: 0,
-            has_told: false,
-            awaited: Vec::new(alloc),
-            again: Vec::new(alloc),
-            serving: Vec::new(alloc),
-            leaving: Vec::new(alloc),
-            going: Vec::new(alloc),
-            now: 0,
-            next_deadline: u64::MAX,
-            turns: 0,
-            taken: Vec::new(alloc),
-            parts: Vec::new(alloc),
-            lent: Vec::new(alloc),
+            taken: Taken::new(alloc),
             spelt: Vec::new(alloc),
-            is_short: false,
-            events: Events::new(alloc),
         })
     }
 
     /// The stream of a connection.
     pub fn stream(&self, key: usize) -> Option<&S> {
-        Some(self.connections.get(key)?.stream())
+        Some(self.connections.table.get(key)?.stream())
     }
 
     /// The stream of a connection, to be changed.
     pub fn stream_mut(&mut self, key: usize) -> Option<&mut S> {
-        Some(self.connections.get_mut(key)?.stream_mut())
+        Some(self.connections.table.get_mut(key)?.stream_mut())
     }
 
     /// The shard that a client's connection is of, counted from 1.
     pub fn shard(&self, key: usize) -> Option<u64> {
-        match &self.connections.get(key)?.link {
-            Link::Client(client) => Some(client.shard),
-            Link::Route(_) => None,
-        }
+        self.connections.table.get(key)?.shard()
+    }
+
+    /// What has happened since it was told last.
+    pub fn events(&self) -> &Events {
+        &self.connections.events
     }
 
     /// Whether there is another server at this place that is not reached and is not being dialed.
@@ -181,65 +163,57 @@ impl<S: Stream, C: ServerCalls> Server<S, C> {
     /// Takes a stream, with this end at its other side, and answers its key. What a client or a server that
     /// dialed is told first goes out with the next turn. A stream that is refused is closed. May wait.
     pub fn add<R: Wait>(&mut self, rt: &R, stream: S, side: Side) -> Result<usize, AddFault> {
-        self.make_room()?;
-        let mut connection = match side {
-            Side::Client => self.client(rt, stream)?,
-            Side::Accepted => self.accepted_connection(rt, stream)?,
-            Side::Dialed(peer) => self.dialed_connection(rt, stream, peer)?,
-        };
-        let client = connection.client();
-        connection.stands_again = true;
-        let key = self.insert(connection)?;
-        if let Side::Dialed(peer) = side {
-            self.peers.dial(peer, key);
-        }
-        if let Some(id) = client {
-            self.clients.add(id, key);
-        }
-        self.await_deadline(key);
-        self.again
-            .push(key)
-            .map_err(|e: AllocFailed<usize>| AllocError::from(e))?;
-        self.tell_came(key);
+        self.connections.reserve()?;
+        self.clients.reserve()?;
+        let connection = self.connection(rt, stream, side)?;
+        let key = self.connections.add(connection)?;
+        self.note_added(key, side);
         Ok(key)
     }
 
-    /// Makes room for one connection more, wherever it may stand.
-    fn make_room(&mut self) -> Result<(), AllocError> {
-        self.connections.reserve(1)?;
-        self.clients.reserve()?;
-        let all = self.connections.len().saturating_add(1);
-        self.again.reserve(all)?;
-        self.serving.reserve(all)?;
-        self.leaving.reserve(all)?;
-        self.going.reserve(all)?;
-        Ok(())
-    }
-
-    /// Puts a connection among the others.
-    fn insert(&mut self, connection: Connection<S>) -> Result<usize, AllocError> {
-        match self.connections.insert(connection) {
-            Ok(key) => Ok(key),
-            Err(_) => Err(AllocError),
+    /// Notes what leads to a connection that was taken.
+    fn note_added(&mut self, key: usize, side: Side) {
+        if let Side::Dialed(peer) = side {
+            self.peers.dial(peer, key);
+        }
+        if let Some(client) = self.client_at(key) {
+            self.clients.add(client, key);
+            self.connections.tell(Event::ClientCame { client });
         }
     }
 
-    /// The connection of the next client.
-    fn client<R: Wait>(&mut self, rt: &R, stream: S) -> Result<Connection<S>, AddFault> {
+    /// The client at the other end of a connection.
+    fn client_at(&self, key: usize) -> Option<ConnId> {
+        self.connections.table.get(key)?.client()
+    }
+
+    /// The connection of a stream.
+    fn connection<R: Wait>(
+        &mut self,
+        rt: &R,
+        stream: S,
+        side: Side,
+    ) -> Result<Connection<S>, AddFault> {
+        match side {
+            Side::Client => {
+                let link = self.client(rt)?;
+                Ok(Connection::new(self.alloc, stream, Link::Client(link)))
+            }
+            Side::Accepted => self.accepted_connection(rt, stream),
+            Side::Dialed(peer) => {
+                let session = dial(rt, self.node, peer)?;
+                Ok(self.route(session, Stage::Dialed(peer), stream))
+            }
+        }
+    }
+
+    /// The next client.
+    fn client<R: Wait>(&mut self, rt: &R) -> Result<ClientLink, AddFault> {
         let number = self.came.saturating_add(1);
         let shard = shard_of_client(number, self.life.shards());
-        let Some(mut held) = self.node.shard(rt, shard) else {
-            return Err(AddFault::Client(Refusal::Other));
-        };
-        match ClientLink::attach(self.alloc, &mut held, &self.life, self.port) {
-            Ok(link) => {
-                self.came = number;
-                let link = Link::Client(link);
-                Ok(Connection::new(self.alloc, stream, link))
-            }
-            Err(Failure::Refused(refusal)) => Err(AddFault::Client(refusal)),
-            Err(Failure::OutOfMemory) => Err(AddFault::OutOfMemory),
-        }
+        let link = attach(rt, self.node, self.alloc, shard, &self.life, self.port)?;
+        self.came = number;
+        Ok(link)
     }
 
     /// The connection of a server that has dialed.
@@ -248,11 +222,7 @@ impl<S: Stream, C: ServerCalls> Server<S, C> {
         rt: &R,
         stream: S,
     ) -> Result<Connection<S>, AddFault> {
-        let (session, info) = match accept(rt, self.node) {
-            Ok(accepted) => accepted,
-            Err(Failure::Refused(fault)) => return Err(AddFault::Route(fault)),
-            Err(Failure::OutOfMemory) => return Err(AddFault::OutOfMemory),
-        };
+        let (session, info) = accept(rt, self.node)?;
         self.spelt.clear();
         if encode(&RouteFrame::Info(info), &mut self.spelt).is_err() {
             cut(rt, self.node, session);
@@ -263,26 +233,11 @@ impl<S: Stream, C: ServerCalls> Server<S, C> {
         Ok(connection)
     }
 
-    /// The connection to a server that this one has dialed.
-    fn dialed_connection<R: Wait>(
-        &mut self,
-        rt: &R,
-        stream: S,
-        peer: usize,
-    ) -> Result<Connection<S>, AddFault> {
-        let session = match dial(rt, self.node, peer) {
-            Ok(session) => session,
-            Err(Failure::Refused(fault)) => return Err(AddFault::Route(fault)),
-            Err(Failure::OutOfMemory) => return Err(AddFault::OutOfMemory),
-        };
-        Ok(self.route(session, Stage::Dialed(peer), stream))
-    }
-
     /// The connection of a route that is to tell who it is before [`GREETING`] has passed.
     fn route(&self, session: SessionId, stage: Stage, stream: S) -> Connection<S> {
         let link = Link::Route(RouteLink::new(self.alloc, session, stage));
         let mut connection = Connection::new(self.alloc, stream, link);
-        connection.limit(self.now.saturating_add(GREETING));
+        connection.limit(self.connections.now.saturating_add(GREETING));
         connection
     }
 
@@ -290,39 +245,75 @@ impl<S: Stream, C: ServerCalls> Server<S, C> {
     /// changes. Gives its stream, which is closed when it is dropped, or None where there is no connection
     /// of that key. Want of memory changes nothing. May wait.
     pub fn remove<R: Wait>(&mut self, rt: &R, key: usize) -> Result<Option<S>, AllocError>
-        ensures taken { OnOk result (Updates self.old.connections self.new.connections key None) }
+        ensures taken { OnOk result (Updates self.old.connections.table self.new.connections.table key None) }
         ensures err { OnErr result (self.new ≡ self.old) }
     {
-        let Some(connection) = self.connections.get(key) else {
-            return Ok(None);
-        };
-        match &connection.link {
-            Link::Client(client) => client.detach(rt, self.node)?,
-            Link::Route(route) => cut(rt, self.node, route.session),
+        match self.connections.table.get(key) {
+            None => return Ok(None),
+            Some(connection) => connection.detach(rt, self.node)?,
         }
         Ok(self.take_out(key))
     }
 
     /// Takes a connection out that is detached or cut.
     fn take_out(&mut self, key: usize) -> Option<S>
-        ensures { Updates self.old.connections self.new.connections key None }
+        ensures { Updates self.old.connections.table self.new.connections.table key None }
     {
-        let connection = self.connections.try_remove(key)?;
-        self.tell_gone(key, &connection);
-        self.forget(key, &connection.link);
+        let connection = self.connections.table.try_remove(key)?;
+        self.forget(key, &connection);
         Some(connection.into_stream())
     }
 
-    /// Nothing leads any more to a connection that was taken out.
-    fn forget(&mut self, key: usize, link: &Link)
-        ensures { self.new.connections ≡ self.old.connections }
+    /// Nothing leads any more to a connection that was taken out, and it is told that it is gone.
+    fn forget(&mut self, key: usize, connection: &Connection<S>)
+        ensures { self.new.connections.table ≡ self.old.connections.table }
     {
-        match link {
-            Link::Client(client) => {
-                self.gone = self.gone.saturating_add(1);
-                self.clients.lose(client.id());
-            }
-            Link::Route(_) => self.peers.lose(key),
+        match connection.client() {
+            Some(client) => self.forget_client(client, connection),
+            None => self.forget_route(key, connection.cause),
+        }
+    }
+
+    /// The same of a client.
+    fn forget_client(&mut self, client: ConnId, connection: &Connection<S>)
+        ensures { self.new.connections.table ≡ self.old.connections.table }
+    {
+        self.gone = self.gone.saturating_add(1);
+        self.clients.lose(client);
+        if let Some(event) = connection.farewell(client) {
+            self.connections.tell(event);
+        }
+    }
+
+    /// The same of a route, over which another server may have been reached.
+    fn forget_route(&mut self, key: usize, cause: Option<Cause>)
+        ensures { self.new.connections.table ≡ self.old.connections.table }
+    {
+        if let Some(place) = self.peers.place_of(key) {
+            self.tell_down(place, cause);
+        }
+        self.peers.lose(key);
+    }
+
+    /// The name of the server at this place.
+    fn peer_at(&self, place: usize) -> Option<NodeId> {
+        self.life.names().get(place).copied()
+    }
+
+    /// The session with the server at this place is kept, which was not reached before.
+    pub(crate) fn tell_up(&mut self, place: usize) {
+        if let Some(peer) = self.peer_at(place) {
+            self.connections.tell(Event::PeerUp { peer });
+        }
+    }
+
+    /// The session with the server at this place is kept no more.
+    fn tell_down(&mut self, place: usize, cause: Option<Cause>)
+        ensures { self.new.connections.table ≡ self.old.connections.table }
+    {
+        if let Some(peer) = self.peer_at(place) {
+            let cause = peer_cause(cause);
+            self.connections.tell(Event::PeerDown { peer, cause });
         }
     }
 }

@@ -1,19 +1,19 @@
-//! A turn of the loop: what ready connections ask is done, and what was put is written.
+//! A turn of the loop: what ready connections ask is done, what was put is written, and connections are closed that go.
 
 use crate::calls::push_jobs;
-use crate::connection::{Ending, Link};
+use crate::connection::Cause;
 use crate::route_link::{Greeted, Stepped};
 use crate::runs::{Ran, Run, TAKEN_EARLY};
 use crate::server::Server;
-use crate::telling::Cause;
 use net_streams::Stream;
-use route_frames::{RouteFrame, encode};
+use route_frames::{RouteConnect, RouteFrame, encode};
 use server_calls::{NextJob, ServerCalls, ShardCalls};
 use server_events::Event;
+use std::alloc::AllocError;
 use std::sync::Wait;
 
 /// How a shard was worked.
-#[derive(Clone, Copy, Debug, PartialEq, Eq)]
+#[derive(Clone, Copy)]
 struct Worked {
     /// How many jobs were worked to their ends.
     jobs: u64,
@@ -23,15 +23,12 @@ struct Worked {
 }
 
 /// Works a shard until no job waits for it, or what waits for a client has come to half of its room.
-fn work_shard<C: ServerCalls, R: Wait>(rt: &R, node: C, number: u64) -> Worked {
+fn work_jobs<H: ShardCalls, R: Wait>(rt: &R, shard: &mut H) -> Worked {
     let mut worked = Worked {
         jobs: 0,
         has_deltas: false,
         is_short: false,
         is_urgent: false,
-    };
-    let Some(mut shard) = node.shard(rt, number) else {
-        return worked;
     };
     for _turn in 0..u64::MAX {
         match shard.work_next(rt) {
@@ -53,6 +50,14 @@ fn work_shard<C: ServerCalls, R: Wait>(rt: &R, node: C, number: u64) -> Worked {
     worked
 }
 
+/// Works the shard of this number, where there is one.
+fn work_shard<C: ServerCalls, R: Wait>(rt: &R, node: C, number: u64) -> Option<Worked> {
+    match node.shard(rt, number) {
+        None => None,
+        Some(mut shard) => Some(work_jobs(rt, &mut shard)),
+    }
+}
+
 /// Why a client was shut in a run: for what it asked, where it was told so, and else since it does not read.
 fn shut_cause(run: Run) -> Cause {
     if run.is_refused {
@@ -68,131 +73,70 @@ impl<S: Stream, C: ServerCalls> Server<S, C> {
     ///
     /// A stream that failed, or has come to its end, closes its connection, and no other.
     pub fn turn<R: Wait>(&mut self, rt: &R, keys: &[usize]) {
-        let was_short = std::mem::replace(&mut self.is_short, false);
-        self.turns = self.turns.wrapping_add(1);
-        std::mem::swap(&mut self.again, &mut self.serving);
-        for place in 0..self.serving.len() {
-            self.serve_again(rt, place);
-        }
-        self.serving.clear();
-        for key in keys {
-            self.serve(rt, *key);
-        }
-        self.end_overdue();
+        let was_short = std::mem::replace(&mut self.connections.is_short, false);
+        self.serve_all(rt, keys);
+        self.connections.end_overdue();
         self.work(rt);
         self.flush(rt);
         self.close_leaving(rt);
         self.collect_all(rt);
         self.write_frames(rt);
-        if self.is_short && !was_short {
-            self.events.note(Event::OutOfMemory);
+        if self.connections.is_short && !was_short {
+            self.connections.tell(Event::OutOfMemory);
         }
     }
 
     /// Whether something is to be done although no stream is ready.
     pub fn goes_on(&self) -> bool {
-        !self.again.is_empty() || !self.leaving.is_empty()
+        self.connections.goes_on()
     }
 
-    /// Serves a connection that was to be served again.
-    fn serve_again<R: Wait>(&mut self, rt: &R, place: usize) {
-        let Some(key) = self.serving.get(place).copied() else {
-            return;
-        };
-        if let Some(connection) = self.connections.get_mut(key) {
-            connection.stands_again = false;
+    /// It is so many milliseconds since the loop began, and no fewer than were told before.
+    pub fn set_time(&mut self, now: u64) {
+        self.connections.now = now;
+    }
+
+    /// When another turn is to be made although no stream is ready, in milliseconds since the loop began: at once where something
+    /// is to be done, soon where there was no memory for something, and else at the next deadline. None where there is no need.
+    pub fn next_turn(&self) -> Option<u64> {
+        self.connections.next_turn()
+    }
+
+    /// Serves the connections that are to be served again, and these.
+    fn serve_all<R: Wait>(&mut self, rt: &R, keys: &[usize]) {
+        for place in 0..self.connections.begin_turn() {
+            if let Some(key) = self.connections.served_again(place) {
+                self.serve(rt, key);
+            }
         }
-        self.serve(rt, key);
+        self.connections.serving.clear();
+        for key in keys {
+            self.serve(rt, *key);
+        }
     }
 
     /// Writes what was kept, reads once, and does what is asked; once a turn.
     fn serve<R: Wait>(&mut self, rt: &R, key: usize) {
-        let Some(connection) = self.connections.get_mut(key) else {
-            return;
-        };
-        if connection.served_in == self.turns {
+        if !self.connections.read(key) {
             return;
         }
-        connection.served_in = self.turns;
-        if !connection.is_flushed() {
-            self.resume(key);
-        }
-        let Some(connection) = self.connections.get_mut(key) else {
-            return;
-        };
-        let was_short = connection.is_short;
-        connection.read();
-        self.is_short |= connection.is_short && !was_short;
-        self.rest_later(key);
         self.apply(rt, key);
-        self.settle(rt, key);
-    }
-
-    /// Writes what was kept for a connection. Where its stream takes all, what else waits for it is taken in
-    /// this turn.
-    pub(crate) fn resume(&mut self, key: usize) {
-        let Some(connection) = self.connections.get_mut(key) else {
-            return;
-        };
-        connection.resume();
-        self.has_told = true;
-        if self.awaited.push(key).is_err() {
-            self.awaits_any = true;
-        }
-        self.leave_if_gone(key);
-    }
-
-    /// The other end of a connection is known to send nothing any more: it is read until its end.
-    pub(crate) fn hang_up(&mut self, key: usize) {
-        if let Some(connection) = self.connections.get_mut(key) {
-            connection.hangs_up = true;
-        }
-    }
-
-    /// Notes what is to become of a connection that was served.
-    fn settle<R: Wait>(&mut self, rt: &R, key: usize) {
-        if self.has_ended(key) {
+        if self.connections.has_ended(key) {
             self.end(rt, key);
         }
-        let Some(connection) = self.connections.get_mut(key) else {
-            return;
-        };
-        if connection.goes_on() && !connection.stands_again {
-            connection.stands_again = self.again.push(key).is_ok();
-        }
-        if self.awaited.push(key).is_err() {
-            self.awaits_any = true;
-        }
-        self.leave_if_gone(key);
-    }
-
-    /// Whether the other end of a connection sends nothing any more.
-    fn has_ended(&self, key: usize) -> bool {
-        match self.connections.get(key) {
-            None => false,
-            Some(connection) => connection.has_ended(),
-        }
+        self.connections.settle(key);
     }
 
     /// Does what a connection asks.
     fn apply<R: Wait>(&mut self, rt: &R, key: usize) {
         for _run in 0..u64::MAX {
-            let Some(connection) = self.connections.get_mut(key) else {
-                return;
-            };
-            if connection.ending() != Ending::Open {
-                return;
-            }
-            connection.is_short = false;
-            let stepped = match &mut connection.link {
-                Link::Client(client) => {
-                    Stepped::Ran(client.advance(rt, self.node, &mut self.words))
-                }
-                Link::Route(route) => route.advance(rt, self.node, &self.life),
-            };
+            let stepped = self
+                .connections
+                .step(rt, key, self.node, &self.life, &mut self.words);
             let goes_on = match stepped {
-                Stepped::Greeted(greeted) => self.greet(key, greeted),
-                Stepped::Ran(run) => self.after_run(rt, key, run),
+                None => false,
+                Some(Stepped::Greeted(greeted)) => self.greet(key, greeted),
+                Some(Stepped::Ran(run)) => self.after_run(rt, key, run),
             };
             if !goes_on {
                 return;
@@ -202,34 +146,23 @@ impl<S: Stream, C: ServerCalls> Server<S, C> {
 
     /// What follows a run. Whether the connection goes on.
     fn after_run<R: Wait>(&mut self, rt: &R, key: usize, run: Run) -> bool {
+        self.note_run(rt, key, run);
+        if run.issued > 0 || run.end == Ran::Busy {
+            self.connections.has_told = true;
+            self.work(rt);
+        }
+        self.count_put(rt, run);
+        self.goes_on_after(key, run.end)
+    }
+
+    /// Notes what a run has come to, what it has told, what it has handed to the shards, and what of it may wait for other servers.
+    fn note_run<R: Wait>(&mut self, rt: &R, key: usize, run: Run) {
         if run.end == Ran::Shut {
-            self.shut_for(key, shut_cause(run));
+            self.connections.shut_for(key, shut_cause(run));
         }
         if run.has_deltas {
             let _done = self.tell_of(rt, key);
         }
-        self.note_jobs(key, run);
-        if run.issued > 0 || run.end == Ran::Busy {
-            self.has_told = true;
-            self.work(rt);
-        }
-        self.put = self.put.saturating_add(run.issued);
-        self.put = self.put.saturating_add(run.replied);
-        if self.put >= TAKEN_EARLY {
-            self.flush(rt);
-            self.write_frames(rt);
-        }
-        match run.end {
-            Ran::Goes | Ran::Busy if !self.is_short => return true,
-            Ran::Goes | Ran::Busy | Ran::Short => self.postpone(key),
-            Ran::Waits | Ran::Shut => {}
-            Ran::Refused => self.give_up_for(key, Cause::Refused),
-        }
-        false
-    }
-
-    /// Notes what a run has handed to the shards, and what of it may wait for other servers.
-    fn note_jobs(&mut self, key: usize, run: Run) {
         let jobs = run.jobs.saturating_mul(self.node.shards());
         self.unworked = self.unworked.saturating_add(jobs);
         if run.large > 0 && self.shard(key).is_some() {
@@ -237,61 +170,46 @@ impl<S: Stream, C: ServerCalls> Server<S, C> {
         }
     }
 
-    /// What a connection waits for had no memory, and is tried again.
-    pub(crate) fn postpone(&mut self, key: usize) {
-        self.is_short = true;
-        if let Some(connection) = self.connections.get_mut(key) {
-            connection.is_short = true;
+    /// Notes how much a run has put, as bytes, and takes and writes it where it has come to enough.
+    fn count_put<R: Wait>(&mut self, rt: &R, run: Run) {
+        self.put = self.put.saturating_add(run.issued);
+        self.put = self.put.saturating_add(run.replied);
+        if self.put >= TAKEN_EARLY {
+            self.flush(rt);
+            self.write_frames(rt);
         }
     }
 
-    /// The session of a route is kept. Whether the connection goes on.
+    /// Whether a connection goes on behind a run that ended so.
+    fn goes_on_after(&mut self, key: usize, end: Ran) -> bool {
+        match end {
+            Ran::Goes | Ran::Busy if !self.connections.is_short => return true,
+            Ran::Goes | Ran::Busy | Ran::Short => self.connections.postpone(key),
+            Ran::Waits | Ran::Shut => {}
+            Ran::Refused => self.connections.give_up_for(key, Cause::Refused),
+        }
+        false
+    }
+
+    /// The session of a route is kept. The connection goes on.
     fn greet(&mut self, key: usize, greeted: Greeted) -> bool {
-        self.has_told = true;
+        self.connections.has_told = true;
         match self.peers.keep(greeted.peer, key) {
-            Some(old) => self.give_up(old),
+            Some(old) => self.connections.give_up(old),
             None => self.tell_up(greeted.peer),
         }
-        if let Some(connection) = self.connections.get_mut(key) {
-            connection.lift_limit();
-        }
-        let Some(answer) = greeted.answer else {
-            return true;
-        };
-        self.spelt.clear();
-        let encoded = encode(&RouteFrame::Connect(answer), &mut self.spelt);
-        let Some(connection) = self.connections.get_mut(key) else {
-            return false;
-        };
-        match encoded {
-            Ok(()) => connection.send(&self.spelt),
-            Err(_) => connection.want_memory(),
+        self.connections.lift_limit(key);
+        if let Some(answer) = greeted.answer {
+            self.send_answer(key, answer);
         }
         true
     }
 
-    /// The connection is closed at the end of the turn.
-    pub(crate) fn give_up(&mut self, key: usize) {
-        if let Some(connection) = self.connections.get_mut(key) {
-            connection.give_up();
-        }
-        self.leave_if_gone(key);
-    }
-
-    /// The connection is closed at the end of the turn, for this cause.
-    pub(crate) fn give_up_for(&mut self, key: usize, cause: Cause) {
-        self.blame(key, cause, 0);
-        self.give_up(key);
-    }
-
-    /// Notes a connection that is to be closed at the end of the turn.
-    pub(crate) fn leave_if_gone(&mut self, key: usize) {
-        let Some(connection) = self.connections.get_mut(key) else {
-            return;
-        };
-        if connection.ending() == Ending::Gone && !connection.is_leaving {
-            connection.is_leaving = self.leaving.push(key).is_ok();
-        }
+    /// Sends another server the answer to what it was told first.
+    fn send_answer(&mut self, key: usize, answer: RouteConnect) {
+        self.spelt.clear();
+        let is_whole = encode(&RouteFrame::Connect(answer), &mut self.spelt).is_ok();
+        self.connections.send_spelt(key, &self.spelt, is_whole);
     }
 
     /// Works all shards until no job waits. Jobs that a lane had no memory for are handed over again, and where there is none still in
@@ -301,7 +219,7 @@ impl<S: Stream, C: ServerCalls> Server<S, C> {
         if self.unworked > 0 {
             push_jobs(rt, self.node);
             self.work_all(rt);
-            self.is_short |= self.unworked > 0;
+            self.connections.is_short |= self.unworked > 0;
         }
     }
 
@@ -326,36 +244,48 @@ impl<S: Stream, C: ServerCalls> Server<S, C> {
         let mut is_urgent = false;
         self.first = self.first.wrapping_add(1) % count;
         for offset in 0..count {
-            let number = self.first.wrapping_add(offset) % count + 1;
-            let worked = work_shard(rt, self.node, number);
-            self.unworked = self.unworked.saturating_sub(worked.jobs);
-            self.is_short |= worked.is_short;
-            is_urgent |= worked.is_urgent;
-            if worked.has_deltas {
-                let _done = self.collect(rt, number);
-            }
+            is_urgent |= self.work_one(rt, self.first.wrapping_add(offset) % count + 1);
         }
         is_urgent
     }
 
+    /// Works the shard of this number. Whether it is to be worked on once what was put is taken.
+    fn work_one<R: Wait>(&mut self, rt: &R, number: u64) -> bool {
+        let Some(worked) = work_shard(rt, self.node, number) else {
+            return false;
+        };
+        self.unworked = self.unworked.saturating_sub(worked.jobs);
+        self.connections.is_short |= worked.is_short;
+        if worked.has_deltas {
+            let _done = self.collect(rt, number);
+        }
+        worked.is_urgent
+    }
+
     /// Has the hub count what a shard has opened and closed. The routes of peers that are cut by it are
     /// closed. Whether there was memory for it.
-    pub(crate) fn collect<R: Wait>(&mut self, rt: &R, shard: u64) -> bool {
-        let told = match self.node.collect(rt, shard) {
-            Ok(Some(told)) => told,
-            Ok(None) => return true,
-            Err(_) => {
-                self.is_short = true;
-                return false;
+    fn collect<R: Wait>(&mut self, rt: &R, shard: u64) -> bool {
+        match self.node.collect(rt, shard) {
+            Ok(Some(told)) => {
+                self.connections.has_told = true;
+                self.cut_routes(&told.cut);
+                true
             }
-        };
-        self.has_told = true;
-        for place in told.cut {
-            if let Some(key) = self.peers.kept_connection(place) {
-                self.give_up_for(key, Cause::Full);
+            Ok(None) => true,
+            Err(_) => {
+                self.connections.is_short = true;
+                false
             }
         }
-        true
+    }
+
+    /// Closes the routes to the servers at these places, since a change of interest had no room.
+    fn cut_routes(&mut self, places: &[usize]) {
+        for place in places {
+            if let Some(key) = self.peers.kept_connection(*place) {
+                self.connections.give_up_for(key, Cause::Full);
+            }
+        }
     }
 
     /// Has the hub count what all shards have opened and closed.
@@ -363,5 +293,99 @@ impl<S: Stream, C: ServerCalls> Server<S, C> {
         for place in 0..self.node.shards() {
             let _done = self.collect(rt, place.saturating_add(1));
         }
+    }
+
+    /// The other end of a connection sends nothing any more. A route is closed. A client is a member of nothing any more, once all is
+    /// done that it asked for; what waits for it is written, and then it is closed, and at the latest at its deadline.
+    fn end<R: Wait>(&mut self, rt: &R, key: usize) {
+        if !self.connections.end(key) {
+            return;
+        }
+        if self.is_behind(key) || self.leave(rt, key).is_err() {
+            self.connections.postpone(key);
+        } else {
+            self.connections.shut(key);
+        }
+    }
+
+    /// Whether something that the connection asked for is still to be done.
+    fn is_behind(&self, key: usize) -> bool {
+        match self.connections.table.get(key) {
+            None => false,
+            Some(connection) => connection.is_short || self.unworked > 0,
+        }
+    }
+
+    /// A client leaves its shard, and has what waits for it sent to it.
+    fn leave<R: Wait>(&mut self, rt: &R, key: usize) -> Result<(), AllocError> {
+        if !self.close_subscriptions(rt, key) {
+            return Err(AllocError);
+        }
+        let left = self.connections.leave(rt, key, self.node, &mut self.taken);
+        let _done = self.tell_of(rt, key);
+        left
+    }
+
+    /// Closes the subscriptions of a client that has many, some at a time: each time the other servers are told of them before more are
+    /// closed, since few changes have room at once. Whether there was memory for that.
+    fn close_subscriptions<R: Wait>(&mut self, rt: &R, key: usize) -> bool {
+        for _some in 0..u64::MAX {
+            if !self.connections.close_some(rt, key, self.node) {
+                return true;
+            }
+            if !self.tell_of(rt, key) {
+                return false;
+            }
+        }
+        false
+    }
+
+    /// Has the hub count what a client's shard has opened and closed, and tells the other servers, of what waited for them first.
+    /// Whether there was memory for that.
+    fn tell_of<R: Wait>(&mut self, rt: &R, key: usize) -> bool {
+        match self.shard(key) {
+            None => true,
+            Some(shard) => self.tell_of_shard(rt, shard),
+        }
+    }
+
+    /// Has the hub count what a shard has opened and closed, and tells the other servers, of what waited for them first.
+    /// Whether there was memory for that.
+    fn tell_of_shard<R: Wait>(&mut self, rt: &R, shard: u64) -> bool {
+        self.write_frames(rt);
+        let done = self.collect(rt, shard);
+        self.write_frames(rt);
+        done
+    }
+
+    /// Closes the connections that go. One for which there is no memory goes later.
+    fn close_leaving<R: Wait>(&mut self, rt: &R) {
+        for place in 0..self.connections.begin_closing() {
+            if let Some(key) = self.connections.going(place) {
+                self.close_or_keep(rt, key);
+            }
+        }
+        self.connections.going.clear();
+    }
+
+    /// Closes a connection, later where there is no memory for that.
+    fn close_or_keep<R: Wait>(&mut self, rt: &R, key: usize) {
+        if self.close(rt, key).is_err() {
+            self.connections.is_short = true;
+            self.connections.leave_if_gone(key);
+        }
+    }
+
+    /// Closes a connection. Want of memory leaves it there.
+    fn close<R: Wait>(&mut self, rt: &R, key: usize) -> Result<(), AllocError> {
+        let shard = self.shard(key);
+        if !self.close_subscriptions(rt, key) {
+            return Err(AllocError);
+        }
+        drop(self.remove(rt, key)?);
+        if let Some(shard) = shard {
+            let _done = self.tell_of_shard(rt, shard);
+        }
+        Ok(())
     }
 }

@@ -1,6 +1,6 @@
 -- Words that the command line takes name a command, and give it all that it needs.
-use Rattle.std.proofs.Common.{◌≡◌, Bool, cond, codes, true, false, refl, sym, ap, subst, true≢false, inl, inr, List, [], ◌∷◌, drop, Option, Some, None}
-use Rattle.std.specs.Prelude.{IfSome, IsSome, IsSomeAnd, is_some, option_and_then, option_map, slice_get, unwrap_or, find, not, ◌||◌, ◌&&◌}
+use Rattle.std.proofs.Common.{◌≡◌, ℕ, Bool, cond, codes, true, false, refl, sym, ap, subst, true≢false, inl, inr, List, [], ◌∷◌, drop, Option, Some, None}
+use Rattle.std.specs.Prelude.{IfSome, IsSome, IsSomeAnd, is_some, option_and_then, option_map, slice_get, find, not, ◌||◌, ◌&&◌}
 use Rattle.std.specs.List.{fold}
 use Rattle.std.specs.Option.{option_map_or}
 use Rattle.std.specs.Str.{bytes_eq}
@@ -9,37 +9,83 @@ use Rattle.clap.specs.Values.{refused_kind}
 use Rattle.clap.specs.ValueTests.{accepts}
 use Rattle.clap.specs.Kinds.{Kinds}
 use Rattle.clap.specs.Walk.{Row, Rule, Text, answers_to, arg_by_id, finished, first_of, has_row, nothing_held, row_text, rows_after, settled, walk, walk_from, with_default}
-use Rattle.clap.specs.Simple.{App, Shape, argument_words, built, entered, help_shape, is_simple, label_of, names_of, new_rule, rows_at, subcommand_of}
+use Rattle.clap.specs.Simple.{App, Shape, argument_words, built, entered, help_rule, is_simple, label_of, names_of, new_rule, new_shape, rows_at, subcommand_of}
 use Rattle.clap.specs.Takes.{is_given}
 use Rattle.clap.specs.Faults.{check_fault, defaults_fault, entered_fault, fault_of, is_simple_and_free, level_fault, settle_fault, walk_fault}
 use Rattle.clap.specs.declared.error.kind.ErrorKind.{ErrorKind}
 use Rattle.clap.specs.declared.error.kind.ErrorKind.TheVariants as kind
 use Rattle.clap.specs.declared.builder.value_parser.ValueParser.TheVariants as vp
 use Rattle.clap.proofs.ValueTestLemmas.{accepts-Accepts}
-use Rattle.router_command.specs.Line.{greatest_number, router}
+use Rattle.router_command.specs.Line.{greatest_number, level_rule, number_rule, required_rule, router, with_value}
 use Rattle.router_command.specs.Command.{AreOptions, AreWords, HasNumber, IsNumber, IsWhole}
 use Rattle.router_command.proofs.Walks.{Each, IsNoHelp, Keeps, KeepsDefault, both_pass, level_keeps, walk_stops}
-use Rattle.router_command.proofs.Rows.{Passes, Reads, RowFits, default_comes, default_keeps, defaults_stay, given_found, help_keeps, row_found, row_of_rule, text_of_row, value_keeps}
+use Rattle.router_command.proofs.Rows.{Passes, Reads, RowFits, default_comes, default_keeps, defaults_stay, given_found, help_keeps, one_value, row_found, row_of_rule, text_of_row, value_keeps}
 
 -- ---- the commands as they are built
 
 abbrev whole_line : App
 whole_line = built router
 
-abbrev shape_named : Text → Shape
-shape_named name = unwrap_or (find (λ s. bytes_eq s.name name) whole_line.subs) help_shape
+-- an argument that is a text, as it is built
+abbrev text_rule : Rule → Rule
+text_rule a = record (one_value a) { parser = Some vp.String }
+
+-- a word at its place
+abbrev word_rule : ℕ → Text → Rule
+word_rule place name = record (text_rule (required_rule (new_rule name))) { index = Some place }
+
+-- an option that is a number, as it is built
+abbrev option_rule : Text → Rule
+option_rule name = one_value (number_rule name)
+
+abbrev nodes_rule : Rule
+nodes_rule = required_rule (option_rule (codes "nodes"))
+
+abbrev port_rule : Rule
+port_rule = required_rule (option_rule (codes "port"))
+
+abbrev shards_rule : Rule
+shards_rule = with_value (option_rule (codes "shards")) (codes "2")
+
+abbrev inc_rule : Rule
+inc_rule = with_value (option_rule (codes "inc")) (codes "1")
+
+abbrev seed_rule : Rule
+seed_rule = with_value (option_rule (codes "word")) (codes "0")
+
+abbrev end_rule : Rule
+end_rule = option_rule (codes "stop-after")
+
+abbrev log_rule : Rule
+log_rule = text_rule level_rule
+
+abbrev pattern_rule : Rule
+pattern_rule = word_rule 1 (codes "PATTERN")
+
+abbrev subject_rule : Rule
+subject_rule = word_rule 2 (codes "SUBJECT")
+
+-- the flag that each command has
+abbrev flag_rule : Rule
+flag_rule = record help_rule {
+  range = Some (record { start_inclusive = 0; end_inclusive = 0 });
+  parser = Some vp.String;
+}
+
+-- a command of these arguments
+abbrev built_of : Text → List Rule → Shape
+built_of name rules = record (new_shape name) {
+  rules = rules;
+  disable_help_subcommand = true;
+  is_built = true;
+}
 
 abbrev match_shape : Shape
-match_shape = shape_named (codes "match")
+match_shape = built_of (codes "match") (pattern_rule ∷ subject_rule ∷ flag_rule ∷ [])
 
 abbrev serve_shape : Shape
-serve_shape = shape_named (codes "serve")
-
-abbrev match_rule : Text → Rule
-match_rule name = unwrap_or (arg_by_id match_shape.rules name) (new_rule name)
-
-abbrev serve_rule : Text → Rule
-serve_rule name = unwrap_or (arg_by_id serve_shape.rules name) (new_rule name)
+serve_shape = built_of (codes "serve")
+    (nodes_rule ∷ port_rule ∷ shards_rule ∷ inc_rule ∷ seed_rule ∷ end_rule ∷ log_rule ∷ flag_rule ∷ [])
 
 -- ---- small steps
 
@@ -91,19 +137,19 @@ word_found a (Some r) h e = ap (λ (o : Option Text). is_some o) (text_of_row a 
 
 match_keeps : Each (Keeps match_shape.args_override_self (Each (RowFits match_shape.rules))) match_shape.rules
 match_keeps = (
-  value_keeps false match_shape.rules (match_rule (codes "PATTERN")) refl,
+  value_keeps false match_shape.rules pattern_rule refl,
   (
-    value_keeps false match_shape.rules (match_rule (codes "SUBJECT")) refl,
-    (help_keeps false (Each (RowFits match_shape.rules)) (match_rule (codes "help")), tt),
+    value_keeps false match_shape.rules subject_rule refl,
+    (help_keeps false (Each (RowFits match_shape.rules)) flag_rule, tt),
   ),
 )
 
 match_defaults : Each (KeepsDefault (Each (RowFits match_shape.rules))) match_shape.rules
 match_defaults = (
-  default_keeps match_shape.rules (match_rule (codes "PATTERN")) refl,
+  default_keeps match_shape.rules pattern_rule refl,
   (
-    default_keeps match_shape.rules (match_rule (codes "SUBJECT")) refl,
-    (default_keeps match_shape.rules (match_rule (codes "help")) refl, tt),
+    default_keeps match_shape.rules subject_rule refl,
+    (default_keeps match_shape.rules flag_rule refl, tt),
   ),
 )
 
@@ -120,28 +166,28 @@ match_whole words e =
     let kept = level_keeps match_shape (Each (RowFits match_shape.rules)) match_keeps [] nothing_held words false [] match_defaults e tt in
     let given = match_needs rows kept.1 in
     record {
-      pattern = match_word (codes "PATTERN") (match_rule (codes "PATTERN")) rows refl kept.0 given.0;
-      subject = match_word (codes "SUBJECT") (match_rule (codes "SUBJECT")) rows refl kept.0 given.1;
+      pattern = match_word (codes "PATTERN") pattern_rule rows refl kept.0 given.0;
+      subject = match_word (codes "SUBJECT") subject_rule rows refl kept.0 given.1;
     }
 
 -- ---- `serve`
 
 serve_keeps : Each (Keeps serve_shape.args_override_self (Each (RowFits serve_shape.rules))) serve_shape.rules
 serve_keeps = (
-  value_keeps false serve_shape.rules (serve_rule (codes "nodes")) refl,
+  value_keeps false serve_shape.rules nodes_rule refl,
   (
-    value_keeps false serve_shape.rules (serve_rule (codes "port")) refl,
+    value_keeps false serve_shape.rules port_rule refl,
     (
-      value_keeps false serve_shape.rules (serve_rule (codes "shards")) refl,
+      value_keeps false serve_shape.rules shards_rule refl,
       (
-        value_keeps false serve_shape.rules (serve_rule (codes "inc")) refl,
+        value_keeps false serve_shape.rules inc_rule refl,
         (
-          value_keeps false serve_shape.rules (serve_rule (codes "word")) refl,
+          value_keeps false serve_shape.rules seed_rule refl,
           (
-            value_keeps false serve_shape.rules (serve_rule (codes "stop-after")) refl,
+            value_keeps false serve_shape.rules end_rule refl,
             (
-              value_keeps false serve_shape.rules (serve_rule (codes "log-level")) refl,
-              (help_keeps false (Each (RowFits serve_shape.rules)) (serve_rule (codes "help")), tt),
+              value_keeps false serve_shape.rules log_rule refl,
+              (help_keeps false (Each (RowFits serve_shape.rules)) flag_rule, tt),
             ),
           ),
         ),
@@ -152,20 +198,20 @@ serve_keeps = (
 
 serve_defaults : Each (KeepsDefault (Each (RowFits serve_shape.rules))) serve_shape.rules
 serve_defaults = (
-  default_keeps serve_shape.rules (serve_rule (codes "nodes")) refl,
+  default_keeps serve_shape.rules nodes_rule refl,
   (
-    default_keeps serve_shape.rules (serve_rule (codes "port")) refl,
+    default_keeps serve_shape.rules port_rule refl,
     (
-      default_keeps serve_shape.rules (serve_rule (codes "shards")) refl,
+      default_keeps serve_shape.rules shards_rule refl,
       (
-        default_keeps serve_shape.rules (serve_rule (codes "inc")) refl,
+        default_keeps serve_shape.rules inc_rule refl,
         (
-          default_keeps serve_shape.rules (serve_rule (codes "word")) refl,
+          default_keeps serve_shape.rules seed_rule refl,
           (
-            default_keeps serve_shape.rules (serve_rule (codes "stop-after")) refl,
+            default_keeps serve_shape.rules end_rule refl,
             (
-              default_keeps serve_shape.rules (serve_rule (codes "log-level")) refl,
-              (default_keeps serve_shape.rules (serve_rule (codes "help")) refl, tt),
+              default_keeps serve_shape.rules log_rule refl,
+              (default_keeps serve_shape.rules flag_rule refl, tt),
             ),
           ),
         ),
@@ -185,30 +231,30 @@ serve_number name a rows own fit there =
 -- the options that have defaults
 shards_there : (rows : List Row) → has_row (codes "shards") (fold with_default rows serve_shape.rules) ≡ true
 shards_there rows =
-    let before = with_default (with_default rows (serve_rule (codes "nodes"))) (serve_rule (codes "port")) in
-    defaults_stay (codes "shards") (drop 3 serve_shape.rules) (with_default before (serve_rule (codes "shards")))
-    (default_comes (serve_rule (codes "shards")) (codes "2") before)
+    let before = with_default (with_default rows nodes_rule) port_rule in
+    defaults_stay (codes "shards") (drop 3 serve_shape.rules) (with_default before shards_rule)
+    (default_comes shards_rule (codes "2") before)
 
 inc_there : (rows : List Row) → has_row (codes "inc") (fold with_default rows serve_shape.rules) ≡ true
 inc_there rows =
-    let before = with_default (with_default (with_default rows (serve_rule (codes "nodes"))) (serve_rule (codes "port"))) (serve_rule (codes "shards")) in
-    defaults_stay (codes "inc") (drop 4 serve_shape.rules) (with_default before (serve_rule (codes "inc")))
-    (default_comes (serve_rule (codes "inc")) (codes "1") before)
+    let before = with_default (with_default (with_default rows nodes_rule) port_rule) shards_rule in
+    defaults_stay (codes "inc") (drop 4 serve_shape.rules) (with_default before inc_rule)
+    (default_comes inc_rule (codes "1") before)
 
 word_there : (rows : List Row) → has_row (codes "word") (fold with_default rows serve_shape.rules) ≡ true
 word_there rows =
-    let early = with_default (with_default rows (serve_rule (codes "nodes"))) (serve_rule (codes "port")) in
-    let before = with_default (with_default early (serve_rule (codes "shards"))) (serve_rule (codes "inc")) in
-    defaults_stay (codes "word") (drop 5 serve_shape.rules) (with_default before (serve_rule (codes "word")))
-    (default_comes (serve_rule (codes "word")) (codes "0") before)
+    let early = with_default (with_default rows nodes_rule) port_rule in
+    let before = with_default (with_default early shards_rule) inc_rule in
+    defaults_stay (codes "word") (drop 5 serve_shape.rules) (with_default before seed_rule)
+    (default_comes seed_rule (codes "0") before)
 
 level_there : (rows : List Row) → has_row (codes "log-level") (fold with_default rows serve_shape.rules) ≡ true
 level_there rows =
-    let early = with_default (with_default rows (serve_rule (codes "nodes"))) (serve_rule (codes "port")) in
-    let later = with_default (with_default (with_default early (serve_rule (codes "shards"))) (serve_rule (codes "inc"))) (serve_rule (codes "word")) in
-    let before = with_default later (serve_rule (codes "stop-after")) in
-    defaults_stay (codes "log-level") (drop 7 serve_shape.rules) (with_default before (serve_rule (codes "log-level")))
-    (default_comes (serve_rule (codes "log-level")) (codes "info") before)
+    let early = with_default (with_default rows nodes_rule) port_rule in
+    let later = with_default (with_default (with_default early shards_rule) inc_rule) seed_rule in
+    let before = with_default later end_rule in
+    defaults_stay (codes "log-level") (drop 7 serve_shape.rules) (with_default before log_rule)
+    (default_comes log_rule (codes "info") before)
 
 serve_whole : (words : List Text) → level_fault serve_shape [] nothing_held words false [] ≡ [] → AreOptions (rows_after serve_shape.rules [] words)
 serve_whole words e =
@@ -217,15 +263,15 @@ serve_whole words e =
     let given = serve_needs rows kept.1 in
     let used = (settled serve_shape.rules (walk serve_shape.rules [] nothing_held words).held).rows in
     record {
-      nodes = serve_number (codes "nodes") (serve_rule (codes "nodes")) rows refl kept.0 (given_found (codes "nodes") rows given.0);
-      port = serve_number (codes "port") (serve_rule (codes "port")) rows refl kept.0 (given_found (codes "port") rows given.1);
-      shards = serve_number (codes "shards") (serve_rule (codes "shards")) rows refl kept.0 (row_found (codes "shards") rows (shards_there used));
-      inc = serve_number (codes "inc") (serve_rule (codes "inc")) rows refl kept.0 (row_found (codes "inc") rows (inc_there used));
-      word = serve_number (codes "word") (serve_rule (codes "word")) rows refl kept.0 (row_found (codes "word") rows (word_there used));
-      stop_after = number_if_found (serve_rule (codes "stop-after")) (find (λ r. bytes_eq r.id (codes "stop-after")) rows)
-          (row_of_rule serve_shape.rules (codes "stop-after") (serve_rule (codes "stop-after")) rows refl kept.0);
-      log_level = word_found (serve_rule (codes "log-level")) (find (λ r. bytes_eq r.id (codes "log-level")) rows)
-          (row_of_rule serve_shape.rules (codes "log-level") (serve_rule (codes "log-level")) rows refl kept.0)
+      nodes = serve_number (codes "nodes") nodes_rule rows refl kept.0 (given_found (codes "nodes") rows given.0);
+      port = serve_number (codes "port") port_rule rows refl kept.0 (given_found (codes "port") rows given.1);
+      shards = serve_number (codes "shards") shards_rule rows refl kept.0 (row_found (codes "shards") rows (shards_there used));
+      inc = serve_number (codes "inc") inc_rule rows refl kept.0 (row_found (codes "inc") rows (inc_there used));
+      word = serve_number (codes "word") seed_rule rows refl kept.0 (row_found (codes "word") rows (word_there used));
+      stop_after = number_if_found end_rule (find (λ r. bytes_eq r.id (codes "stop-after")) rows)
+          (row_of_rule serve_shape.rules (codes "stop-after") end_rule rows refl kept.0);
+      log_level = word_found log_rule (find (λ r. bytes_eq r.id (codes "log-level")) rows)
+          (row_of_rule serve_shape.rules (codes "log-level") log_rule rows refl kept.0)
           (row_found (codes "log-level") rows (level_there used));
     }
 

@@ -13,7 +13,7 @@ use clap::{Arg, ArgMatches, Error};
 use std::alloc::{AllocError, Global};
 
 /// What the command line asks for.
-#[derive(Clone, Copy, Debug, PartialEq, Eq)]
+#[derive(Clone, Copy)]
 pub enum Command<'a> {
     /// To serve one client on standard input and output.
     Pipe,

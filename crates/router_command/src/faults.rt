@@ -9,7 +9,7 @@ use std::fmt::{Display, Formatter, Write};
 use subj::{MAX_INCARNATION, MAX_NODES, MAX_SHARDS};
 
 /// An option of the command line.
-#[derive(Clone, Copy, Debug, PartialEq, Eq)]
+#[derive(Clone, Copy, Debug)]
 pub enum OptionName {
     Nodes,
     Port,
@@ -46,7 +46,7 @@ impl OptionName {
 }
 
 /// Why the options are none. (Profile.)
-#[derive(Clone, Copy, Debug, PartialEq, Eq)]
+#[derive(Clone, Copy, Debug)]
 pub enum OptionFault {
     /// The value of the option is not in its range.
     BadValue(OptionName),

@@ -9,7 +9,7 @@ use log::LevelFilter;
 use subj::Incarnation;
 
 /// What the command line says of a mesh: each number and text as it was given.
-#[derive(Clone, Copy, Debug, PartialEq, Eq)]
+#[derive(Clone, Copy)]
 pub struct Given<'a> {
     pub nodes: u64,
     pub port: u64,
@@ -22,7 +22,7 @@ pub struct Given<'a> {
 
 /// What a mesh is told: N servers, the first port P, K shards each, their incarnation I, the seed R, after
 /// how many clients it ends, and which events standard error tells. (Profile.)
-#[derive(Clone, Copy, Debug, PartialEq, Eq)]
+#[derive(Clone, Copy)]
 pub struct Options {
     pub nodes: u16,
     pub port: u16,

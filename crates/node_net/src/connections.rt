@@ -1,0 +1,485 @@
+//! The connections of a server, and what is noted of them until it is done: which are to be served, written to and closed, and until when one may
+//! stay as it is. That is a client that is closed once its last bytes are written, a route that has not told who it is, and one that takes nothing
+//! of what waits for it. No deadline waits for a stream.
+
+ghost use Rattle.std.specs.Prelude.{◌≡◌};
+
+use crate::connection::{Cause, Connection, Ending};
+use crate::limits::{IDLE, IDLE_STEP, LAST_BYTES, RETRY, ROUTE_STALL};
+use crate::route_link::Stepped;
+use crate::taken::Taken;
+use net_streams::Stream;
+use rand_pcg::Pcg64;
+use server_calls::ServerCalls;
+use server_events::{Caller, Event, Events, RefusalCause};
+use slab::Slab;
+use std::alloc::{AllocError, Global};
+use std::sync::Wait;
+use subj::Server as Life;
+
+/// The connections of a server, by their keys. In each list of keys but `awaited` each stands once, and there is room for all.
+#[derive(Drop)]
+pub(crate) struct Connections<S: Stream> {
+    pub table: Slab<Connection<S>>,
+    /// Connections for which something may wait.
+    pub awaited: Vec<usize>,
+    /// Whether something may wait for any client.
+    pub awaits_any: bool,
+    /// Whether something may wait for other servers.
+    pub has_told: bool,
+    /// Connections that are to be served in the next turn, although nothing tells of them, and those of this turn.
+    again: Vec<usize>,
+    pub serving: Vec<usize>,
+    /// Connections that go at the end of the turn, and those that are going.
+    leaving: Vec<usize>,
+    pub going: Vec<usize>,
+    /// Milliseconds since the loop began.
+    pub now: u64,
+    /// No connection's deadline comes before this time; the greatest number where none comes.
+    next_deadline: u64,
+    /// How many turns were made.
+    turns: u64,
+    /// Whether there was no memory for something, which is tried again.
+    pub is_short: bool,
+    /// What has happened since it was told last.
+    pub events: Events,
+}
+
+/// Puts a key behind the others. Whether there was memory for it.
+fn keep(keys: &mut Vec<usize>, key: usize) -> bool {
+    keys.push(key).is_ok()
+}
+
+/// Puts a value among others. Gives its key.
+fn insert<T: Drop>(table: &mut Slab<T>, value: T) -> Result<usize, AllocError> {
+    match table.insert(value) {
+        Ok(key) => Ok(key),
+        Err(_) => Err(AllocError),
+    }
+}
+
+impl<S: Stream> Connections<S> {
+    /// There are none.
+    pub fn new(alloc: Global) -> Connections<S> {
+        Connections {
+            table: Slab::new(alloc),
+            awaited: Vec::new(alloc),
+            awaits_any: false,
+            has_told: false,
+            again: Vec::new(alloc),
+            serving: Vec::new(alloc),
+            leaving: Vec::new(alloc),
+            going: Vec::new(alloc),
+            now: 0,
+            next_deadline: u64::MAX,
+            turns: 0,
+            is_short: false,
+            events: Events::new(alloc),
+        }
+    }
+
+    /// Makes room for one more, wherever it may stand.
+    pub fn reserve(&mut self) -> Result<(), AllocError> {
+        self.table.reserve(1)?;
+        let all = self.table.len().saturating_add(1);
+        self.again.reserve(all)?;
+        self.serving.reserve(all)?;
+        self.leaving.reserve(all)?;
+        self.going.reserve(all)
+    }
+
+    /// Puts one among the others, which is served in the next turn. Gives its key.
+    pub fn add(&mut self, connection: Connection<S>) -> Result<usize, AllocError> {
+        let key = insert(&mut self.table, connection)?;
+        self.serve_later(key);
+        self.await_deadline(key);
+        Ok(key)
+    }
+
+    /// Something has happened.
+    pub fn tell(&mut self, event: Event)
+        ensures { self.new.table ≡ self.old.table }
+    {
+        self.events.note(event);
+    }
+
+    /// The connection is served in the next turn, although nothing may tell of it.
+    fn serve_later(&mut self, key: usize) {
+        if let Some(connection) = self.table.get_mut(key) {
+            if !connection.stands_again {
+                connection.stands_again = keep(&mut self.again, key);
+            }
+        }
+    }
+
+    /// Whether something is to be done although no stream is ready.
+    pub fn goes_on(&self) -> bool {
+        !self.again.is_empty() || !self.leaving.is_empty()
+    }
+
+    /// When another turn is to be made although no stream is ready: at once where something is to be done, soon where there was no memory for
+    /// something, and else at the next deadline. None where there is no need.
+    pub fn next_turn(&self) -> Option<u64> {
+        if self.is_short {
+            return Some(self.next_deadline.min(self.now.saturating_add(RETRY)));
+        }
+        if self.goes_on() {
+            return Some(self.now);
+        }
+        (self.next_deadline < u64::MAX).then_some(self.next_deadline)
+    }
+
+    /// A turn begins. Gives how many connections are to be served again.
+    pub fn begin_turn(&mut self) -> usize {
+        self.turns = self.turns.wrapping_add(1);
+        std::mem::swap(&mut self.again, &mut self.serving);
+        self.serving.len()
+    }
+
+    /// The connection at this place among those that are to be served again.
+    pub fn served_again(&mut self, place: usize) -> Option<usize> {
+        let key = self.serving.get(place).copied()?;
+        if let Some(connection) = self.table.get_mut(key) {
+            connection.stands_again = false;
+        }
+        Some(key)
+    }
+
+    /// Writes what was kept for a connection, and reads of it once; once a turn. Whether it did.
+    pub fn read(&mut self, key: usize) -> bool {
+        if !self.begin(key) {
+            return false;
+        }
+        self.read_once(key);
+        self.rest_later(key);
+        true
+    }
+
+    /// Begins to serve a connection, where it was not served in this turn: what was kept for it is written. Whether it did.
+    fn begin(&mut self, key: usize) -> bool {
+        let Some(connection) = self.table.get_mut(key) else {
+            return false;
+        };
+        if connection.served_in == self.turns {
+            return false;
+        }
+        connection.served_in = self.turns;
+        if !connection.is_flushed() {
+            self.resume(key);
+        }
+        true
+    }
+
+    fn read_once(&mut self, key: usize) {
+        if let Some(connection) = self.table.get_mut(key) {
+            self.is_short |= connection.read();
+        }
+    }
+
+    /// Writes what was kept for a connection. Where its stream takes all, what else waits for it is taken in this turn.
+    pub fn resume(&mut self, key: usize) {
+        if let Some(connection) = self.table.get_mut(key) {
+            connection.resume();
+            self.has_told = true;
+            self.await_bytes(key);
+            self.leave_if_gone(key);
+        }
+    }
+
+    /// Writes what was kept for a connection, as far as its stream takes it.
+    pub fn write_kept(&mut self, key: usize) {
+        let Some(connection) = self.table.get_mut(key) else {
+            return;
+        };
+        if connection.is_flushed() {
+            return;
+        }
+        connection.resume();
+        self.has_told |= connection.client().is_none();
+        self.leave_if_gone(key);
+    }
+
+    /// Something may wait for the connection.
+    fn await_bytes(&mut self, key: usize) {
+        if !keep(&mut self.awaited, key) {
+            self.awaits_any = true;
+        }
+    }
+
+    /// The other end of a connection is known to send nothing any more: it is read until its end.
+    pub fn hang_up(&mut self, key: usize) {
+        if let Some(connection) = self.table.get_mut(key) {
+            connection.hangs_up = true;
+        }
+    }
+
+    /// Whether the other end of a connection sends nothing any more.
+    pub fn has_ended(&self, key: usize) -> bool {
+        match self.table.get(key) {
+            None => false,
+            Some(connection) => connection.has_ended(),
+        }
+    }
+
+    /// The other end of a connection sends nothing any more: a route is closed, and a client has at most [`LAST_BYTES`] from now. Whether it is
+    /// a client that goes on.
+    pub fn end(&mut self, key: usize) -> bool {
+        let is_client = match self.table.get_mut(key) {
+            None => false,
+            Some(connection) => connection.end(),
+        };
+        if is_client {
+            self.limit(key);
+        }
+        is_client
+    }
+
+    /// Does what a connection asks next, where it goes on.
+    pub fn step<C: ServerCalls, R: Wait>(
+        &mut self,
+        rt: &R,
+        key: usize,
+        node: C,
+        life: &Life,
+        words: &mut Pcg64,
+    ) -> Option<Stepped> {
+        match self.table.get_mut(key) {
+            None => None,
+            Some(connection) => connection.step(rt, node, life, words),
+        }
+    }
+
+    /// A client leaves its shard, and has what waits for it sent to it, which is taken for that.
+    pub fn leave<C: ServerCalls, R: Wait>(
+        &mut self,
+        rt: &R,
+        key: usize,
+        node: C,
+        taken: &mut Taken,
+    ) -> Result<(), AllocError> {
+        taken.clear();
+        let left = match self.table.get_mut(key) {
+            None => Ok(()),
+            Some(connection) => connection.leave(rt, node, &mut taken.bytes),
+        };
+        taken.let_go();
+        left
+    }
+
+    /// Closes some of the subscriptions of a client that has many. Whether it did.
+    pub fn close_some<C: ServerCalls, R: Wait>(&mut self, rt: &R, key: usize, node: C) -> bool {
+        match self.table.get_mut(key) {
+            None => false,
+            Some(connection) => connection.close_some(rt, node),
+        }
+    }
+
+    /// Notes what is to become of a connection that was served.
+    pub fn settle(&mut self, key: usize) {
+        let Some(connection) = self.table.get(key) else {
+            return;
+        };
+        if connection.goes_on() {
+            self.serve_later(key);
+        }
+        self.await_bytes(key);
+        self.leave_if_gone(key);
+    }
+
+    /// What a connection waits for had no memory, and is tried again.
+    pub fn postpone(&mut self, key: usize) {
+        self.is_short = true;
+        if let Some(connection) = self.table.get_mut(key) {
+            connection.is_short = true;
+        }
+    }
+
+    /// The session of a route is kept: it is not given up for having none.
+    pub fn lift_limit(&mut self, key: usize) {
+        if let Some(connection) = self.table.get_mut(key) {
+            connection.lift_limit();
+        }
+    }
+
+    /// Sends what was spelt for a connection, where there was memory for all of it.
+    pub fn send_spelt(&mut self, key: usize, spelt: &[u8], is_whole: bool) {
+        if let Some(connection) = self.table.get_mut(key) {
+            connection.send_spelt(spelt, is_whole);
+        }
+    }
+
+    /// How many bytes that were sent are not written, of a connection that does not go at the end of the turn.
+    pub fn backlog(&self, key: usize) -> Option<usize> {
+        let connection = self.table.get(key)?;
+        (connection.ending() != Ending::Gone).then_some(connection.backlog())
+    }
+
+    /// The server ends a connection for this cause. Of a client it is told at once, with how many bytes wait for it, beside so many that are
+    /// about to be written. The first cause of a connection stays.
+    pub fn blame(&mut self, key: usize, cause: Cause, taken: usize) {
+        if let Some(connection) = self.table.get_mut(key) {
+            if let Some(event) = connection.blame(cause, taken) {
+                self.events.note(event);
+            }
+        }
+    }
+
+    /// The connection is closed at the end of the turn.
+    pub fn give_up(&mut self, key: usize) {
+        if let Some(connection) = self.table.get_mut(key) {
+            connection.give_up();
+        }
+        self.leave_if_gone(key);
+    }
+
+    /// The connection is closed at the end of the turn, for this cause.
+    pub fn give_up_for(&mut self, key: usize, cause: Cause) {
+        self.blame(key, cause, 0);
+        self.give_up(key);
+    }
+
+    /// Notes a connection that is to be closed at the end of the turn.
+    pub fn leave_if_gone(&mut self, key: usize) {
+        if let Some(connection) = self.table.get_mut(key) {
+            if connection.is_to_leave() {
+                connection.is_leaving = keep(&mut self.leaving, key);
+            }
+        }
+    }
+
+    /// The connections go that are to be closed. Gives how many there are.
+    pub fn begin_closing(&mut self) -> usize {
+        std::mem::swap(&mut self.leaving, &mut self.going);
+        self.going.len()
+    }
+
+    /// The connection at this place among those that go, where it goes still.
+    pub fn going(&mut self, place: usize) -> Option<usize> {
+        let key = self.going.get(place).copied()?;
+        let connection = self.table.get_mut(key)?;
+        connection.is_leaving = false;
+        (connection.ending() == Ending::Gone).then_some(key)
+    }
+
+    /// The connection's deadline is looked at when it comes, and whether its buffer is to be given back.
+    pub fn await_deadline(&mut self, key: usize) {
+        if let Some(connection) = self.table.get(key) {
+            let next = connection.deadline().min(connection.rests_at());
+            self.next_deadline = self.next_deadline.min(next);
+        }
+    }
+
+    /// A connection is closed once all that waits for it is written, and at the latest [`LAST_BYTES`] from now.
+    pub fn shut(&mut self, key: usize) {
+        let deadline = self.last_bytes();
+        if let Some(connection) = self.table.get_mut(key) {
+            connection.shut(deadline);
+        }
+        self.await_deadline(key);
+    }
+
+    /// The same, for this cause.
+    pub fn shut_for(&mut self, key: usize, cause: Cause) {
+        self.blame(key, cause, 0);
+        self.shut(key);
+    }
+
+    /// Until when a connection that is shut now may stay.
+    pub fn last_bytes(&self) -> u64 {
+        self.now.saturating_add(LAST_BYTES)
+    }
+
+    /// A connection that goes on has at most [`LAST_BYTES`] from now.
+    fn limit(&mut self, key: usize) {
+        let deadline = self.last_bytes();
+        if let Some(connection) = self.table.get_mut(key) {
+            connection.limit(deadline);
+        }
+        self.await_deadline(key);
+    }
+
+    /// A route for which something waits has [`ROUTE_STALL`] from when its stream took a byte of it.
+    pub fn watch_route(&mut self, key: usize) {
+        self.watch(key);
+        self.await_deadline(key);
+    }
+
+    /// The same, where the deadline is awaited later.
+    fn watch(&mut self, key: usize) {
+        let deadline = self.now.saturating_add(ROUTE_STALL);
+        if let Some(connection) = self.table.get_mut(key) {
+            connection.watch(deadline);
+        }
+    }
+
+    /// The buffer of what a connection sent is given back where nothing more is read of it for [`IDLE`], or a little longer: so many
+    /// connections rest at one time.
+    fn rest_later(&mut self, key: usize) {
+        let steps = self.now.saturating_add(IDLE).saturating_add(IDLE_STEP - 1) / IDLE_STEP;
+        let time = steps.saturating_mul(IDLE_STEP);
+        if let Some(connection) = self.table.get_mut(key) {
+            connection.rest_at(time);
+        }
+        self.await_deadline(key);
+    }
+
+    /// Gives up the connections whose deadlines have come, and gives back the buffers of those that are idle.
+    pub fn end_overdue(&mut self) {
+        if self.now < self.next_deadline {
+            return;
+        }
+        self.next_deadline = u64::MAX;
+        for key in 0..self.table.capacity() {
+            self.end_if_overdue(key);
+            self.rest_if_idle(key);
+            self.await_deadline(key);
+        }
+    }
+
+    /// Whether the deadline of a connection has come.
+    fn is_overdue(&self, key: usize) -> bool {
+        match self.table.get(key) {
+            None => false,
+            Some(connection) => connection.deadline() <= self.now,
+        }
+    }
+
+    /// Gives up a connection whose deadline has come, once its stream has taken what it takes by now: where the turn comes late, a route
+    /// may go on.
+    fn end_if_overdue(&mut self, key: usize) {
+        if !self.is_overdue(key) {
+            return;
+        }
+        self.resume(key);
+        self.watch(key);
+        if self.is_overdue(key) {
+            self.tell_silent(key);
+            self.give_up_for(key, Cause::Overdue);
+        }
+    }
+
+    /// The other end of a route did not tell in time who it is.
+    fn tell_silent(&mut self, key: usize) {
+        let is_silent = match self.table.get(key) {
+            None => false,
+            Some(connection) => connection.is_unknown(),
+        };
+        if is_silent {
+            self.tell(Event::ConnectionRefused {
+                caller: Caller::Server,
+                cause: RefusalCause::Silent,
+            });
+        }
+    }
+
+    /// Gives back the buffer of a connection that is idle. It is read once, since a client's is given back by a read.
+    fn rest_if_idle(&mut self, key: usize) {
+        let is_idle = match self.table.get_mut(key) {
+            None => false,
+            Some(connection) => connection.rest_if_idle(self.now),
+        };
+        if is_idle {
+            self.serve_later(key);
+        }
+    }
+}
