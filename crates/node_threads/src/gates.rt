@@ -10,7 +10,7 @@ pub trait Gate: Sync {
 }
 
 /// A gate that holds nothing.
-#[derive(Clone, Copy, Debug)]
+#[derive(Clone, Copy)]
 pub struct Open;
 
 impl Gate for Open {

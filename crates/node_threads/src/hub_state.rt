@@ -1,6 +1,8 @@
-//! What stands under the lock of the hub.
+//! What stands under the lock of the hub: its ends of the lanes, the jobs on their way to these, and its state.
 
-ghost use Rattle.std.specs.Prelude.{◌≡◌, ◌<◌, ⊤, [], true, false, All, length, IfOk};
+ghost use Rattle.std.specs.Prelude.{◌≡◌, ◌-◌, ◌++◌, true, false, Some, [], slice_get, ◌+◌, ◌<◌, ◌∷◌, All, length, map, OnOk, None, ⊤, IfOk};
+ghost use Rattle.job_lane.specs.Turns.{AreNumbered};
+ghost use Rattle.node_threads.specs.Outlets.{jobs_owed, AreFirst};
 ghost use Rattle.subj.specs.Answers.{IsAnswered, IsDecided};
 ghost use Rattle.claim_cells.specs.Calls.{IsLooked};
 ghost use Rattle.claim_cells.specs.Rule.{fresh_hub};
@@ -12,15 +14,14 @@ ghost use Rattle.hub_core.specs.Receiving.{has_message, receive_refusal};
 ghost use Rattle.hub_core.specs.Steps.{hub_refusal};
 ghost use Rattle.route_session.specs.Events.{Dial, Accept, OnInfo, OnConnect, Cut, Dialed, Accepted, KeptAfterInfo, Kept as WasKept, WasCut};
 ghost use Rattle.route_session.specs.Steps.{session_refusal};
-ghost use Rattle.node_threads.specs.AtHub.{Collects, Does, Looks, Publishes, Receives, Routes, refuses_busy};
+ghost use Rattle.node_threads.specs.AtHub.{Collects, Does, Looks, Publishes, Receives, Routes, refuses_busy, IsAtHub};
 ghost use Rattle.node_parts.specs.Sides.{ByHub, BySessions, OfHub, OfSessions, new_side, seen_name};
 
-use crate::line::Line;
 use crate::node_name::NodeName;
-use crate::outlet::Outlet;
 use crate::shard_state::ShardState;
 use claim_cells::{Cells, HubSeat};
 use hub_core::{HubFault, PublishPlan, Told};
+use job_lane::{LaneIn, Run};
 use node_parts::{Issued, Received, Side, is_message};
 use route_session::{Kept, SessionFault, SessionId};
 use route_values::{Numbered, RouteConnect, RouteInfo};
@@ -29,6 +30,241 @@ use std::marker::{Model, PhantomData};
 use std::sync::Wait;
 use sub_table::SubTable;
 use subj::{ConnId, Failure, Finished, Job, Pub, Server, Turn};
+
+/// The end of a shard's lane that runs are pushed at.
+///
+/// Seen as the shard, all jobs pushed, and whether the lane has the run that is handed out.
+#[derive(Drop)]
+pub struct Line<N: NodeName> {
+    shard: u64,
+    lane: LaneIn,
+    taken: bool,
+    of: PhantomData<N>,
+}
+
+impl<N: NodeName> Model for Line<N> {
+    ghost use Rattle.std.specs.Prelude.{◌≡◌, ◌-◌, Some, slice_get};
+    ghost use Rattle.node_threads.specs.Outlets.{Line};
+
+    ghost Value = { Line };
+
+    ghost view = { λ s. record { shard = s.shard; pushed = s.lane.pushed; taken = s.taken } };
+
+    ghost invariant = { λ s. slice_get N.lanes (s.shard - 1) ≡ Some s.lane.lane };
+}
+
+impl<N: NodeName> Line<N> {
+    /// The end of the lane of this shard, counted from 1, to which nothing was pushed. Required: the server's
+    /// name has it as that shard's lane.
+    pub fn new(shard: u64, lane: LaneIn) -> Line<N>
+        requires lane { slice_get N.lanes (shard - 1) ≡ Some lane.lane }
+        requires fresh { lane.pushed ≡ [] }
+        ensures { result ≡ record { shard = shard; pushed = []; taken = false } }
+    {
+        Line {
+            shard,
+            lane,
+            taken: false,
+            of: PhantomData,
+        }
+    }
+
+    /// Of which shard it is, counted from 1.
+    pub fn shard(&self) -> u64
+        ensures { result ≡ self.now.shard }
+    {
+        self.shard
+    }
+
+    /// The end of the lane alone.
+    pub fn into_lane(self) -> LaneIn
+        ensures lane { slice_get N.lanes (self.shard - 1) ≡ Some result.lane }
+        ensures pushed { result.pushed ≡ self.pushed }
+    {
+        let Line { lane, .. } = self;
+        lane
+    }
+
+    /// Whether the lane has the run that is handed out.
+    fn has_taken(&self) -> bool
+        ensures { result ≡ self.now.taken }
+    {
+        self.taken
+    }
+
+    /// Another run is handed out.
+    fn begin(&mut self)
+        ensures { self.new ≡ record self.old { taken = false } }
+    {
+        self.taken = false;
+    }
+
+    /// Pushes the run, unless the lane has it. A lane without room, and want of memory, leave it owed.
+    #[tactic(auto, using(crate::proofs::Lanes::Outlets::owed_behind, crate::proofs::Lanes::Outlets::pushed_now))]
+    fn offer<R: Wait>(&mut self, rt: &R, run: &Run)
+        requires { AreNumbered (self.old.pushed ++ jobs_owed self.old.taken (Some run.now)) }
+        ensures { (self.new.shard ≡ self.old.shard) × (self.new.pushed ++ jobs_owed self.new.taken (Some run.now) ≡ self.old.pushed ++ jobs_owed self.old.taken (Some run.now)) }
+    {
+        if self.taken {
+            return;
+        }
+        let Ok(copy) = run.try_clone() else {
+            return;
+        };
+        if self.lane.push(rt, copy).is_err() {
+            return;
+        }
+        self.taken = true;
+    }
+}
+
+/// The hub's ends of all lanes, and the jobs that not all of them have yet, in order: a run that is handed
+/// out, and behind it those that are not made into a run yet.
+///
+/// Seen as all jobs that the shards are handed. What each lane was pushed is a beginning of them, and their
+/// turns are 1, 2, .. in order.
+#[derive(Drop)]
+struct Outlet<N: NodeName> {
+    alloc: Global,
+    lines: Vec<Line<N>>,
+    run: Option<Run>,
+    unsent: Vec<Job>,
+}
+
+impl<N: NodeName> Model for Outlet<N> {
+    ghost use Rattle.std.specs.Prelude.{◌-◌, vec_len, vec_capacity};
+    ghost use Rattle.node_threads.specs.Outlets.{Outlet, IsOutlet, jobs_handed};
+
+    ghost Value = { Outlet };
+
+    ghost view = { λ s. record { jobs = jobs_handed s.run s.unsent.items s.lines.items; room = vec_capacity s.unsent - vec_len s.unsent } };
+
+    ghost invariant = { λ s. IsOutlet s.run s.unsent.items s.lines.items };
+}
+
+/// Whether each lane has the run that is handed out.
+fn all_have<N: NodeName>(lines: &[Line<N>]) -> bool
+    ensures { result ≡ true → All (λ line. line.taken ≡ true) lines.now }
+{
+    lines.iter().all(|line| line.has_taken())
+}
+
+/// Pushes the run to each lane that does not have it.
+fn offer_to_each<N: NodeName, R: Wait>(rt: &R, lines: &mut [Line<N>], run: &Run)
+    requires { All (λ line. AreNumbered (line.pushed ++ jobs_owed line.taken (Some run.now))) lines.old }
+    ensures { map (λ line. line.pushed ++ jobs_owed line.taken (Some run.now)) lines.new ≡ map (λ line. line.pushed ++ jobs_owed line.taken (Some run.now)) lines.old }
+{
+    for line in lines.iter_mut() {
+        line.offer(rt, run);
+    }
+}
+
+/// Another run is handed out, that no lane has.
+fn begin_each<N: NodeName>(lines: &mut [Line<N>])
+    ensures { (map (λ line. line.pushed) lines.new ≡ map (λ line. line.pushed) lines.old) × All (λ line. line.taken ≡ false) lines.new }
+{
+    for line in lines.iter_mut() {
+        line.begin();
+    }
+}
+
+/// Pushes the run to each lane that does not have it.
+fn offer_all<N: NodeName, R: Wait>(rt: &R, lines: &mut Vec<Line<N>>, run: &Run)
+    requires { All (λ line. AreNumbered (line.pushed ++ jobs_owed line.taken (Some run.now))) lines.old.items }
+    ensures { map (λ line. line.pushed ++ jobs_owed line.taken (Some run.now)) lines.new.items ≡ map (λ line. line.pushed ++ jobs_owed line.taken (Some run.now)) lines.old.items }
+{
+    offer_to_each(rt, lines.as_mut_slice(), run);
+}
+
+/// Another run is handed out, that no lane has.
+fn begin_all<N: NodeName>(lines: &mut Vec<Line<N>>)
+    ensures { (map (λ line. line.pushed) lines.new.items ≡ map (λ line. line.pushed) lines.old.items) × All (λ line. line.taken ≡ false) lines.new.items }
+{
+    begin_each(lines.as_mut_slice());
+}
+
+impl<N: NodeName> Outlet<N> {
+    /// The lanes, one a shard, to which nothing was pushed.
+    fn new(alloc: Global, lines: Vec<Line<N>>) -> Outlet<N>
+        requires some { 0 < length lines.items }
+        requires fresh { All (λ line. line.pushed ≡ []) lines.items }
+        ensures { result.jobs ≡ [] }
+    {
+        Outlet {
+            alloc,
+            lines,
+            run: None,
+            unsent: Vec::new(alloc),
+        }
+    }
+
+    /// Makes room for one more job.
+    fn reserve(&mut self) -> Result<(), AllocError>
+        ensures same { self.new.jobs ≡ self.old.jobs }
+        ensures room { OnOk result (0 < self.new.room) }
+    {
+        self.unsent.reserve(1)
+    }
+
+    /// Hands the next job to the shards. Takes no memory.
+    fn add(&mut self, job: Job)
+        requires room { 0 < self.old.room }
+        requires turn { job.turn ≡ length self.old.jobs + 1 }
+        ensures { self.new.jobs ≡ self.old.jobs ++ job ∷ [] }
+    {
+        self.unsent.push_reserved(job);
+    }
+
+    /// Pushes what is not pushed yet, oldest first, as far as lanes have room and there is memory.
+    fn push_all<R: Wait>(&mut self, rt: &R)
+        ensures { self.new.jobs ≡ self.old.jobs }
+    {
+        self.offer(rt);
+        self.begin_run();
+        self.offer(rt);
+    }
+
+    /// Pushes the run that is handed out to the lanes that do not have it.
+    fn offer<R: Wait>(&mut self, rt: &R)
+        ensures { self.new.jobs ≡ self.old.jobs }
+    {
+        let Some(run) = &self.run else {
+            return;
+        };
+        offer_all(rt, &mut self.lines, run);
+        if !all_have(self.lines.as_slice()) {
+            return;
+        }
+        self.run = None;
+    }
+
+    /// Makes a run of the jobs that are not in one, where all lanes have the last one.
+    fn begin_run(&mut self)
+        ensures { self.new.jobs ≡ self.old.jobs }
+    {
+        if self.run.is_some() || self.unsent.is_empty() {
+            return;
+        }
+        let jobs = std::mem::replace(&mut self.unsent, Vec::new(self.alloc));
+        let run = match Run::new(self.alloc, jobs) {
+            Ok(run) => run,
+            Err(jobs) => {
+                self.unsent = jobs;
+                return;
+            }
+        };
+        begin_all(&mut self.lines);
+        self.run = Some(run);
+    }
+
+    /// The ends of the lanes.
+    fn into_lines(self) -> Vec<Line<N>>
+        ensures { All (λ line. AreFirst line.pushed self.jobs) result.items }
+    {
+        let Outlet { lines, .. } = self;
+        lines
+    }
+}
 
 /// The hub of a server on threads: the hub and its sessions, its seat at the race, and its ends of the
 /// lanes. (Profile.)
@@ -40,9 +276,9 @@ use subj::{ConnId, Failure, Finished, Job, Pub, Server, Turn};
 #[derive(Drop)]
 pub struct HubState<N: NodeName> {
     side: Side,
-    pub(crate) seat: HubSeat,
+    seat: HubSeat,
     finished: Finished,
-    pub(crate) outlet: Outlet<N>,
+    outlet: Outlet<N>,
     of: PhantomData<N>,
 }
 
@@ -327,5 +563,16 @@ impl<N: NodeName> HubState<N> {
         ensures { IsAnswered (hub_refusal self.old.side.server self.old.side.hub (TakeFrom peer count)) (λ frames. Does self.old (ByHub (TakeFrom peer count)) (OfHub (Taken frames.items)) self.new) (self.new ≡ self.old) result }
     {
         self.side.take_frames(peer, count)
+    }
+
+    /// Its seat, and its ends of the lanes: what was pushed to each is a beginning of the jobs that it gave
+    /// to the shards. All that it ever did is a list of the hub's and the sessions' own steps.
+    pub fn into_parts(self) -> (HubSeat, Vec<Line<N>>)
+        ensures seat { (result.0.race ≡ N.race) × (result.0.part ≡ self.part) }
+        ensures lines { All (λ line. AreFirst line.pushed self.issued) result.1.items }
+        ensures done { IsAtHub N.race.shards self }
+    {
+        let HubState { seat, outlet, .. } = self;
+        (seat, outlet.into_lines())
     }
 }

@@ -10,7 +10,7 @@ use subj::{ConnId, Delta, Job, Key, Sid, SubId, Turn};
 /// Deltas, in order.
 ///
 /// Seen as their list.
-#[derive(Debug, Drop)]
+#[derive(Drop)]
 pub struct Deltas {
     items: Vec<Delta>,
 }
@@ -48,7 +48,7 @@ impl Deltas {
 }
 
 /// What a shard was asked. (Profile.)
-#[derive(Debug, Drop)]
+#[derive(Drop)]
 pub enum ShardEvent {
     /// Makes a connection.
     Attach,
@@ -101,7 +101,7 @@ pub enum ShardEvent {
 /// What a shard answered, in numbers. (Profile.)
 ///
 /// The rest of an answer is not kept: it follows from the events.
-#[derive(Clone, Copy, Debug, PartialEq, Eq)]
+#[derive(Clone, Copy, PartialEq, Eq)]
 pub enum ShardTold {
     /// The connection that was made.
     Attached(ConnId),
@@ -126,7 +126,7 @@ pub enum ShardTold {
 }
 
 /// A step of a shard: what it was asked, and what it answered. (Profile.)
-#[derive(Debug, Drop)]
+#[derive(Drop)]
 pub struct ShardEntry {
     pub event: ShardEvent,
     pub told: ShardTold,

@@ -1,6 +1,6 @@
-//! What stands under the lock of a shard.
+//! What stands under the lock of a shard: its state, the calls that its connections make, its turns, the jobs that it drops, and its end.
 
-ghost use Rattle.std.specs.Prelude.{◌≡◌, ◌-◌, ◌≤◌, [], None, Some, IfOk, slice_get, option_to_list};
+ghost use Rattle.std.specs.Prelude.{◌≡◌, ◌-◌, ◌≤◌, [], None, Some, IfOk, slice_get, option_to_list, true, false, is_some, nat_lt, OnOk, OnErr};
 ghost use Rattle.subj.specs.Answers.{IsAnswered, IsDecided};
 ghost use Rattle.subj.specs.declared.limits.TheConstants.{MAX_SHARDS};
 ghost use Rattle.claim_cells.specs.Rule.{newcomer};
@@ -8,18 +8,27 @@ ghost use Rattle.shard_core.specs.Answers.{answer_of};
 ghost use Rattle.shard_core.specs.ShardEvents.{Attach, Subscribe, Unsubscribe, Reply, Shut, Detach, Take, Collect, Attached, Unsubscribed, Replied, WasShut, Detached, Taken, Collected};
 ghost use Rattle.shard_core.specs.Shards.{is_open as opened};
 ghost use Rattle.shard_core.specs.ShardSteps.{shard_refusal};
-ghost use Rattle.node_threads.specs.AtWork.{Does, TakesBytes, at_start};
+ghost use Rattle.node_threads.specs.AtWork.{Does, TakesBytes, at_start, Makes, HasDone};
+ghost use Rattle.claim_cells.specs.Seats.{last_load};
+ghost use Rattle.node_threads.specs.Tapes.{Tells};
+ghost use Rattle.node_threads.specs.Turns.{ClaimsOne, HasEnded, HasNone, HasTried, HasWorked, MayBegin, MayClaim, Turns, Drops, HasDropped};
 
+use crate::gates::Gate;
 use crate::node_name::NodeName;
-use claim_cells::ShardSeat;
+use crate::noting::{note_begin, note_claim, note_drop, note_end};
+use crate::shard_entries::ShardEntry;
+use crate::tape::Tape;
+use crate::turned::Turned;
+use claim_cells::{Cells, ShardSeat};
 use client_frames::{ErrText, ReplyFrame};
 use job_lane::LaneOut;
 use outbox::Entry;
-use shard_core::{Closed, Recipients, Shard, ShardFault, Subscribed};
+use shard_core::{Closed, Recipients, Shard, ShardFault, Subscribed, claims_are_whole};
 use std::alloc::{AllocError, Global};
 use std::marker::{Model, PhantomData};
+use std::sync::Wait;
 use sub_table::SubTable;
-use subj::{ConnId, Delta, Failure, Key, Sid, SubId};
+use subj::{ConnId, Delta, Failure, Job, Key, Sid, SubId, Turn};
 
 /// A shard of a server on threads: the shard, its seat at the race, and its end of its lane. (Profile.)
 ///
@@ -28,14 +37,14 @@ use subj::{ConnId, Delta, Failure, Key, Sid, SubId};
 /// it popped, in order, and its seat won and lost just what these steps say.
 #[derive(Drop)]
 pub struct ShardState<T: SubTable, N: NodeName> {
-    pub(crate) shard: Shard<T>,
-    pub(crate) seat: ShardSeat,
-    pub(crate) lane: LaneOut,
+    shard: Shard<T>,
+    seat: ShardSeat,
+    lane: LaneOut,
     /// Whether the job in hand of the lane is not begun yet.
-    pub(crate) waits: bool,
+    waits: bool,
     /// The index of the queue name of the shard's job in hand that is to be claimed next.
-    pub(crate) next_index: u64,
-    pub(crate) of: PhantomData<N>,
+    next_index: u64,
+    of: PhantomData<N>,
 }
 
 impl<T: SubTable, N: NodeName> Model for ShardState<T, N> {
@@ -49,6 +58,14 @@ impl<T: SubTable, N: NodeName> Model for ShardState<T, N> {
     ghost invariant = { λ s. IsAtWork N.race.shards s.next_index (seen_as s.shard.state s.seat.part s.lane.popped s.lane.hand s.waits)
         × (s.waits ≡ true → is_some s.lane.hand ≡ true) × (s.seat.race ≡ N.race)
         × (slice_get N.lanes (s.seat.part.shard - 1) ≡ Some s.lane.lane) };
+}
+
+/// Tells the gate of a candidate for the queue name of this index, in this turn of the seat's shard. Required: its claim is
+/// still to come.
+fn tell<G: Gate>(gate: &G, seat: &ShardSeat, turn: Turn, index: u64)
+    requires { seat.now.part.next ≤ index }
+{
+    gate.hold(seat.shard(), turn, index);
 }
 
 impl<T: SubTable, N: NodeName> ShardState<T, N> {
@@ -187,5 +204,269 @@ impl<T: SubTable, N: NodeName> ShardState<T, N> {
         ensures { Does self.old Collect (Collected self.old.state.deltas) self.new }
     {
         self.shard.take_deltas();
+    }
+
+    /// Makes a whole turn: begins the next job, unless one is in hand still; tries each of its queue names
+    /// that was not tried, where the candidate gets its entry if the claim is won; and ends the job.
+    ///
+    /// The gate is told of each candidate, before its claim. All steps that were made stand on the tape, where that
+    /// is kept. Required: the race of this server. May wait.
+    pub fn turn<G: Gate, R: Wait>(
+        &mut self,
+        rt: &R,
+        cells: &Cells,
+        gate: &G,
+        tape: &mut Tape<ShardEntry>,
+    ) -> Turned
+        requires { cells.now ≡ N.race }
+        ensures turns { Turns self.old result self.new }
+        ensures tells { Tells self.old tape.old self.new tape.new }
+    {
+        if !self.has_job(rt, cells) {
+            return Turned::Idle;
+        }
+        if self.begin_next(tape).is_err() {
+            return Turned::Short;
+        }
+        if self.claim_rest(cells, gate, tape).is_err() {
+            return Turned::Short;
+        }
+        Turned::Worked(self.end(cells, tape))
+    }
+
+    /// Whether a job is in hand, or one that was popped may be begun. Pops one where none was.
+    fn has_job<R: Wait>(&mut self, rt: &R, cells: &Cells) -> bool
+        requires { cells.now ≡ N.race }
+        ensures works { HasWorked self.old self.new }
+        ensures makes { Makes self.old [] self.new }
+        ensures has { result ≡ true → MayBegin self.new }
+        ensures none { result ≡ false → HasNone self.new }
+    {
+        if self.shard.hand().is_some() {
+            return true;
+        }
+        self.has_next(rt) && self.sees_next(cells)
+    }
+
+    /// Whether a job waits that was popped. Pops one where none was.
+    fn has_next<R: Wait>(&mut self, rt: &R) -> bool
+        requires { self.old.state.hand ≡ None }
+        ensures makes { Makes self.old [] self.new }
+        ensures hand { self.new.state.hand ≡ None }
+        ensures waits { result ≡ is_some self.new.waiting }
+    {
+        if self.waits {
+            return true;
+        }
+        let Some(_turn) = self.lane.pop(rt) else {
+            return false;
+        };
+        self.waits = true;
+        true
+    }
+
+    /// Whether the shard has seen that its next turn is issued. It looks where it had not.
+    fn sees_next(&mut self, cells: &Cells) -> bool
+        requires race { cells.now ≡ N.race }
+        requires hand { self.old.state.hand ≡ None }
+        ensures makes { Makes self.old [] self.new }
+        ensures hand { self.new.state.hand ≡ None }
+        ensures waits { self.new.waiting ≡ self.old.waiting }
+        ensures sees { result ≡ nat_lt self.new.part.finished (last_load self.new.part.loads) }
+    {
+        if self.seat.has_turn() {
+            return true;
+        }
+        cells.see(&mut self.seat);
+        self.seat.has_turn()
+    }
+
+    /// Begins the job that was popped, unless one is in hand.
+    fn begin_next(&mut self, tape: &mut Tape<ShardEntry>) -> Result<(), AllocError>
+        requires { MayBegin self.old }
+        ensures works { HasWorked self.old self.new }
+        ensures tells { Tells self.old tape.old self.new tape.new }
+        ensures hand { OnOk result (is_some self.new.state.hand ≡ true) }
+    {
+        if self.shard.hand().is_some() {
+            return Ok(());
+        }
+        let Some(next) = self.lane.in_hand() else {
+            // required: where no job is in hand, one was popped and waits
+            unreachable!()
+        };
+        let job = next.try_clone()?;
+        match self.shard.begin(job, false) {
+            Err(_) => Err(AllocError),
+            Ok(_) => {
+                note_begin(tape, next);
+                self.waits = false;
+                self.next_index = 0;
+                Ok(())
+            }
+        }
+    }
+
+    /// Tries the queue names of the job in hand that were not tried.
+    fn claim_rest<G: Gate>(
+        &mut self,
+        cells: &Cells,
+        gate: &G,
+        tape: &mut Tape<ShardEntry>,
+    ) -> Result<(), AllocError>
+        requires race { cells.now ≡ N.race }
+        requires hand { is_some self.old.state.hand ≡ true }
+        ensures works { HasWorked self.old self.new }
+        ensures tells { Tells self.old tape.old self.new tape.new }
+        ensures all { OnOk result (HasTried self.new.state) }
+    {
+        let Some(job) = self.shard.hand() else {
+            // required: a job is in hand
+            unreachable!()
+        };
+        let count = job.queues.as_slice().len() as u64;
+        for index in self.next_index..count {
+            self.claim(cells, gate, index, tape)?;
+        }
+        Ok(())
+    }
+
+    /// Tries the queue name of this index of the job in hand, which is the next one.
+    fn claim<G: Gate>(
+        &mut self,
+        cells: &Cells,
+        gate: &G,
+        index: u64,
+        tape: &mut Tape<ShardEntry>,
+    ) -> Result<(), AllocError>
+        requires race { cells.now ≡ N.race }
+        requires next { MayClaim index self.old.state }
+        ensures ok { OnOk result (ClaimsOne index self.old self.new) }
+        ensures tells { Tells self.old tape.old self.new tape.new }
+        ensures err { OnErr result (self.new ≡ self.old) }
+    {
+        claims_are_whole();
+        let Some(job) = self.shard.hand() else {
+            // required: the index is of a job in hand
+            unreachable!()
+        };
+        let turn = job.turn;
+        let _names = job.queues.as_slice();
+        match self.shard.candidate(index, false) {
+            Err(_) => Err(AllocError),
+            Ok(None) => {
+                self.next_index = index + 1;
+                note_claim(tape, index, false);
+                Ok(())
+            }
+            Ok(Some(_)) => {
+                tell(gate, &self.seat, turn, index);
+                self.next_index = index + 1;
+                if !cells.claim(&mut self.seat, index) {
+                    note_claim(tape, index, false);
+                    return Ok(());
+                }
+                let _ended = self.shard.place(index);
+                note_claim(tape, index, true);
+                Ok(())
+            }
+        }
+    }
+
+    /// Ends the job in hand, whose queue names were all tried: its turn.
+    fn end(&mut self, cells: &Cells, tape: &mut Tape<ShardEntry>) -> Turn
+        requires race { cells.now ≡ N.race }
+        requires tried { HasTried self.old.state }
+        ensures ends { HasEnded self.old result self.new }
+        ensures tells { Tells self.old tape.old self.new tape.new }
+    {
+        let Some(job) = self.shard.hand() else {
+            // required: a job is in hand
+            unreachable!()
+        };
+        let turn = job.turn;
+        let Ok(()) = self.shard.end() else {
+            // required: all its queue names were tried
+            unreachable!()
+        };
+        cells.finish(&mut self.seat);
+        self.next_index = 0;
+        note_end(tape);
+        turn
+    }
+
+    /// Drops the job in hand, or else the next one, and its turn is finished: [`Shard::drop_job`]. Gives
+    /// that turn. Refused with [`ShardFault::NoJob`] where a turn would be [`Turned::Idle`]; a job that was
+    /// popped stays with the shard, also for want of memory. A drop stands on the tape, where that is kept.
+    /// Required: the race of this server. May wait.
+    ///
+    /// [`Shard::drop_job`]: shard_core::Shard::drop_job
+    /// [`Turned::Idle`]: crate::Turned::Idle
+    pub fn drop_job<R: Wait>(
+        &mut self,
+        rt: &R,
+        cells: &Cells,
+        tape: &mut Tape<ShardEntry>,
+    ) -> Result<Turn, Failure<ShardFault>>
+        requires { cells.now ≡ N.race }
+        ensures drops { Drops self.old result self.new }
+        ensures tells { Tells self.old tape.old self.new tape.new }
+    {
+        if !self.has_job(rt, cells) {
+            return Err(Failure::Refused(ShardFault::NoJob));
+        }
+        let Ok(waiting) = self.waiting_copy() else {
+            return Err(Failure::OutOfMemory);
+        };
+        Ok(self.drop_now(cells, waiting, tape))
+    }
+
+    /// A copy of the job that waits.
+    fn waiting_copy(&self) -> Result<Option<Job>, AllocError>
+        ensures { IfOk result (λ waiting. waiting ≡ self.now.waiting) }
+    {
+        if !self.waits {
+            return Ok(None);
+        }
+        match self.lane.in_hand() {
+            None => Ok(None),
+            Some(job) => {
+                let job = job.try_clone()?;
+                Ok(Some(job))
+            }
+        }
+    }
+
+    /// Drops the job in hand, or else the one that waits.
+    fn drop_now(&mut self, cells: &Cells, waiting: Option<Job>, tape: &mut Tape<ShardEntry>) -> Turn
+        requires race { cells.now ≡ N.race }
+        requires may { MayBegin self.old }
+        requires waits { waiting ≡ self.old.waiting }
+        ensures dropped { HasDropped self.old result self.new }
+        ensures tells { Tells self.old tape.old self.new tape.new }
+    {
+        let waited = self.waits;
+        let Some(job) = self.shard.drop_job(waiting) else {
+            // required: where no job is in hand, one waits
+            unreachable!()
+        };
+        cells.finish(&mut self.seat);
+        self.waits = false;
+        self.next_index = 0;
+        let turn = job.turn;
+        note_drop(tape, job, waited);
+        turn
+    }
+
+    /// Its seat, and its end of its lane. All that it ever did is a list of the shard's own steps, over just
+    /// the jobs that it popped, in order; and its seat won and lost just what these steps say.
+    pub fn into_parts(self) -> (ShardSeat, LaneOut)
+        ensures seat { (result.0.race ≡ N.race) × (result.0.part ≡ self.part) }
+        ensures lane { slice_get N.lanes (self.part.shard - 1) ≡ Some result.1.lane }
+        ensures popped { result.1.popped ≡ self.popped }
+        ensures done { HasDone N.race.shards self }
+    {
+        let ShardState { seat, lane, .. } = self;
+        (seat, lane)
     }
 }

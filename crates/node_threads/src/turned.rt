@@ -3,7 +3,7 @@
 use subj::Turn;
 
 /// What a turn of a shard comes to. (Profile.)
-#[derive(Clone, Copy, Debug, PartialEq, Eq)]
+#[derive(Clone, Copy)]
 pub enum Turned {
     /// No job can be begun: the lane was empty, or the job that was popped has a turn above the last one
     /// issued that the shard has seen. That job stays with the shard.

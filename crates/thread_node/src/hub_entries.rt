@@ -9,7 +9,7 @@ use subj::{ConnId, Finished, Pub, Turn};
 ///
 /// Peers are named by their places in the cluster, from 0. What crosses a lock comes along: the last turns that the
 /// shards finished, as the hub had loaded them last, or a shard's deltas.
-#[derive(Debug, Drop)]
+#[derive(Drop)]
 pub enum HubEvent {
     /// A client published, on the connection of this number; the word decided who serves each queue name.
     Publish {
@@ -58,7 +58,7 @@ pub enum HubEvent {
 /// What a hub or its sessions answered, in numbers. (Profile.)
 ///
 /// The rest of an answer is not kept: it follows from the events.
-#[derive(Clone, Copy, Debug, PartialEq, Eq)]
+#[derive(Clone, Copy, PartialEq, Eq)]
 pub enum HubTold {
     /// A publication: the turn of its job, and how many frames were put for peers.
     Issued { turn: Turn, frames: usize },
@@ -83,7 +83,7 @@ pub enum HubTold {
 }
 
 /// A step of a hub and its sessions: what they were asked, and what they answered. (Profile.)
-#[derive(Debug, Drop)]
+#[derive(Drop)]
 pub struct HubEntry {
     pub event: HubEvent,
     pub told: HubTold,

@@ -1,20 +1,23 @@
 //! What is written down of the calls under a lock.
 
-ghost use Rattle.std.specs.Prelude.{◌≡◌, ◌∷◌, List, [], IfSome};
+ghost use Rattle.std.specs.Prelude.{◌≡◌, ◌∷◌, List, [], IfSome, length, option_to_list};
 ghost use Rattle.subj.specs.declared.keys.Delta.{Delta};
-ghost use Rattle.node_threads.specs.Tapes.{Grows, entry};
+ghost use Rattle.node_threads.specs.Tapes.{Grows, entry, told_of};
 ghost use Rattle.node_threads.specs.declared.shard_entries.ShardEvent.{ShardEvent};
 ghost use Rattle.node_threads.specs.declared.shard_entries.ShardEvent.TheVariants.{Collect, Subscribe, Unsubscribe};
 ghost use Rattle.node_threads.specs.declared.shard_entries.ShardTold.TheVariants.{Work};
-ghost use Rattle.thread_node.specs.HubTapes.{hub_entry};
+ghost use Rattle.thread_node.specs.HubTapes.{hub_entry, of_received};
 ghost use Rattle.thread_node.specs.declared.hub_entries.HubEvent.{HubEvent};
 ghost use Rattle.thread_node.specs.declared.hub_entries.HubEvent.TheVariants.{Collect as HubCollect, Publish, Receive};
+ghost use Rattle.shard_core.specs.Answers.{answer_of};
 
 use crate::hub_entries::{HubEntry, HubEvent, HubTold};
+use node_parts::Received;
 use node_threads::{Deltas, ShardEntry, ShardEvent, ShardTold, Tape};
 use route_values::Numbered;
+use shard_core::Subscribed;
 use std::alloc::Global;
-use subj::{ConnId, Delta, Finished, Key, Pub, Sid};
+use subj::{ConnId, Delta, Finished, Key, Pub, Sid, SubId};
 
 /// Writes down a step of a shard. Where there is no copy of what it was asked, the tape is given up.
 pub(crate) fn note_shard(tape: &mut Tape<ShardEntry>, event: Option<ShardEvent>, told: ShardTold)
@@ -168,5 +171,42 @@ pub(crate) fn note_heard(
             event: HubEvent::Collect { shard, deltas },
             told,
         }),
+    }
+}
+
+/// How many there are.
+pub fn length_of<X>(list: &Vec<X>) -> usize
+    ensures { result ≡ length list.now.items }
+{
+    list.len()
+}
+
+/// How many there are, 0 or 1.
+pub fn count_of(ended: Option<SubId>) -> usize
+    ensures { result ≡ length (option_to_list ended) }
+{
+    match ended {
+        None => 0,
+        Some(_) => 1,
+    }
+}
+
+/// What a subscribe did.
+pub fn told_subscribed(done: Subscribed) -> ShardTold
+    ensures { result ≡ told_of (answer_of done) }
+{
+    match done {
+        Subscribed::New(sub) => ShardTold::Opened(sub),
+        Subscribed::Same => ShardTold::AlreadyOpen,
+    }
+}
+
+/// What a frame of a peer came to.
+pub fn told_received(received: &Received) -> HubTold
+    ensures { result ≡ of_received received.now }
+{
+    match received {
+        Received::Routed(turn) => HubTold::Routed(*turn),
+        Received::Heard(mark) => HubTold::Heard(*mark),
     }
 }

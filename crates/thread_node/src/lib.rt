@@ -8,34 +8,30 @@
 //! let (hub, shards) = node.into_locked();
 //! ```
 //!
-//! In reading order: `parts` is what a server is made of, `locked_hub` and `locked_shard` what stands under its locks, `node` the
-//! server with its locks, `calls` those that take a lock for one call, `workers` the threads that work lanes, and `held` the calls that
-//! the connections of a server make while a lock is held. What is written down under a lock is `keeping`, `hub_entries` and, of an
-//! answer, `numbers`.
+//! In reading order: `parts` is what a server is made of, `locked_hub` and `locked_shard` what stands under its locks, `node` the server with
+//! its locks and its threads, and `serving` the calls that the connections of a server make while a lock is held. What is written down
+//! under a lock is `keeping` and `hub_entries`.
 //!
 //! No call here tells a caller's pass, and none ends a server with a report: `thread_report` does, above the same locks. It
 //! takes what it needs from here: the place of a step on its tape (`steps_kept`), an answer in numbers, and at the end what stood
 //! under the locks (`into_locked`, and of each its state and its tape, `into_parts`).
 #![tactic(auto)]
 
-mod calls;
-mod held;
 mod hub_entries;
 mod keeping;
 mod locked_hub;
 mod locked_shard;
 mod node;
-mod numbers;
 mod parts;
-mod workers;
+mod serving;
 
-pub use calls::{NO_SHARD, refused_by_hub, refused_by_shard};
-pub use held::{HeldHub, HeldShard};
 pub use hub_entries::{HubEntry, HubEvent, HubTold};
-pub use keeping::copy_of_pub;
+pub use keeping::{copy_of_pub, count_of, length_of, told_received, told_subscribed};
 pub use locked_hub::LockedHub;
 pub use locked_shard::LockedShard;
-pub use node::{HubSection, ShardSection, ThreadNode};
+pub use node::{
+    HubSection, NO_SHARD, ShardSection, ThreadNode, answered_by_hub, answered_by_shard,
+};
 pub use node_threads::{Deltas, Gate, NodeName, Open, ShardEntry, ShardEvent, ShardTold, Turned};
-pub use numbers::{count_of, length_of, told_received, told_subscribed};
 pub use parts::Parts;
+pub use serving::{HeldHub, HeldShard};

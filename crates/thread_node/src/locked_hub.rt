@@ -14,9 +14,11 @@ ghost use Rattle.node_threads.specs.AtHub.{Collects, Does, Publishes, Receives};
 ghost use Rattle.thread_node.specs.HubTapes.{IsHubTape};
 
 use crate::hub_entries::{HubEntry, HubEvent, HubTold};
-use crate::keeping::{copy_for, note_collect, note_heard, note_hub, publish_event, receive_event};
+use crate::keeping::{
+    copy_for, length_of, note_collect, note_heard, note_hub, publish_event, receive_event,
+    told_received,
+};
 use crate::locked_shard::LockedShard;
-use crate::numbers::{length_of, told_received};
 use claim_cells::Cells;
 use hub_core::{HubFault, Told};
 use node_parts::{Issued, Received};

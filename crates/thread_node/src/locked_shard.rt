@@ -11,8 +11,9 @@ ghost use Rattle.node_threads.specs.AtWork.{Does, TakesBytes, at_start};
 ghost use Rattle.node_threads.specs.Tapes.{IsTape};
 ghost use Rattle.node_threads.specs.Turns.{Drops, Turns};
 
-use crate::keeping::{note_shard, subscribe_event, unsubscribe_event};
-use crate::numbers::{count_of, length_of, told_subscribed};
+use crate::keeping::{
+    count_of, length_of, note_shard, subscribe_event, told_subscribed, unsubscribe_event,
+};
 use claim_cells::Cells;
 use client_frames::{ErrText, ReplyFrame};
 use node_threads::{Gate, NodeName, ShardEntry, ShardEvent, ShardState, ShardTold, Tape, Turned};

@@ -1,22 +1,34 @@
-//! A hub and its shards, each under a lock of its own.
+//! A hub and its shards, each under a lock of its own: the calls that take a lock, make one call and give its answer, and the
+//! threads that work lanes.
 
-ghost use Rattle.std.specs.Prelude.{◌≡◌, ◌≤◌, [], All, vec_len, IfOk, is_some};
+ghost use Rattle.std.specs.Prelude.{◌≡◌, ◌≤◌, ◌<◌, [], All, length, vec_len, IfOk, is_some, true};
 ghost use Rattle.std.specs.Arc.{arc_value};
 ghost use Rattle.subj.specs.declared.limits.TheConstants.{MAX_SHARDS};
 ghost use Rattle.thread_node.specs.Parts.{IsNamed};
-ghost use Rattle.thread_node.specs.Refusing.{has_shard};
+ghost use Rattle.claim_cells.specs.Rule.{fresh_hub};
+ghost use Rattle.thread_node.specs.Refusing.{AnswersAt, DecidesAt, has_shard};
 
 use crate::locked_hub::LockedHub;
 use crate::locked_shard::LockedShard;
 use crate::parts::{Parts, ShardParts};
-use claim_cells::Cells;
-use crossbeam_utils::sync::Unparker;
-use node_parts::place_of_shard;
-use node_threads::{HubState, Line, NodeName, ShardState};
+use claim_cells::{Cells, HubSeat};
+use client_frames::{ErrText, ReplyFrame};
+use crossbeam_utils::sync::{Parker, Unparker};
+use hub_core::{HubFault, Told};
+use node_law::NodeFault;
+use node_parts::{Issued, Received, place_of_shard};
+use node_threads::{Gate, HubState, Line, NodeName, ShardState, Turned};
+use outbox::Entry;
+use route_session::{Kept, SessionFault, SessionId};
+use route_values::{Numbered, RouteConnect, RouteInfo};
+use shard_core::{Closed, ShardFault, Subscribed};
 use std::alloc::{AllocError, Global};
 use std::sync::atomic::{AtomicBool, Ordering};
 use std::sync::{Arc, Mutex, MutexGuard, Wait};
+use std::thread;
+use std::thread::Threads;
 use sub_table::SubTable;
+use subj::{ConnId, Failure, Key, Pub, Server, Sid, SubId, Turn};
 
 /// The hub's lock, held.
 pub type HubSection<'a, N> = MutexGuard<'a, LockedHub<N>>;
@@ -40,10 +52,31 @@ pub struct ThreadNode<T: SubTable, N: NodeName> {
     ghost all: { vec_len shards ≡ N.race.shards },
 }
 
+/// One shard of these parts, of so many: the hub's end of its lane, and the shard under its lock.
+fn locked_shard<T: SubTable, N: NodeName>(
+    alloc: Global,
+    cells: &Arc<Cells, Global>,
+    count: u64,
+    keep: bool,
+    parts: ShardParts,
+) -> Result<(Line<N>, Mutex<LockedShard<T, N>>), AllocError>
+    requires race { (arc_value cells.now ≡ N.race) × (count ≡ N.race.shards) }
+    requires few { count ≤ MAX_SHARDS }
+    requires parts { IsNamed N.race N.lanes parts }
+    ensures { IfOk result (λ made. made.0.pushed ≡ []) }
+{
+    let cells = Arc::try_clone(cells)?;
+    let ShardParts { seat, near, far } = parts;
+    let line = Line::new(seat.shard(), near);
+    let state = ShardState::new(alloc, seat, count, far)?;
+    let shard = LockedShard::new(alloc, state, cells, keep);
+    Ok((line, Mutex::new(shard)))
+}
+
 /// The hub's ends of the lanes, and the shards under their locks, in their order.
 type Shards<T, N> = (Vec<Line<N>>, Vec<Mutex<LockedShard<T, N>>>);
 
-/// The same of these parts, of which there are so many.
+/// The same of all these parts.
 fn locked_shards<T: SubTable, N: NodeName>(
     alloc: Global,
     cells: &Arc<Cells, Global>,
@@ -59,13 +92,95 @@ fn locked_shards<T: SubTable, N: NodeName>(
 {
     let mut lines = Vec::new(alloc);
     let mut shards = Vec::new(alloc);
-    for ShardParts { seat, near, far } in parts {
-        lines.push(Line::new(seat.shard(), near))?;
-        let state = ShardState::new(alloc, seat, count, far)?;
-        let shard = LockedShard::new(alloc, state, Arc::try_clone(cells)?, keep);
-        shards.push(Mutex::new(shard))?;
+    for part in parts {
+        let (line, shard) = locked_shard(alloc, cells, count, keep, part)?;
+        lines.push(line)?;
+        shards.push(shard)?;
     }
     Ok((lines, shards))
+}
+
+/// The hub of this server under its lock, with its ends of the lanes.
+fn locked_hub<N: NodeName>(
+    alloc: Global,
+    server: Server,
+    cells: Arc<Cells, Global>,
+    seat: HubSeat,
+    keep: bool,
+    lines: Vec<Line<N>>,
+) -> Result<Mutex<LockedHub<N>>, AllocError>
+    requires race { (arc_value cells ≡ N.race) × (seat.race ≡ N.race) }
+    requires shards { server.shards ≡ N.race.shards }
+    requires fresh { seat.part ≡ fresh_hub }
+    requires some { 0 < length lines.items }
+    requires lines { All (λ line. line.pushed ≡ []) lines.items }
+{
+    let state = HubState::new(alloc, server, &cells, seat, lines)?;
+    Ok(Mutex::new(LockedHub::new(alloc, state, cells, keep)))
+}
+
+/// The server has no such shard.
+pub const NO_SHARD: Failure<NodeFault> = Failure::Refused(NodeFault::NoShard);
+
+/// What a call of a shard came to, as its server tells it.
+pub fn answered_by_shard<X>(done: Result<X, Failure<ShardFault>>) -> Result<X, Failure<NodeFault>>
+    ensures { AnswersAt true result }
+{
+    match done {
+        Ok(done) => Ok(done),
+        Err(Failure::Refused(fault)) => Err(Failure::Refused(NodeFault::Shard(fault))),
+        Err(Failure::OutOfMemory) => Err(Failure::OutOfMemory),
+    }
+}
+
+/// The same of a call that takes no memory.
+pub fn decided_by_shard<X>(done: Result<X, ShardFault>) -> Result<X, NodeFault>
+    ensures { DecidesAt true result }
+{
+    match done {
+        Ok(done) => Ok(done),
+        Err(fault) => Err(NodeFault::Shard(fault)),
+    }
+}
+
+/// What a call of the hub came to, as its server tells it.
+pub fn answered_by_hub<X>(done: Result<X, Failure<HubFault>>) -> Result<X, Failure<NodeFault>>
+    ensures { AnswersAt true result }
+{
+    match done {
+        Ok(done) => Ok(done),
+        Err(Failure::Refused(fault)) => Err(Failure::Refused(NodeFault::Hub(fault))),
+        Err(Failure::OutOfMemory) => Err(Failure::OutOfMemory),
+    }
+}
+
+/// The number of the turn that was worked.
+fn worked_turn(turned: Turned) -> Option<u64> {
+    match turned {
+        Turned::Worked(turn) => Some(turn.get()),
+        Turned::Idle | Turned::Short => None,
+    }
+}
+
+/// Makes turns of a shard until it has finished this one, or has made so many.
+fn work<T: SubTable, N: NodeName, G: Gate, R: Wait>(
+    rt: &R,
+    node: &ThreadNode<T, N>,
+    gate: &G,
+    shard: u64,
+    until: u64,
+    tries: u64,
+) {
+    for _try in 0..tries {
+        let Some(turned) = node.turn(rt, shard, gate) else {
+            return;
+        };
+        match worked_turn(turned) {
+            None => thread::yield_now(),
+            Some(turn) if turn >= until => return,
+            Some(_) => {}
+        }
+    }
 }
 
 impl<T: SubTable, N: NodeName> ThreadNode<T, N> {
@@ -86,8 +201,7 @@ impl<T: SubTable, N: NodeName> ThreadNode<T, N> {
         let count = server.shards();
         let cells = Arc::new(alloc, cells)?;
         let (lines, shards) = locked_shards(alloc, &cells, count, keep, shards)?;
-        let state = HubState::new(alloc, server, &cells, hub, lines)?;
-        let hub = Mutex::new(LockedHub::new(alloc, state, cells, keep));
+        let hub = locked_hub(alloc, server, cells, hub, keep, lines)?;
         Ok(ThreadNode {
             hub,
             shards,
@@ -149,5 +263,278 @@ impl<T: SubTable, N: NodeName> ThreadNode<T, N> {
     {
         let ThreadNode { hub, shards, .. } = self;
         (hub.into_inner(), shards)
+    }
+
+    /// [`HubState::publish`](node_threads::HubState::publish), after which the job is pushed to the lanes and the workers are woken.
+    /// May wait.
+    pub fn publish<R: Wait>(
+        &self,
+        rt: &R,
+        conn: ConnId,
+        said: &Pub,
+        word: u64,
+    ) -> Result<Issued, Failure<HubFault>> {
+        let mut hub = self.hub(rt);
+        let issued = hub.publish(conn, said, word)?;
+        hub.push_jobs(rt);
+        drop(hub);
+        self.unpark_workers();
+        Ok(issued)
+    }
+
+    /// [`HubState::receive`](node_threads::HubState::receive), after which the job of a message is pushed to the lanes and the
+    /// workers are woken. May wait.
+    pub fn receive<R: Wait>(
+        &self,
+        rt: &R,
+        frame: &Numbered,
+    ) -> Result<Received, Failure<HubFault>> {
+        let mut hub = self.hub(rt);
+        let received = hub.receive(frame)?;
+        hub.push_jobs(rt);
+        drop(hub);
+        self.unpark_workers();
+        Ok(received)
+    }
+
+    /// [`HubState::dial`](node_threads::HubState::dial). May wait.
+    pub fn dial<R: Wait>(&self, rt: &R, peer: usize) -> Result<SessionId, Failure<SessionFault>> {
+        self.hub(rt).dial(peer)
+    }
+
+    /// [`HubState::accept`](node_threads::HubState::accept). May wait.
+    pub fn accept<R: Wait>(&self, rt: &R) -> Result<(SessionId, RouteInfo), Failure<SessionFault>> {
+        self.hub(rt).accept()
+    }
+
+    /// [`HubState::info`](node_threads::HubState::info). May wait.
+    pub fn info<R: Wait>(
+        &self,
+        rt: &R,
+        session: SessionId,
+        info: &RouteInfo,
+    ) -> Result<(Kept, RouteConnect), Failure<SessionFault>> {
+        self.hub(rt).info(session, info)
+    }
+
+    /// [`HubState::connect`](node_threads::HubState::connect). May wait.
+    pub fn connect<R: Wait>(
+        &self,
+        rt: &R,
+        session: SessionId,
+        connect: &RouteConnect,
+    ) -> Result<Kept, Failure<SessionFault>> {
+        self.hub(rt).connect(session, connect)
+    }
+
+    /// [`HubState::cut`](node_threads::HubState::cut). May wait.
+    pub fn cut<R: Wait>(&self, rt: &R, session: SessionId) -> Result<Option<usize>, SessionFault> {
+        self.hub(rt).cut(session)
+    }
+
+    /// [`HubState::take_frames`](node_threads::HubState::take_frames). May wait.
+    pub fn take_frames<R: Wait>(
+        &self,
+        rt: &R,
+        peer: usize,
+        count: usize,
+    ) -> Result<Vec<Numbered>, Failure<HubFault>> {
+        self.hub(rt).take_frames(peer, count)
+    }
+
+    /// [`HubState::collect`](node_threads::HubState::collect), of the shard of this number; the only call that takes two locks, the
+    /// hub's and then the shard's. Refused with [`NodeFault::NoShard`] first. May wait.
+    pub fn collect<R: Wait>(&self, rt: &R, shard: u64) -> Result<Told, Failure<NodeFault>>
+        ensures { AnswersAt (has_shard N.race shard) result }
+    {
+        let mut hub = self.hub(rt);
+        let Some(mut shard) = self.shard(rt, shard) else {
+            return Err(NO_SHARD);
+        };
+        answered_by_hub(hub.collect(&mut shard))
+    }
+
+    /// [`ShardState::turn`](node_threads::ShardState::turn), of the shard of this number; None where the server has no such shard.
+    /// May wait.
+    pub fn turn<G: Gate, R: Wait>(&self, rt: &R, shard: u64, gate: &G) -> Option<Turned>
+        ensures { is_some result ≡ has_shard N.race shard }
+    {
+        Some(self.shard(rt, shard)?.turn(rt, gate))
+    }
+
+    /// [`ShardState::drop_job`](node_threads::ShardState::drop_job), of the shard of this number. Refused with
+    /// [`NodeFault::NoShard`] first. May wait.
+    pub fn drop_job<R: Wait>(&self, rt: &R, shard: u64) -> Result<Turn, Failure<NodeFault>>
+        ensures { AnswersAt (has_shard N.race shard) result }
+    {
+        let Some(mut shard) = self.shard(rt, shard) else {
+            return Err(NO_SHARD);
+        };
+        answered_by_shard(shard.drop_job(rt))
+    }
+
+    /// [`ShardState::attach`](node_threads::ShardState::attach), of the shard of this number. Refused with
+    /// [`NodeFault::NoShard`] first. May wait.
+    pub fn attach<R: Wait>(&self, rt: &R, shard: u64) -> Result<ConnId, Failure<NodeFault>>
+        ensures { AnswersAt (has_shard N.race shard) result }
+    {
+        let Some(mut shard) = self.shard(rt, shard) else {
+            return Err(NO_SHARD);
+        };
+        answered_by_shard(shard.attach())
+    }
+
+    /// [`ShardState::subscribe`](node_threads::ShardState::subscribe), of the shard of this number. Refused with
+    /// [`NodeFault::NoShard`] first. May wait.
+    pub fn subscribe<R: Wait>(
+        &self,
+        rt: &R,
+        shard: u64,
+        conn: ConnId,
+        key: Key,
+        sid: Sid,
+    ) -> Result<Subscribed, Failure<NodeFault>>
+        ensures { AnswersAt (has_shard N.race shard) result }
+    {
+        let Some(mut shard) = self.shard(rt, shard) else {
+            return Err(NO_SHARD);
+        };
+        answered_by_shard(shard.subscribe(conn, key, sid))
+    }
+
+    /// [`ShardState::unsubscribe`](node_threads::ShardState::unsubscribe), of the shard of this number. Refused with
+    /// [`NodeFault::NoShard`] first. May wait.
+    pub fn unsubscribe<R: Wait>(
+        &self,
+        rt: &R,
+        shard: u64,
+        conn: ConnId,
+        sid: &Sid,
+        max: Option<u64>,
+    ) -> Result<Option<SubId>, NodeFault>
+        ensures { DecidesAt (has_shard N.race shard) result }
+    {
+        let Some(mut shard) = self.shard(rt, shard) else {
+            return Err(NodeFault::NoShard);
+        };
+        decided_by_shard(shard.unsubscribe(conn, sid, max))
+    }
+
+    /// [`ShardState::reply`](node_threads::ShardState::reply), of the shard of this number. Refused with
+    /// [`NodeFault::NoShard`] first. May wait.
+    pub fn reply<R: Wait>(
+        &self,
+        rt: &R,
+        shard: u64,
+        conn: ConnId,
+        frame: &ReplyFrame,
+    ) -> Result<Closed, Failure<NodeFault>>
+        ensures { AnswersAt (has_shard N.race shard) result }
+    {
+        let Some(mut shard) = self.shard(rt, shard) else {
+            return Err(NO_SHARD);
+        };
+        answered_by_shard(shard.reply(conn, frame))
+    }
+
+    /// [`ShardState::shut`](node_threads::ShardState::shut), of the shard of this number. Refused with
+    /// [`NodeFault::NoShard`] first. May wait.
+    pub fn shut<R: Wait>(
+        &self,
+        rt: &R,
+        shard: u64,
+        conn: ConnId,
+        text: ErrText,
+    ) -> Result<Vec<SubId>, Failure<NodeFault>>
+        ensures { AnswersAt (has_shard N.race shard) result }
+    {
+        let Some(mut shard) = self.shard(rt, shard) else {
+            return Err(NO_SHARD);
+        };
+        answered_by_shard(shard.shut(conn, text))
+    }
+
+    /// [`ShardState::detach`](node_threads::ShardState::detach), of the shard of this number. Refused with
+    /// [`NodeFault::NoShard`] first. May wait.
+    pub fn detach<R: Wait>(
+        &self,
+        rt: &R,
+        shard: u64,
+        conn: ConnId,
+    ) -> Result<Vec<SubId>, Failure<NodeFault>>
+        ensures { AnswersAt (has_shard N.race shard) result }
+    {
+        let Some(mut shard) = self.shard(rt, shard) else {
+            return Err(NO_SHARD);
+        };
+        answered_by_shard(shard.detach(conn))
+    }
+
+    /// [`ShardState::take`](node_threads::ShardState::take), of the shard of this number. Refused with
+    /// [`NodeFault::NoShard`] first. May wait.
+    pub fn take<R: Wait>(
+        &self,
+        rt: &R,
+        shard: u64,
+        conn: ConnId,
+        count: usize,
+    ) -> Result<Vec<Entry>, Failure<NodeFault>>
+        ensures { AnswersAt (has_shard N.race shard) result }
+    {
+        let Some(mut shard) = self.shard(rt, shard) else {
+            return Err(NO_SHARD);
+        };
+        answered_by_shard(shard.take(conn, count))
+    }
+
+    /// Makes turns of each shard in a thread of its own, until the shard has finished turn `until` in this
+    /// call, or has made `tries` turns; one that comes to nothing counts as a try. Where no thread is to be had for a
+    /// shard, this one works it. Comes back when all are done. May wait.
+    pub fn workers<G: Gate, R: Threads + Wait + Sync>(
+        &self,
+        rt: &R,
+        gate: &G,
+        until: Turn,
+        tries: u64,
+    )
+    where
+        T: Send + Sync,
+        N: Send + Sync,
+    {
+        let until = until.get();
+        thread::scope(thread::scope_env(), rt, |scope| {
+            for place in 0..self.shards() {
+                let shard = place + 1;
+                if scope
+                    .spawn(move || work(rt, self, gate, shard, until, tries))
+                    .is_err()
+                {
+                    work(rt, self, gate, shard, until, tries);
+                }
+            }
+        });
+    }
+
+    /// Makes turns of the shard of this number until [`ThreadNode::stop`]; after one that is
+    /// [`Turned::Idle`] it sleeps until it is woken. The parker is the one that came with the shard's
+    /// parts. Comes back at once where the server has no such shard. May wait.
+    pub fn worker_until_stopped<G: Gate, R: Wait>(
+        &self,
+        rt: &R,
+        shard: u64,
+        parker: &Parker,
+        gate: &G,
+    ) {
+        for _turn in rt.forever() {
+            if self.is_stopped() {
+                return;
+            }
+            match self.turn(rt, shard, gate) {
+                Some(Turned::Worked(_)) => {}
+                Some(Turned::Idle) => parker.park(rt),
+                Some(Turned::Short) => thread::yield_now(),
+                None => return,
+            }
+        }
     }
 }

@@ -11,7 +11,7 @@ use route_values::{Numbered, RouteConnect, RouteInfo};
 use std::sync::Wait;
 use sub_table::SubTable;
 use subj::{ConnId, Failure, Pub};
-use thread_node::{NO_SHARD, ThreadNode, refused_by_hub};
+use thread_node::{NO_SHARD, ThreadNode, answered_by_hub};
 
 /// The place of a step, from 0, and what it answered.
 pub(crate) type Step<X> = (usize, X);
@@ -135,8 +135,8 @@ pub(crate) fn collect<T: SubTable, N: NodeName, R: Wait>(
         return Err(NO_SHARD);
     };
     let place = hub.steps_kept();
-    match hub.collect(&mut shard) {
+    match answered_by_hub(hub.collect(&mut shard)) {
         Ok(told) => Ok((place, told)),
-        Err(fault) => Err(refused_by_hub(fault)),
+        Err(fault) => Err(fault),
     }
 }

@@ -13,7 +13,7 @@ use std::marker::{Model, PhantomData};
 use thread_node::HubTold;
 
 /// What a call answered, in numbers: one of the hub's, or one of a shard's.
-#[derive(Clone, Copy, Debug, PartialEq, Eq)]
+#[derive(Clone, Copy, PartialEq, Eq)]
 pub enum Told {
     Hub(HubTold),
     Shard(ShardTold),
@@ -21,7 +21,7 @@ pub enum Told {
 
 /// A call: under which lock it was made, the hub's (0) or that of the shard of this number; its place among the
 /// steps that were made there, from 0; what was asked; and what it answered.
-#[derive(Debug, Drop)]
+#[derive(Drop)]
 pub struct Call {
     pub lock: u64,
     pub place: usize,

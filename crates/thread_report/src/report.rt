@@ -27,7 +27,7 @@ use thread_law::legal_runs_are_once;
 use thread_node::{HubEntry, LockedShard, ThreadNode};
 
 /// What a server has done.
-#[derive(Debug, Drop)]
+#[derive(Drop)]
 pub struct Report {
     /// The last turn issued.
     pub issued: Turn,

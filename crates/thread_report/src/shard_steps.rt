@@ -11,7 +11,7 @@ use shard_core::{Closed, Subscribed};
 use std::sync::Wait;
 use sub_table::SubTable;
 use subj::{ConnId, Failure, Key, Sid, SubId, Turn};
-use thread_node::{NO_SHARD, ThreadNode, refused_by_shard};
+use thread_node::{NO_SHARD, ThreadNode, answered_by_shard};
 
 /// [`ThreadNode::attach`]. May wait.
 pub(crate) fn attach<T: SubTable, N: NodeName, R: Wait>(
@@ -25,9 +25,9 @@ pub(crate) fn attach<T: SubTable, N: NodeName, R: Wait>(
         return Err(NO_SHARD);
     };
     let place = shard.steps_kept();
-    match shard.attach() {
+    match answered_by_shard(shard.attach()) {
         Ok(done) => Ok((place, done)),
-        Err(fault) => Err(refused_by_shard(fault)),
+        Err(fault) => Err(fault),
     }
 }
 
@@ -46,9 +46,9 @@ pub(crate) fn subscribe<T: SubTable, N: NodeName, R: Wait>(
         return Err(NO_SHARD);
     };
     let place = shard.steps_kept();
-    match shard.subscribe(conn, key, sid) {
+    match answered_by_shard(shard.subscribe(conn, key, sid)) {
         Ok(done) => Ok((place, done)),
-        Err(fault) => Err(refused_by_shard(fault)),
+        Err(fault) => Err(fault),
     }
 }
 
@@ -87,9 +87,9 @@ pub(crate) fn reply<T: SubTable, N: NodeName, R: Wait>(
         return Err(NO_SHARD);
     };
     let place = shard.steps_kept();
-    match shard.reply(conn, frame) {
+    match answered_by_shard(shard.reply(conn, frame)) {
         Ok(done) => Ok((place, done)),
-        Err(fault) => Err(refused_by_shard(fault)),
+        Err(fault) => Err(fault),
     }
 }
 
@@ -107,9 +107,9 @@ pub(crate) fn shut<T: SubTable, N: NodeName, R: Wait>(
         return Err(NO_SHARD);
     };
     let place = shard.steps_kept();
-    match shard.shut(conn, text) {
+    match answered_by_shard(shard.shut(conn, text)) {
         Ok(done) => Ok((place, done)),
-        Err(fault) => Err(refused_by_shard(fault)),
+        Err(fault) => Err(fault),
     }
 }
 
@@ -126,9 +126,9 @@ pub(crate) fn detach<T: SubTable, N: NodeName, R: Wait>(
         return Err(NO_SHARD);
     };
     let place = shard.steps_kept();
-    match shard.detach(conn) {
+    match answered_by_shard(shard.detach(conn)) {
         Ok(done) => Ok((place, done)),
-        Err(fault) => Err(refused_by_shard(fault)),
+        Err(fault) => Err(fault),
     }
 }
 
@@ -146,9 +146,9 @@ pub(crate) fn take<T: SubTable, N: NodeName, R: Wait>(
         return Err(NO_SHARD);
     };
     let place = shard.steps_kept();
-    match shard.take(conn, count) {
+    match answered_by_shard(shard.take(conn, count)) {
         Ok(done) => Ok((place, done)),
-        Err(fault) => Err(refused_by_shard(fault)),
+        Err(fault) => Err(fault),
     }
 }
 
@@ -164,8 +164,8 @@ pub(crate) fn drop_job<T: SubTable, N: NodeName, R: Wait>(
         return Err(NO_SHARD);
     };
     let place = shard.steps_kept();
-    match shard.drop_job(rt) {
+    match answered_by_shard(shard.drop_job(rt)) {
         Ok(done) => Ok((place, done)),
-        Err(fault) => Err(refused_by_shard(fault)),
+        Err(fault) => Err(fault),
     }
 }

@@ -11,8 +11,8 @@ locked_shards-requires-clause-parts g c =
     let lanes = ap (λ (v : Given). v.lanes) c.parts.view_is ∙ c.requires.lanes in
     subst (λ (r : _). All (IsNamed r g.N.NodeName.lanes) p.shards.items) race (named p.server p.cells p.hub p.shards.items g.N.NodeName.lanes c.parts.invariant lanes)
 
-pub new-requires-2-clause-some : goal.new-requires-2-clause-some
-new-requires-2-clause-some g c =
+pub locked_hub-requires-clause-some : goal.locked_hub-requires-clause-some
+locked_hub-requires-clause-some g c =
     let p = c.parts.inside in
     let each = c.parts.invariant.seats.0 in
     let as_many = length-map p.shards.items (λ s. s.seat) in

@@ -2,7 +2,7 @@ use Rattle.std.proofs.Common.{◌+◌, ◌<◌, ◌++◌, length, map, set, Some
 use Rattle.std.proofs.lemmas.List.{drop-set-lt}
 use Rattle.node_threads.specs.Outlets.{Line, jobs_owed}
 use Rattle.node_threads.proofs.Lanes.Lines.{map_set_same, drop_step, drop_get}
-use Rattle.node_threads.proofs.outlet.offer_to_each.Goals as goal
+use Rattle.node_threads.proofs.hub_state.offer_to_each.Goals as goal
 
 pub offer-requires : goal.offer-requires
 offer-requires g c =

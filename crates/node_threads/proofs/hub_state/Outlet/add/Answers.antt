@@ -2,7 +2,7 @@ use Rattle.std.proofs.Common.{◌+◌, List, length, sym, ap, ◌∙◌, subst}
 use Rattle.subj.specs.declared.jobs.Job.{Job}
 use Rattle.node_threads.specs.Outlets.{Outlet, IsOutlet}
 use Rattle.node_threads.proofs.Lanes.Outlets.{outlet_more}
-use Rattle.node_threads.proofs.outlet.Outlet.add.Goals as goal
+use Rattle.node_threads.proofs.hub_state.Outlet.add.Goals as goal
 
 pub invariant_of-self : goal.invariant_of-self
 invariant_of-self g c =

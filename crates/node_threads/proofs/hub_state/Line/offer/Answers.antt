@@ -2,7 +2,7 @@ use Rattle.std.proofs.Common.{◌++◌, Some, length, sym, subst}
 use Rattle.job_lane.specs.Turns.{AreNumbered, AreNumberedBehind}
 use Rattle.node_threads.specs.Outlets.{Line, jobs_owed}
 use Rattle.node_threads.proofs.Lanes.Outlets.{owed_behind}
-use Rattle.node_threads.proofs.line.Line.offer.Goals as goal
+use Rattle.node_threads.proofs.hub_state.Line.offer.Goals as goal
 
 pub push-requires : goal.push-requires
 push-requires g c =

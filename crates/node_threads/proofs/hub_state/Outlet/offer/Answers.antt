@@ -1,7 +1,7 @@
 use Rattle.std.proofs.Common.{◌≡◌, All, true, Some, None, sym, ap, ◌∙◌, subst}
 use Rattle.node_threads.specs.Outlets.{Line, Outlet, IsOutlet, jobs_owed, jobs_handed}
 use Rattle.node_threads.proofs.Lanes.Outlets.{owed_numbered, with_unsent, all_took, alike}
-use Rattle.node_threads.proofs.outlet.Outlet.offer.Goals as goal
+use Rattle.node_threads.proofs.hub_state.Outlet.offer.Goals as goal
 
 pub offer_all-requires : goal.offer_all-requires
 offer_all-requires g c =

@@ -1,7 +1,7 @@
 use Rattle.std.proofs.Common.{◌≡◌, [], None, Some, sym, ap, ◌∙◌, subst}
 use Rattle.node_threads.specs.Outlets.{Outlet, IsOutlet, jobs_handed}
 use Rattle.node_threads.proofs.Lanes.Outlets.{begun, alike, none_of}
-use Rattle.node_threads.proofs.outlet.Outlet.begin_run.Goals as goal
+use Rattle.node_threads.proofs.hub_state.Outlet.begin_run.Goals as goal
 
 pub invariant_of-self-2 : goal.invariant_of-self-2
 invariant_of-self-2 g c =

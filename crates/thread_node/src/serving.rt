@@ -2,6 +2,8 @@
 
 ghost use Rattle.std.specs.Prelude.{⊤};
 
+use crate::locked_hub::LockedHub;
+use crate::locked_shard::LockedShard;
 use crate::node::{HubSection, ShardSection, ThreadNode};
 use client_calls::{ClientCalls, Outcome};
 use client_conn::Refusal;
@@ -44,6 +46,21 @@ fn copies_of(alloc: Global, key: &Key, sid: &Sid) -> Result<(Key, Sid), AllocErr
     let key = key.try_clone(alloc)?;
     let sid = sid.try_clone(alloc)?;
     Ok((key, sid))
+}
+
+/// Has the hub collect the deltas of the shard: what it told the peers, or None where there are none, or it is refused.
+fn collected<T: SubTable, N: NodeName>(
+    hub: &mut LockedHub<N>,
+    shard: &mut LockedShard<T, N>,
+) -> Result<Option<Told>, AllocError> {
+    if shard.deltas().is_empty() {
+        return Ok(None);
+    }
+    match hub.collect(shard) {
+        Ok(told) => Ok(Some(told)),
+        Err(Failure::Refused(_)) => Ok(None),
+        Err(Failure::OutOfMemory) => Err(AllocError),
+    }
 }
 
 /// A refusal of a shard, as a client is told of it.
@@ -254,13 +271,6 @@ impl<'n, T: SubTable, N: NodeName> ServerCalls for &'n ThreadNode<T, N> {
         let Some(mut shard_guard) = node.shard(rt, shard) else {
             return Ok(None);
         };
-        if shard_guard.deltas().is_empty() {
-            return Ok(None);
-        }
-        match hub_guard.collect(&mut *shard_guard) {
-            Ok(told) => Ok(Some(told)),
-            Err(Failure::Refused(_)) => Ok(None),
-            Err(Failure::OutOfMemory) => Err(AllocError),
-        }
+        collected(&mut hub_guard, &mut shard_guard)
     }
 }

@@ -1,6 +1,6 @@
 use Rattle.std.proofs.Common.{◌≡◌, ◌++◌, map, drop, Some}
 use Rattle.node_threads.specs.Outlets.{jobs_owed}
-use Rattle.node_threads.proofs.outlet.offer_to_each.Given as goal
+use Rattle.node_threads.proofs.hub_state.offer_to_each.Given as goal
 
 abbrev pub invariant-loop-line : goal.invariant-loop-line
 invariant-loop-line g l =

@@ -1,5 +1,5 @@
 use Rattle.std.proofs.Common.{◌≡◌, false, map, take, All}
-use Rattle.node_threads.proofs.outlet.begin_each.Given as goal
+use Rattle.node_threads.proofs.hub_state.begin_each.Given as goal
 
 abbrev pub invariant-loop-line : goal.invariant-loop-line
 invariant-loop-line g l =
