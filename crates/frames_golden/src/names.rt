@@ -1,142 +1,450 @@
-//! Calls of names: those of patterns, subjects, queue groups, subscriptions and servers.
+//! Calls of names and of the values that hold them: limits and numbers, keys, servers, messages and jobs; and of the fields of lines.
 
-use crate::telling::{no_such_call, refused};
 use bytes::Bytes;
-use golden::{Words, bytes_of, shown, text, yes_or_no};
-use std::alloc::{AllocError, Global};
-use subj::{Failure, NameFault, NodeId, Pattern, QueueName, Sid, Subject};
+use golden::{
+    Words, bytes_of, key_in, life_of, message_of, pattern_of, payload_of, push_key, push_shown,
+    queues_of, server_of, subject_of, tell, tell_bytes, tell_choice, tell_number, tell_refusal,
+    tell_whether,
+};
+use line_fields::{MAX_DIGITS, fields, is_word, read_digits, split_line};
+use std::alloc::Global;
+use std::cmp::Ordering;
+use std::fmt::Write;
+use subj::{
+    Busy, CLIENT_LINE, ConnId, Failure, Finished, Incarnation, JOIN_EVENTS, Job, LAST_LINE,
+    MAX_COST, MAX_COUNTER, MAX_INCARNATION, MAX_KEYS, MAX_NODE_NAME, MAX_NODES, MAX_PAYLOAD,
+    MAX_QUEUE_NAME, MAX_QUEUE_NAMES, MAX_SERIAL, MAX_SESSIONS, MAX_SHARDS, MAX_SID, MAX_SNAPSHOT,
+    MAX_SUBJECT, MAX_WEIGHT, Message, NameFault, NodeId, OUTBOX_BYTES, OUTBOX_ENTRIES, Pattern,
+    Pub, PubId, QueueName, QueueNames, READ_BYTES, ROUTE_FRAMES, ROUTE_LINE, SCRIPT_BYTES,
+    SCRIPT_EVENTS, SUBSCRIPTION_BYTES, SUBSCRIPTION_COST, SUBSCRIPTIONS, Server, Sid, SubId,
+    Subject, Turn, WINDOW,
+};
 
-/// Why the bytes are no name of this kind.
-fn fault_of(kind: &str, bytes: &[u8]) -> Option<NameFault> {
-    match kind {
-        "pattern" => Pattern::fault(bytes),
-        "subject" => Subject::fault(bytes),
-        "queue" => QueueName::fault(bytes),
-        "sid" => Sid::fault(bytes),
-        _ => NodeId::fault(bytes),
+/// Tells the number of the cause for which the bytes are no name of this kind.
+fn fault(answer: &mut String, alloc: Global, kind: &str, word: &str) -> Option<()> {
+    let bytes = bytes_of(alloc, word).ok()?;
+    let fault = match kind {
+        "pattern" => Pattern::fault(&bytes),
+        "subject" => Subject::fault(&bytes),
+        "queue" => QueueName::fault(&bytes),
+        "sid" => Sid::fault(&bytes),
+        _ => NodeId::fault(&bytes),
+    };
+    match fault {
+        None => tell(answer, "none"),
+        Some(fault) => tell_number(answer, "", u64::from(fault.number())),
     }
 }
 
-/// The number of the cause for which it is no name.
-fn fault_told(alloc: Global, kind: &str, word: &str) -> Result<String, AllocError> {
-    let bytes = bytes_of(alloc, word)?;
-    match fault_of(kind, &bytes) {
-        None => text(alloc, "none"),
-        Some(fault) => format!(in alloc; "{}", fault.number()),
-    }
-}
-
-/// A copy of a pattern.
-fn copied_pattern(alloc: Global, bytes: &[u8]) -> Result<String, Failure<NameFault>> {
+/// Puts a copy of a pattern that is read.
+fn put_pattern(answer: &mut String, alloc: Global, bytes: &[u8]) -> Result<(), Failure<NameFault>> {
     let copy = Pattern::read(alloc, bytes)?.try_clone(alloc)?;
-    Ok(shown(alloc, "", copy.bytes())?)
+    Ok(push_shown(answer, copy.bytes())?)
 }
 
-/// A copy of a subject.
-fn copied_subject(alloc: Global, bytes: &[u8]) -> Result<String, Failure<NameFault>> {
+/// Puts a copy of a subject that is read.
+fn put_subject(answer: &mut String, alloc: Global, bytes: &[u8]) -> Result<(), Failure<NameFault>> {
     let copy = Subject::read(alloc, bytes)?.try_clone()?;
-    Ok(shown(alloc, "", copy.bytes())?)
+    Ok(push_shown(answer, copy.bytes())?)
 }
 
-/// A copy of the name of a queue group.
-fn copied_queue(alloc: Global, bytes: &[u8]) -> Result<String, Failure<NameFault>> {
+/// Puts a copy of the name of a queue group that is read.
+fn put_queue(answer: &mut String, alloc: Global, bytes: &[u8]) -> Result<(), Failure<NameFault>> {
     let copy = QueueName::read(alloc, bytes)?.try_clone(alloc)?;
-    Ok(shown(alloc, "", copy.bytes())?)
+    Ok(push_shown(answer, copy.bytes())?)
 }
 
-/// A copy of a subscription id.
-fn copied_sid(alloc: Global, bytes: &[u8]) -> Result<String, Failure<NameFault>> {
+/// Puts a copy of the id of a subscription that is read.
+fn put_sid(answer: &mut String, alloc: Global, bytes: &[u8]) -> Result<(), Failure<NameFault>> {
     let copy = Sid::read(alloc, bytes)?.try_clone(alloc)?;
-    Ok(shown(alloc, "", copy.bytes())?)
+    Ok(push_shown(answer, copy.bytes())?)
 }
 
-/// The name of a server, which is copied without a call.
-fn copied_node(alloc: Global, bytes: &[u8]) -> Result<String, Failure<NameFault>> {
+/// Puts the name of a server that is read, which is copied without a call.
+fn put_node(answer: &mut String, bytes: &[u8]) -> Result<(), Failure<NameFault>> {
     match NodeId::read(bytes) {
-        Ok(name) => Ok(shown(alloc, "", name.bytes())?),
+        Ok(name) => Ok(push_shown(answer, name.bytes())?),
         Err(fault) => Err(Failure::Refused(fault)),
     }
 }
 
-/// A copy of the name of this kind.
-fn copied(alloc: Global, kind: &str, bytes: &[u8]) -> Result<String, Failure<NameFault>> {
-    match kind {
-        "pattern" => copied_pattern(alloc, bytes),
-        "subject" => copied_subject(alloc, bytes),
-        "queue" => copied_queue(alloc, bytes),
-        "sid" => copied_sid(alloc, bytes),
-        _ => copied_node(alloc, bytes),
+/// Tells a copy of a name that is read, or the cause for which it is none.
+fn copy(answer: &mut String, alloc: Global, kind: &str, word: &str) -> Option<()> {
+    let bytes = bytes_of(alloc, word).ok()?;
+    let copied = match kind {
+        "pattern" => put_pattern(answer, alloc, &bytes),
+        "subject" => put_subject(answer, alloc, &bytes),
+        "queue" => put_queue(answer, alloc, &bytes),
+        "sid" => put_sid(answer, alloc, &bytes),
+        _ => put_node(answer, &bytes),
+    };
+    match copied {
+        Ok(()) => Some(()),
+        Err(Failure::Refused(fault)) => tell_refusal(answer, fault.number()),
+        Err(Failure::OutOfMemory) => None,
     }
 }
 
-/// A copy of a name that was read, or the cause for which it is none.
-fn copy_told(alloc: Global, kind: &str, word: &str) -> Result<String, AllocError> {
-    let bytes = bytes_of(alloc, word)?;
-    match copied(alloc, kind, &bytes) {
-        Ok(answer) => Ok(answer),
-        Err(Failure::Refused(fault)) => refused(alloc, fault.number()),
-        Err(Failure::OutOfMemory) => Err(AllocError),
-    }
-}
-
-/// The subject that shared bytes are.
-fn shared_subject(alloc: Global, part: Bytes) -> Result<String, AllocError> {
-    match Subject::from_shared(part) {
-        Ok(subject) => shown(alloc, "", subject.bytes()),
-        Err(fault) => refused(alloc, fault.number()),
-    }
-}
-
-/// The subject that a part of some bytes is.
-fn part_told(alloc: Global, words: &Words<'_>) -> Result<String, AllocError> {
-    let bytes = Bytes::from_vec(bytes_of(alloc, words.at(0))?)?;
+/// Tells the subject that a part of some shared bytes is.
+fn part(answer: &mut String, alloc: Global, words: &Words<'_>) -> Option<()> {
+    let bytes = payload_of(alloc, words.at(0))?;
     let (start, end) = (words.number(1) as usize, words.number(2) as usize);
     if start > end || end > bytes.len() {
-        return text(alloc, "no part");
+        return None;
     }
-    shared_subject(alloc, bytes.slice(start..end)?)
-}
-
-/// The pattern that a word is.
-pub fn pattern_of(alloc: Global, word: &str) -> Option<Pattern> {
-    let bytes = bytes_of(alloc, word).ok()?;
-    Pattern::read(alloc, &bytes).ok()
-}
-
-/// The subject that a word is.
-pub fn subject_of(alloc: Global, word: &str) -> Option<Subject> {
-    let bytes = bytes_of(alloc, word).ok()?;
-    Subject::read(alloc, &bytes).ok()
-}
-
-/// The subscription id that a word is.
-pub fn sid_of(alloc: Global, word: &str) -> Option<Sid> {
-    let bytes = bytes_of(alloc, word).ok()?;
-    Sid::read(alloc, &bytes).ok()
-}
-
-/// Whether a pattern matches a subject.
-fn match_told(alloc: Global, words: &Words<'_>) -> Result<String, AllocError> {
-    let pattern = pattern_of(alloc, words.at(0));
-    let subject = subject_of(alloc, words.at(1));
-    match (&pattern, &subject) {
-        (Some(pattern), Some(subject)) => yes_or_no(alloc, pattern.matches(subject)),
-        _ => text(alloc, "no names"),
+    match Subject::from_shared(bytes.slice(start..end).ok()?) {
+        Ok(subject) => push_shown(answer, subject.bytes()).ok(),
+        Err(fault) => tell_refusal(answer, fault.number()),
     }
+}
+
+/// Tells whether a pattern matches a subject.
+fn matches(answer: &mut String, alloc: Global, words: &Words<'_>) -> Option<()> {
+    let pattern = pattern_of(alloc, words.at(0))?;
+    let subject = subject_of(alloc, words.at(1))?;
+    tell_whether(answer, pattern.matches(&subject))
 }
 
 /// Makes a call of a name of this kind.
-pub fn answer_of(
+pub fn name_call(
+    answer: &mut String,
     alloc: Global,
     kind: &str,
     call: &str,
     words: &Words<'_>,
-) -> Result<String, AllocError> {
+) -> Option<()> {
     match call {
-        "fault" => fault_told(alloc, kind, words.text),
-        "copy" => copy_told(alloc, kind, words.text),
-        "part" => part_told(alloc, words),
-        "match" => match_told(alloc, words),
-        _ => no_such_call(alloc),
+        "fault" => fault(answer, alloc, kind, words.text),
+        "copy" => copy(answer, alloc, kind, words.text),
+        "part" => part(answer, alloc, words),
+        "match" => matches(answer, alloc, words),
+        _ => None,
+    }
+}
+
+/// Tells a copy of a key.
+fn key_copy(answer: &mut String, alloc: Global, word: &str) -> Option<()> {
+    let copy = key_in(alloc, word)?.try_clone(alloc).ok()?;
+    push_key(answer, &copy).ok()
+}
+
+/// Tells how a key stands to another.
+fn order(answer: &mut String, alloc: Global, words: &Words<'_>) -> Option<()> {
+    let left = key_in(alloc, words.at(0))?;
+    let right = key_in(alloc, words.at(1))?;
+    let told = match left.order(&right) {
+        Ordering::Less => "less",
+        Ordering::Equal => "equal",
+        Ordering::Greater => "greater",
+    };
+    tell(answer, told)
+}
+
+/// Tells how many names of queue groups these are, where they rise and are not too many.
+fn queue_names(answer: &mut String, alloc: Global, text: &str) -> Option<()> {
+    match queues_of(alloc, text)? {
+        None => tell(answer, "none"),
+        Some(names) => tell_number(answer, "", names.as_slice().len() as u64),
+    }
+}
+
+/// Makes a call of keys.
+pub fn key_call(answer: &mut String, alloc: Global, call: &str, words: &Words<'_>) -> Option<()> {
+    match call {
+        "copy" => key_copy(answer, alloc, words.text),
+        "cost" => tell_number(answer, "", key_in(alloc, words.text)?.cost()),
+        "order" => order(answer, alloc, words),
+        "queue_names" => queue_names(answer, alloc, words.text),
+        _ => None,
+    }
+}
+
+/// The limits by their names.
+static LIMITS: [(&str, u64); 30] = [
+    ("MAX_NODES", MAX_NODES),
+    ("MAX_SHARDS", MAX_SHARDS),
+    ("WINDOW", WINDOW),
+    ("MAX_QUEUE_NAMES", MAX_QUEUE_NAMES),
+    ("MAX_SUBJECT", MAX_SUBJECT as u64),
+    ("MAX_SID", MAX_SID as u64),
+    ("MAX_QUEUE_NAME", MAX_QUEUE_NAME as u64),
+    ("MAX_NODE_NAME", MAX_NODE_NAME as u64),
+    ("MAX_PAYLOAD", MAX_PAYLOAD as u64),
+    ("MAX_INCARNATION", MAX_INCARNATION),
+    ("MAX_COUNTER", MAX_COUNTER),
+    ("MAX_SERIAL", MAX_SERIAL),
+    ("SUBSCRIPTIONS", SUBSCRIPTIONS),
+    ("SUBSCRIPTION_BYTES", SUBSCRIPTION_BYTES),
+    ("SUBSCRIPTION_COST", SUBSCRIPTION_COST),
+    ("MAX_COST", MAX_COST),
+    ("MAX_KEYS", MAX_KEYS),
+    ("MAX_WEIGHT", MAX_WEIGHT),
+    ("OUTBOX_ENTRIES", OUTBOX_ENTRIES as u64),
+    ("OUTBOX_BYTES", OUTBOX_BYTES as u64),
+    ("LAST_LINE", LAST_LINE as u64),
+    ("ROUTE_FRAMES", ROUTE_FRAMES as u64),
+    ("CLIENT_LINE", CLIENT_LINE as u64),
+    ("ROUTE_LINE", ROUTE_LINE as u64),
+    ("MAX_SNAPSHOT", MAX_SNAPSHOT as u64),
+    ("READ_BYTES", READ_BYTES as u64),
+    ("MAX_SESSIONS", MAX_SESSIONS),
+    ("SCRIPT_BYTES", SCRIPT_BYTES as u64),
+    ("SCRIPT_EVENTS", SCRIPT_EVENTS),
+    ("JOIN_EVENTS", JOIN_EVENTS),
+];
+
+/// The limit of this name, 0 where none has it.
+fn limit(name: &str) -> u64 {
+    for (other, limit) in &LIMITS {
+        if *other == name {
+            return *limit;
+        }
+    }
+    0
+}
+
+/// Tells the turn of this number, and the one behind it.
+fn turn(answer: &mut String, turn: Option<Turn>) -> Option<()> {
+    let Some(turn) = turn else {
+        return tell(answer, "none");
+    };
+    match turn.next() {
+        None => write!(answer, "{}, the last", turn.get()).ok(),
+        Some(next) => write!(answer, "{}, then {}", turn.get(), next.get()).ok(),
+    }
+}
+
+/// The turns that shards finished: just this one did, and none where there is no such shard or turn.
+fn finished_of(shard: u64, number: u64) -> Finished {
+    let mut finished = Finished::new();
+    if let Some(turn) = Turn::new(number) {
+        if shard >= 1 && shard <= MAX_SHARDS {
+            finished.set(shard, turn);
+        }
+    }
+    finished
+}
+
+/// Tells which shard is behind, with the turn that it finished.
+fn busy(answer: &mut String, shard: u64, number: u64) -> Option<()> {
+    let busy = Busy {
+        shard,
+        finished: finished_of(shard, number).of(shard),
+    };
+    write!(answer, "shard {}, turn {}", busy.shard, busy.finished.get()).ok()
+}
+
+/// The subscription of a shard and a serial.
+fn sub_of(shard: u64, serial: u64) -> SubId {
+    SubId { shard, serial }
+}
+
+/// Makes a call of values that are numbers.
+pub fn number_call(answer: &mut String, call: &str, words: &Words<'_>) -> Option<()> {
+    let (first, second, third) = (words.number(0), words.number(1), words.number(2));
+    match call {
+        "limit" => tell_number(answer, "", limit(words.at(0)) / limit(words.at(1)).max(1)),
+        "incarnation" => match Incarnation::new(first) {
+            None => tell(answer, "none"),
+            Some(inc) => tell_number(answer, "", inc.get()),
+        },
+        "turn" => turn(answer, Turn::new(first)),
+        "first_turn" => turn(answer, Some(Turn::zero())),
+        "finished" => tell_number(answer, "", finished_of(first, second).of(third).get()),
+        "busy" => busy(answer, first, second),
+        "conn" => tell_number(answer, "", ConnId::new(first).get()),
+        "same_conn" => tell_whether(answer, ConnId::new(first) == ConnId::new(second)),
+        "same_sub" => {
+            tell_whether(
+                answer,
+                sub_of(first, second) == sub_of(third, words.number(3)),
+            )
+        }
+        _ => None,
+    }
+}
+
+/// Tells what is in a server.
+fn server_told(answer: &mut String, server: &Server) -> Option<()> {
+    write!(
+        answer,
+        "{} at {}, incarnation {}, {} shards, {} servers",
+        server.name().text(),
+        server.me(),
+        server.inc().get(),
+        server.shards(),
+        server.names().len()
+    )
+    .ok()
+}
+
+/// Tells a copy of a server.
+fn server_copy(answer: &mut String, alloc: Global, server: &Server) -> Option<()> {
+    let copy = server.try_clone(alloc).ok()?;
+    server_told(answer, &copy)
+}
+
+/// Tells the place of the server of this name.
+fn place(answer: &mut String, server: &Server, name: &str) -> Option<()> {
+    let name = NodeId::read(name.as_bytes()).ok()?;
+    match server.place(name) {
+        None => tell(answer, "none"),
+        Some(place) => tell_number(answer, "", place as u64),
+    }
+}
+
+/// Makes a call of the server that the first words are.
+pub fn server_call(
+    answer: &mut String,
+    alloc: Global,
+    call: &str,
+    words: &Words<'_>,
+) -> Option<()> {
+    let place_there = words.number(1) as usize;
+    let Some(server) = server_of(
+        alloc,
+        words.at(0),
+        place_there,
+        words.number(2),
+        words.number(3),
+    ) else {
+        return tell(answer, "none");
+    };
+    match call {
+        "new" => tell(answer, "ok"),
+        "copy" => server_copy(answer, alloc, &server),
+        "place" => place(answer, &server, words.at(4)),
+        "peer" => tell_whether(answer, server.is_peer(words.number(4) as usize)),
+        _ => None,
+    }
+}
+
+/// The message of a subject, a reply and a payload, which the first three words are.
+pub fn message_in(alloc: Global, words: &Words<'_>) -> Option<Message> {
+    message_of(alloc, words.at(0), words.at(1), words.at(2))
+}
+
+/// Tells the subject, the reply and the payload of a copy of a message.
+fn message_copy(answer: &mut String, alloc: Global, words: &Words<'_>) -> Option<()> {
+    let copy = message_in(alloc, words)?.try_clone().ok()?;
+    push_shown(answer, copy.subject().bytes()).ok()?;
+    if let Some(reply) = copy.reply() {
+        tell_bytes(answer, " ", reply.bytes())?;
+    }
+    tell_bytes(answer, " ", copy.payload().as_slice())
+}
+
+/// A publication on `foo` with a payload of so many bytes, of which there are at most two more than the limit.
+fn sized_of(alloc: Global, size: u64) -> Option<Option<Pub>> {
+    let size = (size as usize).min(MAX_PAYLOAD + 2);
+    let payload = Bytes::from_vec(vec![in alloc; b'x'; size].ok()?).ok()?;
+    let subject = subject_of(alloc, "foo")?;
+    Pub::new(alloc, subject, None, payload, true).ok()
+}
+
+/// Tells whether a payload of so many bytes can be published.
+fn sized(answer: &mut String, alloc: Global, size: u64) -> Option<()> {
+    match sized_of(alloc, size)? {
+        None => tell(answer, "none"),
+        Some(sized) => write!(answer, "{} bytes", sized.message.payload().len()).ok(),
+    }
+}
+
+/// The job of a turn for a message that a connection published, without its own subscriptions and without queue names.
+fn job_of(alloc: Global, words: &Words<'_>) -> Option<Job> {
+    let turn = Turn::new(words.number(3))?;
+    let origin = life_of(words.at(4), words.number(5))?;
+    let message = message_in(alloc, words)?;
+    Some(Job {
+        turn,
+        id: PubId {
+            origin: origin.name,
+            inc: origin.inc,
+            number: words.number(6),
+        },
+        message,
+        publisher: Some(ConnId::new(words.number(7))),
+        echo: false,
+        queues: QueueNames::new(),
+    })
+}
+
+/// Tells what is in a job beside its message.
+fn job_told(answer: &mut String, job: &Job) -> Option<()> {
+    let publisher = job.publisher?.get();
+    write!(
+        answer,
+        "turn {}, number {} of {} in {}, publisher {}, echo {}, {} names",
+        job.turn.get(),
+        job.id.number,
+        job.id.origin.text(),
+        job.id.inc.get(),
+        publisher,
+        job.echo,
+        job.queues.as_slice().len()
+    )
+    .ok()
+}
+
+/// Tells a copy of the job that the words are.
+fn job_copy(answer: &mut String, alloc: Global, words: &Words<'_>) -> Option<()> {
+    let copy = job_of(alloc, words)?.try_clone().ok()?;
+    job_told(answer, &copy)
+}
+
+/// Makes a call of messages.
+pub fn message_call(
+    answer: &mut String,
+    alloc: Global,
+    call: &str,
+    words: &Words<'_>,
+) -> Option<()> {
+    match call {
+        "copy" => message_copy(answer, alloc, words),
+        "sized" => sized(answer, alloc, words.number(0)),
+        "job" => job_copy(answer, alloc, words),
+        _ => None,
+    }
+}
+
+/// Tells the fields of a text, each with a bar behind it.
+fn fields_told(answer: &mut String, alloc: Global, word: &str) -> Option<()> {
+    let bytes = bytes_of(alloc, word).ok()?;
+    for field in &fields(alloc, &bytes).ok()? {
+        push_shown(answer, field).ok()?;
+        tell(answer, "|")?;
+    }
+    Some(())
+}
+
+/// Tells the operation of a line, and what stands behind it.
+fn operation(answer: &mut String, alloc: Global, word: &str) -> Option<()> {
+    let bytes = bytes_of(alloc, word).ok()?;
+    let Some((operation, behind)) = split_line(&bytes) else {
+        return tell(answer, "none");
+    };
+    push_shown(answer, operation).ok()?;
+    tell_bytes(answer, "|", behind)
+}
+
+/// Tells the number that a field of at most so many digits spells.
+fn digits(answer: &mut String, field: &str, most: u64) -> Option<()> {
+    if most > MAX_DIGITS as u64 {
+        return None;
+    }
+    tell_choice(answer, read_digits(field.as_bytes(), most as usize))
+}
+
+/// Makes a call of parts of lines.
+pub fn part_call(answer: &mut String, alloc: Global, call: &str, words: &Words<'_>) -> Option<()> {
+    match call {
+        "fields" => fields_told(answer, alloc, words.text),
+        "operation" => operation(answer, alloc, words.text),
+        "word" => tell_whether(
+            answer,
+            is_word(words.at(0).as_bytes(), words.at(1).as_bytes()),
+        ),
+        "digits" => digits(answer, words.at(0), words.number(1)),
+        _ => None,
     }
 }

@@ -1,13 +1,30 @@
-//! Calls of a cutter, of a source and of a sink, which stand as long as a case.
+//! Calls of streams: where bytes come from and go to, and what is cut from them. A line `pN` announces a payload of N bytes.
 
-use crate::cuts::{announce, new_cutter, note_piece, take_all};
-use crate::telling::{no_such_call, or_nothing, refused, shown_or_nothing};
-use golden::{Words, bytes_of, push_shown, shown, text, yes_or_no};
-use std::alloc::{AllocError, Global};
+use golden::{
+    Words, bytes_of, push_shown, put, tell, tell_bytes, tell_number, tell_refusal, tell_whether,
+};
+use line_fields::read_digits;
+use std::alloc::Global;
+use std::io;
+use std::io::{Read, Write};
 use wire_cut::{
     CutFault, Cutter, FeedFault, FillFault, MemSink, MemSource, Piece, Raw, Sink, Source,
     WriteFailed,
 };
+
+/// The most bytes of a line.
+const LINE_MAX: usize = 8;
+
+/// The most bytes of a payload.
+const PAYLOAD_MAX: u64 = 6;
+
+/// The most digits of an announced size.
+const SIZE_DIGITS: usize = 9;
+
+/// A cutter to which nothing was fed.
+fn new_cutter(alloc: Global) -> Cutter {
+    Cutter::new(alloc, LINE_MAX, PAYLOAD_MAX)
+}
 
 /// A cutter, a source with the buffer that it is read into, and a sink.
 #[derive(Drop)]
@@ -30,201 +47,333 @@ impl Streams {
     }
 }
 
-/// What a cutter answers that has nothing to tell.
-fn cut_told(alloc: Global, cut: Result<(), CutFault>) -> Result<String, AllocError> {
-    match cut {
-        Ok(()) => text(alloc, "ok"),
-        Err(fault) => refused(alloc, fault.number()),
+/// The size that a line announces.
+fn announced_size(line: &[u8]) -> Option<u64> {
+    let (letter, digits) = line.split_first()?;
+    if *letter != b'p' {
+        return None;
+    }
+    read_digits(digits, SIZE_DIGITS)
+}
+
+/// Notes bytes between two marks. Where memory is short the log is not what was written for it.
+fn note(log: &mut String, open: &str, bytes: &[u8], close: &str) {
+    let _noted = tell_bytes(log, open, bytes);
+    let _noted = tell(log, close);
+}
+
+/// Notes a piece. Gives the size that it announces.
+fn note_piece(log: &mut String, piece: Piece<'_>) -> Option<u64> {
+    match piece {
+        Piece::Payload(payload) => {
+            note(log, "[", payload, "]");
+            None
+        }
+        Piece::Line(line) => {
+            note(log, "<", line, ">");
+            announced_size(line)
+        }
+    }
+}
+
+/// Takes a piece and notes it. Gives the size that it announces; none where there is no piece.
+fn next_size(cutter: &mut Cutter, log: &mut String) -> Result<Option<Option<u64>>, CutFault> {
+    match cutter.next()? {
+        None => Ok(None),
+        Some(piece) => Ok(Some(note_piece(log, piece))),
+    }
+}
+
+/// Announces a size, where a line came last.
+fn announce(cutter: &mut Cutter, size: u64) -> Result<(), CutFault> {
+    if !cutter.after_line() {
+        return Ok(());
+    }
+    cutter.expect(size)
+}
+
+/// Takes a piece, and announces what it announces. Gives whether there may be more.
+fn take(cutter: &mut Cutter, log: &mut String) -> Result<bool, CutFault> {
+    match next_size(cutter, log)? {
+        None => return Ok(false),
+        Some(None) => {}
+        Some(Some(size)) => announce(cutter, size)?,
+    }
+    Ok(true)
+}
+
+/// Takes pieces until none comes, and notes them and a fault.
+fn take_all(cutter: &mut Cutter, log: &mut String) -> Option<()> {
+    for _piece in 0..u64::MAX {
+        match take(cutter, log) {
+            Ok(true) => {}
+            Ok(false) => return Some(()),
+            Err(fault) => return tell_number(log, "!", u64::from(fault.number())),
+        }
+    }
+    Some(())
+}
+
+/// Tells the next piece.
+fn next(answer: &mut String, cutter: &mut Cutter) -> Option<()> {
+    match next_size(cutter, answer) {
+        Ok(None) => tell(answer, "none"),
+        Ok(Some(_)) => Some(()),
+        Err(fault) => tell_refusal(answer, fault.number()),
+    }
+}
+
+/// Announces a payload.
+fn expect(answer: &mut String, cutter: &mut Cutter, size: u64) -> Option<()> {
+    if !cutter.after_line() {
+        return None;
+    }
+    match cutter.expect(size) {
+        Ok(()) => tell(answer, "ok"),
+        Err(fault) => tell_refusal(answer, fault.number()),
     }
 }
 
 /// Feeds the cutter.
-fn feed(cutter: &mut Cutter, alloc: Global, bytes: &[u8]) -> Result<String, AllocError> {
+fn feed(answer: &mut String, cutter: &mut Cutter, bytes: &[u8]) -> Option<()> {
     match cutter.feed(bytes) {
-        Ok(()) => text(alloc, "ok"),
-        Err(FeedFault::Cut(fault)) => refused(alloc, fault.number()),
-        Err(FeedFault::OutOfMemory) => Err(AllocError),
+        Ok(()) => tell(answer, "ok"),
+        Err(FeedFault::Cut(fault)) => tell_refusal(answer, fault.number()),
+        Err(FeedFault::OutOfMemory) => None,
     }
 }
 
-/// Feeds the cutter what a word stands for.
-fn feed_word(cutter: &mut Cutter, alloc: Global, word: &str) -> Result<String, AllocError> {
-    let bytes = bytes_of(alloc, word)?;
-    feed(cutter, alloc, &bytes)
-}
-
-/// Has the cutter read from the source.
-fn fill(
-    cutter: &mut Cutter,
-    source: &mut MemSource,
-    alloc: Global,
-    most: u64,
-) -> Result<String, AllocError> {
-    match cutter.read_from(source, (most as usize).min(64)) {
-        Ok(count) => format!(in alloc; "{count}"),
-        Err(FillFault::Cut(fault)) => refused(alloc, fault.number()),
-        Err(FillFault::Read) => text(alloc, "failed"),
-        Err(FillFault::OutOfMemory) => Err(AllocError),
+/// Has the cutter read from a source.
+fn fill<S: Source>(answer: &mut String, cutter: &mut Cutter, source: &mut S) -> Option<()> {
+    match cutter.read_from(source, 64) {
+        Ok(count) => tell_number(answer, "", count as u64),
+        Err(FillFault::Cut(fault)) => tell_refusal(answer, fault.number()),
+        Err(FillFault::Read) => tell(answer, "failed"),
+        Err(FillFault::OutOfMemory) => None,
     }
-}
-
-/// A piece, as it is noted.
-fn piece_told(alloc: Global, piece: Piece<'_>) -> Result<String, AllocError> {
-    let mut answer = String::new(alloc);
-    note_piece(&mut answer, piece)?;
-    Ok(answer)
-}
-
-/// The next piece.
-fn next(cutter: &mut Cutter, alloc: Global) -> Result<String, AllocError> {
-    match cutter.next() {
-        Ok(None) => text(alloc, "none"),
-        Ok(Some(piece)) => piece_told(alloc, piece),
-        Err(fault) => refused(alloc, fault.number()),
-    }
-}
-
-/// All pieces, of which the lines announce their payloads.
-fn take(cutter: &mut Cutter, alloc: Global) -> Result<String, AllocError> {
-    let mut log = String::new(alloc);
-    take_all(cutter, &mut log)?;
-    or_nothing(alloc, log)
-}
-
-/// Announces a payload.
-fn expect(cutter: &mut Cutter, alloc: Global, size: u64) -> Result<String, AllocError> {
-    if !cutter.after_line() {
-        return text(alloc, "not behind a line");
-    }
-    cut_told(alloc, announce(cutter, size))
 }
 
 /// A cutter to which nothing was fed takes the place of the one that stands.
-fn renew(cutter: &mut Cutter, alloc: Global) -> Result<String, AllocError> {
-    *cutter = new_cutter(alloc);
-    text(alloc, "ok")
+fn renew(answer: &mut String, cutter: &mut Cutter, alloc: Global) -> Option<()> {
+    put(cutter, new_cutter(alloc));
+    tell(answer, "ok")
 }
 
 /// Makes a call of the cutter.
-pub fn cutter_answer(
+pub fn cutter_call(
+    answer: &mut String,
     streams: &mut Streams,
     alloc: Global,
     call: &str,
     words: &Words<'_>,
-) -> Result<String, AllocError> {
+) -> Option<()> {
     let cutter = &mut streams.cutter;
     match call {
-        "new" => renew(cutter, alloc),
-        "feed" => feed_word(cutter, alloc, words.text),
-        "fill" => fill(cutter, &mut streams.source, alloc, words.number(0)),
-        "next" => next(cutter, alloc),
-        "take" => take(cutter, alloc),
-        "expect" => expect(cutter, alloc, words.number(0)),
-        "after_line" => yes_or_no(alloc, cutter.after_line()),
-        "unread" => format!(in alloc; "{}", cutter.unread_len()),
-        _ => no_such_call(alloc),
+        "new" => renew(answer, cutter, alloc),
+        "feed" => feed(answer, cutter, &bytes_of(alloc, words.text).ok()?),
+        "fill" => fill(answer, cutter, &mut streams.source),
+        "next" => next(answer, cutter),
+        "take" => take_all(cutter, answer),
+        "expect" => expect(answer, cutter, words.number(0)),
+        "after_line" => tell_whether(answer, cutter.after_line()),
+        "unread" => tell_number(answer, "", cutter.unread_len() as u64),
+        _ => None,
     }
 }
 
-/// The source with a limit for each read, where it is not 0.
-fn limited_source(source: MemSource, most: usize) -> MemSource {
-    if most == 0 {
-        return source;
+/// Feeds the bytes, and takes what comes of them.
+fn feed_and_take(cutter: &mut Cutter, log: &mut String, bytes: &[u8]) -> Option<()> {
+    if cutter.feed(bytes).is_err() {
+        tell(log, "not fed")?;
     }
-    source.at_most(most)
+    take_all(cutter, log)
 }
 
-/// A source of these bytes, with a limit for each read and the number of the read that fails.
-fn source_of(alloc: Global, words: &Words<'_>) -> Result<MemSource, AllocError> {
-    let source = MemSource::new(bytes_of(alloc, words.at(0))?);
-    Ok(limited_source(source, words.number(1) as usize).failing_at(words.number(2)))
+/// Tells what comes of a stream that is fed in these words.
+fn feeds(answer: &mut String, alloc: Global, words: &str) -> Option<()> {
+    let mut cutter = new_cutter(alloc);
+    for word in words.split('|') {
+        feed_and_take(&mut cutter, answer, &bytes_of(alloc, word).ok()?)?;
+    }
+    Some(())
 }
 
-/// How much was read, and what stands in the buffer.
-fn read_told(alloc: Global, count: usize, buffer: &[u8]) -> Result<String, AllocError> {
-    let mut answer = format!(in alloc; "{count}: ")?;
-    push_shown(&mut answer, buffer)?;
-    Ok(answer)
+/// Puts what comes of a stream that is fed in two parts, cut at this place.
+fn put_halves(log: &mut String, alloc: Global, stream: &[u8], at: usize) -> Option<()> {
+    let (first, rest) = stream.split_at(at.min(stream.len()));
+    let mut cutter = new_cutter(alloc);
+    feed_and_take(&mut cutter, log, first)?;
+    feed_and_take(&mut cutter, log, rest)
 }
 
-/// Reads once into the buffer.
-fn read(streams: &mut Streams, alloc: Global) -> Result<String, AllocError> {
+/// Reads from a source until its end, and takes what comes.
+fn take_read(
+    cutter: &mut Cutter,
+    log: &mut String,
+    source: &mut MemSource,
+    reads: usize,
+) -> Option<()> {
+    for _read in 0..reads {
+        if cutter.read_from(source, 64) == Ok(0) {
+            break;
+        }
+        take_all(cutter, log)?;
+    }
+    if cutter.unread_len() > 0 {
+        tell(log, ", and some is unread")?;
+    }
+    Some(())
+}
+
+/// Puts what comes of a stream of which at most so many bytes come a read, at least one.
+fn put_reads(log: &mut String, alloc: Global, stream: &[u8], most: usize) -> Option<()> {
+    let mut source = MemSource::new(stream.to_vec(alloc).ok()?).at_most(most.max(1));
+    take_read(&mut new_cutter(alloc), log, &mut source, stream.len())
+}
+
+/// What comes of a stream, in two parts that are cut at this place or in reads of at most so many bytes.
+fn parts(alloc: Global, call: &str, stream: &[u8], at: usize) -> Option<String> {
+    let mut log = String::new(alloc);
+    if call == "halves" {
+        put_halves(&mut log, alloc, stream, at)?;
+    } else {
+        put_reads(&mut log, alloc, stream, at)?;
+    }
+    Some(log)
+}
+
+/// Whether just this comes of a stream, in these parts.
+fn is_so(alloc: Global, call: &str, stream: &[u8], at: usize, whole: &str) -> bool {
+    match parts(alloc, call, stream, at) {
+        Some(log) => log.as_str() == whole,
+        None => false,
+    }
+}
+
+/// Tells what comes of a stream, where it is the same in any two parts or in reads of any size.
+fn alike(answer: &mut String, alloc: Global, call: &str, stream: &[u8]) -> Option<()> {
+    let whole = parts(alloc, call, stream, stream.len())?;
+    for at in 0..=stream.len() {
+        if !is_so(alloc, call, stream, at, whole.as_str()) {
+            return tell_number(answer, "otherwise at ", at as u64);
+        }
+    }
+    tell(answer, whole.as_str())
+}
+
+/// Makes a call of streams that are cut, each by a cutter of its own.
+pub fn cut_call(answer: &mut String, alloc: Global, call: &str, words: &Words<'_>) -> Option<()> {
+    match call {
+        "feeds" => feeds(answer, alloc, words.text),
+        "halves" | "reads" => alike(answer, alloc, call, &bytes_of(alloc, words.text).ok()?),
+        _ => None,
+    }
+}
+
+/// A source of these bytes, with a limit for each read, where it is not 0, and the number of the read that fails.
+fn source_of(alloc: Global, words: &Words<'_>) -> Option<MemSource> {
+    let source = MemSource::new(bytes_of(alloc, words.at(0)).ok()?).failing_at(words.number(2));
+    match words.number(1) {
+        0 => Some(source),
+        most => Some(source.at_most(most as usize)),
+    }
+}
+
+/// Reads once into the buffer. Tells how much was read, and what stands there.
+fn read_once(answer: &mut String, streams: &mut Streams) -> Option<()> {
     match streams.source.read(&mut streams.buffer) {
-        Ok(count) => read_told(alloc, count, &streams.buffer),
-        Err(_) => text(alloc, "failed"),
+        Ok(count) => {
+            tell_number(answer, "", count as u64)?;
+            tell_bytes(answer, ": ", &streams.buffer)
+        }
+        Err(_) => tell(answer, "failed"),
     }
 }
 
-/// Reads all there is, by at most 3 bytes a read, through the bound.
-fn read_all<S: Source>(alloc: Global, source: &mut S) -> Result<Vec<u8>, FillFault> {
-    let mut bytes = Vec::new(alloc);
+/// Reads all there is, by at most 3 bytes a read, through the bound. Gives whether no read failed.
+fn read_all<S: Source>(bytes: &mut Vec<u8>, source: &mut S) -> Option<bool> {
     let mut buffer = [0u8; 3];
     for _read in 0..u64::MAX {
         match source.read(&mut buffer) {
             Ok(0) => break,
-            Ok(count) => bytes.extend_from_slice(&buffer[..count])?,
-            Err(failed) => return Err(failed.into()),
+            Ok(count) => bytes.extend_from_slice(&buffer[..count]).ok()?,
+            Err(_) => return Some(false),
         }
     }
-    Ok(bytes)
+    Some(true)
 }
 
-/// All that a source gives.
-fn all_told<S: Source>(alloc: Global, source: &mut S) -> Result<String, AllocError> {
-    match read_all(alloc, source) {
-        Ok(bytes) => shown_or_nothing(alloc, &bytes),
-        Err(FillFault::Read) => text(alloc, "failed"),
-        Err(_) => Err(AllocError),
+/// Tells all that a source gives.
+fn all_told<S: Source>(answer: &mut String, alloc: Global, source: &mut S) -> Option<()> {
+    let mut bytes = Vec::new(alloc);
+    if read_all(&mut bytes, source)? {
+        push_shown(answer, &bytes).ok()
+    } else {
+        tell(answer, "failed")
     }
+}
+
+/// A source takes the place of the one that stands.
+fn renew_source(
+    answer: &mut String,
+    source: &mut MemSource,
+    alloc: Global,
+    words: &Words<'_>,
+) -> Option<()> {
+    put(source, source_of(alloc, words)?);
+    tell(answer, "ok")
 }
 
 /// Makes a call of the source.
-pub fn source_answer(
+pub fn source_call(
+    answer: &mut String,
     streams: &mut Streams,
     alloc: Global,
     call: &str,
     words: &Words<'_>,
-) -> Result<String, AllocError> {
+) -> Option<()> {
     match call {
-        "new" => {
-            streams.source = source_of(alloc, words)?;
-            text(alloc, "ok")
-        }
-        "read" => read(streams, alloc),
-        "read_all" => all_told(alloc, &mut streams.source),
-        _ => no_such_call(alloc),
+        "new" => renew_source(answer, &mut streams.source, alloc, words),
+        "read" => read_once(answer, streams),
+        "read_all" => all_told(answer, alloc, &mut streams.source),
+        _ => None,
     }
 }
 
-/// The sink with a limit for each write, where it is not 0.
-fn limited_sink(sink: MemSink, most: usize) -> MemSink {
+/// A sink with a limit for each write, where it is not 0, and the number of the write that fails.
+fn sink_of(alloc: Global, most: usize, failing: u64) -> MemSink {
+    let sink = MemSink::new(alloc).failing_at(failing);
     if most == 0 {
         return sink;
     }
     sink.at_most(most)
 }
 
-/// Writes once.
-fn write(sink: &mut MemSink, alloc: Global, bytes: &[u8]) -> Result<String, AllocError> {
+/// A sink takes the place of the one that stands.
+fn renew_sink(
+    answer: &mut String,
+    sink: &mut MemSink,
+    alloc: Global,
+    words: &Words<'_>,
+) -> Option<()> {
+    put(
+        sink,
+        sink_of(alloc, words.number(0) as usize, words.number(1)),
+    );
+    tell(answer, "ok")
+}
+
+/// Writes once. Tells how much was taken.
+fn write_once(answer: &mut String, sink: &mut MemSink, bytes: &[u8]) -> Option<()> {
     match sink.write(bytes) {
-        Ok(count) => format!(in alloc; "{count}"),
-        Err(WriteFailed) => text(alloc, "failed"),
+        Ok(count) => tell_number(answer, "", count as u64),
+        Err(WriteFailed) => tell(answer, "failed"),
     }
 }
 
-/// Whether something was written.
-fn written_told(alloc: Global, written: Result<(), WriteFailed>) -> Result<String, AllocError> {
-    match written {
-        Ok(()) => text(alloc, "ok"),
-        Err(WriteFailed) => text(alloc, "failed"),
-    }
-}
-
-/// All that a sink took, in brackets.
-fn taken_told(alloc: Global, bytes: &[u8]) -> Result<String, AllocError> {
-    let mut answer = shown(alloc, "[", bytes)?;
-    answer.push_str("]")?;
-    Ok(answer)
+/// Whether something was done.
+fn whether_done(answer: &mut String, is_done: bool) -> Option<()> {
+    tell(answer, if is_done { "ok" } else { "failed" })
 }
 
 /// Writes each of the words, through the bound, up to a write that fails.
@@ -235,52 +384,91 @@ fn write_words<W: Sink>(sink: &mut W, words: &str) -> Result<(), WriteFailed> {
     Ok(())
 }
 
+/// Tells all that the sink took, in brackets.
+fn taken(answer: &mut String, sink: &MemSink) -> Option<()> {
+    tell_bytes(answer, "[", sink.bytes())?;
+    tell(answer, "]")
+}
+
 /// Makes a call of the sink.
-pub fn sink_answer(
-    streams: &mut Streams,
+pub fn sink_call(
+    answer: &mut String,
+    sink: &mut Streams,
     alloc: Global,
     call: &str,
     words: &Words<'_>,
-) -> Result<String, AllocError> {
-    let sink = &mut streams.sink;
+) -> Option<()> {
+    let sink = &mut sink.sink;
     match call {
-        "new" => {
-            *sink = limited_sink(MemSink::new(alloc), words.number(0) as usize).failing_at(
-                words.number(1),
-            );
-            text(alloc, "ok")
-        }
-        "write" => write(sink, alloc, words.text.as_bytes()),
-        "write_all" => written_told(alloc, write_words(sink, words.text)),
-        "bytes" => taken_told(alloc, sink.bytes()),
-        _ => no_such_call(alloc),
+        "new" => renew_sink(answer, sink, alloc, words),
+        "write" => write_once(answer, sink, words.text.as_bytes()),
+        "write_all" => whether_done(answer, write_words(sink, words.text).is_ok()),
+        "bytes" => taken(answer, sink),
+        _ => None,
     }
 }
 
-/// What a reader over bytes gives, and how many it has left.
-fn raw_read(alloc: Global, bytes: &[u8]) -> Result<String, AllocError> {
+/// Tells what a reader over bytes gives, and whether it has some left.
+fn raw_read(answer: &mut String, alloc: Global, bytes: &[u8]) -> Option<()> {
     let mut source = Raw::new(bytes);
-    let mut answer = all_told(alloc, &mut source)?;
-    if !source.into_inner().is_empty() {
-        answer.push_str(", and some is left")?;
+    all_told(answer, alloc, &mut source)?;
+    if source.into_inner().is_empty() {
+        return Some(());
     }
-    Ok(answer)
+    tell(answer, ", and some is left")
 }
 
-/// What a writer into a list has of the words.
-fn raw_write(alloc: Global, words: &str) -> Result<String, AllocError> {
+/// Tells what a writer into a list has of the words.
+fn raw_write(answer: &mut String, alloc: Global, words: &str) -> Option<()> {
     let mut sink = Raw::new(Vec::new(alloc));
-    if write_words(&mut sink, words).is_err() {
-        return text(alloc, "failed");
+    write_words(&mut sink, words).ok()?;
+    push_shown(answer, &sink.into_inner()).ok()
+}
+
+/// A reader and writer that fails at every call, or takes nothing.
+#[derive(Drop)]
+struct Broken {
+    takes_none: bool,
+}
+
+impl Read for Broken {
+    fn read(&mut self, _buffer: &mut [u8]) -> io::Result<usize> {
+        Err(io::ErrorKind::Interrupted.into())
     }
-    shown_or_nothing(alloc, &sink.into_inner())
+}
+
+impl Write for Broken {
+    fn write(&mut self, _bytes: &[u8]) -> io::Result<usize> {
+        if self.takes_none {
+            return Ok(0);
+        }
+        Err(io::ErrorKind::Interrupted.into())
+    }
+
+    fn flush(&mut self) -> io::Result<()> {
+        Ok(())
+    }
+}
+
+/// Has a cutter read once from what is broken.
+fn broken_cut(answer: &mut String, alloc: Global, broken: &mut Raw<Broken>) -> Option<()> {
+    let mut cutter = new_cutter(alloc);
+    fill(answer, &mut cutter, broken)?;
+    tell_number(answer, ", unread ", cutter.unread_len() as u64)
 }
 
 /// Makes a call of a reader or a writer of std.
-pub fn raw_answer(alloc: Global, call: &str, words: &Words<'_>) -> Result<String, AllocError> {
+pub fn raw_call(answer: &mut String, alloc: Global, call: &str, words: &Words<'_>) -> Option<()> {
+    let mut broken = Raw::new(Broken {
+        takes_none: words.text == "takes none",
+    });
     match call {
-        "read" => raw_read(alloc, words.text.as_bytes()),
-        "write" => raw_write(alloc, words.text),
-        _ => no_such_call(alloc),
+        "read" => raw_read(answer, alloc, words.text.as_bytes()),
+        "write" => raw_write(answer, alloc, words.text),
+        "read_broken" => whether_done(answer, broken.read(&mut [0u8; 3]).is_ok()),
+        "cut_broken" => broken_cut(answer, alloc, &mut broken),
+        "write_broken" => whether_done(answer, broken.write(b"a").is_ok()),
+        "write_all_broken" => whether_done(answer, broken.write_all(b"a").is_ok()),
+        _ => None,
     }
 }

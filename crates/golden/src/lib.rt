@@ -9,24 +9,37 @@
 //! case an_outbox_ends_at_its_room
 //! outbox.new 2|100
 //! times 2 outbox.put +OK => put
+//! times 3..9 outbox.put +OK => put ; outbox.room # => no
 //! ```
 //!
 //! - `case NAME` begins a case, in which nothing stands that an earlier one has made.
-//! - Any other line is a call, ` => `, and its answer; a call alone is answered `ok`. Behind `times N` it is made so often, and has the
-//!   same answer each time.
+//! - Any other line is a call, ` => `, and its answer; a call alone is answered `ok`.
+//! - Behind `times FIRST..LAST` calls with ` ; ` between them are made for each of these numbers, which stands for `#` in them and in their
+//!   answers. `times N` is `times 1..N`. The first call that is answered otherwise ends the line.
 //! - A call is its name, a blank, and its arguments with `|` between them.
 //! - `<<TEXT*N>>` stands for the text N times, in calls and in answers.
 //! - Bytes are written as text in which `\r`, `\n` and `\\` are CR, LF and a backslash, and `\xHH` is any other byte.
 //! - Empty lines are passed over, and lines that begin with `#`.
 //!
-//! In reading order: `lines` cuts a line, `words` its arguments, `texts` reads and shows bytes, and `playing` plays the files.
+//! In reading order: `lines` cuts a line, `words` its arguments, `calls` the name of a call, `texts` reads bytes and tells answers, `values`
+//! reads names, messages and servers, and `playing` plays the files.
 #![tactic(auto)]
 
+mod calls;
 mod lines;
 mod playing;
 mod texts;
+mod values;
 mod words;
 
+pub use calls::{Call, call_of, push_line};
 pub use playing::{Rig, play};
-pub use texts::{bytes_of, push_shown, shown, text, yes_or_no};
+pub use texts::{
+    bytes_of, push_shown, put, shown, tell, tell_bytes, tell_choice, tell_number, tell_refusal,
+    tell_whether, text, told, yes_or_no,
+};
+pub use values::{
+    Life, key_in, key_of, life_in, life_of, message_of, pattern_of, payload_of, push_key, queue_of,
+    queues_of, server_of, sid_of, subject_of,
+};
 pub use words::{Words, number};

@@ -3,52 +3,47 @@
 use crate::words::number;
 
 /// What a line says.
-#[derive(Clone, Copy, Debug)]
+#[derive(Clone, Copy)]
 pub enum Line<'a> {
     /// Nothing: it is empty or a comment.
     Nothing,
     /// The case of this name begins.
     Case(&'a str),
     /// A call, with its answer.
-    Call(Call<'a>),
+    Call(&'a str),
+    /// Calls, once for each of some numbers.
+    Times(Times<'a>),
 }
 
-/// How often a call is made, what is called, and the answer.
-#[derive(Clone, Copy, Debug)]
-pub struct Call<'a> {
-    pub times: u64,
-    pub call: &'a str,
-    pub answer: &'a str,
+/// Calls with their answers, and the first and the last number that they are made for.
+#[derive(Clone, Copy)]
+pub struct Times<'a> {
+    pub first: u64,
+    pub last: u64,
+    pub calls: &'a str,
 }
 
-/// Reads a line.
+/// Reads a line. One that begins with `times` and has no numbers there is a call of that name, which no program has.
 pub fn read_line(text: &str) -> Line<'_> {
     if text.is_empty() || text.starts_with('#') {
         return Line::Nothing;
     }
-    match text.strip_prefix("case ") {
-        Some(name) => Line::Case(name),
-        None => Line::Call(read_call(text)),
+    if let Some(name) = text.strip_prefix("case ") {
+        return Line::Case(name);
+    }
+    match read_times(text) {
+        Some(times) if times.first <= times.last => Line::Times(times),
+        _ => Line::Call(text),
     }
 }
 
-fn read_call(text: &str) -> Call<'_> {
-    let (call, answer) = text.split_once(" => ").unwrap_or((text, "ok"));
-    let (times, call) = repetition(call);
-    Call {
-        times,
-        call,
-        answer,
-    }
-}
-
-/// How often, and what. A number that is none is told as a call of the name `times`, which no program has.
-fn repetition(call: &str) -> (u64, &str) {
-    let Some(rest) = call.strip_prefix("times ") else {
-        return (1, call);
-    };
-    match rest.split_once(' ') {
-        Some((times, call)) if number(times) > 0 => (number(times), call),
-        _ => (1, "times"),
-    }
+/// The calls of a line that begins with `times N` or `times FIRST..LAST`.
+fn read_times(text: &str) -> Option<Times<'_>> {
+    let (numbers, calls) = text.strip_prefix("times ")?.split_once(' ')?;
+    let (first, last) = numbers.split_once("..").unwrap_or(("1", numbers));
+    Some(Times {
+        first: number(first),
+        last: number(last),
+        calls,
+    })
 }

@@ -1,7 +1,7 @@
 //! Files of cases are played.
 
-use crate::lines::{Call, Line, read_line};
-use crate::texts::written_out;
+use crate::lines::{Line, Times, read_line};
+use crate::texts::{put, written_out};
 use crate::words::Words;
 use std::alloc::{AllocError, Global};
 use std::process::ExitCode;
@@ -41,7 +41,8 @@ impl Tally {
     /// The case of this name begins.
     fn begin(&mut self, alloc: Global, name: &str) -> Result<(), AllocError> {
         self.cases = self.cases.saturating_add(1);
-        self.case = String::from_str(alloc, name)?;
+        let case = String::from_str(alloc, name)?;
+        put(&mut self.case, case);
         Ok(())
     }
 
@@ -49,46 +50,89 @@ impl Tally {
     fn note(&mut self, alloc: Global) -> Result<(), AllocError> {
         self.differing = self.differing.saturating_add(1);
         if self.first.is_none() {
-            self.first = Some(String::from_str(alloc, self.case.as_str())?);
+            let first = String::from_str(alloc, self.case.as_str())?;
+            put(&mut self.first, Some(first));
         }
         Ok(())
     }
 }
 
-/// Makes a call once. Gives its answer where that differs from the one beside it.
-fn differing<G: Rig>(
-    alloc: Global,
-    rig: &mut G,
-    call: &Call<'_>,
-) -> Result<Option<String>, AllocError> {
-    let whole = written_out(alloc, call.answer)?;
-    let (name, text) = call.call.split_once(' ').unwrap_or((call.call, ""));
-    let answer = rig.answer(name, &Words { text })?;
-    if answer.as_str() == whole.as_str() {
-        Ok(None)
-    } else {
-        Ok(Some(answer))
-    }
+/// Whether an answer is what was written for it.
+fn is_as_written(alloc: Global, answer: &str, written: &str) -> Result<bool, AllocError> {
+    let whole = written_out(alloc, written)?;
+    Ok(answer == whole.as_str())
 }
 
-/// Makes a call as often as it is to be made, up to the first answer that differs.
+/// Makes a call once.
+fn answer_of<G: Rig>(rig: &mut G, call: &str) -> Result<String, AllocError> {
+    let (name, text) = call.split_once(' ').unwrap_or((call, ""));
+    rig.answer(name, &Words { text })
+}
+
+/// Makes the call of a line, of which what stands behind ` => ` is the answer. Gives whether it is answered so.
 fn play_call<R: Print + Alloc<A = Global>, G: Rig>(
     rt: &R,
     rig: &mut G,
     tally: &mut Tally,
-    call: &Call<'_>,
+    line: &str,
+) -> io::Result<bool> {
+    let (call, written) = line.split_once(" => ").unwrap_or((line, "ok"));
+    let answer = answer_of(rig, call)?;
+    tally.calls = tally.calls.saturating_add(1);
+    if is_as_written(rt.alloc(), answer.as_str(), written)? {
+        return Ok(true);
+    }
+    tally.note(rt.alloc())?;
+    println!(rt; "{}: {call} => {answer}, and not {written}", tally.case)?;
+    Ok(false)
+}
+
+/// Makes the calls of a text, up to the first that is answered otherwise. Gives whether none was.
+fn play_calls<R: Print + Alloc<A = Global>, G: Rig>(
+    rt: &R,
+    rig: &mut G,
+    tally: &mut Tally,
+    calls: &str,
+) -> io::Result<bool> {
+    for call in calls.split(" ; ") {
+        if !play_call(rt, rig, tally, call)? {
+            return Ok(false);
+        }
+    }
+    Ok(true)
+}
+
+/// The text with this number in place of each `#`.
+fn with_number(alloc: Global, text: &str, number: u64) -> Result<String, AllocError> {
+    let digits = number.to_string(alloc)?;
+    text.replace(alloc, '#', digits.as_str())
+}
+
+/// Makes the calls of a line for each number, up to the first that is answered otherwise.
+fn play_times<R: Print + Alloc<A = Global>, G: Rig>(
+    rt: &R,
+    rig: &mut G,
+    tally: &mut Tally,
+    times: &Times<'_>,
 ) -> io::Result<()> {
-    for _time in 0..call.times {
-        tally.calls = tally.calls.saturating_add(1);
-        if let Some(answer) = differing(rt.alloc(), rig, call)? {
-            tally.note(rt.alloc())?;
-            return println!(rt;
-                "{}: {} => {answer}, and not {}",
-                tally.case, call.call, call.answer
-            );
+    for number in times.first..=times.last {
+        let calls = with_number(rt.alloc(), times.calls, number)?;
+        if !play_calls(rt, rig, tally, calls.as_str())? {
+            break;
         }
     }
     Ok(())
+}
+
+/// A case begins.
+fn begin_case<G: Rig>(
+    alloc: Global,
+    rig: &mut G,
+    tally: &mut Tally,
+    name: &str,
+) -> Result<(), AllocError> {
+    tally.begin(alloc, name)?;
+    rig.renew()
 }
 
 /// Plays one line.
@@ -100,11 +144,12 @@ fn play_line<R: Print + Alloc<A = Global>, G: Rig>(
 ) -> io::Result<()> {
     match line {
         Line::Nothing => Ok(()),
-        Line::Case(name) => {
-            tally.begin(rt.alloc(), name)?;
-            Ok(rig.renew()?)
+        Line::Case(name) => Ok(begin_case(rt.alloc(), rig, tally, name)?),
+        Line::Times(times) => play_times(rt, rig, tally, times),
+        Line::Call(line) => {
+            play_call(rt, rig, tally, line)?;
+            Ok(())
         }
-        Line::Call(call) => play_call(rt, rig, tally, call),
     }
 }
 

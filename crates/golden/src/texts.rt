@@ -4,6 +4,7 @@ ghost use Rattle.std.specs.Prelude.{◌<◌};
 
 use crate::words::number;
 use std::alloc::{AllocError, Global};
+use std::fmt::Write;
 
 /// The text with each `<<TEXT*N>>` written out.
 pub fn written_out(alloc: Global, text: &str) -> Result<String, AllocError> {
@@ -79,14 +80,6 @@ pub fn bytes_of(alloc: Global, text: &str) -> Result<Vec<u8>, AllocError> {
     Ok(bytes)
 }
 
-/// Puts a byte that has no character of its own.
-fn push_hex(text: &mut String, byte: u8) -> Result<(), AllocError> {
-    const DIGITS: &[u8; 16] = b"0123456789abcdef";
-    text.push_str("\\x")?;
-    text.push(char::from(DIGITS[byte as usize / 16]))?;
-    text.push(char::from(DIGITS[byte as usize % 16]))
-}
-
 /// Puts the bytes as a file of cases writes them.
 pub fn push_shown(text: &mut String, bytes: &[u8]) -> Result<(), AllocError> {
     for byte in bytes {
@@ -95,7 +88,7 @@ pub fn push_shown(text: &mut String, bytes: &[u8]) -> Result<(), AllocError> {
             b'\n' => text.push_str("\\n")?,
             b'\\' => text.push_str("\\\\")?,
             b' '..=b'~' => text.push(char::from(*byte))?,
-            _ => push_hex(text, *byte)?,
+            byte => write!(text, "\\x{byte:02x}")?,
         }
     }
     Ok(())
@@ -116,4 +109,53 @@ pub fn text(alloc: Global, text: &str) -> Result<String, AllocError> {
 /// The answer to a question.
 pub fn yes_or_no(alloc: Global, is_so: bool) -> Result<String, AllocError> {
     text(alloc, if is_so { "yes" } else { "no" })
+}
+
+/// The value stands in this place from now on.
+pub fn put<T: Drop>(place: &mut T, value: T) {
+    *place = value;
+}
+
+/// What was told, or `nothing` in place of an empty answer. Where a call could not be made, there is none of its name, or one of its words
+/// stands for nothing.
+pub fn told(alloc: Global, answer: String, is_told: Option<()>) -> Result<String, AllocError> {
+    match is_told {
+        Some(()) if answer.is_empty() => text(alloc, "nothing"),
+        Some(()) => Ok(answer),
+        None => text(alloc, "no such call or value"),
+    }
+}
+
+/// Tells this text.
+pub fn tell(answer: &mut String, text: &str) -> Option<()> {
+    answer.push_str(text).ok()
+}
+
+/// Tells this text, and the bytes behind it.
+pub fn tell_bytes(answer: &mut String, before: &str, bytes: &[u8]) -> Option<()> {
+    answer.push_str(before).ok()?;
+    push_shown(answer, bytes).ok()
+}
+
+/// Tells this text, and a number behind it.
+pub fn tell_number(answer: &mut String, before: &str, number: u64) -> Option<()> {
+    write!(answer, "{before}{number}").ok()
+}
+
+/// Tells the number of a refusal.
+pub fn tell_refusal(answer: &mut String, number: u16) -> Option<()> {
+    tell_number(answer, "refused ", u64::from(number))
+}
+
+/// Tells a number, or that there is none.
+pub fn tell_choice(answer: &mut String, number: Option<u64>) -> Option<()> {
+    match number {
+        None => tell(answer, "none"),
+        Some(number) => tell_number(answer, "", number),
+    }
+}
+
+/// Answers a question.
+pub fn tell_whether(answer: &mut String, is_so: bool) -> Option<()> {
+    tell(answer, if is_so { "yes" } else { "no" })
 }

@@ -1,7 +1,7 @@
 //! The arguments of a call.
 
 /// The arguments of a call, with `|` between them.
-#[derive(Clone, Copy, Debug)]
+#[derive(Clone, Copy)]
 pub struct Words<'a> {
     pub text: &'a str,
 }

@@ -1,35 +1,32 @@
-//! A server on threads whose lanes take nothing for a while, as where there is no memory.
+//! A server whose lanes take nothing for a while, as where there is no memory.
 
 use client_calls::Outcome;
 use hub_core::{HubFault, Told};
-use node_threads::NodeName;
 use route_session::{SessionFault, SessionId};
 use route_values::{Numbered, RouteConnect, RouteInfo};
 use server_calls::{HubCalls, ServerCalls};
 use std::alloc::AllocError;
 use std::sync::Wait;
 use std::sync::atomic::{AtomicU64, Ordering};
-use sub_trie::TrieTable;
 use subj::{ConnId, Failure, Pub};
-use thread_node::{HeldHub, HeldShard, ThreadNode};
 
 /// A server, and how many times its hub can hand no jobs to the shards.
 #[derive(Drop)]
-pub struct LanedNode<N: NodeName> {
-    node: ThreadNode<TrieTable, N>,
+pub struct LanedNode<C: ServerCalls> {
+    node: C,
     refusals: AtomicU64,
 }
 
 /// Its hub, held.
 #[derive(Drop)]
-pub struct LanedHub<'n, N: NodeName> {
-    hub: HeldHub<'n, N>,
+pub struct LanedHub<'n, H: HubCalls> {
+    hub: H,
     refusals: &'n AtomicU64,
 }
 
-impl<N: NodeName> LanedNode<N> {
+impl<C: ServerCalls> LanedNode<C> {
     /// This server, whose lanes take nothing so many times.
-    pub fn new(node: ThreadNode<TrieTable, N>, refusals: u64) -> LanedNode<N> {
+    pub fn new(node: C, refusals: u64) -> LanedNode<C> {
         LanedNode {
             node,
             refusals: AtomicU64::new(refusals),
@@ -37,7 +34,7 @@ impl<N: NodeName> LanedNode<N> {
     }
 }
 
-impl<'n, N: NodeName> HubCalls for LanedHub<'n, N> {
+impl<'n, H: HubCalls> HubCalls for LanedHub<'n, H> {
     fn publish(&mut self, conn: ConnId, said: &Pub, word: u64) -> Outcome {
         self.hub.publish(conn, said, word)
     }
@@ -92,34 +89,31 @@ impl<'n, N: NodeName> HubCalls for LanedHub<'n, N> {
     }
 }
 
-impl<'n, N: NodeName> ServerCalls for &'n LanedNode<N> {
-    type Shard = HeldShard<'n, TrieTable, N>;
+impl<'n, C: ServerCalls> ServerCalls for &'n LanedNode<C> {
+    type Shard = C::Shard;
 
-    type Hub = LanedHub<'n, N>;
+    type Hub = LanedHub<'n, C::Hub>;
 
     fn shards(&self) -> u64 {
-        let laned: &'n LanedNode<N> = *self;
+        let laned: &'n LanedNode<C> = *self;
         laned.node.shards()
     }
 
-    fn shard<R: Wait>(&self, rt: &R, number: u64) -> Option<HeldShard<'n, TrieTable, N>> {
-        let laned: &'n LanedNode<N> = *self;
-        let node: &'n ThreadNode<TrieTable, N> = &laned.node;
-        ServerCalls::shard(&node, rt, number)
+    fn shard<R: Wait>(&self, rt: &R, number: u64) -> Option<C::Shard> {
+        let laned: &'n LanedNode<C> = *self;
+        laned.node.shard(rt, number)
     }
 
-    fn hub<R: Wait>(&self, rt: &R) -> LanedHub<'n, N> {
-        let laned: &'n LanedNode<N> = *self;
-        let node: &'n ThreadNode<TrieTable, N> = &laned.node;
+    fn hub<R: Wait>(&self, rt: &R) -> LanedHub<'n, C::Hub> {
+        let laned: &'n LanedNode<C> = *self;
         LanedHub {
-            hub: ServerCalls::hub(&node, rt),
+            hub: laned.node.hub(rt),
             refusals: &laned.refusals,
         }
     }
 
     fn collect<R: Wait>(&self, rt: &R, shard: u64) -> Result<Option<Told>, AllocError> {
-        let laned: &'n LanedNode<N> = *self;
-        let node: &'n ThreadNode<TrieTable, N> = &laned.node;
-        ServerCalls::collect(&node, rt, shard)
+        let laned: &'n LanedNode<C> = *self;
+        laned.node.collect(rt, shard)
     }
 }

@@ -1,10 +1,8 @@
 //! What stands, and whose call a line is.
 
-use crate::calls::{made_told, put, put_call};
-use crate::company_calls::{self, company_of};
+use crate::ends::is_question;
 use crate::mesh::Mesh;
-use crate::playing::is_question;
-use golden::{Rig, Words, text};
+use golden::{Call, Rig, Words, call_of, push_line, put, text, yes_or_no};
 use node_net::Company;
 use std::alloc::{AllocError, Global};
 use std::sync::Wait;
@@ -18,6 +16,31 @@ pub struct NetRig<'r, R: Wait> {
     company: Company,
     /// The calls of this case on servers, one a line.
     calls: String,
+}
+
+/// Servers that have taken nobody, and stop once they have taken so many clients and all of these are gone; those of 0 go on. Nobody is woken
+/// here: `is_over` is asked for.
+fn company_of(alloc: Global, clients: u64) -> Company {
+    let stops_after = (clients > 0).then_some(clients);
+    Company::new(stops_after, Vec::new(alloc))
+}
+
+/// The answer of a call on what the servers of a process share.
+fn company_answer(
+    company: &mut Company,
+    alloc: Global,
+    call: &str,
+    number: u64,
+) -> Result<String, AllocError> {
+    match call {
+        "new" => put(company, company_of(alloc, number)),
+        "take" => company.take(),
+        "lose" => company.lose(number),
+        "fail" => company.fail(),
+        "is_over" => return yes_or_no(alloc, company.is_over()),
+        _ => return text(alloc, "no such call"),
+    }
+    text(alloc, "ok")
 }
 
 impl<'r, R: Wait> NetRig<'r, R> {
@@ -34,8 +57,8 @@ impl<'r, R: Wait> NetRig<'r, R> {
 
     /// A call on servers with connections. One that asks nothing is answered at once, and made when the next one asks.
     fn server_answer(&mut self, name: &str, words: &Words<'_>) -> Result<String, AllocError> {
-        put_call(&mut self.calls, name, words)?;
-        if is_question(name) {
+        push_line(&mut self.calls, name, words)?;
+        if is_question(&call_of(name)) {
             self.mesh.answer(self.rt, self.alloc, self.calls.as_str())
         } else {
             text(self.alloc, "ok")
@@ -52,13 +75,12 @@ impl<'r, R: Wait> Rig for NetRig<'r, R> {
     }
 
     fn answer(&mut self, name: &str, words: &Words<'_>) -> Result<String, AllocError> {
-        let alloc = self.alloc;
-        let (of, call) = name.split_once('.').unwrap_or((name, ""));
+        let Call { of, name: call, .. } = call_of(name);
         match of {
-            "mesh" => made_told(alloc, self.mesh.set(call, words)),
-            "company" => company_calls::answer_of(&mut self.company, alloc, call, words),
+            "mesh" => text(self.alloc, self.mesh.set(call, words)),
+            "company" => company_answer(&mut self.company, self.alloc, call, words.number(0)),
             "stream" | "n1" | "n2" | "link" | "numbers" => self.server_answer(name, words),
-            _ => text(alloc, "no such call"),
+            _ => text(self.alloc, "no such call"),
         }
     }
 }

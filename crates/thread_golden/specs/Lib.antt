@@ -1,4 +1,4 @@
--- races of one shard and of two, with all seats
+-- a race of two shards, with all seats
 pub mod Races
 -- a server of one shard
 pub mod Turns

@@ -1,12 +1,6 @@
--- Races of one shard and of two, with all seats.
+-- A race of two shards, with all seats.
 use Rattle.std.specs.Prelude.{◌≡◌}
 use Rattle.claim_cells.specs.Seats.{RaceId, HubShown, ShardShown}
-
-pub record AreOne (race : RaceId) (hub : HubShown) (seat : ShardShown) : Type 0 where
-  pub count : race.shards ≡ 1
-  pub hubs : hub.race ≡ race
-  pub seats : seat.race ≡ race
-  pub shard_1 : seat.part.shard ≡ 1
 
 pub record AreTwo (race : RaceId) (hub : HubShown) (first second : ShardShown) : Type 0 where
   pub count : race.shards ≡ 2

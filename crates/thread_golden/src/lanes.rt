@@ -1,16 +1,110 @@
-//! Lanes, with both ends.
+//! Lanes, with both ends, and the jobs that pass them: each tells its turn in all that can differ, and is known again by it.
 
-ghost use Rattle.std.specs.Prelude.{◌≡◌, length};
+ghost use Rattle.std.specs.Prelude.{◌≡◌, length, IfSome};
 ghost use Rattle.job_lane.specs.Turns.{AreNumberedBehind};
 
-use crate::jobs::{is_job, last_of, last_of_runs, run_behind};
-use crate::rig::put;
 use bytes::Bytes;
-use golden::{Words, text};
+use golden::{Call, message_of, put, queues_of, text};
 use job_lane::{LaneIn, LaneOut, Run, lane, meet};
 use std::alloc::{AllocError, Global};
 use std::sync::Wait;
-use subj::Turn;
+use subj::{ConnId, Incarnation, Job, Message, NodeId, PubId, QueueName, Turn};
+
+/// A message whose payload is the number.
+pub fn message(alloc: Global, number: u64) -> Option<Message> {
+    let digits = number.to_string(alloc).ok()?;
+    message_of(alloc, "orders.new", "answers.1", digits.as_str())
+}
+
+fn id(number: u64) -> Option<PubId> {
+    Some(PubId {
+        origin: NodeId::read(b"n1").ok()?,
+        inc: Incarnation::new(4)?,
+        number,
+    })
+}
+
+/// A job that tells its turn in all that can differ.
+fn job(alloc: Global, turn: Turn) -> Option<Job>
+    ensures { IfSome result (λ job. job.turn ≡ turn) }
+{
+    let number = turn.get();
+    let id = id(number)?;
+    let queues = queues_of(alloc, "audit tasks")??;
+    let message = message(alloc, number)?;
+    Some(Job {
+        turn,
+        id,
+        message,
+        publisher: Some(ConnId::new(number)),
+        echo: number % 2 == 1,
+        queues,
+    })
+}
+
+/// Whether the message is as it was made for this number.
+fn is_message(message: &Message, number: u64) -> bool {
+    let payload = str::from_utf8(message.payload().as_slice()).unwrap_or("");
+    message.subject().bytes() == b"orders.new".as_slice()
+        && message.reply().is_some()
+        && golden::number(payload) == number
+}
+
+fn are_names(names: &[QueueName]) -> bool {
+    match names {
+        [first, second] => first.bytes() == b"audit".as_slice()
+            && second.bytes() == b"tasks".as_slice(),
+        _ => false,
+    }
+}
+
+/// Whether each part of the job is as it was made for this turn.
+fn is_job(job: &Job, number: u64) -> bool {
+    job.turn.get() == number
+        && Some(job.id) == id(number)
+        && job.publisher == Some(ConnId::new(number))
+        && job.echo == (number % 2 == 1)
+        && is_message(&job.message, number)
+        && are_names(job.queues.as_slice())
+}
+
+/// A run of so many jobs behind this turn.
+pub fn run_behind(alloc: Global, last: Turn, count: u64) -> Option<Run>
+    ensures turns { IfSome result (AreNumberedBehind last) }
+{
+    let mut turn = last;
+    let mut jobs = Vec::new(alloc);
+    for _made in 0..count {
+        turn = turn.next()?;
+        let job = job(alloc, turn)?;
+        jobs.push(job).ok()?;
+    }
+    if jobs.is_empty() {
+        return None;
+    }
+    Run::new(alloc, jobs).ok()
+}
+
+/// The number of the last of these jobs, where they are those behind the first `before`.
+fn last_of(jobs: &[Job], before: u64) -> Option<u64> {
+    let mut number = before;
+    for job in jobs {
+        number = number.saturating_add(1);
+        if !is_job(job, number) {
+            return None;
+        }
+    }
+    Some(number)
+}
+
+/// The same of the jobs of these runs.
+fn last_of_runs(runs: &[Run], before: u64) -> Option<u64> {
+    let mut number = before;
+    for run in runs {
+        number = last_of(run.jobs(), number)?;
+    }
+    Some(number)
+}
 
 /// Both ends of one lane, the turn of the last job pushed, and that of the last one popped.
 #[derive(Drop)]
@@ -71,38 +165,17 @@ impl Both {
         }
     }
 
-    /// What waits longest is taken into hand: its turn. None where nothing waits and nothing is in hand then; 0 where what is in hand is
-    /// another job.
-    fn pop<R: Wait>(&mut self, rt: &R) -> Option<u64> {
+    /// Takes into hand what waits longest: whether there was something. Something else than the job behind the last one popped is counted as
+    /// many.
+    fn pops<R: Wait>(&mut self, rt: &R) -> bool {
+        let next = self.popped.saturating_add(1);
         let turn = self.reader.pop(rt).map(Turn::get);
         match (turn, self.reader.in_hand()) {
-            (Some(turn), Some(job)) if is_job(job, turn) => Some(turn),
-            (None, None) => None,
-            _ => Some(0),
-        }
-    }
-
-    /// Takes so many jobs into hand, one after the other: whether they are those behind the last one that was.
-    fn pops<R: Wait>(&mut self, rt: &R, count: u64) -> bool {
-        for _pop in 0..count {
-            self.popped = self.popped.saturating_add(1);
-            if self.pop(rt) != Some(self.popped) {
-                return false;
-            }
+            (None, None) => return false,
+            (Some(turn), Some(job)) if turn == next && is_job(job, turn) => self.popped = next,
+            _ => self.popped = u64::MAX,
         }
         true
-    }
-
-    /// Puts the ends together: the number of the last job that is left, where those left are the ones behind the last one popped.
-    fn meet<R: Wait>(self, rt: &R) -> Option<u64> {
-        let Both {
-            writer,
-            reader,
-            popped,
-            last: _,
-        } = self;
-        let left = meet(rt, writer, reader);
-        last_of_runs(&left, popped)
     }
 }
 
@@ -116,75 +189,45 @@ fn back_word(last: Turn, back: &Run) -> &'static str {
     }
 }
 
-/// What is told of a run that was pushed, or came back; it stands behind this turn.
-fn push_told(alloc: Global, last: Turn, back: Option<Run>) -> Result<String, AllocError> {
-    match back {
-        None => text(alloc, "pushed"),
-        Some(back) => text(alloc, back_word(last, &back)),
-    }
-}
-
 /// Pushes a run of so many new jobs.
-fn push<R: Wait>(rt: &R, both: &mut Both, alloc: Global, count: u64) -> Result<String, AllocError> {
+fn push<R: Wait>(rt: &R, both: &mut Both, alloc: Global, count: u64) -> &'static str {
     let last = both.last;
     let Some(run) = run_behind(alloc, last, count) else {
-        return text(alloc, "no run");
+        return "no run";
     };
-    let back = both.push(rt, run);
-    push_told(alloc, last, back)
-}
-
-fn pop_told(alloc: Global, turn: Option<u64>) -> Result<String, AllocError> {
-    match turn {
-        None => text(alloc, "none"),
-        Some(turn) => format!(in alloc; "job {turn}"),
+    match both.push(rt, run) {
+        None => "pushed",
+        Some(back) => back_word(last, &back),
     }
 }
 
-/// Pops so many jobs.
-fn pop_each<R: Wait>(
-    rt: &R,
-    both: &mut Both,
-    alloc: Global,
-    count: u64,
-) -> Result<String, AllocError> {
+/// Pops so many jobs, or those that wait: which they are.
+fn pop<R: Wait>(rt: &R, both: &mut Both, alloc: Global, count: u64) -> Result<String, AllocError> {
     let first = both.popped.saturating_add(1);
-    if !both.pops(rt, count) {
-        return text(alloc, "another job");
+    for _pop in 0..count {
+        if !both.pops(rt) {
+            break;
+        }
+    }
+    if both.popped < first {
+        return text(alloc, "none");
     }
     format!(in alloc; "jobs {first} to {}", both.popped)
 }
 
-/// What is told of the jobs that are left behind those popped.
-fn left_told(alloc: Global, popped: u64, last: Option<u64>) -> Result<String, AllocError> {
-    match last {
+/// Puts the ends together: which jobs are left, where those are the ones behind the last one popped.
+fn meet_told<R: Wait>(rt: &R, both: Both, alloc: Global) -> Result<String, AllocError> {
+    let Both {
+        writer,
+        reader,
+        popped,
+        last: _,
+    } = both;
+    let left = meet(rt, writer, reader);
+    match last_of_runs(&left, popped) {
         None => text(alloc, "other jobs are left"),
         Some(last) if last == popped => text(alloc, "none is left"),
         Some(last) => format!(in alloc; "jobs {} to {last} are left", popped.saturating_add(1)),
-    }
-}
-
-fn meet_told<R: Wait>(rt: &R, both: Both, alloc: Global) -> Result<String, AllocError> {
-    let popped = both.popped;
-    left_told(alloc, popped, both.meet(rt))
-}
-
-/// A call on a lane.
-fn call<R: Wait>(
-    rt: &R,
-    lane: &mut Option<Both>,
-    alloc: Global,
-    name: &str,
-    words: &Words<'_>,
-) -> Result<String, AllocError> {
-    let Some(both) = lane else {
-        return text(alloc, "no lane");
-    };
-    match name {
-        "push" => push(rt, both, alloc, words.number(0)),
-        "pop" => pop_told(alloc, both.pop(rt)),
-        "pop_each" => pop_each(rt, both, alloc, words.number(0)),
-        _ => text(alloc, "no such call"),
     }
 }
 
@@ -194,10 +237,28 @@ fn renew(lane: &mut Option<Both>, alloc: Global, capacity: usize) -> Result<Stri
     text(alloc, "ok")
 }
 
-fn meet_of<R: Wait>(rt: &R, lane: &mut Option<Both>, alloc: Global) -> Result<String, AllocError> {
+fn close<R: Wait>(rt: &R, lane: &mut Option<Both>, alloc: Global) -> Result<String, AllocError> {
     match lane.take() {
         Some(both) => meet_told(rt, both, alloc),
         None => text(alloc, "no lane"),
+    }
+}
+
+/// A call on a lane that stands.
+fn call<R: Wait>(
+    rt: &R,
+    lane: &mut Option<Both>,
+    alloc: Global,
+    call: &str,
+    number: u64,
+) -> Result<String, AllocError> {
+    let Some(both) = lane else {
+        return text(alloc, "no lane");
+    };
+    match call {
+        "push" => text(alloc, push(rt, both, alloc, number)),
+        "pop" => pop(rt, both, alloc, number),
+        _ => text(alloc, "no such call"),
     }
 }
 
@@ -207,12 +268,12 @@ fn lane_answer<R: Wait>(
     lane: &mut Option<Both>,
     alloc: Global,
     name: &str,
-    words: &Words<'_>,
+    number: u64,
 ) -> Result<String, AllocError> {
     match name {
-        "new" => renew(lane, alloc, words.number(0) as usize),
-        "meet" => meet_of(rt, lane, alloc),
-        _ => call(rt, lane, alloc, name, words),
+        "new" => renew(lane, alloc, number as usize),
+        "meet" => close(rt, lane, alloc),
+        _ => call(rt, lane, alloc, name, number),
     }
 }
 
@@ -235,59 +296,42 @@ fn push_both<R: Wait>(rt: &R, first: &mut Both, second: &mut Both, run: Run) -> 
 }
 
 /// Hands one new run of so many jobs to both lanes, and keeps the payload of its first job.
-fn share<R: Wait>(
-    rt: &R,
-    lanes: &mut Lanes,
-    alloc: Global,
-    count: u64,
-) -> Result<String, AllocError> {
+fn share<R: Wait>(rt: &R, lanes: &mut Lanes, alloc: Global, count: u64) -> &'static str {
     let (Some(first), Some(second)) = (&mut lanes.first, &mut lanes.second) else {
-        return text(alloc, "no lanes");
+        return "no lanes";
     };
     let Some(run) = run_behind(alloc, first.last, count) else {
-        return text(alloc, "no run");
+        return "no run";
     };
     put(&mut lanes.payload, payload_of(&run));
-    text(
-        alloc,
-        if push_both(rt, first, second, run) {
-            "pushed"
-        } else {
-            "comes back"
-        },
-    )
-}
-
-/// Whether something but the case has the payload still.
-fn payload_told(alloc: Global, payload: &Option<Bytes>) -> Result<String, AllocError> {
-    match payload {
-        None => text(alloc, "no payload"),
-        Some(payload) => text(alloc, if payload.is_unique() { "freed" } else { "kept" }),
+    if push_both(rt, first, second, run) {
+        "pushed"
+    } else {
+        "comes back"
     }
 }
 
-/// The answer of a call on the first lane, or on both.
+/// Whether something but the case has the payload still.
+fn payload_word(payload: &Option<Bytes>) -> &'static str {
+    match payload {
+        None => "no payload",
+        Some(payload) if payload.is_unique() => "freed",
+        Some(_) => "kept",
+    }
+}
+
+/// The answer of a call on the first lane, on both, or on the other one.
 pub fn answer_of<R: Wait>(
     rt: &R,
     lanes: &mut Lanes,
     alloc: Global,
-    name: &str,
-    words: &Words<'_>,
+    line: &Call<'_>,
+    number: u64,
 ) -> Result<String, AllocError> {
-    match name {
-        "share" => share(rt, lanes, alloc, words.number(0)),
-        "payload" => payload_told(alloc, &lanes.payload),
-        _ => lane_answer(rt, &mut lanes.first, alloc, name, words),
+    match (line.of, line.name) {
+        (_, "share") => text(alloc, share(rt, lanes, alloc, number)),
+        (_, "payload") => text(alloc, payload_word(&lanes.payload)),
+        ("lane", call) => lane_answer(rt, &mut lanes.first, alloc, call, number),
+        (_, call) => lane_answer(rt, &mut lanes.second, alloc, call, number),
     }
-}
-
-/// The answer of a call on the second lane.
-pub fn other_answer_of<R: Wait>(
-    rt: &R,
-    lanes: &mut Lanes,
-    alloc: Global,
-    name: &str,
-    words: &Words<'_>,
-) -> Result<String, AllocError> {
-    lane_answer(rt, &mut lanes.second, alloc, name, words)
 }

@@ -1,28 +1,21 @@
 //! What stands, and whose call a line is.
 
 use crate::lanes::Lanes;
-use crate::races::Races;
-use crate::single::Single;
-use crate::{lanes, race_calls, single, turn_calls};
-use golden::{Rig, Words, text};
+use crate::races::Two;
+use crate::{lanes, nodes, races, turn_calls};
+use golden::{Rig, Words, call_of, push_line, put, text};
 use std::alloc::{AllocError, Global};
 use std::sync::Wait;
-
-/// Puts a value in the place of another one: what is let go of here would be proved anew wherever this is done.
-pub fn put<T: Drop>(place: &mut T, value: T) {
-    *place = value;
-}
 
 /// What a case has made.
 #[derive(Drop)]
 pub struct ThreadRig<'r, R: Wait> {
     rt: &'r R,
     alloc: Global,
-    races: Races,
-    single: Option<Single>,
+    race: Option<Two>,
     lanes: Lanes,
-    /// The calls of this case on a shard, one a line.
-    turns: String,
+    /// The calls of this case on a shard or on a server, one a line.
+    calls: String,
 }
 
 impl<'r, R: Wait> ThreadRig<'r, R> {
@@ -31,34 +24,45 @@ impl<'r, R: Wait> ThreadRig<'r, R> {
         ThreadRig {
             rt,
             alloc,
-            races: Races::new(),
-            single: None,
+            race: None,
             lanes: Lanes::new(),
-            turns: String::new(alloc),
+            calls: String::new(alloc),
+        }
+    }
+
+    /// A call on a shard or on a server: the answer of the last of all of them.
+    fn last_answer(
+        &mut self,
+        of: &str,
+        name: &str,
+        words: &Words<'_>,
+    ) -> Result<String, AllocError> {
+        push_line(&mut self.calls, name, words)?;
+        match of {
+            "alone" => turn_calls::alone_answer(self.rt, self.alloc, &self.calls),
+            "beside" => turn_calls::beside_answer(self.rt, self.alloc, &self.calls),
+            _ => nodes::answer(self.rt, self.alloc, &self.calls),
         }
     }
 }
 
 impl<'r, R: Wait> Rig for ThreadRig<'r, R> {
     fn renew(&mut self) -> Result<(), AllocError> {
-        put(&mut self.races, Races::new());
-        put(&mut self.single, None);
+        put(&mut self.race, None);
         put(&mut self.lanes, Lanes::new());
-        put(&mut self.turns, String::new(self.alloc));
+        put(&mut self.calls, String::new(self.alloc));
         Ok(())
     }
 
     fn answer(&mut self, name: &str, words: &Words<'_>) -> Result<String, AllocError> {
         let alloc = self.alloc;
-        let (of, call) = name.split_once('.').unwrap_or((name, ""));
-        match of {
-            "race" => race_calls::answer_of(&mut self.races, alloc, call, words),
-            "single" => single::answer_of(&mut self.single, alloc, call, words),
-            "lane" => lanes::answer_of(self.rt, &mut self.lanes, alloc, call, words),
-            "other" => lanes::other_answer_of(self.rt, &mut self.lanes, alloc, call, words),
-            "alone" | "beside" => {
-                turn_calls::answer_of(self.rt, &mut self.turns, alloc, name, words)
+        let line = call_of(name);
+        match line.of {
+            "race" => races::answer_of(&mut self.race, alloc, line.name, words),
+            "lane" | "other" => {
+                lanes::answer_of(self.rt, &mut self.lanes, alloc, &line, words.number(0))
             }
+            "alone" | "beside" | "node" | "pass" => self.last_answer(line.of, name, words),
             _ => text(alloc, "no such call"),
         }
     }

@@ -1,0 +1,354 @@
+//! Calls of what a client and its server tell each other: refusals, lines of clients, frames of the server, and what a connection asks.
+
+use crate::names::message_in;
+use client_conn::{Ask, Conn, Refusal};
+use client_frames::{
+    ClientLine, Delivery, ErrText, InfoData, LineFault, MessageLines, PubHead, ReplyFrame,
+    ServerFrame, SharedTexts, decode_line, encode, info_text, message_line, reply_line,
+};
+use golden::{
+    Words, bytes_of, life_in, number, push_key, push_shown, put, sid_of, tell, tell_bytes,
+    tell_number, tell_refusal,
+};
+use std::alloc::Global;
+use std::fmt::Write;
+use subj::{ConnId, Failure, Key, Pattern, Pub, QueueName, Sid};
+use wire_cut::CutFault;
+
+/// The text of this name.
+fn err_text(name: &str) -> Option<ErrText> {
+    Some(match name {
+        "MaximumControlLineExceeded" => ErrText::MaximumControlLineExceeded,
+        "MaximumPayloadViolation" => ErrText::MaximumPayloadViolation,
+        "ParserError" => ErrText::ParserError,
+        "UnknownProtocolOperation" => ErrText::UnknownProtocolOperation,
+        "SlowConsumer" => ErrText::SlowConsumer,
+        "InvalidSubject" => ErrText::InvalidSubject,
+        "TooManyQueueGroups" => ErrText::TooManyQueueGroups,
+        "TooManySubscriptions" => ErrText::TooManySubscriptions,
+        "NumbersSpent" => ErrText::NumbersSpent,
+        _ => return None,
+    })
+}
+
+/// Tells the line of a text, and whether the connection ends behind it.
+fn text_told(answer: &mut String, told: ErrText) -> Option<()> {
+    let before = if told.closes() { "closes: " } else { "stays: " };
+    tell_bytes(answer, before, told.line())
+}
+
+/// Tells the number of a refused line, and what the client is told.
+fn line_fault(answer: &mut String, fault: LineFault) -> Option<()> {
+    tell_number(answer, "", u64::from(fault.number()))?;
+    tell_bytes(answer, ", ", ErrText::of_line(fault).line())
+}
+
+/// Tells the number of the cause for which bytes are no line or no payload, and what the client is told.
+fn cut_fault(answer: &mut String, fault: CutFault) -> Option<()> {
+    tell_number(answer, "", u64::from(fault.number()))?;
+    tell_bytes(answer, ", ", ErrText::of_cut(fault).line())
+}
+
+/// Makes a call of the fault or the text of this name.
+pub fn fault_call(answer: &mut String, call: &str, name: &str) -> Option<()> {
+    match name {
+        _ if call == "text" => text_told(answer, err_text(name)?),
+        "UnknownOp" => line_fault(answer, LineFault::UnknownOp),
+        "BadArgs" => line_fault(answer, LineFault::BadArgs),
+        "BadJson" => line_fault(answer, LineFault::BadJson),
+        "BadSubject" => line_fault(answer, LineFault::BadSubject),
+        "LineTooLong" => cut_fault(answer, CutFault::LineTooLong),
+        "PayloadTooLong" => cut_fault(answer, CutFault::PayloadTooLong),
+        "NoCrLfAfterPayload" => cut_fault(answer, CutFault::NoCrLfAfterPayload),
+        _ => None,
+    }
+}
+
+/// What a server tells of itself: its name and incarnation, the number of the connection, and the port.
+fn info_of(word: &str) -> Option<InfoData> {
+    let (life, rest) = word.split_once(", ")?;
+    let (conn, port) = rest.split_once(", ")?;
+    let life = life_in(life)?;
+    Some(InfoData {
+        name: life.name,
+        inc: life.inc,
+        client_id: ConnId::new(number(conn)),
+        port: port.parse().ok()?,
+    })
+}
+
+/// The reply that a word is: `pong`, `ok`, `err` and the name of its text, or `info` and
+/// what a server tells of itself, as in `info n1 1, 1, 4222`.
+pub fn reply_of(word: &str) -> Option<ReplyFrame> {
+    let (kind, rest) = word.split_once(' ').unwrap_or((word, ""));
+    match kind {
+        "pong" => Some(ReplyFrame::Pong),
+        "ok" => Some(ReplyFrame::Ok),
+        "err" => Some(ReplyFrame::Err(err_text(rest)?)),
+        "info" => Some(ReplyFrame::Info(info_of(rest)?)),
+        _ => None,
+    }
+}
+
+/// Encodes a frame behind other bytes, once more where there was no memory, and these have to stay as they were.
+fn encode_behind(out: &mut Vec<u8>, frame: &ServerFrame) -> Option<()> {
+    if encode(frame, out).is_ok() {
+        return Some(());
+    }
+    if out.as_slice() != b"before ".as_slice() {
+        return None;
+    }
+    encode(frame, out).ok()
+}
+
+/// Tells the bytes of a frame behind other ones.
+fn frame_told(answer: &mut String, alloc: Global, frame: &ServerFrame) -> Option<()> {
+    let mut out = Vec::from_slice(alloc, b"before ").ok()?;
+    encode_behind(&mut out, frame)?;
+    push_shown(answer, &out).ok()
+}
+
+/// Tells the line of a reply.
+fn line_of_reply(answer: &mut String, alloc: Global, reply: &ReplyFrame) -> Option<()> {
+    let line = reply_line(alloc, reply).ok()?;
+    push_shown(answer, &line).ok()
+}
+
+/// Makes a call of a reply.
+pub fn reply_call(answer: &mut String, alloc: Global, call: &str, word: &str) -> Option<()> {
+    let reply = reply_of(word)?;
+    match call {
+        "line" => line_of_reply(answer, alloc, &reply),
+        "bytes" => frame_told(answer, alloc, &ServerFrame::Reply(reply)),
+        _ => None,
+    }
+}
+
+/// Tells the text of what a server tells of itself.
+pub fn info_call(answer: &mut String, alloc: Global, word: &str) -> Option<()> {
+    let told = info_text(alloc, &info_of(word)?).ok()?;
+    tell(answer, told.as_str())
+}
+
+/// The delivery of a message to a subscription, which is the fourth word.
+fn delivery_of(alloc: Global, words: &Words<'_>) -> Option<Delivery> {
+    let sid = sid_of(alloc, words.at(3))?;
+    let message = message_in(alloc, words)?;
+    Some(Delivery { message, sid })
+}
+
+/// Tells the line of a message, made for this subscription alone.
+fn lone_line(answer: &mut String, alloc: Global, delivery: &Delivery) -> Option<()> {
+    let line = message_line(alloc, &delivery.message, &delivery.sid).ok()?;
+    push_shown(answer, &line).ok()
+}
+
+/// Tells the line of a message, of those made for all its subscriptions.
+fn shared_line(answer: &mut String, alloc: Global, delivery: &Delivery) -> Option<()> {
+    let lines = MessageLines::new(alloc, &delivery.message).ok()?;
+    let line = lines.line(&delivery.sid).ok()?;
+    push_shown(answer, &line).ok()
+}
+
+/// Makes a call of the delivery of a message: its subject, its reply, its payload and the subscription.
+pub fn delivery_call(
+    answer: &mut String,
+    alloc: Global,
+    call: &str,
+    words: &Words<'_>,
+) -> Option<()> {
+    let delivery = delivery_of(alloc, words)?;
+    match call {
+        "line" => lone_line(answer, alloc, &delivery),
+        "shared_line" => shared_line(answer, alloc, &delivery),
+        "bytes" => frame_told(answer, alloc, &ServerFrame::Msg(delivery)),
+        _ => None,
+    }
+}
+
+/// Whether an option is on, in a word.
+fn on_or_off(option: bool) -> &'static str {
+    if option { "on" } else { "off" }
+}
+
+/// Tells what is published, but for its payload. A bar stands where there is no reply.
+fn head_told(answer: &mut String, head: &PubHead) -> Option<()> {
+    tell_bytes(answer, "pub ", head.subject.bytes())?;
+    match &head.reply {
+        None => tell(answer, " |")?,
+        Some(reply) => tell_bytes(answer, " ", reply.bytes())?,
+    }
+    tell_number(answer, " ", head.size)
+}
+
+/// Tells what is subscribed to. A bar stands where there is no queue name.
+fn sub_told<'a>(
+    answer: &mut String,
+    pattern: &'a Pattern,
+    queue: &'a Option<QueueName>,
+    sid: &'a Sid,
+) -> Option<()> {
+    tell_bytes(answer, "sub ", pattern.bytes())?;
+    match queue {
+        None => tell(answer, " |")?,
+        Some(queue) => tell_bytes(answer, " ", queue.bytes())?,
+    }
+    tell_bytes(answer, " ", sid.bytes())
+}
+
+/// Tells the end of a subscription, now or behind so many messages.
+fn unsub_told(answer: &mut String, before: &str, sid: &Sid, max: Option<u64>) -> Option<()> {
+    tell_bytes(answer, before, sid.bytes())?;
+    match max {
+        None => Some(()),
+        Some(max) => tell_number(answer, " ", max),
+    }
+}
+
+/// Tells what a line asks for.
+fn line_told(answer: &mut String, line: &ClientLine) -> Option<()> {
+    match line {
+        ClientLine::Connect(options) => {
+            let (verbose, echo) = (on_or_off(options.verbose), on_or_off(options.echo));
+            write!(answer, "connect {verbose} {echo}").ok()
+        }
+        ClientLine::Pub(head) => head_told(answer, head),
+        ClientLine::PubBad { size } => tell_number(answer, "bad ", *size),
+        ClientLine::Sub {
+            pattern,
+            queue,
+            sid,
+        } => sub_told(answer, pattern, queue, sid),
+        ClientLine::Unsub { sid, max } => unsub_told(answer, "unsub ", sid, *max),
+        ClientLine::Ping => tell(answer, "ping"),
+        ClientLine::Pong => tell(answer, "pong"),
+    }
+}
+
+/// Keeps the subject of a publication for the lines behind it.
+fn keep_subject(texts: &mut SharedTexts, line: ClientLine) {
+    if let ClientLine::Pub(PubHead { subject, .. }) = line {
+        texts.keep(subject);
+    }
+}
+
+/// Tells what a line asks for, which is then used up.
+fn use_line(answer: &mut String, texts: &mut SharedTexts, line: ClientLine) -> Option<()> {
+    let told = line_told(answer, &line);
+    keep_subject(texts, line);
+    told
+}
+
+/// Tells what the bytes ask for, or the number of the refusal.
+fn read(answer: &mut String, texts: &mut SharedTexts, bytes: &[u8]) -> Option<()> {
+    match decode_line(texts, bytes) {
+        Ok(line) => use_line(answer, texts, line),
+        Err(Failure::Refused(fault)) => tell_refusal(answer, fault.number()),
+        Err(Failure::OutOfMemory) => None,
+    }
+}
+
+/// Makes a call of a line, of a client of its own or of the one whose texts these are.
+pub fn line_call(
+    answer: &mut String,
+    texts: &mut SharedTexts,
+    alloc: Global,
+    call: &str,
+    word: &str,
+) -> Option<()> {
+    let bytes = bytes_of(alloc, word).ok()?;
+    match call {
+        "read" => read(answer, &mut SharedTexts::new(alloc), &bytes),
+        "next" => read(answer, texts, &bytes),
+        _ => None,
+    }
+}
+
+/// Tells the line that a client is to be told; of the first one its operation.
+fn reply_told(answer: &mut String, reply: &ReplyFrame) -> Option<()> {
+    match reply {
+        ReplyFrame::Info(_) => tell(answer, "INFO"),
+        ReplyFrame::Ok => tell(answer, "+OK"),
+        ReplyFrame::Pong => tell(answer, "PONG"),
+        ReplyFrame::Err(told) => tell_bytes(answer, "", told.line()),
+    }
+}
+
+/// Tells of a subscription to be opened.
+fn subscription_told(answer: &mut String, key: &Key, sid: &Sid) -> Option<()> {
+    tell(answer, "subscribe ")?;
+    push_key(answer, key).ok()?;
+    tell_bytes(answer, " ", sid.bytes())
+}
+
+/// Tells of a publication to be made, and whether the client's own subscriptions may get it.
+fn publication_told(answer: &mut String, publication: &Pub) -> Option<()> {
+    let what = if publication.echo {
+        "publish "
+    } else {
+        "publish to others "
+    };
+    tell_bytes(answer, what, publication.message.subject().bytes())
+}
+
+/// Tells what is asked.
+fn ask_told(answer: &mut String, ask: &Ask) -> Option<()> {
+    match ask {
+        Ask::Reply(reply) => reply_told(answer, reply),
+        Ask::Shut(told) => tell_bytes(answer, "shut ", told.line()),
+        Ask::Subscribe { key, sid } => subscription_told(answer, key, sid),
+        Ask::Unsubscribe { sid, max } => unsub_told(answer, "unsubscribe ", sid, *max),
+        Ask::Publish(publication) => publication_told(answer, publication),
+    }
+}
+
+/// The answer that a word is.
+fn answer_in(word: &str) -> Result<(), Refusal> {
+    match word {
+        "busy" => Err(Refusal::Busy),
+        "too many subscriptions" => Err(Refusal::TooManySubscriptions),
+        "numbers spent" => Err(Refusal::NumbersSpent),
+        "too many queue groups" => Err(Refusal::TooManyQueueGroups),
+        "other" => Err(Refusal::Other),
+        _ => Ok(()),
+    }
+}
+
+/// Answers the next ask, and tells it.
+fn ask(answer: &mut String, conn: &mut Conn, word: &str) -> Option<()> {
+    match conn.next().ok()? {
+        None => return tell(answer, "nothing"),
+        Some(ask) => ask_told(answer, ask)?,
+    }
+    conn.answer(answer_in(word));
+    Some(())
+}
+
+/// Feeds the connection.
+fn feed(answer: &mut String, conn: &mut Conn, alloc: Global, word: &str) -> Option<()> {
+    let bytes = bytes_of(alloc, word).ok()?;
+    conn.feed(&bytes).ok()?;
+    tell(answer, "ok")
+}
+
+/// A connection of a client that is told this first takes the place of the one that stands.
+fn renew(answer: &mut String, conn: &mut Option<Conn>, alloc: Global, word: &str) -> Option<()> {
+    put(conn, Some(Conn::new(alloc, info_of(word)?)));
+    tell(answer, "ok")
+}
+
+/// Makes a call of the connection.
+pub fn conn_call(
+    answer: &mut String,
+    conn: &mut Option<Conn>,
+    alloc: Global,
+    call: &str,
+    word: &str,
+) -> Option<()> {
+    match conn {
+        _ if call == "new" => renew(answer, conn, alloc, word),
+        Some(conn) if call == "feed" => feed(answer, conn, alloc, word),
+        Some(conn) if call == "ask" => ask(answer, conn, word),
+        _ => None,
+    }
+}

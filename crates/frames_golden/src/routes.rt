@@ -1,0 +1,609 @@
+//! Calls of frames of routes: they are read or built, told and written, alone and in streams; and when two values are the same.
+
+use crate::client::reply_of;
+use bytes::Bytes;
+use golden::{
+    Words, bytes_of, key_in, life_in, message_of, number, push_key, push_shown, put, queues_of,
+    sid_of, tell, tell_bytes, tell_number, tell_refusal,
+};
+use route_frames::{
+    Body, Numbered, RouteConnect, RouteFault, RouteFrame, RouteInfo, RouteLine, SnapshotKeys,
+    WeightedKey, decode, encode, payload_size,
+};
+use std::alloc::Global;
+use std::fmt::Write;
+use std::mem;
+use subj::{Failure, Key, MAX_SNAPSHOT, Message, Pub, QueueName, ROUTE_LINE};
+use value_equality::{
+    is_same_answer, is_same_connect, is_same_frame, is_same_info, is_same_key, is_same_message,
+    is_same_pub, is_same_sid,
+};
+use wire_cut::{Cutter, Piece};
+
+/// The frame and the keys that the calls of a case speak of.
+#[derive(Drop)]
+pub struct Routes {
+    frame: Option<RouteFrame>,
+    /// What was written of frames.
+    written: Vec<u8>,
+    /// Keys that are gathered for a snapshot.
+    keys: Vec<WeightedKey>,
+    snapshot: Option<SnapshotKeys>,
+}
+
+impl Routes {
+    /// There is no frame, nothing is written, and there are no keys.
+    pub fn new(alloc: Global) -> Routes {
+        Routes {
+            frame: None,
+            written: Vec::new(alloc),
+            keys: Vec::new(alloc),
+            snapshot: None,
+        }
+    }
+}
+
+/// The key with the weight that stands behind it, where it may have that.
+fn weighted_of(alloc: Global, word: &str) -> Option<Option<WeightedKey>> {
+    let (key, weight) = word.rsplit_once(' ')?;
+    let key = key_in(alloc, key)?;
+    Some(WeightedKey::new(key, number(weight)))
+}
+
+/// Gathers the keys of a text, with `, ` between them.
+fn gather(keys: &mut Vec<WeightedKey>, alloc: Global, text: &str) -> Option<()> {
+    for word in text.split(", ") {
+        keys.push(weighted_of(alloc, word)??).ok()?;
+    }
+    Some(())
+}
+
+/// The snapshot of the keys of a text.
+fn snapshot_of(alloc: Global, text: &str) -> Option<SnapshotKeys> {
+    if text.is_empty() {
+        return Some(SnapshotKeys::new(alloc));
+    }
+    let mut keys = Vec::new(alloc);
+    gather(&mut keys, alloc, text)?;
+    SnapshotKeys::from_keys(keys)
+}
+
+/// The message that a word is: its subject, the one that an answer is awaited on or nothing, and its payload, with commas between them.
+fn message_in(alloc: Global, word: &str) -> Option<Message> {
+    let (subject, rest) = word.split_once(',')?;
+    let (reply, payload) = rest.split_once(',')?;
+    message_of(alloc, subject, reply, payload)
+}
+
+/// The publication of a message for these queue names.
+fn publication_of(alloc: Global, queues: &str, message: &str) -> Option<Body> {
+    let queues = queues_of(alloc, queues)??;
+    let message = message_in(alloc, message)?;
+    Some(Body::Msg { message, queues })
+}
+
+/// What a numbered frame of this kind is to say.
+fn body_of(alloc: Global, kind: &str, words: &Words<'_>) -> Option<Body> {
+    match kind {
+        "plus" => Some(Body::Plus(weighted_of(alloc, words.at(3))??)),
+        "minus" => Some(Body::Minus(key_in(alloc, words.at(3))?)),
+        "snapshot" => Some(Body::Snapshot(snapshot_of(alloc, words.at(3))?)),
+        "msg" => publication_of(alloc, words.at(3), words.at(4)),
+        _ => None,
+    }
+}
+
+/// The numbered frame of this kind, where there may be such a one.
+fn numbered_of(alloc: Global, kind: &str, words: &Words<'_>) -> Option<Option<RouteFrame>> {
+    let (from, to) = (life_in(words.at(0))?, life_in(words.at(1))?);
+    let body = body_of(alloc, kind, words)?;
+    match Numbered::new(from.name, from.inc, to.name, to.inc, words.number(2), body) {
+        None => Some(None),
+        Some(frame) => Some(Some(RouteFrame::Numbered(frame))),
+    }
+}
+
+/// The `CONNECT` of one server to another with a serial, where there may be such a one.
+fn connect_of(words: &Words<'_>) -> Option<Option<RouteFrame>> {
+    let (me, other) = (life_in(words.at(0))?, life_in(words.at(1))?);
+    match RouteConnect::new(me.name, me.inc, other.name, other.inc, words.number(2)) {
+        None => Some(None),
+        Some(connect) => Some(Some(RouteFrame::Connect(connect))),
+    }
+}
+
+/// The `INFO` of a server.
+fn info_of(word: &str) -> Option<Option<RouteFrame>> {
+    let life = life_in(word)?;
+    Some(Some(RouteFrame::Info(RouteInfo::new(life.name, life.inc))))
+}
+
+/// The frame of this kind, where there may be such a one.
+fn frame_of(alloc: Global, kind: &str, words: &Words<'_>) -> Option<Option<RouteFrame>> {
+    match kind {
+        "info" => info_of(words.at(0)),
+        "connect" => connect_of(words),
+        _ => numbered_of(alloc, kind, words),
+    }
+}
+
+/// The built frame stands from now on, where there may be such a one.
+fn build(
+    answer: &mut String,
+    place: &mut Option<RouteFrame>,
+    alloc: Global,
+    kind: &str,
+    words: &Words<'_>,
+) -> Option<()> {
+    let frame = frame_of(alloc, kind, words)?;
+    let told = if frame.is_some() { "built" } else { "none" };
+    put(place, frame);
+    tell(answer, told)
+}
+
+/// The frame that a line and, behind its CR LF, its payload spell.
+fn read_frame(alloc: Global, text: &str) -> Result<RouteFrame, Failure<RouteFault>> {
+    let (line, payload) = text.split_once("\\r\\n").unwrap_or((text, ""));
+    let payload = Bytes::from_vec(bytes_of(alloc, payload)?)?;
+    let line = bytes_of(alloc, line)?;
+    decode(alloc, &line, payload)
+}
+
+/// Tells the canonical spelling of a frame.
+fn tell_spelling(answer: &mut String, alloc: Global, frame: &RouteFrame) -> Option<()> {
+    let mut bytes = Vec::new(alloc);
+    encode(frame, &mut bytes).ok()?;
+    push_shown(answer, &bytes).ok()
+}
+
+/// The frame that is read stands from now on. Tells its canonical spelling, or the number by which it is refused.
+fn read(
+    answer: &mut String,
+    place: &mut Option<RouteFrame>,
+    alloc: Global,
+    text: &str,
+) -> Option<()> {
+    match read_frame(alloc, text) {
+        Ok(frame) => {
+            tell_spelling(answer, alloc, &frame)?;
+            put(place, Some(frame));
+            Some(())
+        }
+        Err(Failure::Refused(fault)) => tell_refusal(answer, fault.number()),
+        Err(Failure::OutOfMemory) => None,
+    }
+}
+
+/// Tells how many bytes of payload a line announces.
+fn size(answer: &mut String, alloc: Global, line: &str) -> Option<()> {
+    let line = bytes_of(alloc, line).ok()?;
+    match payload_size(alloc, &line) {
+        Ok(None) => tell(answer, "no payload"),
+        Ok(Some(size)) => tell_number(answer, "", size),
+        Err(Failure::Refused(fault)) => tell_refusal(answer, fault.number()),
+        Err(Failure::OutOfMemory) => None,
+    }
+}
+
+/// Tells a key with its weight.
+fn weighted_told(answer: &mut String, key: &Key, weight: u64) -> Option<()> {
+    push_key(answer, key).ok()?;
+    tell_number(answer, " ", weight)
+}
+
+/// Tells how many keys there are.
+fn keys_told(answer: &mut String, keys: &[WeightedKey]) -> Option<()> {
+    write!(answer, "{} keys", keys.len()).ok()
+}
+
+/// Tells how many queue names there are, and each in brackets.
+fn names_told(answer: &mut String, names: &[QueueName]) -> Option<()> {
+    write!(answer, ", {} names", names.len()).ok()?;
+    for name in names {
+        tell_bytes(answer, " [", name.bytes())?;
+        tell(answer, "]")?;
+    }
+    Some(())
+}
+
+/// Tells the subject of a message, that of the answer where one is awaited, and the payload.
+fn message_told(answer: &mut String, message: &Message) -> Option<()> {
+    tell_bytes(answer, "on ", message.subject().bytes())?;
+    if let Some(reply) = message.reply() {
+        tell_bytes(answer, ", answers to ", reply.bytes())?;
+    }
+    tell_bytes(answer, ": ", message.payload().as_slice())
+}
+
+/// Tells a key that is gone.
+fn minus_told(answer: &mut String, key: &Key) -> Option<()> {
+    tell(answer, "gone: ")?;
+    push_key(answer, key).ok()
+}
+
+/// Tells what a numbered frame says.
+fn body_told(answer: &mut String, body: &Body) -> Option<()> {
+    match body {
+        Body::Plus(weighted) => weighted_told(answer, weighted.key(), weighted.weight()),
+        Body::Minus(key) => minus_told(answer, key),
+        Body::Snapshot(keys) => keys_told(answer, keys.as_slice()),
+        Body::Msg { message, queues } => {
+            message_told(answer, message)?;
+            names_told(answer, queues.as_slice())
+        }
+    }
+}
+
+/// Tells whose a numbered frame is, and whose it is to be.
+fn ends_told(answer: &mut String, frame: &Numbered) -> Option<()> {
+    let (from, to) = (frame.from(), frame.to());
+    let (inc, to_inc) = (frame.inc().get(), frame.to_inc().get());
+    write!(answer, "{} {inc} to {} {to_inc}", from.text(), to.text()).ok()
+}
+
+/// Tells who dialed whom, in which of their lives, and the serial.
+fn connect_told(answer: &mut String, connect: &RouteConnect) -> Option<()> {
+    let (from, to) = (connect.server_name(), connect.to());
+    let (inc, to_inc, serial) = (
+        connect.inc().get(),
+        connect.to_inc().get(),
+        connect.serial(),
+    );
+    write!(
+        answer,
+        "{} {inc} to {} {to_inc}, serial {serial}",
+        from.text(),
+        to.text()
+    )
+    .ok()
+}
+
+/// Tells who accepted, in which of its lives.
+fn info_told(answer: &mut String, info: &RouteInfo) -> Option<()> {
+    let name = info.server_name();
+    write!(answer, "{} {}", name.text(), info.inc().get()).ok()
+}
+
+/// Tells a part of a frame.
+fn part_told(answer: &mut String, name: &str, frame: &RouteFrame) -> Option<()> {
+    match frame {
+        RouteFrame::Info(info) => info_told(answer, info),
+        RouteFrame::Connect(connect) => connect_told(answer, connect),
+        RouteFrame::Numbered(frame) if name == "ends" => ends_told(answer, frame),
+        RouteFrame::Numbered(frame) if name == "number" => tell_number(answer, "", frame.number()),
+        RouteFrame::Numbered(frame) => body_told(answer, frame.body()),
+    }
+}
+
+/// Tells what the frame says, taken out of it.
+fn into_body(answer: &mut String, frame: RouteFrame) -> Option<()> {
+    match frame {
+        RouteFrame::Numbered(frame) => body_told(answer, &frame.into_body()),
+        _ => None,
+    }
+}
+
+/// Writes the frame behind what was written before, and tells all of it.
+fn write(answer: &mut String, routes: &mut Routes) -> Option<()> {
+    encode(routes.frame.as_ref()?, &mut routes.written).ok()?;
+    push_shown(answer, &routes.written).ok()
+}
+
+/// A copy stands in place of the frame.
+fn copy(answer: &mut String, place: &mut Option<RouteFrame>, alloc: Global) -> Option<()> {
+    let copy = place.as_ref()?.try_clone(alloc).ok()?;
+    put(place, Some(copy));
+    tell(answer, "copied")
+}
+
+/// Makes a call about a frame.
+pub fn frame_call(
+    answer: &mut String,
+    routes: &mut Routes,
+    alloc: Global,
+    call: &str,
+    words: &Words<'_>,
+) -> Option<()> {
+    match call {
+        "size" => size(answer, alloc, words.text),
+        "read" => read(answer, &mut routes.frame, alloc, words.text),
+        "write" => write(answer, routes),
+        "copy" => copy(answer, &mut routes.frame, alloc),
+        "ends" | "number" | "body" | "greeting" => {
+            part_told(answer, call, routes.frame.as_ref()?)
+        }
+        "into_body" => into_body(answer, routes.frame.take()?),
+        _ => build(answer, &mut routes.frame, alloc, call, words),
+    }
+}
+
+/// Tells a key with its weight, where it may have that; of a copy, in parts or whole, where that is asked for.
+pub fn weighted_call(answer: &mut String, alloc: Global, call: &str, word: &str) -> Option<()> {
+    let Some(weighted) = weighted_of(alloc, word)? else {
+        return tell(answer, "none");
+    };
+    let copy = weighted.try_clone(alloc).ok()?;
+    match call {
+        "new" => weighted_told(answer, weighted.key(), weighted.weight()),
+        "copy" => weighted_told(answer, copy.key(), copy.weight()),
+        _ => {
+            let (key, weight) = copy.into_parts();
+            weighted_told(answer, &key, weight)
+        }
+    }
+}
+
+/// Gathers so many keys like this one, whose patterns begin with five digits each, from `00000`.
+fn gather_numbered(
+    keys: &mut Vec<WeightedKey>,
+    alloc: Global,
+    count: u64,
+    word: &str,
+) -> Option<()> {
+    for number in 0..count {
+        let word = format!(in alloc; "{number:05}{word}").ok()?;
+        keys.push(weighted_of(alloc, word.as_str())??).ok()?;
+    }
+    Some(())
+}
+
+/// A snapshot of the gathered keys stands from now on, where there may be such a one.
+fn take(answer: &mut String, routes: &mut Routes, alloc: Global) -> Option<()> {
+    let keys = mem::replace(&mut routes.keys, Vec::new(alloc));
+    put(&mut routes.snapshot, SnapshotKeys::from_keys(keys));
+    match &routes.snapshot {
+        Some(snapshot) => keys_told(answer, snapshot.as_slice()),
+        None => tell(answer, "none"),
+    }
+}
+
+/// Tells the text of a snapshot.
+fn snapshot_text(answer: &mut String, alloc: Global, snapshot: &SnapshotKeys) -> Option<()> {
+    let mut bytes = Vec::new(alloc);
+    snapshot.append_text(&mut bytes).ok()?;
+    push_shown(answer, &bytes).ok()
+}
+
+/// A copy stands in place of the snapshot.
+fn snapshot_copy(
+    answer: &mut String,
+    place: &mut Option<SnapshotKeys>,
+    alloc: Global,
+) -> Option<()> {
+    let copy = place.as_ref()?.try_clone(alloc).ok()?;
+    keys_told(answer, copy.as_slice())?;
+    put(place, Some(copy));
+    Some(())
+}
+
+/// Tells the keys, taken out of a snapshot, each in brackets.
+fn into_keys(answer: &mut String, snapshot: SnapshotKeys) -> Option<()> {
+    let keys = snapshot.into_keys();
+    keys_told(answer, &keys)?;
+    for weighted in &keys {
+        tell(answer, " [")?;
+        weighted_told(answer, weighted.key(), weighted.weight())?;
+        tell(answer, "]")?;
+    }
+    Some(())
+}
+
+/// Makes a call about a snapshot.
+pub fn snapshot_call(
+    answer: &mut String,
+    routes: &mut Routes,
+    alloc: Global,
+    call: &str,
+    words: &Words<'_>,
+) -> Option<()> {
+    match call {
+        "add" => {
+            gather(&mut routes.keys, alloc, words.text)?;
+            keys_told(answer, &routes.keys)
+        }
+        "add_numbered" => {
+            gather_numbered(&mut routes.keys, alloc, words.number(0), words.at(1))?;
+            keys_told(answer, &routes.keys)
+        }
+        "take" => take(answer, routes, alloc),
+        "copy" => snapshot_copy(answer, &mut routes.snapshot, alloc),
+        "text" => snapshot_text(answer, alloc, routes.snapshot.as_ref()?),
+        "text_len" => tell_number(answer, "", routes.snapshot.as_ref()?.text_len() as u64),
+        "into_keys" => into_keys(answer, routes.snapshot.take()?),
+        _ => None,
+    }
+}
+
+/// A stream that is read, and the spellings of the frames that came whole.
+#[derive(Drop)]
+struct Spelling {
+    cutter: Cutter,
+    /// A line whose payload is still to come.
+    waiting: Option<RouteLine>,
+    spelt: Vec<u8>,
+}
+
+impl Spelling {
+    /// Joins a line with its payload, and spells that frame.
+    fn spell(&mut self, alloc: Global, line: RouteLine, payload: &[u8]) -> Option<()> {
+        let payload = Bytes::copy_from_slice(alloc, payload).ok()?;
+        let frame = line.into_frame(alloc, payload).ok()?;
+        encode(&frame, &mut self.spelt).ok()
+    }
+
+    /// The line waits for a payload of this size.
+    fn wait(&mut self, line: RouteLine, size: u64) -> Option<()> {
+        if !self.cutter.after_line() {
+            return None;
+        }
+        self.cutter.expect(size).ok()?;
+        put(&mut self.waiting, Some(line));
+        Some(())
+    }
+
+    /// Takes a line.
+    fn take_line(&mut self, alloc: Global, bytes: &[u8]) -> Option<()> {
+        let line = RouteLine::read(alloc, bytes).ok()?;
+        match line.payload_size() {
+            None => self.spell(alloc, line, b""),
+            Some(size) => self.wait(line, size),
+        }
+    }
+
+    /// Takes a line, or the payload that one waits for.
+    fn take_piece(&mut self, alloc: Global, bytes: &[u8]) -> Option<()> {
+        match self.waiting.take() {
+            None => self.take_line(alloc, bytes),
+            Some(line) => self.spell(alloc, line, bytes),
+        }
+    }
+
+    /// The bytes of the next piece, where one is whole.
+    fn next_piece(&mut self, alloc: Global) -> Option<Option<Vec<u8>>> {
+        match self.cutter.next() {
+            Ok(None) => Some(None),
+            Ok(Some(Piece::Line(bytes) | Piece::Payload(bytes))) => {
+                Some(Some(Vec::from_slice(alloc, bytes).ok()?))
+            }
+            Err(_) => None,
+        }
+    }
+
+    /// Takes the next part of the stream, and the pieces that are whole then.
+    fn feed(&mut self, alloc: Global, bytes: &[u8]) -> Option<()> {
+        self.cutter.feed(bytes).ok()?;
+        for _piece in 0..u64::MAX {
+            let Some(bytes) = self.next_piece(alloc)? else {
+                return Some(());
+            };
+            self.take_piece(alloc, &bytes)?;
+        }
+        None
+    }
+}
+
+/// The spellings of the frames of a stream that comes in parts of so many bytes, or in one for 0.
+fn spellings(alloc: Global, stream: &[u8], part: usize) -> Option<Vec<u8>> {
+    let mut spelling = Spelling {
+        cutter: Cutter::new(alloc, ROUTE_LINE, MAX_SNAPSHOT as u64),
+        waiting: None,
+        spelt: Vec::new(alloc),
+    };
+    let part = if part == 0 { stream.len() } else { part };
+    for bytes in stream.chunks(part.max(1)) {
+        spelling.feed(alloc, bytes)?;
+    }
+    Some(spelling.spelt)
+}
+
+/// Whether the stream is one, and no frame of it is whole.
+fn has_no_frame(alloc: Global, stream: &[u8], part: usize) -> bool {
+    match spellings(alloc, stream, part) {
+        Some(spelt) => spelt.is_empty(),
+        None => false,
+    }
+}
+
+/// Tells how many beginnings of a stream there are, if none has a whole frame; else the first that is otherwise.
+fn beginnings(answer: &mut String, alloc: Global, stream: &[u8], part: usize) -> Option<()> {
+    for len in 0..stream.len() {
+        if !has_no_frame(alloc, &stream[..len], part) {
+            return write!(answer, "otherwise behind {len} bytes").ok();
+        }
+    }
+    write!(answer, "{} beginnings, no frame", stream.len()).ok()
+}
+
+/// Makes a call about a stream: the parts that it comes in stand before it.
+pub fn stream_call(answer: &mut String, alloc: Global, call: &str, text: &str) -> Option<()> {
+    let (part, stream) = text.split_once('|')?;
+    let stream = bytes_of(alloc, stream).ok()?;
+    match call {
+        "spelt" => push_shown(answer, &spellings(alloc, &stream, number(part) as usize)?).ok(),
+        "beginnings" => beginnings(answer, alloc, &stream, number(part) as usize),
+        _ => None,
+    }
+}
+
+/// Whether two frames of one kind are the same; nothing where they are of two kinds.
+fn are_same(a: &RouteFrame, b: &RouteFrame) -> Option<bool> {
+    match (a, b) {
+        (RouteFrame::Info(a), RouteFrame::Info(b)) => Some(is_same_info(a, b)),
+        (RouteFrame::Connect(a), RouteFrame::Connect(b)) => Some(is_same_connect(a, b)),
+        (RouteFrame::Numbered(a), RouteFrame::Numbered(b)) => Some(is_same_frame(a, b)),
+        _ => None,
+    }
+}
+
+/// The publication of a message, which its client gets too where `echo` stands before it.
+fn pub_of(alloc: Global, word: &str) -> Option<Pub> {
+    let (echo, word) = match word.strip_prefix("echo ") {
+        Some(word) => (true, word),
+        None => (false, word),
+    };
+    let message = message_in(alloc, word)?;
+    Some(Pub { message, echo })
+}
+
+fn same_messages(alloc: Global, a: &str, b: &str) -> Option<bool> {
+    let (a, b) = (message_in(alloc, a)?, message_in(alloc, b)?);
+    Some(is_same_message(&a, &b))
+}
+
+fn same_pubs(alloc: Global, a: &str, b: &str) -> Option<bool> {
+    let (a, b) = (pub_of(alloc, a)?, pub_of(alloc, b)?);
+    Some(is_same_pub(&a, &b))
+}
+
+fn same_frames(alloc: Global, a: &str, b: &str) -> Option<bool> {
+    let (a, b) = (read_frame(alloc, a).ok()?, read_frame(alloc, b).ok()?);
+    are_same(&a, &b)
+}
+
+fn same_keys(alloc: Global, a: &str, b: &str) -> Option<bool> {
+    let (a, b) = (key_in(alloc, a)?, key_in(alloc, b)?);
+    Some(is_same_key(&a, &b))
+}
+
+fn same_sids(alloc: Global, a: &str, b: &str) -> Option<bool> {
+    let (a, b) = (sid_of(alloc, a)?, sid_of(alloc, b)?);
+    Some(is_same_sid(&a, &b))
+}
+
+fn same_answers(a: &str, b: &str) -> Option<bool> {
+    let (a, b) = (reply_of(a)?, reply_of(b)?);
+    Some(is_same_answer(&a, &b))
+}
+
+fn sid_and_copy(alloc: Global, word: &str) -> Option<bool> {
+    let sid = sid_of(alloc, word)?;
+    Some(is_same_sid(&sid, &sid.try_clone(alloc).ok()?))
+}
+
+fn key_and_copy(alloc: Global, word: &str) -> Option<bool> {
+    let key = key_in(alloc, word)?;
+    Some(is_same_key(&key, &key.try_clone(alloc).ok()?))
+}
+
+fn frame_and_copy(alloc: Global, text: &str) -> Option<bool> {
+    let frame = read_frame(alloc, text).ok()?;
+    are_same(&frame, &frame.try_clone(alloc).ok()?)
+}
+
+/// Tells whether two values of this kind are the same, or a value and its copy.
+pub fn same_call(answer: &mut String, alloc: Global, kind: &str, text: &str) -> Option<()> {
+    let (a, b) = text.split_once('|').unwrap_or((text, ""));
+    let same = match kind {
+        "sid" => same_sids(alloc, a, b)?,
+        "key" => same_keys(alloc, a, b)?,
+        "message" => same_messages(alloc, a, b)?,
+        "pub" => same_pubs(alloc, a, b)?,
+        "frame" => same_frames(alloc, a, b)?,
+        "answer" => same_answers(a, b)?,
+        "sid_copy" => sid_and_copy(alloc, text)?,
+        "key_copy" => key_and_copy(alloc, text)?,
+        "frame_copy" => frame_and_copy(alloc, text)?,
+        _ => return None,
+    };
+    tell(answer, if same { "same" } else { "differ" })
+}

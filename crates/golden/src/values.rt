@@ -1,0 +1,131 @@
+//! Values that words stand for. There is none where a word stands for none, and where memory is short.
+
+use crate::texts::{bytes_of, push_shown};
+use crate::words::number;
+use bytes::Bytes;
+use std::alloc::{AllocError, Global};
+use subj::{
+    Incarnation, Key, Message, NodeId, Pattern, QueueName, QueueNames, Server, Sid, Subject,
+};
+
+/// The pattern that a word is.
+pub fn pattern_of(alloc: Global, word: &str) -> Option<Pattern> {
+    let bytes = bytes_of(alloc, word).ok()?;
+    Pattern::read(alloc, &bytes).ok()
+}
+
+/// The subject that a word is.
+pub fn subject_of(alloc: Global, word: &str) -> Option<Subject> {
+    let bytes = bytes_of(alloc, word).ok()?;
+    Subject::read(alloc, &bytes).ok()
+}
+
+/// The name of a queue group that a word is.
+pub fn queue_of(alloc: Global, word: &str) -> Option<QueueName> {
+    let bytes = bytes_of(alloc, word).ok()?;
+    QueueName::read(alloc, &bytes).ok()
+}
+
+/// The id of a subscription that a word is.
+pub fn sid_of(alloc: Global, word: &str) -> Option<Sid> {
+    let bytes = bytes_of(alloc, word).ok()?;
+    Sid::read(alloc, &bytes).ok()
+}
+
+/// The bytes that a word stands for, to be shared.
+pub fn payload_of(alloc: Global, word: &str) -> Option<Bytes> {
+    let bytes = bytes_of(alloc, word).ok()?;
+    Bytes::copy_from_slice(alloc, &bytes).ok()
+}
+
+/// The key of a pattern in a queue group, or in none where that word is empty.
+pub fn key_of(alloc: Global, pattern: &str, queue: &str) -> Option<Key> {
+    let pattern = pattern_of(alloc, pattern)?;
+    let queue = match queue {
+        "" => None,
+        name => Some(queue_of(alloc, name)?),
+    };
+    Some(Key { pattern, queue })
+}
+
+/// The key that a word is: its pattern and, behind a blank, its queue group.
+pub fn key_in(alloc: Global, word: &str) -> Option<Key> {
+    let (pattern, queue) = word.split_once(' ').unwrap_or((word, ""));
+    key_of(alloc, pattern, queue)
+}
+
+/// Puts a key as a word that it is read from.
+pub fn push_key(answer: &mut String, key: &Key) -> Result<(), AllocError> {
+    push_shown(answer, key.pattern.bytes())?;
+    match &key.queue {
+        None => Ok(()),
+        Some(queue) => {
+            answer.push_str(" ")?;
+            push_shown(answer, queue.bytes())
+        }
+    }
+}
+
+/// The names of queue groups that a text is, with blanks between them; none of them where they do not rise or are too many.
+pub fn queues_of(alloc: Global, text: &str) -> Option<Option<QueueNames>> {
+    let mut names = Vec::new(alloc);
+    for word in text.split_whitespace() {
+        names.push(queue_of(alloc, word)?).ok()?;
+    }
+    QueueNames::from_names(alloc, names).ok()
+}
+
+/// The message on a subject, with one that an answer is awaited on, or none where that word is empty.
+pub fn message_of(alloc: Global, subject: &str, reply: &str, payload: &str) -> Option<Message> {
+    let payload = payload_of(alloc, payload)?;
+    let subject = subject_of(alloc, subject)?;
+    let reply = match reply {
+        "" => None,
+        name => Some(subject_of(alloc, name)?),
+    };
+    Message::new(alloc, subject, reply, payload).ok()?
+}
+
+/// A server in one of its lives.
+#[derive(Clone, Copy)]
+pub struct Life {
+    pub name: NodeId,
+    pub inc: Incarnation,
+}
+
+/// The server of this name in its life of this number.
+pub fn life_of(name: &str, inc: u64) -> Option<Life> {
+    let name = NodeId::read(name.as_bytes()).ok()?;
+    let inc = Incarnation::new(inc)?;
+    Some(Life { name, inc })
+}
+
+/// The server in one of its lives that a word is: its name and, behind a blank, the number of that.
+pub fn life_in(word: &str) -> Option<Life> {
+    let (name, inc) = word.split_once(' ')?;
+    life_of(name, number(inc))
+}
+
+/// The names of servers that a word is, with commas between them.
+fn nodes_of(alloc: Global, word: &str) -> Option<Vec<NodeId>> {
+    let mut names = Vec::new(alloc);
+    if word.is_empty() {
+        return Some(names);
+    }
+    for name in word.split(',') {
+        names.push(NodeId::read(name.as_bytes()).ok()?).ok()?;
+    }
+    Some(names)
+}
+
+/// The server at this place among these names, in its life of this number, with so many shards.
+pub fn server_of(
+    alloc: Global,
+    names: &str,
+    place: usize,
+    inc: u64,
+    shards: u64,
+) -> Option<Server> {
+    let inc = Incarnation::new(inc)?;
+    Server::new(nodes_of(alloc, names)?, place, inc, shards)
+}

@@ -1,0 +1,538 @@
+//! The two servers of a case with their connections, whatever makes the calls of each: what is done with one of them and with the other ends of
+//! its connections, what it is asked, and what is between both. What stands is borrowed here: a function that had made it would be proved to let
+//! go of it at each of its ends.
+
+use golden::{Call, Words, bytes_of, call_of, number, shown, text, yes_or_no};
+use node_net::{MemStream, Server, Side};
+use server_calls::ServerCalls;
+use std::alloc::{AllocError, Global};
+use std::sync::Wait;
+use subj::Server as Life;
+
+/// What is known of a connection: its key, and how much of what was written to it came to its other end.
+#[derive(Clone, Copy)]
+struct Known {
+    key: usize,
+    passed: usize,
+}
+
+/// A server over streams in memory, whatever makes its calls, and its connections, in the order in which they came.
+#[derive(Drop)]
+pub struct End<C: ServerCalls> {
+    alloc: Global,
+    server: Server<MemStream, C>,
+    known: Vec<Known>,
+}
+
+/// Who is at the other end: `client`, `accepted`, or the place of the server that is dialed.
+fn side_of(word: &str) -> Side {
+    match word {
+        "client" => Side::Client,
+        "accepted" => Side::Accepted,
+        _ => Side::Dialed(number(word) as usize),
+    }
+}
+
+/// Sends these bytes so often.
+fn feed(stream: &mut MemStream, times: u64, bytes: &[u8]) -> Option<()> {
+    for _time in 0..times {
+        stream.feed(bytes).ok()?;
+    }
+    Some(())
+}
+
+/// The stream gives and takes at most so many bytes a call, fails at a call, or takes only so many bytes.
+fn limit(stream: &mut MemStream, alloc: Global, call: &str, number: u64) {
+    let limited = std::mem::replace(stream, MemStream::new(alloc));
+    let limited = match call {
+        "at_most" => limited.at_most(number as usize),
+        "failing_at" => limited.failing_at(number),
+        _ => limited.with_room(number as usize),
+    };
+    golden::put(stream, limited);
+}
+
+/// What the other end of a stream does, and what is made of the stream. None where there is no such call.
+fn on_stream(
+    stream: &mut MemStream,
+    alloc: Global,
+    call: &str,
+    number: u64,
+    bytes: &[u8],
+) -> Option<()> {
+    match call {
+        "feed" => feed(stream, 1, bytes)?,
+        "feed_times" => feed(stream, number, bytes)?,
+        "end" => stream.end(),
+        "grant" => stream.grant(number as usize),
+        "at_most" | "failing_at" | "with_room" => limit(stream, alloc, call, number),
+        _ => return None,
+    }
+    Some(())
+}
+
+/// A number as an answer, behind a word, or what is told where there is none.
+fn number_told(
+    alloc: Global,
+    word: &str,
+    number: Option<u64>,
+    otherwise: &str,
+) -> Result<String, AllocError> {
+    match number {
+        Some(number) => format!(in alloc; "{word} {number}"),
+        None => text(alloc, otherwise),
+    }
+}
+
+/// What was written to a connection, or how much.
+fn written_told(
+    alloc: Global,
+    stream: Option<&MemStream>,
+    call: &str,
+) -> Result<String, AllocError> {
+    match stream {
+        None => text(alloc, "no connection"),
+        Some(stream) if call == "length" => format!(in alloc; "{}", stream.written().len()),
+        Some(stream) => shown(alloc, "", stream.written()),
+    }
+}
+
+impl<C: ServerCalls> End<C> {
+    /// This life of a server, without connections.
+    pub fn new(
+        alloc: Global,
+        node: C,
+        life: Option<Life>,
+        port: u16,
+    ) -> Result<End<C>, AllocError> {
+        let Some(life) = life else {
+            return Err(AllocError);
+        };
+        let server = Server::new(alloc, node, life, port, 0)?;
+        let known = Vec::new(alloc);
+        Ok(End {
+            alloc,
+            server,
+            known,
+        })
+    }
+
+    /// The key of the connection of this number, from 1; the greatest number, which is no key, where there is none.
+    fn key(&self, number: u64) -> usize {
+        let place = (number as usize).wrapping_sub(1);
+        match self.known.get(place) {
+            Some(known) => known.key,
+            None => usize::MAX,
+        }
+    }
+
+    /// Takes the stream that was made ready; the next one gives nothing yet.
+    fn add<R: Wait>(&mut self, rt: &R, ready: &mut MemStream, side: Side) -> Option<()> {
+        let stream = std::mem::replace(ready, MemStream::new(self.alloc));
+        let key = self.server.add(rt, stream, side).ok()?;
+        self.known.push(Known { key, passed: 0 }).ok()
+    }
+
+    /// A turn in which no connection is ready, where something is to be done.
+    fn turn_on<R: Wait>(&mut self, rt: &R) {
+        if self.server.goes_on() {
+            self.server.turn(rt, &[]);
+        }
+    }
+
+    /// The other end of a connection sends these bytes, and a turn is made, where the connection is there.
+    fn send_some<R: Wait>(&mut self, rt: &R, key: usize, bytes: &[u8]) -> Option<()> {
+        if let Some(stream) = self.server.stream_mut(key) {
+            stream.feed(bytes).ok()?;
+            self.server.turn(rt, &[key]);
+        }
+        Some(())
+    }
+
+    /// The same of so many of the bytes before each turn; of all at once for 0.
+    fn send<R: Wait>(&mut self, rt: &R, key: usize, part: usize, bytes: &[u8]) -> Option<()> {
+        let part = if part == 0 { usize::MAX } else { part };
+        for some in bytes.chunks(part) {
+            self.send_some(rt, key, some)?;
+        }
+        Some(())
+    }
+
+    /// Whether what was written to a connection ends with these bytes; else its stream takes one byte more, and a turn is made.
+    fn grants<R: Wait>(&mut self, rt: &R, key: usize, bytes: &[u8]) -> Option<bool> {
+        let stream = self.server.stream_mut(key)?;
+        if stream.written().ends_with(bytes) {
+            return Some(true);
+        }
+        stream.grant(1);
+        self.server.turn(rt, &[key]);
+        Some(false)
+    }
+
+    /// The same until it ends so; so often at most.
+    fn grant_until<R: Wait>(&mut self, rt: &R, key: usize, most: u64, bytes: &[u8]) -> Option<()> {
+        for _byte in 0..most {
+            if self.grants(rt, key, bytes)? {
+                break;
+            }
+        }
+        Some(())
+    }
+
+    /// What was written to a connection and did not come to its other end: this part of it, as 2 is the half.
+    fn unpassed(&self, number: u64, part: usize) -> Option<&[u8]> {
+        let known = self.known.get((number as usize).checked_sub(1)?)?;
+        let stream = self.server.stream(known.key)?;
+        let bytes = stream.written().get(known.passed..)?;
+        bytes.get(..bytes.len() / part.max(1))
+    }
+
+    /// So much more of it came there.
+    fn note_passed(&mut self, number: u64, count: usize) -> Option<()> {
+        let place = (number as usize).checked_sub(1)?;
+        let known = self.known.get_mut(place)?;
+        known.passed = known.passed.saturating_add(count);
+        Some(())
+    }
+
+    /// The other end of a connection sends these bytes.
+    fn feed(&mut self, number: u64, bytes: &[u8]) -> Option<()> {
+        let key = self.key(number);
+        self.server.stream_mut(key)?.feed(bytes).ok()
+    }
+
+    /// Makes a call that asks nothing. None where it cannot be made.
+    fn act<R: Wait>(
+        &mut self,
+        rt: &R,
+        ready: &mut MemStream,
+        line: &Call<'_>,
+        bytes: &[u8],
+    ) -> Option<()> {
+        let (call, words) = (line.name, &line.words);
+        let (key, number) = (self.key(words.number(0)), words.number(1));
+        match call {
+            "add" => self.add(rt, ready, side_of(words.at(0)))?,
+            "add_sending" => {
+                ready.feed(bytes).ok()?;
+                self.add(rt, ready, Side::Client)?;
+            }
+            "turn" => {
+                let (second, third) = (self.key(number), self.key(words.number(2)));
+                self.server.turn(rt, &[key, second, third]);
+            }
+            "turn_on" => self.turn_on(rt),
+            "time" => self.server.set_time(words.number(0)),
+            "send" => self.send(rt, key, number as usize, bytes)?,
+            "grant_until" => self.grant_until(rt, key, number, bytes)?,
+            _ => {
+                let stream = self.server.stream_mut(key)?;
+                on_stream(stream, self.alloc, call, number, bytes)?;
+            }
+        }
+        Some(())
+    }
+
+    /// How much was written to a connection.
+    fn length(&self, key: usize) -> usize {
+        match self.server.stream(key) {
+            Some(stream) => stream.written().len(),
+            None => 0,
+        }
+    }
+
+    /// How many messages of this size are written to a connection in a turn in which another one is told of twice: whether they are from
+    /// `least` to `most`.
+    fn gains<R: Wait>(&mut self, rt: &R, line: &Call<'_>) -> Result<String, AllocError> {
+        let words = &line.words;
+        let key = self.key(words.number(0));
+        let before = self.length(key);
+        let other = self.key(words.number(1));
+        self.server.turn(rt, &[other, other]);
+        let count = self.length(key).saturating_sub(before) as u64 / words.number(2).max(1);
+        yes_or_no(
+            self.alloc,
+            count >= words.number(3) && count <= words.number(4),
+        )
+    }
+
+    /// Takes a connection out: whether there was one.
+    fn removes<R: Wait>(&mut self, rt: &R, key: usize) -> Result<bool, AllocError> {
+        Ok(self.server.remove(rt, key)?.is_some())
+    }
+
+    /// Takes out each `step`-th connection of these, the first one of them to begin with: how many there were.
+    fn remove<R: Wait>(
+        &mut self,
+        rt: &R,
+        from: u64,
+        to: u64,
+        step: u64,
+    ) -> Result<String, AllocError> {
+        let mut count = 0_u64;
+        for number in from..to.saturating_add(1) {
+            let key = self.key(number);
+            let is_meant = number.saturating_sub(from) % step.max(1) == 0;
+            if is_meant && self.removes(rt, key)? {
+                count = count.saturating_add(1);
+            }
+        }
+        format!(in self.alloc; "removed {count}")
+    }
+
+    /// To how many of these connections, of those that are there, what was written last is these bytes.
+    fn ends(&self, from: u64, to: u64, bytes: &[u8]) -> Result<String, AllocError> {
+        let (mut so, mut all) = (0_u64, 0_u64);
+        for number in from..to.saturating_add(1) {
+            if let Some(stream) = self.server.stream(self.key(number)) {
+                all = all.saturating_add(1);
+                so = so.saturating_add(u64::from(stream.written().ends_with(bytes)));
+            }
+        }
+        format!(in self.alloc; "{so} of {all}")
+    }
+
+    /// The answer of a call that asks something.
+    fn ask<R: Wait>(
+        &mut self,
+        rt: &R,
+        line: &Call<'_>,
+        bytes: &[u8],
+    ) -> Result<String, AllocError> {
+        let (call, words, alloc) = (line.name, &line.words, self.alloc);
+        let (first, second) = (words.number(0), words.number(1));
+        let key = self.key(first);
+        match call {
+            "goes_on" => yes_or_no(alloc, self.server.goes_on()),
+            "next_turn" => number_told(alloc, "at", self.server.next_turn(), "never"),
+            "is_there" => yes_or_no(alloc, self.server.stream(key).is_some()),
+            "shard" => number_told(alloc, "shard", self.server.shard(key), "none"),
+            "gains" => self.gains(rt, line),
+            "remove" => self.remove(rt, first, second.max(first), words.number(2)),
+            "ends" => self.ends(first, first, bytes),
+            "ends_each" => self.ends(first, second, bytes),
+            _ => written_told(alloc, self.server.stream(key), call),
+        }
+    }
+}
+
+/// How often bytes are carried until both servers have nothing to say any more.
+const ROUNDS: usize = 12;
+
+/// How many numbers are counted, from 0.
+const NUMBERS: usize = 1_000;
+
+/// What the one server has written to its connection, and did not come to the other one yet, comes to that one's connection: this part of it,
+/// as 2 is the half.
+fn pass<C: ServerCalls, D: ServerCalls>(
+    from: &mut End<C>,
+    number: u64,
+    to: &mut End<D>,
+    other: u64,
+    part: usize,
+) -> Option<()> {
+    let bytes = from.unpassed(number, part)?;
+    to.feed(other, bytes)?;
+    let count = bytes.len();
+    from.note_passed(number, count)
+}
+
+/// Each server makes turns, and what it has written to the route comes to the other one.
+fn carry<C: ServerCalls, D: ServerCalls, R: Wait>(
+    rt: &R,
+    first: &mut End<C>,
+    second: &mut End<D>,
+    words: &Words<'_>,
+) -> Option<()> {
+    let (here, there) = (words.number(0), words.number(1));
+    for _round in 0..ROUNDS {
+        let key = first.key(here);
+        first.server.turn(rt, &[key]);
+        let key = second.key(there);
+        second.server.turn(rt, &[key]);
+        pass(first, here, second, there, 1)?;
+        pass(second, there, first, here, 1)?;
+    }
+    Some(())
+}
+
+/// A call on a route, of which the ends are a connection of the first server and one of the second.
+fn link<C: ServerCalls, D: ServerCalls, R: Wait>(
+    rt: &R,
+    first: &mut End<C>,
+    second: &mut End<D>,
+    call: &str,
+    words: &Words<'_>,
+) -> Option<()> {
+    let (here, there) = (words.number(0), words.number(1));
+    match call {
+        "pass" => pass(first, here, second, there, 1),
+        "pass_half" => pass(first, here, second, there, 2),
+        "pass_back" => pass(second, there, first, here, 1),
+        "carry" => carry(rt, first, second, words),
+        _ => None,
+    }
+}
+
+/// Counts the lines that are digits alone.
+fn count_lines(written: &[u8], times: &mut [u64]) {
+    let Ok(written) = str::from_utf8(written) else {
+        return;
+    };
+    for line in written.lines() {
+        if let Some(time) = times.get_mut(line.parse().unwrap_or(usize::MAX)) {
+            *time = time.saturating_add(1);
+        }
+    }
+}
+
+/// How often each number came to the connections that the words are, as `2:1` is the first one of the second server.
+fn count_all<C: ServerCalls, D: ServerCalls>(
+    first: &End<C>,
+    second: &End<D>,
+    words: &str,
+    times: &mut [u64],
+) -> Option<()> {
+    for word in words.split(' ') {
+        let stream = match word.split_once(':')? {
+            ("1", place) => first.server.stream(first.key(number(place))),
+            (_, place) => second.server.stream(second.key(number(place))),
+        };
+        count_lines(stream?.written(), times);
+    }
+    Some(())
+}
+
+/// Whether none of these numbers is asked for, some are, or all.
+fn share_of(call: &str, times: &[u64]) -> &'static str {
+    let mut count = 0_usize;
+    for times in times {
+        let is_meant = match call {
+            "missing" => *times == 0,
+            "once" => *times == 1,
+            _ => *times > 1,
+        };
+        count = count.saturating_add(usize::from(is_meant));
+    }
+    match count {
+        0 => "none",
+        all if all == times.len() => "all",
+        _ => "some",
+    }
+}
+
+/// Whether none, some or all of the numbers from the one to before the other are missing, came once, or more often, as payloads.
+fn numbers<C: ServerCalls, D: ServerCalls>(
+    first: &End<C>,
+    second: &End<D>,
+    call: &str,
+    words: &Words<'_>,
+) -> Option<&'static str> {
+    let mut times = [0; NUMBERS];
+    count_all(first, second, words.at(2), &mut times)?;
+    let times = times.get(words.number(0) as usize..words.number(1) as usize)?;
+    Some(share_of(call, times))
+}
+
+/// Whether the call asks something, so that it is answered by what all calls before it have come to.
+pub fn is_question(line: &Call<'_>) -> bool {
+    line.of == "numbers"
+        || matches!(
+            line.name,
+            "sent"
+                | "length"
+                | "ends"
+                | "ends_each"
+                | "gains"
+                | "is_there"
+                | "shard"
+                | "goes_on"
+                | "next_turn"
+                | "remove"
+        )
+}
+
+/// Makes a call that asks nothing. None where it cannot be made.
+fn act<C: ServerCalls, D: ServerCalls, R: Wait>(
+    rt: &R,
+    first: &mut End<C>,
+    second: &mut End<D>,
+    ready: &mut MemStream,
+    line: &Call<'_>,
+    bytes: &[u8],
+) -> Option<()> {
+    match line.of {
+        "n1" => first.act(rt, ready, line, bytes),
+        "n2" => second.act(rt, ready, line, bytes),
+        "stream" => on_stream(ready, first.alloc, line.name, line.words.number(0), bytes),
+        "link" => link(rt, first, second, line.name, &line.words),
+        _ => None,
+    }
+}
+
+/// The answer of a call that asks something.
+fn ask<C: ServerCalls, D: ServerCalls, R: Wait>(
+    rt: &R,
+    first: &mut End<C>,
+    second: &mut End<D>,
+    line: &Call<'_>,
+    bytes: &[u8],
+) -> Result<String, AllocError> {
+    match line.of {
+        "n1" => first.ask(rt, line, bytes),
+        "n2" => second.ask(rt, line, bytes),
+        _ => {
+            let share = numbers(first, second, line.name, &line.words);
+            text(first.alloc, share.unwrap_or("no numbers"))
+        }
+    }
+}
+
+/// The answer of a call.
+fn answer_of<C: ServerCalls, D: ServerCalls, R: Wait>(
+    rt: &R,
+    first: &mut End<C>,
+    second: &mut End<D>,
+    ready: &mut MemStream,
+    line: &Call<'_>,
+    bytes: &[u8],
+) -> Result<String, AllocError> {
+    if is_question(line) {
+        return ask(rt, first, second, line, bytes);
+    }
+    let done = act(rt, first, second, ready, line, bytes);
+    text(first.alloc, if done.is_some() { "ok" } else { "not done" })
+}
+
+/// The same of a call whose last word stands for bytes.
+fn made<C: ServerCalls, D: ServerCalls, R: Wait>(
+    rt: &R,
+    first: &mut End<C>,
+    second: &mut End<D>,
+    ready: &mut MemStream,
+    line: &Call<'_>,
+) -> Result<String, AllocError> {
+    let words = line.words.text;
+    let (_, last) = words.rsplit_once('|').unwrap_or(("", words));
+    let bytes = bytes_of(first.alloc, last)?;
+    answer_of(rt, first, second, ready, line, &bytes)
+}
+
+/// Makes these calls, up to the first one that asks nothing and is not done. Gives the last one's answer.
+pub fn play<C: ServerCalls, D: ServerCalls, R: Wait>(
+    rt: &R,
+    first: &mut End<C>,
+    second: &mut End<D>,
+    ready: &mut MemStream,
+    calls: &str,
+) -> Result<String, AllocError> {
+    let mut answer = String::new(first.alloc);
+    for text in calls.lines() {
+        let line = call_of(text);
+        answer = made(rt, first, second, ready, &line)?;
+        if answer.as_str() == "not done" {
+            return format!(in first.alloc; "{text}: not done");
+        }
+    }
+    Ok(answer)
+}

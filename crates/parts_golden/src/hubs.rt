@@ -1,0 +1,760 @@
+//! Calls of a server's own interest, of what a peer has told of its interest, of a hub, and of the sessions of two servers.
+//!
+//! - `counts.new`; `counts.open PATTERN|QUEUE` and `counts.close PATTERN|QUEUE`: what the other servers are told; `counts.weight
+//!   PATTERN|QUEUE`, `counts.keys`, `counts.key_count`, `counts.has_plain SUBJECT`
+//! - `view.hear_up NUMBER|PATTERN|QUEUE|WEIGHT`, `view.hear_gone NUMBER|PATTERN|QUEUE`: a change of this number; `view.hear_all NUMBER|COUNT`: a
+//!   snapshot of this number, with the plain keys of the first so many numbers of five digits; `view.has_plain SUBJECT`,
+//!   `view.weight_in SUBJECT|QUEUE`, `view.names_twice SUBJECT`, `view.key_count`
+//! - `hub.new NAMES|INC|SHARDS`: the hub of the first of these servers; `hub.open PATTERN|QUEUE`, `hub.close PATTERN|QUEUE`: how many changes are
+//!   told; `hub.up PEER|INC`, `hub.cut PEER`, `hub.seen PEER`; `hub.take PEER`: how many frames wait for the peer, which are taken;
+//!   `hub.finish SHARD|TURN`: the shard has finished the turn; `hub.be_prompt`: from now on the first shard finishes each turn at once
+//! - `hub.publish CONN|SUBJECT|PAYLOAD`: the turn, the number, and how many queue names the job has; `hub.plan CONN|SUBJECT|PAYLOAD|WORD`: the
+//!   queue names of the job, and those of the frame for each peer that is owed one
+//! - `hub.message`, `hub.plus` and `hub.snapshot`, with `FROM|INC|TO_INC|NUMBER`, and behind it a subject, or a pattern and a queue name: a frame
+//!   of a life of a peer for a life of n1, which has no queue name, a key with one member, or no key
+//! - `sessions.new INC`: those of n1 and n2 with one another, in this incarnation; on those of one, as `n1.dial n2`: `dial PEER`, `accept`;
+//!   `on_info SESSION|NAME|INC|LEAST`: what is kept, and the `CONNECT`, and `info_fault` with the same words;
+//!   `on_connect SESSION|NAME|INC|TO|TO_INC|SERIAL|LEAST` and `connect_fault`; `kept PEER`, `cut SESSION`, `cut_fault SESSION`, `drop_kept PEER`,
+//!   `dial_fault PEER`, `accept_fault`
+//! - `fault.of_hub CAUSE`, `fault.of_session CAUSE`: the number that the router tells of the refusal; `id.number N`, `id.same N|M` and
+//!   `id.differs N|M`: the number of a session, and whether two are one
+
+use golden::{
+    Words, key_of, life_of, message_of, push_key, put, queue_of, server_of, subject_of, tell,
+    tell_bytes, tell_number, tell_refusal, tell_whether,
+};
+use hub_core::{Hub, HubFault, PublishPlan, Received};
+use interest::{Change, FoundNames, InterestFault, Local, View};
+use route_session::{Kept, SessionFault, SessionId, Sessions};
+use route_values::{Body, Numbered, RouteConnect, RouteInfo, SnapshotKeys, WeightedKey};
+use std::alloc::Global;
+use std::fmt::Write;
+use subj::{
+    Busy, ConnId, Delta, Failure, Finished, Incarnation, Key, MAX_SHARDS, NodeId, Pub, QueueName,
+    QueueNames, Subject, Turn,
+};
+
+/// The key of a pattern, and of a queue name behind it.
+fn key_at(alloc: Global, words: &Words<'_>, place: usize) -> Option<Key> {
+    key_of(alloc, words.at(place), words.at(place.saturating_add(1)))
+}
+
+/// Tells the number of a refusal by interest.
+fn interest_refused(answer: &mut String, fault: Failure<InterestFault>) -> Option<()> {
+    match fault {
+        Failure::Refused(fault) => tell_refusal(answer, fault.number()),
+        Failure::OutOfMemory => None,
+    }
+}
+
+/// Counts an opening or a closing.
+fn count(answer: &mut String, counts: &mut Local, key: Key, up: bool) -> Option<()> {
+    match counts.apply(&Delta { key, up }) {
+        Ok(None) => tell(answer, "nothing"),
+        Ok(Some(Change::Up(weighted))) => tell_number(answer, "weight ", weighted.weight()),
+        Ok(Some(Change::Gone(_))) => tell(answer, "gone"),
+        Err(fault) => interest_refused(answer, fault),
+    }
+}
+
+/// Tells the keys in their order, each with its weight.
+fn keys(answer: &mut String, counts: &Local) -> Option<()> {
+    for (key, weight) in counts.keys() {
+        let between = if answer.is_empty() { "" } else { ", " };
+        tell(answer, between)?;
+        push_key(answer, key).ok()?;
+        tell_number(answer, "=", *weight)?;
+    }
+    Some(())
+}
+
+/// Counts of which nothing is open.
+fn new_counts(answer: &mut String, place: &mut Option<Local>, alloc: Global) -> Option<()> {
+    put(place, Some(Local::new(alloc).ok()?));
+    tell(answer, "ok")
+}
+
+/// Makes a call of counts that stand.
+fn local_call(
+    answer: &mut String,
+    counts: &mut Local,
+    alloc: Global,
+    call: &str,
+    words: &Words<'_>,
+) -> Option<()> {
+    match call {
+        "open" => count(answer, counts, key_at(alloc, words, 0)?, true),
+        "close" => count(answer, counts, key_at(alloc, words, 0)?, false),
+        "weight" => tell_number(answer, "weight ", counts.weight(&key_at(alloc, words, 0)?)),
+        "keys" => keys(answer, counts),
+        "key_count" => tell_number(answer, "keys ", counts.keys().count() as u64),
+        "has_plain" => tell_whether(answer, counts.has_plain(&subject_of(alloc, words.at(0))?)),
+        _ => None,
+    }
+}
+
+/// Makes a call of a server's own interest.
+pub fn counts_call(
+    answer: &mut String,
+    place: &mut Option<Local>,
+    alloc: Global,
+    call: &str,
+    words: &Words<'_>,
+) -> Option<()> {
+    match place {
+        _ if call == "new" => new_counts(answer, place, alloc),
+        Some(counts) => local_call(answer, counts, alloc, call, words),
+        None => None,
+    }
+}
+
+/// Tells whether news are heard, and the mark then.
+fn heard_told(
+    answer: &mut String,
+    heard: Result<(), Failure<InterestFault>>,
+    mark: u64,
+) -> Option<()> {
+    match heard {
+        Ok(()) => tell(answer, "heard")?,
+        Err(fault) => interest_refused(answer, fault)?,
+    }
+    tell_number(answer, ", mark ", mark)
+}
+
+/// Hears a change.
+fn hear(answer: &mut String, view: &mut View, number: u64, change: Change) -> Option<()> {
+    let heard = view.hear(number, change);
+    heard_told(answer, heard, view.mark())
+}
+
+/// The plain keys of the first so many numbers, of five digits each, in their order.
+fn numbered_keys(alloc: Global, count: u64) -> Option<SnapshotKeys> {
+    let mut keys = Vec::new(alloc);
+    for number in 0..count {
+        let pattern = format!(in alloc; "{number:05}").ok()?;
+        let key = key_of(alloc, pattern.as_str(), "")?;
+        keys.push(WeightedKey::new(key, 1)?).ok()?;
+    }
+    SnapshotKeys::from_keys(keys)
+}
+
+/// Hears a snapshot.
+fn hear_all(answer: &mut String, view: &mut View, alloc: Global, words: &Words<'_>) -> Option<()> {
+    let keys = numbered_keys(alloc, words.number(1))?;
+    match view.hear_all(words.number(0), keys) {
+        Ok(()) => heard_told(answer, Ok(()), view.mark()),
+        Err(fault) => heard_told(answer, Err(Failure::Refused(fault)), view.mark()),
+    }
+}
+
+/// Tells what a queue name weighs in a subject.
+fn weight_in(answer: &mut String, view: &View, alloc: Global, words: &Words<'_>) -> Option<()> {
+    let subject = subject_of(alloc, words.at(0))?;
+    let name = queue_of(alloc, words.at(1))?;
+    tell_number(answer, "weight ", view.weight_in(&subject, &name))
+}
+
+/// Tells the queue names that want the subject, asked for twice: each is there once.
+fn names_twice(answer: &mut String, view: &View, subject: &Subject) -> Option<()> {
+    let mut names = FoundNames::new();
+    view.names_in(subject, &mut names).ok()?;
+    view.names_in(subject, &mut names).ok()?;
+    tell(answer, "names")?;
+    for place in 0..names.len() {
+        tell_bytes(answer, " ", names.get(place)?.bytes())?;
+    }
+    Some(())
+}
+
+/// Makes a call of what a peer has told of its interest.
+pub fn view_call(
+    answer: &mut String,
+    view: &mut View,
+    alloc: Global,
+    call: &str,
+    words: &Words<'_>,
+) -> Option<()> {
+    let number = words.number(0);
+    match call {
+        "hear_up" => {
+            let weighted = WeightedKey::new(key_at(alloc, words, 1)?, words.number(3))?;
+            hear(answer, view, number, Change::Up(weighted))
+        }
+        "hear_gone" => hear(answer, view, number, Change::Gone(key_at(alloc, words, 1)?)),
+        "hear_all" => hear_all(answer, view, alloc, words),
+        "has_plain" => tell_whether(answer, view.has_plain(&subject_of(alloc, words.at(0))?)),
+        "weight_in" => weight_in(answer, view, alloc, words),
+        "names_twice" => names_twice(answer, view, &subject_of(alloc, words.at(0))?),
+        "key_count" => tell_number(answer, "keys ", view.keys().len() as u64),
+        _ => None,
+    }
+}
+
+/// A hub, and the last turn that each of its shards has finished.
+#[derive(Drop)]
+pub struct HubStand {
+    hub: Hub,
+    finished: Finished,
+    /// Whether the first shard finishes each turn at once.
+    is_prompt: bool,
+}
+
+/// A hub that has just started stands from now on.
+fn new_hub(
+    answer: &mut String,
+    place: &mut Option<HubStand>,
+    alloc: Global,
+    words: &Words<'_>,
+) -> Option<()> {
+    let server = server_of(alloc, words.at(0), 0, words.number(1), words.number(2))?;
+    let stand = HubStand {
+        hub: Hub::new(alloc, server).ok()?,
+        finished: Finished::new(),
+        is_prompt: false,
+    };
+    put(place, Some(stand));
+    tell(answer, "ok")
+}
+
+/// Tells the number of a refusal by a hub.
+fn hub_refused(answer: &mut String, fault: Failure<HubFault>) -> Option<()> {
+    match fault {
+        Failure::Refused(fault) => tell_refusal(answer, fault.number()),
+        Failure::OutOfMemory => None,
+    }
+}
+
+/// Notes that the shard has finished the turn.
+fn finish(finished: &mut Finished, shard: u64, turn: Option<Turn>) -> Option<()> {
+    if shard < 1 || MAX_SHARDS < shard {
+        return None;
+    }
+    finished.set(shard, turn?);
+    Some(())
+}
+
+impl HubStand {
+    /// A job of this turn is issued.
+    fn note(&mut self, turn: Turn) {
+        if self.is_prompt {
+            let _noted = finish(&mut self.finished, 1, Some(turn));
+        }
+    }
+}
+
+/// Tells what comes of a frame.
+fn came_told(answer: &mut String, stand: &mut HubStand, received: &Received) -> Option<()> {
+    match received {
+        Received::Heard(mark) => tell_number(answer, "heard ", *mark),
+        Received::Routed(job) => {
+            stand.note(job.turn);
+            tell_number(answer, "turn ", job.turn.get())
+        }
+    }
+}
+
+/// Takes a frame.
+fn receive(answer: &mut String, stand: &mut HubStand, frame: &Numbered) -> Option<()> {
+    match stand.hub.receive(frame, &stand.finished) {
+        Ok(received) => came_told(answer, stand, &received),
+        Err(fault) => hub_refused(answer, fault),
+    }
+}
+
+/// A message on the subject of the word, for no queue name.
+fn message_body(alloc: Global, word: &str) -> Option<Body> {
+    Some(Body::Msg {
+        message: message_of(alloc, word, "", "")?,
+        queues: QueueNames::new(),
+    })
+}
+
+/// What a frame of this kind says.
+fn body_of(alloc: Global, kind: &str, words: &Words<'_>) -> Option<Body> {
+    match kind {
+        "message" => message_body(alloc, words.at(4)),
+        "plus" => Some(Body::Plus(WeightedKey::new(key_at(alloc, words, 4)?, 1)?)),
+        "snapshot" => Some(Body::Snapshot(SnapshotKeys::new(alloc))),
+        _ => None,
+    }
+}
+
+/// Takes a frame of this kind.
+fn hear_frame(
+    answer: &mut String,
+    stand: &mut HubStand,
+    alloc: Global,
+    kind: &str,
+    words: &Words<'_>,
+) -> Option<()> {
+    let from = life_of(words.at(0), words.number(1))?;
+    let to = life_of("n1", words.number(2))?;
+    let body = body_of(alloc, kind, words)?;
+    let frame = Numbered::new(from.name, from.inc, to.name, to.inc, words.number(3), body)?;
+    receive(answer, stand, &frame)
+}
+
+/// The publication of the words: behind the connection a subject and a payload.
+fn publication(alloc: Global, words: &Words<'_>) -> Option<Pub> {
+    let message = message_of(alloc, words.at(1), "", words.at(2))?;
+    Some(Pub {
+        message,
+        echo: true,
+    })
+}
+
+/// Publishes, with the word 0.
+fn publish(answer: &mut String, stand: &mut HubStand, conn: ConnId, said: &Pub) -> Option<()> {
+    match stand.hub.publish(conn, said, 0, &stand.finished) {
+        Ok(job) => {
+            stand.note(job.turn);
+            let (turn, names) = (job.turn.get(), job.queues.as_slice().len());
+            write!(
+                answer,
+                "turn {turn}, number {}, names {names}",
+                job.id.number
+            )
+            .ok()
+        }
+        Err(fault) => hub_refused(answer, fault),
+    }
+}
+
+/// Tells queue names, with blanks between them.
+fn names_told(answer: &mut String, names: &[QueueName]) -> Option<()> {
+    tell(answer, " [")?;
+    let mut between = "";
+    for name in names {
+        tell_bytes(answer, between, name.bytes())?;
+        between = " ";
+    }
+    tell(answer, "]")
+}
+
+/// Tells the peer that a frame is for, and its queue names.
+fn frame_told(answer: &mut String, frame: &Numbered) -> Option<()> {
+    let to = frame.to();
+    tell(answer, ", ")?;
+    tell(answer, to.text())?;
+    match frame.body() {
+        Body::Msg { queues, .. } => names_told(answer, queues.as_slice()),
+        _ => None,
+    }
+}
+
+/// Tells what is owed.
+fn plan_told(answer: &mut String, plan: &PublishPlan) -> Option<()> {
+    tell(answer, "here")?;
+    names_told(answer, plan.job.queues.as_slice())?;
+    for frame in &plan.frames {
+        frame_told(answer, frame)?;
+    }
+    Some(())
+}
+
+/// Tells what a publication would owe, where no shard has finished a turn.
+fn plan(answer: &mut String, hub: &Hub, conn: ConnId, said: &Pub, word: u64) -> Option<()> {
+    match hub.plan_publish(conn, said, word, &Finished::new()) {
+        Ok(plan) => plan_told(answer, &plan),
+        Err(fault) => hub_refused(answer, fault),
+    }
+}
+
+/// Counts an opening or a closing, and tells how many changes are told.
+fn collect(answer: &mut String, hub: &mut Hub, key: Key, up: bool) -> Option<()> {
+    match hub.collect(&[Delta { key, up }]) {
+        Ok(told) => tell_number(answer, "told ", told.changes.len() as u64),
+        Err(fault) => hub_refused(answer, fault),
+    }
+}
+
+/// A peer comes up, where it may.
+fn up(answer: &mut String, hub: &mut Hub, place: usize, inc: Incarnation) -> Option<()> {
+    if !hub.server().is_peer(place) || hub.seen_of(place) > inc.get() {
+        return None;
+    }
+    hub.peer_up(place, inc).ok()?;
+    tell(answer, "up")
+}
+
+/// The session with a peer ends.
+fn cut(answer: &mut String, hub: &mut Hub, place: usize) -> Option<()> {
+    if !hub.server().is_peer(place) {
+        return None;
+    }
+    hub.peer_cut(place);
+    tell(answer, "cut")
+}
+
+/// Takes the frames that wait for a peer: at most so many, or all for 0.
+fn take(answer: &mut String, hub: &mut Hub, place: usize, most: u64) -> Option<()> {
+    let most = if most == 0 { usize::MAX } else { most as usize };
+    match hub.take_route(place, most) {
+        Ok(frames) => tell_number(answer, "frames ", frames.len() as u64),
+        Err(fault) => hub_refused(answer, fault),
+    }
+}
+
+/// Makes a call of a hub about a peer, at this place.
+fn peer_call(
+    answer: &mut String,
+    hub: &mut Hub,
+    call: &str,
+    place: usize,
+    number: u64,
+) -> Option<()> {
+    match call {
+        "up" => up(answer, hub, place, Incarnation::new(number)?),
+        "cut" => cut(answer, hub, place),
+        "seen" => tell_number(answer, "seen ", hub.seen_of(place)),
+        "take" => take(answer, hub, place, number),
+        _ => None,
+    }
+}
+
+/// The place of the server of this name.
+fn place_in(hub: &Hub, word: &str) -> Option<usize> {
+    hub.server().place(NodeId::read(word.as_bytes()).ok()?)
+}
+
+/// Makes a call of a hub that has nothing to do with turns.
+fn lone_hub_call(
+    answer: &mut String,
+    hub: &mut Hub,
+    alloc: Global,
+    call: &str,
+    words: &Words<'_>,
+) -> Option<()> {
+    let conn = ConnId::new(words.number(0));
+    match call {
+        "open" => collect(answer, hub, key_at(alloc, words, 0)?, true),
+        "close" => collect(answer, hub, key_at(alloc, words, 0)?, false),
+        "plan" => plan(
+            answer,
+            hub,
+            conn,
+            &publication(alloc, words)?,
+            words.number(3),
+        ),
+        _ => {
+            let place = place_in(hub, words.at(0))?;
+            peer_call(answer, hub, call, place, words.number(1))
+        }
+    }
+}
+
+/// Makes a call of a hub that stands.
+fn stand_call(
+    answer: &mut String,
+    stand: &mut HubStand,
+    alloc: Global,
+    call: &str,
+    words: &Words<'_>,
+) -> Option<()> {
+    let (number, turn) = (words.number(0), Turn::new(words.number(1)));
+    match call {
+        "publish" => publish(
+            answer,
+            stand,
+            ConnId::new(number),
+            &publication(alloc, words)?,
+        ),
+        "message" | "plus" | "snapshot" => hear_frame(answer, stand, alloc, call, words),
+        "finish" => {
+            finish(&mut stand.finished, number, turn)?;
+            tell(answer, "ok")
+        }
+        "be_prompt" => {
+            stand.is_prompt = true;
+            tell(answer, "ok")
+        }
+        _ => lone_hub_call(answer, &mut stand.hub, alloc, call, words),
+    }
+}
+
+/// Makes a call of the hub.
+pub fn hub_call(
+    answer: &mut String,
+    place: &mut Option<HubStand>,
+    alloc: Global,
+    call: &str,
+    words: &Words<'_>,
+) -> Option<()> {
+    match place {
+        _ if call == "new" => new_hub(answer, place, alloc, words),
+        Some(stand) => stand_call(answer, stand, alloc, call, words),
+        None => None,
+    }
+}
+
+/// The sessions of n1 and of n2.
+#[derive(Drop)]
+pub struct Pair {
+    n1: Sessions,
+    n2: Sessions,
+}
+
+/// No sessions, of the server at this place of n1 and n2.
+fn sessions_at(alloc: Global, place: usize, inc: u64) -> Option<Sessions> {
+    Some(Sessions::new(alloc, server_of(alloc, "n1,n2", place, inc, 1)?))
+}
+
+/// New sessions of both stand from now on.
+pub fn new_sessions(
+    answer: &mut String,
+    place: &mut Option<Pair>,
+    alloc: Global,
+    inc: u64,
+) -> Option<()> {
+    let n1 = sessions_at(alloc, 0, inc)?;
+    let n2 = sessions_at(alloc, 1, inc)?;
+    put(place, Some(Pair { n1, n2 }));
+    tell(answer, "ok")
+}
+
+/// Tells a refusal: where a session is kept that is as good, that one too.
+fn session_refused(answer: &mut String, fault: SessionFault) -> Option<()> {
+    tell_refusal(answer, fault.number())?;
+    match &fault {
+        SessionFault::Duplicate { kept } => write!(answer, ", {} is kept", kept.get()).ok(),
+        _ => Some(()),
+    }
+}
+
+/// Tells why a call would be refused.
+fn cause_told(answer: &mut String, fault: Option<SessionFault>) -> Option<()> {
+    match fault {
+        Some(fault) => session_refused(answer, fault),
+        None => tell(answer, "none"),
+    }
+}
+
+/// Tells why a call failed.
+fn failure_told(answer: &mut String, fault: Failure<SessionFault>) -> Option<()> {
+    match fault {
+        Failure::Refused(fault) => session_refused(answer, fault),
+        Failure::OutOfMemory => None,
+    }
+}
+
+/// Tells what a session that is kept took the place of.
+fn kept_told(answer: &mut String, kept: Kept) -> Option<()> {
+    match kept.instead_of {
+        Some(session) => tell_number(answer, "kept instead of ", session.get()),
+        None => tell(answer, "kept"),
+    }
+}
+
+/// Tells the `CONNECT` to send.
+fn connect_told(answer: &mut String, connect: &RouteConnect) -> Option<()> {
+    let (from, to) = (connect.server_name(), connect.to());
+    let (inc, to_inc, serial) = (
+        connect.inc().get(),
+        connect.to_inc().get(),
+        connect.serial(),
+    );
+    write!(
+        answer,
+        ", CONNECT of {} {inc} to {} {to_inc}, serial {serial}",
+        from.text(),
+        to.text()
+    )
+    .ok()
+}
+
+/// Dials the server at the place.
+fn dial(answer: &mut String, sessions: &mut Sessions, place: usize) -> Option<()> {
+    match sessions.dial(place) {
+        Ok(session) => tell_number(answer, "session ", session.get()),
+        Err(fault) => failure_told(answer, fault),
+    }
+}
+
+/// Accepts a session.
+fn accept(answer: &mut String, sessions: &mut Sessions) -> Option<()> {
+    match sessions.accept() {
+        Ok((session, _info)) => tell_number(answer, "session ", session.get()),
+        Err(fault) => failure_told(answer, fault),
+    }
+}
+
+/// The `INFO` of the words.
+fn info_of(words: &Words<'_>) -> Option<RouteInfo> {
+    let life = life_of(words.at(1), words.number(2))?;
+    Some(RouteInfo::new(life.name, life.inc))
+}
+
+/// The `CONNECT` of the words.
+fn connect_of(words: &Words<'_>) -> Option<RouteConnect> {
+    let from = life_of(words.at(1), words.number(2))?;
+    let to = life_of(words.at(3), words.number(4))?;
+    RouteConnect::new(from.name, from.inc, to.name, to.inc, words.number(5))
+}
+
+/// An `INFO` comes.
+fn on_info(answer: &mut String, sessions: &mut Sessions, words: &Words<'_>) -> Option<()> {
+    let session = SessionId::new(words.number(0));
+    match sessions.on_info(session, &info_of(words)?, words.number(3)) {
+        Ok((kept, connect)) => {
+            kept_told(answer, kept)?;
+            connect_told(answer, &connect)
+        }
+        Err(fault) => session_refused(answer, fault),
+    }
+}
+
+/// A `CONNECT` comes.
+fn on_connect(answer: &mut String, sessions: &mut Sessions, words: &Words<'_>) -> Option<()> {
+    let session = SessionId::new(words.number(0));
+    match sessions.on_connect(session, &connect_of(words)?, words.number(6)) {
+        Ok(kept) => kept_told(answer, kept),
+        Err(fault) => session_refused(answer, fault),
+    }
+}
+
+/// Ends a session. Tells which peer's kept one it was.
+fn cut_session(answer: &mut String, sessions: &mut Sessions, session: SessionId) -> Option<()> {
+    match sessions.cut(session) {
+        Ok(Some(place)) => {
+            let name = sessions.server().names().get(place)?;
+            tell(answer, "ended, was kept for ")?;
+            tell(answer, name.text())
+        }
+        Ok(None) => tell(answer, "ended"),
+        Err(fault) => session_refused(answer, fault),
+    }
+}
+
+/// Tells the session that is kept for the peer at the place.
+fn kept(answer: &mut String, sessions: &Sessions, place: usize) -> Option<()> {
+    match sessions.kept_session(place) {
+        Some(session) => tell_number(answer, "session ", session.get()),
+        None => tell(answer, "none"),
+    }
+}
+
+/// Makes a call of the sessions of one server about the peer at the place.
+fn peer_session_call(
+    answer: &mut String,
+    sessions: &mut Sessions,
+    call: &str,
+    place: usize,
+) -> Option<()> {
+    match call {
+        "dial" => dial(answer, sessions, place),
+        "dial_fault" => cause_told(answer, sessions.dial_fault(place)),
+        "kept" => kept(answer, sessions, place),
+        _ => {
+            sessions.drop_kept(place);
+            tell(answer, "ok")
+        }
+    }
+}
+
+/// Makes a call of the sessions of one server.
+fn session_call(
+    answer: &mut String,
+    sessions: &mut Sessions,
+    call: &str,
+    words: &Words<'_>,
+) -> Option<()> {
+    let (session, least) = (SessionId::new(words.number(0)), words.number(3));
+    match call {
+        "dial" | "dial_fault" | "kept" | "drop_kept" => {
+            let name = NodeId::read(words.at(0).as_bytes()).ok()?;
+            let place = sessions.server().place(name)?;
+            peer_session_call(answer, sessions, call, place)
+        }
+        "accept" => accept(answer, sessions),
+        "on_info" => on_info(answer, sessions, words),
+        "on_connect" => on_connect(answer, sessions, words),
+        "cut" => cut_session(answer, sessions, session),
+        "info_fault" => {
+            cause_told(
+                answer,
+                sessions.info_fault(session, &info_of(words)?, least),
+            )
+        }
+        "connect_fault" => {
+            let connect = connect_of(words)?;
+            cause_told(
+                answer,
+                sessions.connect_fault(session, &connect, words.number(6)),
+            )
+        }
+        "accept_fault" => cause_told(answer, sessions.accept_fault()),
+        "cut_fault" => cause_told(answer, sessions.cut_fault(session)),
+        _ => None,
+    }
+}
+
+/// Makes a call of the sessions of n1 or n2.
+pub fn pair_call(
+    answer: &mut String,
+    pair: &mut Option<Pair>,
+    name: &str,
+    call: &str,
+    words: &Words<'_>,
+) -> Option<()> {
+    match pair {
+        Some(pair) if name == "n1" => session_call(answer, &mut pair.n1, call, words),
+        Some(pair) => session_call(answer, &mut pair.n2, call, words),
+        None => None,
+    }
+}
+
+/// The hub's refusal of this name.
+fn hub_fault(name: &str) -> Option<HubFault> {
+    match name {
+        "busy" => Some(HubFault::Busy(Busy {
+            shard: 2,
+            finished: Turn::zero(),
+        })),
+        "too many queues" => Some(HubFault::TooManyQueues),
+        "spent" => Some(HubFault::Spent),
+        "not me" => Some(HubFault::NotMe),
+        "other me" => Some(HubFault::OtherMe),
+        "not in cluster" => Some(HubFault::NotInCluster),
+        "stale origin" => Some(HubFault::StaleOrigin),
+        "late" => Some(HubFault::Late),
+        "gap" => Some(HubFault::Gap),
+        "bad interest" => Some(HubFault::BadInterest),
+        _ => None,
+    }
+}
+
+/// The sessions' refusal of this name.
+fn session_fault(name: &str) -> Option<SessionFault> {
+    match name {
+        "wrong name" => Some(SessionFault::WrongName),
+        "old incarnation" => Some(SessionFault::OldIncarnation),
+        "duplicate" => Some(SessionFault::Duplicate {
+            kept: SessionId::new(1),
+        }),
+        "unknown session" => Some(SessionFault::UnknownSession),
+        "too many sessions" => Some(SessionFault::TooManySessions),
+        "spent" => Some(SessionFault::Spent),
+        _ => None,
+    }
+}
+
+/// Tells the number of a refusal of this name.
+pub fn fault_call(answer: &mut String, call: &str, name: &str) -> Option<()> {
+    let number = match call {
+        "of_hub" => hub_fault(name)?.number(),
+        _ => session_fault(name)?.number(),
+    };
+    tell_number(answer, "number ", u64::from(number))
+}
+
+/// Makes a call of the numbers of sessions.
+pub fn id_call(answer: &mut String, call: &str, words: &Words<'_>) -> Option<()> {
+    let one = SessionId::new(words.number(0));
+    let other = SessionId::new(words.number(1));
+    match call {
+        "number" => tell_number(answer, "number ", one.get()),
+        "same" => tell_whether(answer, one == other),
+        "differs" => tell_whether(answer, one != other),
+        _ => None,
+    }
+}

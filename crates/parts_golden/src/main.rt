@@ -1,0 +1,163 @@
+//! Cases of the parts of a server: entries and outboxes, tries, tables of subscriptions, shards, the race for queue names and the choice of a
+//! server; interest, hubs, and the sessions of two servers. `golden` has the form of their files, which stand in `data/`.
+//!
+//! ```text
+//! shard.new 1|8
+//! shard.attach => conn 1
+//! times 511 shard.subscribe 1|<<a*1000>>||# => new
+//! ```
+//!
+//! In reading order: `guarded` has what calls may ask for only where something holds; `shards` makes the calls of outboxes, tries, races and
+//! shards; `tables` those of tables of subscriptions; and `hubs` those of interest, hubs and sessions.
+#![tactic(auto)]
+
+mod guarded;
+mod hubs;
+mod shards;
+mod tables;
+
+use golden::{Words, put, told};
+use guarded::{Course, Opened, Outboxes};
+use hubs::{
+    HubStand, Pair, counts_call, fault_call, hub_call, id_call, new_sessions, pair_call, view_call,
+};
+use interest::{Local, View};
+use outbox::Entry;
+use pattern_trie::PatternTrie;
+use shards::{Stand, choose, entry_call, outbox_call, patterns_call, race_call, shard_call};
+use std::alloc::{AllocError, Global};
+use std::process::ExitCode;
+use sub_table::ListTable;
+use sub_trie::TrieTable;
+use tables::{compare, table_call, trie_call};
+
+/// What a case has made of outboxes, tries, tables and shards.
+#[derive(Drop)]
+struct ShardParts {
+    entry: Option<Entry>,
+    outbox: Option<Outboxes>,
+    patterns: PatternTrie<u64>,
+    list: Option<Opened<ListTable>>,
+    trie: Option<Opened<TrieTable>>,
+    shard: Option<Stand>,
+    race: Option<Course>,
+}
+
+impl ShardParts {
+    /// Nothing.
+    fn new(alloc: Global) -> ShardParts {
+        ShardParts {
+            entry: None,
+            outbox: None,
+            patterns: PatternTrie::new(alloc),
+            list: None,
+            trie: None,
+            shard: None,
+            race: None,
+        }
+    }
+
+    /// Makes a call of these.
+    fn call(
+        &mut self,
+        answer: &mut String,
+        alloc: Global,
+        of: &str,
+        call: &str,
+        words: &Words<'_>,
+    ) -> Option<()> {
+        match of {
+            "entry" => entry_call(answer, &mut self.entry, alloc, call, words),
+            "outbox" => outbox_call(answer, &mut self.outbox, alloc, call, words),
+            "patterns" => patterns_call(answer, &mut self.patterns, alloc, call, words),
+            "list" => table_call(answer, &mut self.list, alloc, call, words),
+            "trie" => trie_call(answer, &mut self.trie, alloc, call, words),
+            "tables" => compare(answer, alloc, words.number(0), words.number(1)),
+            "shard" => shard_call(answer, &mut self.shard, alloc, call, words),
+            "race" => race_call(answer, &mut self.race, alloc, call, words),
+            "pick" => choose(answer, alloc, words.at(0), words.number(1)),
+            _ => None,
+        }
+    }
+}
+
+/// What a case has made of interest, hubs and sessions.
+#[derive(Drop)]
+struct HubParts {
+    counts: Option<Local>,
+    view: View,
+    hub: Option<HubStand>,
+    pair: Option<Pair>,
+}
+
+impl HubParts {
+    /// Nothing but a view of which nothing was heard.
+    fn new(alloc: Global) -> HubParts {
+        HubParts {
+            counts: None,
+            view: View::new(alloc),
+            hub: None,
+            pair: None,
+        }
+    }
+
+    /// Makes a call of these.
+    fn call(
+        &mut self,
+        answer: &mut String,
+        alloc: Global,
+        of: &str,
+        call: &str,
+        words: &Words<'_>,
+    ) -> Option<()> {
+        match of {
+            "counts" => counts_call(answer, &mut self.counts, alloc, call, words),
+            "view" => view_call(answer, &mut self.view, alloc, call, words),
+            "hub" => hub_call(answer, &mut self.hub, alloc, call, words),
+            "sessions" => new_sessions(answer, &mut self.pair, alloc, words.number(0)),
+            "n1" | "n2" => pair_call(answer, &mut self.pair, of, call, words),
+            "fault" => fault_call(answer, call, words.at(0)),
+            "id" => id_call(answer, call, words),
+            _ => None,
+        }
+    }
+}
+
+/// What stands in a case.
+#[derive(Drop)]
+struct Rig {
+    alloc: Global,
+    shard_parts: ShardParts,
+    hub_parts: HubParts,
+}
+
+impl golden::Rig for Rig {
+    fn renew(&mut self) -> Result<(), AllocError> {
+        put(&mut self.shard_parts, ShardParts::new(self.alloc));
+        put(&mut self.hub_parts, HubParts::new(self.alloc));
+        Ok(())
+    }
+
+    fn answer(&mut self, name: &str, words: &Words<'_>) -> Result<String, AllocError> {
+        let alloc = self.alloc;
+        let (of, call) = name.split_once('.').unwrap_or((name, ""));
+        let mut answer = String::new(alloc);
+        let is_told = match of {
+            "counts" | "view" | "hub" | "sessions" | "n1" | "n2" | "fault" | "id" => {
+                self.hub_parts.call(&mut answer, alloc, of, call, words)
+            }
+            _ => self.shard_parts.call(&mut answer, alloc, of, call, words),
+        };
+        told(alloc, answer, is_told)
+    }
+}
+
+fn main(rt: HostRuntime) -> ExitCode {
+    let alloc = rt.alloc();
+    let mut rig = Rig {
+        alloc,
+        shard_parts: ShardParts::new(alloc),
+        hub_parts: HubParts::new(alloc),
+    };
+    golden::play(&rt, &mut rig)
+}

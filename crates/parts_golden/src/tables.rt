@@ -1,0 +1,437 @@
+//! Calls of tables of subscriptions: the one that is scanned, the one that is found by tokens, and drawn lists of calls on both, which have
+//! to answer alike.
+
+use crate::guarded::Opened;
+use golden::{
+    Words, key_of, push_key, put, sid_of, subject_of, tell, tell_bytes, tell_choice, tell_number,
+    tell_whether,
+};
+use rand_core::utils::NextWord;
+use rand_pcg::Pcg32;
+use std::alloc::Global;
+use std::fmt::Write;
+use sub_table::{ListTable, SubTable, Subscription};
+use sub_trie::TrieTable;
+use subj::{ConnId, Key, Pattern, Sid, Subject};
+
+/// The subscription of a serial, a connection, a pattern, a queue name or none, and an id.
+fn subscription_of(alloc: Global, words: &Words<'_>) -> Option<Subscription> {
+    let key = key_of(alloc, words.at(2), words.at(3))?;
+    let sid = sid_of(alloc, words.at(4))?;
+    Some(Subscription {
+        serial: words.number(0),
+        conn: ConnId::new(words.number(1)),
+        key,
+        sid,
+        delivered: 0,
+        max: None,
+    })
+}
+
+/// Opens a subscription.
+fn open<T: SubTable>(
+    answer: &mut String,
+    opened: &mut Opened<T>,
+    alloc: Global,
+    words: &Words<'_>,
+) -> Option<()> {
+    let is_next = opened.open(subscription_of(alloc, words)?).ok()?;
+    tell(answer, if is_next { "ok" } else { "no serial" })
+}
+
+/// Tells of a subscription that may be open.
+fn sub_told(answer: &mut String, sub: Option<&Subscription>) -> Option<()> {
+    let Some(sub) = sub else {
+        return tell(answer, "none");
+    };
+    write!(answer, "{} of conn {}: ", sub.serial, sub.conn.get()).ok()?;
+    push_key(answer, &sub.key).ok()?;
+    tell_bytes(answer, ", id ", sub.sid.bytes())
+}
+
+/// Closes the one of this serial, and tells it.
+fn remove<T: SubTable>(answer: &mut String, opened: &mut Opened<T>, serial: u64) -> Option<()> {
+    let closed = opened.remove(serial);
+    sub_told(answer, closed.as_ref())
+}
+
+/// Tells the serials of those that match.
+fn matching<T: SubTable>(answer: &mut String, table: &T, alloc: Global, word: &str) -> Option<()> {
+    let subject = subject_of(alloc, word)?;
+    tell(answer, "serials")?;
+    for sub in &table.matching(&subject).ok()? {
+        tell_number(answer, " ", sub.serial)?;
+    }
+    Some(())
+}
+
+/// Tells the serials of a connection's, behind a 77 that was there.
+fn serials_of<T: SubTable>(answer: &mut String, table: &T, alloc: Global, conn: u64) -> Option<()> {
+    let mut serials = Vec::from_slice(alloc, &[77]).ok()?;
+    table.serials_of(ConnId::new(conn), &mut serials).ok()?;
+    tell(answer, "serials")?;
+    for serial in &serials {
+        tell_number(answer, " ", *serial)?;
+    }
+    Some(())
+}
+
+/// Tells the serial of what a connection calls by an id.
+fn find<T: SubTable>(
+    answer: &mut String,
+    table: &T,
+    alloc: Global,
+    words: &Words<'_>,
+) -> Option<()> {
+    let sid = sid_of(alloc, words.at(1))?;
+    tell_choice(answer, table.find(ConnId::new(words.number(0)), &sid))
+}
+
+/// Tells how many messages one got and is to get.
+fn counts_told(answer: &mut String, sub: Option<&Subscription>) -> Option<()> {
+    let Some(sub) = sub else {
+        return tell(answer, "none");
+    };
+    tell_number(answer, "", sub.delivered)?;
+    match sub.max {
+        None => Some(()),
+        Some(max) => tell_number(answer, " of ", max),
+    }
+}
+
+/// Makes a call that leaves the table as it is.
+fn seen<T: SubTable>(
+    answer: &mut String,
+    table: &T,
+    alloc: Global,
+    call: &str,
+    words: &Words<'_>,
+) -> Option<()> {
+    match call {
+        "len" => tell_number(answer, "", table.len() as u64),
+        "fits" => tell_whether(answer, table.fits(words.number(0), words.number(1))),
+        "get" => sub_told(answer, table.get(words.number(0))),
+        "counts" => counts_told(answer, table.get(words.number(0))),
+        "find" => find(answer, table, alloc, words),
+        "matching" => matching(answer, table, alloc, words.at(0)),
+        "serials_of" => serials_of(answer, table, alloc, words.number(0)),
+        _ => None,
+    }
+}
+
+/// Closes those of a connection, or notes how many messages one got or is to get.
+fn change<T: SubTable>(opened: &mut Opened<T>, call: &str, words: &Words<'_>) {
+    match call {
+        "close" => opened.close(words.number(0)),
+        "set_count" => opened.set_count(words.number(0), words.number(1)),
+        _ => opened.set_max(words.number(0), words.at(1).parse().ok()),
+    }
+}
+
+/// Makes a call of a table that stands.
+fn opened_call<T: SubTable>(
+    answer: &mut String,
+    opened: &mut Opened<T>,
+    alloc: Global,
+    call: &str,
+    words: &Words<'_>,
+) -> Option<()> {
+    match call {
+        "open" => open(answer, opened, alloc, words),
+        "remove" => remove(answer, opened, words.number(0)),
+        "close" | "set_count" | "set_max" => {
+            change(opened, call, words);
+            tell(answer, "ok")
+        }
+        _ => seen(answer, opened.table(), alloc, call, words),
+    }
+}
+
+/// A new table stands from now on.
+fn begin<T: SubTable>(
+    answer: &mut String,
+    place: &mut Option<Opened<T>>,
+    alloc: Global,
+) -> Option<()> {
+    let opened = Opened::new(alloc).ok()?;
+    put(place, Some(opened));
+    tell(answer, "ok")
+}
+
+/// Makes a call of a table.
+pub fn table_call<T: SubTable>(
+    answer: &mut String,
+    place: &mut Option<Opened<T>>,
+    alloc: Global,
+    call: &str,
+    words: &Words<'_>,
+) -> Option<()> {
+    match place {
+        _ if call == "new" => begin(answer, place, alloc),
+        Some(opened) => opened_call(answer, opened, alloc, call, words),
+        None => None,
+    }
+}
+
+/// Makes a call of the table over a trie, which has nodes too.
+pub fn trie_call(
+    answer: &mut String,
+    place: &mut Option<Opened<TrieTable>>,
+    alloc: Global,
+    call: &str,
+    words: &Words<'_>,
+) -> Option<()> {
+    match call {
+        "nodes" => tell_number(answer, "", place.as_ref()?.table().nodes() as u64),
+        _ => table_call(answer, place, alloc, call, words),
+    }
+}
+
+/// How many calls are in a list.
+const CALLS: u64 = 30;
+
+/// In one of so many lists subjects are kept in mind.
+const KEEPING: u64 = 10;
+
+/// Behind the calls counts are noted so often.
+const NOTES: u64 = 5;
+
+/// Stands between the parts of what a table answers.
+const PART: u64 = u64::MAX;
+
+/// What is drawn for a call or a question.
+#[derive(Clone, Copy)]
+struct Drawn {
+    /// 0 closes those of the connection, 1 and 2 the one of the serial; another one opens one.
+    kind: u64,
+    conn: u64,
+    serial: u64,
+    /// How many bytes are asked for.
+    limit: u64,
+    /// Tells the tokens and the id.
+    word: u64,
+}
+
+/// A number below a bound that is not 0.
+fn below(random: &mut Pcg32, bound: u64) -> u64 {
+    let word = random.next_word() as u64;
+    if bound == 0 { 0 } else { (word >> 8) % bound }
+}
+
+/// Draws a call or a question.
+fn draw(random: &mut Pcg32) -> Drawn {
+    Drawn {
+        kind: below(random, 8),
+        conn: below(random, 3).saturating_add(1),
+        serial: below(random, CALLS),
+        limit: below(random, 700),
+        word: below(random, 1 << 24),
+    }
+}
+
+/// A token of the last place or another: one of three letters, or where they are wanted a wildcard.
+fn token(word: u64, is_last: bool, is_wild: bool) -> u8 {
+    let kind = if is_wild { word % 5 } else { word % 3 };
+    match kind {
+        0 => b'a',
+        1 => b'b',
+        2 => b'c',
+        3 if is_last => b'>',
+        _ => b'*',
+    }
+}
+
+/// One to three tokens, the wildcards among them where they are wanted.
+fn tokens(alloc: Global, word: u64, is_wild: bool) -> Option<Vec<u8>> {
+    let mut drawn = Vec::new(alloc);
+    let (count, mut word) = (word % 3, word / 3);
+    for at in 0..=count {
+        if at > 0 {
+            drawn.push(b'.').ok()?;
+        }
+        drawn.push(token(word, at == count, is_wild)).ok()?;
+        word /= 5;
+    }
+    Some(drawn)
+}
+
+/// The id of a drawn word.
+fn drawn_sid(alloc: Global, word: u64) -> Option<Sid> {
+    let text: &[u8] = match word % 7 % 3 {
+        0 => b"1",
+        1 => b"2",
+        _ => b"22",
+    };
+    Sid::read(alloc, text).ok()
+}
+
+/// The key of a drawn word.
+fn drawn_key(alloc: Global, word: u64) -> Option<Key> {
+    let pattern = Pattern::read(alloc, &tokens(alloc, word, true)?).ok()?;
+    Some(Key {
+        pattern,
+        queue: None,
+    })
+}
+
+/// The subscription that a drawn call opens.
+fn drawn_subscription(alloc: Global, drawn: Drawn, serial: u64) -> Option<Subscription> {
+    let key = drawn_key(alloc, drawn.word)?;
+    let sid = drawn_sid(alloc, drawn.word)?;
+    Some(Subscription {
+        serial,
+        conn: ConnId::new(drawn.conn),
+        key,
+        sid,
+        delivered: 0,
+        max: None,
+    })
+}
+
+/// Makes a drawn call. Gives the serial that it opened or closed, 0 where there is none.
+fn make<T: SubTable>(opened: &mut Opened<T>, alloc: Global, drawn: Drawn) -> Option<u64> {
+    match drawn.kind {
+        0 => {
+            opened.close(drawn.conn);
+            Some(0)
+        }
+        1 | 2 => match opened.remove(drawn.serial) {
+            None => Some(0),
+            Some(sub) => Some(sub.serial),
+        },
+        _ => {
+            let serial = opened.last().saturating_add(1);
+            let is_next = opened.open(drawn_subscription(alloc, drawn, serial)?).ok()?;
+            is_next.then_some(serial)
+        }
+    }
+}
+
+/// Puts what is told of the one of this serial.
+fn push_got<T: SubTable>(answers: &mut Vec<u64>, table: &T, serial: u64) -> Option<()> {
+    let Some(sub) = table.get(serial) else {
+        return answers.push(PART).ok();
+    };
+    answers.push(sub.conn.get()).ok()?;
+    answers.push(sub.delivered).ok()?;
+    answers.push(sub.max.unwrap_or(PART)).ok()
+}
+
+/// Puts the serials of those that match.
+fn push_matching<T: SubTable>(answers: &mut Vec<u64>, table: &T, subject: &Subject) -> Option<()> {
+    for sub in &table.matching(subject).ok()? {
+        answers.push(sub.serial).ok()?;
+    }
+    answers.push(PART).ok()
+}
+
+/// Puts what is told of a connection and an id of it.
+fn push_of_conn<T: SubTable>(
+    answers: &mut Vec<u64>,
+    table: &T,
+    conn: u64,
+    sid: &Sid,
+) -> Option<()> {
+    table.serials_of(ConnId::new(conn), answers).ok()?;
+    answers.push(PART).ok()?;
+    answers
+        .push(table.find(ConnId::new(conn), sid).unwrap_or(PART))
+        .ok()
+}
+
+/// What a table answers to a drawn question.
+fn answers_of<T: SubTable>(
+    alloc: Global,
+    table: &T,
+    subject: &Subject,
+    asked: Drawn,
+) -> Option<Vec<u64>> {
+    let sid = drawn_sid(alloc, asked.word)?;
+    let mut answers = Vec::new(alloc);
+    push_matching(&mut answers, table, subject)?;
+    push_of_conn(&mut answers, table, asked.conn, &sid)?;
+    answers.push(table.fits(30, asked.limit) as u64).ok()?;
+    push_got(&mut answers, table, asked.serial)?;
+    Some(answers)
+}
+
+/// Both tables.
+#[derive(Drop)]
+struct Pair {
+    list: Opened<ListTable>,
+    trie: Opened<TrieTable>,
+}
+
+/// Tables without subscriptions.
+fn new_pair(alloc: Global) -> Option<Pair> {
+    let list = Opened::new(alloc).ok()?;
+    let trie = Opened::new(alloc).ok()?;
+    Some(Pair { list, trie })
+}
+
+/// Asks both tables the same, and tells the trie before so often that the subject will be looked up. Gives whether they answer alike.
+fn ask_both(alloc: Global, pair: &mut Pair, asked: Drawn, times: u64) -> Option<bool> {
+    let subject = Subject::read(alloc, &tokens(alloc, asked.word, false)?).ok()?;
+    for _time in 0..times {
+        pair.trie.remember(&subject);
+    }
+    let of_list = answers_of(alloc, pair.list.table(), &subject, asked)?;
+    let of_trie = answers_of(alloc, pair.trie.table(), &subject, asked)?;
+    Some(of_list.as_slice() == of_trie.as_slice())
+}
+
+/// Makes a drawn call on both tables. Gives whether they answer alike.
+fn call_both(alloc: Global, pair: &mut Pair, drawn: Drawn) -> Option<bool> {
+    let of_list = make(&mut pair.list, alloc, drawn)?;
+    let of_trie = make(&mut pair.trie, alloc, drawn)?;
+    Some(of_list == of_trie)
+}
+
+/// Notes drawn counts in both tables.
+fn note_both(pair: &mut Pair, drawn: Drawn) {
+    let (serial, other, count) = (drawn.serial, drawn.word % CALLS, drawn.limit % 9);
+    pair.list.set_count(serial, count);
+    pair.trie.set_count(serial, count);
+    pair.list.set_max(other, Some(count));
+    pair.trie.set_max(other, Some(count));
+}
+
+/// How often the trie is told of a subject: where subjects are kept in mind, of each second one so often that it is.
+fn keeping(keeps: bool, drawn: Drawn) -> u64 {
+    if keeps && drawn.limit % 2 == 0 { 8 } else { 0 }
+}
+
+/// One list of calls, then a round of notes: whether both tables answer alike.
+fn play_list(alloc: Global, random: &mut Pcg32, pair: &mut Pair, keeps: bool) -> Option<bool> {
+    for call in 0..CALLS + NOTES {
+        let drawn = draw(random);
+        if call >= CALLS {
+            note_both(pair, drawn);
+        } else if !call_both(alloc, pair, drawn)? {
+            return Some(false);
+        }
+        let asked = draw(random);
+        if !ask_both(alloc, pair, asked, keeping(keeps, asked))? {
+            return Some(false);
+        }
+    }
+    Some(true)
+}
+
+/// The list of a seed: whether both tables answer alike.
+fn are_alike(alloc: Global, seed: u64) -> Option<bool> {
+    let mut random = Pcg32::new(seed, 54);
+    let mut pair = new_pair(alloc)?;
+    play_list(alloc, &mut random, &mut pair, seed % KEEPING == 0)
+}
+
+/// Tells whether the tables answer alike in so many lists, from this seed on.
+pub fn compare(answer: &mut String, alloc: Global, first: u64, count: u64) -> Option<()> {
+    for at in 0..count {
+        let seed = first.saturating_add(at);
+        if !are_alike(alloc, seed)? {
+            return tell_number(answer, "apart in the list of ", seed);
+        }
+    }
+    tell(answer, "alike")
+}

@@ -1,0 +1,166 @@
+//! What clients say, and callers whose passes tell what they asked and were answered.
+
+use client_frames::{ErrText, ReplyFrame};
+use golden::{key_of, message_of, sid_of};
+use route_values::{Body, Numbered, RouteConnect, RouteInfo, SnapshotKeys};
+use std::alloc::Global;
+use std::sync::Wait;
+use sub_table::ListTable;
+use subj::{ConnId, Incarnation, Key, NodeId, Pub, QueueNames, Sid};
+use thread_node::{NodeName, ThreadNode};
+use thread_report::Pass;
+
+/// The server.
+pub type Node<N> = ThreadNode<ListTable, N>;
+
+/// `hello` on `foo`, as a client says it.
+pub fn hello(alloc: Global) -> Option<Pub> {
+    Some(Pub {
+        message: message_of(alloc, "foo", "", "hello")?,
+        echo: true,
+    })
+}
+
+/// What opens a subscription to `foo`, in the queue group `work`, with the id 1.
+pub fn opening(alloc: Global) -> Option<(Key, Sid)> {
+    let key = key_of(alloc, "foo", "work")?;
+    let sid = sid_of(alloc, "1")?;
+    Some((key, sid))
+}
+
+/// Whether a call was done; what it gave is let go of here, since it would be proved anew wherever this is done.
+fn done<X: Drop, E: Drop>(answer: Result<X, E>) -> Option<()> {
+    match answer {
+        Ok(_given) => Some(()),
+        Err(_fault) => None,
+    }
+}
+
+/// A subscription of a client opens, and ends.
+fn opens_and_ends<N: NodeName, R: Wait>(
+    rt: &R,
+    alloc: Global,
+    node: &Node<N>,
+    pass: &mut Pass<N>,
+    conn: ConnId,
+) -> Option<()> {
+    let (key, id) = opening(alloc)?;
+    done(pass.subscribe(rt, node, 1, conn, key, id))?;
+    done(pass.collect(rt, node, 1))?;
+    let id = sid_of(alloc, "1")?;
+    done(pass.unsubscribe(rt, node, 1, conn, &id, None))
+}
+
+/// A client is answered, and its connection is shut.
+fn is_answered_and_shut<N: NodeName, R: Wait>(
+    rt: &R,
+    node: &Node<N>,
+    pass: &mut Pass<N>,
+    conn: ConnId,
+) -> Option<()> {
+    done(pass.reply(rt, node, 1, conn, &ReplyFrame::Pong))?;
+    done(pass.take(rt, node, 1, conn, 1))?;
+    done(pass.shut(rt, node, 1, conn, ErrText::ParserError))
+}
+
+/// A client publishes a job that is dropped, and goes.
+fn publishes_and_goes<N: NodeName, R: Wait>(
+    rt: &R,
+    node: &Node<N>,
+    pass: &mut Pass<N>,
+    said: &Pub,
+) -> Option<()> {
+    let conn = pass.attach(rt, node, 1).ok()?;
+    done(pass.publish(rt, node, conn, said, 7))?;
+    done(pass.drop_job(rt, node, 1))?;
+    done(pass.detach(rt, node, 1, conn))
+}
+
+/// Each call of a client: a subscription, an answer, and the end of a connection in both ways.
+pub fn serve_clients<N: NodeName, R: Wait>(
+    rt: &R,
+    alloc: Global,
+    node: &Node<N>,
+    pass: &mut Pass<N>,
+) -> Option<()> {
+    let conn = pass.attach(rt, node, 1).ok()?;
+    opens_and_ends(rt, alloc, node, pass, conn)?;
+    is_answered_and_shut(rt, node, pass, conn)?;
+    publishes_and_goes(rt, node, pass, &hello(alloc)?)
+}
+
+/// n1 and n2, both in their first lives.
+#[derive(Clone, Copy)]
+struct Lives {
+    n1: NodeId,
+    n2: NodeId,
+    inc: Incarnation,
+}
+
+fn first_lives() -> Option<Lives> {
+    Some(Lives {
+        n1: NodeId::read(b"n1").ok()?,
+        n2: NodeId::read(b"n2").ok()?,
+        inc: Incarnation::new(1)?,
+    })
+}
+
+/// The snapshot of n2 to n1: it has no interest.
+fn snapshot(alloc: Global) -> Option<Numbered> {
+    let Lives { n1, n2, inc } = first_lives()?;
+    let body = Body::Snapshot(SnapshotKeys::new(alloc));
+    Numbered::new(n2, inc, n1, inc, 0, body)
+}
+
+/// The first message of n2 to n1.
+fn message(alloc: Global) -> Option<Numbered> {
+    let Lives { n1, n2, inc } = first_lives()?;
+    let Pub { message, .. } = hello(alloc)?;
+    let queues = QueueNames::new();
+    Numbered::new(n2, inc, n1, inc, 1, Body::Msg { message, queues })
+}
+
+/// n1 receives a frame of n2.
+fn receives<N: NodeName, R: Wait>(
+    rt: &R,
+    node: &Node<N>,
+    pass: &mut Pass<N>,
+    frame: Option<Numbered>,
+) -> Option<()> {
+    done(pass.receive(rt, node, &frame?))
+}
+
+/// n1 dials n2, hears it, and ends the session.
+fn dials_and_hears<N: NodeName, R: Wait>(
+    rt: &R,
+    alloc: Global,
+    node: &Node<N>,
+    pass: &mut Pass<N>,
+) -> Option<()> {
+    let Lives { n2, inc, .. } = first_lives()?;
+    let dialed = pass.dial(rt, node, 1).ok()?;
+    done(pass.info(rt, node, dialed, &RouteInfo::new(n2, inc)))?;
+    receives(rt, node, pass, snapshot(alloc))?;
+    receives(rt, node, pass, message(alloc))?;
+    done(pass.take_frames(rt, node, 1, 1))?;
+    done(pass.cut(rt, node, dialed))
+}
+
+/// n2 dials n1.
+fn is_dialed<N: NodeName, R: Wait>(rt: &R, node: &Node<N>, pass: &mut Pass<N>) -> Option<()> {
+    let Lives { n1, n2, inc } = first_lives()?;
+    let connect = RouteConnect::new(n2, inc, n1, inc, 1)?;
+    let (accepted, _info) = pass.accept(rt, node).ok()?;
+    done(pass.connect(rt, node, accepted, &connect))
+}
+
+/// Each call of a route.
+pub fn serve_peer<N: NodeName, R: Wait>(
+    rt: &R,
+    alloc: Global,
+    node: &Node<N>,
+    pass: &mut Pass<N>,
+) -> Option<()> {
+    dials_and_hears(rt, alloc, node, pass)?;
+    is_dialed(rt, node, pass)
+}

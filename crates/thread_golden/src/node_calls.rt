@@ -1,0 +1,157 @@
+//! The calls of a server, and what each is answered.
+
+use crate::callers::{Node, hello, opening};
+use client_frames::{ErrText, ReplyFrame};
+use golden::{Words, sid_of, text, yes_or_no};
+use hub_core::HubFault;
+use node_law::NodeFault;
+use node_parts::Issued;
+use outbox::Entry;
+use std::alloc::{AllocError, Global};
+use std::sync::Wait;
+use subj::{ConnId, Failure};
+use thread_node::{NodeName, Open, Turned};
+
+/// Why a call failed: a refusal by its number.
+fn failure_told(alloc: Global, failure: Failure<NodeFault>) -> Result<String, AllocError> {
+    match failure {
+        Failure::Refused(fault) => format!(in alloc; "refused {}", fault.number()),
+        Failure::OutOfMemory => text(alloc, "no memory"),
+    }
+}
+
+/// Whether a call was done.
+fn told<X: Drop>(
+    alloc: Global,
+    answer: Result<X, Failure<NodeFault>>,
+) -> Result<String, AllocError> {
+    match answer {
+        Ok(_answer) => text(alloc, "ok"),
+        Err(failure) => failure_told(alloc, failure),
+    }
+}
+
+/// How many entries were taken.
+fn taken_told(
+    alloc: Global,
+    taken: Result<Vec<Entry>, Failure<NodeFault>>,
+) -> Result<String, AllocError> {
+    match taken {
+        Ok(entries) => format!(in alloc; "entries {}", entries.len()),
+        Err(failure) => failure_told(alloc, failure),
+    }
+}
+
+/// What a shard has come to.
+fn turned_told(alloc: Global, turned: Turned) -> Result<String, AllocError> {
+    match turned {
+        Turned::Idle => text(alloc, "idle"),
+        Turned::Worked(turn) => format!(in alloc; "worked {}", turn.get()),
+        Turned::Short => text(alloc, "no memory"),
+    }
+}
+
+/// The same of a shard that may not be there.
+fn turn_told(alloc: Global, turned: Option<Turned>) -> Result<String, AllocError> {
+    match turned {
+        Some(turned) => turned_told(alloc, turned),
+        None => text(alloc, "no shard"),
+    }
+}
+
+/// The turn of a publication, or which shard the server is busy with and the last turn that it finished.
+fn published_told(
+    alloc: Global,
+    published: Result<Issued, Failure<HubFault>>,
+) -> Result<String, AllocError> {
+    match published {
+        Ok(issued) => format!(in alloc; "turn {}", issued.turn.get()),
+        Err(Failure::Refused(HubFault::Busy(busy))) => {
+            format!(in alloc;
+                "busy: shard {} finished {}",
+                busy.shard,
+                busy.finished.get()
+            )
+        }
+        Err(_) => text(alloc, "refused"),
+    }
+}
+
+/// Opens a subscription to `foo`, in the queue group `work`.
+fn subscribe<N: NodeName, R: Wait>(
+    rt: &R,
+    alloc: Global,
+    node: &Node<N>,
+    shard: u64,
+    conn: ConnId,
+) -> Result<String, AllocError> {
+    let (key, sid) = opening(alloc).ok_or(AllocError)?;
+    told(alloc, node.subscribe(rt, shard, conn, key, sid))
+}
+
+/// Ends that subscription.
+fn unsubscribe<N: NodeName, R: Wait>(
+    rt: &R,
+    alloc: Global,
+    node: &Node<N>,
+    shard: u64,
+    conn: ConnId,
+) -> Result<String, AllocError> {
+    let sid = sid_of(alloc, "1").ok_or(AllocError)?;
+    match node.unsubscribe(rt, shard, conn, &sid, None) {
+        Ok(_ended) => text(alloc, "ok"),
+        Err(fault) => failure_told(alloc, Failure::Refused(fault)),
+    }
+}
+
+/// Publishes `hello` on `foo`.
+fn publish<N: NodeName, R: Wait>(
+    rt: &R,
+    alloc: Global,
+    node: &Node<N>,
+    conn: ConnId,
+) -> Result<String, AllocError> {
+    let said = hello(alloc).ok_or(AllocError)?;
+    published_told(alloc, node.publish(rt, conn, &said, 0))
+}
+
+/// A call on a connection of a shard.
+fn on_conn<N: NodeName, R: Wait>(
+    rt: &R,
+    alloc: Global,
+    node: &Node<N>,
+    shard: u64,
+    conn: ConnId,
+    call: &str,
+) -> Result<String, AllocError> {
+    match call {
+        "subscribe" => subscribe(rt, alloc, node, shard, conn),
+        "unsubscribe" => unsubscribe(rt, alloc, node, shard, conn),
+        "take" => taken_told(alloc, node.take(rt, shard, conn, usize::MAX)),
+        "reply" => told(alloc, node.reply(rt, shard, conn, &ReplyFrame::Pong)),
+        "shut" => told(alloc, node.shut(rt, shard, conn, ErrText::SlowConsumer)),
+        "detach" => told(alloc, node.detach(rt, shard, conn)),
+        _ => text(alloc, "no such call"),
+    }
+}
+
+/// The answer of a call on the server, on a shard, or on one of its connections.
+pub fn answer_of<N: NodeName, R: Wait>(
+    rt: &R,
+    alloc: Global,
+    node: &Node<N>,
+    call: &str,
+    words: &Words<'_>,
+) -> Result<String, AllocError> {
+    let shard = words.number(0);
+    match call {
+        "shards" => format!(in alloc; "shards {}", node.shards()),
+        "publish" => publish(rt, alloc, node, ConnId::new(words.number(0))),
+        "has_shard" => yes_or_no(alloc, node.shard(rt, shard).is_some()),
+        "attach" => told(alloc, node.attach(rt, shard)),
+        "collect" => told(alloc, node.collect(rt, shard)),
+        "drop" => told(alloc, node.drop_job(rt, shard)),
+        "turn" => turn_told(alloc, node.turn(rt, shard, &Open)),
+        _ => on_conn(rt, alloc, node, shard, ConnId::new(words.number(1)), call),
+    }
+}
