@@ -131,37 +131,37 @@ def apart(places):
 
 
 def subscriptions():
-    """A line for each measure that was made at each number, over how many subscriptions or keys are open."""
+    """A line for each measure, over how many subscriptions are open."""
     head, *rows = table_below("Cost by number of subscriptions")
     counts = [value_of(cell) for cell in head[1:]]
     measured = [(name, [value_of(cell) for cell in cells]) for name, *cells in rows if all(cells)]
     known = [figure for _, figures in measured for figure in figures]
     ticks = round_figures(min(known), max(known))
-    picture = Picture(900, 520, "Cost by number of subscriptions", "What a look-up, an opening and a publication take where more subscriptions are open.")
+    picture = Picture(900, 520, "Cost by number of subscriptions", "Instructions of one publication, where more subscriptions are open.")
     picture.text(20, 32, "Cost by number of subscriptions", size=16, strong=True)
-    picture.text(20, 54, "nanoseconds, both scales logarithmic", fill="muted", size=12)
-    across, up = Scale(counts[0], counts[-1], 90, 600), Scale(ticks[0], ticks[-1], 460, 80)
+    picture.text(20, 54, "instructions of one publication, both scales logarithmic", fill="muted", size=12)
+    across, up = Scale(counts[0], counts[-1], 110, 620), Scale(ticks[0], ticks[-1], 460, 80)
     for figure in ticks:
         y = up.place(figure)
-        picture.line([(90, y), (600, y)], thick=0.4)
-        picture.text(80, y + 4.5, f"{figure:,.0f}", fill="muted", anchor="end", size=12)
+        picture.line([(110, y), (620, y)], thick=0.4)
+        picture.text(100, y + 4.5, f"{figure:,.0f}", fill="muted", anchor="end", size=12)
     for count in counts:
         x = across.place(count)
         picture.line([(x, 80), (x, 460)], thick=0.4)
         picture.text(x, 480, f"{count:,.0f}", fill="muted", anchor="middle", size=12)
-    picture.text(345, 504, "subscriptions or keys that are open", fill="muted", anchor="middle", size=12)
+    picture.text(365, 504, "subscriptions that are open", fill="muted", anchor="middle", size=12)
     measures = []
     for name, figures in measured:
         points = [(across.place(count), up.place(figure)) for count, figure in zip(counts, figures)]
         measures.append((points[-1][1], name, points))
     measures.sort()
     for (_, name, points), y in zip(measures, apart([end for end, _, _ in measures])):
-        fill = "first" if name.startswith("hub") else "second"
+        fill = "first" if name.startswith("hot") else "second"
         picture.line(points, stroke=fill, thick=2)
         for point in points:
             picture.circle(*point, 4, fill)
-        picture.line([points[-1], (624, y)], thick=0.6)
-        picture.text(630, y + 4.5, name, size=12.5)
+        picture.line([points[-1], (644, y)], thick=0.6)
+        picture.text(650, y + 4.5, name, size=12.5)
     return picture.whole()
 
 
