@@ -7,3 +7,4 @@ pub mod Living
 pub mod Finds
 pub mod Settling
 pub mod Testing
+pub mod Planning

@@ -4,3 +4,5 @@ pub mod InCode
 pub mod Adding
 -- a cluster in code, as its callers see it, and what always holds of it
 pub mod Value
+-- what a publish is planned as, and where it is not refused
+pub mod Planned

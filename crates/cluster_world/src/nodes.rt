@@ -1,6 +1,7 @@
 //! The servers of a cluster, by place.
 
 ghost use Rattle.std.specs.Prelude.{◌≡◌, ◌<◌, ◌&&◌, ◌∷◌, [], length, map, None, Some, IfOk, OnErr, replicate, slice_get, set, is_some};
+ghost use Rattle.hub_core.specs.Chosen.{publication};
 ghost use Rattle.hub_core.specs.Settled.{has_few_names};
 ghost use Rattle.node_law.specs.Settled.{is_node_settled};
 ghost use Rattle.settled_law.specs.Tests.{are_peers_settled, are_settled, are_roomy};
@@ -12,17 +13,19 @@ ghost use Rattle.cluster_world.specs.Value.{slot_refusal, IsMade, InPlace, inc_i
 ghost use Rattle.std.specs.List.{flat_map};
 ghost use Rattle.world_law.specs.Events.{frame_at as frame_of_number, numbered_event as numbered_frame, info_on as info_of_frame, connect_on as connect_of_frame, event_for};
 ghost use Rattle.cluster_world.specs.InCode.{event_of, items_of};
+ghost use Rattle.cluster_world.specs.Planned.{IsPlannedAt};
 
 use crate::events::Event;
 use crate::lists::{Lists, Noted, note};
 use claim_race::Race;
+use hub_core::PublishPlan;
 use node_core::{Asked, Did, Node, Refused};
 use route_session::SessionId;
 use route_values::RouteFrame;
 use std::alloc::{AllocError, Global};
 use std::marker::Model;
 use sub_table::SubTable;
-use subj::{Incarnation, Message, Server, Subject};
+use subj::{ConnId, Failure, Incarnation, Message, Pub, Server, Subject};
 use world_law::WorldFault;
 
 /// Puts a value in the place of another.
@@ -49,6 +52,22 @@ fn has_room_at<T: SubTable, R: Race>(slot: &Option<Node<T, R>>, message: &Messag
     match slot {
         None => true,
         Some(node) => node.has_room_for(message),
+    }
+}
+
+/// What a publish at the server is planned as; nothing where it is refused.
+fn plan_at<T: SubTable, R: Race>(
+    node: &Node<T, R>,
+    conn: ConnId,
+    said: &Pub,
+    word: u64,
+) -> Result<Option<PublishPlan>, AllocError>
+    ensures { IfOk result (λ plan. IsPlannedAt (Some (Some node.now)) (publication conn said.now word) plan) }
+{
+    match node.plan_publish(conn, said, word) {
+        Ok(plan) => Ok(Some(plan)),
+        Err(Failure::Refused(_)) => Ok(None),
+        Err(Failure::OutOfMemory) => Err(AllocError),
     }
 }
 
@@ -153,6 +172,23 @@ impl<T: SubTable, R: Race> Nodes<T, R> {
                     Some(fault) => Some(WorldFault::Node(fault)),
                 },
             },
+        }
+    }
+
+    /// What a publish at the place is planned as; nothing where it is refused. It changes nothing.
+    pub(crate) fn plan(
+        &self,
+        n: usize,
+        conn: ConnId,
+        said: &Pub,
+        word: u64,
+    ) -> Result<Option<PublishPlan>, AllocError>
+        ensures { IfOk result (λ plan. IsPlannedAt (slice_get self.now n) (publication conn said.now word) plan) }
+    {
+        match self.slots.get(n) {
+            None => Ok(None),
+            Some(None) => Ok(None),
+            Some(Some(node)) => plan_at(node, conn, said, word),
         }
     }
 

@@ -2,7 +2,7 @@
 
 ghost use Rattle.settled_law.specs.Settled.{IsSettled, IsRoomy};
 ghost use Rattle.settled_law.specs.Tests.{settled_for, room_for};
-ghost use Rattle.std.specs.Prelude.{◌≡◌, ◌↔◌, ◌+◌, ◌∷◌, true, None, Some, IfOk, OnErr, map};
+ghost use Rattle.std.specs.Prelude.{◌≡◌, ◌↔◌, ◌+◌, ◌≤◌, ◌∷◌, true, None, Some, IfOk, OnErr, map, suc, length};
 ghost use Rattle.std.specs.List.{flat_map};
 ghost use Rattle.world_law.specs.Events.{Event as Asked, Start, Stop, At};
 ghost use Rattle.node_law.specs.Events.{Publish};
@@ -12,6 +12,8 @@ ghost use Rattle.world_law.specs.Headline.{Headline, Names, AreSent};
 ghost use Rattle.cluster_world.specs.InCode.{event_of, outcome_of, outcomes_in, publication_of, life_of, placements_in, items_of};
 ghost use Rattle.world_law.specs.Refusals.{world_refusal};
 ghost use Rattle.world_law.specs.RestsOn.{CameSo};
+ghost use Rattle.cluster_world.specs.Planned.{IsPlannedBy, TakesWhereSettled};
+ghost use Rattle.hub_core.specs.Chosen.{publication};
 ghost use Rattle.cluster_world.specs.Value.{IsFor, IsStepped, Ran, IsPart, GivesOnce, new_cluster};
 
 use crate::events::Event;
@@ -20,9 +22,13 @@ use crate::nodes::{Made, Nodes, asked_by, server_of, start_fault, stop_fault};
 use crate::outcomes::{Delivery, Outcome};
 use crate::records::{Life, Placements, Publication};
 use claim_race::Race;
+use hub_core::PublishPlan;
 use node_core::{Answer, Node, OwnEvent};
 use route_values::RouteFrame;
-use settled_law::{carried_tests_are_exact, carried_worlds_deliver, tests_are_exact};
+use settled_law::{
+    carried_tests_are_exact, carried_worlds_deliver, settled_worlds_deliver, some_order_is_right,
+    tests_are_exact,
+};
 use std::alloc::{AllocError, Global};
 use std::marker::Model;
 use sub_table::SubTable;
@@ -30,7 +36,7 @@ use subj::{ConnId, Incarnation, NodeId, Pub, Server, Subject};
 use world_law::{
     WorldFault, carried_echo_is_kept, carried_frames_were_sent, carried_lives_are_open,
     carried_names_are_unique, carried_worlds_keep_the_headline, carried_worlds_rest_on_this,
-    new_worlds_are_carried, puts_are_placed, steps_keep_worlds_carried,
+    each_event_goes_on, new_worlds_are_carried, puts_are_placed, steps_keep_worlds_carried,
 };
 
 /// A cluster of servers, over any table of subscriptions and any race. (Profile.)
@@ -88,6 +94,21 @@ impl<T: SubTable, R: Race> World<T, R> {
             nodes,
             lists: Lists::new(alloc),
         }))
+    }
+
+    /// The names of the servers, each at its place.
+    pub fn names(&self) -> &[NodeId]
+        ensures { result.now ≡ self.now.cluster.names }
+    {
+        self.server.names()
+    }
+
+    /// How many shards each server has.
+    pub fn shards(&self) -> u64
+        ensures same { result ≡ self.now.cluster.shards }
+        ensures some { 1 ≤ result }
+    {
+        self.server.shards()
     }
 
     /// What was published so far, in order.
@@ -167,6 +188,49 @@ impl<T: SubTable, R: Race> World<T, R> {
         let _step = self.step;
         tests_are_exact();
         self.nodes.have_room_for(&said.message)
+    }
+
+    /// The number of the first frame that the next event sends. Want of memory also stands for more frames than can
+    /// be counted.
+    pub fn next_frame(&self) -> Result<usize, AllocError>
+        ensures { IfOk result (λ frame. frame ≡ suc (length self.now.world.sent)) }
+    {
+        let mut number = 1usize;
+        for frames in self.sent_frames() {
+            let Some(next) = number.checked_add(frames.len()) else {
+                return Err(AllocError);
+            };
+            number = next;
+        }
+        Ok(number)
+    }
+
+    /// What the hub of the server at this place plans of a publish of the connection, where the word decides which server
+    /// serves each queue name; nothing where the publish is refused. It changes nothing.
+    pub fn plan_publish(
+        &self,
+        node: usize,
+        conn: ConnId,
+        said: &Pub,
+        word: u64,
+    ) -> Result<Option<PublishPlan>, AllocError>
+        ensures { IfOk result (λ plan. IsPlannedBy self.now node (publication conn said.now word) plan) }
+    {
+        let _step = self.step;
+        self.nodes.plan(node, conn, said, word)
+    }
+
+    /// No publish at a server that is up is refused where the cluster is settled for it ([`World::settled_for`]) and has room
+    /// ([`World::room_for`]). It does nothing.
+    pub fn takes_where_settled(&self)
+        ensures { TakesWhereSettled self.now.cluster self.now.world }
+    {
+        let _step = self.step;
+        let _shards = self.server.shards();
+        some_order_is_right();
+        settled_worlds_deliver();
+        each_event_goes_on();
+        tests_are_exact()
     }
 
     /// A refusal: only the step is counted. Required: some event is refused so.

@@ -1,5 +1,5 @@
 -- Finding a frame in lists put together.
-use Rattle.std.proofs.Common.{◌≡◌, ℕ, zero, suc, ◌+◌, ◌-◌, ◌<◌, ◌≤◌, List, [], ◌∷◌, ◌++◌, map, take, drop, length, get_or, refl, sym, ap, ◌∙◌, arith}
+use Rattle.std.proofs.Common.{◌≡◌, ℕ, zero, suc, ◌+◌, ◌-◌, ◌<◌, ◌≤◌, List, [], ◌∷◌, ◌++◌, map, take, drop, length, length-append, get_or, refl, sym, ap, ◌∙◌, arith}
 use Rattle.std.specs.Prelude.{slice_get}
 use Rattle.std.specs.List.{flat_map}
 use Rattle.std.proofs.lemmas.List.{at_drop_more, take_more}
@@ -20,6 +20,10 @@ found_here f xs i k x lt is within = ap (λ l. slice_get l k) (at_drop_more (fla
 
 pub found_later : {A B : Type 0} (f : A → List B) (xs : List A) (i k : ℕ) (x : A) → i < length xs → x ≡ get_or xs i x → length (f x) ≤ k → slice_get (flat_map f (drop i xs)) k ≡ slice_get (flat_map f (drop (i + 1) xs)) (k - length (f x))
 found_later f xs i k x lt is past = ap (λ l. slice_get l k) (at_drop_more (flat_map f) xs i x lt ∙ ap (λ y. f y ++ flat_map f (drop (i + 1) xs)) (sym is)) ∙ get_right (f x) (flat_map f (drop (i + 1) xs)) k past
+
+-- how many there are, from the list at this place on
+pub counted_next : {A B : Type 0} (f : A → List B) (xs : List A) (i : ℕ) (x : A) → i < length xs → x ≡ get_or xs i x → length (flat_map f (drop i xs)) ≡ length (f x) + length (flat_map f (drop (i + 1) xs))
+counted_next f xs i x lt is = ap length (at_drop_more (flat_map f) xs i x lt ∙ ap (λ y. f y ++ flat_map f (drop (i + 1) xs)) (sym is)) ∙ length-append (f x) (flat_map f (drop (i + 1) xs))
 
 -- one more at the end
 

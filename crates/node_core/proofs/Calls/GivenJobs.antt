@@ -1,5 +1,5 @@
 -- A job for each shard: the hub hears how far the shards have come, the next turn may be issued, and there is room.
-use Rattle.std.proofs.Common.{◌≡◌, ℕ, suc, ◌+◌, ◌<◌, ◌≤◌, false, nat_lt, nat_le, ◌||◌, List, [], ◌∷◌, length, map, replicate, take, Option, Some, None, Result, Err, sym, ap, ◌∙◌, subst, arith}
+use Rattle.std.proofs.Common.{◌≡◌, ℕ, suc, ◌+◌, ◌<◌, ◌≤◌, false, nat_lt, nat_le, ◌||◌, List, [], ◌∷◌, length, map, replicate, take, Option, Some, None, Result, Ok, Err, refl, sym, ap, ◌∙◌, subst, arith}
 use Rattle.std.specs.Prelude.{if◌then◌else◌}
 use Rattle.std.specs.Option.{option_map, option_or}
 use Rattle.std.proofs.lemmas.List.{take_all}
@@ -28,7 +28,7 @@ use Rattle.node_law.specs.State.{Line, finished_turns}
 use Rattle.node_law.specs.Answers.{Issued}
 use Rattle.node_law.specs.Steps.{line_with_job}
 use Rattle.node_parts.specs.Sides.{Side}
-use Rattle.node_core.specs.Served.{Served, IsKept, MayIssue, AreGiven, PublishStep, failure_of_hub, served_of_parts}
+use Rattle.node_core.specs.Served.{Served, IsKept, MayIssue, AreGiven, PublishStep, failure_of_hub, of_hub_answer, served_of_parts}
 use Rattle.node_law.proofs.Moves.Hubs.{all_room}
 
 -- ---- what the hub answers
@@ -40,6 +40,14 @@ hub_refuses {X = X} cause done same why told answers h = subst (IsAnswered (opti
     go : (why : Failure HubFault) → IsRefused cause same why → IsAnswered {T = X} (option_map Hub cause) done same (Err (failure_of_hub why))
     go (Refused fault) h = (ap (option_map Hub) h.0, h.1)
     go OutOfMemory h = (ap (option_map Hub) h.0, h.1)
+
+-- what it answers, its server answers
+pub hub_answers : {X : Type 0} (cause : Option HubFault) (done : X → Type 0) (same : Type 0) (answer : Result X (Failure HubFault)) (told : Result X (Failure NodeFault)) → told ≡ of_hub_answer answer → IsAnswered cause done same answer → IsAnswered (option_map Hub cause) done same told
+hub_answers {X = X} cause done same answer told answers h = subst (IsAnswered (option_map Hub cause) done same) (sym answers) (go answer h)
+  where
+    go : (answer : Result X (Failure HubFault)) → IsAnswered cause done same answer → IsAnswered (option_map Hub cause) done same (of_hub_answer answer)
+    go (Ok x) h = (ap (option_map Hub) h.0, h.1)
+    go (Err why) h = hub_refuses cause done same why (Err (failure_of_hub why)) refl h
 
 -- what is refused leaves all as it was
 pub refused_same : (cause : Option HubFault) (same : Type 0) (why : Failure HubFault) → IsRefused cause same why → same

@@ -1,14 +1,21 @@
-//! Whether a server is at rest, and what it knows of another one. No test takes memory.
+//! Whether a server is at rest, and what it knows of another one, without memory; and what a publish owes.
 
-ghost use Rattle.std.specs.Prelude.{◌≡◌};
+ghost use Rattle.std.specs.Prelude.{◌≡◌, ⊤};
+ghost use Rattle.subj.specs.Answers.{IsAnswered};
+ghost use Rattle.hub_core.specs.Chosen.{IsPlanOf, publication};
+ghost use Rattle.node_law.specs.Events.{Own, Publish};
+ghost use Rattle.node_core.specs.Served.{refusal};
 ghost use Rattle.std.specs.List.{list_all};
 ghost use Rattle.hub_core.specs.Settled.{has_few_names as are_few};
 ghost use Rattle.node_law.specs.Settled.{is_node_settled, is_peer_settled, has_room_in};
 
-use super::Node;
+use super::{Node, of_hub};
 use claim_race::Race;
+use hub_core::PublishPlan;
+use node_law::NodeFault;
+use node_parts::finished_by;
 use sub_table::SubTable;
-use subj::{Message, Subject};
+use subj::{ConnId, Failure, Message, Pub, Subject};
 
 impl<T: SubTable, R: Race> Node<T, R> {
     /// Whether no job waits or is in hand at any of its shards, its hub was told of all openings and closings, and one more turn
@@ -49,5 +56,20 @@ impl<T: SubTable, R: Race> Node<T, R> {
             }
         }
         true
+    }
+
+    /// What a publish owes: [`Hub::plan_publish`](hub_core::Hub::plan_publish). It changes nothing. Refused as
+    /// [`Node::publish`] is.
+    pub fn plan_publish(
+        &self,
+        conn: ConnId,
+        said: &Pub,
+        word: u64,
+    ) -> Result<PublishPlan, Failure<NodeFault>>
+        ensures { let p = publication conn said.now word in IsAnswered (refusal self.now (Own (Publish p))) (λ plan. IsPlanOf self.now.server self.now.node.hub p plan.job plan.frames.items) ⊤ result }
+    {
+        let count = self.lines.len();
+        let finished = finished_by(&self.race, count as u64);
+        of_hub(self.side.plan_publish(conn, said, word, &finished))
     }
 }

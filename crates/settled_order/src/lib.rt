@@ -1,0 +1,19 @@
+//! The work that is owed of a publication in a cluster, in an order of its own.
+//!
+//! ```text
+//! let order = delivery(alloc, &world, node, conn, &said, word)?;
+//! world.settled_publish(node, conn, &said, word, &order)?;
+//! ```
+//!
+//! `settled_law` says in which orders the work of a publication may be done, and that some order always is right. [`order_of`] makes that
+//! one, of what the hub of the publication's server planned; [`delivery`] does so of a cluster that is settled for the publication.
+//! [`placements_are_told`] is a law of how many messages each event of a run places.
+#![tactic(auto)]
+
+mod deliveries;
+mod laws;
+mod order;
+
+pub use deliveries::delivery;
+pub use laws::placements_are_told;
+pub use order::{Origin, order_of};
