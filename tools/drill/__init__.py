@@ -1,23 +1,26 @@
 """Draws lists of steps for clusters and streams of one client, plays them with the program, and judges what it writes by a model of its own.
 
   tools/dev drill [LISTS] [--seed N] [--program PATH] [--plants]
-  tools/dev drill [LISTS] [--seed N] --show script | stream
+  tools/dev drill [LISTS] [--seed N] --show script | rest | held | stream
 
-For each of LISTS seeds from N on (500 from 1 on, where they are left out) one script is played by `nats_mesh script`, and one stream by `nats_mesh
-pipe`. PATH is the program, of whatever sources. Where it is left out, the proved one is played (crates/nats_mesh/out/nats_mesh), which is not
-built here: where it is missing, or older than a source of the router, nothing is played, and it is said how it is built (status 2). --plants also
-edits what the program wrote of each list, in each of several named ways, and sees that each is found. --show writes what is drawn, and plays nothing:
-`tools/dev drill 1 --seed 17 --show script | ./nats_mesh script`. Status 0: nothing differs, and each plant was found.
+For each of LISTS seeds from N on (500 from 1 on, where they are left out) `nats_mesh script` plays one script, one that brings a cluster to rest and
+delivers there, and the same with a frame held back; and `nats_mesh pipe` one stream. PATH is the program, of whatever sources. Where it is left out, the
+proved one is played (crates/nats_mesh/out/nats_mesh), which is not built here: where it is missing, or older than a source of the router, nothing is
+played, and it is said how it is built (status 2). --plants also edits what the program wrote of each list, in each of several named ways, and sees that
+each is found. --show writes what is drawn, and plays nothing: `tools/dev drill 1 --seed 17 --show script | ./nats_mesh script`. Status 0: nothing
+differs, and each plant was found.
 
 The model is written from the pages docs/SCRIPTS.md, docs/PROTOCOL.md and docs/PROMISES.md, and from nothing of the router's code. A cluster has 1 to
 5 servers of 1 to 4 shards (8 where their share of subscriptions is filled). Judged of a script: each line; and of the placements as they are written,
 by the words of the headline, with no more of the model than which publications were made and when which subscription was open: each publication at
 most once for a plain subscription, and at most once for a queue name in the whole cluster; each for a subscription that was open at that step and
-matched, of a publication of an earlier step; those of an incarnation in rising number; without echo none for its publisher. Judged of a stream: each
-byte behind INFO, and the status.
+matched, of a publication of an earlier step; those of an incarnation in rising number; without echo none for its publisher. Of a cluster at rest: it is
+told as settled, and each publication that is delivered there, as one step or with its work in an order that is drawn, reaches each subscription that is
+open and matches once, and each queue name once; where a frame is held back it is not told as settled. Judged of a stream: each byte behind INFO, and the
+status.
 
 Not judged: the bytes of what is placed in a cluster, and of frames, since a script's text does not show them (a stream shows those of one server);
-what standard error tells; what is refused as no script (90 to 92); a settled delivery, which no script asks for; refusals that no script meets
+what standard error tells; what is refused as no script (90 to 92); refusals that no script meets
 (`tally` names them); threads and sockets (`serve`); times, and want of memory.
 
 In reading order: `values`, `shard`, `server` and `cluster` are the model; `moves` and `lists` draw scripts by it, `judge` judges them, and `plants`
@@ -31,7 +34,7 @@ from repository import TOP
 
 from . import plants, streams
 from .judge import ENDED, Flaw, flaws_in
-from .lists import drawn
+from .lists import brought_to_rest, drawn
 from .tally import Tally
 
 PROGRAM = os.path.join(TOP, "crates", "nats_mesh", "out", "nats_mesh")
@@ -66,15 +69,22 @@ def tell_flaws(seed, of, word, flaws, tally):
             print(f"  {flaw.kind}: {flaw.where}")
 
 
-def play_list(program, seed, with_plants, tally):
-    script = drawn(seed)
+# What is drawn of a seed, by the word of `--show`.
+LIST_OF = {"script": drawn, "rest": lambda seed: brought_to_rest(seed, False), "held": lambda seed: brought_to_rest(seed, True)}
+
+
+def play_list(program, seed, word, with_plants, tally):
+    script = LIST_OF[word](seed)
+    if script is None:
+        return
     text, status = run(program, "script", script.text)
     flaws = [] if status == 0 else [Flaw(ENDED, f"status {status}")]
     flaws += flaws_in(script, text)
     tally.note_list(script, text)
-    tell_flaws(seed, f"a script ({script.kind})", "script", flaws, tally)
+    tell_flaws(seed, f"a script ({script.kind})", word, flaws, tally)
     if with_plants and not flaws:
-        for name, edited, kind in plants.planted(plants.PLANTS, plants.Written(script, text)):
+        of_kind = plants.PLANTS if word == "script" else plants.REST_PLANTS
+        for name, edited, kind in plants.planted(of_kind, plants.Written(script, text)):
             tally.note_plant(name, any(flaw.kind == kind for flaw in flaws_in(script, edited)))
 
 
@@ -107,15 +117,15 @@ def words_of(words):
             asked["lists"] = word
         else:
             return None
-    is_known = asked["--seed"].isdecimal() and asked["--show"] in (None, "script", "stream")
+    is_known = asked["--seed"].isdecimal() and asked["--show"] in (None, "stream", *LIST_OF)
     return asked if is_known else None
 
 
 def show(asked, seeds):
     """Writes what is drawn."""
     for seed in seeds:
-        data = drawn(seed).text + b"\n" if asked["--show"] == "script" else streams.Stream(seed).text
-        sys.stdout.buffer.write(data)
+        script = LIST_OF[asked["--show"]](seed) if asked["--show"] in LIST_OF else None
+        sys.stdout.buffer.write(script.text + b"\n" if script else streams.Stream(seed).text if asked["--show"] == "stream" else b"")
     return 0
 
 
@@ -150,9 +160,10 @@ def main(words):
         print(f"tools/dev drill: {cause}\n{HOW_TO_BUILD}", file=sys.stderr)
         return 2
     for seed in seeds:
-        play_list(program, seed, with_plants, tally)
+        for word in LIST_OF:
+            play_list(program, seed, word, with_plants, tally)
         play_stream(program, seed, with_plants, tally)
-    names = [name for name, *_ in (*plants.PLANTS, *streams.PLANTS)] if with_plants else []
+    names = [name for name, *_ in (*plants.PLANTS, *plants.REST_PLANTS, *streams.PLANTS)] if with_plants else []
     for line in tally.lines(names):
         print(line)
     return 1 if tally.differing or tally.missed(names) else 0

@@ -2,7 +2,7 @@
 from dataclasses import dataclass
 
 from .server import Server
-from .values import Message, Refused, refuse_if
+from .values import QUEUE_NAMES, Message, Refused, is_match, refuse_if
 
 
 @dataclass(frozen=True)
@@ -32,6 +32,15 @@ class Life:
         return self.opened < step and (self.closed is None or step <= self.closed)
 
 
+@dataclass(frozen=True)
+class Delivery:
+    """A publication with its work: the place of the line that tells how many messages that placed, where it is one step of the script; and the
+    publication, unless nothing follows it."""
+
+    line: int | None
+    source: tuple | None
+
+
 class Cluster:
     """Servers by these names, which are all down at first."""
 
@@ -41,11 +50,12 @@ class Cluster:
         self.used = set()
         self.frames = []
         self.step = 0
-        # Each event: the server's place and the word; and what is written of it.
-        self.asked, self.told = [], []
+        # Each line: the place of the server and the word; and what is written. A line of no event has no place.
+        self.asked, self.lines = [], []
         # Publications by (place, incarnation, number), and lives by (place, incarnation, shard, serial). What was placed: the step, the
         # publication, the place of the server, connection, id and queue name.
         self.publications, self.lives, self.placed = {}, {}, []
+        self.deliveries = []
 
     # ---- steps
 
@@ -54,6 +64,10 @@ class Cluster:
         place = self.names.index(step["node"]) if step["node"] in self.names else None
         if step["do"] == "join":
             return self.join(place, step)
+        if step["do"] == "settled":
+            return [self.say("settled", f"settled {'yes' if self.is_settled(step['subject']) else 'no'}")]
+        if step["do"] == "deliver":
+            return [self.deliver(place, step)]
         return [self.event(step["do"], place, step)]
 
     def join(self, place, step):
@@ -80,8 +94,58 @@ class Cluster:
             told = f"refused {refused.number}"
         self.note(place)
         self.asked.append((place, word))
-        self.told.append(told)
+        self.lines.append(f"{self.step} {told}")
         return told
+
+    def say(self, word, line):
+        """A line of no event."""
+        self.asked.append((None, word))
+        self.lines.append(line)
+        return line
+
+    # ---- settled deliveries
+
+    def is_settled(self, subject):
+        """Whether the cluster is settled for a publication on this subject."""
+        if len(self.running) < len(self.names):
+            return False
+        if any(shard.waiting or shard.hand or shard.deltas for server in self.running.values() for shard in server.shards):
+            return False
+        if not all(server.knows(other, self.running[other]) for server in self.running.values() for other in server.peers):
+            return False
+        subs = [sub for server in self.running.values() for shard in server.shards for sub in shard.subs]
+        return len({sub.queue for sub in subs if sub.queue is not None and is_match(sub.pattern, subject)}) <= QUEUE_NAMES
+
+    def has_room(self, message):
+        """Whether each connection has room for the messages of all its subscriptions that match."""
+        return all(shard.has_room_for_all(message) for server in self.running.values() for shard in server.shards)
+
+    def deliver(self, place, members):
+        """A publish, and the work that is owed of it: by the places of the servers, and by shards. Tells what came of the publish."""
+        message = Message(members["subject"], members.get("reply"), members["payload"])
+        is_ready = self.is_settled(message.subject) and self.has_room(message)
+        sent, placed = len(self.frames), len(self.placed)
+        told = self.event("publish", place, members)
+        is_followed = is_ready and not told.startswith("refused")
+        source = self.running[place].last_publication() if is_followed else None
+        for other in range(len(self.names)) if is_followed else []:
+            self.work_of(place, other, sent)
+        self.say("delivered", f"delivered {len(self.placed) - placed}")
+        self.deliveries.append(Delivery(len(self.lines) - 1, source))
+        return told
+
+    def work_of(self, place, other, sent):
+        """The work of a server on the publication of the one at the place; its frame is behind so many others."""
+        if other != place:
+            number = next((number for number, frame in enumerate(self.frames[sent:], sent + 1) if frame.to == other), None)
+            if number is None:
+                return
+            self.event("receive", other, {"frame": number})
+        for shard in self.running[other].shards:
+            self.event("begin", other, {"shard": shard.number})
+            for index in range(len(shard.hand.queues)):
+                self.event("claim", other, {"shard": shard.number, "index": index})
+            self.event("end", other, {"shard": shard.number})
 
     def note(self, place):
         """Notes what the shards of a server placed and closed in this step."""
@@ -218,5 +282,4 @@ class Cluster:
 
     def text(self):
         """All that is written of the steps so far."""
-        events = [f"{number} {told}" for number, told in enumerate(self.told, 1)]
-        return "".join(line + "\n" for line in [*events, *self.placed_lines(), f"end {self.step} {len(self.placed)}"])
+        return "".join(line + "\n" for line in [*self.lines, *self.placed_lines(), f"end {self.step} {len(self.placed)}"])

@@ -19,6 +19,8 @@ NOT_OWED = "what is placed is not owed"
 ECHOED = "without echo it comes back to its publisher"
 ONE_NAME = "two things have one name"
 OTHER_LINE = "a line is not what the pages say"
+NOT_SETTLED = "a cluster is settled just where all was told and heard"
+NOT_DELIVERED = "a delivery does not give each subscription and each queue name its message once"
 
 
 @dataclass(frozen=True)
@@ -102,6 +104,42 @@ def name_flaws(lines, script):
             given[place].add((found[1], found[2]))
 
 
+def wanted_of(made, lives):
+    """Whoever has to be given the publication: each plain subscription that is open when it is made and matches, and each queue name of one."""
+    open_lives = [life for life in lives if life.is_open_at(made.step) and is_match(life.pattern, made.message.subject)]
+    plain = [(life.place, life.conn, life.sid) for life in open_lives if life.queue is None]
+    return sorted(plain), sorted({life.queue for life in open_lives if life.queue is not None})
+
+
+def given_of(source, placed):
+    """Whoever was given the publication."""
+    given = [placement for placement in placed if placement.source == source]
+    plain = [(placement.place, placement.conn, placement.sid) for placement in given if placement.queue is None]
+    return sorted(plain), sorted(placement.queue for placement in given if placement.queue is not None)
+
+
+def delivery_flaws(lines, cluster):
+    """What is wrong with the deliveries of publications with echo, by the promise alone."""
+    placed = [placement for placement in (placement_of(line, cluster.names) for line in lines if line.startswith("placed ")) if placement]
+    for delivery in cluster.deliveries:
+        made = cluster.publications.get(delivery.source)
+        if made is None or not made.echo:
+            continue
+        wanted = wanted_of(made, cluster.lives.values())
+        if given_of(delivery.source, placed) != wanted:
+            yield Flaw(NOT_DELIVERED, f"publication {delivery.source}")
+        told = f"delivered {sum(map(len, wanted))}"
+        if delivery.line is not None and lines[delivery.line:delivery.line + 1] != [told]:
+            yield Flaw(NOT_DELIVERED, f"publication {delivery.source}: not {told}")
+
+
+def rest_flaws(lines, is_at_rest):
+    """Lines that do not tell whether the cluster is at rest."""
+    for line in lines:
+        if line.startswith("settled ") and line != f"settled {'yes' if is_at_rest else 'no'}":
+            yield Flaw(NOT_SETTLED, line)
+
+
 def line_flaws(lines, wanted):
     """Lines that are not what the model writes."""
     for place in range(max(len(lines), len(wanted))):
@@ -119,3 +157,6 @@ def flaws_in(script, text):
     yield from line_flaws(lines, script.wanted)
     yield from name_flaws(lines, script)
     yield from placement_flaws([line for line in lines if line.startswith("placed ")], script.cluster)
+    yield from delivery_flaws(lines, script.cluster)
+    if script.is_at_rest is not None:
+        yield from rest_flaws(lines, script.is_at_rest)

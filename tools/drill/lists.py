@@ -15,6 +15,8 @@ class Script:
 
     def __init__(self, seed, moves, kind):
         self.seed, self.kind, self.steps, self.cluster = seed, kind, moves.steps, moves.cluster
+        # Whether a cluster that was brought to rest is at rest; none of another list.
+        self.is_at_rest = None
         self.text = text_of(moves.cluster.names, moves.cluster.shards, moves.steps)
         # The lines that have to be written.
         self.wanted = moves.cluster.text().split("\n")[:-1]
@@ -174,3 +176,48 @@ def drawn(seed, events=EVENTS, beginning=None):
     while moves.cluster.step < least:
         moves.move()
     return Script(seed, moves, begin.__name__)
+
+
+# ---- clusters at rest
+
+def prepare(moves):
+    """Servers that are up and joined, with subscriptions; each has told of them, and none has heard of any."""
+    names = moves.cluster.names
+    for node in names:
+        moves.ask("start", node, inc=moves.draw.up_to(3))
+        for _ in range(moves.draw.up_to(3)):
+            moves.ask("attach", node, shard=moves.draw.up_to(moves.cluster.shards))
+    for is_joined in (False, True):
+        for place, node in enumerate(names):
+            for _ in range(moves.draw.below(5)):
+                moves.subscribe(node)
+            moves.collect(node)
+            for peer in [] if is_joined else names[:place]:
+                moves.ask("join", node, peer=peer)
+
+
+def tells(frame):
+    """Whether the frame tells of a subscription."""
+    return frame.kind == "RS+" or frame.kind == "RSS" and bool(frame.body)
+
+
+def brought_to_rest(seed, is_held_back):
+    """The cluster of this seed at rest, and deliveries there, each as one step or with its work in an order that is drawn. Or the same cluster with one
+    frame held back that tells of a subscription; none where there is no such frame."""
+    draw = Draw(seed)
+    moves = Moves(draw, draw.one_of(NAMES)[:draw.up_to(5)], draw.up_to(4))
+    prepare(moves)
+    telling = [number for number, frame in enumerate(moves.cluster.frames, 1) if tells(frame)]
+    held = draw.one_of(telling) if is_held_back and telling else None
+    if is_held_back and held is None:
+        return None
+    for number in range(1, len(moves.cluster.frames) + 1):
+        node = moves.addressee(number)
+        if node and number != held:
+            moves.ask("receive", node, frame=number)
+    for _ in range(draw.up_to(4)):
+        deliver = moves.deliver if is_held_back or draw.is_one_in(2) else moves.deliver_in_any_order
+        deliver(moves.node())
+    script = Script(seed, moves, "held back" if is_held_back else "at rest")
+    script.is_at_rest = not is_held_back
+    return script

@@ -1,7 +1,7 @@
 """Drawn steps of a script: one, or a few that belong together."""
 import random
 
-from .cluster import Cluster
+from .cluster import Cluster, Delivery
 
 PATTERNS = ["foo", "foo", "foo", "bar", "foo.*", "foo.>", "*", ">", "*.x", "foo.*.y", "grün.*"]
 QUEUES = [None, None, None, "q", "q", "r", "é"]
@@ -182,7 +182,44 @@ class Moves:
         self.ask("publish", node, conn=self.conn(node), subject=self.draw.one_of(SUBJECTS), reply=self.draw.one_of(REPLIES), payload=payload,
                  echo=echo, word=self.draw.below(1_000) if not self.draw.is_one_in(20) else 2 ** 64 - 1)
 
+    def deliver(self, node):
+        """It is asked whether the cluster is settled for a subject, and something is delivered on it."""
+        subject = self.draw.one_of(SUBJECTS)
+        self.ask("settled", node, subject=subject)
+        echo = False if self.draw.is_one_in(6) else None
+        self.ask("deliver", node, conn=self.conn(node), subject=subject, payload=str(len(self.steps)), echo=echo, word=self.draw.below(1_000))
+
+    def deliver_in_any_order(self, node):
+        """The same of a publication whose work the script makes step by step, in an order that is drawn. The cluster is settled for it."""
+        subject, sent = self.draw.one_of(SUBJECTS), len(self.cluster.frames)
+        self.ask("settled", node, subject=subject)
+        self.ask("publish", node, conn=self.conn(node), subject=subject, payload=str(len(self.steps)), word=self.draw.below(1_000))
+        self.cluster.deliveries.append(Delivery(None, self.server(node).last_publication()))
+        self.work_in_any_order(node, sent)
+
+    def work_in_any_order(self, node, sent):
+        """All work of the publication that the server made last, whose frames are behind so many others: each frame comes before the work of its
+        server, and what a shard does stands in its order."""
+        frames = list(range(sent + 1, len(self.cluster.frames) + 1))
+        shards = self.steps_of_shards(node, self.server(node).shards[0].waiting[-1].queues)
+        while frames or shards:
+            which = self.draw.below(len(frames) + len(shards))
+            if which < len(frames):
+                number = frames.pop(which)
+                self.ask("receive", self.addressee(number), frame=number)
+                shards += self.steps_of_shards(self.addressee(number), self.cluster.frames[number - 1].body[1])
+            else:
+                do, other, members = shards[which - len(frames)].pop(0)
+                self.ask(do, other, **members)
+                shards = [steps for steps in shards if steps]
+
     # ---- shards
+
+    def steps_of_shards(self, node, queues):
+        """For each shard of the server the steps of its work on a job with these queue names."""
+        return [[("begin", node, {"shard": shard.number}),
+                 *[("claim", node, {"shard": shard.number, "index": index}) for index in range(len(queues))],
+                 ("end", node, {"shard": shard.number})] for shard in self.server(node).shards]
 
     def work(self, node, shard):
         """A shard works a job off, name by name; now and then it is left there, ended too early, or claims out of turn."""
@@ -219,6 +256,10 @@ class Moves:
         self.hear_all()
         for node in running:
             self.work_off(node)
+        if self.draw.is_one_in(2):
+            self.deliver(self.node())
+            for node in running:
+                self.work_off(node)
 
     # ---- one move
 

@@ -1,5 +1,5 @@
 """Flaws that are planted into what the program wrote of a list, each of which the judge has to find by the rule that it breaks."""
-from .judge import ECHOED, ENDED, NOT_OWED, ONE_NAME, OTHER_LINE, OUT_OF_ORDER, PLAIN_TWICE, TWO_MEMBERS, is_owed, life_of, placement_of
+from .judge import ECHOED, ENDED, NOT_DELIVERED, NOT_OWED, NOT_SETTLED, ONE_NAME, OTHER_LINE, OUT_OF_ORDER, PLAIN_TWICE, TWO_MEMBERS, is_owed, life_of, placement_of
 from .values import is_match
 
 
@@ -35,6 +35,10 @@ class Written:
         """The subscriptions of the placement's server that are open at its step, and of which this holds."""
         lives = self.cluster.lives.values()
         return [life for life in lives if life.place == placement.place and life.is_open_at(placement.step) and is_fit(life)]
+
+    def number_at(self, at):
+        """The number of the event whose line has this place."""
+        return self.lines[at].split(" ", 1)[0]
 
     def first_event(self, word, start):
         """The place of the first event of this word whose line goes on so; none where there is none."""
@@ -175,28 +179,61 @@ def name_again(written):
         if at is None or place == written.cluster.asked[at][0] and later > at and word == "stop":
             return None
         if later > at and word == "attach" and place == written.cluster.asked[at][0] and " conn " in written.lines[later]:
-            return written.with_line(later, f"{later + 1} {written.lines[at].split(' ', 1)[1]}")
+            return written.with_line(later, f"{written.number_at(later)} {written.lines[at].split(' ', 1)[1]}")
     return None
 
 
+def first_refused(written):
+    return next((at for at, line in enumerate(written.cluster.lines) if line.split(" ")[1] == "refused"), None)
+
+
 def done_though_refused(written):
-    at = next((at for at, told in enumerate(written.cluster.told) if told.startswith("refused")), None)
-    return None if at is None else written.with_line(at, f"{at + 1} ok")
+    at = first_refused(written)
+    return None if at is None else written.with_line(at, f"{written.number_at(at)} ok")
 
 
 def other_number(written):
-    at = next((at for at, told in enumerate(written.cluster.told) if told.startswith("refused")), None)
-    return None if at is None else written.with_line(at, f"{at + 1} refused 99")
+    at = first_refused(written)
+    return None if at is None else written.with_line(at, f"{written.number_at(at)} refused 99")
 
 
 def lost_though_won(written):
     at = written.first_event("claim", "won")
-    return None if at is None else written.with_line(at, f"{at + 1} lost")
+    return None if at is None else written.with_line(at, f"{written.number_at(at)} lost")
 
 
 def broken_off(written):
     return "\n".join(written.lines)
 
+
+# ---- of a cluster at rest
+
+def promised(written):
+    """The deliveries of which each has its message: those with echo."""
+    publications = written.cluster.publications
+    return [delivery for delivery in written.cluster.deliveries if delivery.source and publications[delivery.source].echo]
+
+
+def delivery_left_out(written):
+    found = written.first(lambda placement: any(delivery.source == placement.source for delivery in promised(written)))
+    return found and written.with_line(found[0])
+
+
+def delivered_more(written):
+    at = next((delivery.line for delivery in promised(written) if delivery.line is not None), None)
+    return None if at is None else written.with_line(at, f"delivered {int(written.lines[at].split(' ')[1]) + 1}")
+
+
+def settled_turned(written):
+    at = next((at for at, line in enumerate(written.lines) if line.startswith("settled ")), None)
+    return None if at is None else written.with_line(at, "settled no" if written.lines[at] == "settled yes" else "settled yes")
+
+
+REST_PLANTS = [
+    ("a message of a delivery is left out", delivery_left_out, NOT_DELIVERED),
+    ("a delivery tells of one message more", delivered_more, NOT_DELIVERED),
+    ("a cluster at rest, or where a frame is held back, is told as the other", settled_turned, NOT_SETTLED),
+]
 
 PLANTS = [
     ("a message for a plain subscription is placed once more", placed_again, PLAIN_TWICE),

@@ -48,6 +48,11 @@ def weight_in(keys, subject, name):
     return sum(weight for (pattern, queue), weight in keys.items() if queue == name and is_match(pattern, subject))
 
 
+def told_of(keys):
+    """The keys as peers count them: one without a queue name once."""
+    return {key: weight if key[1] is not None else 1 for key, weight in keys.items()}
+
+
 class Server:
     """A server that is up: its place in the list of so many servers, and its incarnation."""
 
@@ -88,6 +93,22 @@ class Server:
 
     def kept_for(self, peer):
         return next((session for session in self.sessions.values() if session.peer == peer), None)
+
+    def knows(self, place, other):
+        """Whether the other server is known as it runs: a session with its incarnation is kept, it is up, its open subscriptions are known, and
+        there is room for a frame to it."""
+        session, peer = self.kept_for(place), self.peers[place]
+        if session is None or session.rank[0] != other.inc or not peer.is_up or peer.seen != other.inc or not peer.has_room():
+            return False
+        return told_of(peer.keys) == told_of(other.open_keys())
+
+    def open_keys(self):
+        """The keys of the open subscriptions, each with their number."""
+        keys = {}
+        for shard in self.shards:
+            for sub in shard.subs:
+                keys[sub.key] = keys.get(sub.key, 0) + 1
+        return keys
 
     def unkept(self, number):
         session = self.sessions.get(number)
@@ -200,8 +221,11 @@ class Server:
             if served or has_plain:
                 frames.append(self.send(Frame("RMSG", self.place, self.inc, place, peer.seen, self.published, (message, served))))
         own = tuple(name for name in chosen if chosen[name] == self.place)
-        self.issue((self.place, self.inc, self.published), message, conn, echo, own)
+        self.issue(self.last_publication(), message, conn, echo, own)
         return self.issued, frames
+
+    def last_publication(self):
+        return self.place, self.inc, self.published
 
     def issue(self, source, message, publisher, echo, queues):
         self.issued += 1

@@ -1,5 +1,5 @@
 """The model of a shard: its connections, their subscriptions, and the jobs that it works off (docs/PROTOCOL.md, "Who gets a message")."""
-from .values import SLOW_CONSUMER, SUBSCRIPTION_BYTES, SUBSCRIPTION_COST, SUBSCRIPTIONS, Outbox, Sub, is_match, refuse_if
+from .values import OUTBOX_BYTES, OUTBOX_ENTRIES, SLOW_CONSUMER, SUBSCRIPTION_BYTES, SUBSCRIPTION_COST, SUBSCRIPTIONS, Outbox, Sub, is_match, refuse_if
 
 
 def cost_of(pattern, queue):
@@ -87,6 +87,15 @@ class Shard:
 
     def has_room(self, job, sub):
         return self.outboxes[sub.conn].has_room(len(job.message.text_for(sub.sid).encode()))
+
+    def has_room_for_all(self, message):
+        """Whether each connection has room for the messages of all its subscriptions that match."""
+        for conn, box in self.outboxes.items():
+            subs = [sub for sub in self.subs if sub.conn == conn and is_match(sub.pattern, message.subject)]
+            size = sum(len(message.text_for(sub.sid).encode()) for sub in subs)
+            if subs and (len(box.entries) + len(subs) > OUTBOX_ENTRIES or sum(box.entries) + size > OUTBOX_BYTES):
+                return False
+        return True
 
     def begin(self):
         """How many messages are placed, and how many connections shut for want of room."""

@@ -6,7 +6,8 @@ from collections import Counter
 ANSWERS = [
     "start ok", "stop ok", "attach conn", "sub sub", "sub same", "unsub ok", "detach ok", "publish turn frames", "receive turn", "receive view",
     "collect changes frames", "begin placed closed", "claim won", "claim lost", "claim nobody", "end ok", "drop ok", "dial session",
-    "accept session", "info kept", "info kept instead of", "connect kept", "connect kept instead of", "cut ok", "take took",
+    "accept session", "info kept", "info kept instead of", "connect kept", "connect kept instead of", "cut ok", "take took", "settled yes", "settled no",
+    "delivered",
 ]
 
 # Each refusal that a script can meet (docs/PROTOCOL.md, "Numbers of refusals"). No script comes to the others of servers: 53 wants another job than
@@ -36,7 +37,7 @@ class Tally:
                 self.refused += 1
                 self.numbers[told.split()[1]] += 1
             else:
-                self.done += 1
+                self.done += word not in ("settled", "delivered")
                 self.kinds[kind_of(word, told)] += 1
         self.placed += text.count("\nplaced ")
 

@@ -5,20 +5,20 @@ use Rattle.world_law.specs.Events.{Event}
 use Rattle.world_law.specs.Outcomes.{Outcome}
 use Rattle.world_law.specs.State.{World}
 use Rattle.world_law.specs.Steps.{WorldStep}
-use Rattle.world_law.specs.Written.{outcome_text, outcome_lines}
+use Rattle.world_law.specs.Written.{outcome_text}
 use Rattle.mesh_script.specs.declared.faults.PlayFault.{PlayFault}
-use Rattle.mesh_script.specs.Asks.{Asks, NoMore, Ask, and_then}
+use Rattle.mesh_script.specs.Asks.{Asks, NoMore, Ask, Say, and_then}
 use Rattle.mesh_script.specs.Lines.{lines_text}
 use Rattle.mesh_script.specs.Played.{AppendsStart}
 use Rattle.mesh_script.specs.Putting.{Puts}
 use Rattle.mesh_script.specs.Playing.{PlayState, Moves, BreaksOff, Makes}
-use Rattle.mesh_script.specs.Told.{Told}
+use Rattle.mesh_script.specs.Told.{Came, Line, Told, said_lines}
 use Rattle.mesh_script.proofs.Asking.{told_on, told_before}
 use Rattle.mesh_script.proofs.Putting.{puts_nothing, puts_on, puts_same, starts_with_nothing}
-use Rattle.mesh_script.proofs.Texts.{lines_behind, outcomes_behind, counted_behind}
+use Rattle.mesh_script.proofs.Texts.{lines_behind, said_behind, came_behind}
 
 pub moves_nowhere : (old : PlayState) (was : Option (List ℕ)) (asks : Asks) → Moves old was asks asks old was
-moves_nowhere old was asks = record { outcomes = []; cluster = refl; told = (refl, refl); number = omega arith; puts = puts_nothing old.text was }
+moves_nowhere old was asks = record { said = []; cluster = refl; told = (refl, refl); number = omega arith; puts = puts_nothing old.text was }
 
 -- one event, with its line
 pub moved_one : (old new : PlayState) (was is : Option (List ℕ)) (e : Event) (outcome : Outcome)
@@ -28,38 +28,49 @@ pub moved_one : (old new : PlayState) (was is : Option (List ℕ)) (e : Event) (
 moved_one old new was is e outcome cluster step number puts more =
     let count : new.number ≡ suc old.number = omega arith in
     record {
-      outcomes = outcome ∷ [];
+      said = Came outcome ∷ [];
       cluster = cluster;
       told = (new.world, step, (refl, refl));
       number = number;
-      puts = puts_same old.text _ (lines_text (outcome_lines old.number (outcome ∷ []))) new.text was is (ap (λ n. (decimal n ++ (codes " " ++ outcome_text outcome)) ++ codes "\n") count ∙ sym (append-nil _)) puts;
+      puts = puts_same old.text _ (lines_text (said_lines old.number (Came outcome ∷ []))) new.text was is (ap (λ n. (decimal n ++ (codes " " ++ outcome_text outcome)) ++ codes "\n") count ∙ sym (append-nil _)) puts;
     }
+
+-- a line that is no event's
+pub moved_line : (old : PlayState) (text : List ℕ) (was is : Option (List ℕ)) (line : World → List ℕ) (behind : Asks)
+    → Puts old.text was (line old.world ++ codes "\n") text is → Moves old was (Say line behind) behind (record old { text = text }) is
+moved_line old text was is line behind puts = record {
+  said = Line (line old.world) ∷ [];
+  cluster = refl;
+  told = (refl, (refl, refl));
+  number = omega arith;
+  puts = puts_same old.text _ (lines_text (said_lines old.number (Line (line old.world) ∷ []))) text was is (sym (append-nil _)) puts;
+}
 
 pub moves_on : (old mid new : PlayState) (was is now : Option (List ℕ)) (asks rest left : Asks) → Moves old was asks rest mid is → Moves mid is rest left new now → Moves old was asks left new now
 moves_on old mid new was is now asks rest left first next =
-    let told = subst (λ c. Told c mid.world rest next.outcomes left new.world) first.cluster next.told in
-    let count = counted_behind first.outcomes next.outcomes in
+    let told = subst (λ c. Told c mid.world rest next.said left new.world) first.cluster next.told in
+    let count = came_behind first.said next.said in
     let first_number = first.number in
     let next_number = next.number in
     let lines =
-    sym (lines_behind (outcome_lines old.number first.outcomes) (outcome_lines mid.number next.outcomes))
-    ∙ ap (λ n. lines_text (outcome_lines old.number first.outcomes ++ outcome_lines n next.outcomes)) first.number
-    ∙ ap lines_text (sym (outcomes_behind old.number first.outcomes next.outcomes)) in
+    sym (lines_behind (said_lines old.number first.said) (said_lines mid.number next.said))
+    ∙ ap (λ n. lines_text (said_lines old.number first.said ++ said_lines n next.said)) first.number
+    ∙ ap lines_text (sym (said_behind old.number first.said next.said)) in
     record {
-      outcomes = first.outcomes ++ next.outcomes;
+      said = first.said ++ next.said;
       cluster = next.cluster ∙ first.cluster;
-      told = told_on old.cluster old.world mid.world new.world asks rest left first.outcomes next.outcomes first.told told;
+      told = told_on old.cluster old.world mid.world new.world asks rest left first.said next.said first.told told;
       number = omega arith;
-      puts = puts_same old.text _ (lines_text (outcome_lines old.number (first.outcomes ++ next.outcomes))) new.text was now lines
-          (puts_on old.text mid.text new.text (lines_text (outcome_lines old.number first.outcomes)) (lines_text (outcome_lines mid.number next.outcomes)) was is now first.puts next.puts);
+      puts = puts_same old.text _ (lines_text (said_lines old.number (first.said ++ next.said))) new.text was now lines
+          (puts_on old.text mid.text new.text (lines_text (said_lines old.number first.said)) (lines_text (said_lines mid.number next.said)) was is now first.puts next.puts);
     }
 
 -- where less is asked, the rest waits
 pub moves_before : (old new : PlayState) (was is : Option (List ℕ)) (asks rest behind : Asks) → Moves old was asks rest new is → Moves old was (and_then asks behind) (and_then rest behind) new is
 moves_before old new was is asks rest behind moves = record {
-  outcomes = moves.outcomes;
+  said = moves.said;
   cluster = moves.cluster;
-  told = told_before old.cluster old.world new.world asks rest behind moves.outcomes moves.told;
+  told = told_before old.cluster old.world new.world asks rest behind moves.said moves.told;
   number = moves.number;
   puts = moves.puts;
 }
@@ -78,7 +89,7 @@ breaks_first old was is asks start = record {
   rest = asks;
   new = record old { text = start.behind };
   moves = record {
-    outcomes = [];
+    said = [];
     cluster = refl;
     told = (refl, refl);
     number = omega arith;

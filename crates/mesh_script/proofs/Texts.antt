@@ -7,23 +7,29 @@ use Rattle.list_laws.proofs.Changes.{map_append}
 use Rattle.subj.specs.Servers.{Server}
 use Rattle.shard_core.specs.declared.calls.Placed.{Placed}
 use Rattle.world_law.specs.Changes.{placement_of}
-use Rattle.world_law.specs.Outcomes.{Outcome}
 use Rattle.world_law.specs.Play.{placements_put}
 use Rattle.world_law.specs.State.{Cluster, Life, Placement, World}
-use Rattle.world_law.specs.Written.{outcome_text, outcome_lines, placement_line, last_lines, run_lines}
+use Rattle.world_law.specs.Written.{outcome_text, placement_line, last_lines}
 use Rattle.mesh_script.specs.Lines.{lines_text, end_line}
 use Rattle.mesh_script.specs.Placing.{cluster_named, placements_text}
+use Rattle.mesh_script.specs.Told.{Said, Came, Line, count_came, said_lines, script_lines}
 
 pub lines_behind : (first more : List (List ℕ)) → lines_text (first ++ more) ≡ lines_text first ++ lines_text more
 lines_behind [] more = refl
 lines_behind (line ∷ lines) more = ap (λ l. (line ++ codes "\n") ++ l) (lines_behind lines more) ∙ sym (append_assoc (line ++ codes "\n") (lines_text lines) (lines_text more))
 
-pub outcomes_behind : (before : ℕ) (first more : List Outcome) → outcome_lines before (first ++ more) ≡ outcome_lines before first ++ outcome_lines (before + length first) more
-outcomes_behind before [] more = ap (λ n. outcome_lines n more) (omega arith)
-outcomes_behind before (outcome ∷ first) more =
-    let e : suc before + length first ≡ before + suc (length first) = omega arith in
-    let rest = outcomes_behind (suc before) first more ∙ ap (λ n. outcome_lines (suc before) first ++ outcome_lines n more) e in
+pub said_behind : (before : ℕ) (first more : List Said) → said_lines before (first ++ more) ≡ said_lines before first ++ said_lines (before + count_came first) more
+said_behind before [] more = ap (λ n. said_lines n more) (omega arith)
+said_behind before (Came outcome ∷ first) more =
+    let e : suc before + count_came first ≡ before + suc (count_came first) = omega arith in
+    let rest = said_behind (suc before) first more ∙ ap (λ n. said_lines (suc before) first ++ said_lines n more) e in
     ap (λ l. (decimal (suc before) ++ (codes " " ++ outcome_text outcome)) ∷ l) rest
+said_behind before (Line text ∷ first) more = ap (λ l. text ∷ l) (said_behind before first more)
+
+pub came_behind : (first more : List Said) → count_came (first ++ more) ≡ count_came first + count_came more
+came_behind [] more = omega arith
+came_behind (Came outcome ∷ first) more = let e = came_behind first more in omega arith
+came_behind (Line text ∷ first) more = came_behind first more
 
 pub placements_behind : (c : Cluster) (lives : List Life) (first more : List Placement) → placements_text c lives (first ++ more) ≡ placements_text c lives first ++ placements_text c lives more
 placements_behind c lives first more = ap lines_text (map_append (placement_line c lives) first more) ∙ lines_behind (map (placement_line c lives) first) (map (placement_line c lives) more)
@@ -63,8 +69,8 @@ last_text names w lives placements number count same_lives same_placements same_
     ∙ sym (lines_behind (map (placement_line (cluster_named names) w.lives) w.placements) (end_line w.step (length w.placements) ∷ []))
 
 -- what was told so far, and all behind it
-pub run_front : (c : Cluster) (first more : List Outcome) (w : World) → lines_text (outcome_lines 0 first) ++ (lines_text (outcome_lines (0 + length first) more) ++ lines_text (last_lines c w)) ≡ lines_text (run_lines c (first ++ more) w)
+pub run_front : (c : Cluster) (first more : List Said) (w : World) → lines_text (said_lines 0 first) ++ (lines_text (said_lines (0 + count_came first) more) ++ lines_text (last_lines c w)) ≡ lines_text (script_lines c (first ++ more) w)
 run_front c first more w =
-    sym (append_assoc (lines_text (outcome_lines 0 first)) (lines_text (outcome_lines (0 + length first) more)) (lines_text (last_lines c w)))
-    ∙ ap (λ l. l ++ lines_text (last_lines c w)) (sym (lines_behind (outcome_lines 0 first) (outcome_lines (0 + length first) more)) ∙ ap lines_text (sym (outcomes_behind 0 first more)))
-    ∙ sym (lines_behind (outcome_lines 0 (first ++ more)) (last_lines c w))
+    sym (append_assoc (lines_text (said_lines 0 first)) (lines_text (said_lines (0 + count_came first) more)) (lines_text (last_lines c w)))
+    ∙ ap (λ l. l ++ lines_text (last_lines c w)) (sym (lines_behind (said_lines 0 first) (said_lines (0 + count_came first) more)) ∙ ap lines_text (sym (said_behind 0 first more)))
+    ∙ sym (lines_behind (said_lines 0 (first ++ more)) (last_lines c w))

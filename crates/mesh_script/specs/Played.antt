@@ -3,27 +3,25 @@ use Rattle.std.specs.Prelude.{◌≡◌, ℕ, ◌+◌, List, ◌++◌, Option, R
 use Rattle.std.specs.Io.KnownBytes.{Appends}
 use Rattle.world_law.specs.Echo.{EchoIsKept}
 use Rattle.world_law.specs.Headline.{Headline, Names}
-use Rattle.world_law.specs.Outcomes.{Outcome}
 use Rattle.world_law.specs.State.{Cluster, World, new_world}
-use Rattle.world_law.specs.Written.{run_lines}
 use Rattle.script_form.specs.Form.{Script}
 use Rattle.mesh_script.specs.declared.faults.PlayFault.{PlayFault}
 use Rattle.mesh_script.specs.declared.faults.PlayFault.TheVariants.{Write, OutOfMemory}
 use Rattle.mesh_script.specs.Asks.{NoMore, steps_ask}
 use Rattle.mesh_script.specs.Lines.{lines_text}
-use Rattle.mesh_script.specs.Told.{Told}
+use Rattle.mesh_script.specs.Told.{Said, Told, script_lines}
 
 -- the servers of a script
 abbrev pub cluster_of : Script → Cluster
 cluster_of script = record { names = script.names; shards = script.shards }
 
 -- all that the script asks was told, from the cluster in which all servers are down; and this is written: a line for each
--- outcome, then one for each placement, and the last line
+-- outcome and each line that is no event's, then one for each placement, and the last line
 pub record IsPlayed (script : Script) (text : List ℕ) : Type 0 where
-  pub outcomes : List Outcome
+  pub said : List Said
   pub world : World
-  pub told : Told (cluster_of script) (new_world (cluster_of script)) (steps_ask script.names script.steps) outcomes NoMore world
-  pub text_is : text ≡ lines_text (run_lines (cluster_of script) outcomes world)
+  pub told : Told (cluster_of script) (new_world (cluster_of script)) (steps_ask (cluster_of script) script.names script.steps) said NoMore world
+  pub text_is : text ≡ lines_text (script_lines (cluster_of script) said world)
 
 -- and the headline holds of the lists that it is written of
 pub record IsPlayedSafely (script : Script) (text : List ℕ) : Type 0 where

@@ -1,22 +1,22 @@
 -- What the player's calls do.
-use Rattle.std.specs.Prelude.{◌≡◌, ℕ, ◌+◌, List, [], ◌++◌, length, Option, Result, Ok, Err}
+use Rattle.std.specs.Prelude.{◌≡◌, ℕ, ◌+◌, List, [], ◌++◌, Option, Result, Ok, Err}
 use Rattle.cluster_world.specs.declared.outcomes.Outcome as code
 use Rattle.world_law.specs.Events.{Event}
 use Rattle.cluster_world.specs.InCode.{event_of, outcome_of}
 use Rattle.world_law.specs.Outcomes.{Outcome}
 use Rattle.world_law.specs.Headline.{IsCluster}
 use Rattle.world_law.specs.State.{Cluster, World, new_world}
-use Rattle.world_law.specs.Written.{outcome_lines, last_lines}
+use Rattle.world_law.specs.Written.{last_lines}
 use Rattle.script_form.specs.Form.{Script}
 use Rattle.mesh_script.specs.declared.player.Asked.{Asked}
 use Rattle.mesh_script.specs.declared.player.Asked.TheVariants as asked
 use Rattle.mesh_script.specs.declared.faults.PlayFault.{PlayFault}
-use Rattle.mesh_script.specs.Asks.{Asks, NoMore, Ask, once, dial_asks}
+use Rattle.mesh_script.specs.Asks.{Asks, NoMore, Ask, work_asks, Wants, Once, Joins, Tells, Delivers}
 use Rattle.mesh_script.specs.Lines.{lines_text}
 use Rattle.mesh_script.specs.Placing.{cluster_named}
 use Rattle.mesh_script.specs.Played.{AppendsStart, Writes, IsPlayed, IsPlayedSafely, cluster_of}
 use Rattle.mesh_script.specs.Putting.{Puts}
-use Rattle.mesh_script.specs.Told.{Told}
+use Rattle.mesh_script.specs.Told.{Said, Told, count_came, said_lines}
 
 -- ---- the cluster
 
@@ -27,13 +27,13 @@ pub record PlayState : Type 0 where
   pub number : ℕ
   pub text : List ℕ
 
--- of what is asked, these outcomes were told and put, and this is left
+-- of what is asked, this was told and put, and this is left
 pub record Moves (old : PlayState) (was : Option (List ℕ)) (asks rest : Asks) (new : PlayState) (is : Option (List ℕ)) : Type 0 where
-  pub outcomes : List Outcome
+  pub said : List Said
   pub cluster : new.cluster ≡ old.cluster
-  pub told : Told old.cluster old.world asks outcomes rest new.world
-  pub number : new.number ≡ old.number + length outcomes
-  pub puts : Puts old.text was (lines_text (outcome_lines old.number outcomes)) new.text is
+  pub told : Told old.cluster old.world asks said rest new.world
+  pub number : new.number ≡ old.number + count_came said
+  pub puts : Puts old.text was (lines_text (said_lines old.number said)) new.text is
 
 -- somewhere on the way to the end it broke off
 pub record BreaksOff (old : PlayState) (was : Option (List ℕ)) (asks : Asks) (is : Option (List ℕ)) : Type 0 where
@@ -51,11 +51,17 @@ abbrev pub AsksOne : Result code.Outcome PlayFault → Event → PlayState → O
 AsksOne (Ok outcome) e old was new is = (more : World → Outcome → Asks) → Moves old was (Ask e more) (more old.world (outcome_of outcome)) new is
 AsksOne (Err fault) e old was new is = AppendsStart was is old.text
 
--- ---- what a step asks, as the code has it
+-- an event and these behind it were made, which depend on the world before it
+abbrev pub MakesBehind : {T : Type 0} → Result T PlayFault → PlayState → Option (List ℕ) → Event → List Event → PlayState → Option (List ℕ) → Type 0
+MakesBehind result old was e behind new is = (more : World → Outcome → Asks) → ((outcome : Outcome) → more old.world outcome ≡ work_asks behind 0) → Makes result old was (Ask e more) new is
 
-abbrev pub asks_of : Asked → Asks
-asks_of (asked.Event event) = once (event_of event)
-asks_of (asked.Join a b) = dial_asks a b
+-- ---- what an act wants, as the code has it
+
+abbrev pub wants_of : Asked → Wants
+wants_of (asked.Event event) = Once (event_of event)
+wants_of (asked.Join a b) = Joins a b
+wants_of (asked.Settled subject) = Tells subject
+wants_of (asked.Deliver node conn said word) = Delivers node (record { conn = conn; said = said; word = word })
 
 -- ---- a whole script
 
@@ -67,13 +73,13 @@ abbrev pub Finishes : {T : Type 0} → Result T PlayFault → List (List ℕ) �
 Finishes result names old was is = old.number ≡ old.world.step → Writes result was is (old.text ++ lines_text (last_lines (cluster_named names) old.world))
 
 -- the rest of what is asked can be told, wherever it broke off
-pub record Completed (c : Cluster) (asks : Asks) (outcomes : List Outcome) : Type 0 where
-  pub more : List Outcome
+pub record Completed (c : Cluster) (asks : Asks) (said : List Said) : Type 0 where
+  pub more : List Said
   pub world : World
-  pub told : Told c (new_world c) asks (outcomes ++ more) NoMore world
+  pub told : Told c (new_world c) asks (said ++ more) NoMore world
 
 abbrev pub GoesOn : Type 0
-GoesOn = (c : Cluster) → IsCluster c → (asks rest : Asks) (outcomes : List Outcome) (w : World) → Told c (new_world c) asks outcomes rest w → Completed c asks outcomes
+GoesOn = (c : Cluster) → IsCluster c → (asks rest : Asks) (said : List Said) (w : World) → Told c (new_world c) asks said rest w → Completed c asks said
 
 -- the headline holds of the world of each run of a script's events
 abbrev pub ArePlayedSafely : Type 0

@@ -1,6 +1,7 @@
 //! What is to be written, gathered: the outcomes of events, placements and the last line; and whether a pattern matches a subject.
 
 ghost use Rattle.std.specs.Prelude.{◌≡◌, ◌++◌, [], codes, decimal, OnOk, ◌+◌, ◌∷◌, map, length, IfOk, None};
+ghost use Rattle.mesh_script.specs.Asks.{settled_line, delivered_line};
 ghost use Rattle.mesh_script.specs.Lines.{refused_text, end_line};
 ghost use Rattle.mesh_script.specs.Putting.{PutsOrStarts};
 ghost use Rattle.mesh_script.specs.Played.{Writes, CountsWrites};
@@ -223,6 +224,33 @@ pub(crate) fn put_line(
     output.put_number(number)?;
     output.put(b" ")?;
     put_outcome(output, outcome)?;
+    output.put(b"\n")
+}
+
+/// What is told of a cluster that is settled, or is not.
+fn settled_words(settled: bool) -> &'static [u8]
+    ensures { result.now ≡ settled_line settled }
+{
+    if settled {
+        b"settled yes"
+    } else {
+        b"settled no"
+    }
+}
+
+/// The line that tells whether the cluster is settled.
+pub(crate) fn put_settled(output: &mut Output, settled: bool) -> Result<(), AllocError>
+    ensures { OnOk result (output.new ≡ output.old ++ (settled_line settled ++ codes "\n")) }
+{
+    output.put(settled_words(settled))?;
+    output.put(b"\n")
+}
+
+/// The line that tells how many messages a delivery placed.
+pub(crate) fn put_delivered(output: &mut Output, placed: u64) -> Result<(), AllocError>
+    ensures { OnOk result (output.new ≡ output.old ++ (delivered_line placed ++ codes "\n")) }
+{
+    output.put_with(b"delivered ", placed)?;
     output.put(b"\n")
 }
 

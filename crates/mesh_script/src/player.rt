@@ -3,37 +3,51 @@
 ghost use Rattle.world_law.specs.Events as of_world;
 ghost use Rattle.node_law.specs.Events as of_node;
 ghost use Rattle.node_law.specs.declared.events.ConnEvent.TheVariants as for_conn;
-ghost use Rattle.std.specs.Prelude.{◌≡◌, IfOk, Some, [], length, OnErr};
+ghost use Rattle.std.specs.Prelude.{◌≡◌, IfOk, Some, [], length, map, OnErr};
 ghost use Rattle.std.specs.List.{position};
 ghost use Rattle.std.specs.Str.{bytes_eq};
 ghost use Rattle.node_core.specs.InCode.{own_event_of};
 ghost use Rattle.subj.specs.Servers.{place_in};
-ghost use Rattle.mesh_script.specs.Asks.{once as asked_once, act_asks, session_in as session_told, step_asks, dial_asks, accept_asks, info_asks, connect_asks, next_frame as frame_after, steps_ask};
-ghost use Rattle.mesh_script.specs.Playing.{asks_of, Makes, AsksOne, Finishes, first_standing, GoesOn, ArePlayedSafely};
+ghost use Rattle.mesh_script.specs.Asks.{once as asked_once, Once, Tells, Delivers, act_wants, asks_for, session_in as session_told, step_wants, dial_asks, accept_asks, info_asks, connect_asks, next_frame as frame_after, settled_asks, deliver_asks, work_asks, steps_ask};
+ghost use Rattle.mesh_script.specs.Playing.{wants_of, Makes, MakesBehind, AsksOne, Finishes, first_standing, GoesOn, ArePlayedSafely};
 ghost use Rattle.cluster_world.specs.InCode.{event_of, outcome_of};
+ghost use Rattle.settled_order.specs.Counted.{placed_by as placed_of};
+ghost use Rattle.settled_order.specs.Owed.{delivery as work_behind};
 ghost use Rattle.mesh_script.specs.Played.{CountsWrites, Plays, cluster_of};
 ghost use Rattle.wire_cut.specs.Flow.{Gains};
 ghost use Rattle.mesh_script.specs.Runs.{RunsScript, CountsReads, CountsFailedWrites, HasRead, HasReadSome, ReadsAway, CountsFailedReads, broken_by};
 
 use crate::faults::{PlayFault, RunFault};
-use crate::output::{Known, Output, put_end, put_line, put_placements, write_refusal};
+use crate::output::{
+    Known, Output, put_delivered, put_end, put_line, put_placements, put_settled, write_refusal,
+};
 use claim_race::Race;
 use cluster_world::{Event, Outcome, World};
 use node_core::{Answer, ConnEvent, OwnEvent, ShardWork};
 use route_session::SessionId;
 use script_form::{Act, Script, Step};
+use settled_order::delivery;
 use std::alloc::{AllocError, Global};
 use std::marker::Model;
 use sub_table::SubTable;
-use subj::{ConnId, Failure, Key, NodeId, Pub, SCRIPT_BYTES, Sid};
+use subj::{ConnId, Failure, Key, NodeId, Pub, SCRIPT_BYTES, Sid, Subject};
 use wire_cut::{Sink, Source};
 
-/// What a step asks of the cluster: one event, or a join.
+/// What a step asks of the cluster.
 #[derive(Drop)]
 enum Asked {
     Event(Event),
     /// The servers at these places: the one that dials, and the one that is dialed.
     Join(usize, usize),
+    /// Whether it is settled for the subject.
+    Settled(Subject),
+    /// A publish at the server of this place, and the work that is owed of it.
+    Deliver {
+        node: usize,
+        conn: ConnId,
+        said: Pub,
+        word: u64,
+    },
 }
 
 /// The place of the server of this name, or None where none has it.
@@ -54,19 +68,19 @@ fn place_of(names: &[NodeId], name: NodeId) -> usize
 }
 
 fn own(node: usize, event: OwnEvent) -> Asked
-    ensures { asks_of result ≡ asked_once (of_world.At node (own_event_of event)) }
+    ensures { wants_of result ≡ Once (of_world.At node (own_event_of event)) }
 {
     Asked::Event(Event::At { node, event })
 }
 
 fn of_conn(node: usize, conn: ConnId, event: ConnEvent) -> Asked
-    ensures { asks_of result ≡ asked_once (of_world.At node (of_node.OfConn conn event)) }
+    ensures { wants_of result ≡ Once (of_world.At node (of_node.OfConn conn event)) }
 {
     own(node, OwnEvent::OfConn { conn, event })
 }
 
 fn at_shard(node: usize, shard: u64, work: ShardWork) -> Asked
-    ensures { asks_of result ≡ asked_once (of_world.At node (of_node.AtShard shard work)) }
+    ensures { wants_of result ≡ Once (of_world.At node (of_node.AtShard shard work)) }
 {
     own(node, OwnEvent::AtShard { shard, work })
 }
@@ -78,7 +92,7 @@ fn subscribe(
     key: &Key,
     sid: &Sid,
 ) -> Result<Asked, AllocError>
-    ensures { IfOk result (λ asked. asks_of asked ≡ asked_once (of_world.At node (of_node.OfConn conn (for_conn.Subscribe key.now sid.now)))) }
+    ensures { IfOk result (λ asked. wants_of asked ≡ Once (of_world.At node (of_node.OfConn conn (for_conn.Subscribe key.now sid.now)))) }
 {
     let key = key.try_clone(alloc)?;
     let sid = sid.try_clone(alloc)?;
@@ -92,38 +106,63 @@ fn unsubscribe(
     sid: &Sid,
     max: Option<u64>,
 ) -> Result<Asked, AllocError>
-    ensures { IfOk result (λ asked. asks_of asked ≡ asked_once (of_world.At node (of_node.OfConn conn (for_conn.Unsubscribe sid.now max)))) }
+    ensures { IfOk result (λ asked. wants_of asked ≡ Once (of_world.At node (of_node.OfConn conn (for_conn.Unsubscribe sid.now max)))) }
 {
     let sid = sid.try_clone(alloc)?;
     Ok(of_conn(node, conn, ConnEvent::Unsubscribe { sid, max }))
 }
 
-fn publish(node: usize, conn: ConnId, said: &Pub, word: u64) -> Result<Asked, AllocError>
-    ensures { IfOk result (λ asked. asks_of asked ≡ asked_once (of_world.At node (of_node.Publish (record { conn = conn; said = said.now; word = word })))) }
+/// A copy that shares the message.
+fn copy_of(said: &Pub) -> Result<Pub, AllocError>
+    ensures { IfOk result (λ copy. copy ≡ said.now) }
 {
-    let said = Pub {
-        message: said.message.try_clone()?,
-        echo: said.echo,
-    };
+    let message = said.message.try_clone()?;
+    let echo = said.echo;
+    Ok(Pub { message, echo })
+}
+
+fn publish(node: usize, conn: ConnId, said: &Pub, word: u64) -> Result<Asked, AllocError>
+    ensures { IfOk result (λ asked. wants_of asked ≡ Once (of_world.At node (of_node.Publish (record { conn = conn; said = said.now; word = word })))) }
+{
+    let said = copy_of(said)?;
     Ok(own(node, OwnEvent::Publish { conn, said, word }))
 }
 
+fn deliver(node: usize, conn: ConnId, said: &Pub, word: u64) -> Result<Asked, AllocError>
+    ensures { IfOk result (λ asked. wants_of asked ≡ Delivers node (record { conn = conn; said = said.now; word = word })) }
+{
+    let said = copy_of(said)?;
+    Ok(Asked::Deliver {
+        node,
+        conn,
+        said,
+        word,
+    })
+}
+
+fn settled(subject: &Subject) -> Result<Asked, AllocError>
+    ensures { IfOk result (λ asked. wants_of asked ≡ Tells subject.now) }
+{
+    let subject = subject.try_clone()?;
+    Ok(Asked::Settled(subject))
+}
+
 fn take_entries(node: usize, conn: ConnId, count: u64) -> Asked
-    ensures { asks_of result ≡ asked_once (of_world.At node (of_node.OfConn conn (for_conn.Take count))) }
+    ensures { wants_of result ≡ Once (of_world.At node (of_node.OfConn conn (for_conn.Take count))) }
 {
     let count = count as usize;
     of_conn(node, conn, ConnEvent::Take { count })
 }
 
 fn receive(node: usize, frame: u64) -> Asked
-    ensures { asks_of result ≡ asked_once (of_world.Receive node frame) }
+    ensures { wants_of result ≡ Once (of_world.Receive node frame) }
 {
     let frame = frame as usize;
     Asked::Event(Event::Receive { node, frame })
 }
 
 fn on_info(node: usize, session: u64, frame: u64) -> Asked
-    ensures { asks_of result ≡ asked_once (of_world.OnInfo node session frame) }
+    ensures { wants_of result ≡ Once (of_world.OnInfo node session frame) }
 {
     Asked::Event(Event::OnInfo {
         node,
@@ -133,7 +172,7 @@ fn on_info(node: usize, session: u64, frame: u64) -> Asked
 }
 
 fn on_connect(node: usize, session: u64, frame: u64) -> Asked
-    ensures { asks_of result ≡ asked_once (of_world.OnConnect node session frame) }
+    ensures { wants_of result ≡ Once (of_world.OnConnect node session frame) }
 {
     Asked::Event(Event::OnConnect {
         node,
@@ -143,20 +182,20 @@ fn on_connect(node: usize, session: u64, frame: u64) -> Asked
 }
 
 fn cut(node: usize, session: u64) -> Asked
-    ensures { asks_of result ≡ asked_once (of_world.At node (of_node.CutSession session)) }
+    ensures { wants_of result ≡ Once (of_world.At node (of_node.CutSession session)) }
 {
     let session = SessionId::new(session);
     own(node, OwnEvent::CutSession { session })
 }
 
 fn dial(node: usize, peer: usize) -> Asked
-    ensures { asks_of result ≡ asked_once (of_world.At node (of_node.Dial peer)) }
+    ensures { wants_of result ≡ Once (of_world.At node (of_node.Dial peer)) }
 {
     own(node, OwnEvent::Dial { peer })
 }
 
 fn take_frames(node: usize, peer: usize, count: u64) -> Asked
-    ensures { asks_of result ≡ asked_once (of_world.At node (of_node.TakeFrames peer count)) }
+    ensures { wants_of result ≡ Once (of_world.At node (of_node.TakeFrames peer count)) }
 {
     let count = count as usize;
     own(node, OwnEvent::TakeFrames { peer, count })
@@ -164,7 +203,7 @@ fn take_frames(node: usize, peer: usize, count: u64) -> Asked
 
 /// What is asked for this act of the server at the place.
 fn asked_by(alloc: Global, names: &[NodeId], node: usize, act: &Act) -> Result<Asked, AllocError>
-    ensures { IfOk result (λ asked. asks_of asked ≡ act_asks names.now node act.now) }
+    ensures { IfOk result (λ asked. wants_of asked ≡ act_wants names.now node act.now) }
 {
     match act {
         Act::Start { inc } => Ok(Asked::Event(Event::Start { node, inc: *inc })),
@@ -174,6 +213,8 @@ fn asked_by(alloc: Global, names: &[NodeId], node: usize, act: &Act) -> Result<A
         Act::Unsub { conn, sid, max } => unsubscribe(alloc, node, *conn, sid, *max),
         Act::Detach { conn } => Ok(of_conn(node, *conn, ConnEvent::Detach)),
         Act::Publish { conn, said, word } => publish(node, *conn, said, *word),
+        Act::Settled { subject } => settled(subject),
+        Act::Deliver { conn, said, word } => deliver(node, *conn, said, *word),
         Act::Receive { frame } => Ok(receive(node, *frame)),
         Act::Collect { shard } => Ok(own(node, OwnEvent::Collect { shard: *shard })),
         Act::Begin { shard } => Ok(at_shard(node, *shard, ShardWork::Begin)),
@@ -229,6 +270,17 @@ fn session_in(outcome: &Outcome) -> Option<SessionId>
     }
 }
 
+/// How many messages an event placed, by its outcome.
+fn placed_by(outcome: &Outcome) -> u64
+    ensures { result ≡ placed_of (outcome_of outcome.now) }
+{
+    match outcome {
+        Outcome::Done(Answer::Began { placed, .. }) => *placed as u64,
+        Outcome::Done(Answer::Won(_)) => 1,
+        _ => 0,
+    }
+}
+
 impl<T: SubTable, R: Race> Player<T, R> {
     /// No event was made in the cluster.
     fn new(alloc: Global, world: World<T, R>) -> Player<T, R>
@@ -257,7 +309,7 @@ impl<T: SubTable, R: Race> Player<T, R> {
         Ok(outcome)
     }
 
-    /// Makes an event, and puts its line.
+    /// The same of an event that is of no further use.
     fn ask_for<S: Sink>(&mut self, event: Event, sink: &mut S) -> Result<Outcome, PlayFault>
         ensures asks { AsksOne result (event_of event) self.old (S.written sink.old) self.new (S.written sink.new) }
         ensures failures { CountsWrites result (S.failures sink.old) (S.failures sink.new) }
@@ -274,19 +326,11 @@ impl<T: SubTable, R: Race> Player<T, R> {
         Ok(())
     }
 
-    /// The number of the first frame that the next event sends. Want of memory also stands for more frames than can
-    /// be counted.
+    /// The number of the first frame that the next event sends.
     fn next_frame(&self) -> Result<usize, AllocError>
         ensures { IfOk result (λ frame. frame ≡ frame_after self.now.world) }
     {
-        let mut number = 1usize;
-        for frames in self.world.sent_frames() {
-            let Some(more) = number.checked_add(frames.len()) else {
-                return Err(AllocError);
-            };
-            number = more;
-        }
-        Ok(number)
+        self.world.next_frame()
     }
 
     /// The side that accepted is handed the `CONNECT`.
@@ -360,14 +404,102 @@ impl<T: SubTable, R: Race> Player<T, R> {
         }
     }
 
-    /// Makes the events that are asked for.
+    /// Tells whether the cluster is settled for a publication on the subject.
+    fn tell_settled<S: Sink>(&mut self, subject: &Subject, sink: &mut S) -> Result<(), PlayFault>
+        ensures makes { Makes result self.old (S.written sink.old) (settled_asks self.old.cluster subject.now) self.new (S.written sink.new) }
+        ensures failures { CountsWrites result (S.failures sink.old) (S.failures sink.new) }
+    {
+        self.output.flush_much(sink)?;
+        let settled = self.world.settled_for(subject);
+        put_settled(&mut self.output, settled)?;
+        Ok(())
+    }
+
+    /// Tells how many messages were placed.
+    fn tell_placed<S: Sink>(&mut self, placed: u64, sink: &mut S) -> Result<(), PlayFault>
+        ensures makes { Makes result self.old (S.written sink.old) (work_asks [] placed) self.new (S.written sink.new) }
+        ensures failures { CountsWrites result (S.failures sink.old) (S.failures sink.new) }
+    {
+        self.output.flush_much(sink)?;
+        put_delivered(&mut self.output, placed)?;
+        Ok(())
+    }
+
+    /// Makes events in turn, and tells how many messages they placed. Want of memory also stands for more than can be counted.
+    fn work<S: Sink>(&mut self, events: &[Event], sink: &mut S) -> Result<(), PlayFault>
+        ensures makes { Makes result self.old (S.written sink.old) (work_asks (map event_of events.now) 0) self.new (S.written sink.new) }
+        ensures failures { CountsWrites result (S.failures sink.old) (S.failures sink.new) }
+    {
+        let mut placed = 0u64;
+        for event in events {
+            let outcome = self.ask(event, sink)?;
+            let Some(sum) = placed.checked_add(placed_by(&outcome)) else {
+                return Err(PlayFault::OutOfMemory);
+            };
+            placed = sum;
+        }
+        self.tell_placed(placed, sink)
+    }
+
+    /// Makes an event, and then the work behind it.
+    fn ask_and_work<S: Sink>(
+        &mut self,
+        event: &Event,
+        events: &[Event],
+        sink: &mut S,
+    ) -> Result<(), PlayFault>
+        ensures makes { MakesBehind result self.old (S.written sink.old) (event_of event.now) (map event_of events.now) self.new (S.written sink.new) }
+        ensures failures { CountsWrites result (S.failures sink.old) (S.failures sink.new) }
+    {
+        self.ask(event, sink)?;
+        self.work(events, sink)
+    }
+
+    /// The work behind a publish that is delivered.
+    fn delivery_of(
+        &self,
+        node: usize,
+        conn: ConnId,
+        said: &Pub,
+        word: u64,
+    ) -> Result<Vec<Event>, AllocError>
+        ensures { IfOk result (λ events. map event_of events.items ≡ work_behind self.now.cluster self.now.world node (record { conn = conn; said = said.now; word = word })) }
+    {
+        delivery(self.alloc, &self.world, node, conn, said, word)
+    }
+
+    /// Publishes for the connection at the server of this place, and makes the work that is owed of it.
+    fn deliver<S: Sink>(
+        &mut self,
+        node: usize,
+        conn: ConnId,
+        said: Pub,
+        word: u64,
+        sink: &mut S,
+    ) -> Result<(), PlayFault>
+        ensures makes { Makes result self.old (S.written sink.old) (deliver_asks self.old.cluster node (record { conn = conn; said = said; word = word })) self.new (S.written sink.new) }
+        ensures failures { CountsWrites result (S.failures sink.old) (S.failures sink.new) }
+    {
+        let events = self.delivery_of(node, conn, &said, word)?;
+        let event = OwnEvent::Publish { conn, said, word };
+        self.ask_and_work(&Event::At { node, event }, &events, sink)
+    }
+
+    /// Makes what is asked for.
     fn make_asked<S: Sink>(&mut self, asked: Asked, sink: &mut S) -> Result<(), PlayFault>
-        ensures makes { Makes result self.old (S.written sink.old) (asks_of asked) self.new (S.written sink.new) }
+        ensures makes { Makes result self.old (S.written sink.old) (asks_for self.old.cluster (wants_of asked)) self.new (S.written sink.new) }
         ensures failures { CountsWrites result (S.failures sink.old) (S.failures sink.new) }
     {
         match asked {
             Asked::Join(a, b) => self.join(a, b, sink),
             Asked::Event(event) => self.once(event, sink),
+            Asked::Settled(subject) => self.tell_settled(&subject, sink),
+            Asked::Deliver {
+                node,
+                conn,
+                said,
+                word,
+            } => self.deliver(node, conn, said, word, sink),
         }
     }
 
@@ -378,7 +510,7 @@ impl<T: SubTable, R: Race> Player<T, R> {
         step: &Step,
         sink: &mut S,
     ) -> Result<(), PlayFault>
-        ensures makes { Makes result self.old (S.written sink.old) (step_asks names.now step.now) self.new (S.written sink.new) }
+        ensures makes { Makes result self.old (S.written sink.old) (asks_for self.old.cluster (step_wants names.now step.now)) self.new (S.written sink.new) }
         ensures failures { CountsWrites result (S.failures sink.old) (S.failures sink.new) }
     {
         let node = place_of(names, step.node);
@@ -439,7 +571,7 @@ fn make_all<T: SubTable, R: Race, S: Sink>(
     script: &Script,
     sink: &mut S,
 ) -> Result<(), PlayFault>
-    ensures makes { Makes result player.old (S.written sink.old) (steps_ask script.now.names script.now.steps) player.new (S.written sink.new) }
+    ensures makes { Makes result player.old (S.written sink.old) (steps_ask player.old.cluster script.now.names script.now.steps) player.new (S.written sink.new) }
     ensures failures { CountsWrites result (S.failures sink.old) (S.failures sink.new) }
 {
     for step in script.steps() {
@@ -449,8 +581,8 @@ fn make_all<T: SubTable, R: Race, S: Sink>(
 }
 
 /// Plays a script: makes its events in turn in a cluster in which all servers are down, over any table of
-/// subscriptions and any race, and writes a line for each, then one for each message that was placed, and a last line.
-/// (Profile.)
+/// subscriptions and any race, and writes a line for each; where it asks whether the cluster is settled, and behind each delivery, a line that
+/// is no event's; then one for each message that was placed, and a last line. (Profile.)
 ///
 /// What is written is the text of a run of these events in the exact cluster; after a failed write, and where memory is
 /// wanting, a beginning of such a text. The headline holds of the lists that it is written of, as

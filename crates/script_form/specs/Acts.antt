@@ -4,11 +4,12 @@ use Rattle.serde_json.specs.Data.{Data}
 use Rattle.serde_json.specs.Find.{get}
 use Rattle.subj.specs.declared.keys.Key.{Key}
 use Rattle.subj.specs.declared.limits.TheConstants.{JOIN_EVENTS}
+use Rattle.subj.specs.declared.messages.Pub.{Pub}
 use Rattle.subj.specs.Names.{node_name_fault, pattern_fault, subject_fault, queue_name_fault, sid_fault}
 use Rattle.subj.specs.Numbers.{incarnation_of}
 use Rattle.subj.specs.Publications.{new_publication}
 use Rattle.script_form.specs.declared.steps.Act.{Act}
-use Rattle.script_form.specs.declared.steps.Act.TheVariants.{Start, Stop, Attach, Sub, Unsub, Detach, Publish, Receive, Collect, Begin, End, DropJob, Claim, Dial, Accept, Info, Connect, Cut, TakeEntries, TakeFrames, Join}
+use Rattle.script_form.specs.declared.steps.Act.TheVariants.{Start, Stop, Attach, Sub, Unsub, Detach, Publish, Settled, Deliver, Receive, Collect, Begin, End, DropJob, Claim, Dial, Accept, Info, Connect, Cut, TakeEntries, TakeFrames, Join}
 use Rattle.script_form.specs.declared.steps.Step.{Step}
 use Rattle.script_form.specs.declared.steps.Verb.{Verb}
 use Rattle.script_form.specs.declared.steps.Verb.TheVariants as verb
@@ -82,16 +83,26 @@ detach_in json = do
   Some (Detach conn)
 
 -- with echo, where that is not said
-unfoldable pub publish_in : Data → Option Act
-publish_in json = do
-  conn ← conn json
+unfoldable pub said_in : Data → Option Pub
+said_in json = do
   subject ← name_at subject_fault key.Subject json
   reply ← optional_name_at subject_fault key.Reply json
   payload ← member text key.Payload json
   echo ← optional truth key.Echo json
+  new_publication subject reply payload (unwrap_or echo true)
+
+-- a publish, or one that is delivered
+unfoldable pub publish_in : (ℕ → Pub → ℕ → Act) → Data → Option Act
+publish_in act json = do
+  conn ← conn json
+  said ← said_in json
   word ← number key.Word json
-  said ← new_publication subject reply payload (unwrap_or echo true)
-  Some (Publish conn said word)
+  Some (act conn said word)
+
+unfoldable pub settled_in : Data → Option Act
+settled_in json = do
+  subject ← name_at subject_fault key.Subject json
+  Some (Settled subject)
 
 unfoldable pub receive_in : Data → Option Act
 receive_in json = do
@@ -148,7 +159,9 @@ act_in verb.Attach json = attach_in json
 act_in verb.Sub json = sub_in json
 act_in verb.Unsub json = unsub_in json
 act_in verb.Detach json = detach_in json
-act_in verb.Publish json = publish_in json
+act_in verb.Publish json = publish_in Publish json
+act_in verb.Settled json = settled_in json
+act_in verb.Deliver json = publish_in Deliver json
 act_in verb.Receive json = receive_in json
 act_in verb.Collect json = of_shard Collect json
 act_in verb.Begin json = of_shard Begin json

@@ -7,7 +7,8 @@ ghost use Rattle.subj.specs.declared.faults.NameFault.{NameFault as Cause};
 ghost use Rattle.subj.specs.Answers.{IsAnswered};
 ghost use Rattle.subj.specs.Names.{node_name_fault, pattern_fault, subject_fault, queue_name_fault, sid_fault};
 ghost use Rattle.script_form.specs.Members.{MemberMeans, Says, SaysBy, member as there, optional, whole, text as is_text, truth as is_truth, node as is_node, name_at, optional_name_at, MeansBy};
-ghost use Rattle.script_form.specs.Acts.{start_in, attach_in, key_in, sub_in, unsub_in, publish_in, claim_in, take_entries_in, take_frames_in, take_in, act_in, verb_in, step_in, shard, peer, session, frame, conn};
+ghost use Rattle.script_form.specs.Acts.{start_in, attach_in, key_in, sub_in, unsub_in, said_in, publish_in, settled_in, claim_in, take_entries_in, take_frames_in, take_in, act_in, verb_in, step_in, shard, peer, session, frame, conn};
+ghost use Rattle.script_form.specs.declared.steps.Act.TheVariants.{Publish, Deliver};
 ghost use Rattle.serde_json.specs.Find.{as_array};
 ghost use Rattle.script_form.specs.Form.{each, count_of, script_in, Reads, ReadsJson};
 
@@ -268,21 +269,51 @@ fn read_unsub(alloc: Global, object: &Value) -> Result<Act, Failure<Misfit>>
     Ok(Act::Unsub { conn, sid, max })
 }
 
-#[tactic(auto, unfolding(crate::specs::Acts::publish_in))]
-fn read_publish(alloc: Global, object: &Value) -> Result<Act, Failure<Misfit>>
-    ensures { MemberMeans (publish_in (view object.now)) result }
+/// What is published.
+#[tactic(auto, unfolding(crate::specs::Acts::said_in))]
+fn read_said(alloc: Global, object: &Value) -> Result<Pub, Failure<Misfit>>
+    ensures { MemberMeans (said_in (view object.now)) result }
 {
-    let conn = read_conn(object)?;
     let subject = subject(alloc, object, Member::Subject)?;
     let reply = optional_subject(alloc, object, Member::Reply)?;
     let payload = text(object, Member::Payload)?;
     let echo = optional_truth(object, Member::Echo)?.unwrap_or(true);
-    let word = number(object, Member::Word)?;
     let payload = Bytes::copy_from_slice(alloc, payload.as_bytes())?;
-    let said = Pub::new(alloc, subject, reply, payload, echo)?.ok_or(Misfit {
-        member: Member::Payload,
-    })?;
+    let said = Pub::new(alloc, subject, reply, payload, echo)?;
+    match said {
+        Some(said) => Ok(said),
+        None => Err(Failure::Refused(Misfit {
+            member: Member::Payload,
+        })),
+    }
+}
+
+#[tactic(auto, unfolding(crate::specs::Acts::publish_in))]
+fn read_publish(alloc: Global, object: &Value) -> Result<Act, Failure<Misfit>>
+    ensures { MemberMeans (publish_in Publish (view object.now)) result }
+{
+    let conn = read_conn(object)?;
+    let said = read_said(alloc, object)?;
+    let word = number(object, Member::Word)?;
     Ok(Act::Publish { conn, said, word })
+}
+
+#[tactic(auto, unfolding(crate::specs::Acts::publish_in))]
+fn read_deliver(alloc: Global, object: &Value) -> Result<Act, Failure<Misfit>>
+    ensures { MemberMeans (publish_in Deliver (view object.now)) result }
+{
+    let conn = read_conn(object)?;
+    let said = read_said(alloc, object)?;
+    let word = number(object, Member::Word)?;
+    Ok(Act::Deliver { conn, said, word })
+}
+
+#[tactic(auto, unfolding(crate::specs::Acts::settled_in))]
+fn read_settled(alloc: Global, object: &Value) -> Result<Act, Failure<Misfit>>
+    ensures { MemberMeans (settled_in (view object.now)) result }
+{
+    let subject = subject(alloc, object, Member::Subject)?;
+    Ok(Act::Settled { subject })
 }
 
 #[tactic(auto, unfolding(crate::specs::Acts::claim_in))]
@@ -338,6 +369,8 @@ fn read_act(alloc: Global, verb: Verb, object: &Value) -> Result<Act, Failure<Mi
             conn: read_conn(object)?,
         }),
         Verb::Publish => read_publish(alloc, object),
+        Verb::Settled => read_settled(alloc, object),
+        Verb::Deliver => read_deliver(alloc, object),
         Verb::Receive => Ok(Act::Receive {
             frame: read_frame(object)?,
         }),

@@ -5,7 +5,7 @@ ghost use Rattle.script_form.specs.Acts.{events_of};
 ghost use Rattle.script_form.specs.Members.{name_of};
 ghost use Rattle.script_form.specs.Words.{verb_of};
 
-use subj::{ConnId, Incarnation, JOIN_EVENTS, Key, NodeId, Pub, Sid};
+use subj::{ConnId, Incarnation, JOIN_EVENTS, Key, NodeId, Pub, Sid, Subject};
 
 /// What a server does, or is asked to do. (Profile.)
 ///
@@ -41,6 +41,17 @@ pub enum Act {
     },
     /// The connection publishes; the word decides which server serves each queue name.
     Publish {
+        conn: ConnId,
+        said: Pub,
+        word: u64,
+    },
+    /// It is told whether the cluster is settled for a publication on the subject. No event: of the server only the name is read.
+    Settled {
+        subject: Subject,
+    },
+    /// The connection publishes. Where the cluster was settled for that and had room, the work that is owed of the publication is done, at
+    /// every server; the number of events that this takes is known only then, and it counts as one.
+    Deliver {
         conn: ConnId,
         said: Pub,
         word: u64,
@@ -197,6 +208,8 @@ pub(crate) enum Verb {
     Unsub,
     Detach,
     Publish,
+    Settled,
+    Deliver,
     Receive,
     Collect,
     Begin,
@@ -225,6 +238,8 @@ impl Verb {
             "unsub" => Some(Verb::Unsub),
             "detach" => Some(Verb::Detach),
             "publish" => Some(Verb::Publish),
+            "settled" => Some(Verb::Settled),
+            "deliver" => Some(Verb::Deliver),
             "receive" => Some(Verb::Receive),
             "collect" => Some(Verb::Collect),
             "begin" => Some(Verb::Begin),

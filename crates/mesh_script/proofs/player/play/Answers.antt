@@ -14,7 +14,7 @@ returns-in_err-make_all-clause-text g c =
     let was = g.S.Sink.written c.args.sink.now in
     let is = g.S.Sink.written c.make_all.new.sink in
     broken_play _ script was is c.plays_go_on.ensures c.plays_are_safe.ensures c.shards-many.ensures.cluster c.from_residual-in_err-make_all.ensures.0
-    (subst (λ (s : PlayState). BreaksOff s was (steps_ask script.names script.steps) is) c.in_ok-player.ensures c.in_err-make_all.ensures.makes)
+    (subst (λ (s : PlayState). BreaksOff s was (steps_ask s.cluster script.names script.steps) is) c.in_ok-player.ensures c.in_err-make_all.ensures.makes)
 
 pub returns-clause-text : goal.returns-clause-text
 returns-clause-text g c =
@@ -23,5 +23,5 @@ returns-clause-text g c =
     let is = g.S.Sink.written c.make_all.new.sink in
     let now = g.S.Sink.written c.finish.new.sink in
     whole_play _ script c.make_all.new.player was is now c.plays_are_safe.ensures c.shards-many.ensures.cluster
-    (subst (λ (s : PlayState). Moves s was (steps_ask script.names script.steps) NoMore c.make_all.new.player is) c.in_ok-player.ensures c.in_ok-make_all.ensures.makes)
+    (subst (λ (s : PlayState). Moves s was (steps_ask s.cluster script.names script.steps) NoMore c.make_all.new.player is) c.in_ok-player.ensures c.in_ok-make_all.ensures.makes)
     (subst (λ n. Finishes c.finish.result n c.make_all.new.player is now) c.names.ensures c.finish.ensures.text)
