@@ -11,23 +11,19 @@
 //!
 //! A server (`thread_node`) needs none of it to run: a caller that wants no report makes the server's own calls.
 //!
-//! In reading order: `passes` is what a caller asked and was told, `pass_calls` the server's calls that tell it to a pass. They
-//! stand on `hub_steps` and `shard_steps`, the same calls with the place of their step, and on `asking`, the events that a pass
-//! keeps. `report` is the end. That what was written down is what callers were told is seen by `asked`, `comparing` and `rising`, and
-//! that the hub was handed what the shards gave by `handing`. `faults` says why there is no report.
+//! In reading order: `passes` is what a caller asked and was told, with the server's calls that tell it to a pass, and `asking` the events
+//! that a pass keeps. `report` is the end. That what was written down is what callers were told is seen by `asked`, `passes_told` and
+//! `order`, and that the hub was handed what the shards gave by `handing`. `faults` says why there is no report.
 #![tactic(auto)]
 
 mod asked;
 mod asking;
-mod comparing;
 mod faults;
 mod handing;
-mod hub_steps;
-mod pass_calls;
+mod order;
 mod passes;
+mod passes_told;
 mod report;
-mod rising;
-mod shard_steps;
 
 pub use faults::Unfinished;
 pub use passes::{Call, Pass, Told};

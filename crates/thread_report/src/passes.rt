@@ -1,16 +1,40 @@
-//! What each caller asked, and what it was answered.
+//! What each caller asked, and what it was answered: the server's calls, and what a pass tells of them.
 
-ghost use Rattle.std.specs.Prelude.{◌≡◌, ◌∷◌, ◌++◌, [], true, false, Some, IfSome};
+ghost use Rattle.std.specs.Prelude.{◌≡◌, ◌∷◌, ◌++◌, [], true, false, Some, IfSome, length, option_to_list, IfOk, OnErr};
 ghost use Rattle.node_law.specs.declared.events.NodeEvent.{NodeEvent};
 ghost use Rattle.thread_report.specs.Owed.{Gains, IsInOrder, calls_of};
 ghost use Rattle.thread_report.specs.declared.passes.Told.TheVariants.{Hub, Shard};
+ghost use Rattle.shard_core.specs.Answers.{answer_of};
+ghost use Rattle.node_law.specs.declared.events.ConnEvent.TheVariants as of_conn;
+ghost use Rattle.node_law.specs.declared.events.NodeEvent.TheVariants.{Own, Receive, OnInfo, OnConnect};
+ghost use Rattle.node_law.specs.declared.events.OwnEvent.TheVariants as own;
+ghost use Rattle.node_law.specs.declared.events.ShardWork.TheVariants as work;
+ghost use Rattle.node_threads.specs.Tapes.{told_of};
+ghost use Rattle.node_threads.specs.declared.shard_entries.ShardTold.TheVariants as shard_told;
+ghost use Rattle.thread_node.specs.HubTapes.{of_received};
+ghost use Rattle.thread_node.specs.Refusing.{AnswersAt, DecidesAt, has_shard};
+ghost use Rattle.thread_node.specs.declared.hub_entries.HubTold.TheVariants as hub_told;
 
-use crate::rising::are_rising;
-use node_law::NodeEvent;
+use crate::asking::{frame_of_peer, of_conn, publication, subscription, unsubscription};
+use crate::order::are_rising;
+use client_frames::{ErrText, ReplyFrame};
+use hub_core::HubFault;
+use node_law::{ConnEvent, NodeEvent, NodeFault, OwnEvent, ShardWork};
+use node_parts::{Issued, Received};
 use node_threads::{NodeName, ShardTold};
+use outbox::Entry;
+use route_session::{Kept, SessionFault, SessionId};
+use route_values::{Numbered, RouteConnect, RouteInfo};
+use shard_core::{Closed, Subscribed};
 use std::alloc::Global;
 use std::marker::{Model, PhantomData};
-use thread_node::HubTold;
+use std::sync::Wait;
+use sub_table::SubTable;
+use subj::{ConnId, Failure, Key, Pub, Sid, SubId, Turn};
+use thread_node::{
+    HubTold, NO_SHARD, ThreadNode, answered_by_hub, answered_by_shard, count_of, length_of,
+    told_received, told_subscribed,
+};
 
 /// What a call answered, in numbers: one of the hub's, or one of a shard's.
 #[derive(Clone, Copy, PartialEq, Eq)]
@@ -38,7 +62,7 @@ pub struct Pass<N: NodeName> {
     calls: Vec<Call>,
     lost: bool,
     of: PhantomData<N>,
-    pub(crate) alloc: Global,
+    alloc: Global,
 }
 
 impl<N: NodeName> Model for Pass<N> {
@@ -73,7 +97,7 @@ impl<N: NodeName> Pass<N> {
     }
 
     /// Whether a copy is wanted of what a call is asked: where calls are written down, and none was given up.
-    pub(crate) fn is_kept(&self, keep: bool) -> bool {
+    fn is_kept(&self, keep: bool) -> bool {
         keep && !self.lost
     }
 
@@ -98,20 +122,14 @@ impl<N: NodeName> Pass<N> {
     }
 
     /// The same of a call under the hub's lock.
-    pub(crate) fn tell_hub(
-        &mut self,
-        keep: bool,
-        place: usize,
-        event: Option<NodeEvent>,
-        told: HubTold,
-    )
+    fn tell_hub(&mut self, keep: bool, place: usize, event: Option<NodeEvent>, told: HubTold)
         ensures { (e : NodeEvent) → IfSome event (λ x. x ≡ e) → Gains keep 0 e (Hub told) self.old self.new }
     {
         self.tell(keep, 0, place, event, Told::Hub(told));
     }
 
     /// The same of a call under the lock of the shard of this number.
-    pub(crate) fn tell_shard(
+    fn tell_shard(
         &mut self,
         keep: bool,
         shard: u64,
@@ -139,5 +157,480 @@ impl<N: NodeName> Pass<N> {
             return None;
         }
         Some(self.calls)
+    }
+}
+
+/// Each call is that of [`ThreadNode`] of the same name. Where what is done is written down, the pass gains it, with
+/// what was asked and what was answered; a refused call and want of memory leave it as it was.
+impl<N: NodeName> Pass<N> {
+    /// [`ThreadNode::publish`]. May wait.
+    pub fn publish<T: SubTable, R: Wait>(
+        &mut self,
+        rt: &R,
+        node: &ThreadNode<T, N>,
+        conn: ConnId,
+        said: &Pub,
+        word: u64,
+    ) -> Result<Issued, Failure<HubFault>>
+        ensures told { IfOk result (λ issued. Gains N.keep 0 (Own (own.Publish conn said.now word)) (Hub (hub_told.Issued issued.turn issued.frames)) self.old self.new) }
+        ensures same { OnErr result (self.new ≡ self.old) }
+    {
+        let mut hub = node.hub(rt);
+        let place = hub.steps_kept();
+        let issued = hub.publish(conn, said, word)?;
+        hub.push_jobs(rt);
+        drop(hub);
+        node.unpark_workers();
+        let told = HubTold::Issued {
+            turn: issued.turn,
+            frames: issued.frames,
+        };
+        let keep = node.keeps_tapes();
+        let event = publication(self.is_kept(keep), conn, said, word);
+        self.tell_hub(keep, place, event, told);
+        Ok(issued)
+    }
+
+    /// [`ThreadNode::receive`]. May wait.
+    pub fn receive<T: SubTable, R: Wait>(
+        &mut self,
+        rt: &R,
+        node: &ThreadNode<T, N>,
+        frame: &Numbered,
+    ) -> Result<Received, Failure<HubFault>>
+        ensures told { IfOk result (λ received. Gains N.keep 0 (Receive frame.now) (Hub (of_received received)) self.old self.new) }
+        ensures same { OnErr result (self.new ≡ self.old) }
+    {
+        let mut hub = node.hub(rt);
+        let place = hub.steps_kept();
+        let received = hub.receive(frame)?;
+        hub.push_jobs(rt);
+        drop(hub);
+        node.unpark_workers();
+        let told = told_received(&received);
+        let keep = node.keeps_tapes();
+        let event = frame_of_peer(self.alloc, self.is_kept(keep), frame);
+        self.tell_hub(keep, place, event, told);
+        Ok(received)
+    }
+
+    /// [`ThreadNode::dial`]. May wait.
+    pub fn dial<T: SubTable, R: Wait>(
+        &mut self,
+        rt: &R,
+        node: &ThreadNode<T, N>,
+        peer: usize,
+    ) -> Result<SessionId, Failure<SessionFault>>
+        ensures told { IfOk result (λ session. Gains N.keep 0 (Own (own.Dial peer)) (Hub (hub_told.Dialed session)) self.old self.new) }
+        ensures same { OnErr result (self.new ≡ self.old) }
+    {
+        let mut hub = node.hub(rt);
+        let place = hub.steps_kept();
+        let done = hub.dial(peer);
+        drop(hub);
+        let session = done?;
+        let event = Some(NodeEvent::Own(OwnEvent::Dial { peer }));
+        self.tell_hub(node.keeps_tapes(), place, event, HubTold::Dialed(session));
+        Ok(session)
+    }
+
+    /// [`ThreadNode::accept`]. May wait.
+    pub fn accept<T: SubTable, R: Wait>(
+        &mut self,
+        rt: &R,
+        node: &ThreadNode<T, N>,
+    ) -> Result<(SessionId, RouteInfo), Failure<SessionFault>>
+        ensures told { IfOk result (λ given. Gains N.keep 0 (Own own.Accept) (Hub (hub_told.Accepted given.0)) self.old self.new) }
+        ensures same { OnErr result (self.new ≡ self.old) }
+    {
+        let mut hub = node.hub(rt);
+        let place = hub.steps_kept();
+        let done = hub.accept();
+        drop(hub);
+        let (session, info) = done?;
+        let event = Some(NodeEvent::Own(OwnEvent::Accept));
+        self.tell_hub(node.keeps_tapes(), place, event, HubTold::Accepted(session));
+        Ok((session, info))
+    }
+
+    /// [`ThreadNode::info`]. May wait.
+    pub fn info<T: SubTable, R: Wait>(
+        &mut self,
+        rt: &R,
+        node: &ThreadNode<T, N>,
+        session: SessionId,
+        info: &RouteInfo,
+    ) -> Result<(Kept, RouteConnect), Failure<SessionFault>>
+        ensures told { IfOk result (λ done. Gains N.keep 0 (OnInfo session info.now) (Hub (hub_told.KeptAfterInfo done.0.instead_of)) self.old self.new) }
+        ensures same { OnErr result (self.new ≡ self.old) }
+    {
+        let mut hub = node.hub(rt);
+        let place = hub.steps_kept();
+        let done = hub.info(session, info);
+        drop(hub);
+        let (kept, connect) = done?;
+        let event = Some(NodeEvent::OnInfo {
+            session,
+            info: *info,
+        });
+        self.tell_hub(
+            node.keeps_tapes(),
+            place,
+            event,
+            HubTold::KeptAfterInfo(kept.instead_of),
+        );
+        Ok((kept, connect))
+    }
+
+    /// [`ThreadNode::connect`]. May wait.
+    pub fn connect<T: SubTable, R: Wait>(
+        &mut self,
+        rt: &R,
+        node: &ThreadNode<T, N>,
+        session: SessionId,
+        connect: &RouteConnect,
+    ) -> Result<Kept, Failure<SessionFault>>
+        ensures told { IfOk result (λ kept. Gains N.keep 0 (OnConnect session connect.now) (Hub (hub_told.Kept kept.instead_of)) self.old self.new) }
+        ensures same { OnErr result (self.new ≡ self.old) }
+    {
+        let mut hub = node.hub(rt);
+        let place = hub.steps_kept();
+        let done = hub.connect(session, connect);
+        drop(hub);
+        let kept = done?;
+        let event = Some(NodeEvent::OnConnect {
+            session,
+            connect: *connect,
+        });
+        self.tell_hub(
+            node.keeps_tapes(),
+            place,
+            event,
+            HubTold::Kept(kept.instead_of),
+        );
+        Ok(kept)
+    }
+
+    /// [`ThreadNode::cut`]. May wait.
+    pub fn cut<T: SubTable, R: Wait>(
+        &mut self,
+        rt: &R,
+        node: &ThreadNode<T, N>,
+        session: SessionId,
+    ) -> Result<Option<usize>, SessionFault>
+        ensures told { IfOk result (λ peer. Gains N.keep 0 (Own (own.CutSession session)) (Hub (hub_told.WasCut peer)) self.old self.new) }
+        ensures same { OnErr result (self.new ≡ self.old) }
+    {
+        let mut hub = node.hub(rt);
+        let place = hub.steps_kept();
+        let done = hub.cut(session);
+        drop(hub);
+        let peer = done?;
+        let event = Some(NodeEvent::Own(OwnEvent::CutSession { session }));
+        self.tell_hub(node.keeps_tapes(), place, event, HubTold::WasCut(peer));
+        Ok(peer)
+    }
+
+    /// [`ThreadNode::take_frames`]. May wait.
+    pub fn take_frames<T: SubTable, R: Wait>(
+        &mut self,
+        rt: &R,
+        node: &ThreadNode<T, N>,
+        peer: usize,
+        count: usize,
+    ) -> Result<Vec<Numbered>, Failure<HubFault>>
+        ensures told { IfOk result (λ frames. Gains N.keep 0 (Own (own.TakeFrames peer count)) (Hub (hub_told.Taken (length frames.items))) self.old self.new) }
+        ensures same { OnErr result (self.new ≡ self.old) }
+    {
+        let mut hub = node.hub(rt);
+        let place = hub.steps_kept();
+        let done = hub.take_frames(peer, count);
+        drop(hub);
+        let frames = done?;
+        let event = Some(NodeEvent::Own(OwnEvent::TakeFrames { peer, count }));
+        self.tell_hub(
+            node.keeps_tapes(),
+            place,
+            event,
+            HubTold::Taken(length_of(&frames)),
+        );
+        Ok(frames)
+    }
+
+    /// [`ThreadNode::collect`]; what the hub did is told. May wait.
+    pub fn collect<T: SubTable, R: Wait>(
+        &mut self,
+        rt: &R,
+        node: &ThreadNode<T, N>,
+        shard: u64,
+    ) -> Result<hub_core::Told, Failure<NodeFault>>
+        ensures told { IfOk result (λ told. Gains N.keep 0 (Own (own.Collect shard)) (Hub (hub_told.Collected (length told.changes.items) (length told.cut.items))) self.old self.new) }
+        ensures same { OnErr result (self.new ≡ self.old) }
+        ensures answers { AnswersAt (has_shard N.race shard) result }
+    {
+        let mut hub = node.hub(rt);
+        let Some(mut of_shard) = node.shard(rt, shard) else {
+            return Err(NO_SHARD);
+        };
+        let place = hub.steps_kept();
+        let done = hub.collect(&mut of_shard);
+        drop(of_shard);
+        drop(hub);
+        let told = answered_by_hub(done)?;
+        let answer = HubTold::Collected {
+            changes: length_of(&told.changes),
+            cut: length_of(&told.cut),
+        };
+        let event = Some(NodeEvent::Own(OwnEvent::Collect { shard }));
+        self.tell_hub(node.keeps_tapes(), place, event, answer);
+        Ok(told)
+    }
+
+    /// [`ThreadNode::attach`]. May wait.
+    pub fn attach<T: SubTable, R: Wait>(
+        &mut self,
+        rt: &R,
+        node: &ThreadNode<T, N>,
+        shard: u64,
+    ) -> Result<ConnId, Failure<NodeFault>>
+        ensures told { IfOk result (λ conn. Gains N.keep shard (Own (own.AtShard shard work.Attach)) (Shard (shard_told.Attached conn)) self.old self.new) }
+        ensures same { OnErr result (self.new ≡ self.old) }
+        ensures answers { AnswersAt (has_shard N.race shard) result }
+    {
+        let Some(mut locked) = node.shard(rt, shard) else {
+            return Err(NO_SHARD);
+        };
+        let place = locked.steps_kept();
+        let done = locked.attach();
+        drop(locked);
+        let conn = answered_by_shard(done)?;
+        let event = Some(NodeEvent::Own(OwnEvent::AtShard {
+            shard,
+            work: ShardWork::Attach,
+        }));
+        self.tell_shard(
+            node.keeps_tapes(),
+            shard,
+            place,
+            event,
+            ShardTold::Attached(conn),
+        );
+        Ok(conn)
+    }
+
+    /// [`ThreadNode::subscribe`]. May wait.
+    pub fn subscribe<T: SubTable, R: Wait>(
+        &mut self,
+        rt: &R,
+        node: &ThreadNode<T, N>,
+        shard: u64,
+        conn: ConnId,
+        key: Key,
+        sid: Sid,
+    ) -> Result<Subscribed, Failure<NodeFault>>
+        ensures told { IfOk result (λ done. Gains N.keep shard (Own (own.OfConn conn (of_conn.Subscribe key sid))) (Shard (told_of (answer_of done))) self.old self.new) }
+        ensures same { OnErr result (self.new ≡ self.old) }
+        ensures answers { AnswersAt (has_shard N.race shard) result }
+    {
+        let keep = node.keeps_tapes();
+        let event = subscription(self.alloc, self.is_kept(keep), conn, &key, &sid);
+        let Some(mut locked) = node.shard(rt, shard) else {
+            return Err(NO_SHARD);
+        };
+        let place = locked.steps_kept();
+        let done = locked.subscribe(conn, key, sid);
+        drop(locked);
+        let done = answered_by_shard(done)?;
+        self.tell_shard(keep, shard, place, event, told_subscribed(done));
+        Ok(done)
+    }
+
+    /// [`ThreadNode::unsubscribe`]. May wait.
+    pub fn unsubscribe<T: SubTable, R: Wait>(
+        &mut self,
+        rt: &R,
+        node: &ThreadNode<T, N>,
+        shard: u64,
+        conn: ConnId,
+        sid: &Sid,
+        max: Option<u64>,
+    ) -> Result<Option<SubId>, NodeFault>
+        ensures told { IfOk result (λ ended. Gains N.keep shard (Own (own.OfConn conn (of_conn.Unsubscribe sid.now max))) (Shard (shard_told.Unsubscribed (length (option_to_list ended)))) self.old self.new) }
+        ensures same { OnErr result (self.new ≡ self.old) }
+        ensures answers { DecidesAt (has_shard N.race shard) result }
+    {
+        let Some(mut locked) = node.shard(rt, shard) else {
+            return Err(NodeFault::NoShard);
+        };
+        let place = locked.steps_kept();
+        let done = locked.unsubscribe(conn, sid, max);
+        drop(locked);
+        let ended = match done {
+            Ok(ended) => ended,
+            Err(fault) => return Err(NodeFault::Shard(fault)),
+        };
+        let keep = node.keeps_tapes();
+        let event = unsubscription(self.alloc, self.is_kept(keep), conn, sid, max);
+        self.tell_shard(
+            keep,
+            shard,
+            place,
+            event,
+            ShardTold::Unsubscribed(count_of(ended)),
+        );
+        Ok(ended)
+    }
+
+    /// [`ThreadNode::reply`]. May wait.
+    pub fn reply<T: SubTable, R: Wait>(
+        &mut self,
+        rt: &R,
+        node: &ThreadNode<T, N>,
+        shard: u64,
+        conn: ConnId,
+        frame: &ReplyFrame,
+    ) -> Result<Closed, Failure<NodeFault>>
+        ensures told { IfOk result (λ closed. Gains N.keep shard (Own (own.OfConn conn (of_conn.Reply frame.now))) (Shard (shard_told.Replied closed.shut (length closed.ended.items))) self.old self.new) }
+        ensures same { OnErr result (self.new ≡ self.old) }
+        ensures answers { AnswersAt (has_shard N.race shard) result }
+    {
+        let Some(mut locked) = node.shard(rt, shard) else {
+            return Err(NO_SHARD);
+        };
+        let place = locked.steps_kept();
+        let done = locked.reply(conn, frame);
+        drop(locked);
+        let closed = answered_by_shard(done)?;
+        let told = ShardTold::Replied {
+            shut: closed.shut,
+            ended: length_of(&closed.ended),
+        };
+        let event = Some(of_conn(conn, ConnEvent::Reply { frame: *frame }));
+        self.tell_shard(node.keeps_tapes(), shard, place, event, told);
+        Ok(closed)
+    }
+
+    /// [`ThreadNode::shut`]. May wait.
+    pub fn shut<T: SubTable, R: Wait>(
+        &mut self,
+        rt: &R,
+        node: &ThreadNode<T, N>,
+        shard: u64,
+        conn: ConnId,
+        text: ErrText,
+    ) -> Result<Vec<SubId>, Failure<NodeFault>>
+        ensures told { IfOk result (λ ended. Gains N.keep shard (Own (own.OfConn conn (of_conn.Shut text))) (Shard (shard_told.WasShut (length ended.items))) self.old self.new) }
+        ensures same { OnErr result (self.new ≡ self.old) }
+        ensures answers { AnswersAt (has_shard N.race shard) result }
+    {
+        let Some(mut locked) = node.shard(rt, shard) else {
+            return Err(NO_SHARD);
+        };
+        let place = locked.steps_kept();
+        let done = locked.shut(conn, text);
+        drop(locked);
+        let ended = answered_by_shard(done)?;
+        let event = Some(of_conn(conn, ConnEvent::Shut { text }));
+        self.tell_shard(
+            node.keeps_tapes(),
+            shard,
+            place,
+            event,
+            ShardTold::WasShut(length_of(&ended)),
+        );
+        Ok(ended)
+    }
+
+    /// [`ThreadNode::detach`]. May wait.
+    pub fn detach<T: SubTable, R: Wait>(
+        &mut self,
+        rt: &R,
+        node: &ThreadNode<T, N>,
+        shard: u64,
+        conn: ConnId,
+    ) -> Result<Vec<SubId>, Failure<NodeFault>>
+        ensures told { IfOk result (λ ended. Gains N.keep shard (Own (own.OfConn conn of_conn.Detach)) (Shard (shard_told.Detached (length ended.items))) self.old self.new) }
+        ensures same { OnErr result (self.new ≡ self.old) }
+        ensures answers { AnswersAt (has_shard N.race shard) result }
+    {
+        let Some(mut locked) = node.shard(rt, shard) else {
+            return Err(NO_SHARD);
+        };
+        let place = locked.steps_kept();
+        let done = locked.detach(conn);
+        drop(locked);
+        let ended = answered_by_shard(done)?;
+        let event = Some(of_conn(conn, ConnEvent::Detach));
+        self.tell_shard(
+            node.keeps_tapes(),
+            shard,
+            place,
+            event,
+            ShardTold::Detached(length_of(&ended)),
+        );
+        Ok(ended)
+    }
+
+    /// [`ThreadNode::take`]. May wait.
+    pub fn take<T: SubTable, R: Wait>(
+        &mut self,
+        rt: &R,
+        node: &ThreadNode<T, N>,
+        shard: u64,
+        conn: ConnId,
+        count: usize,
+    ) -> Result<Vec<Entry>, Failure<NodeFault>>
+        ensures told { IfOk result (λ entries. Gains N.keep shard (Own (own.OfConn conn (of_conn.Take count))) (Shard (shard_told.Taken (length entries.items))) self.old self.new) }
+        ensures same { OnErr result (self.new ≡ self.old) }
+        ensures answers { AnswersAt (has_shard N.race shard) result }
+    {
+        let Some(mut locked) = node.shard(rt, shard) else {
+            return Err(NO_SHARD);
+        };
+        let place = locked.steps_kept();
+        let done = locked.take(conn, count);
+        drop(locked);
+        let entries = answered_by_shard(done)?;
+        let event = Some(of_conn(conn, ConnEvent::Take { count }));
+        self.tell_shard(
+            node.keeps_tapes(),
+            shard,
+            place,
+            event,
+            ShardTold::Taken(length_of(&entries)),
+        );
+        Ok(entries)
+    }
+
+    /// [`ThreadNode::drop_job`]. May wait.
+    pub fn drop_job<T: SubTable, R: Wait>(
+        &mut self,
+        rt: &R,
+        node: &ThreadNode<T, N>,
+        shard: u64,
+    ) -> Result<Turn, Failure<NodeFault>>
+        ensures told { IfOk result (λ turn. Gains N.keep shard (Own (own.AtShard shard work.DropJob)) (Shard (shard_told.Dropped (Some turn))) self.old self.new) }
+        ensures same { OnErr result (self.new ≡ self.old) }
+        ensures answers { AnswersAt (has_shard N.race shard) result }
+    {
+        let Some(mut locked) = node.shard(rt, shard) else {
+            return Err(NO_SHARD);
+        };
+        let place = locked.steps_kept();
+        let done = locked.drop_job(rt);
+        drop(locked);
+        let turn = answered_by_shard(done)?;
+        let event = Some(NodeEvent::Own(OwnEvent::AtShard {
+            shard,
+            work: ShardWork::DropJob,
+        }));
+        self.tell_shard(
+            node.keeps_tapes(),
+            shard,
+            place,
+            event,
+            ShardTold::Dropped(Some(turn)),
+        );
+        Ok(turn)
     }
 }

@@ -1,21 +1,22 @@
 //! The end of a server on threads.
 
-ghost use Rattle.std.specs.Prelude.{◌≡◌, true, List, All, length, map, vec_len, IfOk, IfSome, OnOk};
+ghost use Rattle.std.specs.Prelude.{◌≡◌, true, List, Option, All, length, map, vec_len, IfOk, OnOk};
 ghost use Rattle.std.specs.Arc.{arc_value};
 ghost use Rattle.subj.specs.declared.jobs.Job.{Job};
 ghost use Rattle.claim_cells.specs.Calls.{AllOf, HasEach, IsClosed};
 ghost use Rattle.node_threads.specs.Outlets.{AreFirst};
 ghost use Rattle.node_threads.specs.Tapes.{IsTape};
+ghost use Rattle.node_threads.specs.declared.shard_entries.ShardEntry.{ShardEntry};
 ghost use Rattle.thread_report.specs.Handing.{AreHanded};
 ghost use Rattle.thread_report.specs.Owed.{AreTold};
 ghost use Rattle.thread_law.specs.Once.{AreOnce};
 ghost use Rattle.thread_law.specs.Runs.{HubRun, IsLegal, ShardRun};
 ghost use Rattle.thread_report.specs.Reports.{AreClosed, IsKept, IsWritten, Tells};
 
-use crate::comparing::are_told;
 use crate::faults::Unfinished;
 use crate::handing::torn_shard;
 use crate::passes::Pass;
+use crate::passes_told::are_told;
 use claim_cells::{Cells, Closed, HubSeat, ShardSeat};
 use job_lane::meet;
 use node_threads::{Line, NodeName, ShardEntry, Tape};
@@ -51,26 +52,29 @@ fn entries_on<E: Drop>(alloc: Global, keep: bool, tape: Tape<E>) -> Result<Vec<E
     tape.into_entries().ok_or(Unfinished::OutOfMemory)
 }
 
-/// Puts the two ends of a shard's lane together, and gives its seat and its tape. None where one of them is not
-/// of the shard of this number.
+/// Puts the two ends of a shard's lane together, and gives its seat, and what stands on its tape. [`Unfinished::Torn`] where one of the ends
+/// is not of the shard of this number.
 fn close_shard<T: SubTable, N: NodeName, R: Wait>(
     rt: &R,
+    alloc: Global,
+    keep: bool,
     number: u64,
     line: Line<N>,
     shard: LockedShard<T, N>,
-) -> Option<(ShardSeat, Tape<ShardEntry>)>
-    ensures seat { IfSome result (λ made. (made.0.race ≡ N.race) × (made.0.part ≡ shard.part)) }
-    ensures shard { IfSome result (λ _. shard.part.shard ≡ number) }
-    ensures tape { IfSome result (λ made. IsTape N.race.shards shard made.1) }
-    ensures popped { IfSome result (λ _. AreFirst shard.popped line.pushed) }
+) -> Result<(ShardSeat, Vec<ShardEntry>), Unfinished>
+    ensures seat { IfOk result (λ made. (made.0.race ≡ N.race) × (made.0.part ≡ shard.part)) }
+    ensures shard { IfOk result (λ _. shard.part.shard ≡ number) }
+    ensures tape { IfOk result (λ made. (tape : Option (List ShardEntry)) × IsTape N.race.shards shard tape × IsKept keep tape made.1.items) }
+    ensures popped { IfOk result (λ _. AreFirst shard.popped line.pushed) }
 {
     if line.shard() != number || shard.shard() != number {
-        return None;
+        return Err(Unfinished::Torn(number));
     }
     let (state, tape) = shard.into_parts();
     let (seat, far) = state.into_parts();
     meet(rt, line.into_lane(), far);
-    Some((seat, tape))
+    let entries = entries_on(alloc, keep, tape)?;
+    Ok((seat, entries))
 }
 
 /// The seats of all shards, and what stands on their tapes, in their order.
@@ -88,10 +92,7 @@ fn close_shards<T: SubTable, N: NodeName, R: Wait>(
     let mut tapes = Vec::new(alloc);
     for (line, shard) in lines.into_iter().zip(shards) {
         let number = seats.len() as u64 + 1;
-        let Some((seat, tape)) = close_shard(rt, number, line, shard.into_inner()) else {
-            return Err(Unfinished::Torn(number));
-        };
-        let entries = entries_on(alloc, keep, tape)?;
+        let (seat, entries) = close_shard(rt, alloc, keep, number, line, shard.into_inner())?;
         tapes.reserve(1)?;
         seats.reserve(1)?;
         tapes.push_reserved(entries);

@@ -21,10 +21,9 @@ loop-line-preserved g c = λ issued all.
     let line = c.in-Some.line in
     let rest = c.next.new.self.a.rest.items in
     let lines = subst (All (λ l. AreFirst l.pushed issued)) c.in-Some.ensures.steps.0.0 i.0 in
-    let e = c.in-Some-close_shard.ensures in
-    let seat = c.in-Some-close_shard.seat in
-    let tape = c.in-Some-close_shard.tape in
-    let entries = c.in_ok-entries.entries in
+    let e = c.in_ok-seat.ensures in
+    let seat = c.in_ok-seat.seat in
+    let entries = c.in_ok-seat.entries in
     let w = c.into_inner.result in
     let old = c.loop-line.seats.items in
     let before = c.loop-line.tapes.items in
@@ -35,7 +34,7 @@ loop-line-preserved g c = λ issued all.
       all_rest (λ l. AreFirst l.pushed issued) line rest lines,
       subst (λ (l : List ShardShown). AreClosed race issued kept l (map (λ x. x.items) c.push_reserved.new.self.items)) (sym {A = List ShardShown} seats)
           (subst (AreClosed race issued kept (old ++ seat ∷ [])) (sym tapes)
-          (closed_more race issued line.pushed kept old (map (λ l. l.items) before) seat tape entries.items w w.part.shard i.1 number e.seat.0 e.seat.1 refl e.tape c.in_ok-entries.ensures e.popped (all_first (λ l. AreFirst l.pushed issued) line rest lines))),
+          (closed_more race issued line.pushed kept old (map (λ l. l.items) before) seat e.tape.0 entries.items w w.part.shard i.1 number e.seat.0 e.seat.1 refl e.tape.1 e.tape.2 e.popped (all_first (λ l. AreFirst l.pushed issued) line rest lines))),
     )
 
 pub returns : goal.returns

@@ -1,6 +1,6 @@
 use Rattle.std.proofs.Common.{◌+◌, ◌<◌, length, take, arith, sym, subst}
 use Rattle.thread_report.proofs.Orders.{AreBelow, below_more, comes_after, in_order_more}
-use Rattle.thread_report.proofs.rising.are_rising.Goals as goal
+use Rattle.thread_report.proofs.order.are_rising.Goals as goal
 
 pub loop-call-preserved : goal.loop-call-preserved
 loop-call-preserved c =

@@ -1,7 +1,7 @@
 use Rattle.std.proofs.Common.{◌+◌, ◌<◌, ◌++◌, length, map, take, add-one, arith, sym, ap, ◌∙◌, append_assoc}
 use Rattle.thread_report.specs.Owed.{owed_by_shard, owed_by_shards}
 use Rattle.thread_report.proofs.Owing.{owed_by_shards_more}
-use Rattle.thread_report.proofs.comparing.behind_shards.Goals as goal
+use Rattle.thread_report.proofs.passes_told.behind_shards.Goals as goal
 
 pub loop-place-preserved : goal.loop-place-preserved
 loop-place-preserved c =

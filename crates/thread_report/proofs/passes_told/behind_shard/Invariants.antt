@@ -1,6 +1,6 @@
 use Rattle.std.proofs.Common.{◌≡◌, ◌++◌, take}
 use Rattle.thread_report.specs.Owed.{owed_by_shard}
-use Rattle.thread_report.proofs.comparing.behind_shard.Given as goal
+use Rattle.thread_report.proofs.passes_told.behind_shard.Given as goal
 
 abbrev pub invariant-loop-place : goal.invariant-loop-place
 invariant-loop-place l = l.calls ≡ owed_by_shard l.shard 0 (take l.place l.tape) ++ l.rest
