@@ -79,7 +79,7 @@ fn peer_cause(cause: PeerCause) -> &'static str {
         PeerCause::Broken => "the connection broke",
         PeerCause::Refused => "what it sent is refused",
         PeerCause::Stalled => "it took nothing while something waited for it",
-        PeerCause::Full => "a change of interest had no room",
+        PeerCause::Full => "more waited for it than is kept",
         PeerCause::OutOfMemory => "out of memory",
         PeerCause::Unwatched => "its socket cannot be watched",
     }

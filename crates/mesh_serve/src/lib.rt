@@ -6,11 +6,12 @@
 //! serve(rt, rt.alloc(), &options)?;
 //! ```
 //!
-//! `serving` binds the sockets and gives each server a thread; `faults` are the causes for which a mesh is not served any more.
+//! `serving` binds the sockets, tells at which ports servers are reached, and gives each a thread; `faults` are the causes for which a mesh is not
+//! served any more.
 #![tactic(auto)]
 
 mod faults;
 mod serving;
 
 pub use faults::ServeFault;
-pub use serving::serve;
+pub use serving::{ready_line, serve};

@@ -11,7 +11,7 @@ use node_net::{Company, Server as Connections, Sockets, WAKER};
 use router_command::Options;
 use server_calls::ServerCalls;
 use server_events::{Event, SystemCause};
-use std::alloc::Global;
+use std::alloc::{AllocError, Global};
 use std::marker::Brand;
 use std::net::{Ipv4Addr, Net, SocketAddr, TcpListener as Listener, TcpStream as Stream};
 use std::rt::Clock;
@@ -237,17 +237,26 @@ fn run_all<'m, R: Threads + Wait + Net<Listener = Listener, Stream = Stream> + C
     }
 }
 
+/// The line that tells that the server at this place, counted from 0, can be reached: at which ports clients and other servers connect.
+pub fn ready_line(alloc: Global, options: &Options, place: u16) -> Result<String, AllocError>
+    requires within { AreWithin options.now }
+    requires place { place < options.now.nodes }
+{
+    let clients = options.client_port(place);
+    let routes = options.route_port(place);
+    format!(in alloc;
+        "n{} clients 127.0.0.1:{clients} routes 127.0.0.1:{routes}",
+        place + 1
+    )
+}
+
 /// Tells on standard output that all servers can be reached, a line each.
-fn tell<R: Print>(rt: &R, options: &Options) -> io::Result<()>
+fn tell<R: Print>(rt: &R, alloc: Global, options: &Options) -> io::Result<()>
     requires { AreWithin options.now }
 {
     for place in 0..options.nodes {
-        let clients = options.client_port(place);
-        let routes = options.route_port(place);
-        println!(rt;
-            "n{} clients 127.0.0.1:{clients} routes 127.0.0.1:{routes}",
-            place + 1
-        )?;
+        let line = ready_line(alloc, options, place)?;
+        println!(rt; "{line}")?;
     }
     Ok(())
 }
@@ -321,7 +330,7 @@ where
     R: Threads + Wait + Net<Listener = Listener, Stream = Stream> + Clock + Print + Sync,
     requires { AreWithin options.now }
 {
-    tell(rt, options)?;
+    tell(rt, alloc, options)?;
     tell_log(rt, options, log);
     let BoundMesh {
         stations,

@@ -2,10 +2,13 @@
 //! its connections, what it is asked, and what is between both. What stands is borrowed here: a function that had made it would be proved to let
 //! go of it at each of its ends.
 
+use event_log::EventText;
 use golden::{Call, Words, bytes_of, call_of, number, shown, text, yes_or_no};
 use node_net::{MemStream, Server, Side};
 use server_calls::ServerCalls;
+use server_events::Event;
 use std::alloc::{AllocError, Global};
+use std::fmt::Write;
 use std::sync::Wait;
 use subj::Server as Life;
 
@@ -95,6 +98,14 @@ fn written_told(
         Some(stream) if call == "length" => format!(in alloc; "{}", stream.written().len()),
         Some(stream) => shown(alloc, "", stream.written()),
     }
+}
+
+/// Puts what has happened behind what was told, in the words of the log.
+fn push_event(told: &mut String, event: Event) -> Result<(), AllocError> {
+    if !told.is_empty() {
+        told.push_str("; ")?;
+    }
+    write!(told, "{}", EventText(event))
 }
 
 impl<C: ServerCalls> End<C> {
@@ -292,6 +303,15 @@ impl<C: ServerCalls> End<C> {
         format!(in self.alloc; "{so} of {all}")
     }
 
+    /// What has happened at the server, of what the log tells at the level info.
+    fn told(&self) -> Result<String, AllocError> {
+        let mut told = String::new(self.alloc);
+        for event in self.server.events().noted() {
+            push_event(&mut told, *event)?;
+        }
+        golden::told(self.alloc, told, Some(()))
+    }
+
     /// The answer of a call that asks something.
     fn ask<R: Wait>(
         &mut self,
@@ -307,6 +327,7 @@ impl<C: ServerCalls> End<C> {
             "next_turn" => number_told(alloc, "at", self.server.next_turn(), "never"),
             "is_there" => yes_or_no(alloc, self.server.stream(key).is_some()),
             "shard" => number_told(alloc, "shard", self.server.shard(key), "none"),
+            "told" => self.told(),
             "gains" => self.gains(rt, line),
             "remove" => self.remove(rt, first, second.max(first), words.number(2)),
             "ends" => self.ends(first, first, bytes),
@@ -446,6 +467,7 @@ pub fn is_question(line: &Call<'_>) -> bool {
                 | "gains"
                 | "is_there"
                 | "shard"
+                | "told"
                 | "goes_on"
                 | "next_turn"
                 | "remove"

@@ -12,7 +12,8 @@
 //!
 //! `mesh.new` starts the server n1 of so many servers, with so many shards, and n2 beside it. A stream is made ready by `stream`, and `add`
 //! takes it: a server's connections are named by their numbers, in the order in which they came. Time, failing streams and which
-//! connections are ready, three at most in a turn, are what a case says of them.
+//! connections are ready, three at most in a turn, are what a case says of them. `told` answers what has happened at a server, in the words
+//! of its log.
 //!
 //! In reading order: `rig` has what stands, and what the servers of a process share; `mesh` starts the two servers of a case, of which `lanes`
 //! has one whose lanes take nothing for a while; `ends` makes the calls on each and on what is between them.

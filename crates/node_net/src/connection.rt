@@ -1,6 +1,6 @@
 //! A connection of a server: its stream, and what is read of it and written to it.
 
-ghost use Rattle.std.specs.Prelude.{◌≤◌};
+ghost use Rattle.std.specs.Prelude.{◌≡◌, ◌-◌, ◌^◌, min};
 
 use crate::calls::cut;
 use crate::client_link::ClientLink;
@@ -57,7 +57,7 @@ pub(crate) enum Cause {
     Refused,
     /// Its deadline came.
     Overdue,
-    /// A change of interest had no room among what waits for another server.
+    /// More waited for another server than is kept, or a change of interest had no room there.
     Full,
     /// There was no memory for what it was owed.
     OutOfMemory,
@@ -327,7 +327,7 @@ impl<S: Stream> Connection<S> {
 
     /// It is closed once all that waits for it is written, and at the latest at this time.
     pub fn shut(&mut self, deadline: u64)
-        ensures { self.new.deadline ≤ deadline }
+        ensures { self.new.deadline ≡ min self.old.deadline deadline }
     {
         self.limit(deadline);
         if self.ending == Ending::Open {
@@ -345,13 +345,15 @@ impl<S: Stream> Connection<S> {
 
     /// It is given up at this time, or earlier where it would have been.
     pub fn limit(&mut self, deadline: u64)
-        ensures { self.new.deadline ≤ deadline }
+        ensures { self.new.deadline ≡ min self.old.deadline deadline }
     {
         self.deadline = self.deadline.min(deadline);
     }
 
     /// Its session is kept: it is not given up for having none.
-    pub fn lift_limit(&mut self) {
+    pub fn lift_limit(&mut self)
+        ensures { self.new.deadline ≡ 2 ^ 64 - 1 }
+    {
         self.deadline = u64::MAX;
     }
 

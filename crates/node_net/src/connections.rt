@@ -145,7 +145,7 @@ impl<S: Stream> Connections<S> {
         Some(key)
     }
 
-    /// Writes what was kept for a connection, and reads of it once; once a turn. Whether it did.
+    /// Reads of a connection once, and once a turn. Whether it did.
     pub fn read(&mut self, key: usize) -> bool {
         if !self.begin(key) {
             return false;
@@ -155,7 +155,7 @@ impl<S: Stream> Connections<S> {
         true
     }
 
-    /// Begins to serve a connection, where it was not served in this turn: what was kept for it is written. Whether it did.
+    /// Begins to serve a connection, where it was not served in this turn. Whether it did.
     fn begin(&mut self, key: usize) -> bool {
         let Some(connection) = self.table.get_mut(key) else {
             return false;
@@ -164,25 +164,12 @@ impl<S: Stream> Connections<S> {
             return false;
         }
         connection.served_in = self.turns;
-        if !connection.is_flushed() {
-            self.resume(key);
-        }
         true
     }
 
     fn read_once(&mut self, key: usize) {
         if let Some(connection) = self.table.get_mut(key) {
             self.is_short |= connection.read();
-        }
-    }
-
-    /// Writes what was kept for a connection. Where its stream takes all, what else waits for it is taken in this turn.
-    pub fn resume(&mut self, key: usize) {
-        if let Some(connection) = self.table.get_mut(key) {
-            connection.resume();
-            self.has_told = true;
-            self.await_bytes(key);
-            self.leave_if_gone(key);
         }
     }
 
@@ -199,8 +186,8 @@ impl<S: Stream> Connections<S> {
         self.leave_if_gone(key);
     }
 
-    /// Something may wait for the connection.
-    fn await_bytes(&mut self, key: usize) {
+    /// Something may wait for the connection, or its stream may take more of what was kept for it.
+    pub fn await_bytes(&mut self, key: usize) {
         if !keep(&mut self.awaited, key) {
             self.awaits_any = true;
         }
@@ -450,7 +437,7 @@ impl<S: Stream> Connections<S> {
         if !self.is_overdue(key) {
             return;
         }
-        self.resume(key);
+        self.write_kept(key);
         self.watch(key);
         if self.is_overdue(key) {
             self.tell_silent(key);

@@ -5,8 +5,6 @@ use crate::connection::{Cause, Ending};
 use crate::connections::Connections;
 use crate::limits::{FRAMES, PEER_BACKLOG, TAKEN_AT_ONCE};
 use crate::placing::put;
-use crate::route_link::weight_of;
-use crate::runs::large_part;
 use crate::server::Server;
 use crate::taken::Taken;
 use net_streams::Stream;
@@ -163,20 +161,11 @@ impl<S: Stream> Connections<S> {
     }
 }
 
-/// How many frames are taken at once for another server of which so many bytes wait already: no more than have room, as large as they
-/// may be.
+/// How many frames are taken at once for another server for which so many bytes wait already: no more than have room, as large as they
+/// may be, and one at least.
 fn frames_beside(backlog: usize) -> usize {
     let room = PEER_BACKLOG.saturating_sub(backlog) / MAX_PAYLOAD;
     room.min(FRAMES).max(1)
-}
-
-/// As how many bytes the large messages among these frames count.
-fn large_of(frames: &[Numbered]) -> usize {
-    let mut large = 0_usize;
-    for frame in frames {
-        large = large.saturating_add(large_part(weight_of(frame)));
-    }
-    large
 }
 
 /// Spells a frame behind what is spelt.
@@ -281,17 +270,15 @@ impl<S: Stream, C: ServerCalls> Server<S, C> {
         }
     }
 
-    /// Takes and writes what waits for another server. What its stream does not take is kept, up to
-    /// [`PEER_BACKLOG`], and as many bytes of large messages may wait in the hub: then it is cut. A server for whose frames there is no
-    /// memory once they are taken is cut, since it would miss them.
+    /// Takes and writes what waits for another server. What its stream does not take is kept, up to [`PEER_BACKLOG`]: then its route is
+    /// cut. A server for whose frames there is no memory once they are taken is cut too, since it would miss them.
     fn write_to_peer<R: Wait>(&mut self, rt: &R, peer: usize, key: usize) {
         for _round in 0..u64::MAX {
             let Some(backlog) = self.connections.backlog(key) else {
                 return;
             };
             if backlog >= PEER_BACKLOG {
-                self.connections.has_told = true;
-                self.cut_if_full(peer, key);
+                self.connections.give_up_for(key, Cause::Full);
                 return;
             }
             if !self.write_some(rt, peer, key, frames_beside(backlog)) {
@@ -300,17 +287,10 @@ impl<S: Stream, C: ServerCalls> Server<S, C> {
         }
     }
 
-    /// Cuts a route whose frames wait in the hub, where they may have too many bytes.
-    fn cut_if_full(&mut self, peer: usize, key: usize) {
-        if self.peers.held(peer) >= PEER_BACKLOG {
-            self.connections.give_up_for(key, Cause::Full);
-        }
-    }
-
     /// Takes and writes at most so many frames that wait for another server. Whether there were some.
     fn write_some<R: Wait>(&mut self, rt: &R, peer: usize, key: usize, count: usize) -> bool {
         match take_frames(rt, self.node, self.alloc, peer, count) {
-            Ok(frames) => self.write_taken(peer, key, frames),
+            Ok(frames) => self.write_taken(key, frames),
             Err(_) => {
                 self.connections.has_told = true;
                 self.connections.is_short = true;
@@ -320,12 +300,10 @@ impl<S: Stream, C: ServerCalls> Server<S, C> {
     }
 
     /// Writes frames that were taken for another server. Whether there were some.
-    fn write_taken(&mut self, peer: usize, key: usize, frames: Vec<Numbered>) -> bool {
+    fn write_taken(&mut self, key: usize, frames: Vec<Numbered>) -> bool {
         if frames.is_empty() {
-            self.peers.release(peer, usize::MAX);
             return false;
         }
-        self.peers.release(peer, large_of(&frames));
         self.spelt.clear();
         let is_whole = spell(frames, &mut self.spelt).is_ok();
         self.connections.send_spelt(key, &self.spelt, is_whole);

@@ -42,13 +42,9 @@ pub(crate) const KEPT_BYTES: usize = 16_384;
 /// How many bytes are taken under one hold of a shard's lock, at least, before they are written.
 pub(crate) const TAKEN_AT_ONCE: usize = 1_048_576;
 
-/// How many bytes are kept for another server whose stream does not take them, at least, before its frames
-/// wait in the hub, which has room for few.
-pub(crate) const PEER_BACKLOG: usize = 67_108_864;
-
-/// As how many bytes a message counts, at least, that is counted among those that wait for another server in the hub. Smaller ones
-/// come to no more than [`PEER_BACKLOG`] there, since it has room for few frames.
-pub(crate) const LARGE_MESSAGE: usize = 65_536;
+/// The most bytes that are kept for another server whose stream does not take them: a route for which as many wait is cut. They
+/// are twice as many as nats-server keeps for a route.
+pub(crate) const PEER_BACKLOG: usize = 134_217_728;
 
 /// How many frames are taken for another server at once.
 pub(crate) const FRAMES: usize = 64;

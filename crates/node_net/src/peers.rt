@@ -10,8 +10,6 @@ struct Way {
     kept: Option<usize>,
     /// The connection that this server has dialed, while its session is not complete.
     dialed: Option<usize>,
-    /// As how many bytes the large messages count, at most, that wait for it in the hub.
-    held: usize,
 }
 
 /// What leads to each server of the cluster, by its place.
@@ -33,7 +31,6 @@ impl Peers {
             ways.push(Way {
                 kept: None,
                 dialed: None,
-                held: 0,
             })?;
         }
         Ok(Peers { ways })
@@ -83,32 +80,9 @@ impl Peers {
         }
         let old = way.kept;
         way.kept = Some(key);
-        way.held = 0;
         match old {
             Some(old) if old != key => Some(old),
             _ => None,
-        }
-    }
-
-    /// Large messages that count as so many bytes may wait for each server.
-    pub fn hold(&mut self, bytes: usize) {
-        for way in &mut self.ways {
-            way.held = way.held.saturating_add(bytes);
-        }
-    }
-
-    /// Of those that may wait for the server at this place so many bytes do not any more.
-    pub fn release(&mut self, place: usize, bytes: usize) {
-        if let Some(way) = self.ways.get_mut(place) {
-            way.held = way.held.saturating_sub(bytes);
-        }
-    }
-
-    /// As how many bytes the large messages count, at most, that wait for the server at this place.
-    pub fn held(&self, place: usize) -> usize {
-        match self.ways.get(place) {
-            None => 0,
-            Some(way) => way.held,
         }
     }
 

@@ -76,7 +76,7 @@ fn end_of<F: Drop>(fault: Failure<F>) -> Ran {
 }
 
 /// As how many bytes a message counts; anything else counts as none.
-pub(crate) fn weight_of(frame: &Numbered) -> usize {
+fn weight_of(frame: &Numbered) -> usize {
     match frame.body() {
         Body::Msg { message, .. } => cost_of(message.payload().len()),
         _ => 0,

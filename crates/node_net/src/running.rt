@@ -392,7 +392,7 @@ impl<C: ServerCalls> Server<TcpStream, C> {
                 if has_closed || event.is_readable() {
                     rounds.note(token.0)?;
                 } else {
-                    self.connections.resume(token.0);
+                    self.connections.await_bytes(token.0);
                 }
             }
         }

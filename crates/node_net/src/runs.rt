@@ -1,6 +1,5 @@
 //! What a link has come to, after a run of what it asks.
 
-use crate::limits::LARGE_MESSAGE;
 use subj::{OUTBOX_BYTES, OUTBOX_ENTRIES};
 
 /// After how many bytes of payloads what waits for clients is taken before more is read: a client with few
@@ -14,11 +13,6 @@ const MESSAGE_COST: usize = TAKEN_EARLY / (OUTBOX_ENTRIES / 4);
 /// As how many bytes a message with a payload of so many counts; an answer counts as one without.
 pub(crate) fn cost_of(payload: usize) -> usize {
     payload.saturating_add(MESSAGE_COST)
-}
-
-/// As how many bytes a message counts among the large ones; a small one counts as none.
-pub(crate) fn large_part(bytes: usize) -> usize {
-    if bytes < LARGE_MESSAGE { 0 } else { bytes }
 }
 
 /// What a run came to. A run is what is done under one hold of a lock.
@@ -44,8 +38,6 @@ pub(crate) struct Run {
     pub end: Ran,
     /// As how many bytes the messages count that were handed to the shards.
     pub issued: usize,
-    /// The part of it that is large messages.
-    pub large: usize,
     /// How many jobs each shard was handed.
     pub jobs: u64,
     /// As how many bytes the lines count that were put for the client itself.
@@ -64,7 +56,6 @@ impl Run {
         Run {
             end,
             issued: 0,
-            large: 0,
             jobs: 0,
             replied: 0,
             has_deltas: false,
@@ -77,7 +68,6 @@ impl Run {
     pub fn count(&mut self, bytes: usize) {
         if bytes > 0 {
             self.issued = self.issued.saturating_add(bytes);
-            self.large = self.large.saturating_add(large_part(bytes));
             self.jobs = self.jobs.saturating_add(1);
         }
     }

@@ -115,7 +115,7 @@ impl<S: Stream, C: ServerCalls> Server<S, C> {
         }
     }
 
-    /// Writes what was kept, reads once, and does what is asked; once a turn.
+    /// Reads once, and does what is asked; once a turn.
     fn serve<R: Wait>(&mut self, rt: &R, key: usize) {
         if !self.connections.read(key) {
             return;
@@ -155,7 +155,7 @@ impl<S: Stream, C: ServerCalls> Server<S, C> {
         self.goes_on_after(key, run.end)
     }
 
-    /// Notes what a run has come to, what it has told, what it has handed to the shards, and what of it may wait for other servers.
+    /// Notes what a run has come to, what it has told, and what it has handed to the shards.
     fn note_run<R: Wait>(&mut self, rt: &R, key: usize, run: Run) {
         if run.end == Ran::Shut {
             self.connections.shut_for(key, shut_cause(run));
@@ -165,9 +165,6 @@ impl<S: Stream, C: ServerCalls> Server<S, C> {
         }
         let jobs = run.jobs.saturating_mul(self.node.shards());
         self.unworked = self.unworked.saturating_add(jobs);
-        if run.large > 0 && self.shard(key).is_some() {
-            self.peers.hold(run.large);
-        }
     }
 
     /// Notes how much a run has put, as bytes, and takes and writes it where it has come to enough.

@@ -55,7 +55,7 @@ pub enum PeerCause {
     Refused,
     /// It took no byte for too long while something waited for it.
     Stalled,
-    /// A change of interest had no room behind what waited for it.
+    /// More waited for it than a server keeps, or a change of interest had no room there.
     Full,
     /// There was no memory for what it was owed.
     OutOfMemory,

@@ -92,6 +92,25 @@ impl Client {
         assert!(rt; self.unread.extend_from_slice(read).is_ok());
     }
 
+    /// Reads until so many bytes came, and forgets them.
+    pub fn skip<R: Abort>(&mut self, rt: &R, count: usize) {
+        let mut left = count.saturating_sub(self.unread.len());
+        self.unread.clear();
+        let mut buffer = [0; 4_096];
+        for _read in 0..u64::MAX {
+            if left == 0 {
+                return;
+            }
+            let most = left.min(buffer.len());
+            let read = (&self.stream)
+                .read(&mut buffer[..most])
+                .ok()
+                .expect(rt, "bytes");
+            assert!(rt; read > 0);
+            left = left.saturating_sub(read);
+        }
+    }
+
     /// Takes what was read up to this place, and leaves what stands `behind` there.
     fn cut<R: Abort>(&mut self, rt: &R, alloc: Global, place: usize, behind: usize) -> Vec<u8> {
         let rest = self.unread.get(behind..).unwrap_or(&[]);

@@ -15,6 +15,8 @@ mod lane_tests;
 #[cfg(test)]
 mod leaving_tests;
 #[cfg(test)]
+mod loop_tests;
+#[cfg(test)]
 mod report_tests;
 #[cfg(test)]
 mod serve_tests;

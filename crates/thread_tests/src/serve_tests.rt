@@ -3,7 +3,7 @@
 ghost use Rattle.router_command.specs.Ranges.{AreWithin};
 
 use crate::clients::Client;
-use mesh_serve::{ServeFault, serve};
+use mesh_serve::{ServeFault, ready_line, serve};
 use rand_core::SeedableRng;
 use rand_core::utils::NextWord;
 use rand_pcg::Pcg64;
@@ -77,7 +77,28 @@ fn publishes_until_heard<R: Clock + Abort>(
     false
 }
 
-/// One client subscribes at the second server, another one publishes at the first, until a message comes.
+/// How many large messages are published, and how many bytes each has.
+const LARGE: usize = 80;
+
+const LARGE_BYTES: usize = 100_000;
+
+/// The first client publishes more than a socket takes while the second one reads nothing, and then that one reads: as many bytes come.
+fn hears_late<R: Abort>(rt: &R, alloc: Global, says: &mut Client, hears: &mut Client) {
+    let payload = vec![in alloc; b'a'; LARGE_BYTES].ok().expect(rt, "memory");
+    for _message in 0..LARGE {
+        says.send(rt, b"PUB foo 100000\r\n");
+        says.send(rt, &payload);
+        says.send(rt, b"\r\n");
+    }
+    let _none = says.bytes_until_pong(rt, alloc);
+    hears.skip(
+        rt,
+        LARGE * (b"MSG foo 1 100000\r\n\r\n".len() + LARGE_BYTES),
+    );
+    let _rest = hears.bytes_until_pong(rt, alloc);
+}
+
+/// One client subscribes at the second server, another one publishes at the first, until a message comes, and then large ones.
 fn hears_the_other<R: Net<Stream = TcpStream> + Clock + Abort>(
     rt: &R,
     alloc: Global,
@@ -89,6 +110,7 @@ fn hears_the_other<R: Net<Stream = TcpStream> + Clock + Abort>(
     let _none = hears.bytes_until_pong(rt, alloc);
     let mut says = Client::with_greeting(rt, alloc, first);
     assert!(rt; publishes_until_heard(rt, alloc, &mut says, &mut hears));
+    hears_late(rt, alloc, &mut says, &mut hears);
 }
 
 #[test]
@@ -275,6 +297,53 @@ fn noise(rt: HostRuntime) -> Result<(), Fail> {
         &rt,
         || serve(&rt, alloc, &options).is_ok(),
         || makes_noise(&rt, alloc, [17_430, 17_431, 17_432, 17_433]),
+    );
+    assert!(rt; served);
+    Ok(())
+}
+
+/// The line that a server tells its first client of itself.
+fn info_line<R: Abort>(rt: &R, alloc: Global, name: &str, port: u16) -> String {
+    let line = format!(in alloc;
+        "INFO {{\"client_id\":1,\"headers\":false,\"host\":\"127.0.0.1\",\"max_payload\":1048576,\"port\":{port},\"proto\":1,\"server_id\":\"{name}-1\",\"server_name\":\"{name}\",\"version\":\"1.0.0\"}}"
+    );
+    line.ok().expect(rt, "memory")
+}
+
+/// A server is told by its own name and port to the first client that comes to this one.
+fn tells_of_itself<R: Net<Stream = TcpStream> + Clock + Abort>(
+    rt: &R,
+    alloc: Global,
+    name: &str,
+    port: u16,
+) {
+    let mut client = Client::connect(rt, alloc, port);
+    let told = client.until(rt, alloc, b"\r\n");
+    let wanted = info_line(rt, alloc, name, port);
+    assert_eq!(rt; told.as_slice(), wanted.as_bytes());
+}
+
+/// The same of three servers.
+fn tell_of_themselves<R: Net<Stream = TcpStream> + Clock + Abort>(rt: &R, alloc: Global) {
+    tells_of_itself(rt, alloc, "n1", 17_450);
+    tells_of_itself(rt, alloc, "n2", 17_451);
+    tells_of_itself(rt, alloc, "n3", 17_452);
+}
+
+/// Each server has a name and ports of its own: what the first line of standard output tells of n1, and what each tells its clients.
+#[test]
+fn servers_have_names_and_ports_of_their_own(rt: HostRuntime) -> Result<(), Fail> {
+    let alloc = rt.alloc();
+    let options = options(&rt, 3, 17_450, 3);
+    let line = ready_line(alloc, &options, 0)?;
+    assert_eq!(rt;
+        line.as_str(),
+        "n1 clients 127.0.0.1:17450 routes 127.0.0.1:17453"
+    );
+    let (served, ()) = join(
+        &rt,
+        || serve(&rt, alloc, &options).is_ok(),
+        || tell_of_themselves(&rt, alloc),
     );
     assert!(rt; served);
     Ok(())

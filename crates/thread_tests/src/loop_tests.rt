@@ -1,0 +1,261 @@
+//! The loop of a server's thread over sockets, where nobody can be accepted and another server takes no route: it pauses, and tells once.
+
+ghost use Rattle.std.specs.Prelude.{◌≡◌};
+
+use mio::net::{TcpListener, TcpStream};
+use mio::{Poll, Waker};
+use node_net::{Company, Server as Connections, Sockets, WAKER};
+use server_calls::ServerCalls;
+use server_events::{Caller, Event, EventSink, Events, LevelFilter, RefusalCause};
+use std::alloc::Global;
+use std::marker::Brand;
+use std::net::{Ipv4Addr, Net, SocketAddr};
+use std::os::fd::OwnedFd;
+use std::process::Abort;
+use std::rt::Clock;
+use std::sync::Wait;
+use std::sync::atomic::{AtomicU64, Ordering};
+use std::test::Fail;
+use std::thread;
+use std::thread::join;
+use std::time::{Duration, Instant};
+use sub_table::ListTable;
+use subj::{Incarnation, NodeId, Server};
+use thread_node::{NodeName, Parts, ThreadNode};
+
+/// Where the server's own routes come in, and where the other server is to be reached.
+const OWN: u16 = 17_460;
+
+const OTHER: u16 = 17_461;
+
+/// How often a dial is looked for, and how long between two looks, in milliseconds.
+const LOOKS: usize = 4_000;
+
+const PAUSE: u64 = 5;
+
+/// How long dials are counted behind the third one, in milliseconds. Pauses of 100, 200 and 400 follow it.
+const COUNTED: u64 = 500;
+
+/// How long a dial stays open, in milliseconds: longer than the longest pause.
+const OPEN: u64 = 1_200;
+
+/// How many rounds the loop has made, and how many times a client was refused for what the system said.
+#[derive(Drop)]
+struct Watch {
+    rounds: AtomicU64,
+    refused: AtomicU64,
+}
+
+/// How many of these events are that a client was refused for what the system said.
+fn refused_in(events: &[Event]) -> u64 {
+    let mut count = 0_u64;
+    for event in events {
+        let is_refused = matches!(
+            event,
+            Event::ConnectionRefused {
+                caller: Caller::Client,
+                cause: RefusalCause::System(_),
+            }
+        );
+        count = count.saturating_add(u64::from(is_refused));
+    }
+    count
+}
+
+impl EventSink for Watch {
+    fn filter(&self) -> LevelFilter {
+        LevelFilter::Info
+    }
+
+    fn take<R: Wait + Clock>(&self, _rt: &R, _server: NodeId, events: &mut Events) {
+        self.rounds.fetch_add(1, Ordering::SeqCst);
+        let refused = refused_in(events.noted());
+        self.refused.fetch_add(refused, Ordering::SeqCst);
+        events.clear();
+    }
+}
+
+fn address_of(port: u16) -> SocketAddr {
+    SocketAddr::from((Ipv4Addr::LOCALHOST, port))
+}
+
+fn listener<R: Net + Abort>(rt: &R, port: u16) -> TcpListener {
+    let listener = TcpListener::bind(rt, address_of(port)).ok();
+    listener.expect(rt, "a port")
+}
+
+/// A listener at which accepting fails each time: the socket of a stream.
+fn shut_listener<R: Net + Abort>(rt: &R) -> TcpListener {
+    let stream = TcpStream::connect(rt, address_of(OWN)).ok();
+    TcpListener::from(OwnedFd::from(stream.expect(rt, "a stream")))
+}
+
+/// The sockets of a server, at which no client can be accepted.
+fn sockets<R: Net + Abort>(rt: &R) -> Sockets {
+    let routes = listener(rt, OWN);
+    let clients = shut_listener(rt);
+    let poll = Poll::new(rt).ok().expect(rt, "a poll");
+    Sockets {
+        poll,
+        clients,
+        routes,
+    }
+}
+
+/// A process with the one server that waits on this.
+fn company<R: Abort>(rt: &R, alloc: Global, poll: &Poll) -> Company {
+    let waker = Waker::new(poll.registry(), WAKER)
+        .ok()
+        .expect(rt, "a waker");
+    let wakers = Vec::from_array(alloc, [waker]).ok().expect(rt, "memory");
+    Company::new(None, wakers)
+}
+
+/// The server n1 of n1 and n2.
+fn life<R: Abort>(rt: &R, alloc: Global) -> Server {
+    let first = NodeId::read(b"n1").ok().expect(rt, "a name");
+    let second = NodeId::read(b"n2").ok().expect(rt, "a name");
+    let names = Vec::from_array(alloc, [first, second]).ok();
+    let inc = Incarnation::new(1).expect(rt, "an incarnation");
+    Server::new(names.expect(rt, "memory"), 0, inc, 1).expect(rt, "a server")
+}
+
+/// Whether a server has streams, and each sends small messages without a pause.
+fn has_prompt_streams<C: ServerCalls>(connections: &Connections<TcpStream, C>) -> bool {
+    let (mut prompt, mut all) = (0_u64, 0_u64);
+    for key in 0..16 {
+        if let Some(stream) = connections.stream(key) {
+            all = all.saturating_add(1);
+            prompt = prompt.saturating_add(u64::from(matches!(stream.nodelay(), Ok(true))));
+        }
+    }
+    all > 0 && prompt == all
+}
+
+/// Runs the loop until its company stops. Whether its streams are as they are to be then.
+fn run_on<C: ServerCalls, R: Abort + Wait + Net + Clock>(
+    rt: &R,
+    alloc: Global,
+    node: C,
+    sockets: Sockets,
+    company: &Company,
+    watch: &Watch,
+) -> bool {
+    let connections = Connections::new(alloc, node, life(rt, alloc), OWN, 0).ok();
+    let mut connections = connections.expect(rt, "memory");
+    let addresses = [address_of(OWN), address_of(OTHER)];
+    let ran = connections.run(rt, sockets, &addresses, company, watch);
+    assert!(rt; ran.is_ok());
+    has_prompt_streams(&connections)
+}
+
+/// The same of a server of these parts.
+fn run_named<N: NodeName, R: Abort + Wait + Net + Clock>(
+    rt: &R,
+    alloc: Global,
+    parts: Parts,
+    sockets: Sockets,
+    company: &Company,
+    watch: &Watch,
+) -> bool
+    requires { (parts.race ≡ N.race) × (parts.lanes ≡ N.lanes) × (parts.keep ≡ N.keep) }
+{
+    let node: ThreadNode<ListTable, N> = ThreadNode::start(alloc, parts).ok().expect(rt, "memory");
+    run_on(rt, alloc, &node, sockets, company, watch)
+}
+
+/// The same of a server that has just started.
+fn run<R: Abort + Wait + Net + Clock>(
+    rt: &R,
+    alloc: Global,
+    sockets: Sockets,
+    company: &Company,
+    watch: &Watch,
+) -> bool {
+    let made = Parts::new(alloc, life(rt, alloc), false).ok();
+    let (parts, _parkers) = made.expect(rt, "memory");
+    run_named::<Brand, _>(rt, alloc, parts, sockets, company, watch)
+}
+
+/// Closes each dial that has come by now. How many there were.
+fn close_dials(other: &TcpListener) -> u64 {
+    let mut count = 0_u64;
+    for _dial in 0..LOOKS {
+        if other.accept().is_err() {
+            break;
+        }
+        count = count.saturating_add(1);
+    }
+    count
+}
+
+/// Closes dials until there were so many, or none comes any more.
+fn close_first_dials<R: Clock>(rt: &R, other: &TcpListener, least: u64) -> u64 {
+    let mut count = 0_u64;
+    for _look in 0..LOOKS {
+        count = count.saturating_add(close_dials(other));
+        if count >= least {
+            break;
+        }
+        thread::sleep(rt, Duration::from_millis(PAUSE));
+    }
+    count
+}
+
+/// The next dial, which stays open; None where none comes any more.
+fn next_dial<R: Clock>(rt: &R, other: &TcpListener) -> Option<TcpStream> {
+    for _look in 0..LOOKS {
+        if let Ok((stream, _)) = other.accept() {
+            return Some(stream);
+        }
+        thread::sleep(rt, Duration::from_millis(PAUSE));
+    }
+    None
+}
+
+/// How many dials came that were closed, and how many while one was open.
+#[derive(Clone, Copy)]
+struct Dials {
+    closed: u64,
+    beside: u64,
+}
+
+/// The other server closes each route for a while, and holds one at last; then all servers stop.
+fn refuses_routes<R: Clock>(rt: &R, other: &TcpListener, company: &Company) -> Dials {
+    let first = close_first_dials(rt, other, 3);
+    thread::sleep(rt, Duration::from_millis(COUNTED));
+    let closed = first.saturating_add(close_dials(other));
+    let open = next_dial(rt, other);
+    thread::sleep(rt, Duration::from_millis(OPEN));
+    let beside = close_dials(other);
+    company.fail();
+    drop(open);
+    Dials { closed, beside }
+}
+
+#[test]
+fn a_loop_pauses_where_accepting_fails_and_each_route_is_refused(
+    rt: HostRuntime,
+) -> Result<(), Fail> {
+    let alloc = rt.alloc();
+    let other = listener(&rt, OTHER);
+    let sockets = sockets(&rt);
+    let company = company(&rt, alloc, &sockets.poll);
+    let watch = Watch {
+        rounds: AtomicU64::new(0),
+        refused: AtomicU64::new(0),
+    };
+    let start = Instant::now(&rt)?;
+    let (is_prompt, dials) = join(
+        &rt,
+        || run(&rt, alloc, sockets, &company, &watch),
+        || refuses_routes(&rt, &other, &company),
+    );
+    let milliseconds = start.elapsed(&rt)?.as_millis();
+    assert!(rt; is_prompt);
+    assert!(rt; dials.closed >= 3 && dials.closed <= 8);
+    assert_eq!(rt; dials.beside, 0);
+    assert_eq!(rt; watch.refused.load(Ordering::SeqCst), 1);
+    assert!(rt; u128::from(watch.rounds.load(Ordering::SeqCst)) <= milliseconds + 100);
+    Ok(())
+}
