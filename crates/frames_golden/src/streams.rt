@@ -176,7 +176,7 @@ pub fn cutter_call(
         "take" => take_all(cutter, answer),
         "expect" => expect(answer, cutter, words.number(0)),
         "after_line" => tell_whether(answer, cutter.after_line()),
-        "unread" => tell_number(answer, "", cutter.unread_len() as u64),
+        "held" => tell_number(answer, "", cutter.held() as u64),
         _ => None,
     }
 }
@@ -219,8 +219,8 @@ fn take_read(
         }
         take_all(cutter, log)?;
     }
-    if cutter.unread_len() > 0 {
-        tell(log, ", and some is unread")?;
+    if cutter.held() > 0 {
+        tell(log, ", and some is held")?;
     }
     Some(())
 }
@@ -454,7 +454,7 @@ impl Write for Broken {
 fn broken_cut(answer: &mut String, alloc: Global, broken: &mut Raw<Broken>) -> Option<()> {
     let mut cutter = new_cutter(alloc);
     fill(answer, &mut cutter, broken)?;
-    tell_number(answer, ", unread ", cutter.unread_len() as u64)
+    tell_number(answer, ", held ", cutter.held() as u64)
 }
 
 /// Makes a call of a reader or a writer of std.

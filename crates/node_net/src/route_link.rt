@@ -136,7 +136,7 @@ impl RouteLink {
     /// The memory of what was read is given back, where all of it is used up.
     pub fn rest(&mut self) {
         let has_frame = self.line.is_some() || self.unjoined.is_some() || self.ahead.is_some();
-        if !has_frame && self.cutter.unread_len() == 0 {
+        if !has_frame && self.cutter.held() == 0 {
             let cutter = Cutter::new(self.alloc, ROUTE_LINE, MAX_SNAPSHOT as u64);
             put(&mut self.cutter, cutter);
         }

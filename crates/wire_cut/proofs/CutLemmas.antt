@@ -5,7 +5,7 @@ use Rattle.std.proofs.lemmas.Bool.{le-leb, lt-leb, le-ltb, lt-ltb, cases_lt}
 use Rattle.std.proofs.lemmas.List.{length-take, length-take-le, length-drop, length-append, take-append-le, drop-append-le}
 use Rattle.wire_cut.specs.declared.faults.CutFault.{CutFault}
 use Rattle.wire_cut.specs.declared.faults.CutFault.TheVariants.{LineTooLong, NoCrLfAfterPayload}
-use Rattle.wire_cut.specs.Cut.{Answer, CutterState, StreamPiece, first_cr_lf, begins_with_cr_lf, cr_lf_at, line, payload, cut_of, after_feed, after_next, cut_line, cut_line_at, cut_long_line, cut_payload_at, bytes_of, is_line, piece_length, IsWithinUnread}
+use Rattle.wire_cut.specs.Cut.{Answer, CutterState, StreamPiece, first_cr_lf, begins_with_cr_lf, cr_lf_at, line, payload, cut_of, after_feed, after_next, cut_line, cut_line_at, cut_long_line, cut_payload, cut_payload_at, bytes_of, is_line, piece_length, IsUnfinished, IsWithinUnread}
 use Rattle.wire_cut.specs.declared.piece.Piece.{Piece}
 use Rattle.wire_cut.specs.Shown.{next_answer, stream_piece}
 use Rattle.wire_cut.specs.Search.{HasCrLfAt, HasNoCrLf}
@@ -71,6 +71,46 @@ module _ (s : CutterState) (no_fault : s.fault ≡ None) (awaits_line : s.expect
 
   pub next_is_none : cut_line s.line_max s.unread ≡ Ok None → (cut_of s ≡ Ok None) × (after_next s ≡ s)
   next_is_none is = let cut : cut_of s ≡ Ok None = cut_of-awaits_line ∙ is in (cut, rw cut refl)
+
+-- ---- where more bytes are needed
+
+short_line : (line_max : ℕ) (unread : List ℕ) → cut_long_line line_max unread ≡ Ok None → length unread < line_max + 2
+short_line line_max unread is = by_order (cases_lt (length unread) (line_max + 2))
+  where
+    by_order : (length unread < line_max + 2) ⊎ (line_max + 2 ≤ length unread) → length unread < line_max + 2
+    by_order (inl short) = short
+    by_order (inr full) = absurd (let cut = rw (le-leb (line_max + 2) (length unread) full) at is in cc)
+
+line_awaited : (line_max : ℕ) (unread : List ℕ) (r : Option ℕ) → cut_line_at line_max unread r ≡ Ok None → length unread < line_max + 2
+line_awaited line_max unread None is = short_line line_max unread is
+line_awaited line_max unread (Some i) is = by_order (cases_lt line_max i)
+  where
+    by_order : (line_max < i) ⊎ (i ≤ line_max) → length unread < line_max + 2
+    by_order (inl past) = short_line line_max unread (rw (lt-leb i line_max past) at is)
+    by_order (inr within) = absurd (let cut = rw (le-leb i line_max within) at is in cc)
+
+is_judged : (size : ℕ) (unread : List ℕ) (is : Bool) → cut_payload_at size unread (Some is) ≡ Ok None → ⊥
+is_judged size unread true is = let same : Some (payload (take size unread)) ≡ (let r : Option StreamPiece = None in r) = cc in cc
+is_judged size unread false is = cc
+
+payload_awaited : (size : ℕ) (unread : List ℕ) → cut_payload size unread ≡ Ok None → length unread < size + 2
+payload_awaited size unread is = by_order (cases_lt (length unread) (size + 2))
+  where
+    by_order : (length unread < size + 2) ⊎ (size + 2 ≤ length unread) → length unread < size + 2
+    by_order (inl short) = short
+    by_order (inr full) = absurd (is_judged size unread (begins_with_cr_lf (drop size unread)) (rw (le-ltb (length unread) (size + 2) full) at is))
+
+unfinished_by : (s : CutterState) (fault : Option CutFault) (expected : Option ℕ) → s.fault ≡ fault → s.expected ≡ expected → cut_of s ≡ Ok None → IsUnfinished expected s
+unfinished_by s (Some fault) expected faulty expects is = absurd (let cut : cut_of s ≡ Err fault = rw faulty refl in cc)
+unfinished_by s None None faulty expects is =
+    let cut : cut_of s ≡ cut_line s.line_max s.unread = rw (faulty, expects) refl in
+    line_awaited s.line_max s.unread (first_cr_lf s.unread) (sym cut ∙ is)
+unfinished_by s None (Some size) faulty expects is =
+    let cut : cut_of s ≡ cut_payload size s.unread = rw (faulty, expects) refl in
+    payload_awaited size s.unread (sym cut ∙ is)
+
+pub unfinished : (s : CutterState) → cut_of s ≡ Ok None → IsUnfinished s.expected s
+unfinished s is = unfinished_by s s.fault s.expected refl refl is
 
 -- ---- what a piece and a fault say of the bytes
 

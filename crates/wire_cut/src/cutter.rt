@@ -1,5 +1,5 @@
 //! Cuts a stream into lines and payloads.
-ghost use Rattle.std.specs.Prelude.{◌≡◌, ◌^◌, ◌<◌, ◌≤◌, None, Some, length};
+ghost use Rattle.std.specs.Prelude.{◌≡◌, ◌^◌, ◌<◌, ◌≤◌, None, Some, Ok, length};
 ghost use Rattle.std.specs.Prelude.{IsTrue, IfNone, IfSome, IfOk, OnOk, OnErr, take};
 ghost use Rattle.std.specs.Result.{result_err};
 ghost use Rattle.std.specs.Borrow.{sem};
@@ -270,10 +270,12 @@ impl Cutter {
         Ok(())
     }
 
-    /// How many bytes were fed and not given. After `next` gave `None` they are fewer than the
-    /// longest line and its CR LF take, or than the expected payload and its CR LF do.
-    pub fn unread_len(&self) -> usize
-        ensures { result ≡ length self.now.unread }
+    /// How many bytes were fed and not given yet: those of what is unfinished. Where more bytes are
+    /// needed, as after `next` gave `None`, they are fewer than the longest line and its CR LF take,
+    /// or than the expected payload and its CR LF do. Behind a fault none of them is given any more.
+    pub fn held(&self) -> usize
+        ensures count { result ≡ length self.now.unread }
+        ensures bound { cut_of self.now ≡ Ok None → IsUnfinished self.now.expected self.now }
     {
         self.window.unread().len()
     }

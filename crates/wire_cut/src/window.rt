@@ -1,5 +1,5 @@
 //! Bytes that came in and were not used yet.
-ghost use Rattle.std.specs.Prelude.{◌≡◌, ◌+◌, ◌-◌, ◌≤◌, [], ◌++◌, None, IfOk, OnOk, OnErr};
+ghost use Rattle.std.specs.Prelude.{◌≡◌, ◌+◌, ◌-◌, ◌*◌, ◌≤◌, [], ◌++◌, None, IfOk, OnOk, OnErr};
 ghost use Rattle.std.specs.Prelude.{length, max, take, drop, slice_range, vec_len};
 ghost use Rattle.std.specs.Io.KnownBytes.{Keeps};
 ghost use Rattle.wire_cut.specs.Flow.{Gains, ReadsOnce};
@@ -11,6 +11,12 @@ use std::marker::Model;
 
 /// The most bytes of a buffer that stays while nothing is unread.
 const KEPT_BYTES: usize = 524_288;
+
+/// A read of so many bytes or fewer gives memory back: of a buffer with more than [`MUCH`] times the room that is needed then no more
+/// stays than that, or than so many bytes.
+const FEW_BYTES: usize = 512;
+
+const MUCH: usize = 4;
 
 /// The unread bytes lie at `start..end` of one buffer, which is used again.
 #[derive(Drop)]
@@ -61,7 +67,7 @@ impl Window {
     }
 
     /// Reads at most `most` bytes behind the unread ones, and answers how many. These have not
-    /// changed where none come.
+    /// changed where none come. Where few are read at most, a large buffer is given back before.
     pub fn read_from<S: Source>(&mut self, source: &mut S, most: usize) -> Result<usize, FillFault>
         ensures ok { IfOk result (λ n. Gains self.old.unread self.new.unread
             (S.remaining source.old) (S.remaining source.new) most n) }
@@ -112,7 +118,8 @@ impl Window {
 }
 
 /// Makes room for `count` bytes behind `start..end`, by moving these to the front or by growing,
-/// and answers where they begin then. After want of memory the buffer has not changed.
+/// and answers where they begin then. What is not needed may be given back. After want of memory the buffer
+/// has not changed.
 fn make_room(
     buffer: &mut Vec<u8>,
     start: usize,
@@ -127,32 +134,54 @@ fn make_room(
     ensures room { IfOk result (λ at. at + (end - start) + count ≤ vec_len buffer.new) }
     ensures small { start ≡ end → count ≤ vec_len buffer.old →
         OnOk result (vec_len buffer.new ≤ max count KEPT_BYTES) }
+    ensures few { count ≤ FEW_BYTES → (end - start) + count ≤ vec_len buffer.old →
+        OnOk result (vec_len buffer.new ≤ MUCH * max ((end - start) + count) FEW_BYTES) }
     ensures err { OnErr result (buffer.new.items ≡ buffer.old.items) }
 {
-    if start == end && count <= buffer.len() {
-        give_back(buffer, count);
-        return Ok(0);
-    }
-    if count <= buffer.len() - end {
-        return Ok(start);
-    }
-    let needed = (end - start).checked_add(count).ok_or(AllocError)?;
+    let unread = end - start;
+    let needed = unread.checked_add(count).ok_or(AllocError)?;
     if needed > buffer.len() {
         buffer.resize(needed.saturating_mul(2), 0)?;
+        buffer.copy_within(start..end, 0);
+        return Ok(0);
+    }
+    let kept = kept_of(buffer.len(), unread, count);
+    if unread > 0 && kept == buffer.len() && count <= buffer.len() - end {
+        return Ok(start);
     }
     buffer.copy_within(start..end, 0);
+    shorten(buffer, kept);
     Ok(0)
 }
 
-/// Gives back what a large payload took, where none of the bytes is needed any more. Room for `count`
-/// bytes stays.
-fn give_back(buffer: &mut Vec<u8>, count: usize)
-    requires { count ≤ vec_len buffer.old }
-    ensures room { count ≤ vec_len buffer.new }
-    ensures small { vec_len buffer.new ≤ max count KEPT_BYTES }
+/// How many bytes of a buffer of `len` stay, of which so many are unread, and behind which `count` more are read.
+fn kept_of(len: usize, unread: usize, count: usize) -> usize
+    requires { unread + count ≤ len }
+    ensures enough { unread + count ≤ result }
+    ensures within { result ≤ len }
+    ensures small { unread ≡ 0 → result ≤ max count KEPT_BYTES }
+    ensures few { count ≤ FEW_BYTES → result ≤ MUCH * max (unread + count) FEW_BYTES }
 {
-    let kept = count.max(KEPT_BYTES);
-    if buffer.len() > kept {
+    if count <= FEW_BYTES {
+        let few = (unread + count).max(FEW_BYTES);
+        if len > few.saturating_mul(MUCH) {
+            few
+        } else {
+            len
+        }
+    } else if unread == 0 {
+        len.min(count.max(KEPT_BYTES))
+    } else {
+        len
+    }
+}
+
+/// Keeps the first bytes of a buffer, and gives back the memory of the others.
+fn shorten(buffer: &mut Vec<u8>, kept: usize)
+    requires { kept ≤ vec_len buffer.old }
+    ensures { buffer.new.items ≡ take kept buffer.old.items }
+{
+    if kept < buffer.len() {
         buffer.truncate(kept);
         buffer.shrink_to_fit();
     }
