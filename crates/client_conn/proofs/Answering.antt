@@ -1,5 +1,5 @@
 -- What a connection does to what stands to be asked.
-use Rattle.std.proofs.Common.{◌≡◌, ℕ, Bool, true, false, not, ◌&&◌, List, [], ◌∷◌, ◌++◌, length, Option, Result, Ok, Err, ◌<◌, ◌⊎◌, ⊎_elim, refl, ap, sym, ◌∙◌, subst, append-nil}
+use Rattle.std.proofs.Common.{◌≡◌, ℕ, Bool, true, false, ◌&&◌, List, [], ◌∷◌, ◌++◌, length, Option, Result, Ok, Err, ◌<◌, ◌⊎◌, ⊎_elim, refl, ap, sym, ◌∙◌, subst, append-nil}
 use Rattle.std.specs.Prelude.{if◌then◌else◌, OnErr, slice_get}
 use Rattle.wire_cut.specs.Cut.{first_cr_lf}
 use Rattle.wire_cut.specs.Reading.{End, waits, closed, reading_within, with_items}
@@ -8,14 +8,13 @@ use Rattle.client_frames.specs.declared.client_line.Awaited.TheVariants as await
 use Rattle.client_frames.specs.declared.client_line.Options.{Options}
 use Rattle.client_frames.specs.Streams.{StreamItem}
 use Rattle.client_conn.specs.declared.ask.Ask.{Ask}
-use Rattle.client_conn.specs.declared.ask.Refusal.TheVariants.{Other}
 use Rattle.client_conn.specs.declared.faults.ReadFault.{ReadFault}
 use Rattle.client_conn.specs.declared.faults.ReadFault.TheVariants.{Closed}
 use Rattle.client_conn.specs.declared.conn.ItemReader.{ItemReader}
 use Rattle.client_conn.specs.declared.conn.Looked.{Looked}
 use Rattle.client_conn.specs.declared.conn.Looked.TheVariants.{Announced, Told}
 use Rattle.client_conn.specs.Items.{OpenState, first_options, options_behind, item_asks, items_asks, asked_by}
-use Rattle.client_conn.specs.Asks.{Asking, listens, over, asked_before, asking_of, Answer, asks_after_answer, asks_after_bytes, no_asks}
+use Rattle.client_conn.specs.Asks.{Asking, listens, over, asked_before, asking_of, asks_after_bytes, no_asks}
 use Rattle.client_conn.specs.Feeding.{HasRead, ClosedWhere, AnswersClosed}
 use Rattle.client_conn.specs.Streams.{end_of, reading_at, left_of, asking_at, HasTaken, HasNone, HasFilled, HasLooked}
 use Rattle.client_conn.proofs.Telling.{told_before, fed_standing}
@@ -66,13 +65,6 @@ nothing_asked before stand old new is none empty =
     ap (λ s. (asking_at s new).asks) is
     ∙ ap (λ l. l ++ items_asks before.options (reading_at new).items) (no_length before.asks empty)
     ∙ ap (items_asks before.options) none.none
-
-pub other_answered : (stand : OpenState) (end : End Awaited) (answer : Answer) → answer ≡ Err Other → not (no_asks stand.asks) ≡ true
-    → asking_at (record stand { asks = [] }) closed ≡ asks_after_answer answer (asking_at stand end)
-other_answered stand end answer is given = by_standing stand.asks given ∙ ap (λ a. asks_after_answer a (asking_at stand end)) (sym is) where
-  by_standing : (asks : List Ask) → not (no_asks asks) ≡ true → asking_at (record { asks = []; options = stand.options }) closed ≡ asks_after_answer (Err Other) (asking_at (record { asks = asks; options = stand.options }) end)
-  by_standing [] given = absurd (cc)
-  by_standing (ask ∷ asks) given = refl
 
 -- what is given is what stands first
 pub first_asked : (stand : OpenState) (end : End Awaited) (now : Asking) (got : Option Ask) → got ≡ slice_get stand.asks 0 → (stand.asks ≡ [] → (asking_at stand end).asks ≡ [])

@@ -4,7 +4,7 @@ ghost use Rattle.client_frames.specs.declared.server_frames.ReplyFrame.TheVarian
 ghost use Rattle.client_conn.specs.declared.ask.Ask.TheVariants as ask;
 ghost use Rattle.client_frames.specs.declared.client_line.Awaited.TheVariants as awaits;
 ghost use Rattle.client_conn.specs.declared.conn.Looked.TheVariants as looks;
-ghost use Rattle.std.specs.Prelude.{◌≡◌, ◌∷◌, ◌++◌, List, [], drop, is_some, not, slice_get, option_copied, option_to_list, ◌≤◌, length, false, true, None, Some, IfOk, OnOk, OnErr, IsTrue, IsSome, IsOkAnd, Err};
+ghost use Rattle.std.specs.Prelude.{◌≡◌, ◌∷◌, ◌++◌, List, [], drop, is_some, not, slice_get, option_copied, option_to_list, ◌≤◌, length, false, true, None, Some, IfOk, OnOk, OnErr, IsSome, IsOkAnd, Err, if◌then◌else◌};
 ghost use Rattle.client_frames.specs.Streams.{asked, client_grammar, command_told, refusal_told};
 ghost use Rattle.client_conn.specs.declared.ask.Ask.{Ask};
 ghost use Rattle.client_conn.specs.Asks.{no_asks, first_asking, asks_after_bytes, asks_after_answer, is_finished};
@@ -586,10 +586,10 @@ impl Conn {
 
     /// The server's answer to what `next` gave last. Done: the next comes. `Busy`: the same is asked again.
     /// Where the client is told of a refusal, the `-ERR` is asked for next, and then what comes behind. After
-    /// any other refusal nothing is asked any more. Takes no memory.
+    /// any other refusal nothing is asked any more. Nothing comes of an answer where `next` gave nothing that still
+    /// waits for one. Takes no memory.
     pub fn answer(&mut self, answer: Result<(), Refusal>)
-        requires { IsTrue self.old.given }
-        ensures { self.new.asking ≡ asks_after_answer answer self.old.asking }
+        ensures { self.new.asking ≡ (if self.old.given then asks_after_answer answer self.old.asking else self.old.asking) }
     {
         match answer {
             Ok(()) => {
@@ -600,11 +600,13 @@ impl Conn {
         }
     }
 
-    /// What was asked is refused.
+    /// What was asked is refused, where anything was.
     fn refuse(&mut self, refusal: Refusal)
-        requires { IsTrue self.old.given }
-        ensures { self.new.asking ≡ asks_after_answer (Err refusal) self.old.asking }
+        ensures { self.new.asking ≡ (if self.old.given then asks_after_answer (Err refusal) self.old.asking else self.old.asking) }
     {
+        if self.open_asks.is_empty() {
+            return;
+        }
         match refusal {
             Refusal::Busy => {}
             Refusal::TooManySubscriptions => self.open_asks.tell(ErrText::TooManySubscriptions),

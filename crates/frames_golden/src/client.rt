@@ -314,10 +314,10 @@ fn answer_in(word: &str) -> Result<(), Refusal> {
     }
 }
 
-/// Answers the next ask, and tells it.
+/// Answers the next ask, and tells it; where there is none, the answer is given all the same.
 fn ask(answer: &mut String, conn: &mut Conn, word: &str) -> Option<()> {
     match conn.next().ok()? {
-        None => return tell(answer, "nothing"),
+        None => tell(answer, "nothing")?,
         Some(ask) => ask_told(answer, ask)?,
     }
     conn.answer(answer_in(word));

@@ -1,6 +1,6 @@
 -- What is said of what a connection asks, ask by ask.
 use Rattle.std.proofs.Common.{◌≡◌, ℕ, ◌+◌, ◌<◌, Bool, true, false, true≢false, cond, List, [], ◌∷◌, ◌++◌, Some, None, Ok, Err, refl, ap, sym, ◌∙◌, subst, arith, append_assoc, append-nil}
-use Rattle.std.specs.Prelude.{slice_get, sum_by}
+use Rattle.std.specs.Prelude.{IsTrue, if◌then◌else◌, slice_get, sum_by}
 use Rattle.std.proofs.lemmas.Option.{none-some, same_Some}
 use Rattle.std.proofs.lemmas.List.Sums.{sum_by-cons}
 use Rattle.client_frames.specs.declared.err_texts.ErrText.{ErrText}
@@ -200,12 +200,12 @@ in_step_again conn next new_conn new is step = record {
 }
 
 pub ask_worked : (answer : Answer) (a : Ask) (conn mid new_conn : ConnState) (old new : PipeServer) → IsInStep conn old → slice_get conn.asking.asks 0 ≡ Some a → HasServed (Answered answer) (ask_said a (served_state old)) old new → MayBeTold (Answered answer) a
-    → mid.asking ≡ conn.asking → new_conn.asking ≡ asks_after_answer answer mid.asking → HasWorked conn old new_conn new
-ask_worked answer a conn mid new_conn old new step is serves may same next =
+    → mid.asking ≡ conn.asking → IsTrue mid.given → new_conn.asking ≡ (if mid.given then asks_after_answer answer mid.asking else mid.asking) → HasWorked conn old new_conn new
+ask_worked answer a conn mid new_conn old new step is serves may same given next =
     let begins = starts a conn.asking.asks is in
     let at = asking_is conn a begins.rest begins.are in
     let goes = answer_goes answer a begins.rest conn.asking.onward conn.given old new (subst (λ (c : ConnState). IsInStep c old) at step) serves may in
-    let next_is : new_conn.asking ≡ answered_first answer (a ∷ begins.rest) conn.asking.onward = next ∙ ap (asks_after_answer answer) (same ∙ ap (λ (c : ConnState). c.asking) at) in
+    let next_is : new_conn.asking ≡ answered_first answer (a ∷ begins.rest) conn.asking.onward = next ∙ ap (λ b. if b then asks_after_answer answer mid.asking else mid.asking) given ∙ ap (asks_after_answer answer) (same ∙ ap (λ (c : ConnState). c.asking) at) in
     record {
       said = goes.said;
       put = goes.put;

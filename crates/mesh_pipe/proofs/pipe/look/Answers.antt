@@ -15,4 +15,5 @@ pub returns-in-Answered : goal.returns-in-Answered
 returns-in-Answered c =
     let serves = rw c.in-Answered.is at c.in_ok-outcome-in-Some.ensures.served in
     let may = rw c.in-Answered.is at c.in_ok-outcome-in-Some.ensures.told in
-    ask_worked c.in-Answered.answer c.in-Some.ask.now c.args.conn.now c.next.follows.lender-at-none c.answer.new.self c.args.server.now c.serve.new.self c.requires (sym c.in_ok-next.ensures.first ∙ ap option_copied c.in-Some.is) serves may c.next.follows.holds-at-none.asking c.answer.ensures
+    let given = c.next.follows.holds-at-none.is_given (rw (c.in_ok-next.was, c.in-Some.is) refl) in
+    ask_worked c.in-Answered.answer c.in-Some.ask.now c.args.conn.now c.next.follows.lender-at-none c.answer.new.self c.args.server.now c.serve.new.self c.requires (sym c.in_ok-next.ensures.first ∙ ap option_copied c.in-Some.is) serves may c.next.follows.holds-at-none.asking given c.answer.ensures
