@@ -2,12 +2,11 @@
 
 use event_log::StartFault;
 use std::alloc::{AllocError, AllocFailed};
-use std::error::Error;
 use std::fmt::{Display, Formatter, Write};
 use std::{fmt, io};
 
 /// Why a mesh is not served any more.
-#[derive(Debug, Drop)]
+#[derive(Drop)]
 pub enum ServeFault {
     /// The port is not to be had.
     Port { port: u16, error: io::Error },
@@ -40,8 +39,6 @@ impl Display for ServeFault {
         }
     }
 }
-
-impl Error for ServeFault {}
 
 impl From<AllocError> for ServeFault {
     fn from(_: AllocError) -> ServeFault {

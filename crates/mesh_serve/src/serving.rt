@@ -44,14 +44,27 @@ fn bind<R: Net>(rt: &R, port: u16) -> Result<TcpListener, ServeFault> {
     }
 }
 
-/// The sockets of the server at this place.
-fn sockets<R: Net>(rt: &R, options: &Options, place: u16) -> Result<Sockets, ServeFault>
+/// Where clients and other servers connect to the server at this place.
+fn listeners<R: Net>(
+    rt: &R,
+    options: &Options,
+    place: u16,
+) -> Result<(TcpListener, TcpListener), ServeFault>
     requires within { AreWithin options.now }
     requires place { place < options.now.nodes }
 {
     let clients = bind(rt, options.client_port(place))?;
     let routes = bind(rt, options.route_port(place))?;
+    Ok((clients, routes))
+}
+
+/// The sockets of the server at this place.
+fn sockets<R: Net>(rt: &R, options: &Options, place: u16) -> Result<Sockets, ServeFault>
+    requires within { AreWithin options.now }
+    requires place { place < options.now.nodes }
+{
     let poll = Poll::new(rt)?;
+    let (clients, routes) = listeners(rt, options, place)?;
     Ok(Sockets {
         poll,
         clients,

@@ -13,10 +13,11 @@
 //! `mesh.new` starts the server n1 of so many servers, with so many shards, and n2 beside it. A stream is made ready by `stream`, and `add`
 //! takes it: a server's connections are named by their numbers, in the order in which they came. Time, failing streams and which
 //! connections are ready, three at most in a turn, are what a case says of them. `told` answers what has happened at a server, in the words
-//! of its log.
+//! of its log; `log` answers the whole line of an event that streams do not bring about.
 //!
 //! In reading order: `rig` has what stands, and what the servers of a process share; `mesh` starts the two servers of a case, of which `lanes`
-//! has one whose lanes take nothing for a while; `ends` makes the calls on each and on what is between them.
+//! has one whose lanes take nothing for a while; `ends` makes the calls on each and on what is between them; `log_lines` has what the log writes
+//! of other events.
 //!
 //! A server stands only in the call of a function that is generic in its name: so a case is played from its first call again for each
 //! call that asks something. A call that asks nothing is answered at once, and made when the next one asks.
@@ -24,6 +25,7 @@
 
 mod ends;
 mod lanes;
+mod log_lines;
 mod mesh;
 mod rig;
 

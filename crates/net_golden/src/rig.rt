@@ -1,6 +1,7 @@
 //! What stands, and whose call a line is.
 
 use crate::ends::is_question;
+use crate::log_lines::log_line;
 use crate::mesh::Mesh;
 use golden::{Call, Rig, Words, call_of, push_line, put, text, yes_or_no};
 use node_net::Company;
@@ -79,6 +80,7 @@ impl<'r, R: Wait> Rig for NetRig<'r, R> {
         match of {
             "mesh" => text(self.alloc, self.mesh.set(call, words)),
             "company" => company_answer(&mut self.company, self.alloc, call, words.number(0)),
+            "log" => log_line(self.alloc, call, words),
             "stream" | "n1" | "n2" | "link" | "numbers" => self.server_answer(name, words),
             _ => text(self.alloc, "no such call"),
         }

@@ -13,15 +13,13 @@
 //! its end; `outgoing` keeps what it did not take.
 #![tactic(auto)]
 
-mod faults;
 mod mem_stream;
 mod outgoing;
 mod sockets;
 mod stream;
 mod wire;
 
-pub use faults::StreamFault;
 pub use mem_stream::MemStream;
 pub use outgoing::Outgoing;
-pub use stream::Stream;
+pub use stream::{Stream, StreamFault};
 pub use wire::Wire;

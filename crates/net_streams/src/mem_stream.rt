@@ -2,14 +2,13 @@
 
 ghost use Rattle.std.specs.Io.{ReadsAtMost, WritesAtMost};
 
-use crate::faults::StreamFault;
-use crate::stream::Stream;
+use crate::stream::{Stream, StreamFault};
 use std::alloc::{AllocError, Global};
 
 /// A stream in memory: it is fed what the other end sends, and keeps what was written. One of its calls can
 /// be made to fail, and all calls behind it fail then too. It may take only so many bytes altogether, as if
 /// its other end read no more.
-#[derive(Debug, Drop)]
+#[derive(Drop)]
 pub struct MemStream {
     input: Vec<u8>,
     at: usize,

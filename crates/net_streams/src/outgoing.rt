@@ -5,7 +5,7 @@ use crate::wire::Wire;
 use std::alloc::{AllocError, Global};
 
 /// The most bytes of a buffer that stays while nothing is unwritten.
-const KEPT_BYTES: usize = 4_096;
+const KEPT_BYTES: usize = 1_024;
 
 /// Bytes that a stream did not take yet. It takes no memory while there are none, but for a small buffer.
 #[derive(Drop)]

@@ -2,8 +2,7 @@
 
 ghost use Rattle.std.specs.Io.{ReadsAtMost, WritesAtMost};
 
-use crate::faults::StreamFault;
-use crate::stream::Stream;
+use crate::stream::{Stream, StreamFault};
 use mio::net::TcpStream;
 use std::io;
 use std::io::{Read, Write};

@@ -2,7 +2,14 @@
 
 ghost use Rattle.std.specs.Io.{ReadsAtMost, WritesAtMost};
 
-use crate::faults::StreamFault;
+/// Why a stream gave or took no bytes.
+#[derive(Clone, Copy, PartialEq, Eq)]
+pub enum StreamFault {
+    /// It would have to wait for its other end. It is told elsewhere when it is worth another call.
+    WouldBlock,
+    /// It failed, and gives and takes nothing any more.
+    Failed,
+}
 
 /// One end of a connection, both to read and to write. No call waits.
 pub trait Stream: Drop {

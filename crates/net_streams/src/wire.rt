@@ -2,8 +2,7 @@
 
 ghost use Rattle.std.specs.Prelude.{None};
 
-use crate::faults::StreamFault;
-use crate::stream::Stream;
+use crate::stream::{Stream, StreamFault};
 use wire_cut::{Count, ReadFailed, Source};
 
 /// A stream, and whether it has ended or failed. It is read as a source, of which a read that would have to

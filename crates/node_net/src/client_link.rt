@@ -326,11 +326,20 @@ impl ClientLink {
         node: C,
         waiting: &mut Vec<u8>,
     ) -> Result<(), AllocError> {
-        let Some(mut shard) = node.shard(rt, self.shard) else {
-            return Ok(());
-        };
-        take_all(&mut shard, self.calls.id(), waiting)?;
-        self.calls.detach(&mut shard)?;
+        match node.shard(rt, self.shard) {
+            None => Ok(()),
+            Some(mut shard) => self.leave_shard(&mut shard, waiting),
+        }
+    }
+
+    /// The same of its shard, which is held.
+    fn leave_shard<S: ShardCalls>(
+        &mut self,
+        shard: &mut S,
+        waiting: &mut Vec<u8>,
+    ) -> Result<(), AllocError> {
+        take_all(shard, self.calls.id(), waiting)?;
+        self.calls.detach(shard)?;
         self.has_left = true;
         Ok(())
     }

@@ -2,10 +2,9 @@
 
 ghost use Rattle.std.specs.Prelude.{◌≡◌, ◌-◌, ◌^◌, min};
 
-use crate::calls::cut;
 use crate::client_link::ClientLink;
 use crate::limits::{FIRST_READ, IDLE_BYTES};
-use crate::route_link::{RouteLink, Stepped};
+use crate::route_link::{RouteLink, Stepped, cut};
 use client_conn::ReadFault;
 use net_streams::{Outgoing, Stream, Wire};
 use rand_pcg::Pcg64;
@@ -94,9 +93,9 @@ pub(crate) struct Connection<S: Stream> {
     ending: Ending,
     /// How many bytes are read at once.
     part: usize,
-    /// How many bytes were read since its buffer was given back.
-    read: usize,
-    /// When its buffer is given back, in milliseconds since the loop began; never for the greatest number.
+    /// How many bytes were read and sent since its buffers were given back.
+    moved: usize,
+    /// When its buffers are given back, in milliseconds since the loop began; never for the greatest number.
     rests_at: u64,
     /// Whether there may be more to read.
     has_more: bool,
@@ -129,7 +128,7 @@ impl<S: Stream> Connection<S> {
             out: Outgoing::new(alloc),
             ending: Ending::Open,
             part: FIRST_READ,
-            read: 0,
+            moved: 0,
             rests_at: u64::MAX,
             has_more: false,
             hangs_up: false,
@@ -187,7 +186,7 @@ impl<S: Stream> Connection<S> {
             Some(count) => {
                 self.has_more = count == part || self.hangs_up;
                 self.part = next_part(part, count);
-                self.read = self.read.saturating_add(count);
+                self.moved = self.moved.saturating_add(count);
             }
             None => {
                 self.has_more = self.is_short;
@@ -199,19 +198,19 @@ impl<S: Stream> Connection<S> {
         }
     }
 
-    /// Its buffer is given back at this time, where it is a large one, unless this is told again before.
+    /// Its buffers are given back at this time, where one may be large, unless this is told again before.
     pub fn rest_at(&mut self, time: u64) {
-        if self.read > IDLE_BYTES {
+        if self.moved > IDLE_BYTES || self.part > FIRST_READ {
             self.rests_at = time;
         }
     }
 
-    /// When its buffer is given back, in milliseconds since the loop began; never for the greatest number.
+    /// When its buffers are given back, in milliseconds since the loop began; never for the greatest number.
     pub fn rests_at(&self) -> u64 {
         self.rests_at
     }
 
-    /// Its buffer is given back where the time has come, of a client's with the next read. Whether it was.
+    /// Its buffers are given back where the time has come, a client's once it is served. Whether they were.
     pub fn rest_if_idle(&mut self, now: u64) -> bool {
         if self.rests_at > now {
             return false;
@@ -222,7 +221,7 @@ impl<S: Stream> Connection<S> {
 
     fn rest(&mut self) {
         self.part = FIRST_READ;
-        self.read = 0;
+        self.moved = 0;
         self.rests_at = u64::MAX;
         if let Link::Route(route) = &mut self.link {
             route.rest();
@@ -504,6 +503,7 @@ impl<S: Stream> Connection<S> {
     /// Sends bytes: those that the stream does not take now are kept. For want of memory to keep them the
     /// connection is given up, since it would miss them.
     pub fn send(&mut self, bytes: &[u8]) {
+        self.moved = self.moved.saturating_add(bytes.len());
         let rest = if self.out.is_empty() {
             self.wire.write(bytes)
         } else {

@@ -348,7 +348,7 @@ impl<S: Stream> Connections<S> {
         (connection.ending() == Ending::Gone).then_some(key)
     }
 
-    /// The connection's deadline is looked at when it comes, and whether its buffer is to be given back.
+    /// The connection's deadline is looked at when it comes, and whether its buffers are to be given back.
     pub fn await_deadline(&mut self, key: usize) {
         if let Some(connection) = self.table.get(key) {
             let next = connection.deadline().min(connection.rests_at());
@@ -399,9 +399,9 @@ impl<S: Stream> Connections<S> {
         }
     }
 
-    /// The buffer of what a connection sent is given back where nothing more is read of it for [`IDLE`], or a little longer: so many
-    /// connections rest at one time.
-    fn rest_later(&mut self, key: usize) {
+    /// The buffers of a connection are given back where nothing more is read of it or sent to it for [`IDLE`], or a little longer: so
+    /// many connections rest at one time.
+    pub fn rest_later(&mut self, key: usize) {
         let steps = self.now.saturating_add(IDLE).saturating_add(IDLE_STEP - 1) / IDLE_STEP;
         let time = steps.saturating_mul(IDLE_STEP);
         if let Some(connection) = self.table.get_mut(key) {
@@ -410,7 +410,7 @@ impl<S: Stream> Connections<S> {
         self.await_deadline(key);
     }
 
-    /// Gives up the connections whose deadlines have come, and gives back the buffers of those that are idle.
+    /// Gives up the connections whose deadlines have come, and has those that are idle give back their buffers.
     pub fn end_overdue(&mut self) {
         if self.now < self.next_deadline {
             return;
@@ -459,7 +459,8 @@ impl<S: Stream> Connections<S> {
         }
     }
 
-    /// Gives back the buffer of a connection that is idle. It is read once, since a client's is given back by a read.
+    /// Gives back the buffers of a connection that is idle. It is served, since a client's are given back by a read of few bytes and where
+    /// nothing is taken out of its outbox.
     fn rest_if_idle(&mut self, key: usize) {
         let is_idle = match self.table.get_mut(key) {
             None => false,

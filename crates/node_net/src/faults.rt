@@ -4,19 +4,15 @@ use client_conn::Refusal;
 use route_session::SessionFault;
 use std::alloc::AllocError;
 use subj::Failure;
-use thiserror::Error;
 
 /// Why a stream is not taken. It is closed.
-#[derive(Clone, Copy, Debug, Error)]
+#[derive(Clone, Copy)]
 pub enum AddFault {
     /// No client is taken any more: the numbers of connections have come to their limit.
-    #[error("no client is taken any more: {0}")]
     Client(Refusal),
     /// The route is refused.
-    #[error("the route is refused: {0}")]
     Route(SessionFault),
     /// There was no memory.
-    #[error("out of memory")]
     OutOfMemory,
 }
 

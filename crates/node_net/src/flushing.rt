@@ -1,6 +1,5 @@
 //! What was put for clients and other servers is taken and written.
 
-use crate::calls::{swap_recipients, take_frames};
 use crate::connection::{Cause, Ending};
 use crate::connections::Connections;
 use crate::limits::{FRAMES, PEER_BACKLOG, TAKEN_AT_ONCE};
@@ -9,28 +8,29 @@ use crate::server::Server;
 use crate::taken::Taken;
 use net_streams::Stream;
 use route_frames::{Numbered, RouteFrame, encode};
-use server_calls::{ServerCalls, ShardCalls};
-use std::alloc::AllocError;
+use server_calls::{HubCalls, ServerCalls, ShardCalls};
+use shard_core::Recipients;
+use std::alloc::{AllocError, Global};
 use std::sync::Wait;
-use subj::MAX_PAYLOAD;
+use subj::{Failure, MAX_PAYLOAD};
 
 /// Which connections may have something that waits for them.
-#[derive(Drop)]
-enum Awaited {
+#[derive(Clone, Copy)]
+enum Awaited<'a> {
     /// All of so many keys.
     All(usize),
-    These(Vec<usize>),
+    These(&'a [usize]),
 }
 
-impl Awaited {
-    fn count(&self) -> usize {
+impl Awaited<'_> {
+    fn count(self) -> usize {
         match self {
-            Awaited::All(count) => *count,
+            Awaited::All(count) => count,
             Awaited::These(keys) => keys.len(),
         }
     }
 
-    fn key(&self, place: usize) -> Option<usize> {
+    fn key(self, place: usize) -> Option<usize> {
         match self {
             Awaited::All(_) => Some(place),
             Awaited::These(keys) => keys.get(place).copied(),
@@ -40,7 +40,7 @@ impl Awaited {
 
 impl<S: Stream> Connections<S> {
     /// Writes what was kept for these connections, as far as their streams take it.
-    fn write_all_kept(&mut self, awaited: &Awaited) {
+    fn write_all_kept(&mut self, awaited: Awaited<'_>) {
         for place in 0..awaited.count() {
             if let Some(key) = awaited.key(place) {
                 self.write_kept(key);
@@ -52,7 +52,7 @@ impl<S: Stream> Connections<S> {
     fn take_from<H: ShardCalls>(
         &mut self,
         shard: &mut H,
-        awaited: &Awaited,
+        awaited: Awaited<'_>,
         place: usize,
         taken: &mut Taken,
     ) -> usize {
@@ -157,6 +157,7 @@ impl<S: Stream> Connections<S> {
         if let Some(connection) = self.table.get_mut(part.key) {
             connection.send_taken(taken.bytes_of(part));
         }
+        self.rest_later(part.key);
         self.leave_if_gone(part.key);
     }
 }
@@ -166,6 +167,44 @@ impl<S: Stream> Connections<S> {
 fn frames_beside(backlog: usize) -> usize {
     let room = PEER_BACKLOG.saturating_sub(backlog) / MAX_PAYLOAD;
     room.min(FRAMES).max(1)
+}
+
+/// Takes at most so many frames that wait for the server at this place, of a hub that is held; none where there is no such one.
+fn frames_of<H: HubCalls>(
+    hub: &mut H,
+    alloc: Global,
+    peer: usize,
+    count: usize,
+) -> Result<Vec<Numbered>, AllocError> {
+    match hub.take_frames(peer, count) {
+        Ok(frames) => Ok(frames),
+        Err(Failure::Refused(_)) => Ok(Vec::new(alloc)),
+        Err(Failure::OutOfMemory) => Err(AllocError),
+    }
+}
+
+/// The same, of a hub that is held for this call.
+fn take_frames<C: ServerCalls, R: Wait>(
+    rt: &R,
+    node: C,
+    alloc: Global,
+    peer: usize,
+    count: usize,
+) -> Result<Vec<Numbered>, AllocError> {
+    let mut hub = node.hub(rt);
+    frames_of(&mut hub, alloc, peer, count)
+}
+
+/// Hands out for which clients of a shard something was put since the last time, for those that were handed out then.
+fn swap_recipients<C: ServerCalls, R: Wait>(
+    rt: &R,
+    node: C,
+    shard: u64,
+    recipients: &mut Recipients,
+) {
+    if let Some(mut shard) = node.shard(rt, shard) {
+        shard.swap_recipients(recipients);
+    }
 }
 
 /// Spells a frame behind what is spelt.
@@ -196,21 +235,13 @@ impl<S: Stream, C: ServerCalls> Server<S, C> {
     /// Takes and writes what waits for the clients of a shard.
     fn flush_shard<R: Wait>(&mut self, rt: &R, number: u64, served: &[usize], is_any: bool) {
         swap_recipients(rt, self.node, number, &mut self.recipients);
-        let awaited = self.awaited_of(served, is_any);
-        self.flush_awaited(rt, number, &awaited);
-    }
-
-    /// Which clients of a shard may have something that waits for them.
-    fn awaited_of(&self, served: &[usize], is_any: bool) -> Awaited {
-        let all = self.connections.table.capacity();
-        if is_any || self.recipients.is_any() {
-            return Awaited::All(all);
-        }
         let mut keys = Vec::new(self.alloc);
-        if self.put_keys(served, &mut keys).is_err() {
-            return Awaited::All(all);
+        if is_any || self.recipients.is_any() || self.put_keys(served, &mut keys).is_err() {
+            let all = Awaited::All(self.connections.table.capacity());
+            self.flush_awaited(rt, number, all);
+        } else {
+            self.flush_awaited(rt, number, Awaited::These(&keys));
         }
-        Awaited::These(keys)
     }
 
     /// Puts the connections that something was put for into the list, and behind them those that were served.
@@ -224,7 +255,7 @@ impl<S: Stream, C: ServerCalls> Server<S, C> {
     }
 
     /// Takes and writes what waits for clients of a shard, which are among these.
-    fn flush_awaited<R: Wait>(&mut self, rt: &R, number: u64, awaited: &Awaited) {
+    fn flush_awaited<R: Wait>(&mut self, rt: &R, number: u64, awaited: Awaited<'_>) {
         self.connections.write_all_kept(awaited);
         let mut place = 0;
         for _round in 0..u64::MAX {
@@ -242,7 +273,7 @@ impl<S: Stream, C: ServerCalls> Server<S, C> {
         &mut self,
         rt: &R,
         number: u64,
-        awaited: &Awaited,
+        awaited: Awaited<'_>,
         place: usize,
     ) -> usize {
         self.taken.clear();

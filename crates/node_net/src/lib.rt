@@ -10,14 +10,13 @@
 //!
 //! The server is whatever makes the calls of `server_calls`.
 //!
-//! In reading order: `client_link` and `route_link` make calls of what was read (`calls`), and tell what they have come to (`runs`);
+//! In reading order: `client_link` and `route_link` make calls of what was read, and tell what they have come to (`runs`);
 //! `connection` has one of them with its stream; `connections` has all of them, and what is noted of each until it is done; `server` takes them
 //! and lets them go, and finds those of clients (`clients`) and of other servers (`peers`); `turning` and `flushing` are a turn of its loop, by
 //! what was `taken` for clients, and `running` is the loop. `company` says when the loop ends, the `limits` when and how much of everything, and
 //! `faults` why no stream is taken.
 #![tactic(auto)]
 
-mod calls;
 mod client_link;
 mod clients;
 mod company;

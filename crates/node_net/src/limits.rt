@@ -21,15 +21,14 @@ pub(crate) const LAST_PAUSE: u64 = 1_000;
 /// descriptor.
 pub(crate) const RETRY: u64 = 10;
 
-/// How long nothing was read of a connection before the buffer of what it sent is given back, in milliseconds: a route's all of it, and a
-/// client's down to half a megabyte.
+/// How long nothing was read of a connection, and nothing written to it, before its buffers are given back, in milliseconds.
 pub(crate) const IDLE: u64 = 1_000;
 
 /// To what multiple of milliseconds that time is rounded up.
 pub(crate) const IDLE_STEP: u64 = IDLE / 4;
 
-/// Of how many bytes of what a connection sent the buffer stays, where nothing is read of it.
-pub(crate) const IDLE_BYTES: usize = 4_096;
+/// Behind how many bytes that went either way the buffers of a connection are large.
+pub(crate) const IDLE_BYTES: usize = 1_024;
 
 /// How many bytes are read at once of a connection that has just come. A connection that sends more is read
 /// in greater parts, so that one that sends little has a small buffer.

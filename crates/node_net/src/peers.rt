@@ -115,17 +115,23 @@ pub(crate) struct Redials {
 }
 
 impl Redials {
-    /// All of so many may be dialed at once.
-    pub fn new(alloc: Global, count: usize) -> Result<Redials, AllocError> {
-        let mut redials = Vec::with_capacity(alloc, count)?;
+    /// There are none.
+    pub fn new(alloc: Global) -> Redials {
+        Redials {
+            redials: Vec::new(alloc),
+        }
+    }
+
+    /// So many more may be dialed, all at once.
+    pub fn start(&mut self, count: usize) -> Result<(), AllocError> {
         for _place in 0..count {
-            redials.push(Redial {
+            self.redials.push(Redial {
                 at: 0,
                 pause: FIRST_PAUSE,
                 since: None,
             })?;
         }
-        Ok(Redials { redials })
+        Ok(())
     }
 
     /// Whether the server at this place may be dialed now.

@@ -5,7 +5,7 @@ use crate::runs::{Ran, Run, cost_of};
 use bytes::Bytes;
 use hub_core::HubFault;
 use route_frames::{Body, Numbered, RouteConnect, RouteFrame, RouteInfo, RouteLine, Unjoined};
-use route_session::SessionId;
+use route_session::{SessionFault, SessionId};
 use server_calls::{HubCalls, ServerCalls};
 use std::alloc::Global;
 use std::sync::Wait;
@@ -24,23 +24,17 @@ pub(crate) enum Stage {
 }
 
 /// What a route was told to send, and with whom its session is kept now.
-#[derive(Drop)]
+#[derive(Clone, Copy)]
 pub(crate) struct Greeted {
     pub peer: usize,
     pub answer: Option<RouteConnect>,
 }
 
 /// What one step of a route came to.
+#[derive(Clone, Copy)]
 pub(crate) enum Stepped {
     Ran(Run),
     Greeted(Greeted),
-}
-
-/// Why there is no frame to be taken.
-enum Missing {
-    Waits,
-    Short,
-    Refused,
 }
 
 /// What has become of a frame that was to be received.
@@ -73,6 +67,34 @@ fn end_of<F: Drop>(fault: Failure<F>) -> Ran {
         Failure::OutOfMemory => Ran::Short,
         Failure::Refused(_) => Ran::Refused,
     }
+}
+
+/// The session ends, where it stands.
+pub(crate) fn cut<C: ServerCalls, R: Wait>(rt: &R, node: C, session: SessionId) {
+    let mut hub = node.hub(rt);
+    hub.cut(session);
+}
+
+/// What the server that was dialed and has told who it is is told back.
+fn answer_to<C: ServerCalls, R: Wait>(
+    rt: &R,
+    node: C,
+    session: SessionId,
+    info: &RouteInfo,
+) -> Result<RouteConnect, Failure<SessionFault>> {
+    let mut hub = node.hub(rt);
+    hub.info(session, info)
+}
+
+/// The server that has dialed has told who it is.
+fn connect<C: ServerCalls, R: Wait>(
+    rt: &R,
+    node: C,
+    session: SessionId,
+    connect: &RouteConnect,
+) -> Result<(), Failure<SessionFault>> {
+    let mut hub = node.hub(rt);
+    hub.connect(session, connect)
 }
 
 /// As how many bytes a message counts; anything else counts as none.
@@ -142,50 +164,50 @@ impl RouteLink {
         }
     }
 
-    /// The next line, which is used up once it was read.
-    fn next_line(&mut self) -> Result<RouteLine, Missing> {
+    /// The next line, which is used up once it was read; where there is none, what a run comes to for that.
+    fn next_line(&mut self) -> Result<RouteLine, Ran> {
         let (size, line) = match self.cutter.peek() {
-            Ok(None) => return Err(Missing::Waits),
+            Ok(None) => return Err(Ran::Waits),
             Ok(Some(Piece::Line(line))) => match RouteLine::read(self.alloc, line) {
                 Ok(read) => (line.len(), read),
-                Err(Failure::OutOfMemory) => return Err(Missing::Short),
-                Err(Failure::Refused(_)) => return Err(Missing::Refused),
+                Err(Failure::OutOfMemory) => return Err(Ran::Short),
+                Err(Failure::Refused(_)) => return Err(Ran::Refused),
             },
-            Ok(Some(Piece::Payload(_))) | Err(_) => return Err(Missing::Refused),
+            Ok(Some(Piece::Payload(_))) | Err(_) => return Err(Ran::Refused),
         };
         self.cutter.use_up(size);
         Ok(line)
     }
 
     /// The payload of the line that was read.
-    fn next_payload(&mut self) -> Result<Bytes, Missing> {
+    fn next_payload(&mut self) -> Result<Bytes, Ran> {
         let (size, payload) = match self.cutter.peek() {
-            Ok(None) => return Err(Missing::Waits),
+            Ok(None) => return Err(Ran::Waits),
             Ok(Some(Piece::Payload(payload))) => {
                 match Bytes::copy_from_slice(self.alloc, payload) {
                     Ok(copy) => (payload.len(), copy),
-                    Err(_) => return Err(Missing::Short),
+                    Err(_) => return Err(Ran::Short),
                 }
             }
-            Ok(Some(Piece::Line(_))) | Err(_) => return Err(Missing::Refused),
+            Ok(Some(Piece::Line(_))) | Err(_) => return Err(Ran::Refused),
         };
         self.cutter.use_up(size);
         Ok(payload)
     }
 
     /// A payload of so many bytes has to come.
-    fn expect(&mut self, size: u64) -> Result<(), Missing> {
+    fn expect(&mut self, size: u64) -> Result<(), Ran> {
         if !self.cutter.after_line() {
-            return Err(Missing::Refused);
+            return Err(Ran::Refused);
         }
         match self.cutter.expect(size) {
             Ok(()) => Ok(()),
-            Err(_) => Err(Missing::Refused),
+            Err(_) => Err(Ran::Refused),
         }
     }
 
     /// Reads the next line, and announces its payload.
-    fn begin_frame(&mut self) -> Result<(), Missing> {
+    fn begin_frame(&mut self) -> Result<(), Ran> {
         let line = self.next_line()?;
         match line.payload_size() {
             None => {
@@ -200,22 +222,22 @@ impl RouteLink {
     }
 
     /// Joins a line and its payload.
-    fn join(&mut self, line: RouteLine, payload: Bytes) -> Result<(), Missing> {
+    fn join(&mut self, line: RouteLine, payload: Bytes) -> Result<(), Ran> {
         match line.into_frame(self.alloc, payload) {
             Ok(frame) => {
                 put(&mut self.ahead, Some(frame));
                 Ok(())
             }
-            Err(Unjoined::Refused(_)) => Err(Missing::Refused),
+            Err(Unjoined::Refused(_)) => Err(Ran::Refused),
             Err(Unjoined::OutOfMemory { line, payload }) => {
                 put(&mut self.unjoined, Some((line, payload)));
-                Err(Missing::Short)
+                Err(Ran::Short)
             }
         }
     }
 
     /// Goes on with the frame that is to be taken next.
-    fn read_part(&mut self) -> Result<(), Missing> {
+    fn read_part(&mut self) -> Result<(), Ran> {
         if let Some((line, payload)) = self.unjoined.take() {
             return self.join(line, payload);
         }
@@ -225,7 +247,7 @@ impl RouteLink {
         let payload = self.next_payload()?;
         match self.line.take() {
             Some(line) => self.join(line, payload),
-            None => Err(Missing::Refused),
+            None => Err(Ran::Refused),
         }
     }
 
@@ -237,9 +259,7 @@ impl RouteLink {
             }
             match self.read_part() {
                 Ok(()) => {}
-                Err(Missing::Waits) => return Some(Ran::Waits),
-                Err(Missing::Short) => return Some(Ran::Short),
-                Err(Missing::Refused) => return Some(Ran::Refused),
+                Err(end) => return Some(end),
             }
         }
         self.ahead.is_none().then_some(Ran::Goes)
@@ -281,23 +301,17 @@ impl RouteLink {
         let Stage::Dialed(peer) = self.stage else {
             return Stepped::Ran(Run::of(Ran::Refused));
         };
-        let mut hub = node.hub(rt);
-        let done = hub.info(self.session, &info);
-        drop(hub);
-        match done {
-            Ok(answer) => {
-                put(&mut self.ahead, None);
-                self.stage = Stage::Kept {
-                    peer,
-                    inc: info.inc(),
-                };
-                Stepped::Greeted(Greeted {
-                    peer,
-                    answer: Some(answer),
-                })
-            }
+        match answer_to(rt, node, self.session, &info) {
+            Ok(answer) => self.keep(peer, info.inc(), Some(answer)),
             Err(fault) => Stepped::Ran(Run::of(end_of(fault))),
         }
+    }
+
+    /// The session is kept with the server at this place, in that life.
+    fn keep(&mut self, peer: usize, inc: Incarnation, answer: Option<RouteConnect>) -> Stepped {
+        put(&mut self.ahead, None);
+        self.stage = Stage::Kept { peer, inc };
+        Stepped::Greeted(Greeted { peer, answer })
     }
 
     /// The server that dialed has told who it is.
@@ -306,23 +320,13 @@ impl RouteLink {
         rt: &R,
         node: C,
         life: &Life,
-        connect: RouteConnect,
+        told: RouteConnect,
     ) -> Stepped {
-        let Some(peer) = life.place(connect.server_name()) else {
+        let Some(peer) = life.place(told.server_name()) else {
             return Stepped::Ran(Run::of(Ran::Refused));
         };
-        let mut hub = node.hub(rt);
-        let done = hub.connect(self.session, &connect);
-        drop(hub);
-        match done {
-            Ok(()) => {
-                put(&mut self.ahead, None);
-                self.stage = Stage::Kept {
-                    peer,
-                    inc: connect.inc(),
-                };
-                Stepped::Greeted(Greeted { peer, answer: None })
-            }
+        match connect(rt, node, self.session, &told) {
+            Ok(()) => self.keep(peer, told.inc(), None),
             Err(fault) => Stepped::Ran(Run::of(end_of(fault))),
         }
     }
@@ -330,9 +334,16 @@ impl RouteLink {
     /// Takes numbered frames, at most a window.
     fn receive<C: ServerCalls, R: Wait>(&mut self, rt: &R, node: C, life: &Life) -> Run {
         let mut hub = node.hub(rt);
+        let run = self.receive_all(&mut hub, life);
+        hub.push_jobs(rt);
+        run
+    }
+
+    /// The same of a hub that is held, which hands no jobs to the shards yet.
+    fn receive_all<H: HubCalls>(&mut self, hub: &mut H, life: &Life) -> Run {
         let mut run = Run::of(Ran::Goes);
         for _frame in 0..WINDOW {
-            match self.receive_next(&mut hub, life) {
+            match self.receive_next(hub, life) {
                 Heard::Done(bytes) => run.count(bytes),
                 Heard::Last(bytes) => {
                     run.count(bytes);
@@ -345,7 +356,6 @@ impl RouteLink {
                 }
             }
         }
-        hub.push_jobs(rt);
         run
     }
 

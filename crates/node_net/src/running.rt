@@ -6,6 +6,7 @@ use crate::faults::AddFault;
 use crate::limits::{ACCEPTS, EVENTS, RETRY};
 use crate::peers::Redials;
 use crate::server::{Server, Side};
+use mio::event::Event as Ready;
 use mio::net::{TcpListener, TcpStream};
 use mio::{Events, Interest, Poll, Token};
 use server_calls::ServerCalls;
@@ -103,23 +104,27 @@ fn register(poll: &Poll, clients: &mut TcpListener, routes: &mut TcpListener) ->
 }
 
 impl Rounds {
-    fn new(alloc: Global, start: Instant, sockets: Sockets, count: usize) -> io::Result<Rounds> {
-        let redials = Redials::new(alloc, count)?;
-        let ready = Vec::with_capacity(alloc, EVENTS)?;
+    fn new(alloc: Global, start: Instant, sockets: Sockets) -> Rounds {
         let Sockets {
             poll,
             clients,
             routes,
         } = sockets;
-        Ok(Rounds {
+        Rounds {
             start,
             poll,
             clients: Door::new(clients, Side::Client),
             routes: Door::new(routes, Side::Accepted),
-            redials,
-            ready,
+            redials: Redials::new(alloc),
+            ready: Vec::new(alloc),
             has_failed: false,
-        })
+        }
+    }
+
+    /// Makes room for what is ready in a turn, and for so many servers, which may all be dialed at once.
+    fn reserve(&mut self, count: usize) -> Result<(), AllocError> {
+        self.ready.reserve(EVENTS)?;
+        self.redials.start(count)
     }
 
     /// Milliseconds since the start.
@@ -174,7 +179,7 @@ impl<C: ServerCalls> Server<TcpStream, C> {
     ) -> io::Result<()> {
         self.connections.events.set_filter(log.filter());
         register(&sockets.poll, &mut sockets.clients, &mut sockets.routes)?;
-        let mut rounds = Rounds::new(self.alloc, Instant::now(rt)?, sockets, addresses.len())?;
+        let mut rounds = Rounds::new(self.alloc, Instant::now(rt)?, sockets);
         self.run_rounds(rt, &mut rounds, addresses, company, log)
     }
 
@@ -187,6 +192,7 @@ impl<C: ServerCalls> Server<TcpStream, C> {
         company: &Company,
         log: &L,
     ) -> io::Result<()> {
+        rounds.reserve(addresses.len())?;
         let mut events = Events::with_capacity(self.alloc, EVENTS)?;
         self.go_round(rt, rounds, &mut events, addresses, company, log)
     }
@@ -284,21 +290,36 @@ impl<C: ServerCalls> Server<TcpStream, C> {
                 return false;
             }
             match door.accept() {
-                Accepted::Stream(stream) => {
-                    if self.take(rt, poll, stream, door.side) && door.is_for_clients() {
-                        company.take();
-                    }
-                }
+                Accepted::Stream(stream) => self.take_in(rt, poll, &*door, company, stream),
                 Accepted::Nothing => door.has_more = false,
                 Accepted::Failed(cause) => {
-                    if !had_failed {
-                        self.tell_refused(door.side, RefusalCause::System(cause));
-                    }
+                    self.tell_failed(&*door, cause, had_failed);
                     return true;
                 }
             }
         }
         false
+    }
+
+    /// Takes a stream that came in here. A client is counted.
+    fn take_in<R: Wait>(
+        &mut self,
+        rt: &R,
+        poll: &Poll,
+        door: &Door,
+        company: &Company,
+        stream: TcpStream,
+    ) {
+        if self.take(rt, poll, stream, door.side) && door.is_for_clients() {
+            company.take();
+        }
+    }
+
+    /// Accepting failed, which is told where it had not failed before.
+    fn tell_failed(&mut self, door: &Door, cause: SystemCause, had_failed: bool) {
+        if !had_failed {
+            self.tell_refused(door.side, RefusalCause::System(cause));
+        }
     }
 
     /// A connection was not taken for this cause.
@@ -379,23 +400,39 @@ impl<C: ServerCalls> Server<TcpStream, C> {
     /// Notes which connections are ready.
     fn note_events(&mut self, events: &Events, rounds: &mut Rounds) -> io::Result<()> {
         for event in events {
-            let token = event.token();
-            if token == CLIENTS {
-                rounds.clients.has_more = true;
-            } else if token == ROUTES {
-                rounds.routes.has_more = true;
-            } else if token != WAKER {
-                let has_closed = event.is_read_closed() || event.is_error();
-                if has_closed {
-                    self.connections.hang_up(token.0);
-                }
-                if has_closed || event.is_readable() {
-                    rounds.note(token.0)?;
-                } else {
-                    self.connections.await_bytes(token.0);
-                }
-            }
+            self.note_event(event, rounds)?;
         }
+        Ok(())
+    }
+
+    /// Notes which connection is ready, or where connections come in.
+    fn note_event(&mut self, event: &Ready, rounds: &mut Rounds) -> Result<(), AllocError> {
+        let token = event.token();
+        if token == CLIENTS {
+            rounds.clients.has_more = true;
+        } else if token == ROUTES {
+            rounds.routes.has_more = true;
+        } else if token != WAKER {
+            return self.note_ready(event, token.0, rounds);
+        }
+        Ok(())
+    }
+
+    /// Notes that a connection is ready.
+    fn note_ready(
+        &mut self,
+        event: &Ready,
+        key: usize,
+        rounds: &mut Rounds,
+    ) -> Result<(), AllocError> {
+        let has_closed = event.is_read_closed() || event.is_error();
+        if has_closed {
+            self.connections.hang_up(key);
+        }
+        if has_closed || event.is_readable() {
+            return rounds.note(key);
+        }
+        self.connections.await_bytes(key);
         Ok(())
     }
 }

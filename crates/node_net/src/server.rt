@@ -3,7 +3,6 @@
 ghost use Rattle.std.specs.Prelude.{◌≡◌, ◌≤◌, ◌+◌, ◌-◌, ◌%◌, None, OnOk, OnErr};
 ghost use Rattle.slab.specs.Slab.{Updates};
 
-use crate::calls::{accept, cut, dial};
 use crate::client_link::ClientLink;
 use crate::clients::Clients;
 use crate::connection::{Cause, Connection, Link};
@@ -11,20 +10,20 @@ use crate::connections::Connections;
 use crate::faults::AddFault;
 use crate::limits::GREETING;
 use crate::peers::Peers;
-use crate::route_link::{RouteLink, Stage};
+use crate::route_link::{RouteLink, Stage, cut};
 use crate::taken::Taken;
 use client_conn::Refusal;
 use net_streams::Stream;
 use rand_core::SeedableRng;
 use rand_pcg::Pcg64;
-use route_frames::{RouteFrame, encode};
-use route_session::SessionId;
-use server_calls::ServerCalls;
+use route_frames::{RouteFrame, RouteInfo, encode};
+use route_session::{SessionFault, SessionId};
+use server_calls::{HubCalls, ServerCalls};
 use server_events::{Event, Events, PeerCause};
 use shard_core::Recipients;
 use std::alloc::{AllocError, Global};
 use std::sync::Wait;
-use subj::{ConnId, NodeId, Server as Life};
+use subj::{ConnId, Failure, NodeId, Server as Life};
 
 /// Who is at the other end of a stream.
 #[derive(Clone, Copy)]
@@ -59,6 +58,25 @@ fn attach<C: ServerCalls, R: Wait>(
         None => Err(AddFault::Client(Refusal::Other)),
         Some(mut shard) => Ok(ClientLink::attach(alloc, &mut shard, life, port)?),
     }
+}
+
+/// A session with a server that has dialed, and what that is told first.
+fn accept<C: ServerCalls, R: Wait>(
+    rt: &R,
+    node: C,
+) -> Result<(SessionId, RouteInfo), Failure<SessionFault>> {
+    let mut hub = node.hub(rt);
+    hub.accept()
+}
+
+/// A session with the server at this place, which was dialed.
+fn dial<C: ServerCalls, R: Wait>(
+    rt: &R,
+    node: C,
+    peer: usize,
+) -> Result<SessionId, Failure<SessionFault>> {
+    let mut hub = node.hub(rt);
+    hub.dial(peer)
 }
 
 /// What is told of another server whose route ended for this cause; without one its connection broke.
@@ -163,12 +181,17 @@ impl<S: Stream, C: ServerCalls> Server<S, C> {
     /// Takes a stream, with this end at its other side, and answers its key. What a client or a server that
     /// dialed is told first goes out with the next turn. A stream that is refused is closed. May wait.
     pub fn add<R: Wait>(&mut self, rt: &R, stream: S, side: Side) -> Result<usize, AddFault> {
-        self.connections.reserve()?;
-        self.clients.reserve()?;
+        self.reserve()?;
         let connection = self.connection(rt, stream, side)?;
         let key = self.connections.add(connection)?;
         self.note_added(key, side);
         Ok(key)
+    }
+
+    /// Makes room for one connection more, wherever it may stand.
+    fn reserve(&mut self) -> Result<(), AllocError> {
+        self.connections.reserve()?;
+        self.clients.reserve()
     }
 
     /// Notes what leads to a connection that was taken.
@@ -187,58 +210,65 @@ impl<S: Stream, C: ServerCalls> Server<S, C> {
         self.connections.table.get(key)?.client()
     }
 
-    /// The connection of a stream.
+    /// The connection of a stream. A route is to tell who it is before [`GREETING`] has passed.
     fn connection<R: Wait>(
         &mut self,
         rt: &R,
         stream: S,
         side: Side,
     ) -> Result<Connection<S>, AddFault> {
-        match side {
-            Side::Client => {
-                let link = self.client(rt)?;
-                Ok(Connection::new(self.alloc, stream, Link::Client(link)))
-            }
-            Side::Accepted => self.accepted_connection(rt, stream),
-            Side::Dialed(peer) => {
-                let session = dial(rt, self.node, peer)?;
-                Ok(self.route(session, Stage::Dialed(peer), stream))
-            }
-        }
-    }
-
-    /// The next client.
-    fn client<R: Wait>(&mut self, rt: &R) -> Result<ClientLink, AddFault> {
-        let number = self.came.saturating_add(1);
-        let shard = shard_of_client(number, self.life.shards());
-        let link = attach(rt, self.node, self.alloc, shard, &self.life, self.port)?;
-        self.came = number;
-        Ok(link)
-    }
-
-    /// The connection of a server that has dialed.
-    fn accepted_connection<R: Wait>(
-        &mut self,
-        rt: &R,
-        stream: S,
-    ) -> Result<Connection<S>, AddFault> {
-        let (session, info) = accept(rt, self.node)?;
         self.spelt.clear();
-        if encode(&RouteFrame::Info(info), &mut self.spelt).is_err() {
-            cut(rt, self.node, session);
-            return Err(AddFault::OutOfMemory);
+        let link = self.link(rt, side)?;
+        let mut connection = Connection::new(self.alloc, stream, link);
+        if connection.is_unknown() {
+            connection.limit(self.connections.now.saturating_add(GREETING));
         }
-        let mut connection = self.route(session, Stage::Accepted, stream);
         connection.send(&self.spelt);
         Ok(connection)
     }
 
-    /// The connection of a route that is to tell who it is before [`GREETING`] has passed.
-    fn route(&self, session: SessionId, stage: Stage, stream: S) -> Connection<S> {
-        let link = Link::Route(RouteLink::new(self.alloc, session, stage));
-        let mut connection = Connection::new(self.alloc, stream, link);
-        connection.limit(self.connections.now.saturating_add(GREETING));
-        connection
+    /// What is known of whoever is at the other end. What that is told first is spelt.
+    fn link<R: Wait>(&mut self, rt: &R, side: Side) -> Result<Link, AddFault> {
+        match side {
+            Side::Client => self.client(rt),
+            Side::Accepted => self.accepted(rt),
+            Side::Dialed(peer) => self.dialed(rt, peer),
+        }
+    }
+
+    /// The next client, who is told first by its shard.
+    fn client<R: Wait>(&mut self, rt: &R) -> Result<Link, AddFault> {
+        let number = self.came.saturating_add(1);
+        let shard = shard_of_client(number, self.life.shards());
+        let link = attach(rt, self.node, self.alloc, shard, &self.life, self.port)?;
+        self.came = number;
+        Ok(Link::Client(link))
+    }
+
+    /// A server that has dialed.
+    fn accepted<R: Wait>(&mut self, rt: &R) -> Result<Link, AddFault> {
+        let (session, info) = accept(rt, self.node)?;
+        if self.spell_info(info).is_err() {
+            cut(rt, self.node, session);
+            return Err(AddFault::OutOfMemory);
+        }
+        Ok(self.route(session, Stage::Accepted))
+    }
+
+    /// Spells what a server that has dialed is told first.
+    fn spell_info(&mut self, info: RouteInfo) -> Result<(), AllocError> {
+        encode(&RouteFrame::Info(info), &mut self.spelt)
+    }
+
+    /// The server at this place, which is dialed.
+    fn dialed<R: Wait>(&mut self, rt: &R, peer: usize) -> Result<Link, AddFault> {
+        let session = dial(rt, self.node, peer)?;
+        Ok(self.route(session, Stage::Dialed(peer)))
+    }
+
+    /// A route of which nothing was read.
+    fn route(&self, session: SessionId, stage: Stage) -> Link {
+        Link::Route(RouteLink::new(self.alloc, session, stage))
     }
 
     /// Takes a connection out: a client's is detached, the session of a route is cut. No other connection

@@ -1,13 +1,12 @@
 //! A turn of the loop: what ready connections ask is done, what was put is written, and connections are closed that go.
 
-use crate::calls::push_jobs;
 use crate::connection::Cause;
 use crate::route_link::{Greeted, Stepped};
 use crate::runs::{Ran, Run, TAKEN_EARLY};
 use crate::server::Server;
 use net_streams::Stream;
 use route_frames::{RouteConnect, RouteFrame, encode};
-use server_calls::{NextJob, ServerCalls, ShardCalls};
+use server_calls::{HubCalls, NextJob, ServerCalls, ShardCalls};
 use server_events::Event;
 use std::alloc::AllocError;
 use std::sync::Wait;
@@ -56,6 +55,12 @@ fn work_shard<C: ServerCalls, R: Wait>(rt: &R, node: C, number: u64) -> Option<W
         None => None,
         Some(mut shard) => Some(work_jobs(rt, &mut shard)),
     }
+}
+
+/// Hands the jobs to the shards that some of these do not have.
+fn push_jobs<C: ServerCalls, R: Wait>(rt: &R, node: C) {
+    let mut hub = node.hub(rt);
+    hub.push_jobs(rt);
 }
 
 /// Why a client was shut in a run: for what it asked, where it was told so, and else since it does not read.

@@ -13,6 +13,9 @@ use std::mem;
 /// that large buffers don't go around for little.
 const HANDED_OVER: usize = 4_096;
 
+/// The most bytes of room that stay while nothing waits.
+const KEPT_BYTES: usize = 1_024;
+
 /// Puts a line or a payload with its CR LF behind the bytes that are there, where there is room for it.
 fn append_ended(bytes: &[u8], out: &mut Vec<u8>)
     requires { vec_len out.old + length bytes.now + 2 ≤ vec_capacity out.old }
@@ -137,6 +140,15 @@ impl ByteQueue {
     {
         self.bytes.clear();
         self.start = 0;
+    }
+
+    /// Gives back the memory of a large buffer, where there are no bytes.
+    pub(crate) fn rest(&mut self)
+        ensures { self.new ≡ self.old }
+    {
+        if self.bytes.is_empty() && self.bytes.capacity() > KEPT_BYTES {
+            self.bytes.shrink_to_fit();
+        }
     }
 
     /// Hands all bytes over in their buffer, in place of one without bytes, whose memory is used from here

@@ -1,6 +1,6 @@
 //! Entries in order, with the bytes of small ones in one buffer.
 
-ghost use Rattle.std.specs.Prelude.{◌≡◌, ℕ, ◌+◌, ◌-◌, ◌≤◌, ◌<◌, ◌^◌, List, Some, ◌++◌, ◌∷◌, [], true, false, filter, length, take, drop, IfOk, OnOk, OnErr};
+ghost use Rattle.std.specs.Prelude.{◌≡◌, ℕ, ◌+◌, ◌-◌, ◌≤◌, ◌<◌, ◌^◌, List, Some, ◌++◌, ◌∷◌, [], true, false, filter, length, min, take, drop, IfOk, OnOk, OnErr};
 ghost use Rattle.outbox.specs.Bytes.{bytes_of};
 ghost use Rattle.outbox.specs.Views.{size_of, bytes_of_all, reply_entry};
 ghost use Rattle.std.specs.VecDeque.{deque_capacity};
@@ -14,6 +14,9 @@ use bytes::Bytes;
 use std::alloc::{AllocError, Global};
 use std::collections::VecDeque;
 use std::marker::Model;
+
+/// How many places stay at most while nothing waits.
+const KEPT_PLACES: usize = 8;
 
 /// The most bytes of an entry that is copied. Larger ones stay as they came, and share their payload.
 const COPIED: usize = 4_096;
@@ -352,6 +355,15 @@ impl EntryQueue {
         self.text.move_all(out)?;
         self.kept.clear();
         Ok(())
+    }
+
+    /// Gives back the memory that many entries took and these do not need. Some places stay where there were any.
+    pub(crate) fn rest(&mut self)
+        ensures entries { self.new.entries ≡ self.old.entries }
+        ensures places { min KEPT_PLACES self.old.places ≤ self.new.places }
+    {
+        self.text.rest();
+        self.kept.shrink_to(KEPT_PLACES);
     }
 
     /// What is left of so many bytes behind those of the first entries; 0 where these have as many or more.

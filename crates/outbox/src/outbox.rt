@@ -293,7 +293,8 @@ impl Outbox {
     /// all as it was.
     ///
     /// Where all are taken, have many bytes together and no shared payload, and nothing is in `out`, the two
-    /// buffers are swapped: no byte is copied, and no memory is taken.
+    /// buffers are swapped: no byte is copied, and no memory is taken. Where nothing waits, the memory that many
+    /// entries took is given back.
     pub fn take_bytes(&mut self, count: usize, out: &mut Vec<u8>) -> Result<usize, AllocError>
         requires { self.old.next ≡ self.old.shown }
         ensures taken { IfOk result (λ taken. taken ≡ length (take count self.old.shown.entries)) }
@@ -304,6 +305,7 @@ impl Outbox {
     {
         let waiting = self.entries.len();
         if waiting == 0 {
+            self.entries.rest();
             return Ok(0);
         }
         if count >= waiting {
