@@ -3,3 +3,5 @@ pub mod Places
 pub mod Names
 pub mod Choosing
 pub mod Wanted
+pub mod Alone
+pub mod InMind

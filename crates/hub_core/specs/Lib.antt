@@ -28,6 +28,8 @@ pub mod AsLaw
 pub mod Examples
 -- what a choice finds in code, and what a publish owes by it
 pub mod Chosen
+-- what is kept in mind of a server's own interest
+pub mod InMind
 -- who serves the queue names of a publication, as it is found in code
 pub mod Serving
 -- whether a hub has nothing left to hear, and can go on

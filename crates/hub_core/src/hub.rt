@@ -1,6 +1,6 @@
 //! The hub, with all that it is called for.
 
-ghost use Rattle.std.specs.Prelude.{◌≡◌, ◌<◌, nat_le, if◌then◌else◌, ⊤, Some, None, true, false, take, length, slice_get, IfOk, OnOk, OnErr, ℕ, ◌+◌, ◌≤◌, position, [], nat_lt, unwrap_or};
+ghost use Rattle.std.specs.Prelude.{◌≡◌, ◌<◌, nat_le, if◌then◌else◌, ⊤, Some, None, true, false, take, length, slice_get, IfOk, IfSome, OnOk, OnErr, ℕ, ◌+◌, ◌≤◌, position, [], nat_lt, unwrap_or};
 ghost use Rattle.std.specs.Option.{option_or, option_copied};
 ghost use Rattle.subj.specs.Answers.{IsAnswered, IsDecided};
 ghost use Rattle.subj.specs.declared.limits.TheConstants.{MAX_COUNTER, MAX_SHARDS, MAX_QUEUE_NAMES};
@@ -19,26 +19,27 @@ ghost use Rattle.hub_core.specs.Chosen.{publication, IsPlanOf, turn_refusal};
 ghost use Rattle.hub_core.specs.Telling.{collect_refusal, collect_frames};
 ghost use Rattle.claim_race.specs.Race.{busy_of, is_behind};
 ghost use Rattle.hub_core.specs.Choice.{queue_names as wanted_names};
-ghost use Rattle.hub_core.specs.Serving.{IsServed};
+ghost use Rattle.hub_core.specs.Serving.{IsServed, ServesAlone};
 ghost use Rattle.interest.specs.Told.{counts_told};
 ghost use Rattle.interest.specs.Recounts.{IsPlanOf as IsPlanOfCounts, IsRecountOf};
 
 use crate::answers::{Received, Told};
 use crate::collects::{CollectPlan, cut_slow, frames_of_changes, slow_peers};
 use crate::faults::HubFault;
+use crate::own_interest::OwnInterest;
 use crate::peers::{
     Peer, address_fault, frame_to, is_message, peer_place, put_all, snapshot_of, unknown_peers,
 };
 use crate::publishing::{
-    Outgoing, PublishPlan, frames_for, gather_names, is_name_wanted, own_job, servers_for,
+    Outgoing, PublishPlan, frames_for, gather_names, is_alone, is_name_wanted, own_job, servers_for,
 };
-use interest::{DeltaPlan, FoundNames, Local, Recount};
+use interest::{DeltaPlan, FoundNames, Recount};
 use route_values::{Body, Numbered};
 use std::alloc::{AllocError, Global};
 use std::marker::Model;
 use subj::{
     Busy, ConnId, Delta, Failure, Finished, Incarnation, Job, MAX_COUNTER, NodeId, Pub, PubId,
-    Server, Subject, Turn, WINDOW,
+    QueueNames, Server, Subject, Turn, WINDOW,
 };
 
 /// The hub of a server. (Profile.)
@@ -55,7 +56,7 @@ pub struct Hub {
     pub(crate) issued: Turn,
     pub(crate) published: u64,
     pub(crate) changed: u64,
-    pub(crate) counts: Local,
+    pub(crate) counts: OwnInterest,
     pub(crate) peers: Vec<Peer>,
 }
 
@@ -78,7 +79,7 @@ impl Hub {
     {
         let _me = server.me();
         let peers = unknown_peers(alloc, server.names().len())?;
-        let counts = Local::new(alloc)?;
+        let counts = OwnInterest::new(alloc)?;
         Ok(Hub {
             alloc,
             server,
@@ -114,7 +115,7 @@ impl Hub {
         requires { is_peer self.now.server place ≡ true }
         ensures { IfOk result (λ snapshot. snapshot ≡ snapshot_to self.now.server self.now.state place inc) }
     {
-        let keys = snapshot_of(self.alloc, &self.counts)?;
+        let keys = snapshot_of(self.alloc, self.counts.counts())?;
         let body = Body::Snapshot(keys);
         Ok(frame_to(&self.server, place, inc, self.changed, body))
     }
@@ -303,14 +304,15 @@ impl Hub {
     }
 
     /// Issues a publication: it takes the next number and the next turn, and the frames that are owed wait
-    /// for their peers. Required: the frames are those of a publication that is not refused. Takes no
-    /// memory.
+    /// for their peers. Required: the frames are those of a publication that is not refused. Never wants for
+    /// memory; where there is some, the queue names of a subject that is published again are kept in mind.
     pub fn commit_publish(&mut self, frames: Vec<Numbered>)
         requires { IsPlanned self.old.server self.old.state frames.items }
         ensures { self.new ≡ record self.old { state = after_frames self.old.server self.old.state frames.items } }
     {
         self.issued = self.issued.next().unwrap();
         self.published += 1;
+        self.counts.learn();
         put_all(&self.server, &mut self.peers, frames);
     }
 }
@@ -361,7 +363,13 @@ impl Hub {
         }
         let subject = said.message.subject();
         let mut names = FoundNames::new();
-        match gather_names(&self.server, &self.counts, &self.peers, subject, &mut names) {
+        match gather_names(
+            &self.server,
+            self.counts.counts(),
+            &self.peers,
+            subject,
+            &mut names,
+        ) {
             Ok(()) => None,
             Err(_) => Some(HubFault::TooManyQueues),
         }
@@ -471,13 +479,14 @@ impl Hub {
     {
         let subject = said.message.subject();
         let servers = servers_for(
+            self.alloc,
             &self.server,
-            &self.counts,
+            self.counts.counts(),
             &self.peers,
             subject,
             word,
             names,
-        );
+        )?;
         self.plan_by(turn, conn, said, word, Some(names), &servers)
     }
 
@@ -496,7 +505,13 @@ impl Hub {
     {
         let subject = said.message.subject();
         let mut names = FoundNames::new();
-        match gather_names(&self.server, &self.counts, &self.peers, subject, &mut names) {
+        match gather_names(
+            &self.server,
+            self.counts.counts(),
+            &self.peers,
+            subject,
+            &mut names,
+        ) {
             Ok(()) => self.plan_split(turn, conn, said, word, &names),
             Err(_) => Err(Failure::Refused(HubFault::TooManyQueues)),
         }
@@ -518,11 +533,74 @@ impl Hub {
         self.plan_by(turn, conn, said, word, None, &[])
     }
 
+    /// The queue names that want the subject, where they are in mind and no peer is eligible.
+    fn names_alone(&self, subject: &Subject) -> Option<&QueueNames>
+        ensures { IfSome result (λ names. ServesAlone self.now.server self.now.state subject.now names.now) }
+    {
+        if !is_alone(&self.server, &self.peers) {
+            return None;
+        }
+        self.counts.names_in_mind(subject)
+    }
+
+    /// What a publication owes that has this turn, where no peer is eligible: the server serves all of the queue names
+    /// itself.
+    fn plan_alone(
+        &self,
+        turn: Turn,
+        conn: ConnId,
+        said: &Pub,
+        names: &QueueNames,
+    ) -> Result<PublishPlan, Failure<HubFault>>
+        requires turn { turn ≡ self.now.state.issued + 1 }
+        requires number { self.now.state.published < MAX_COUNTER }
+        requires names { ServesAlone self.now.server self.now.state said.now.message.subject names.now }
+        ensures { (word : ℕ) → IsAnswered None (λ plan. IsPlanOf self.now.server self.now.state (publication conn said.now word) plan.job plan.frames.items) ⊤ result }
+    {
+        let queues = names.try_clone()?;
+        let message = said.message.try_clone()?;
+        let job = Job {
+            turn,
+            id: self.next_id(),
+            message,
+            publisher: Some(conn),
+            echo: said.echo,
+            queues,
+        };
+        Ok(PublishPlan {
+            job,
+            frames: Vec::new(self.alloc),
+        })
+    }
+
     /// Whether some queue name wants the subject.
     fn is_named(&self, subject: &Subject) -> bool
         ensures { result ≡ false → wanted_names self.now.server self.now.state subject.now ≡ [] }
     {
         is_name_wanted(&self.server, &self.counts, &self.peers, subject)
+    }
+
+    /// What a publication owes that has this turn: from the names in mind, or by a look at who wants it. Refused as
+    /// [`Hub::plan_named`] is.
+    fn plan_at(
+        &self,
+        turn: Turn,
+        conn: ConnId,
+        said: &Pub,
+        word: u64,
+    ) -> Result<PublishPlan, Failure<HubFault>>
+        requires turn { turn ≡ self.now.state.issued + 1 }
+        requires number { self.now.state.published < MAX_COUNTER }
+        ensures { IsAnswered (if nat_lt MAX_QUEUE_NAMES (length (wanted_names self.now.server self.now.state said.now.message.subject)) then Some TooManyQueues else None) (λ plan. IsPlanOf self.now.server self.now.state (publication conn said.now word) plan.job plan.frames.items) ⊤ result }
+    {
+        let subject = said.message.subject();
+        if let Some(names) = self.names_alone(subject) {
+            return self.plan_alone(turn, conn, said, names);
+        }
+        if self.is_named(subject) {
+            return self.plan_named(turn, conn, said, word);
+        }
+        self.plan_unnamed(turn, conn, said, word)
     }
 
     /// What a publish of the connection owes, where the word decides who serves each queue name. It changes
@@ -544,10 +622,7 @@ impl Hub {
             Ok(turn) => turn,
             Err(fault) => return Err(Failure::Refused(fault)),
         };
-        if self.is_named(said.message.subject()) {
-            return self.plan_named(turn, conn, said, word);
-        }
-        self.plan_unnamed(turn, conn, said, word)
+        self.plan_at(turn, conn, said, word)
     }
 
     /// [`Hub::plan_publish`] and [`Hub::commit_publish`] together: the publication takes the next number
@@ -574,7 +649,7 @@ impl Hub {
     pub fn collect_fault(&self, deltas: &[Delta]) -> Option<HubFault>
         ensures { result ≡ collect_refusal self.now.state deltas.now }
     {
-        match self.counts.changes_of(deltas) {
+        match self.counts.counts().changes_of(deltas) {
             None => Some(HubFault::BadInterest),
             Some(count) => (count > MAX_COUNTER - self.changed).then_some(HubFault::Spent),
         }
@@ -607,7 +682,7 @@ impl Hub {
     pub fn plan_collect(&self, deltas: &[Delta]) -> Result<CollectPlan, Failure<HubFault>>
         ensures { IsAnswered (collect_refusal self.now.state deltas.now) (λ plan. IsTellingOf self.now deltas.now plan.recount plan.changes.items plan.frames.items plan.cut.items) ⊤ result }
     {
-        let plan = match self.counts.plan(deltas) {
+        let plan = match self.counts.counts().plan(deltas) {
             Ok(Some(plan)) => plan,
             Ok(None) => return Err(Failure::Refused(HubFault::BadInterest)),
             Err(_) => match self.collect_fault(deltas) {

@@ -10,7 +10,7 @@
 //!
 //! In reading order: `hub` has the state, and says why a call is refused (`faults`); `publishing` is what a publish owes, with the choice
 //! of who serves each queue name, and `collects` what peers are told of interest. `peers` keeps what is known of each: what a frame of a peer
-//! does, the snapshot for one that comes up, and the frames that wait. `answers` is what the calls give. `laws` and `examples` are what
+//! does, the snapshot for one that comes up, and the frames that wait. `own_interest` is the server's own, with the queue names in mind that want a hot subject. `answers` is what the calls give. `laws` and `examples` are what
 //! holds of all this.
 #![tactic(auto)]
 
@@ -20,6 +20,7 @@ mod examples;
 mod faults;
 mod hub;
 mod laws;
+mod own_interest;
 mod peers;
 mod publishing;
 mod settled;

@@ -9,10 +9,12 @@ ghost use Rattle.hub_core.specs.State.{Peer as KnownPeer};
 ghost use Rattle.hub_core.specs.Choice.{is_eligible as eligible, weight_at as weighs, weights_from, names_from};
 ghost use Rattle.hub_core.specs.Publishing.{is_owed as owed};
 ghost use Rattle.hub_core.specs.Chosen.{IsSplit, chosen_for, frame_at, sent_from, AreFound, wants_name_from};
+ghost use Rattle.hub_core.specs.Serving.{is_alone_from};
 ghost use Rattle.subj.specs.QueueNames.{is_named, are_queue_names};
 ghost use Rattle.pick.specs.Pick.{pick_of};
 ghost use Rattle.interest.specs.Matches.{has_queue_match, names_in, AreGathered};
 
+use crate::own_interest::OwnInterest;
 use crate::peers::{Peer, frame_to};
 use interest::{FoundNames, Local, TooManyNames};
 use pick::choose;
@@ -163,14 +165,23 @@ pub(crate) fn own_job(
 /// The most servers, as the length of a list.
 const SERVERS: usize = MAX_NODES as usize;
 
-/// The most queue names of a publication, as the length of a list.
-const NAMES: usize = MAX_QUEUE_NAMES as usize;
-
 /// Whether the peer at the place is up, with room for one frame more.
 pub(crate) fn is_eligible(server: &Server, place: usize, peer: &Peer) -> bool
     ensures { result ≡ eligible server.now place peer.now }
 {
     place != server.me() && (peer.up && peer.outbox.len() < ROUTE_FRAMES)
+}
+
+/// Whether no peer is eligible.
+pub(crate) fn is_alone(server: &Server, peers: &[Peer]) -> bool
+    ensures { result ≡ is_alone_from server.now 0 peers.now }
+{
+    for (place, peer) in peers.iter().enumerate() {
+        if is_eligible(server, place, peer) {
+            return false;
+        }
+    }
+    true
 }
 
 /// Whether the peer is eligible, and has a key with a queue name that matches the subject.
@@ -183,7 +194,7 @@ fn wants_name(server: &Server, place: usize, peer: &Peer, subject: &Subject) -> 
 /// Whether some queue name wants the subject: whether [`gather_names`] would find any. Takes no memory.
 pub(crate) fn is_name_wanted(
     server: &Server,
-    counts: &Local,
+    counts: &OwnInterest,
     peers: &[Peer],
     subject: &Subject,
 ) -> bool
@@ -295,27 +306,25 @@ fn server_at(
     server_for(server, counts, peers, subject, word, name?)
 }
 
-/// The servers of names, each at the place of its name.
-type Servers = [Option<NodeId>; NAMES];
-
-/// The server of each of the names, at its place. Takes no memory.
+/// The server of each of the names, at its place. Takes memory for as many as there are.
 pub(crate) fn servers_for(
+    alloc: Global,
     server: &Server,
     counts: &Local,
     peers: &[Peer],
     subject: &Subject,
     word: u64,
     names: &FoundNames<'_>,
-) -> Servers
+) -> Result<Vec<Option<NodeId>>, AllocError>
     requires { length peers.now ≡ length server.now.names }
     ensures few { length names.now ≤ MAX_QUEUE_NAMES }
-    ensures same { take (length names.now) result ≡ map (λ name. pick_of (weights_from server.now counts.now subject.now name 0 peers.now) word) names.now }
+    ensures same { IfOk result (λ servers. servers.items ≡ map (λ name. pick_of (weights_from server.now counts.now subject.now name 0 peers.now) word) names.now) }
 {
-    let mut servers = [None; NAMES];
+    let mut servers = Vec::new(alloc);
     for place in 0..names.len() {
-        servers[place] = server_at(server, counts, peers, subject, word, names.get(place));
+        servers.push(server_at(server, counts, peers, subject, word, names.get(place)))?;
     }
-    servers
+    Ok(servers)
 }
 
 /// Whether the server was chosen.
@@ -329,7 +338,7 @@ fn is_chosen(server: &Option<NodeId>, name: NodeId) -> bool
 }
 
 /// Puts a copy of the name behind the others, where it is to be put.
-fn push_copy(
+pub(crate) fn push_copy(
     alloc: Global,
     copies: &mut Vec<QueueName>,
     name: Option<&QueueName>,

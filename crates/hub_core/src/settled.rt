@@ -16,7 +16,7 @@ impl Hub {
     {
         match self.peers.get(place) {
             None => false,
-            Some(peer) => peer.is_known_as(other.server.inc(), &other.counts),
+            Some(peer) => peer.is_known_as(other.server.inc(), other.counts.counts()),
         }
     }
 
@@ -32,7 +32,13 @@ impl Hub {
         ensures { result ≡ are_few self.now.server self.now.state subject.now }
     {
         let mut names = FoundNames::new();
-        match gather_names(&self.server, &self.counts, &self.peers, subject, &mut names) {
+        match gather_names(
+            &self.server,
+            self.counts.counts(),
+            &self.peers,
+            subject,
+            &mut names,
+        ) {
             Ok(()) => true,
             Err(_) => false,
         }

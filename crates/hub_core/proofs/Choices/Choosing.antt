@@ -93,11 +93,22 @@ all_written xs ys rest items i done is none = sym (append-nil (take i xs)) ∙ a
 
 -- ---- the servers, name by name
 
-pub servers_step : {A B : Type 0} (f : A → Option B) (xs : List A) (ys : List (Option B)) (i : ℕ) (d : A) (y : Option B) → i < length xs → i < length ys → y ≡ option_and_then f (slice_get xs i) → take i ys ++ map f (drop i xs) ≡ map f xs → take (i + 1) (slice_set ys i y) ++ map f (drop (i + 1) xs) ≡ map f xs
-servers_step f xs ys i d y below room is before =
+pub servers_step : {A B : Type 0} (f : A → Option B) (xs : List A) (ys zs : List (Option B)) (i : ℕ) (d : A) (y : Option B) → i < length xs → y ≡ option_and_then f (slice_get xs i) → zs ≡ ys ++ y ∷ [] → ys ++ map f (drop i xs) ≡ map f xs → zs ++ map f (drop (i + 1) xs) ≡ map f xs
+servers_step f xs ys zs i d y below is put before =
     let value : y ≡ f (get_or xs i d) = is ∙ ap (option_and_then f) (slice_get-get_or xs i d below) in
-    set_step ys (map f (drop (i + 1) xs)) i y room
-    ∙ ap (λ l. take i ys ++ l) (ap (λ v. v ∷ map f (drop (i + 1) xs)) value ∙ sym (at_drop_more (map f) xs i d below))
+    ap (λ l. l ++ map f (drop (i + 1) xs)) put
+    ∙ append_assoc ys (y ∷ []) (map f (drop (i + 1) xs))
+    ∙ ap (λ l. ys ++ l) (ap (λ v. v ∷ map f (drop (i + 1) xs)) value ∙ sym (at_drop_more (map f) xs i d below))
+    ∙ before
+
+-- ---- the names, copied one by one
+
+pub copy_step : {A : Type 0} (xs ys zs : List A) (i : ℕ) (d : A) (x : Option A) → i < length xs → x ≡ slice_get xs i → zs ≡ ys ++ option_to_list x → ys ++ drop i xs ≡ xs → zs ++ drop (i + 1) xs ≡ xs
+copy_step xs ys zs i d x below is put before =
+    let value : option_to_list x ≡ get_or xs i d ∷ [] = ap option_to_list (is ∙ slice_get-get_or xs i d below) in
+    ap (λ l. l ++ drop (i + 1) xs) (put ∙ ap (λ l. ys ++ l) value)
+    ∙ append_assoc ys (get_or xs i d ∷ []) (drop (i + 1) xs)
+    ∙ ap (λ l. ys ++ l) (sym (at_drop_more (λ l. l) xs i d below))
     ∙ before
 
 -- ---- the names of one server

@@ -129,7 +129,7 @@ queued z true (Some name) xs = (
 )
 queued z false (Some name) xs = ((λ i. inr i), (λ x. ⊎_elim (λ (h : Here z false (Some name)). absurd (true≢false (sym h.1))) (λ (i : In z xs). i) x))
 
-from_keys : (subject z : List ℕ) (keys : List (Key × ℕ)) (xs : List (List ℕ)) → In z (names_in subject keys xs) → SomeWants subject z keys ⊎ In z xs
+pub from_keys : (subject z : List ℕ) (keys : List (Key × ℕ)) (xs : List (List ℕ)) → In z (names_in subject keys xs) → SomeWants subject z keys ⊎ In z xs
 from_keys subject z [] xs i = inr i
 from_keys subject z (entry ∷ keys) xs i =
     let matches = subject_matches entry.0.pattern subject in

@@ -2,7 +2,7 @@
 use Rattle.std.proofs.Common.{◌≡◌, ℕ, suc, ◌+◌, ◌<◌, ◌≤◌, Bool, true, false, ◌&&◌, cond, List, [], ◌∷◌, ◌++◌, length, take, drop, get_or, Option, Some, None, refl, sym, ap, ◌∙◌, arith, append_assoc, add-one}
 use Rattle.std.specs.Prelude.{map, filter, unwrap_or, not, nat_eq, nat_lt, nat_le, if◌then◌else◌}
 use Rattle.std.proofs.lemmas.Bool.Decides.{nat_tests}
-use Rattle.std.proofs.lemmas.List.{at_drop_more}
+use Rattle.std.proofs.lemmas.List.{at_drop_more, length-map, take_all}
 use Rattle.std.proofs.lemmas.Option.{slice_get-get_or}
 use Rattle.list_laws.proofs.Tests.{and_true, lt_true}
 use Rattle.subj.specs.declared.limits.TheConstants.{MAX_QUEUE_NAMES, ROUTE_FRAMES}
@@ -14,10 +14,11 @@ use Rattle.route_values.specs.Frames.{Frame}
 use Rattle.std.specs.Option.{option_or}
 use Rattle.hub_core.specs.declared.faults.HubFault.{HubFault}
 use Rattle.hub_core.specs.declared.faults.HubFault.TheVariants.{Spent, TooManyQueues}
-use Rattle.hub_core.specs.State.{Peer}
+use Rattle.hub_core.specs.State.{State, Peer}
 use Rattle.hub_core.specs.Choice.{is_eligible, names_for}
-use Rattle.hub_core.specs.Publishing.{is_owed, frames_from}
+use Rattle.hub_core.specs.Publishing.{Publication, choice_of, is_owed, frames_from}
 use Rattle.hub_core.specs.Chosen.{chosen_for, message_frame, frame_at, sent_from, IsSplit}
+use Rattle.hub_core.specs.Serving.{IsServed}
 use Rattle.hub_core.proofs.Choices.Names.{fewer}
 
 -- ---- who is eligible is up, and has room
@@ -112,6 +113,15 @@ split_is choice names servers room is rise few = record {
   few = room;
   ordered = λ server_name. ap are_queue_names (chosen_is choice server_name names servers is) ∙ are_some (λ name. is_named server_name (choice name)) names rise few;
 }
+
+-- each name has its server
+pub served_all : (server : Server) (hub : State) (p : Publication) (names : List (List ℕ)) (servers : List (Option (List ℕ))) → length names ≤ MAX_QUEUE_NAMES → servers ≡ map (choice_of server hub p) names → IsServed server hub p names servers
+served_all server hub p names servers few are =
+    let same : length servers ≡ length names = ap length are ∙ length-map names (choice_of server hub p) in record {
+      few = few;
+      room = omega arith;
+      picks = ap (λ n. take n servers) (sym same) ∙ take_all (length servers) servers (omega arith) ∙ are;
+    }
 
 -- ---- why a publish is refused, by the turn and by the names
 

@@ -1,4 +1,4 @@
-use Rattle.std.proofs.Common.{◌≡◌, ◌++◌, take, drop}
+use Rattle.std.proofs.Common.{◌≡◌, ◌++◌, drop}
 use Rattle.std.specs.Prelude.{map}
 use Rattle.pick.specs.Pick.{pick_of}
 use Rattle.hub_core.specs.Choice.{weights_from}
@@ -6,5 +6,5 @@ use Rattle.hub_core.proofs.publishing.servers_for.Given as goal
 
 abbrev pub invariant-loop-place : goal.invariant-loop-place
 invariant-loop-place l =
-    take l.place l.servers ++ map (λ name. pick_of (weights_from l.server l.counts l.subject name 0 l.peers) l.word) (drop l.place l.names)
+    l.servers.items ++ map (λ name. pick_of (weights_from l.server l.counts l.subject name 0 l.peers) l.word) (drop l.place l.names)
     ≡ map (λ name. pick_of (weights_from l.server l.counts l.subject name 0 l.peers) l.word) l.names
