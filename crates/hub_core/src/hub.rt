@@ -537,7 +537,7 @@ impl Hub {
     fn names_alone(&self, subject: &Subject) -> Option<&QueueNames>
         ensures { IfSome result (λ names. ServesAlone self.now.server self.now.state subject.now names.now) }
     {
-        if !is_alone(&self.server, &self.peers) {
+        if !self.counts.is_queued() || !is_alone(&self.server, &self.peers) {
             return None;
         }
         self.counts.names_in_mind(subject)

@@ -168,10 +168,13 @@ impl OwnInterest {
 
     /// Notes that the subject was asked for, and is not in mind.
     fn note(&self, subject: &Subject) {
-        if self.is_queued {
-            let last = self.asked.replace(None);
-            self.asked.set(asked_next(last, subject));
-        }
+        let last = self.asked.replace(None);
+        self.asked.set(asked_next(last, subject));
+    }
+
+    /// Whether a key with a queue name was ever counted, so that there may be names in mind.
+    pub fn is_queued(&self) -> bool {
+        self.is_queued
     }
 
     /// The queue names that want the subject, where they are in mind. Where they are not, it notes that they were asked for.
@@ -207,6 +210,9 @@ impl OwnInterest {
     pub fn learn(&mut self)
         ensures { self.new ≡ self.old }
     {
+        if !self.is_queued {
+            return;
+        }
         let Some(asked) = self.asked.replace(None) else {
             return;
         };
