@@ -1,10 +1,13 @@
 -- Connections as a shard keeps them: what waits for each, and what will wait once all that was staged is shown.
-use Rattle.std.specs.Prelude.{◌≡◌, ℕ, ◌-◌, ◌<◌, List, ◌∷◌, length, map, slice_index_or, nat_eq, false, slice_get, slice_set, Some, true}
+use Rattle.std.specs.Prelude.{◌≡◌, ℕ, ◌-◌, ◌<◌, Bool, List, ◌∷◌, length, map, position, slice_index_or, nat_eq, false, slice_get, slice_set, Some, true}
 use Rattle.std.specs.List.{AllPairs, list_any}
 use Rattle.outbox.specs.Views.{Waiting, Backlog, size_of, has_room}
 use Rattle.sub_table.specs.declared.Room.{Room}
 use Rattle.shard_core.specs.declared.connections.Conn.{Conn}
-use Rattle.shard_core.specs.Shards.{Client}
+use Rattle.shard_core.specs.declared.connections.Seat.{Seat}
+use Rattle.shard_core.specs.declared.connections.Standing.{Standing}
+use Rattle.shard_core.specs.declared.connections.Standing.TheVariants.{Shut, Full, Ready}
+use Rattle.shard_core.specs.Shards.{Client, client_at, fits_len, has_number, is_open}
 
 pub record Clients : Type 0 where
   pub shown : List Client
@@ -62,3 +65,30 @@ IsOpenAt place conns = (conn : Conn) → slice_get conns place ≡ Some conn →
 -- or it has this change staged
 abbrev pub IsBoxStaged : ℕ → (Backlog → Backlog) → List Conn → List Conn → Type 0
 IsBoxStaged place change old new = (conn : Conn) → slice_get old place ≡ Some conn → new ≡ slice_set old place (record { number = conn.number; outbox = record conn.outbox { next = change conn.outbox.next } })
+
+-- ---- where a connection stands
+
+-- it stands there
+abbrev pub IsSeated : Seat → List Client → Type 0
+IsSeated seat clients = position (has_number seat.conn) clients ≡ Some seat.place
+
+pub record IsSeatOf (conn : ℕ) (seat : Seat) (clients : List Client) : Type 0 where
+  pub conn_is : seat.conn ≡ conn
+  pub seated : IsSeated seat clients
+
+-- a connection that is open stands there, with room for an entry of so many bytes or without
+pub record IsOpenSeat (seat : Seat) (conn len : ℕ) (room : Bool) (clients : List Client) : Type 0 where
+  pub seat_is : IsSeatOf conn seat clients
+  pub opened : is_open conn clients ≡ true
+  pub fits : fits_len (client_at conn clients) len ≡ room
+
+abbrev pub IsStanding : Standing → ℕ → ℕ → List Client → Type 0
+IsStanding Shut conn len clients = is_open conn clients ≡ false
+IsStanding (Full seat) conn len clients = IsOpenSeat seat conn len false clients
+IsStanding (Ready seat) conn len clients = IsOpenSeat seat conn len true clients
+
+-- by whether there is room, and whether it is shut
+abbrev pub standing_of : Seat → Bool → Bool → Standing
+standing_of seat true shut = Ready seat
+standing_of seat false true = Shut
+standing_of seat false false = Full seat

@@ -2,10 +2,10 @@
 
 ghost use Rattle.std.specs.List.{list_all};
 ghost use Rattle.sub_table.specs.Subscriptions.{is_room, matching_of};
-ghost use Rattle.shard_core.specs.Boxes.{room_left, AreRising, AreConns, IsSettled, IsSettledAt, on_both, client_in_view, shown_backlog, next_backlog, number_of, HasRoomAt, IsBoxStaged, IsOpenAt};
-ghost use Rattle.std.specs.Prelude.{map, filter, not, ◌≡◌, ◌==◌, ◌≤◌, ◌+◌, ◌-◌, ◌<◌, ◌^◌, ◌++◌, ◌∷◌, [], true, false, position, take, length, All, IsTrue, IfOk, OnOk, OnErr, Some};
+ghost use Rattle.shard_core.specs.Boxes.{room_left, AreRising, AreConns, IsSettled, IsSettledAt, on_both, client_in_view, shown_backlog, next_backlog, number_of, HasRoomAt, IsBoxStaged, IsOpenAt, IsSeated, IsSeatOf, IsStanding, standing_of};
+ghost use Rattle.std.specs.Prelude.{map, filter, not, ◌≡◌, ◌==◌, ◌≤◌, ◌+◌, ◌-◌, ◌<◌, ◌^◌, ◌++◌, ◌∷◌, [], true, false, position, take, length, All, IsTrue, IfOk, IfSome, OnOk, OnErr, None, Some};
 ghost use Rattle.std.specs.Option.{option_map, option_copied};
-ghost use Rattle.outbox.specs.Views.{with_entry, with_last, without_first, size_of, reply_entry, message_entry, bytes_of_all};
+ghost use Rattle.outbox.specs.Views.{has_room, with_entry, with_last, without_first, size_of, reply_entry, message_entry, bytes_of_all};
 ghost use Rattle.shard_core.specs.Shards.{is_open as opened, is_known as known, client_at, clients_with_change, without_client, fits, fits_len, waits_for};
 ghost use Rattle.shard_core.specs.ShardSteps.{new_client};
 
@@ -90,6 +90,28 @@ fn place_in(conns: &Vec<Conn>, conn: ConnId) -> Option<usize>
     place_of(conns, conn.get())
 }
 
+/// Whether the connection of this number stands at the place.
+fn is_at(conns: &Vec<Conn>, place: usize, number: u64) -> bool
+    requires { AreRising conns.now.items }
+    ensures { result ≡ true → position (λ conn. conn.number == number) conns.now.items ≡ Some place }
+{
+    if place >= conns.len() {
+        return false;
+    }
+    conns[place].number == number
+}
+
+/// Where the connection stands, which is looked for at this place first.
+fn place_near(conns: &Vec<Conn>, near: usize, conn: ConnId) -> Option<usize>
+    requires { AreRising conns.now.items }
+    ensures { result ≡ position (λ other. other.number == conn) conns.now.items }
+{
+    if is_at(conns, near, conn.get()) {
+        return Some(near);
+    }
+    place_in(conns, conn)
+}
+
 /// The connection, where it is there.
 fn conn_of(conns: &Vec<Conn>, conn: ConnId) -> Option<&Conn>
     requires { AreRising conns.now.items }
@@ -99,6 +121,61 @@ fn conn_of(conns: &Vec<Conn>, conn: ConnId) -> Option<&Conn>
     match place_in(conns, conn) {
         None => None,
         Some(place) => Some(&conns[place]),
+    }
+}
+
+/// Where a connection stands.
+#[derive(Clone, Copy)]
+pub struct Seat {
+    conn: ConnId,
+    place: usize,
+}
+
+/// How a connection stands to an entry of so many bytes, once all that was staged is shown.
+#[derive(Clone, Copy)]
+pub enum Standing {
+    /// It is not there, or it is shut.
+    Shut,
+    /// It is open and stands here, without room for the entry.
+    Full(Seat),
+    /// It stands here, with room for the entry.
+    Ready(Seat),
+}
+
+/// How the connection of this outbox stands to an entry of so many bytes.
+fn standing_at(outbox: &Outbox, seat: Seat, len: usize) -> Standing
+    ensures { result ≡ standing_of seat (has_room outbox.now.max_entries outbox.now.max_bytes len outbox.now.next) outbox.now.next.shut }
+{
+    if outbox.room(len) {
+        return Standing::Ready(seat);
+    }
+    if outbox.is_closing() {
+        Standing::Shut
+    } else {
+        Standing::Full(seat)
+    }
+}
+
+/// Where the connection stands, which is looked for at this place first.
+fn seat_in(conns: &Vec<Conn>, near: usize, conn: ConnId) -> Option<Seat>
+    requires { AreRising conns.now.items }
+    ensures none { result ≡ None → client_at conn (map (client_in_view next_backlog) conns.now.items) ≡ None }
+    ensures some { IfSome result (λ seat. IsSeatOf conn seat (map (client_in_view next_backlog) conns.now.items)) }
+{
+    match place_near(conns, near, conn) {
+        None => None,
+        Some(place) => Some(Seat { conn, place }),
+    }
+}
+
+/// How the connection, which is looked for at this place first, stands to an entry of so many bytes.
+fn standing_in(conns: &Vec<Conn>, near: usize, conn: ConnId, len: usize) -> Standing
+    requires { AreRising conns.now.items }
+    ensures { IsStanding result conn len (map (client_in_view next_backlog) conns.now.items) }
+{
+    match place_near(conns, near, conn) {
+        None => Standing::Shut,
+        Some(place) => standing_at(&conns[place].outbox, Seat { conn, place }, len),
     }
 }
 
@@ -125,41 +202,23 @@ fn room_of(outbox: &Outbox) -> Room
     }
 }
 
-/// Where the connection stands, noted among the places where something is staged, and as a recipient.
-fn place_staged(
+/// Notes that something is staged for the connection that stands there.
+fn note_staged(
     conns: &Vec<Conn>,
     places: &mut Vec<usize>,
     recipients: &mut Recipients,
-    conn: ConnId,
-) -> Result<usize, AllocError>
-    requires rising { AreRising conns.now.items }
-    requires there { known conn (map (client_in_view next_backlog) conns.now.items) ≡ true }
-    ensures place { IfOk result (λ place. position (λ other. other.number == conn) conns.now.items ≡ Some place) }
-    ensures noted { IfOk result (λ place. places.new.items ≡ places.old.items ++ place ∷ []) }
+    seat: Seat,
+) -> Result<(), AllocError>
+    requires { seat.place < length conns.now.items }
+    ensures ok { OnOk result (places.new.items ≡ places.old.items ++ seat.place ∷ []) }
     ensures err { OnErr result (places.new.items ≡ places.old.items) }
 {
-    let Some(place) = place_in(conns, conn) else {
-        // required: the connection is there
-        unreachable!()
-    };
-    places.push(place)?;
-    note(recipients, conns, place, conn);
-    Ok(place)
-}
-
-/// Stages an entry for the connection at the place, which has room for it.
-fn stage_at(conns: &mut Vec<Conn>, place: usize, entry: Entry) -> Result<(), AllocError>
-    requires within { place < length conns.old.items }
-    requires room { HasRoomAt place (length entry.bytes) conns.old.items }
-    ensures ok { OnOk result (IsBoxStaged place (with_entry entry) conns.old.items conns.new.items) }
-    ensures err { OnErr result (IsBoxStaged place (λ backlog. backlog) conns.old.items conns.new.items) }
-{
-    let conn = &mut conns[place];
-    conn.outbox.stage(entry)?;
+    places.push(seat.place)?;
+    note(recipients, conns, seat.place, seat.conn);
     Ok(())
 }
 
-/// The same of a message, given by its line and its payload.
+/// Stages a message for the connection at the place, which has room for it.
 fn stage_message_at(
     conns: &mut Vec<Conn>,
     place: usize,
@@ -212,6 +271,8 @@ pub struct Conns {
     conns: Vec<Conn>,
     /// Where something is staged.
     places: Vec<usize>,
+    /// Where something was staged before the last commit, in order: the next entries often go the same way.
+    last_places: Vec<usize>,
     /// For which connections something was put.
     recipients: Recipients,
 }
@@ -238,6 +299,7 @@ impl Conns {
             alloc,
             conns: Vec::new(alloc),
             places: Vec::new(alloc),
+            last_places: Vec::new(alloc),
             recipients: Recipients::new(alloc),
         }
     }
@@ -284,14 +346,27 @@ impl Conns {
         }
     }
 
-    /// Whether the connection is there and not shut once all that was staged is shown.
-    pub fn stays_open(&self, conn: ConnId) -> bool
-        ensures { result ≡ opened conn self.now.next }
+    /// Where the next entry is staged, if it goes the way of the last ones.
+    fn near(&self) -> usize {
+        self.last_places
+            .get(self.places.len())
+            .copied()
+            .unwrap_or(0)
+    }
+
+    /// Where the connection stands, if it is there.
+    pub fn seat(&self, conn: ConnId) -> Option<Seat>
+        ensures none { result ≡ None → client_at conn self.now.next ≡ None }
+        ensures some { IfSome result (λ seat. IsSeatOf conn seat self.now.next) }
     {
-        match conn_of(&self.conns, conn) {
-            None => false,
-            Some(conn) => !conn.outbox.is_closing(),
-        }
+        seat_in(&self.conns, self.near(), conn)
+    }
+
+    /// How the connection stands to an entry of so many bytes behind all that was put or staged.
+    pub fn standing(&self, conn: ConnId, len: usize) -> Standing
+        ensures { IsStanding result conn len self.now.next }
+    {
+        standing_in(&self.conns, self.near(), conn, len)
     }
 
     /// Whether each connection has room for the messages to all its open subscriptions that get the subject. The message has
@@ -319,50 +394,42 @@ impl Conns {
         }
     }
 
-    /// Puts an entry, for which there is room, unseen. Want of memory leaves all as it was.
-    pub fn stage(&mut self, conn: ConnId, entry: Entry) -> Result<(), AllocError>
-        requires { IsTrue (fits (client_at conn self.old.next) entry) }
-        ensures shown { self.new.shown ≡ self.old.shown }
-        ensures ok { OnOk result (self.new.next ≡ clients_with_change (with_entry entry) conn self.old.next) }
-        ensures err { OnErr result (self.new.next ≡ self.old.next) }
-    {
-        let place = place_staged(&self.conns, &mut self.places, &mut self.recipients, conn)?;
-        stage_at(&mut self.conns, place, entry)?;
-        Ok(())
-    }
-
     /// Puts a message, for which there is room, unseen: its line and its payload, given without their
     /// CR LF. Want of memory leaves all as it was.
     pub fn stage_message(
         &mut self,
-        conn: ConnId,
+        seat: Seat,
         id: PubId,
         sub: SubId,
         mode: Mode,
         line: &[u8],
         payload: &Bytes,
     ) -> Result<(), AllocError>
+        requires seat { IsSeated seat self.old.next }
         requires fits { length line.now + length payload.now + 4 < 2 ^ 64 }
-        requires room { IsTrue (fits (client_at conn self.old.next) (message_entry id sub mode line.now payload.now)) }
+        requires room { IsTrue (fits (client_at seat.conn self.old.next) (message_entry id sub mode line.now payload.now)) }
         ensures shown { self.new.shown ≡ self.old.shown }
-        ensures ok { OnOk result (self.new.next ≡ clients_with_change (with_entry (message_entry id sub mode line.now payload.now)) conn self.old.next) }
+        ensures ok { OnOk result (self.new.next ≡ clients_with_change (with_entry (message_entry id sub mode line.now payload.now)) seat.conn self.old.next) }
         ensures err { OnErr result (self.new.next ≡ self.old.next) }
     {
-        let place = place_staged(&self.conns, &mut self.places, &mut self.recipients, conn)?;
+        let place = seat.place;
+        note_staged(&self.conns, &mut self.places, &mut self.recipients, seat)?;
         stage_message_at(&mut self.conns, place, id, sub, mode, line, payload)?;
         Ok(())
     }
 
     /// Puts the last line of a connection that is open, given without its CR LF, unseen. Want of memory
     /// leaves all as it was.
-    pub fn stage_last(&mut self, conn: ConnId, line: &[u8]) -> Result<(), AllocError>
-        requires once { opened conn self.old.next ≡ true }
+    pub fn stage_last(&mut self, seat: Seat, line: &[u8]) -> Result<(), AllocError>
+        requires seat { IsSeated seat self.old.next }
+        requires once { opened seat.conn self.old.next ≡ true }
         requires small { length line.now ≤ LAST_LINE_TEXT }
         ensures shown { self.new.shown ≡ self.old.shown }
-        ensures ok { OnOk result (self.new.next ≡ clients_with_change (with_last line.now) conn self.old.next) }
+        ensures ok { OnOk result (self.new.next ≡ clients_with_change (with_last line.now) seat.conn self.old.next) }
         ensures err { OnErr result (self.new.next ≡ self.old.next) }
     {
-        let place = place_staged(&self.conns, &mut self.places, &mut self.recipients, conn)?;
+        let place = seat.place;
+        note_staged(&self.conns, &mut self.places, &mut self.recipients, seat)?;
         stage_last_at(&mut self.conns, place, line)?;
         Ok(())
     }
@@ -379,6 +446,7 @@ impl Conns {
         ensures { self.new ≡ record { shown = self.old.next; next = self.old.next } }
     {
         commit_all(&mut self.conns, &self.places);
+        std::mem::swap(&mut self.places, &mut self.last_places);
         self.places.clear();
     }
 

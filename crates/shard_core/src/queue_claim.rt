@@ -3,22 +3,21 @@
 ghost use Rattle.std.specs.Prelude.{◌≡◌, filter, IfOk, IsTrue, OnErr, OnOk};
 ghost use Rattle.client_frames.specs.Messages.{line_parts};
 ghost use Rattle.outbox.specs.Views.{with_entry};
-ghost use Rattle.shard_core.specs.Boxes.{IsSettled};
+ghost use Rattle.shard_core.specs.Boxes.{IsSeatOf, IsSettled};
 ghost use Rattle.shard_core.specs.Claims.{is_member};
-ghost use Rattle.shard_core.specs.Held.{ClaimsAreWhole, HasChosen, candidate_told, shard_with};
+ghost use Rattle.shard_core.specs.Held.{ClaimsAreWhole, HasChosen, candidate_told, copy_of, shard_with};
 ghost use Rattle.shard_core.specs.Opened.{AreRising};
 ghost use Rattle.sub_table.specs.Subscriptions.{gets};
 ghost use Rattle.subj.specs.QueueNames.{is_named as named};
-ghost use Rattle.shard_core.specs.Owed.{due_entry as entry_due};
+ghost use Rattle.shard_core.specs.Owed.{due_entry as entry_due, placed_for};
 ghost use Rattle.shard_core.specs.Shards.{client_at, clients_with_change, fits};
 ghost use Rattle.shard_core.specs.Tallies.{lent_subs};
 
 use crate::calls::{Candidate, Placed};
-use crate::connections::Conns;
+use crate::connections::{Conns, Seat};
 use crate::openings::Openings;
-use crate::tally::{due_entry, due_len, may_get};
+use crate::tally::{due_entry, due_len, due_mode, may_get};
 use client_frames::MessageLines;
-use outbox::Entry;
 use std::alloc::{AllocError, Global};
 use sub_table::{SubTable, Subscription};
 use subj::{Job, QueueName, SubId};
@@ -69,7 +68,7 @@ fn candidates<'a>(
     requires { lines.now ≡ line_parts claim.now.job.now.message }
     ensures { IfOk result (λ subs. lent_subs subs.items ≡ filter (is_member claim.now.shard conns.now.next claim.now.job.now claim.now.name.now) (lent_subs matching.now)) }
 {
-    let mut subs = Vec::new(claim.alloc);
+    let mut subs = Vec::with_capacity(claim.alloc, matching.len())?;
     for sub in matching {
         if is_candidate(claim, lines, conns, sub) {
             subs.push(*sub)?;
@@ -78,27 +77,21 @@ fn candidates<'a>(
     Ok(subs)
 }
 
-/// What is told of the member that is chosen.
-fn chosen_candidate(
+/// A copy of the entry that the member is owed, where it is asked for.
+fn copy_for(
     claim: &QueueClaim,
+    lines: &MessageLines,
     sub: &Subscription,
-    entry: &Entry,
-) -> Result<Candidate, AllocError>
-    requires { entry.now ≡ entry_due claim.now.shard claim.now.job.now sub.now.key.queue sub.now }
-    ensures { IfOk result (λ candidate. candidate ≡ candidate_told claim.now.copies claim.now.shard claim.now.job.now sub.now) }
+) -> Result<Option<Placed>, AllocError>
+    requires { lines.now ≡ line_parts claim.now.job.now.message }
+    ensures { IfOk result (λ placed. placed ≡ copy_of claim.now.copies (placed_for claim.now.shard claim.now.job.now sub.now.key.queue sub.now)) }
 {
-    let placed = if claim.copies {
-        let entry = entry.try_clone(claim.alloc)?;
-        let conn = sub.conn;
-        Some(Placed { conn, entry })
-    } else {
-        None
-    };
-    let sub = SubId {
-        shard: claim.shard,
-        serial: sub.serial,
-    };
-    Ok(Candidate { sub, placed })
+    if !claim.copies {
+        return Ok(None);
+    }
+    let entry = due_entry(claim.alloc, claim.shard, claim.job, lines, sub)?;
+    let conn = sub.conn;
+    Ok(Some(Placed { conn, entry }))
 }
 
 /// The candidates among the members of the queue group, in order of opening.
@@ -116,6 +109,32 @@ fn open_candidates<'a, T: SubTable>(
     candidates(claim, lines, conns, &matching)
 }
 
+/// Stages the entry that the member is owed.
+fn stage_due(
+    claim: &QueueClaim,
+    lines: &MessageLines,
+    conns: &mut Conns,
+    sub: &Subscription,
+    seat: Seat,
+) -> Result<(), AllocError>
+    requires lines { lines.now ≡ line_parts claim.now.job.now.message }
+    requires seat { IsSeatOf sub.now.conn seat conns.old.next }
+    requires room { IsTrue (fits (client_at sub.now.conn conns.old.next) (entry_due claim.now.shard claim.now.job.now sub.now.key.queue sub.now)) }
+    ensures shown { conns.new.shown ≡ conns.old.shown }
+    ensures staged { OnOk result (conns.new.next ≡ clients_with_change (with_entry (entry_due claim.now.shard claim.now.job.now sub.now.key.queue sub.now)) sub.now.conn conns.old.next) }
+    ensures err { OnErr result (conns.new.next ≡ conns.old.next) }
+{
+    let line = lines.line(&sub.sid)?;
+    let mode = due_mode(claim.alloc, sub)?;
+    let id = SubId {
+        shard: claim.shard,
+        serial: sub.serial,
+    };
+    let payload = claim.job.message.payload();
+    conns.stage_message(seat, claim.job.id, id, mode, &line, payload)?;
+    Ok(())
+}
+
 /// Stages the entry of the member that is chosen, and tells of it.
 fn stage_chosen(
     claim: &QueueClaim,
@@ -130,10 +149,17 @@ fn stage_chosen(
     ensures staged { OnOk result (conns.new.next ≡ clients_with_change (with_entry (entry_due claim.now.shard claim.now.job.now sub.now.key.queue sub.now)) sub.now.conn conns.old.next) }
     ensures err { OnErr result (conns.new.next ≡ conns.old.next) }
 {
-    let entry = due_entry(claim.alloc, claim.shard, claim.job, lines, sub)?;
-    let candidate = chosen_candidate(claim, sub, &entry)?;
-    conns.stage(sub.conn, entry)?;
-    Ok(candidate)
+    let Some(seat) = conns.seat(sub.conn) else {
+        // required: it has room
+        unreachable!()
+    };
+    let placed = copy_for(claim, lines, sub)?;
+    stage_due(claim, lines, conns, sub, seat)?;
+    let sub = SubId {
+        shard: claim.shard,
+        serial: sub.serial,
+    };
+    Ok(Candidate { sub, placed })
 }
 
 /// The member that is chosen, whose entry is staged; none where there is no candidate.

@@ -3,16 +3,16 @@
 ghost use Rattle.std.specs.Prelude.{◌≡◌, ℕ, ◌+◌, ◌<◌, ◌^◌, ◌++◌, List, [], Option, None, true, false, filter, length, map, All, IfOk, IsTrue, OnOk, OnErr};
 ghost use Rattle.client_frames.specs.Messages.{line_parts};
 ghost use Rattle.outbox.specs.Views.{with_entry, with_last};
-ghost use Rattle.shard_core.specs.Boxes.{IsSettled};
+ghost use Rattle.shard_core.specs.Boxes.{IsSeatOf, IsSettled};
 ghost use Rattle.shard_core.specs.Closings.{ended_ids};
 ghost use Rattle.shard_core.specs.Opened.{AreRising, AreApart};
-ghost use Rattle.shard_core.specs.Owed.{is_due, is_permitted, due_entry as entry_due, walk_after_put, walk, reaches, slow_consumer};
+ghost use Rattle.shard_core.specs.Owed.{is_due, is_permitted, due_entry as entry_due, mode_of, walk_after_put, walk, reaches, slow_consumer};
 ghost use Rattle.shard_core.specs.Shards.{State, is_open as opened, clients_with_change, client_at, fits};
 ghost use Rattle.shard_core.specs.Puts.{put_line};
 ghost use Rattle.shard_core.specs.Tallies.{lent_subs, is_placed, Follows, HasPlaced, IsStaged, none_tallied, with_given, with_shut, with_lines, put_if_due as put_matching, walk_matching};
 
 use crate::calls::{Begun, Placed};
-use crate::connections::Conns;
+use crate::connections::{Conns, Seat, Standing};
 use crate::openings::Openings;
 use client_frames::{ErrText, MessageLines};
 use outbox::{Entry, Mode};
@@ -48,6 +48,16 @@ fn any_due(job: &Job, matching: &[&Subscription]) -> bool
     false
 }
 
+/// How a message comes to the subscription.
+pub fn due_mode(alloc: Global, sub: &Subscription) -> Result<Mode, AllocError>
+    ensures { IfOk result (λ mode. mode ≡ mode_of sub.now.key.queue) }
+{
+    match &sub.key.queue {
+        None => Ok(Mode::Plain),
+        Some(name) => Ok(Mode::Queue(name.try_clone(alloc)?)),
+    }
+}
+
 /// The entry that the subscription is owed, in its mode.
 pub fn due_entry(
     alloc: Global,
@@ -61,10 +71,7 @@ pub fn due_entry(
 {
     let line = lines.line(&sub.sid)?;
     let payload = job.message.payload().clone()?;
-    let mode = match &sub.key.queue {
-        None => Mode::Plain,
-        Some(name) => Mode::Queue(name.try_clone(alloc)?),
-    };
+    let mode = due_mode(alloc, sub)?;
     let id = SubId {
         shard,
         serial: sub.serial,
@@ -233,8 +240,10 @@ impl Tally {
         conns: &mut Conns,
         openings: &Openings<T>,
         conn: ConnId,
+        seat: Seat,
     ) -> Result<(), AllocError>
-        requires { opened conn conns.old.next ≡ true }
+        requires seat { IsSeatOf conn seat conns.old.next }
+        requires once { opened conn conns.old.next ≡ true }
         ensures shown { conns.new.shown ≡ conns.old.shown }
         ensures conns { OnOk result (conns.new.next ≡ clients_with_change (with_last slow_consumer) conn conns.old.next) }
         ensures tally { OnOk result (self.new ≡ with_shut openings.now.subs conn self.old) }
@@ -242,7 +251,7 @@ impl Tally {
         let left = openings.left_of(conn, &self.ended)?;
         self.ended.extend_from_slice(&left)?;
         self.shut.push(conn)?;
-        conns.stage_last(conn, ErrText::SlowConsumer.line())?;
+        conns.stage_last(seat, ErrText::SlowConsumer.line())?;
         Ok(())
     }
 
@@ -253,10 +262,12 @@ impl Tally {
         job: &Job,
         lines: &MessageLines,
         sub: &Subscription,
+        seat: Seat,
     ) -> Result<(), AllocError>
         requires lines { lines.now ≡ line_parts job.now.message }
         requires plain { sub.now.key.queue ≡ None }
         requires counts { sub.now.delivered + 1 < 2 ^ 64 }
+        requires seat { IsSeatOf sub.now.conn seat conns.old.next }
         requires room { IsTrue (fits (client_at sub.now.conn conns.old.next) (entry_due self.old.shard job.now None sub.now)) }
         ensures shown { conns.new.shown ≡ conns.old.shown }
         ensures conns { OnOk result (conns.new.next ≡ clients_with_change (with_entry (entry_due self.old.shard job.now None sub.now)) sub.now.conn conns.old.next) }
@@ -269,7 +280,7 @@ impl Tally {
             serial: sub.serial,
         };
         let payload = job.message.payload();
-        conns.stage_message(sub.conn, job.id, id, Mode::Plain, &self.line, payload)?;
+        conns.stage_message(seat, job.id, id, Mode::Plain, &self.line, payload)?;
         Ok(())
     }
 
@@ -288,15 +299,11 @@ impl Tally {
         ensures shown { conns.new.shown ≡ conns.old.shown }
         ensures ok { OnOk result (Follows openings.now.subs job.now (λ s w. walk_after_put s job.now w sub.now) conns.old.next self.old conns.new.next self.new) }
     {
-        if !conns.stays_open(sub.conn) {
-            return Ok(());
+        match conns.standing(sub.conn, due_len(job, lines, sub)) {
+            Standing::Shut => Ok(()),
+            Standing::Full(seat) => self.shut(conns, openings, sub.conn, seat),
+            Standing::Ready(seat) => self.give(conns, job, lines, sub, seat),
         }
-        if !conns.has_room(sub.conn, due_len(job, lines, sub)) {
-            self.shut(conns, openings, sub.conn)?;
-            return Ok(());
-        }
-        self.give(conns, job, lines, sub)?;
-        Ok(())
     }
 
     /// One subscription that matches, unseen.

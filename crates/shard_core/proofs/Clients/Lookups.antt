@@ -1,13 +1,16 @@
 -- A connection of the code, looked up and changed in a list of clients.
-use Rattle.std.proofs.Common.{◌≡◌, ℕ, suc, ◌+◌, ◌<◌, ◌≤◌, ◌==◌, Bool, true, false, not, cond, List, [], ◌∷◌, length, map, filter, get_or, Some, None, refl, sym, ap, subst, ◌∙◌, arith}
+use Rattle.std.proofs.Common.{◌≡◌, ℕ, suc, ◌+◌, ◌<◌, ◌≤◌, ◌==◌, Bool, true, false, true≢false, not, ◌&&◌, nat_le, cond, List, [], ◌∷◌, length, map, filter, get_or, Some, None, refl, sym, ap, subst, ◌∙◌, arith}
 use Rattle.std.proofs.Math.Seq.{map-set_same}
 use Rattle.std.specs.Prelude.{position, slice_set, slice_index_or, nat_lt}
 use Rattle.std.specs.List.{position_or_len}
 use Rattle.std.proofs.lemmas.Bool.Decides.{nat_tests}
-use Rattle.outbox.specs.Views.{Waiting, Backlog, Written, has_room}
+use Rattle.std.proofs.lemmas.List.{length-map}
+use Rattle.outbox.specs.Views.{Waiting, Backlog, Written, has_room, size_of}
 use Rattle.shard_core.specs.declared.connections.Conn.{Conn}
-use Rattle.shard_core.specs.Shards.{Client, client_at, clients_with_change, with_outbox, without_client, fits, is_open, takes_events, entries_of, waits_for}
-use Rattle.shard_core.specs.Boxes.{client_in_view, shown_backlog, next_backlog, number_of}
+use Rattle.shard_core.specs.Shards.{Client, client_at, clients_with_change, has_number, with_outbox, without_client, fits, fits_len, is_open, room_of, takes_events, entries_of, waits_for}
+use Rattle.shard_core.specs.declared.connections.Seat.{Seat}
+use Rattle.shard_core.specs.declared.connections.Standing.{Standing}
+use Rattle.shard_core.specs.Boxes.{IsSeated, IsSeatOf, IsStanding, client_in_view, shown_backlog, next_backlog, number_of, standing_of}
 
 -- an outbox that changes leaves the numbers
 pub numbers_stay : (conns : List Conn) (i : ℕ) (r : Conn) (box : Waiting) → map number_of (slice_set conns i (record { number = (slice_index_or conns i r).number; outbox = box })) ≡ map number_of conns
@@ -129,3 +132,42 @@ pub settled_box : (n : ℕ) (conns : List Conn) (i : ℕ) (x : Conn) → positio
 settled_box n conns i x at is settled =
     let e : Some (client_in_view next_backlog x) ≡ Some (client_in_view shown_backlog x) = sym (client_is next_backlog n conns i x at is) ∙ ap (λ (l : List Client). client_at n l) settled ∙ client_is shown_backlog n conns i x at is in
     let same : client_in_view next_backlog x ≡ client_in_view shown_backlog x = cc in ap (λ (c : Client). c.outbox) same
+
+-- ---- the place among what is seen
+
+place_seen : (backlog : Waiting → Backlog) (n : ℕ) (conns : List Conn) → position_or_len (has_number n) (map (client_in_view backlog) conns) ≡ position_or_len (has_conn n) conns
+place_seen backlog n [] = refl
+place_seen backlog n (c ∷ cs) = ap (λ k. cond (not (c.number == n)) (1 + k) 0) (place_seen backlog n cs)
+
+pub same_place : (backlog : Waiting → Backlog) (n : ℕ) (conns : List Conn) → position (has_number n) (map (client_in_view backlog) conns) ≡ position (λ (x : Conn). x.number == n) conns
+same_place backlog n conns =
+    let place = place_seen backlog n conns in
+    let many = length-map conns (client_in_view backlog) in
+    λ k. cond (nat_lt (place k) (many k)) (Some (place k)) None
+
+-- ---- how a connection stands
+
+seated_at : (seat : Seat) (n : ℕ) (conns : List Conn) → seat.conn ≡ n → position (λ (c : Conn). c.number == n) conns ≡ Some seat.place → IsSeatOf n seat (map (client_in_view next_backlog) conns)
+seated_at seat n conns conn at = record {
+  conn_is = conn;
+  seated = ap (λ m. position (has_number m) (map (client_in_view next_backlog) conns)) conn ∙ same_place next_backlog n conns ∙ at;
+}
+
+pub seat_found : (n place : ℕ) (conns : List Conn) → position (λ (c : Conn). c.number == n) conns ≡ Some place → IsSeatOf n (record { conn = n; place = place }) (map (client_in_view next_backlog) conns)
+seat_found n place conns at = seated_at (record { conn = n; place = place }) n conns refl at
+
+stands : (seat : Seat) (n len : ℕ) (clients : List Client) (client : Client) (room shut : Bool) → IsSeatOf n seat clients → client_at n clients ≡ Some client → room_of client len ≡ room → client.outbox.shut ≡ shut → IsStanding (standing_of seat room shut) n len clients
+stands seat n len clients client true true is at room shut = absurd (true≢false (sym room ∙ ap (λ b. not b && (nat_lt (length client.outbox.entries) client.max_entries && nat_le (size_of client.outbox.entries + len) client.max_bytes)) shut))
+stands seat n len clients client true false is at room shut = record { seat_is = is; opened = ap takes_events at ∙ ap not shut; fits = ap (λ o. fits_len o len) at ∙ room }
+stands seat n len clients client false true is at room shut = ap takes_events at ∙ ap not shut
+stands seat n len clients client false false is at room shut = record { seat_is = is; opened = ap takes_events at ∙ ap not shut; fits = ap (λ o. fits_len o len) at ∙ room }
+
+pub standing_is : (told : Standing) (n place len : ℕ) (conns : List Conn) (x : Conn) → position (λ (c : Conn). c.number == n) conns ≡ Some place → x ≡ slice_index_or conns place x
+    → told ≡ standing_of (record { conn = n; place = place }) (has_room x.outbox.max_entries x.outbox.max_bytes len x.outbox.next) x.outbox.next.shut → IsStanding told n len (map (client_in_view next_backlog) conns)
+standing_is told n place len conns x at is told_is =
+    subst (λ s. IsStanding s n len (map (client_in_view next_backlog) conns)) (sym told_is)
+    (stands (record { conn = n; place = place }) n len (map (client_in_view next_backlog) conns) (client_in_view next_backlog x) _ _ (seat_found n place conns at) (client_is next_backlog n conns place x at is) refl refl)
+
+-- a seat is the place in the code's own list
+pub seat_place : (seat : Seat) (conns : List Conn) → IsSeated seat (map (client_in_view next_backlog) conns) → position (λ (c : Conn). c.number == seat.conn) conns ≡ Some seat.place
+seat_place seat conns seated = sym (same_place next_backlog seat.conn conns) ∙ seated

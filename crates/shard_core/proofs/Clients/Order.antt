@@ -1,6 +1,6 @@
 -- Connections in order of their numbers: where a binary search ends.
-use Rattle.std.proofs.Common.{◌≡◌, ℕ, ◌<◌, ◌≤◌, ◌==◌, Bool, true, false, List, [], ◌∷◌, length, map, get_or, Some, None, Result, Ok, Err, refl, sym, ap, arith}
-use Rattle.std.specs.Prelude.{nat_lt, position}
+use Rattle.std.proofs.Common.{◌≡◌, ℕ, ◌∙◌, ◌<◌, ◌≤◌, ◌==◌, Bool, true, false, List, [], ◌∷◌, length, map, get_or, Some, None, Result, Ok, Err, refl, sym, ap, arith}
+use Rattle.std.specs.Prelude.{nat_lt, position, slice_index_or}
 use Rattle.std.specs.List.{position_or_len}
 use Rattle.std.specs.List.Sorted.{IsSearchInRange, IsBinarySearchResult, IsNonDecreasingBy}
 use Rattle.std.specs.Ordering.{nat_cmp, ordering_index}
@@ -44,12 +44,17 @@ module _ (conns : List Conn) (d : Conn) (rising : AreRising conns) (n : ℕ) whe
       let up : number_at conns d i ≤ number_at conns d j = grind (arith, rises i j, λ (same : i ≡ j). ap (number_at conns d) same) in
       grind (arith, nat_tests))
 
+  -- where its number stands is its place
+  known_at : (at : ℕ) → at < length conns → number_at conns d at ≡ n → position (λ (c : Conn). c.number == n) conns ≡ Some at
+  known_at at within same =
+      at_place (λ (c : Conn). c.number == n) conns at
+      (position_or_len_is (λ (c : Conn). c.number == n) conns at d (omega arith) (λ k lt. differs (number_at conns d k) n (omega (arith, rises k at lt within, same))) (λ lt. is_same (number_at conns d at) n same))
+      within
+
   searched : (r : Result ℕ ℕ) → IsSearchInRange r (length conns) → IsBinarySearchResult (λ (c : Conn). nat_cmp c.number n) conns r → result_ok r ≡ position (λ (c : Conn). c.number == n) conns
   searched (Ok at) within equal =
       let same : number_at conns d at ≡ n = ranked (number_at conns d at) n _ (sym (equal d)) in
-      sym (at_place (λ (c : Conn). c.number == n) conns at
-      (position_or_len_is (λ (c : Conn). c.number == n) conns at d (omega arith) (λ k lt. differs (number_at conns d k) n (omega (arith, rises k at lt within, same))) (λ lt. is_same (number_at conns d at) n same))
-      within)
+      sym (known_at at within same)
   searched (Err at) within parted =
       sym (at_none (λ (c : Conn). c.number == n) conns
       (position_or_len_is (λ (c : Conn). c.number == n) conns (length conns) d (omega arith) (λ k lt. apart k lt) (λ lt. absurd (omega arith)))) where
@@ -64,3 +69,10 @@ pub place_found : (conns : List Conn) (n : ℕ) → AreRising conns → (r : Res
 place_found [] n rising (Ok at) within equal = absurd (omega arith)
 place_found [] n rising (Err at) within parted = refl
 place_found (c ∷ cs) n rising r within is = searched (c ∷ cs) c rising n r within is
+
+numbers_same : (a n : ℕ) → (a == n) ≡ true → a ≡ n
+numbers_same a n e = grind (arith, nat_tests)
+
+-- a connection of the number that stands at a place is the one that a search finds
+pub place_known : (conns : List Conn) (n i : ℕ) (x : Conn) → AreRising conns → i < length conns → x ≡ slice_index_or conns i x → (x.number == n) ≡ true → position (λ (c : Conn). c.number == n) conns ≡ Some i
+place_known conns n i x rising within is same = known_at conns x rising n i within (ap (λ (c : Conn). c.number) (sym is) ∙ numbers_same x.number n same)

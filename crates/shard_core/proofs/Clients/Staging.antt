@@ -254,12 +254,3 @@ module _ (n : ℕ) (conns : List Conn) (i : ℕ) (at : position (λ (c : Conn). 
   is_open_at once x there =
       let is = is_read x there in
       not_shut x.outbox.next.shut (sym (open_is next_backlog n conns i x at is) ∙ once)
-
--- a connection with room, or one that is open, is there
-pub known_with_room : (client : Option Client) (len : ℕ) → fits_len client len ≡ true → is_some client ≡ true
-known_with_room None len room = absurd (cc)
-known_with_room (Some client) len room = refl
-
-pub known_open : (client : Option Client) → takes_events client ≡ true → is_some client ≡ true
-known_open None once = absurd (cc)
-known_open (Some client) once = refl

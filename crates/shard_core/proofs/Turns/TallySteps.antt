@@ -1,6 +1,6 @@
 -- What the code keeps of a walk follows each step of it.
 use Rattle.std.proofs.Common.{◌≡◌, ℕ, ◌+◌, ◌<◌, ◌&&◌, Bool, true, false, cond, List, [], ◌∷◌, ◌++◌, length, map, filter, get_or, take, Option, Some, None, refl, sym, ap, ◌∙◌, subst, arith}
-use Rattle.std.specs.Prelude.{is_none, if◌then◌else◌, All}
+use Rattle.std.specs.Prelude.{is_none, if◌then◌else◌, All, Result, Ok, Err, OnOk}
 use denote.Ref.{Bor}
 use Rattle.std.proofs.lemmas.List.{take_more, map-append, get_or-map, length-map}
 use Rattle.std.proofs.lemmas.List.Elements.{All-filter, All-get_or}
@@ -27,6 +27,11 @@ if_true b x y e = ap (λ v. if v then x else y) e
 
 if_false : {A : Type 0} (b : Bool) (x y : A) → b ≡ false → (if b then x else y) ≡ y
 if_false b x y e = ap (λ v. if v then x else y) e
+
+-- what two facts of a success give
+pub both_ok : {T E P Q R : Type 0} (r : Result T E) → (P → Q → R) → OnOk r P → OnOk r Q → OnOk r R
+both_ok (Ok x) both p q = both p q
+both_ok (Err e) both p q = tt
 
 -- ---- one step
 

@@ -1,0 +1,11 @@
+use Rattle.std.proofs.Common.{sym, ap, ◌∙◌}
+use Rattle.shard_core.specs.Boxes.{next_backlog}
+use Rattle.shard_core.specs.Shards.{takes_events}
+use Rattle.shard_core.proofs.Clients.Lookups.{client_none, standing_is}
+use Rattle.shard_core.proofs.connections.standing_in.Goals as goal
+
+pub returns-in-None : goal.returns-in-None
+returns-in-None c = ap takes_events (client_none next_backlog c.args.conn c.args.conns.now.items (sym c.place_near.ensures ∙ c.in-None.is))
+
+pub returns-in-Some : goal.returns-in-Some
+returns-in-Some c = standing_is c.standing_at.result c.args.conn c.in-Some.place c.args.len c.args.conns.now.items c.index.result.now (sym c.place_near.ensures ∙ c.in-Some.is) c.index.ensures c.standing_at.ensures
