@@ -1,5 +1,5 @@
 -- A server as one value with who it is, and how its calls go.
-use Rattle.std.specs.Prelude.{◌≡◌, ℕ, ◌≤◌, ◌+◌, Bool, false, List, map, Option, Some, None, Result, Ok, Err}
+use Rattle.std.specs.Prelude.{◌≡◌, ℕ, ◌≤◌, ◌+◌, Bool, false, List, Option, Some, None, Result, Ok, Err}
 use Rattle.std.specs.Option.{option_map}
 use Rattle.subj.specs.Servers.{Server, IsListed, place}
 use Rattle.subj.specs.declared.failures.Failure.{Failure}
@@ -13,7 +13,7 @@ use Rattle.hub_core.specs.declared.faults.HubFault.{HubFault}
 use Rattle.route_values.specs.Frames.{Frame}
 use Rattle.route_values.specs.Records.{Info, Connect}
 use Rattle.route_session.specs.State.{peer_of_session, session_at, number_kept}
-use Rattle.route_session.specs.Steps.{own_info, own_connect, serial_of, without_peer}
+use Rattle.route_session.specs.Steps.{own_info, own_connect, serial_of}
 use Rattle.route_session.specs.declared.faults.SessionFault.{SessionFault}
 use Rattle.shard_core.specs.Answers.{IsTold}
 use Rattle.shard_core.specs.Lines.{first_of}
@@ -21,7 +21,7 @@ use Rattle.shard_core.specs.declared.calls.Begun.{Begun}
 use Rattle.shard_core.specs.ShardEvents as of_shard
 use Rattle.shard_core.specs.ShardSteps.{shard_answer}
 use Rattle.node_law.specs.declared.faults.NodeFault.{NodeFault}
-use Rattle.node_law.specs.declared.faults.NodeFault.TheVariants.{Shard, Session, Hub}
+use Rattle.node_law.specs.declared.faults.NodeFault.TheVariants.{Session, Hub}
 use Rattle.node_parts.specs.declared.lines.Claimed.{Claimed}
 use Rattle.node_parts.specs.declared.told.Received.{Received}
 use Rattle.node_parts.specs.declared.told.Received.TheVariants.{Routed, Heard}

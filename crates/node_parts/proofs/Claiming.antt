@@ -18,7 +18,6 @@ use Rattle.shard_core.specs.ShardEvents as of_shard
 use Rattle.shard_core.specs.ShardSteps.{shard_refusal, claim_answer, claim_refusal}
 use Rattle.shard_core.specs.declared.faults.ShardFault.TheVariants.{BadIndex}
 use Rattle.node_parts.specs.declared.lines.Claimed.TheVariants.{Nobody, Lost, Won}
-use Rattle.node_law.specs.State.{Line}
 use Rattle.node_law.specs.Steps.{ClaimRace}
 use Rattle.node_law.specs.Sound.{tried_of}
 use Rattle.node_parts.specs.Lines.{LineClaims}

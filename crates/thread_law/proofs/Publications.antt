@@ -3,7 +3,7 @@ use Rattle.std.proofs.Common.{◌≡◌, ◌≢◌, ◌⊎◌, ℕ, zero, suc, �
 use Rattle.std.specs.Prelude.{slice_get, if◌then◌else◌}
 use Rattle.std.specs.Option.{option_or}
 use Rattle.std.proofs.lemmas.Option.{none-some, same_Some}
-use Rattle.list_laws.specs.Lists.{In, Each, Pairs}
+use Rattle.list_laws.specs.Lists.{Each, Pairs}
 use Rattle.list_laws.proofs.Lists.{each_append, each_one, pairs_append, read_set, read_map}
 use Rattle.list_laws.proofs.Changes.{append_nil, get_set_here}
 use Rattle.list_laws.proofs.Tests.{no_cause, le_false, lt_true, lt_false}

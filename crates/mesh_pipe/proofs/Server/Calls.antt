@@ -16,7 +16,6 @@ use Rattle.shard_core.specs.declared.faults.ShardFault.{ShardFault}
 use Rattle.shard_core.specs.declared.faults.ShardFault.TheVariants.{JobInHand, WrongTurn}
 use Rattle.shard_core.specs.Lines.{first_of, begun_turn, Turns}
 use Rattle.shard_core.specs.ShardEvents as of_shard
-use Rattle.shard_core.specs.ShardEvents.{Event}
 use Rattle.shard_core.specs.ShardSteps.{answer_fits, shard_refusal, shard_after, shard_answer}
 use Rattle.node_law.specs.declared.faults.NodeFault.{NodeFault}
 use Rattle.node_law.specs.declared.faults.NodeFault.TheVariants.{Shard}

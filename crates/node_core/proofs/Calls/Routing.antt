@@ -1,5 +1,5 @@
 -- A frame of a peer at a server: of a message each shard gets its job.
-use Rattle.std.proofs.Common.{◌≡◌, ℕ, false, not, nat_eq, nat_lt, nat_le, List, length, replicate, take, Option, Some, None, refl, sym, ap, ◌∙◌, subst}
+use Rattle.std.proofs.Common.{◌≡◌, ℕ, not, nat_eq, nat_lt, nat_le, List, length, take, Option, Some, None, refl, sym, ap, ◌∙◌, subst}
 use Rattle.std.specs.Prelude.{if◌then◌else◌}
 use Rattle.std.specs.Option.{option_map, option_or}
 use Rattle.std.specs.Str.{bytes_eq}
@@ -25,7 +25,6 @@ use Rattle.hub_core.proofs.Steps.Rooms.{or_none}
 use Rattle.node_law.specs.declared.faults.NodeFault.TheVariants as node_fault
 use Rattle.node_parts.specs.Sides.{Side, ByHub, side_after}
 use Rattle.node_parts.specs.declared.told.Received.{Received}
-use Rattle.node_parts.specs.declared.told.Received.TheVariants.{Routed}
 use Rattle.node_law.specs.Answers.{told_of_hub}
 use Rattle.node_law.specs.Events.{Receive}
 use Rattle.node_law.specs.State.{Line, Node, finished_turns}

@@ -6,12 +6,11 @@ use Rattle.subj.specs.declared.failures.Failure.{Failure}
 use Rattle.subj.specs.declared.failures.Failure.TheVariants.{Refused, OutOfMemory}
 use Rattle.subj.specs.declared.keys.Delta.{Delta}
 use Rattle.hub_core.specs.Events as of_hub
-use Rattle.hub_core.specs.Peers.{cut}
 use Rattle.hub_core.specs.State as hub
 use Rattle.node_law.specs.Steps.{cut_if}
 use Rattle.route_session.specs.Events as of_sessions
 use Rattle.route_session.specs.State.{peer_of_session}
-use Rattle.node_parts.specs.Sides.{Side, new_side, Event, ByHub, BySessions, Answer, IsDone, Done, Leads, side_after, side_answer, job_in}
+use Rattle.node_parts.specs.Sides.{Side, new_side, Event, ByHub, BySessions, Answer, IsDone, Leads, side_after, side_answer, job_in}
 use Rattle.node_threads.specs.AtHub.{AtHub, hub_at, HasDone, Does, IsAtHub}
 
 server_stays : (s : Side) (e : Event) → (side_after s e).server ≡ s.server

@@ -1,5 +1,5 @@
 -- A step of a server moves its hub and its sessions by their own step.
-use Rattle.std.proofs.Common.{◌≡◌, Option, Some, None, refl, sym, ap}
+use Rattle.std.proofs.Common.{◌≡◌, Option, Some, None, refl, sym}
 use Rattle.std.proofs.lemmas.Option.{none-some}
 use Rattle.hub_core.specs.Telling.{collect_refusal}
 use Rattle.hub_core.specs.State as hub

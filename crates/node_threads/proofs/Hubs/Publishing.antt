@@ -11,7 +11,7 @@ use Rattle.subj.specs.Servers.{IsListed}
 use Rattle.subj.specs.declared.jobs.Job.{Job}
 use Rattle.subj.specs.declared.limits.TheConstants.{MAX_COUNTER, MAX_QUEUE_NAMES}
 use Rattle.claim_cells.specs.declared.parts.HubPart.{HubPart}
-use Rattle.claim_cells.specs.Rule.{At, Has}
+use Rattle.claim_cells.specs.Rule.{At}
 use Rattle.claim_cells.specs.Steps.{loads_from}
 use Rattle.claim_cells.specs.Calls.{AreLoads, ShowsRoom, IsIssuedOrBusy}
 use Rattle.hub_core.specs.Events as of_hub

@@ -25,7 +25,7 @@ use Rattle.node_law.specs.Sound.{SoundNode}
 use Rattle.node_law.specs.State.{Line, Node, finished_turns}
 use Rattle.node_law.specs.Steps.{NodeStep, NodeRace, WorkRace, shard_line, set_line, line_after_if, work_event, own_after, node_after, work_refusal, line_with_job, lines_after_body, node_frames, BodyRace}
 use Rattle.world_law.specs.Changes.{AreGained, PlacementsAreOne}
-use Rattle.world_law.specs.Events.{Event, At, event_for, frame_at, numbered_event}
+use Rattle.world_law.specs.Events.{At, frame_at, numbered_event}
 use Rattle.world_law.specs.Outcomes.{Outcome, Done}
 use Rattle.world_law.specs.Play.{PutsArePlaced, placements_put, puts, put_if, put_at}
 use Rattle.world_law.specs.Refusals.{world_refusal, refusal_at}

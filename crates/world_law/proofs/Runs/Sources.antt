@@ -17,7 +17,7 @@ use Rattle.route_values.specs.declared.frames.RouteFrame.{RouteFrame}
 use Rattle.route_values.specs.declared.frames.RouteFrame.TheVariants as route
 use Rattle.hub_core.specs.Choice.{is_eligible, names_for}
 use Rattle.hub_core.specs.Publishing as publishing
-use Rattle.hub_core.specs.Publishing.{choice_of, names_of, is_owed, frames_from, frames_of, next_id}
+use Rattle.hub_core.specs.Publishing.{choice_of, names_of, is_owed, frames_from, next_id}
 use Rattle.hub_core.specs.Receiving.{receive_refusal}
 use Rattle.hub_core.specs.State.{State, Peer}
 use Rattle.hub_core.specs.Telling.{is_told, body_of, frames_of_change, frames_behind, count_of_changes, changes_of}

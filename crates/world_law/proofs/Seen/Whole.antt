@@ -7,7 +7,7 @@ use Rattle.list_laws.proofs.Lists.{in_map, in_left, in_right, read_replicate, pa
 use Rattle.list_laws.proofs.Tests.{true_eq, has_in, or_false, no_cause}
 use Rattle.list_laws.proofs.Changes.{append_nil, append_assoc, map_append, get_set_there, in_mapped, along_in, along_pairs, pairs_map_back}
 use Rattle.cluster_law.specs.Cluster as cluster
-use Rattle.cluster_law.specs.Cluster.{Step, Reached, world_with, all_closings}
+use Rattle.cluster_law.specs.Cluster.{Reached, world_with, all_closings}
 use Rattle.cluster_law.specs.Config.{every_rule}
 use Rattle.cluster_law.specs.Headline as law_headline
 use Rattle.cluster_law.specs.History as history

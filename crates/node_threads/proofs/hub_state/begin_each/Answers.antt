@@ -1,4 +1,4 @@
-use Rattle.std.proofs.Common.{◌≡◌, ◌<◌, false, length, map, take, set, All, add-one, arith, sym, ap, ◌∙◌}
+use Rattle.std.proofs.Common.{◌≡◌, ◌<◌, false, length, add-one, arith, sym, ap, ◌∙◌}
 use Rattle.node_threads.specs.Outlets.{Line}
 use Rattle.node_threads.proofs.Lanes.Lines.{map_set_same, All_take_set}
 use Rattle.node_threads.proofs.hub_state.begin_each.Goals as goal

@@ -1,4 +1,4 @@
-use Rattle.std.proofs.Common.{◌+◌, ◌<◌, ◌++◌, length, map, set, Some, add-one, arith, sym, ap, ◌∙◌}
+use Rattle.std.proofs.Common.{◌+◌, ◌<◌, ◌++◌, length, Some, add-one, arith, sym, ap, ◌∙◌}
 use Rattle.std.proofs.lemmas.List.{drop-set-lt}
 use Rattle.node_threads.specs.Outlets.{Line, jobs_owed}
 use Rattle.node_threads.proofs.Lanes.Lines.{map_set_same, drop_step, drop_get}

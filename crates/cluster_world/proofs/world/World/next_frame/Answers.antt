@@ -1,6 +1,4 @@
-use Rattle.std.proofs.Common.{◌+◌, suc, length, drop, sym, ap, ◌∙◌, arith}
-use Rattle.std.specs.List.{flat_map}
-use Rattle.std.proofs.lemmas.List.{at_drop_all}
+use Rattle.std.proofs.Common.{arith}
 use Rattle.cluster_world.specs.InCode.{items_of}
 use Rattle.cluster_world.proofs.Clusters.Finds.{counted_next}
 use Rattle.cluster_world.proofs.world.World.next_frame.Goals as goal

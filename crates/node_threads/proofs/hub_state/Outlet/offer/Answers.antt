@@ -1,5 +1,5 @@
 use Rattle.std.proofs.Common.{◌≡◌, All, true, Some, None, sym, ap, ◌∙◌, subst}
-use Rattle.node_threads.specs.Outlets.{Line, Outlet, IsOutlet, jobs_owed, jobs_handed}
+use Rattle.node_threads.specs.Outlets.{Line, Outlet, IsOutlet, jobs_handed}
 use Rattle.node_threads.proofs.Lanes.Outlets.{owed_numbered, with_unsent, all_took, alike}
 use Rattle.node_threads.proofs.hub_state.Outlet.offer.Goals as goal
 
