@@ -87,7 +87,7 @@ fn number_told(
     }
 }
 
-/// What was written to a connection, or how much.
+/// What was written to a connection, or how much, or how many calls of its stream have failed.
 fn written_told(
     alloc: Global,
     stream: Option<&MemStream>,
@@ -96,6 +96,7 @@ fn written_told(
     match stream {
         None => text(alloc, "no connection"),
         Some(stream) if call == "length" => format!(in alloc; "{}", stream.written().len()),
+        Some(stream) if call == "failed" => format!(in alloc; "{}", stream.failed_calls()),
         Some(stream) => shown(alloc, "", stream.written()),
     }
 }
@@ -462,6 +463,7 @@ pub fn is_question(line: &Call<'_>) -> bool {
             line.name,
             "sent"
                 | "length"
+                | "failed"
                 | "ends"
                 | "ends_each"
                 | "gains"

@@ -6,8 +6,8 @@ use crate::stream::{Stream, StreamFault};
 use std::alloc::{AllocError, Global};
 
 /// A stream in memory: it is fed what the other end sends, and keeps what was written. One of its calls can
-/// be made to fail, and all calls behind it fail then too. It may take only so many bytes altogether, as if
-/// its other end read no more.
+/// be made to fail, and all calls behind it fail then too; those that failed are counted. It may take only so
+/// many bytes altogether, as if its other end read no more.
 #[derive(Drop)]
 pub struct MemStream {
     input: Vec<u8>,
@@ -18,6 +18,7 @@ pub struct MemStream {
     most: usize,
     fails_in: u64,
     has_failed: bool,
+    failed_calls: u64,
 }
 
 impl MemStream {
@@ -32,6 +33,7 @@ impl MemStream {
             most: usize::MAX,
             fails_in: 0,
             has_failed: false,
+            failed_calls: 0,
         }
     }
 
@@ -74,6 +76,17 @@ impl MemStream {
         self.written.as_slice()
     }
 
+    /// How many of its calls have failed. One that would have to wait has not.
+    pub fn failed_calls(&self) -> u64 {
+        self.failed_calls
+    }
+
+    /// Counts a call that fails.
+    fn failed(&mut self) -> StreamFault {
+        self.failed_calls = self.failed_calls.saturating_add(1);
+        StreamFault::Failed
+    }
+
     /// Whether a call fails that is made now.
     fn fails(&mut self) -> bool {
         if self.fails_in == 1 {
@@ -89,10 +102,10 @@ impl Stream for MemStream {
         ensures bound { ReadsAtMost result buffer.new }
     {
         if self.fails() {
-            return Err(StreamFault::Failed);
+            return Err(self.failed());
         }
         let Some(rest) = self.input.get(self.at..) else {
-            return Err(StreamFault::Failed);
+            return Err(self.failed());
         };
         let count = rest.len().min(buffer.len()).min(self.most);
         if count == 0 && !self.has_ended {
@@ -107,14 +120,14 @@ impl Stream for MemStream {
         ensures bound { WritesAtMost result bytes.now }
     {
         if self.fails() {
-            return Err(StreamFault::Failed);
+            return Err(self.failed());
         }
         let count = bytes.len().min(self.room).min(self.most);
         if count == 0 && !bytes.is_empty() {
             return Err(StreamFault::WouldBlock);
         }
         if self.written.extend_from_slice(&bytes[..count]).is_err() {
-            return Err(StreamFault::Failed);
+            return Err(self.failed());
         }
         self.room = self.room.saturating_sub(count);
         Ok(count)
