@@ -36,10 +36,10 @@ pub record Ends (from : PipeState) (said : List ℕ) : Type 0 where
 
 -- ---- the connection and its server
 
-abbrev pub state_of : ConnState → PipeServer → PipeState
+abbrev pub state_of : {R : Type 0} → ConnState → PipeServer R → PipeState
 state_of conn server = record { asking = conn.asking; served = served_state server }
 
-pub record IsInStep (conn : ConnState) (server : PipeServer) : Type 0 where
+pub record IsInStep {R : Type 0} (conn : ConnState) (server : PipeServer R) : Type 0 where
   pub ready : IsReady server
   -- all that the bytes ask for stands to be asked
   pub settled : asks_after_bytes [] conn.asking ≡ conn.asking
@@ -51,7 +51,7 @@ abbrev pub left_of : ConnState → ℕ
 left_of conn = sum_by asks_of conn.asking.asks
 
 -- an ask was answered
-pub record HasWorked (old_conn : ConnState) (old : PipeServer) (new_conn : ConnState) (new : PipeServer) : Type 0 where
+pub record HasWorked {R : Type 0} (old_conn : ConnState) (old : PipeServer R) (new_conn : ConnState) (new : PipeServer R) : Type 0 where
   pub said : List ℕ
   pub put : new.output.items ≡ old.output.items ++ said
   pub in_step : IsInStep new_conn new
@@ -59,18 +59,18 @@ pub record HasWorked (old_conn : ConnState) (old : PipeServer) (new_conn : ConnS
   pub fewer : left_of new_conn < left_of old_conn
 
 -- an ask was answered, behind which nothing is said
-pub record HasClosed (old_conn : ConnState) (old new : PipeServer) : Type 0 where
+pub record HasClosed {R : Type 0} (old_conn : ConnState) (old new : PipeServer R) : Type 0 where
   pub said : List ℕ
   pub put : new.output.items ≡ old.output.items ++ said
   pub ends : Ends (state_of old_conn old) said
 
 -- nothing is asked, for lack of bytes
-pub record NeedsBytes (old_conn : ConnState) (old : PipeServer) (new_conn : ConnState) (new : PipeServer) : Type 0 where
+pub record NeedsBytes {R : Type 0} (old_conn : ConnState) (old : PipeServer R) (new_conn : ConnState) (new : PipeServer R) : Type 0 where
   pub same : new ≡ old
   pub asking : new_conn.asking ≡ old_conn.asking
   pub none : old_conn.asking.asks ≡ []
 
-abbrev pub HasLooked : Option Flow → ConnState → PipeServer → ConnState → PipeServer → Type 0
+abbrev pub HasLooked : {R : Type 0} → Option Flow → ConnState → PipeServer R → ConnState → PipeServer R → Type 0
 HasLooked None old_conn old new_conn new = NeedsBytes old_conn old new_conn new
 HasLooked (Some Open) old_conn old new_conn new = HasWorked old_conn old new_conn new
 HasLooked (Some Closed) old_conn old new_conn new = HasClosed old_conn old new
@@ -78,7 +78,7 @@ HasLooked (Some Closed) old_conn old new_conn new = HasClosed old_conn old new
 -- ---- the sink
 
 -- all that was put was written
-pub record IsFlushed (old : PipeServer) (was : Option (List ℕ)) (new : PipeServer) (is : Option (List ℕ)) : Type 0 where
+pub record IsFlushed {R : Type 0} (old : PipeServer R) (was : Option (List ℕ)) (new : PipeServer R) (is : Option (List ℕ)) : Type 0 where
   pub written : Appends was is old.output.items
   pub empty : new.output.items ≡ []
   pub same : new ≡ record old { output = new.output }
@@ -91,7 +91,7 @@ CountsWrites (Err OutOfMemory) old new = new ≡ old
 CountsWrites (Err Read) old new = ⊥
 
 -- asks were answered; of what was put and said, this was written
-pub record HasMoved (old_conn : ConnState) (old : PipeServer) (was : Option (List ℕ)) (new_conn : ConnState) (new : PipeServer) (is : Option (List ℕ)) : Type 0 where
+pub record HasMoved {R : Type 0} (old_conn : ConnState) (old : PipeServer R) (was : Option (List ℕ)) (new_conn : ConnState) (new : PipeServer R) (is : Option (List ℕ)) : Type 0 where
   pub put : List ℕ
   pub said : List ℕ
   pub written : Appends was is put
@@ -100,12 +100,12 @@ pub record HasMoved (old_conn : ConnState) (old : PipeServer) (was : Option (Lis
   pub goes : GoesOn (state_of old_conn old) said (state_of new_conn new)
 
 -- all that stood to be asked was answered
-pub record HasAnsweredAll (old_conn : ConnState) (old : PipeServer) (was : Option (List ℕ)) (new_conn : ConnState) (new : PipeServer) (is : Option (List ℕ)) : Type 0 where
+pub record HasAnsweredAll {R : Type 0} (old_conn : ConnState) (old : PipeServer R) (was : Option (List ℕ)) (new_conn : ConnState) (new : PipeServer R) (is : Option (List ℕ)) : Type 0 where
   pub moved : HasMoved old_conn old was new_conn new is
   pub none : new_conn.asking.asks ≡ []
 
 -- asks were answered, behind which nothing is said
-pub record HasEnded (old_conn : ConnState) (old : PipeServer) (was : Option (List ℕ)) (new : PipeServer) (is : Option (List ℕ)) : Type 0 where
+pub record HasEnded {R : Type 0} (old_conn : ConnState) (old : PipeServer R) (was : Option (List ℕ)) (new : PipeServer R) (is : Option (List ℕ)) : Type 0 where
   pub put : List ℕ
   pub said : List ℕ
   pub written : Appends was is put
@@ -113,13 +113,13 @@ pub record HasEnded (old_conn : ConnState) (old : PipeServer) (was : Option (Lis
   pub ends : Ends (state_of old_conn old) said
 
 -- what was written is a beginning of what was put and is to be said, whatever comes behind
-pub record HasBegun (old_conn : ConnState) (old : PipeServer) (was is : Option (List ℕ)) : Type 0 where
+pub record HasBegun {R : Type 0} (old_conn : ConnState) (old : PipeServer R) (was is : Option (List ℕ)) : Type 0 where
   pub put : List ℕ
   pub rest : List ℕ → List ℕ
   pub written : Appends was is put
   pub text : (more : List ℕ) → old.output.items ++ (said_from (state_of old_conn old) more).text ≡ put ++ rest more
 
-abbrev pub Works : Result Flow PipeFault → ConnState → PipeServer → Option (List ℕ) → ConnState → PipeServer → Option (List ℕ) → Type 0
+abbrev pub Works : {R : Type 0} → Result Flow PipeFault → ConnState → PipeServer R → Option (List ℕ) → ConnState → PipeServer R → Option (List ℕ) → Type 0
 Works (Ok Open) old_conn old was new_conn new is = HasAnsweredAll old_conn old was new_conn new is
 Works (Ok Closed) old_conn old was new_conn new is = HasEnded old_conn old was new is
 Works (Err fault) old_conn old was new_conn new is = HasBegun old_conn old was is
@@ -127,7 +127,7 @@ Works (Err fault) old_conn old was new_conn new is = HasBegun old_conn old was i
 -- ---- all that stands to be asked, where nothing was put
 
 -- it was answered, and all of it was written
-pub record HasAnswered (old_conn : ConnState) (old : PipeServer) (was : Option (List ℕ)) (new_conn : ConnState) (new : PipeServer) (is : Option (List ℕ)) : Type 0 where
+pub record HasAnswered {R : Type 0} (old_conn : ConnState) (old : PipeServer R) (was : Option (List ℕ)) (new_conn : ConnState) (new : PipeServer R) (is : Option (List ℕ)) : Type 0 where
   pub said : List ℕ
   pub written : Appends was is said
   pub empty : new.output.items ≡ []
@@ -136,19 +136,19 @@ pub record HasAnswered (old_conn : ConnState) (old : PipeServer) (was : Option (
   pub goes : GoesOn (state_of old_conn old) said (state_of new_conn new)
 
 -- and behind it nothing is said
-pub record HasFinished (old_conn : ConnState) (old : PipeServer) (was is : Option (List ℕ)) : Type 0 where
+pub record HasFinished {R : Type 0} (old_conn : ConnState) (old : PipeServer R) (was is : Option (List ℕ)) : Type 0 where
   pub said : List ℕ
   pub written : Appends was is said
   pub ends : Ends (state_of old_conn old) said
 
 -- a beginning of it was written
-pub record HasFronted (old_conn : ConnState) (old : PipeServer) (was is : Option (List ℕ)) : Type 0 where
+pub record HasFronted {R : Type 0} (old_conn : ConnState) (old : PipeServer R) (was is : Option (List ℕ)) : Type 0 where
   pub put : List ℕ
   pub rest : List ℕ → List ℕ
   pub written : Appends was is put
   pub text : (more : List ℕ) → (said_from (state_of old_conn old) more).text ≡ put ++ rest more
 
-abbrev pub AnswersAll : Result Flow PipeFault → ConnState → PipeServer → Option (List ℕ) → ConnState → PipeServer → Option (List ℕ) → Type 0
+abbrev pub AnswersAll : {R : Type 0} → Result Flow PipeFault → ConnState → PipeServer R → Option (List ℕ) → ConnState → PipeServer R → Option (List ℕ) → Type 0
 AnswersAll (Ok Open) old_conn old was new_conn new is = HasAnswered old_conn old was new_conn new is
 AnswersAll (Ok Closed) old_conn old was new_conn new is = HasFinished old_conn old was is
 AnswersAll (Err fault) old_conn old was new_conn new is = HasFronted old_conn old was is

@@ -12,18 +12,18 @@ use Rattle.mesh_pipe.specs.PipeText.{Served, Output, at_first, at_rest, served_b
 use Rattle.mesh_pipe.specs.PipeServing.{IsServing, shard_in, waiting_in}
 
 -- what the answers depend on
-abbrev pub served_state : PipeServer → Served
+abbrev pub served_state : {R : Type 0} → PipeServer R → Served
 served_state server = served_by (shard_in server.node)
 
 -- no job waits, all that was put was taken, and the hub was told of all
-pub record IsReady (server : PipeServer) : Type 0 where
+pub record IsReady {R : Type 0} (server : PipeServer R) : Type 0 where
   pub serving : IsServing server.node
   pub conn : server.conn ≡ 1
   pub shard : shard_in server.node ≡ at_rest (served_state server)
   pub waiting : waiting_in server.node ≡ []
 
 -- nothing was done yet
-pub record IsNew (server : PipeServer) : Type 0 where
+pub record IsNew {R : Type 0} (server : PipeServer R) : Type 0 where
   pub ready : IsReady server
   pub same : served_state server ≡ at_first
   pub empty : server.output.items ≡ []
@@ -31,7 +31,7 @@ pub record IsNew (server : PipeServer) : Type 0 where
 -- ---- an ask
 
 -- this was put, and behind it this is served
-pub record HasSaid (said : Output) (old new : PipeServer) : Type 0 where
+pub record HasSaid {R : Type 0} (said : Output) (old new : PipeServer R) : Type 0 where
   pub text : new.output.items ≡ old.output.items ++ said.text
   pub ready : IsReady new
   pub same : served_state new ≡ said.served
@@ -49,7 +49,7 @@ IsTold NumbersSpent s said = said ≡ error_told text.NumbersSpent s
 IsTold TooManyQueueGroups s said = said ≡ error_told text.TooManyQueueGroups s
 IsTold Other s said = ⊥
 
-abbrev pub HasServed : Outcome → Output → PipeServer → PipeServer → Type 0
+abbrev pub HasServed : {R : Type 0} → Outcome → Output → PipeServer R → PipeServer R → Type 0
 HasServed (Answered (Ok done)) said old new = (said.closed ≡ false) × HasSaid said old new
 HasServed (Answered (Err why)) said old new = IsTold why (served_state old) said × (new ≡ old)
 HasServed Closed said old new = (said.closed ≡ true) × (new.output.items ≡ old.output.items ++ said.text)

@@ -4,7 +4,7 @@
 //! ```text
 //! let mut source = Raw::new(rt.reader());
 //! let mut sink = Raw::new(io::writer(rt));
-//! let end = pipe_run(rt.alloc(), &mut source, &mut sink)?;
+//! let end = pipe_run::<PlainRace, _, _>(rt.alloc(), &mut source, &mut sink)?;
 //! ```
 //!
 //! In reading order: `pipe` is the loop and what its contract says of all bytes that were written, and how a program ends then;

@@ -11,6 +11,7 @@ ghost use Rattle.mesh_pipe.specs.Ending.{exit_status};
 
 use crate::faults::PipeFault;
 use crate::pipe_server::{Outcome, PipeServer, info};
+use claim_race::Race;
 use client_conn::{Conn, ReadFault};
 use std::alloc::{AllocError, Global};
 use subj::READ_BYTES;
@@ -34,9 +35,9 @@ pub enum PipeEnd {
     Closed,
 }
 
-/// Serves one client: reads its commands, and writes what a server sends. Each read is of at most
-/// [`READ_BYTES`] bytes, and all that is known by then is written before the next one.
-pub fn pipe_run<S: Source, W: Sink>(
+/// Serves one client by a server with any race: reads its commands, and writes what a server sends. Each read is
+/// of at most [`READ_BYTES`] bytes, and all that is known by then is written before the next one.
+pub fn pipe_run<R: Race, S: Source, W: Sink>(
     alloc: Global,
     source: &mut S,
     sink: &mut W,
@@ -47,14 +48,14 @@ pub fn pipe_run<S: Source, W: Sink>(
     ensures writes { CountsFailedWrites result (W.failures sink.old) (W.failures sink.new) }
 {
     let mut conn = Conn::new(alloc, info());
-    let mut server = PipeServer::new(alloc)?;
+    let mut server: PipeServer<R> = PipeServer::new(alloc)?;
     serve(&mut conn, &mut server, source, sink)
 }
 
 /// Serves a client of whom nothing was read yet.
-fn serve<S: Source, W: Sink>(
+fn serve<R: Race, S: Source, W: Sink>(
     conn: &mut Conn,
-    server: &mut PipeServer,
+    server: &mut PipeServer<R>,
     source: &mut S,
     sink: &mut W,
 ) -> Result<PipeEnd, PipeFault>
@@ -89,9 +90,9 @@ fn serve<S: Source, W: Sink>(
 }
 
 /// Does all that is asked, and writes what was put.
-fn answer_all<W: Sink>(
+fn answer_all<R: Race, W: Sink>(
     conn: &mut Conn,
-    server: &mut PipeServer,
+    server: &mut PipeServer<R>,
     sink: &mut W,
 ) -> Result<Flow, PipeFault>
     requires step { IsInStep conn.old server.old }
@@ -105,7 +106,7 @@ fn answer_all<W: Sink>(
 }
 
 /// Writes what was put.
-fn flush<W: Sink>(server: &mut PipeServer, sink: &mut W) -> Result<(), PipeFault>
+fn flush<R: Race, W: Sink>(server: &mut PipeServer<R>, sink: &mut W) -> Result<(), PipeFault>
     ensures ok { OnOk result (IsFlushed server.old (W.written sink.old) server.new (W.written sink.new)) }
     ensures err { OnErr result (AppendsFront (W.written sink.old) (W.written sink.new) server.old.output.items) }
     ensures failures { CountsWrites result (W.failures sink.old) (W.failures sink.new) }
@@ -116,7 +117,11 @@ fn flush<W: Sink>(server: &mut PipeServer, sink: &mut W) -> Result<(), PipeFault
 }
 
 /// Does all that is asked. What was put is written as soon as it is [`READ_BYTES`] long.
-fn work<W: Sink>(conn: &mut Conn, server: &mut PipeServer, sink: &mut W) -> Result<Flow, PipeFault>
+fn work<R: Race, W: Sink>(
+    conn: &mut Conn,
+    server: &mut PipeServer<R>,
+    sink: &mut W,
+) -> Result<Flow, PipeFault>
     requires { IsInStep conn.old server.old }
     ensures works { Works result conn.old server.old (W.written sink.old) conn.new server.new (W.written sink.new) }
     ensures failures { CountsWrites result (W.failures sink.old) (W.failures sink.new) }
@@ -135,7 +140,7 @@ fn work<W: Sink>(conn: &mut Conn, server: &mut PipeServer, sink: &mut W) -> Resu
 }
 
 /// Does what is asked next. None where more bytes are needed.
-fn look(conn: &mut Conn, server: &mut PipeServer) -> Result<Option<Flow>, AllocError>
+fn look<R: Race>(conn: &mut Conn, server: &mut PipeServer<R>) -> Result<Option<Flow>, AllocError>
     requires { IsInStep conn.old server.old }
     ensures { IfOk result (λ looked. HasLooked looked conn.old server.old conn.new server.new) }
 {

@@ -13,7 +13,7 @@ ghost use Rattle.mesh_pipe.specs.PipeText.{pipe_info, at_first, at_rest, after_e
 ghost use Rattle.mesh_pipe.specs.PipeServing.{refusal_of as refused, line_in, shard_in, waiting_in, all_entries, waiting_bytes, placing_refused, pipe_server, IsServing, Steps, IsPublished, IsOpened, AreFree, HasBegun, HasClaimed, HasEnded, HasClaimedAll, HasWorkedOff, queues_in, first_queues};
 ghost use Rattle.mesh_pipe.specs.PipeStates.{outcome_by, served_state, IsNew, IsReady, HasServed, MayBeTold};
 
-use claim_race::PlainRace;
+use claim_race::Race;
 use client_conn::{Ask, Refusal};
 use client_frames::{ErrText, InfoData, ReplyFrame, ServerFrame, encode, reply_line};
 use client_refusals::{refusal_of_hub, refusal_of_shard};
@@ -60,8 +60,8 @@ impl Confirmation {
     }
 }
 
-/// A server over the trie, with a race for one thread.
-type PipeNode = Node<TrieTable, PlainRace>;
+/// A server over the trie, with any race.
+type PipeNode<R> = Node<TrieTable, R>;
 
 /// The number of its shard.
 const SHARD: u64 = 1;
@@ -101,7 +101,7 @@ fn only_server(alloc: Global) -> Result<Server, AllocError>
 }
 
 /// A server that has just taken its one connection.
-fn new_node(alloc: Global) -> Result<PipeNode, AllocError>
+fn new_node<R: Race>(alloc: Global) -> Result<PipeNode<R>, AllocError>
     ensures { IfOk result (λ node. IsServing node × (shard_in node ≡ at_rest at_first) × (waiting_in node ≡ [])) }
 {
     let mut node = Node::new(alloc, only_server(alloc)?)?;
@@ -125,7 +125,11 @@ fn refusal_of(fault: NodeFault) -> Refusal
 }
 
 /// Puts a line for the client. Tells whether it was shut instead, for want of room.
-fn reply(node: &mut PipeNode, conn: ConnId, frame: &ReplyFrame) -> Result<bool, AllocError>
+fn reply<R: Race>(
+    node: &mut PipeNode<R>,
+    conn: ConnId,
+    frame: &ReplyFrame,
+) -> Result<bool, AllocError>
     requires serving { IsServing node.old }
     requires conn { conn ≡ 1 }
     requires open { is_open 1 (shard_in node.old).clients ≡ true }
@@ -141,7 +145,7 @@ fn reply(node: &mut PipeNode, conn: ConnId, frame: &ReplyFrame) -> Result<bool, 
 }
 
 /// Shuts the client with this text.
-fn shut(node: &mut PipeNode, conn: ConnId, text: ErrText) -> Result<(), AllocError>
+fn shut<R: Race>(node: &mut PipeNode<R>, conn: ConnId, text: ErrText) -> Result<(), AllocError>
     requires serving { IsServing node.old }
     requires conn { conn ≡ 1 }
     requires open { is_open 1 (shard_in node.old).clients ≡ true }
@@ -156,8 +160,8 @@ fn shut(node: &mut PipeNode, conn: ConnId, text: ErrText) -> Result<(), AllocErr
 }
 
 /// Opens a subscription for the client, or tells why not.
-fn subscribe(
-    node: &mut PipeNode,
+fn subscribe<R: Race>(
+    node: &mut PipeNode<R>,
     conn: ConnId,
     key: Key,
     sid: Sid,
@@ -174,7 +178,7 @@ fn subscribe(
 }
 
 /// Closes what the client calls so.
-fn unsubscribe(node: &mut PipeNode, conn: ConnId, sid: &Sid, max: Option<u64>)
+fn unsubscribe<R: Race>(node: &mut PipeNode<R>, conn: ConnId, sid: &Sid, max: Option<u64>)
     requires serving { IsServing node.old }
     requires conn { conn ≡ 1 }
     requires open { is_open 1 (shard_in node.old).clients ≡ true }
@@ -188,7 +192,11 @@ fn unsubscribe(node: &mut PipeNode, conn: ConnId, sid: &Sid, max: Option<u64>)
 }
 
 /// Publishes for the client, or tells why not: a job of the next turn waits.
-fn publish(node: &mut PipeNode, conn: ConnId, said: &Pub) -> Result<Result<(), Refusal>, AllocError>
+fn publish<R: Race>(
+    node: &mut PipeNode<R>,
+    conn: ConnId,
+    said: &Pub,
+) -> Result<Result<(), Refusal>, AllocError>
     requires serving { IsServing node.old }
     requires conn { conn ≡ 1 }
     requires idle { waiting_in node.old ≡ [] }
@@ -206,7 +214,7 @@ fn publish(node: &mut PipeNode, conn: ConnId, said: &Pub) -> Result<Result<(), R
 }
 
 /// Begins the job that waits. Tells whether the client was shut for want of room.
-fn begin(node: &mut PipeNode) -> Result<bool, AllocError>
+fn begin<R: Race>(node: &mut PipeNode<R>) -> Result<bool, AllocError>
     requires serving { IsServing node.old }
     requires none { (shard_in node.old).hand ≡ None }
     requires one { length (waiting_in node.old) ≡ 1 }
@@ -221,7 +229,7 @@ fn begin(node: &mut PipeNode) -> Result<bool, AllocError>
 }
 
 /// Claims the queue name of this index of the job in hand, which is the next one.
-fn claim(node: &mut PipeNode, index: u64) -> Result<(), AllocError>
+fn claim<R: Race>(node: &mut PipeNode<R>, index: u64) -> Result<(), AllocError>
     requires serving { IsServing node.old }
     requires due { shard_refusal (shard_in node.old) (Claim index true) ≡ None }
     requires last { waiting_in node.old ≡ [] }
@@ -237,7 +245,7 @@ fn claim(node: &mut PipeNode, index: u64) -> Result<(), AllocError>
 }
 
 /// Ends the job in hand, where all its queue names were claimed. Tells whether they were.
-fn end(node: &mut PipeNode) -> bool
+fn end<R: Race>(node: &mut PipeNode<R>) -> bool
     requires serving { IsServing node.old }
     requires hand { is_some (shard_in node.old).hand ≡ true }
     ensures { HasEnded (shard_refusal (shard_in node.old) End) node.old result node.new }
@@ -249,7 +257,7 @@ fn end(node: &mut PipeNode) -> bool
 }
 
 /// Claims the queue names of the job in hand, one after the other, and ends it.
-fn claim_and_end(node: &mut PipeNode) -> Result<(), AllocError>
+fn claim_and_end<R: Race>(node: &mut PipeNode<R>) -> Result<(), AllocError>
     requires serving { IsServing node.old }
     requires hand { is_some (shard_in node.old).hand ≡ true }
     requires fresh { (shard_in node.old).next_index ≡ 0 }
@@ -268,7 +276,7 @@ fn claim_and_end(node: &mut PipeNode) -> Result<(), AllocError>
 
 /// Works off the job that waits: it is begun, its queue names are claimed, and it is ended. Tells whether
 /// the client was shut.
-fn work_off(node: &mut PipeNode) -> Result<bool, AllocError>
+fn work_off<R: Race>(node: &mut PipeNode<R>) -> Result<bool, AllocError>
     requires serving { IsServing node.old }
     requires none { (shard_in node.old).hand ≡ None }
     requires one { length (waiting_in node.old) ≡ 1 }
@@ -282,7 +290,7 @@ fn work_off(node: &mut PipeNode) -> Result<bool, AllocError>
 }
 
 /// Its one shard, and the jobs that wait for it.
-fn only_line(node: &PipeNode) -> &Line<TrieTable>
+fn only_line<R: Race>(node: &PipeNode<R>) -> &Line<TrieTable>
     requires { IsServing node.now }
     ensures { result.now ≡ line_in node.now }
 {
@@ -294,7 +302,7 @@ fn only_line(node: &PipeNode) -> &Line<TrieTable>
 }
 
 /// Has the hub count what was opened and closed, where anything was.
-fn collect(node: &mut PipeNode) -> Result<(), AllocError>
+fn collect<R: Race>(node: &mut PipeNode<R>) -> Result<(), AllocError>
     requires { IsServing node.old }
     ensures { OnOk result (Steps node.old Collect node.new) }
 {
@@ -311,7 +319,7 @@ fn collect(node: &mut PipeNode) -> Result<(), AllocError>
 }
 
 /// Moves the bytes of all that waits for the client behind those that are to be written.
-fn take(node: &mut PipeNode, conn: ConnId, out: &mut Vec<u8>) -> Result<(), AllocError>
+fn take<R: Race>(node: &mut PipeNode<R>, conn: ConnId, out: &mut Vec<u8>) -> Result<(), AllocError>
     requires serving { IsServing node.old }
     requires conn { conn ≡ 1 }
     requires known { is_known 1 (shard_in node.old).clients ≡ true }
@@ -327,7 +335,11 @@ fn take(node: &mut PipeNode, conn: ConnId, out: &mut Vec<u8>) -> Result<(), Allo
 }
 
 /// [`take`], where often nothing waits: that is seen at once.
-fn take_any(node: &mut PipeNode, conn: ConnId, out: &mut Vec<u8>) -> Result<(), AllocError>
+fn take_any<R: Race>(
+    node: &mut PipeNode<R>,
+    conn: ConnId,
+    out: &mut Vec<u8>,
+) -> Result<(), AllocError>
     requires serving { IsServing node.old }
     requires conn { conn ≡ 1 }
     requires known { is_known 1 (shard_in node.old).clients ≡ true }
@@ -349,19 +361,19 @@ pub enum Outcome {
     Closed,
 }
 
-/// The server of a pipe with its one connection, and what is to be written to the client.
+/// The server of a pipe with its one connection, over any race, and what is to be written to the client.
 #[derive(Drop)]
-pub struct PipeServer {
+pub struct PipeServer<R: Race> {
     alloc: Global,
-    node: PipeNode,
+    node: PipeNode<R>,
     conn: ConnId,
     confirmation: Confirmation,
     output: Vec<u8>,
 }
 
-impl PipeServer {
+impl<R: Race> PipeServer<R> {
     /// Node `n1` in its first life, with the connection of its client.
-    pub fn new(alloc: Global) -> Result<PipeServer, AllocError>
+    pub fn new(alloc: Global) -> Result<PipeServer<R>, AllocError>
         ensures { IfOk result IsNew }
     {
         Ok(PipeServer {

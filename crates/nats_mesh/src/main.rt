@@ -7,6 +7,7 @@
 #![tactic(auto)]
 
 use claim_cells::CellsRace;
+use claim_race::PlainRace;
 use command_line::{status_of, tell_line, words};
 use mesh_pipe::{pipe_complaint, pipe_run, pipe_status};
 use mesh_script::{match_run, script_run};
@@ -39,7 +40,7 @@ fn report<R: Eprint, E: Display + Drop>(rt: &R, ended: Result<(), E>) -> u8 {
 fn run_pipe<R: Input + Print + Eprint + Alloc<A = Global>>(rt: &R) -> u8 {
     let mut source = Raw::new(rt.reader());
     let mut sink = Raw::new(io::writer(rt));
-    let ended = pipe_run(rt.alloc(), &mut source, &mut sink);
+    let ended = pipe_run::<PlainRace, _, _>(rt.alloc(), &mut source, &mut sink);
     if let Some(complaint) = pipe_complaint(ended) {
         let _ = eprintln!(rt; "nats_mesh: {complaint}");
     }

@@ -3,6 +3,8 @@
 use crate::output::Output;
 use crate::pieces::{Pieces, room_in};
 use crate::streams::{sink_of, told};
+use claim_cells::CellsRace;
+use claim_race::{PlainRace, Race};
 use golden::{Words, text};
 use mesh_pipe::{PipeEnd, PipeFault, pipe_run};
 use std::alloc::{AllocError, Global};
@@ -23,10 +25,15 @@ fn end_word(ended: Result<PipeEnd, PipeFault>) -> &'static str {
     }
 }
 
-/// Serves the client whose reads give these pieces.
-fn serve_pieces(alloc: Global, pieces: Pieces, sink: &mut MemSink) -> &'static str {
+/// Serves the client whose reads give these pieces by this race.
+fn serve_by<R: Race>(alloc: Global, pieces: Pieces, sink: &mut MemSink) -> &'static str {
     let mut source = Raw::new(pieces);
-    end_word(pipe_run(alloc, &mut source, sink))
+    end_word(pipe_run::<R, Raw<Pieces>, MemSink>(alloc, &mut source, sink))
+}
+
+/// Serves the client whose reads give these pieces by the plain race, as the router does.
+fn serve_pieces(alloc: Global, pieces: Pieces, sink: &mut MemSink) -> &'static str {
+    serve_by::<PlainRace>(alloc, pieces, sink)
 }
 
 /// A sink that fails once it has so many bytes, where that is said.
@@ -52,11 +59,11 @@ fn told_without_info(alloc: Global, ended: &str, written: &[u8]) -> Result<Strin
     told(alloc, ended.as_str(), written)
 }
 
-/// Serves the client whose reads give the words.
-fn run(alloc: Global, words: &Words<'_>) -> Result<String, AllocError> {
+/// Serves the client whose reads give the words by this race.
+fn run<R: Race>(alloc: Global, words: &Words<'_>) -> Result<String, AllocError> {
     let pieces = Pieces::of_words(alloc, words)?;
     let mut sink = sink_with(alloc, room_in(words));
-    let ended = serve_pieces(alloc, pieces, &mut sink);
+    let ended = serve_by::<R>(alloc, pieces, &mut sink);
     told_behind_info(alloc, ended, sink.bytes())
 }
 
@@ -90,7 +97,8 @@ fn first(alloc: Global) -> Result<String, AllocError> {
     told(alloc, ended, sink.bytes())
 }
 
-/// `run PIECES`, of which each is what a read gives, `!read fails`, or `!write fails behind BYTES`; `serve`; or `first`.
+/// `run PIECES`, of which each is what a read gives, `!read fails`, or `!write fails behind BYTES`; `on_cells PIECES`, the same by the race on
+/// claim cells; `serve`; or `first`.
 pub fn answer(
     alloc: Global,
     input: &[u8],
@@ -99,7 +107,8 @@ pub fn answer(
     words: &Words<'_>,
 ) -> Result<String, AllocError> {
     match call {
-        "run" => run(alloc, words),
+        "run" => run::<PlainRace>(alloc, words),
+        "on_cells" => run::<CellsRace>(alloc, words),
         "serve" => serve(alloc, input, output),
         "first" => first(alloc),
         _ => text(alloc, "no such call"),

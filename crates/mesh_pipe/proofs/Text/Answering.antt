@@ -32,29 +32,29 @@ use Rattle.mesh_pipe.proofs.Server.Outputs.{known_there, IsAlone, IsSettled, IsQ
 
 -- ---- the server behind an ask
 
-pub record Rests (server : PipeServer) (t : State) : Type 0 where
+pub record Rests {R : Type 0} (server : PipeServer R) (t : State) : Type 0 where
   pub ready : IsReady server
   pub same : served_state server ≡ served_by t
 
-rests_at : (server : PipeServer) (t : State) → IsServing server.node → server.conn ≡ 1 → waiting_in server.node ≡ [] → shard_in server.node ≡ t → IsAlone t [] false → IsSettled t → Rests server t
+rests_at : {R : Type 0} (server : PipeServer R) (t : State) → IsServing server.node → server.conn ≡ 1 → waiting_in server.node ≡ [] → shard_in server.node ≡ t → IsAlone t [] false → IsSettled t → Rests server t
 rests_at server t serving conn waiting is alone settled = record {
   ready = record { serving = serving; conn = conn; shard = is ∙ rests t alone settled ∙ ap (λ (u : State). at_rest (served_by u)) (sym is); waiting = waiting };
   same = ap served_by is;
 }
 
-alone_of : (server : PipeServer) → IsReady server → IsAlone (shard_in server.node) [] false
+alone_of : {R : Type 0} (server : PipeServer R) → IsReady server → IsAlone (shard_in server.node) [] false
 alone_of server ready = alone_at_rest (shard_in server.node) (served_state server) ready.shard
 
-settled_of : (server : PipeServer) → IsReady server → IsSettled (shard_in server.node)
+settled_of : {R : Type 0} (server : PipeServer R) → IsReady server → IsSettled (shard_in server.node)
 settled_of server ready = settled_at_rest (shard_in server.node) (served_state server) ready.shard
 
 -- what is put by an event at rest
-output_at : (server : PipeServer) (event : Event) → IsReady server → after_event event (served_state server) ≡ output_of (shard_after (shard_in server.node) event)
+output_at : {R : Type 0} (server : PipeServer R) (event : Event) → IsReady server → after_event event (served_state server) ≡ output_of (shard_after (shard_in server.node) event)
 output_at server event ready = ap (λ (t : State). output_of (shard_after t event)) (sym ready.shard)
 
 -- ---- lines
 
-pub reply_served : (old new : PipeServer) (mid : of_node.Served) (frame : ReplyFrame) (shut : Bool) → IsReady old → Steps old.node (Reply 1 frame) mid → shut ≡ not (answer_fits (shard_in old.node) 1 (reply_line frame)) → Steps mid (Take 1 all_entries) new.node
+pub reply_served : {R : Type 0} (old new : PipeServer R) (mid : of_node.Served) (frame : ReplyFrame) (shut : Bool) → IsReady old → Steps old.node (Reply 1 frame) mid → shut ≡ not (answer_fits (shard_in old.node) 1 (reply_line frame)) → Steps mid (Take 1 all_entries) new.node
     → new.output.items ≡ old.output.items ++ waiting_bytes (shard_in mid) → new.conn ≡ old.conn → HasServed (outcome_by shut) (after_event (Reply 1 frame) (served_state old)) old new
 reply_served old new mid frame shut ready replies is takes put conn = go shut is
   where
@@ -91,7 +91,7 @@ reply_served old new mid frame shut ready replies is takes put conn = go shut is
         let at = rests_at new (shard_after u (Take 1 all_entries)) takes.serving (conn ∙ ready.conn) (takes.waiting ∙ replies.waiting ∙ ready.waiting) shard alone (record { hand = settled.hand; index = settled.index; deltas = settled.deltas }) in
         (closed ∙ sym e, record { text = text; ready = at.ready; same = at.same ∙ sym (ap (λ (r : Output). r.served) said_is) })
 
-pub shut_served : (old new : PipeServer) (mid : of_node.Served) (why : ErrText) → IsReady old → Steps old.node (Shut 1 why) mid → new.output.items ≡ old.output.items ++ waiting_bytes (shard_in mid) → HasServed Closed (after_event (Shut 1 why) (served_state old)) old new
+pub shut_served : {R : Type 0} (old new : PipeServer R) (mid : of_node.Served) (why : ErrText) → IsReady old → Steps old.node (Shut 1 why) mid → new.output.items ≡ old.output.items ++ waiting_bytes (shard_in mid) → HasServed Closed (after_event (Shut 1 why) (served_state old)) old new
 shut_served old new mid why ready shuts put =
     let alone = behind_shut (shard_in old.node) (err_line why) (alone_of old ready) in
     let said_is = output_at old (Shut 1 why) ready in (
@@ -103,7 +103,7 @@ shut_served old new mid why ready shuts put =
 -- ---- what puts nothing
 
 -- an event that leaves the connection, and then a collect
-quiet_served : (old new : PipeServer) (mid : of_node.Served) (event : Event) → IsReady old → IsQuiet (shard_in old.node) (shard_after (shard_in old.node) event) → Steps old.node event mid → waiting_in mid ≡ waiting_in old.node → Steps mid Collect new.node → new.output.items ≡ old.output.items → new.conn ≡ old.conn
+quiet_served : {R : Type 0} (old new : PipeServer R) (mid : of_node.Served) (event : Event) → IsReady old → IsQuiet (shard_in old.node) (shard_after (shard_in old.node) event) → Steps old.node event mid → waiting_in mid ≡ waiting_in old.node → Steps mid Collect new.node → new.output.items ≡ old.output.items → new.conn ≡ old.conn
     → HasServed (Answered (Ok tt)) (after_event event (served_state old)) old new
 quiet_served old new mid event ready quiet steps waiting collects put conn =
     let t = shard_in old.node in
@@ -120,12 +120,12 @@ quiet_served old new mid event ready quiet steps waiting collects put conn =
       },
     )
 
-pub unsubscribe_served : (old new : PipeServer) (mid : of_node.Served) (sid : List ℕ) (max : Option ℕ) → IsReady old → Steps old.node (Unsubscribe 1 sid max) mid → Steps mid Collect new.node → new.output.items ≡ old.output.items → new.conn ≡ old.conn
+pub unsubscribe_served : {R : Type 0} (old new : PipeServer R) (mid : of_node.Served) (sid : List ℕ) (max : Option ℕ) → IsReady old → Steps old.node (Unsubscribe 1 sid max) mid → Steps mid Collect new.node → new.output.items ≡ old.output.items → new.conn ≡ old.conn
     → HasServed (Answered (Ok tt)) (after_event (Unsubscribe 1 sid max) (served_state old)) old new
 unsubscribe_served old new mid sid max ready steps collects put conn =
     quiet_served old new mid (Unsubscribe 1 sid max) ready (unsubscribe_quiet (shard_in old.node) max (sub_called 1 sid (shard_in old.node).subs)) steps steps.waiting collects put conn
 
-pub subscribe_served : (old new : PipeServer) (mid : of_node.Served) (key : Key) (sid : List ℕ) → IsReady old → shard_refusal (shard_in old.node) (Subscribe 1 key sid) ≡ None → Steps old.node (Subscribe 1 key sid) mid → Steps mid Collect new.node → new.output.items ≡ old.output.items → new.conn ≡ old.conn
+pub subscribe_served : {R : Type 0} (old new : PipeServer R) (mid : of_node.Served) (key : Key) (sid : List ℕ) → IsReady old → shard_refusal (shard_in old.node) (Subscribe 1 key sid) ≡ None → Steps old.node (Subscribe 1 key sid) mid → Steps mid Collect new.node → new.output.items ≡ old.output.items → new.conn ≡ old.conn
     → HasServed (Answered (Ok tt)) (output_of_subscribe key sid (served_state old)) old new
 subscribe_served old new mid key sid ready free steps collects put conn =
     let t = shard_in old.node in
@@ -140,7 +140,7 @@ told_of_opening s true spent false fault e = subst (λ (f : ShardFault). IsTold 
 told_of_opening s false true false fault e = subst (λ (f : ShardFault). IsTold (refusal_of_shard f) s (opening_refused f s)) (same_Some Spent fault e) refl
 told_of_opening s false false false fault e = absurd (none-some fault e)
 
-pub opening_told : (old : PipeServer) (key : Key) (sid : List ℕ) (fault : ShardFault) → IsReady old → shard_refusal (shard_in old.node) (Subscribe 1 key sid) ≡ Some fault → HasServed (Answered (Err (refusal_of_shard fault))) (output_of_subscribe key sid (served_state old)) old old
+pub opening_told : {R : Type 0} (old : PipeServer R) (key : Key) (sid : List ℕ) (fault : ShardFault) → IsReady old → shard_refusal (shard_in old.node) (Subscribe 1 key sid) ≡ Some fault → HasServed (Answered (Err (refusal_of_shard fault))) (output_of_subscribe key sid (served_state old)) old old
 opening_told old key sid fault ready why =
     let s = served_state old in
     let cause : shard_refusal (at_rest s) (Subscribe 1 key sid) ≡ Some fault = ap (λ (u : State). shard_refusal u (Subscribe 1 key sid)) (sym ready.shard) ∙ why in (
@@ -160,7 +160,7 @@ told_of_placing s true many said why e = subst (λ (r : Refusal). IsTold r s (er
 told_of_placing s false true said why e = subst (λ (r : Refusal). IsTold r s (error_told text.TooManyQueueGroups s)) (same_Some refusal.TooManyQueueGroups why e) refl
 told_of_placing s false false said why e = absurd (none-some why e)
 
-pub placing_told : (old : PipeServer) (p : Pub) (why : Refusal) → placing_refused p (shard_in old.node) ≡ Some why → HasServed (Answered (Err why)) (output_of_publish p (served_state old)) old old
+pub placing_told : {R : Type 0} (old : PipeServer R) (p : Pub) (why : Refusal) → placing_refused p (shard_in old.node) ≡ Some why → HasServed (Answered (Err why)) (output_of_publish p (served_state old)) old old
 placing_told old p why cause =
     let s = served_state old in
     (told_of_placing s (nat_le MAX_COUNTER s.jobs) (nat_lt MAX_QUEUE_NAMES (length (names_wanted p.message.subject s.subs))) (output_of (after_job (job_of p s) (at_rest s))) why cause, refl)
@@ -172,7 +172,7 @@ same_first j k e = ap (λ (jobs : List Job). first j jobs) e
     first d [] = d
     first d (x ∷ xs) = x
 
-pub publish_served : (old new : PipeServer) (issued worked counted : of_node.Served) (p : Pub) (shut : Bool) → IsReady old → placing_refused p (shard_in old.node) ≡ None → HasIssued p old.node issued → HasWorkedOff issued shut worked → Steps worked Collect counted → Steps counted (Take 1 all_entries) new.node
+pub publish_served : {R : Type 0} (old new : PipeServer R) (issued worked counted : of_node.Served) (p : Pub) (shut : Bool) → IsReady old → placing_refused p (shard_in old.node) ≡ None → HasIssued p old.node issued → HasWorkedOff issued shut worked → Steps worked Collect counted → Steps counted (Take 1 all_entries) new.node
     → new.output.items ≡ old.output.items ++ waiting_bytes (shard_in counted) → new.conn ≡ old.conn → HasServed (outcome_by shut) (output_of_publish p (served_state old)) old new
 publish_served old new issued worked counted p shut ready free issues works counts takes put conn = go shut works.is_shut
   where
@@ -224,12 +224,12 @@ publish_served old new issued worked counted p shut ready free issues works coun
         let at = rests_at new v takes.serving (conn ∙ ready.conn) (takes.waiting ∙ counts.waiting ∙ works.waiting) shard (record { shard = taken.shard; shards = taken.shards; next = taken.next; clients = taken.clients; few = taken.few }) (record { hand = done.0; index = done.1; deltas = refl }) in
         (closed ∙ sym (e ∙ shut_is), record { text = text; ready = at.ready; same = at.same ∙ sym (ap (λ (r : Output). r.served) said_is) })
 
-pub published_known : (old : PipeServer) (issued worked counted : of_node.Served) (p : Pub) (shut : Bool) → IsReady old → HasIssued p old.node issued → HasWorkedOff issued shut worked → Steps worked Collect counted → is_known 1 (shard_in counted).clients ≡ true
+pub published_known : {R : Type 0} (old : PipeServer R) (issued worked counted : of_node.Served) (p : Pub) (shut : Bool) → IsReady old → HasIssued p old.node issued → HasWorkedOff issued shut worked → Steps worked Collect counted → is_known 1 (shard_in counted).clients ≡ true
 published_known old issued worked counted p shut ready issues works counts =
     let still = worked_still works.job (shard_in issued) (subst (λ (t : State). IsAlone t [] false) (sym issues.shard) (alone_of old ready)) in
     ap (λ (t : State). is_known 1 t.clients) (counts.shard ∙ ap (λ (t : State). shard_after t Collect) works.shard) ∙ known_there (after_job works.job (shard_in issued)) still.entries _ still.alone
 
-pub publish_outcome : (outcome : Outcome) (old new : PipeServer) (issued worked counted : of_node.Served) (p : Pub) (shut : Bool) → outcome ≡ outcome_by shut → IsReady old → placing_refused p (shard_in old.node) ≡ None → HasIssued p old.node issued → HasWorkedOff issued shut worked → Steps worked Collect counted → Steps counted (Take 1 all_entries) new.node
+pub publish_outcome : {R : Type 0} (outcome : Outcome) (old new : PipeServer R) (issued worked counted : of_node.Served) (p : Pub) (shut : Bool) → outcome ≡ outcome_by shut → IsReady old → placing_refused p (shard_in old.node) ≡ None → HasIssued p old.node issued → HasWorkedOff issued shut worked → Steps worked Collect counted → Steps counted (Take 1 all_entries) new.node
     → new.output.items ≡ old.output.items ++ waiting_bytes (shard_in counted) → new.conn ≡ old.conn → HasServed outcome (output_of_publish p (served_state old)) old new
 publish_outcome outcome old new issued worked counted p shut is ready free issues works counts takes put conn =
     subst (λ (o : Outcome). HasServed o (output_of_publish p (served_state old)) old new) (sym is) (publish_served old new issued worked counted p shut ready free issues works counts takes put conn)

@@ -123,7 +123,7 @@ no_shut a why two is = let same = ap asks_of is in absurd (omega (arith, two, sa
 
 -- ---- an answer
 
-record Goes (conn : ConnState) (server : PipeServer) (next : Asking) (new : PipeServer) : Type 0 where
+record Goes {R : Type 0} (conn : ConnState) (server : PipeServer R) (next : Asking) (new : PipeServer R) : Type 0 where
   said : List ℕ
   put : new.output.items ≡ server.output.items ++ said
   ready : IsInStep (record conn { asking = next }) new
@@ -150,7 +150,7 @@ settled_behind answer a rest onward settled = in_any_order answer (record { asks
 abbrev conn_at : Ask → List Ask → Onward → Bool → ConnState
 conn_at a rest onward given = record { asking = record { asks = a ∷ rest; onward = onward }; given = given }
 
-telling_goes : (a : Ask) (rest : List Ask) (onward : Onward) (given : Bool) (server : PipeServer) (refusal : Refusal) (why : ErrText) → IsInStep (conn_at a rest onward given) server → asks_of a ≡ 2 → ask_said a (served_state server) ≡ error_told why (served_state server)
+telling_goes : {R : Type 0} (a : Ask) (rest : List Ask) (onward : Onward) (given : Bool) (server : PipeServer R) (refusal : Refusal) (why : ErrText) → IsInStep (conn_at a rest onward given) server → asks_of a ≡ 2 → ask_said a (served_state server) ≡ error_told why (served_state server)
     → asks_after_bytes [] (answered_first (Err refusal) (a ∷ rest) onward) ≡ answered_first (Err refusal) (a ∷ rest) onward
     → answered_first (Err refusal) (a ∷ rest) onward ≡ record { asks = ask.Reply (reply.Err why) ∷ rest; onward = onward }
     → Goes (conn_at a rest onward given) server (record { asks = ask.Reply (reply.Err why) ∷ rest; onward = onward }) server
@@ -166,7 +166,7 @@ telling_goes a rest onward given server refusal why step two is settled same = r
   fewer = let before = weigh a rest in let after = weigh (ask.Reply (reply.Err why)) rest in omega (arith, before, after, two);
 }
 
-answer_goes : (answer : Answer) (a : Ask) (rest : List Ask) (onward : Onward) (given : Bool) (old new : PipeServer) → IsInStep (conn_at a rest onward given) old → HasServed (Answered answer) (ask_said a (served_state old)) old new → MayBeTold (Answered answer) a
+answer_goes : {R : Type 0} (answer : Answer) (a : Ask) (rest : List Ask) (onward : Onward) (given : Bool) (old new : PipeServer R) → IsInStep (conn_at a rest onward given) old → HasServed (Answered answer) (ask_said a (served_state old)) old new → MayBeTold (Answered answer) a
     → Goes (conn_at a rest onward given) old (answered_first answer (a ∷ rest) onward) new
 answer_goes (Ok done) a rest onward given old new step serves may = record {
   said = (ask_said a (served_state old)).text;
@@ -192,14 +192,14 @@ answer_goes (Err Other) a rest onward given old new step serves may = absurd ser
 asking_is : (conn : ConnState) (a : Ask) (rest : List Ask) → conn.asking.asks ≡ a ∷ rest → conn ≡ conn_at a rest conn.asking.onward conn.given
 asking_is conn a rest is = λ k. record { asking = record { asks = is k; onward = conn.asking.onward }; given = conn.given }
 
-in_step_again : (conn : ConnState) (next : Asking) (new_conn : ConnState) (new : PipeServer) → new_conn.asking ≡ next → IsInStep (record conn { asking = next }) new → IsInStep new_conn new
+in_step_again : {R : Type 0} (conn : ConnState) (next : Asking) (new_conn : ConnState) (new : PipeServer R) → new_conn.asking ≡ next → IsInStep (record conn { asking = next }) new → IsInStep new_conn new
 in_step_again conn next new_conn new is step = record {
   ready = step.ready;
   settled = ap (asks_after_bytes []) is ∙ step.settled ∙ sym is;
   shuts = λ ends. subst (λ (s : Asking). AsksToShut s.asks) (sym is) (step.shuts (sym (ap (λ (s : Asking). s.onward) is) ∙ ends));
 }
 
-pub ask_worked : (answer : Answer) (a : Ask) (conn mid new_conn : ConnState) (old new : PipeServer) → IsInStep conn old → slice_get conn.asking.asks 0 ≡ Some a → HasServed (Answered answer) (ask_said a (served_state old)) old new → MayBeTold (Answered answer) a
+pub ask_worked : {R : Type 0} (answer : Answer) (a : Ask) (conn mid new_conn : ConnState) (old new : PipeServer R) → IsInStep conn old → slice_get conn.asking.asks 0 ≡ Some a → HasServed (Answered answer) (ask_said a (served_state old)) old new → MayBeTold (Answered answer) a
     → mid.asking ≡ conn.asking → IsTrue mid.given → new_conn.asking ≡ (if mid.given then asks_after_answer answer mid.asking else mid.asking) → HasWorked conn old new_conn new
 ask_worked answer a conn mid new_conn old new step is serves may same given next =
     let begins = starts a conn.asking.asks is in
@@ -215,7 +215,7 @@ ask_worked answer a conn mid new_conn old new step is serves may same given next
       fewer = let fewer = goes.fewer in let here = ap (λ (s : Asking). sum_by asks_of s.asks) next_is in let there = ap left_of at in omega (arith, fewer, here, there);
     }
 
-pub ask_closed : (a : Ask) (conn : ConnState) (old new : PipeServer) → slice_get conn.asking.asks 0 ≡ Some a → HasServed Closed (ask_said a (served_state old)) old new → HasClosed conn old new
+pub ask_closed : {R : Type 0} (a : Ask) (conn : ConnState) (old new : PipeServer R) → slice_get conn.asking.asks 0 ≡ Some a → HasServed Closed (ask_said a (served_state old)) old new → HasClosed conn old new
 ask_closed a conn old new is serves =
     let begins = starts a conn.asking.asks is in
     let at = asking_is conn a begins.rest begins.are in

@@ -52,7 +52,7 @@ waiting_closes read text at tells waits = ap (λ (r : Output). r.closed) (tells_
 
 -- ---- a pipe that is to answer what was read, and one that has
 
-pub record HasRead (conn : ConnState) (server : PipeServer) (before left was is : Option (List ℕ)) : Type 0 where
+pub record HasRead {R : Type 0} (conn : ConnState) (server : PipeServer R) (before left was is : Option (List ℕ)) : Type 0 where
   pub read : List ℕ
   pub put : List ℕ
   pub consumed : Consumes before left read
@@ -61,11 +61,11 @@ pub record HasRead (conn : ConnState) (server : PipeServer) (before left was is 
   pub in_step : IsInStep conn server
   pub tells : Tells read put (state_of conn server)
 
-pub record HasServed (conn : ConnState) (server : PipeServer) (before left was is : Option (List ℕ)) : Type 0 where
+pub record HasServed {R : Type 0} (conn : ConnState) (server : PipeServer R) (before left was is : Option (List ℕ)) : Type 0 where
   pub reads : HasRead conn server before left was is
   pub none : conn.asking.asks ≡ []
 
-waits_now : (conn : ConnState) (server : PipeServer) → IsInStep conn server → conn.asking.asks ≡ [] → Waits (state_of conn server)
+waits_now : {R : Type 0} (conn : ConnState) (server : PipeServer R) → IsInStep conn server → conn.asking.asks ≡ [] → Waits (state_of conn server)
 waits_now conn server step none = waits_there (state_of conn server) step.settled none
 
 -- ---- the start
@@ -73,7 +73,7 @@ waits_now conn server step none = waits_there (state_of conn server) step.settle
 begins_with : (s t : Served) → s ≡ t → (let at : PipeState = record { asking = first_asking pipe_info; served = s } in at) ≡ record { asking = first_asking pipe_info; served = t }
 begins_with s t e = ap (λ u. let at : PipeState = record { asking = first_asking pipe_info; served = u } in at) e
 
-pub read_first : (conn : ConnState) (server : PipeServer) (before was : Option (List ℕ)) → conn.asking ≡ first_asking pipe_info → IsNew server → HasRead conn server before before was was
+pub read_first : {R : Type 0} (conn : ConnState) (server : PipeServer R) (before was : Option (List ℕ)) → conn.asking ≡ first_asking pipe_info → IsNew server → HasRead conn server before before was was
 read_first conn server before was begins new = record {
   read = [];
   put = [];
@@ -101,7 +101,7 @@ fed_shuts s bytes shuts ends = go s.onward refl ends
         shut_behind s.asks (read_onward s.onward bytes).asks (subst (λ (o : Onward). AsksToShut (read_onward o bytes).asks) (sym is) (shuts_at_the_end options awaited (unread ++ bytes) (ap (λ (o : Onward). (read_onward o bytes).onward) (sym is) ∙ e)))
     go over is e = subst (λ (o : Onward). AsksToShut (s.asks ++ (read_onward o bytes).asks)) (sym is) (subst AsksToShut (sym (append-nil s.asks)) (shuts is))
 
-pub read_on : (conn new : ConnState) (server : PipeServer) (before left now was is : Option (List ℕ)) (asked n : ℕ) → HasServed conn server before left was is → Gains conn.asking new.asking left now asked n → HasRead new server before now was is
+pub read_on : {R : Type 0} (conn new : ConnState) (server : PipeServer R) (before left now was is : Option (List ℕ)) (asked n : ℕ) → HasServed conn server before left was is → Gains conn.asking new.asking left now asked n → HasRead new server before now was is
 read_on conn new server before left now was is asked n serves gains =
     let reads = serves.reads in
     record {
@@ -119,7 +119,7 @@ read_on conn new server before left now was is asked n serves gains =
     }
 
 -- the connection reads on: nothing stands to be asked
-pub not_over : (conn : ConnState) (server : PipeServer) (before left was is : Option (List ℕ)) → HasServed conn server before left was is → conn.asking.onward ≡ over → ⊥
+pub not_over : {R : Type 0} (conn : ConnState) (server : PipeServer R) (before left was is : Option (List ℕ)) → HasServed conn server before left was is → conn.asking.onward ≡ over → ⊥
 not_over conn server before left was is serves ends =
     let shuts = serves.reads.in_step.shuts ends in none_shut shuts.behind _ shuts.before (sym serves.none ∙ shuts.are)
   where
@@ -129,7 +129,7 @@ not_over conn server before left was is serves ends =
 
 -- ---- behind the answers
 
-pub served_again : (conn new_conn : ConnState) (server new : PipeServer) (before left was is now : Option (List ℕ)) → HasRead conn server before left was is → HasAnswered conn server is new_conn new now → HasServed new_conn new before left was now
+pub served_again : {R : Type 0} (conn new_conn : ConnState) (server new : PipeServer R) (before left was is now : Option (List ℕ)) → HasRead conn server before left was is → HasAnswered conn server is new_conn new now → HasServed new_conn new before left was now
 served_again conn new_conn server new before left was is now reads answered = record {
   reads = record {
     read = reads.read;
@@ -143,14 +143,14 @@ served_again conn new_conn server new before left was is now reads answered = re
   none = answered.none;
 }
 
-pub closed_text : (conn : ConnState) (server : PipeServer) (before left was is now : Option (List ℕ)) (reads : HasRead conn server before left was is) → HasFinished conn server is now → WritesText reads.read was now true
+pub closed_text : {R : Type 0} (conn : ConnState) (server : PipeServer R) (before left was is now : Option (List ℕ)) (reads : HasRead conn server before left was is) → HasFinished conn server is now → WritesText reads.read was now true
 closed_text conn server before left was is now reads finished = record {
   written = subst (Appends was now) (sym (tells_text reads.read reads.put (state_of conn server) reads.tells ∙ ap (λ l. reads.put ++ l) (finished.ends.text [])))
       (Appends-trans was is now reads.put finished.said reads.written finished.written);
   closing = ap (λ (r : Output). r.closed) (tells_all reads.read reads.put (state_of conn server) reads.tells) ∙ finished.ends.closed [];
 }
 
-pub begun_text : (conn : ConnState) (server : PipeServer) (before left was is now : Option (List ℕ)) (reads : HasRead conn server before left was is) → HasFronted conn server is now → AppendsBeginning was now (pipe_text reads.read)
+pub begun_text : {R : Type 0} (conn : ConnState) (server : PipeServer R) (before left was is now : Option (List ℕ)) (reads : HasRead conn server before left was is) → HasFronted conn server is now → AppendsBeginning was now (pipe_text reads.read)
 begun_text conn server before left was is now reads front = record {
   front = reads.put ++ front.put;
   rest = front.rest [];
@@ -160,7 +160,7 @@ begun_text conn server before left was is now reads front = record {
 
 -- ---- the end
 
-pub whole_text : (conn : ConnState) (server : PipeServer) (before left was is : Option (List ℕ)) (serves : HasServed conn server before left was is) → WritesText serves.reads.read was is false
+pub whole_text : {R : Type 0} (conn : ConnState) (server : PipeServer R) (before left was is : Option (List ℕ)) (serves : HasServed conn server before left was is) → WritesText serves.reads.read was is false
 whole_text conn server before left was is serves =
     let waits = waits_now conn server serves.reads.in_step serves.none in
     record {
@@ -172,12 +172,12 @@ no_bytes : (bytes : List ℕ) (n : ℕ) → length bytes ≡ n → n ≡ 0 → b
 no_bytes [] n is none = refl
 no_bytes (b ∷ bytes) n is none = absurd (omega arith)
 
-pub read_to_end : (conn new : ConnState) (server : PipeServer) (before left now was is : Option (List ℕ)) (asked n : ℕ) (serves : HasServed conn server before left was is) → Gains conn.asking new.asking left now asked n → n ≡ 0 → Consumes before now serves.reads.read
+pub read_to_end : {R : Type 0} (conn new : ConnState) (server : PipeServer R) (before left now was is : Option (List ℕ)) (asked n : ℕ) (serves : HasServed conn server before left was is) → Gains conn.asking new.asking left now asked n → n ≡ 0 → Consumes before now serves.reads.read
 read_to_end conn new server before left now was is asked n serves gains none =
     subst (Consumes before now) (ap (λ l. serves.reads.read ++ l) (no_bytes gains.bytes n gains.count none) ∙ append-nil serves.reads.read)
     (Consumes-trans before left now serves.reads.read gains.bytes serves.reads.consumed gains.consumed)
 
-pub whole_beginning : (conn : ConnState) (server : PipeServer) (before left was is : Option (List ℕ)) (serves : HasServed conn server before left was is) → AppendsBeginning was is (pipe_text serves.reads.read)
+pub whole_beginning : {R : Type 0} (conn : ConnState) (server : PipeServer R) (before left was is : Option (List ℕ)) (serves : HasServed conn server before left was is) → AppendsBeginning was is (pipe_text serves.reads.read)
 whole_beginning conn server before left was is serves = record {
   front = serves.reads.put;
   rest = [];

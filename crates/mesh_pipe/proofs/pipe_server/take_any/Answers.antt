@@ -7,7 +7,7 @@ use Rattle.mesh_pipe.proofs.Server.Unchanged.{takes_nothing}
 use Rattle.mesh_pipe.proofs.pipe_server.take_any.Goals as goal
 
 pub returns-then-has_nothing_for-clause-steps : goal.returns-then-has_nothing_for-clause-steps
-returns-then-has_nothing_for-clause-steps c =
+returns-then-has_nothing_for-clause-steps g c =
     let none : (length (waits_for 1 (shard_in c.args.node.now).clients) == 0) ≡ true =
     sym (ap (λ n. length (waits_for n (shard_in c.args.node.now).clients) == 0) c.requires.conn)
     ∙ sym (ap (λ (l : Line). length (waits_for c.args.conn l.shard.clients) == 0) c.only_line.ensures)
