@@ -331,6 +331,33 @@ fn feed(answer: &mut String, conn: &mut Conn, alloc: Global, word: &str) -> Opti
     tell(answer, "ok")
 }
 
+/// The connection of a client that was told who serves it.
+fn greeted(alloc: Global) -> Option<Conn> {
+    let mut conn = Conn::new(alloc, info_of("n1 1, 1, 0")?);
+    if conn.next().ok()?.is_none() {
+        return None;
+    }
+    conn.answer(Ok(()));
+    Some(conn)
+}
+
+/// Tells how many beginnings of a stream there are, if nothing is asked behind any of them; else the first behind which something is.
+fn beginnings(answer: &mut String, conn: &mut Conn, stream: &[u8]) -> Option<()> {
+    for (len, byte) in stream.iter().enumerate() {
+        if conn.next().ok()?.is_some() {
+            return write!(answer, "asks behind {len} bytes").ok();
+        }
+        conn.feed(&[*byte]).ok()?;
+    }
+    write!(answer, "{} beginnings, nothing asked", stream.len()).ok()
+}
+
+/// The same of a stream that a client sends first.
+fn first_beginnings(answer: &mut String, alloc: Global, word: &str) -> Option<()> {
+    let stream = bytes_of(alloc, word).ok()?;
+    beginnings(answer, &mut greeted(alloc)?, &stream)
+}
+
 /// A connection of a client that is told this first takes the place of the one that stands.
 fn renew(answer: &mut String, conn: &mut Option<Conn>, alloc: Global, word: &str) -> Option<()> {
     put(conn, Some(Conn::new(alloc, info_of(word)?)));
@@ -347,6 +374,7 @@ pub fn conn_call(
 ) -> Option<()> {
     match conn {
         _ if call == "new" => renew(answer, conn, alloc, word),
+        _ if call == "beginnings" => first_beginnings(answer, alloc, word),
         Some(conn) if call == "feed" => feed(answer, conn, alloc, word),
         Some(conn) if call == "ask" => ask(answer, conn, word),
         _ => None,

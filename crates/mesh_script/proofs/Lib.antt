@@ -6,3 +6,4 @@ pub mod Moving
 pub mod Wholes
 pub mod Refusing
 pub mod Reading
+pub mod Alike

@@ -8,7 +8,8 @@
 //! ```
 //!
 //! [`play`] makes the events of a script in the exact cluster and writes a line for each of them, and for each question and behind each
-//! delivery one that is no event's; then one for each message that was placed, and a last line; [`script_run`] reads the script first.
+//! delivery one that is no event's; then one for each message that was placed, and a last line; [`script_run`] reads the script first, and
+//! [`script_world_run`] gives the cluster too.
 //! Beside it, [`match_run`] tells whether one pattern matches one subject. In reading order: `player`, which asks for the events of each
 //! step and makes them, and `output`, which writes lines.
 #![tactic(auto)]
@@ -19,4 +20,4 @@ mod player;
 
 pub use faults::{MatchFault, PlayFault, RunFault};
 pub use output::match_run;
-pub use player::{play, script_run};
+pub use player::{play, script_run, script_world_run};

@@ -580,6 +580,24 @@ fn make_all<T: SubTable, R: Race, S: Sink>(
     Ok(())
 }
 
+/// Plays a script, as [`play`] does, and gives the cluster behind it.
+fn play_to_end<T: SubTable, R: Race, S: Sink>(
+    alloc: Global,
+    script: &Script,
+    sink: &mut S,
+) -> Result<World<T, R>, PlayFault>
+    ensures text { Plays script.now result (S.written sink.old) (S.written sink.new) }
+    ensures failures { CountsWrites result (S.failures sink.old) (S.failures sink.new) }
+{
+    plays_go_on();
+    plays_are_safe();
+    let _many = script.shards();
+    let mut player = new_player::<T, R>(alloc, script)?;
+    make_all(&mut player, script, sink)?;
+    player.finish(script.names(), sink)?;
+    Ok(player.world)
+}
+
 /// Plays a script: makes its events in turn in a cluster in which all servers are down, over any table of
 /// subscriptions and any race, and writes a line for each; where it asks whether the cluster is settled, and behind each delivery, a line that
 /// is no event's; then one for each message that was placed, and a last line. (Profile.)
@@ -595,12 +613,10 @@ pub fn play<T: SubTable, R: Race, S: Sink>(
     ensures text { Plays script.now result (S.written sink.old) (S.written sink.new) }
     ensures failures { CountsWrites result (S.failures sink.old) (S.failures sink.new) }
 {
-    plays_go_on();
-    plays_are_safe();
-    let _many = script.shards();
-    let mut player = new_player::<T, R>(alloc, script)?;
-    make_all(&mut player, script, sink)?;
-    player.finish(script.names(), sink)
+    match play_to_end::<T, R, S>(alloc, script, sink) {
+        Ok(_world) => Ok(()),
+        Err(fault) => Err(fault),
+    }
 }
 
 /// How many bytes are read at once at most.
@@ -652,6 +668,32 @@ fn run_fault(fault: PlayFault) -> RunFault
     }
 }
 
+/// Reads a script and plays it, as [`script_run`] does, and gives the cluster behind it.
+pub fn script_world_run<T: SubTable, R: Race, I: Source, O: Sink>(
+    alloc: Global,
+    source: &mut I,
+    sink: &mut O,
+) -> Result<World<T, R>, RunFault>
+    ensures text { RunsScript result (I.remaining source.old) (I.remaining source.new) (O.written sink.old) (O.written sink.new) }
+    ensures reads { CountsReads result (I.failures source.old) (I.failures source.new) }
+    ensures writes { CountsFailedWrites result (O.failures sink.old) (O.failures sink.new) }
+{
+    let bytes = read_all(alloc, source)?;
+    match Script::read(alloc, &bytes) {
+        Ok(script) => match play_to_end::<T, R, O>(alloc, &script, sink) {
+            Ok(world) => Ok(world),
+            Err(fault) => Err(run_fault(fault)),
+        },
+        Err(Failure::Refused(error)) => {
+            match write_refusal(alloc, b"script", error.fault.number(), sink) {
+                Ok(()) => Err(RunFault::Refused(error)),
+                Err(fault) => Err(run_fault(fault)),
+            }
+        }
+        Err(Failure::OutOfMemory) => Err(RunFault::OutOfMemory),
+    }
+}
+
 /// Reads a script to the end of its bytes, or up to [`SCRIPT_BYTES`] and one of them, and plays it; of what is no
 /// script, writes `script refused` with the number of its refusal in one line. (Profile.)
 pub fn script_run<T: SubTable, R: Race, I: Source, O: Sink>(
@@ -663,18 +705,8 @@ pub fn script_run<T: SubTable, R: Race, I: Source, O: Sink>(
     ensures reads { CountsReads result (I.failures source.old) (I.failures source.new) }
     ensures writes { CountsFailedWrites result (O.failures sink.old) (O.failures sink.new) }
 {
-    let bytes = read_all(alloc, source)?;
-    match Script::read(alloc, &bytes) {
-        Ok(script) => match play::<T, R, O>(alloc, &script, sink) {
-            Ok(()) => Ok(()),
-            Err(fault) => Err(run_fault(fault)),
-        },
-        Err(Failure::Refused(error)) => {
-            match write_refusal(alloc, b"script", error.fault.number(), sink) {
-                Ok(()) => Err(RunFault::Refused(error)),
-                Err(fault) => Err(run_fault(fault)),
-            }
-        }
-        Err(Failure::OutOfMemory) => Err(RunFault::OutOfMemory),
+    match script_world_run::<T, R, I, O>(alloc, source, sink) {
+        Ok(_world) => Ok(()),
+        Err(fault) => Err(fault),
     }
 }

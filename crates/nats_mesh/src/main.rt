@@ -1,5 +1,5 @@
 //! The program: `serve` serves a mesh on sockets, `pipe` one client on standard input and output, `match` answers one
-//! question of matching, and `script` plays what is done in a cluster.
+//! question of matching, `script` plays what is done in a cluster, and `audit` audits a log of what was done in one.
 //!
 //! ```text
 //! nats_mesh serve --nodes 3 --port 4222
@@ -9,6 +9,7 @@
 use claim_cells::CellsRace;
 use claim_race::PlainRace;
 use command_line::{status_of, tell_line, words};
+use mesh_audit::{audit_run, script_audit_run};
 use mesh_pipe::{pipe_complaint, pipe_run, pipe_status};
 use mesh_script::{match_run, script_run};
 use mesh_serve::serve;
@@ -67,6 +68,22 @@ fn run_script<R: Input + Print + Eprint + Alloc<A = Global>>(rt: &R) -> u8 {
     report(rt, ended)
 }
 
+/// Plays a script, and writes what was published, subscribed and placed behind its text.
+fn run_script_listing<R: Input + Print + Eprint + Alloc<A = Global>>(rt: &R) -> u8 {
+    let mut source = Raw::new(rt.reader());
+    let mut sink = Raw::new(io::writer(rt));
+    let ended = script_audit_run::<TrieTable, CellsRace, _, _>(rt.alloc(), &mut source, &mut sink);
+    report(rt, ended)
+}
+
+/// Audits a log.
+fn run_audit<R: Input + Print + Eprint + Alloc<A = Global>>(rt: &R) -> u8 {
+    let mut source = Raw::new(rt.reader());
+    let mut sink = Raw::new(io::writer(rt));
+    let ended = audit_run(rt.alloc(), &mut source, &mut sink);
+    report(rt, ended)
+}
+
 /// Serves a mesh.
 fn run_serve<R>(rt: &R, given: Given<'_>) -> u8
 where
@@ -110,7 +127,9 @@ where
     match command_of(rt.alloc(), words) {
         Ok(Command::Pipe) => run_pipe(rt),
         Ok(Command::Match { pattern, subject }) => run_match(rt, pattern, subject),
-        Ok(Command::Script) => run_script(rt),
+        Ok(Command::Script { audit: false }) => run_script(rt),
+        Ok(Command::Script { audit: true }) => run_script_listing(rt),
+        Ok(Command::Audit) => run_audit(rt),
         Ok(Command::Serve(given)) => run_serve(rt, given),
         Err(error) => tell_line(rt, &error),
     }

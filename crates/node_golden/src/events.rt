@@ -10,9 +10,9 @@
 //! A queue name or a maximum that is empty is none. The word decides which server serves a queue name.
 
 use crate::frames::{frame_event, session_event};
-use crate::keys::{count, key_of, message_of, sid_of};
+use crate::keys::count;
 use client_frames::{ErrText, ReplyFrame};
-use golden::Words;
+use golden::{Words, key_of, message_of, sid_of};
 use node_law::{ConnEvent, NodeEvent, OwnEvent, ShardWork};
 use route_session::SessionId;
 use std::alloc::Global;
@@ -78,7 +78,7 @@ fn conn_event(alloc: Global, name: &str, words: &Words<'_>) -> Option<NodeEvent>
 
 /// A publication, and whether its client is to get it too.
 fn publication(alloc: Global, words: &Words<'_>, echo: bool) -> Option<NodeEvent> {
-    let message = message_of(alloc, words.at(1), words.at(2))?;
+    let message = message_of(alloc, words.at(1), "", words.at(2))?;
     Some(NodeEvent::Own(OwnEvent::Publish {
         conn: ConnId::new(count(words.at(0))),
         said: Pub { message, echo },

@@ -2,25 +2,22 @@
 //!
 //! ```text
 //! info SESSION|FROM   connect SESSION|FROM|TO|SERIAL
-//! message FROM|TO|NUMBER|SUBJECT|PAYLOAD   plus FROM|TO|NUMBER|PATTERN|QUEUE|WEIGHT   minus FROM|TO|NUMBER|PATTERN|QUEUE
+//! message FROM|TO|NUMBER|SUBJECT|PAYLOAD|QUEUES   plus FROM|TO|NUMBER|PATTERN|QUEUE|WEIGHT   minus FROM|TO|NUMBER|PATTERN|QUEUE
 //! no_interest FROM|TO|NUMBER
 //! ```
 
-use crate::keys::{Life, count, key_of, life_of, message_of};
-use golden::Words;
+use crate::keys::{count, life_of};
+use golden::{Life, Words, key_of, message_of, queues_of};
 use node_law::NodeEvent;
 use route_session::SessionId;
 use route_values::{Body, Numbered, RouteConnect, RouteInfo, SnapshotKeys, WeightedKey};
 use std::alloc::Global;
-use subj::QueueNames;
 
-/// A message for no queue name.
+/// A message for these queue names, with blanks between them.
 fn message(alloc: Global, words: &Words<'_>) -> Option<Body> {
-    let message = message_of(alloc, words.at(3), words.at(4))?;
-    Some(Body::Msg {
-        message,
-        queues: QueueNames::new(),
-    })
+    let message = message_of(alloc, words.at(3), "", words.at(4))?;
+    let queues = queues_of(alloc, words.at(5))??;
+    Some(Body::Msg { message, queues })
 }
 
 /// A key is counted with this weight from now on.

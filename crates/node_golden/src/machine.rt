@@ -73,8 +73,12 @@ impl<R: Race> Machine<R> {
         }
     }
 
+    /// Makes the step of the event; once more where there was no memory for it, which has changed nothing.
     fn did(&mut self, event: &NodeEvent) -> Result<Did, Refused> {
-        self.node.step(event)
+        match self.node.step(event) {
+            Err(Refused::OutOfMemory) => self.node.step(event),
+            did => did,
+        }
     }
 
     /// Makes the step of the event.
@@ -85,8 +89,12 @@ impl<R: Race> Machine<R> {
         step_told(self.alloc, &did, foretold)
     }
 
+    /// The same without copies.
     fn answer(&mut self, event: &NodeEvent) -> Result<Answer, Refused> {
-        self.node.apply(event)
+        match self.node.apply(event) {
+            Err(Refused::OutOfMemory) => self.node.apply(event),
+            answer => answer,
+        }
     }
 
     /// Makes the step without copies.
@@ -109,8 +117,12 @@ impl<R: Race> Machine<R> {
         outcomes_told(self.alloc, &outcomes)
     }
 
+    /// Takes the first entries that wait for a connection; once more where there was no memory for it, which has taken nothing.
     fn take(&mut self, conn: u64, entries: usize) -> Result<Vec<Entry>, Failure<NodeFault>> {
-        self.node.take(ConnId::new(conn), entries)
+        match self.node.take(ConnId::new(conn), entries) {
+            Err(Failure::OutOfMemory) => self.node.take(ConnId::new(conn), entries),
+            taken => taken,
+        }
     }
 
     /// Takes the bytes of the first entries that wait for a connection.

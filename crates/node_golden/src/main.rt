@@ -18,6 +18,7 @@
 //!   `last` is the largest one. An answer is a refusal's number, or what `answers` tells.
 //! - `n1.put` tells how many entries and frames the last step put, and how many connections and subscriptions it closed; `n1.names` for
 //!   how many queue names its first two frames are; `n1.text CONN|COUNT` takes the bytes of the first entries that wait.
+//! - What could not be made for want of memory is made once more.
 //! - `n1.by apply` has the events behind it made without copies of what they put, `n1.by step` as before. A step is asked as well
 //!   whether it will be refused. Behind `n1.by list` events are kept until `n1.run` makes them as one list.
 //! - `each FIRST|LAST|CALL -> ANSWER; CALL -> ANSWER` makes calls for each number from the first to the last, which stands for `#` in

@@ -18,6 +18,11 @@ fn with_number(alloc: Global, text: &str, number: u64) -> Result<String, AllocEr
     text.replace(alloc, '#', digits.as_str())
 }
 
+/// Whether a call was not made: for want of memory, or since a word of it names nothing.
+fn is_unmade(told: &str) -> bool {
+    matches!(told, "no server" | "no such event")
+}
+
 /// The answer where it is not this one.
 fn unless_same(told: String, wanted: &str) -> Option<String> {
     if told.as_str() == wanted {
@@ -128,6 +133,16 @@ impl Servers {
     }
 }
 
+impl Servers {
+    /// Makes a call as it stands on a line.
+    fn line(&mut self, name: &str, words: &Words<'_>) -> Result<String, AllocError> {
+        match name {
+            "each" => self.each_of(words),
+            _ => self.call(name, words),
+        }
+    }
+}
+
 impl Rig for Servers {
     fn renew(&mut self) -> Result<(), AllocError> {
         self.started.clear();
@@ -135,9 +150,10 @@ impl Rig for Servers {
     }
 
     fn answer(&mut self, name: &str, words: &Words<'_>) -> Result<String, AllocError> {
-        match name {
-            "each" => self.each_of(words),
-            _ => self.call(name, words),
+        let told = self.line(name, words)?;
+        if is_unmade(told.as_str()) {
+            return self.line(name, words);
         }
+        Ok(told)
     }
 }

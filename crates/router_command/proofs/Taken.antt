@@ -309,8 +309,11 @@ each_whole name words plain = (
     (
       (λ _ _. inr (inr (inl refl))),
       (
-        (λ _ e. inr (inr (inr (refl, serve_whole words e)))),
-        ((λ here _. absurd (help_met name here plain)), tt),
+        (λ _ _. inr (inr (inr (inl refl)))),
+        (
+          (λ _ e. inr (inr (inr (inr (refl, serve_whole words e))))),
+          ((λ here _. absurd (help_met name here plain)), tt),
+        ),
       ),
     ),
   ),

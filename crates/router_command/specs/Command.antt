@@ -1,19 +1,20 @@
 -- What the command line asks for (profile).
-use Rattle.std.specs.Prelude.{◌≡◌, ◌⊎◌, ℕ, List, codes, Option, Some}
+use Rattle.std.specs.Prelude.{◌≡◌, ◌⊎◌, ℕ, Bool, true, false, List, codes, Option, Some}
 use Rattle.std.specs.Prelude.{IsSome, IfSome, IsSomeAnd, option_map, ⊤}
 use Rattle.std.specs.Str.Parse.{digits_value, without_leading_plus}
 use Rattle.clap.specs.Values.{IsUnsignedIn}
 use Rattle.clap.specs.Words.{Row, Text, first_of, one_of, subcommand_of}
 use Rattle.router_command.specs.Line.{greatest_number, router}
 use Rattle.router_command.specs.declared.command.Command.{Command}
-use Rattle.router_command.specs.declared.command.Command.TheVariants.{Pipe, Match, Script, Serve}
+use Rattle.router_command.specs.declared.command.Command.TheVariants.{Pipe, Match, Script, Audit, Serve}
 use Rattle.router_command.specs.declared.options.Given.{Given}
 
 -- by its word behind the program's name
 abbrev pub name_of : Command → List ℕ
 name_of Pipe = codes "pipe"
 name_of (Match pattern subject) = codes "match"
-name_of Script = codes "script"
+name_of (Script audit) = codes "script"
+name_of Audit = codes "audit"
 name_of (Serve given) = codes "serve"
 
 -- the number that a text writes in decimal digits, a plus before them or none
@@ -53,13 +54,19 @@ pub record HasOptions (rows : List Row) (given : Given) : Type 0 where
   pub stop_after : number_in (codes "stop-after") rows ≡ given.stop_after
   pub log_level : first_of (codes "log-level") rows ≡ Some given.log_level.now
 
+-- it is on where its text is `true`, and off where it is `false`
+pub record IsFlag (name : Text) (rows : List Row) (flag : Bool) : Type 0 where
+  pub on : one_of name rows ≡ Some (codes "true") → flag ≡ true
+  pub off : one_of name rows ≡ Some (codes "false") → flag ≡ false
+
 -- the values of a command are those of its words
 abbrev pub HasValues : List Row → Command → Type 0
 HasValues rows Pipe = ⊤
 HasValues rows (Match pattern subject) =
     (first_of (codes "PATTERN") rows ≡ Some pattern.now)
     × (first_of (codes "SUBJECT") rows ≡ Some subject.now)
-HasValues rows Script = ⊤
+HasValues rows (Script audit) = IsFlag (codes "audit") rows audit
+HasValues rows Audit = ⊤
 HasValues rows (Serve given) = HasOptions rows given
 
 -- what was found names the command, and has its values
@@ -81,4 +88,4 @@ pub record AreWords (rows : List Row) : Type 0 where
 -- a command is named, and has the values that it needs
 abbrev pub IsWhole : Text × List Row → Type 0
 IsWhole found = (found.0 ≡ codes "pipe") ⊎ ((found.0 ≡ codes "match") × AreWords found.1)
-    ⊎ (found.0 ≡ codes "script") ⊎ ((found.0 ≡ codes "serve") × AreOptions found.1)
+    ⊎ (found.0 ≡ codes "script") ⊎ (found.0 ≡ codes "audit") ⊎ ((found.0 ≡ codes "serve") × AreOptions found.1)

@@ -6,6 +6,7 @@ use Rattle.clap.specs.declared.builder.arg.Arg.{Arg}
 use Rattle.clap.specs.declared.builder.command.Command.{Command}
 use Rattle.clap.specs.declared.builder.command.Command.TheViews.{out-Command}
 use Rattle.clap.specs.Simple.{on_top}
+use Rattle.clap.specs.declared.builder.action.ArgAction.TheVariants.{SetTrue}
 use Rattle.clap.specs.declared.builder.value_parser.ValueParser.TheVariants as parser
 
 -- the greatest number that an option may have
@@ -57,6 +58,17 @@ level_rule = with_value (record (new_rule (codes "log-level")) {
 abbrev pub serve_command : App
 serve_command = with_rule serve_with_end level_rule
 
+-- to write the lists of a run, which is a flag
+abbrev pub audit_rule : Rule
+audit_rule = record (new_rule (codes "audit")) {
+  long = Some (codes "audit");
+  action = Some SetTrue;
+}
+
+-- `script`, with its flag
+abbrev pub script_command : App
+script_command = with_rule (new_app (codes "script")) audit_rule
+
 -- `match`, with its two words
 abbrev pub match_command : App
 match_command = with_rule
@@ -70,14 +82,16 @@ program = on_top (λ shape. record shape {
   subcommand_required = true;
 }) (new_app (codes "nats_mesh"))
 
--- the program and its four commands
+-- the program and its five commands
 abbrev pub router : App
 router = with_subcommand
     (with_subcommand
     (with_subcommand
+    (with_subcommand
     (with_subcommand program (new_app (codes "pipe")).top)
     match_command.top)
-    (new_app (codes "script")).top)
+    script_command.top)
+    (new_app (codes "audit")).top)
     serve_command.top
 
 -- ---- what is built of it

@@ -4,12 +4,12 @@ ghost use Rattle.std.specs.Prelude.{◌≡◌, IfErr, IfOk, IsSomeAnd, map, true
 ghost use Rattle.std.specs.String.{string_bytes};
 ghost use Rattle.clap.specs.Words.{FailsBy, fault_of, found_of, kind_of, rows_of, subcommand_rows_of, takes};
 ghost use Rattle.router_command.specs.Command.{AreOptions, AskFor, HasOptions, IsWhole, Names};
-ghost use Rattle.router_command.specs.Line.{HasRule, IsLine, level_rule, number_rule, router, serve_command};
+ghost use Rattle.router_command.specs.Line.{HasRule, IsLine, level_rule, number_rule, router, script_command, serve_command};
 
 use crate::options::Given;
 use clap::builder::ValueParser;
 use clap::error::ErrorKind;
-use clap::{Arg, ArgMatches, Error};
+use clap::{Arg, ArgAction, ArgMatches, Error};
 use std::alloc::{AllocError, Global};
 
 /// What the command line asks for.
@@ -19,8 +19,10 @@ pub enum Command<'a> {
     Pipe,
     /// To tell whether the pattern matches the subject.
     Match { pattern: &'a str, subject: &'a str },
-    /// To play the script on standard input.
-    Script,
+    /// To play the script on standard input, and perhaps to write what was published, subscribed and placed behind its text.
+    Script { audit: bool },
+    /// To audit the log on standard input.
+    Audit,
     /// To serve a mesh on sockets.
     Serve(Given<'a>),
 }
@@ -89,7 +91,20 @@ fn serve_line<'a>(alloc: Global) -> Result<clap::Command<'a>, AllocError>
         .arg(log_level(alloc))
 }
 
-/// The command that plays scripts, that of one question, the pipe, and the mesh.
+/// The command that plays scripts.
+fn script_line<'a>(alloc: Global) -> Result<clap::Command<'a>, AllocError>
+    ensures { IfOk result (λ command. IsLine command script_command) }
+{
+    let audit = Arg::new(alloc, "audit")
+        .long("audit")
+        .action(ArgAction::SetTrue)
+        .help("Writes what was published, subscribed and placed too, as audit reads it");
+    clap::Command::new(alloc, "script")
+        .about("Plays the script on standard input in a cluster of its own")
+        .arg(audit)
+}
+
+/// The commands that play scripts and audit logs, that of one question, the pipe, and the mesh.
 fn line<'a>(alloc: Global) -> Result<clap::Command<'a>, AllocError>
     ensures { IfOk result (λ command. IsLine command router) }
 {
@@ -102,8 +117,8 @@ fn line<'a>(alloc: Global) -> Result<clap::Command<'a>, AllocError>
         .about("Tells whether a pattern matches a subject")
         .arg(pattern)?
         .arg(subject)?;
-    let script = clap::Command::new(alloc, "script").about(
-        "Plays the script on standard input in a cluster of its own",
+    let audit = clap::Command::new(alloc, "audit").about(
+        "Tells the first placement of the log on standard input that breaks the clause",
     );
     clap::Command::new(alloc, "nats_mesh")
         .about("A NATS router that gives no publication to two members of a queue group")
@@ -111,7 +126,8 @@ fn line<'a>(alloc: Global) -> Result<clap::Command<'a>, AllocError>
         .subcommand_required(true)
         .subcommand(pipe)?
         .subcommand(question)?
-        .subcommand(script)?
+        .subcommand(script_line(alloc)?)?
+        .subcommand(audit)?
         .subcommand(serve_line(alloc)?)
 }
 
@@ -143,9 +159,12 @@ fn command_in<'a>(found: &ArgMatches<'a>) -> Command<'a>
             pattern: values.get_str("PATTERN").unwrap(),
             subject: values.get_str("SUBJECT").unwrap(),
         },
-        "script" => Command::Script,
+        "script" => Command::Script {
+            audit: values.get_flag("audit"),
+        },
+        "audit" => Command::Audit,
         "serve" => Command::Serve(given_in(values)),
-        // required: the line names one of the four
+        // required: the line names one of the five
         _ => unreachable!(),
     }
 }

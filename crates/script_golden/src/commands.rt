@@ -55,7 +55,9 @@ fn command_told(alloc: Global, command: &Command<'_>) -> Result<String, AllocErr
     match command {
         Command::Pipe => text(alloc, "pipe"),
         Command::Match { pattern, subject } => format!(in alloc; "match '{pattern}' '{subject}'"),
-        Command::Script => text(alloc, "script"),
+        Command::Script { audit: false } => text(alloc, "script"),
+        Command::Script { audit: true } => text(alloc, "script with its lists"),
+        Command::Audit => text(alloc, "audit"),
         Command::Serve(given) => mesh_told(alloc, given),
     }
 }

@@ -67,6 +67,20 @@ fn run<R: Race>(alloc: Global, words: &Words<'_>) -> Result<String, AllocError> 
     told_behind_info(alloc, ended, sink.bytes())
 }
 
+/// The same, and whether what was written is a beginning of what is written where no write fails; how many bytes that are.
+fn beginning(alloc: Global, words: &Words<'_>) -> Result<String, AllocError> {
+    let mut whole = MemSink::new(alloc);
+    let _ended = serve_pieces(alloc, Pieces::of_words(alloc, words)?, &mut whole);
+    let mut sink = sink_with(alloc, room_in(words));
+    let ended = serve_pieces(alloc, Pieces::of_words(alloc, words)?, &mut sink);
+    let front = if whole.bytes().starts_with(sink.bytes()) {
+        "a beginning"
+    } else {
+        "no beginning"
+    };
+    format!(in alloc; "{ended}, {front} of {}", sink.bytes().len())
+}
+
 /// Serves the client who sends the input, and keeps what is written behind INFO.
 fn serve(alloc: Global, input: &[u8], output: &mut Output) -> Result<String, AllocError> {
     let pieces = Pieces::whole(alloc, input)?;
@@ -98,7 +112,7 @@ fn first(alloc: Global) -> Result<String, AllocError> {
 }
 
 /// `run PIECES`, of which each is what a read gives, `!read fails`, or `!write fails behind BYTES`; `on_cells PIECES`, the same by the race on
-/// claim cells; `serve`; or `first`.
+/// claim cells; `beginning PIECES`; `serve`; or `first`.
 pub fn answer(
     alloc: Global,
     input: &[u8],
@@ -109,6 +123,7 @@ pub fn answer(
     match call {
         "run" => run::<PlainRace>(alloc, words),
         "on_cells" => run::<CellsRace>(alloc, words),
+        "beginning" => beginning(alloc, words),
         "serve" => serve(alloc, input, output),
         "first" => first(alloc),
         _ => text(alloc, "no such call"),

@@ -5,6 +5,7 @@ use crate::streams::{left_in, sink_of, source_of};
 use claim_cells::CellsRace;
 use claim_race::{PlainRace, Race};
 use golden::{Words, text};
+use mesh_audit::script_audit_run;
 use mesh_script::{RunFault, script_run};
 use std::alloc::{AllocError, Global};
 use sub_table::{ListTable, SubTable};
@@ -72,6 +73,27 @@ fn whole(alloc: Global, script: &[u8], output: &mut Output) -> Result<String, Al
     ended_told(alloc, ended)
 }
 
+/// Plays what the source gives with its lists by the trie and the cells, as the router does.
+fn play_listing(alloc: Global, source: &mut MemSource, sink: &mut MemSink) -> Ended {
+    script_audit_run::<TrieTable, CellsRace, MemSource, MemSink>(alloc, source, sink)
+}
+
+/// Plays the script, and behind its text writes what was published, subscribed and placed, into a sink that takes so many bytes a write, and
+/// whose write of this number fails.
+fn listed(
+    alloc: Global,
+    script: &[u8],
+    output: &mut Output,
+    words: &Words<'_>,
+) -> Result<String, AllocError> {
+    let bytes = Vec::from_slice(alloc, script)?;
+    let mut source = MemSource::new(bytes);
+    let mut sink = sink_of(alloc, words.number(0) as usize, words.number(1));
+    let ended = play_listing(alloc, &mut source, &mut sink);
+    output.keep(sink.bytes())?;
+    ended_told(alloc, ended)
+}
+
 /// Plays the script once more, by the list and the plain race.
 fn plainly(alloc: Global, script: &[u8], output: &Output) -> Result<String, AllocError> {
     let other = play_plainly(alloc, script, output)?;
@@ -134,7 +156,7 @@ fn writing(
     format!(in alloc; "{told}, {front} of {}", sink.bytes().len())
 }
 
-/// `whole`, `plainly`, `complaint`, `reading GIVES|FAILING` or `writing TAKES|FAILING`.
+/// `whole`, `plainly`, `listed TAKES|FAILING`, `complaint`, `reading GIVES|FAILING` or `writing TAKES|FAILING`.
 pub fn answer(
     alloc: Global,
     script: &[u8],
@@ -145,6 +167,7 @@ pub fn answer(
     match call {
         "whole" => whole(alloc, script, output),
         "plainly" => plainly(alloc, script, output),
+        "listed" => listed(alloc, script, output, words),
         "complaint" => complaint(alloc, script, output),
         "reading" => reading(alloc, script, output, words),
         "writing" => writing(alloc, script, output, words),

@@ -12,11 +12,14 @@ use std::sync::Wait;
 use subj::{ConnId, Failure};
 use thread_node::{NodeName, Open, Turned};
 
+/// What is told of a call for which there was no memory.
+const NO_MEMORY: &str = "no memory";
+
 /// Why a call failed: a refusal by its number.
 fn failure_told(alloc: Global, failure: Failure<NodeFault>) -> Result<String, AllocError> {
     match failure {
         Failure::Refused(fault) => format!(in alloc; "refused {}", fault.number()),
-        Failure::OutOfMemory => text(alloc, "no memory"),
+        Failure::OutOfMemory => text(alloc, NO_MEMORY),
     }
 }
 
@@ -47,7 +50,7 @@ fn turned_told(alloc: Global, turned: Turned) -> Result<String, AllocError> {
     match turned {
         Turned::Idle => text(alloc, "idle"),
         Turned::Worked(turn) => format!(in alloc; "worked {}", turn.get()),
-        Turned::Short => text(alloc, "no memory"),
+        Turned::Short => text(alloc, NO_MEMORY),
     }
 }
 
@@ -73,7 +76,8 @@ fn published_told(
                 busy.finished.get()
             )
         }
-        Err(_) => text(alloc, "refused"),
+        Err(Failure::Refused(_)) => text(alloc, "refused"),
+        Err(Failure::OutOfMemory) => text(alloc, NO_MEMORY),
     }
 }
 
@@ -136,7 +140,7 @@ fn on_conn<N: NodeName, R: Wait>(
 }
 
 /// The answer of a call on the server, on a shard, or on one of its connections.
-pub fn answer_of<N: NodeName, R: Wait>(
+fn first_answer<N: NodeName, R: Wait>(
     rt: &R,
     alloc: Global,
     node: &Node<N>,
@@ -154,4 +158,19 @@ pub fn answer_of<N: NodeName, R: Wait>(
         "turn" => turn_told(alloc, node.turn(rt, shard, &Open)),
         _ => on_conn(rt, alloc, node, shard, ConnId::new(words.number(1)), call),
     }
+}
+
+/// The same. A call for which there was no memory is made once more: it has changed nothing, or left work over.
+pub fn answer_of<N: NodeName, R: Wait>(
+    rt: &R,
+    alloc: Global,
+    node: &Node<N>,
+    call: &str,
+    words: &Words<'_>,
+) -> Result<String, AllocError> {
+    let answer = first_answer(rt, alloc, node, call, words)?;
+    if answer.as_str() == NO_MEMORY {
+        return first_answer(rt, alloc, node, call, words);
+    }
+    Ok(answer)
 }

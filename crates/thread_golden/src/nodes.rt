@@ -107,7 +107,8 @@ fn end_told(
     }
 }
 
-/// Ends the server, where the last call does. The peer, whose pass comes last, is left out where that is asked for.
+/// Ends the server, where the last call does, and each call before it was answered. The peer, whose pass comes last, is left out where that is
+/// asked for.
 fn end<N: NodeName, R: Wait>(
     rt: &R,
     alloc: Global,
@@ -116,7 +117,7 @@ fn end<N: NodeName, R: Wait>(
     answer: Result<String, AllocError>,
     last: &Call<'_>,
 ) -> Result<String, AllocError> {
-    if last.name != "finish" {
+    if last.name != "finish" || answer.is_err() {
         drop(node);
         drop(passes);
         return answer;
@@ -154,10 +155,19 @@ fn parts_of(alloc: Global, words: &Words<'_>) -> Option<Parts> {
 }
 
 /// Makes these calls, of which the first one says what server there is. Gives the last one's answer.
-pub fn answer<R: Wait>(rt: &R, alloc: Global, calls: &String) -> Result<String, AllocError> {
+fn first_answer<R: Wait>(rt: &R, alloc: Global, calls: &String) -> Result<String, AllocError> {
     let first = call_of(calls.as_str().lines().next().unwrap_or(""));
     match parts_of(alloc, &first.words) {
         Some(parts) => play::<Brand, _>(rt, alloc, parts, calls),
         None => text(alloc, "no server"),
     }
+}
+
+/// The same, from the first call again where no server or no report came of them, as for want of memory.
+pub fn answer<R: Wait>(rt: &R, alloc: Global, calls: &String) -> Result<String, AllocError> {
+    let answer = first_answer(rt, alloc, calls)?;
+    if matches!(answer.as_str(), "no server" | "no report") {
+        return first_answer(rt, alloc, calls);
+    }
+    Ok(answer)
 }

@@ -2,6 +2,7 @@ use Rattle.std.proofs.Common.{rules, ◌≡◌, ◌∙◌, sym, codes, inl, inr,
 use Rattle.std.specs.Str.{bytes_eq}
 use Rattle.std.specs.Prelude.{IsSomeAnd}
 use Rattle.clap.specs.Words.{Row, Text, found_of, rows_of, subcommand_rows_of}
+use Rattle.clap.proofs.WalkLemmas.{one_text-rows}
 use Rattle.router_command.specs.Command.{AreWords, IsWhole}
 use Rattle.router_command.proofs.Texts.{text_is, text_there}
 use Rattle.router_command.proofs.command.command_in.Goals as goal
@@ -16,7 +17,8 @@ words_of : (name : Text) (rows : List Row) → name ≡ codes "match" → IsWhol
 words_of name rows e (inl pipe) = absurd (differs name (codes "pipe") e pipe refl)
 words_of name rows e (inr (inl words)) = words.1
 words_of name rows e (inr (inr (inl script))) = absurd (differs name (codes "script") e script refl)
-words_of name rows e (inr (inr (inr serve))) = absurd (differs name (codes "serve") e serve.0 refl)
+words_of name rows e (inr (inr (inr (inl audit)))) = absurd (differs name (codes "audit") e audit refl)
+words_of name rows e (inr (inr (inr (inr serve)))) = absurd (differs name (codes "serve") e serve.0 refl)
 
 question : (found : Option (Text × List Row)) (name : Text) (rows : List Row) → found ≡ Some (name, rows) → name ≡ codes "match" → IsSomeAnd found IsWhole → AreWords rows
 question found name rows is e whole = words_of name rows e (subst (λ (o : Option (Text × List Row)). IsSomeAnd o IsWhole) is whole)
@@ -47,3 +49,10 @@ returns-in-match c =
         text_is found (codes "SUBJECT") c.get_str-in-match.result c.unwrap-in-match-2.result c.get_str-in-match.ensures c.unwrap-in-match-2.ensures,
       ),
     )
+
+pub returns-in-script : goal.returns-in-script
+returns-in-script c =
+    let rows = rows_of (found_of c.unwrap.result.1.now) in
+    let is : subcommand_rows_of c.args.found.now ≡ Some (codes "script", rows) = search rules in
+    let same = one_text-rows (found_of c.unwrap.result.1.now) (codes "audit") in
+    (rows, is, record { on = λ e. c.get_flag.ensures.value (same ∙ e); off = λ e. c.get_flag.ensures.other (same ∙ e) })

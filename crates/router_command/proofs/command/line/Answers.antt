@@ -5,7 +5,7 @@ use Rattle.clap.specs.Simple.{app_of_fields}
 use Rattle.clap.specs.declared.builder.arg.Arg.{Arg}
 use Rattle.clap.specs.declared.builder.command.Command.{Command}
 use Rattle.clap.specs.declared.builder.command.Command.TheOpen.{Command-F}
-use Rattle.router_command.specs.Line.{HasRule, IsLine, match_command, required_rule, program, serve_command}
+use Rattle.router_command.specs.Line.{HasRule, IsLine, match_command, required_rule, program, script_command, serve_command}
 use Rattle.router_command.proofs.Lines.{with_arg, with_command}
 use Rattle.router_command.proofs.command.line.Goals as goal
 
@@ -25,9 +25,9 @@ returns c =
       same = ap app_of_fields c.about.ensures ∙ c.new-4.ensures.app;
       local = ap (λ (f : Command-F Command). f.has_globals) c.about.ensures ∙ c.new-4.ensures.local;
     } in
-    let script : IsLine c.about-script.result (new_app (codes "script")) = record {
-      same = ap app_of_fields c.about-script.ensures ∙ c.new-5.ensures.app;
-      local = ap (λ (f : Command-F Command). f.has_globals) c.about-script.ensures ∙ c.new-5.ensures.local;
+    let audit : IsLine c.about-audit.result (new_app (codes "audit")) = record {
+      same = ap app_of_fields c.about-audit.ensures ∙ c.new-5.ensures.app;
+      local = ap (λ (f : Command-F Command). f.has_globals) c.about-audit.ensures ∙ c.new-5.ensures.local;
     } in
     let pattern = required c.new-2.result c.required-pattern.result (new_rule (codes "PATTERN")) c.new-2.ensures.rule c.new-2.ensures.optional.1 c.required-pattern.ensures in
     let subject = required c.new-3.result c.required-subject.result (new_rule (codes "SUBJECT")) c.new-3.ensures.rule c.new-3.ensures.optional.1 c.required-subject.ensures in
@@ -40,6 +40,7 @@ returns c =
     } in
     let one = with_command c.subcommand_required.result c.in_ok-subcommand.field-0 c.about-pipe.result program (new_app (codes "pipe")) top pipe c.in_ok-subcommand.ensures in
     let two = with_command c.in_ok-subcommand.field-0 c.in_ok-subcommand-2.field-0 c.in_ok-question.question _ match_command one question c.in_ok-subcommand-2.ensures in
-    let three = with_command c.in_ok-subcommand-2.field-0 c.in_ok-subcommand-3.field-0 c.about-script.result _ (new_app (codes "script")) two script c.in_ok-subcommand-3.ensures in
-    IfOk-weaker c.subcommand-4.result _ _
-    (λ command added. with_command c.in_ok-subcommand-3.field-0 command c.in_ok-serve_line.field-0 _ serve_command three c.in_ok-serve_line.ensures added) c.subcommand-4.ensures
+    let three = with_command c.in_ok-subcommand-2.field-0 c.in_ok-subcommand-3.field-0 c.in_ok-script_line.field-0 _ script_command two c.in_ok-script_line.ensures c.in_ok-subcommand-3.ensures in
+    let four = with_command c.in_ok-subcommand-3.field-0 c.in_ok-subcommand-4.field-0 c.about-audit.result _ (new_app (codes "audit")) three audit c.in_ok-subcommand-4.ensures in
+    IfOk-weaker c.subcommand-5.result _ _
+    (λ command added. with_command c.in_ok-subcommand-4.field-0 command c.in_ok-serve_line.field-0 _ serve_command four c.in_ok-serve_line.ensures added) c.subcommand-5.ensures

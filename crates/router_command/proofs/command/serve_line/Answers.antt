@@ -1,17 +1,13 @@
-use Rattle.std.proofs.Common.{◌≡◌, ◌∙◌, ap, codes}
+use Rattle.std.proofs.Common.{◌∙◌, ap, codes}
 use Rattle.std.proofs.lemmas.Result.{IfOk-weaker}
-use Rattle.clap.specs.Words.{Rule, new_app, rule_of}
+use Rattle.clap.specs.Words.{new_app, rule_of}
 use Rattle.clap.specs.Simple.{app_of_fields}
 use Rattle.clap.specs.declared.builder.arg.Arg.{Arg}
 use Rattle.clap.specs.declared.builder.command.Command.{Command}
 use Rattle.clap.specs.declared.builder.command.Command.TheOpen.{Command-F}
-use Rattle.router_command.specs.Line.{HasRule, IsLine, level_rule, required_rule, number_rule, serve_with_defaults, serve_with_end, with_value}
-use Rattle.router_command.proofs.Lines.{with_arg}
+use Rattle.router_command.specs.Line.{IsLine, level_rule, required_rule, number_rule, serve_with_defaults, serve_with_end, with_value}
+use Rattle.router_command.proofs.Lines.{same_but, with_arg}
 use Rattle.router_command.proofs.command.serve_line.Goals as goal
-
--- an argument of which a setter was called
-same_but : (x y : Arg) (f : Rule → Rule) (rule : Rule) → HasRule x rule → rule_of y ≡ f (rule_of x) → y.global ≡ x.global → HasRule y (f rule)
-same_but x y f rule has same local = record { same = same ∙ ap f has.same; local = local ∙ has.local }
 
 pub returns : goal.returns
 returns c =

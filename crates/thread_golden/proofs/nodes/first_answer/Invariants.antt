@@ -1,4 +1,4 @@
-use Rattle.thread_golden.proofs.nodes.answer.Given as goal
+use Rattle.thread_golden.proofs.nodes.first_answer.Given as goal
 
 -- the server of the parts that were just made
 abbrev pub ghosts-play : goal.ghosts-play

@@ -1,0 +1,2 @@
+-- what is written of a log that was read
+pub mod Runs

@@ -1,0 +1,21 @@
+//! Logs of clusters are written and audited.
+//!
+//! ```text
+//! script_audit_run::<TrieTable, CellsRace, _, _>(alloc, &mut source, &mut sink)?;
+//! audit_run(alloc, &mut source, &mut sink)?;
+//! ```
+//!
+//! [`script_audit_run`] plays a script, and writes what was published, subscribed and placed behind its text, as the lines of a log. [`audit_run`]
+//! reads a log, whoever wrote it, and writes what its audit tells. In reading order: `running` reads and tells the verdict, `writing` writes the
+//! lines of a log, and `scripts` plays. `faults` has the causes for which lines did not pass.
+#![tactic(auto)]
+
+mod faults;
+mod running;
+mod scripts;
+mod writing;
+
+pub use faults::AuditFault;
+pub use running::audit_run;
+pub use scripts::script_audit_run;
+pub use writing::write_world;
