@@ -4,11 +4,12 @@
   tools/dev drill [LISTS] [--seed N] --show script | rest | held | stream
 
 For each of LISTS seeds from N on (500 from 1 on, where they are left out) `nats_mesh script` plays one script, one that brings a cluster to rest and
-delivers there, and the same with a frame held back; and `nats_mesh pipe` one stream. PATH is the program, of whatever sources. Where it is left out, the
-proved one is played (crates/nats_mesh/out/nats_mesh), which is not built here: where it is missing, or older than a source of the router, nothing is
-played, and it is said how it is built (status 2). --plants also edits what the program wrote of each list, in each of several named ways, and sees that
-each is found. --show writes what is drawn, and plays nothing: `tools/dev drill 1 --seed 17 --show script | ./nats_mesh script`. Status 0: nothing
-differs, and each plant was found.
+delivers there, and the same with a frame held back; and `nats_mesh pipe` one stream. Before them one publication between two servers is played, disturbed
+behind each of its events (`disturbed`). What each script's run published, subscribed and placed is written by `script --audit`, and audited by
+`nats_mesh audit`. PATH is the program, of whatever sources. Where it is left out, the proved one is played (crates/nats_mesh/out/nats_mesh), which is not
+built here: where it is missing, or older than a source of the router, nothing is played, and it is said how it is built (status 2). --plants also edits
+what the program wrote of each list, in each of several named ways, and sees that each is found. --show writes what is drawn, and plays nothing:
+`tools/dev drill 1 --seed 17 --show script | ./nats_mesh script`. Status 0: nothing differs, and each plant was found.
 
 The model is written from the pages docs/SCRIPTS.md, docs/PROTOCOL.md and docs/PROMISES.md, and from nothing of the router's code. A cluster has 1 to
 5 servers of 1 to 4 shards (8 where their share of subscriptions is filled). Judged of a script: each line; and of the placements as they are written,
@@ -16,15 +17,16 @@ by the words of the headline, with no more of the model than which publications 
 most once for a plain subscription, and at most once for a queue name in the whole cluster; each for a subscription that was open at that step and
 matched, of a publication of an earlier step; those of an incarnation in rising number; without echo none for its publisher. Of a cluster at rest: it is
 told as settled, and each publication that is delivered there, as one step or with its work in an order that is drawn, reaches each subscription that is
-open and matches once, and each queue name once; where a frame is held back it is not told as settled. Judged of a stream: each byte behind INFO, and the
-status.
+open and matches once, and each queue name once; where a frame is held back it is not told as settled. Judged of the lists of a script: each line, with the
+bytes of what is placed, and that they pass the audit; and with a flaw planted, that the audit tells the placement that breaks the clause first. Judged of a
+stream: each byte behind INFO, and the status.
 
-Not judged: the bytes of what is placed in a cluster, and of frames, since a script's text does not show them (a stream shows those of one server);
-what standard error tells; what is refused as no script (90 to 92); refusals that no script meets
+Not judged: the bytes of frames, since no text shows them; what standard error tells; what is refused as no script (90 to 92); refusals that no script meets
 (`tally` names them); threads and sockets (`serve`); times, and want of memory.
 
-In reading order: `values`, `shard`, `server` and `cluster` are the model; `moves` and `lists` draw scripts by it, `judge` judges them, and `plants`
-edits what was written; `streams` has all that for one client; `tally` is what is told at the end.
+In reading order: `values`, `shard`, `server` and `cluster` are the model; `moves` and `lists` draw scripts by it, `disturbed` has those that are not
+drawn, `judge` judges them, and `plants` edits what was written; `logs` has both for their lists, and `streams` for one client; `tally` is what is told
+at the end.
 """
 import os
 import subprocess
@@ -32,7 +34,8 @@ import sys
 
 from repository import TOP
 
-from . import plants, streams
+from . import logs, plants, streams
+from .disturbed import disturbed
 from .judge import ENDED, Flaw, flaws_in
 from .lists import brought_to_rest, drawn
 from .tally import Tally
@@ -51,20 +54,20 @@ LAST_SECOND = 120
 MOST_FLAWS = 5
 
 
-def run(program, word, data):
+def run(program, words, data):
     """What the program writes of its input, and its status; none where it does not end."""
     try:
-        done = subprocess.run([program, word], input=data, stdout=subprocess.PIPE, stderr=subprocess.DEVNULL, timeout=LAST_SECOND, check=False)
+        done = subprocess.run([program, *words], input=data, stdout=subprocess.PIPE, stderr=subprocess.DEVNULL, timeout=LAST_SECOND, check=False)
     except subprocess.TimeoutExpired:
         return "", None
     return done.stdout.decode(errors="replace"), done.returncode
 
 
-def tell_flaws(seed, of, word, flaws, tally):
-    """Tells what is wrong with a list or a stream, and how it is played again."""
+def tell_flaws(of, flaws, tally):
+    """Tells what is wrong with a list or a stream."""
     if flaws:
         tally.differing += 1
-        print(f"seed {seed}, {of}: {len(flaws)} flaws; tools/dev drill 1 --seed {seed} --show {word} shows it")
+        print(f"{of}: {len(flaws)} flaws")
         for flaw in flaws[:MOST_FLAWS]:
             print(f"  {flaw.kind}: {flaw.where}")
 
@@ -73,28 +76,54 @@ def tell_flaws(seed, of, word, flaws, tally):
 LIST_OF = {"script": drawn, "rest": lambda seed: brought_to_rest(seed, False), "held": lambda seed: brought_to_rest(seed, True)}
 
 
+def how_to_show(seed, word):
+    return f"seed {seed}; tools/dev drill 1 --seed {seed} --show {word} shows it"
+
+
+def log_flaws(program, script, text):
+    """What is wrong with the lists of a script, and with their audit."""
+    log, status = run(program, ["script", "--audit"], script.text)
+    flaws = [] if status == 0 else [Flaw(ENDED, f"status {status} with the lists")]
+    flaws += logs.flaws_in(script, text, log)
+    told, status = run(program, ["audit"], log.encode())
+    return flaws if (told, status) == ("none\n", 0) else flaws + [Flaw(logs.NOT_PASSED, f"{told.strip()}, status {status}")]
+
+
+def play_script(program, script, of_kind, of, tally):
+    """Plays a script, and judges what is written. With plants of a kind sees that each flaw is found."""
+    text, status = run(program, ["script"], script.text)
+    flaws = [] if status == 0 else [Flaw(ENDED, f"status {status}")]
+    flaws += [*flaws_in(script, text), *log_flaws(program, script, text)]
+    tally.note_list(script, text)
+    tell_flaws(of, flaws, tally)
+    if flaws or of_kind is None:
+        return
+    for name, edited, kind in plants.planted(of_kind, plants.Written(script, text)):
+        tally.note_plant(name, any(flaw.kind == kind for flaw in flaws_in(script, edited)))
+    for name, edited, number in logs.planted(script):
+        tally.note_plant(name, run(program, ["audit"], edited.encode()) == (f"{number}\n", 1))
+
+
 def play_list(program, seed, word, with_plants, tally):
     script = LIST_OF[word](seed)
-    if script is None:
-        return
-    text, status = run(program, "script", script.text)
-    flaws = [] if status == 0 else [Flaw(ENDED, f"status {status}")]
-    flaws += flaws_in(script, text)
-    tally.note_list(script, text)
-    tell_flaws(seed, f"a script ({script.kind})", word, flaws, tally)
-    if with_plants and not flaws:
+    if script is not None:
         of_kind = plants.PLANTS if word == "script" else plants.REST_PLANTS
-        for name, edited, kind in plants.planted(of_kind, plants.Written(script, text)):
-            tally.note_plant(name, any(flaw.kind == kind for flaw in flaws_in(script, edited)))
+        play_script(program, script, of_kind if with_plants else None, f"a script ({script.kind}), {how_to_show(seed, word)}", tally)
+
+
+def play_disturbed(program, with_plants, tally):
+    for script in disturbed():
+        of = f"one publication ({script.kind} behind event {script.seed})"
+        play_script(program, script, [] if with_plants else None, of, tally)
 
 
 def play_stream(program, seed, with_plants, tally):
     stream = streams.Stream(seed)
-    text, status = run(program, "pipe", stream.text)
+    text, status = run(program, ["pipe"], stream.text)
     flaws = [] if status == stream.status else [Flaw(ENDED, f"status {status} (by the pages: {stream.status})")]
     flaws += stream.flaws_in(text)
     tally.note_stream(stream)
-    tell_flaws(seed, "a stream", "stream", flaws, tally)
+    tell_flaws(f"a stream, {how_to_show(seed, 'stream')}", flaws, tally)
     if with_plants and not flaws:
         info = text[:text.index("\r\n") + 2]
         for name, edit in streams.PLANTS:
@@ -159,11 +188,12 @@ def main(words):
     if cause:
         print(f"tools/dev drill: {cause}\n{HOW_TO_BUILD}", file=sys.stderr)
         return 2
+    play_disturbed(program, with_plants, tally)
     for seed in seeds:
         for word in LIST_OF:
             play_list(program, seed, word, with_plants, tally)
         play_stream(program, seed, with_plants, tally)
-    names = [name for name, *_ in (*plants.PLANTS, *plants.REST_PLANTS, *streams.PLANTS)] if with_plants else []
+    names = [name for name, *_ in (*plants.PLANTS, *plants.REST_PLANTS, *logs.PLANTS, *streams.PLANTS)] if with_plants else []
     for line in tally.lines(names):
         print(line)
     return 1 if tally.differing or tally.missed(names) else 0
