@@ -75,10 +75,11 @@ def wait_for_port(port):
 class Servers:
     """So many servers of one kind, which run."""
 
-    def __init__(self, commands, ports):
+    def __init__(self, commands, ports, settings=None):
         self.ports = ports
+        environment = {**os.environ, **(settings or {})}
         self.processes = [
-            subprocess.Popen(command, stdin=subprocess.DEVNULL, stdout=subprocess.DEVNULL, stderr=subprocess.DEVNULL)
+            subprocess.Popen(command, env=environment, stdin=subprocess.DEVNULL, stdout=subprocess.DEVNULL, stderr=subprocess.DEVNULL)
             for command in commands]
 
     def __enter__(self):
@@ -136,10 +137,11 @@ class Servers:
         return self.descriptors() - before
 
 
-def nats_mesh(program, count):
-    """So many servers of nats_mesh, in one process."""
+def nats_mesh(program, count, settings=None):
+    """So many servers of nats_mesh, in one process, with these settings in its environment."""
     first = free_ports(2 * count)
-    return Servers([[program, "serve", "--nodes", str(count), "--port", str(first)]], [first + place for place in range(count)])
+    command = [program, "serve", "--nodes", str(count), "--port", str(first)]
+    return Servers([command], [first + place for place in range(count)], settings)
 
 
 def nats_server(count):

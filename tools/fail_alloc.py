@@ -3,6 +3,7 @@
 The program is built already, and its input is a file. What it writes without a refusal is the whole output. With one refused it may go on, and then it
 ends as it did and writes the same; or it ends with status 1, and has written a beginning of the whole. Anything else is a fault: another text, another
 status, an end by a signal, or none within a minute.
+A program over cases may end with status 1 as well once it has told that what it played until then was all as written.
 A request counts that the C library gets from the program (tools/fail_alloc.c, preloaded). It needs a C compiler, `cc`.
 
 Usage: tools/dev fail-alloc FILE PROGRAM WORD..
@@ -10,6 +11,7 @@ Usage: tools/dev fail-alloc FILE PROGRAM WORD..
 """
 import concurrent.futures
 import os
+import re
 import struct
 import subprocess
 import sys
@@ -28,14 +30,23 @@ ENDED = 1
 # So many runs with a fault are told.
 TOLD = 10
 
+# What a program over cases tells last, where nothing differs in what it played.
+PLAYED = re.compile(rb"\d+ cases, \d+ calls: all as written\n\Z")
+
+
+def shim_in(room):
+    """The shim that refuses memory, which is compiled into this folder."""
+    shim = os.path.join(room, "fail_alloc.so")
+    subprocess.run(["cc", "-O2", "-shared", "-fPIC", "-o", shim, SHIM], check=True)
+    return shim
+
 
 class Program:
     """A program that was built, its words, its input, and the shim that refuses memory."""
 
     def __init__(self, room, words, path):
         self.room, self.words, self.path = room, words, path
-        self.shim = os.path.join(room, "fail_alloc.so")
-        subprocess.run(["cc", "-O2", "-shared", "-fPIC", "-o", self.shim, SHIM], check=True)
+        self.shim = shim_in(room)
 
     def run(self, **settings):
         """Runs it with these settings of the shim. Gives its status, None where it did not end in time, and what it wrote."""
@@ -52,12 +63,12 @@ class Program:
         count = os.path.join(self.room, "count")
         status, written = self.run(FAIL_ALLOC_COUNT=count)
         with open(count, "rb") as file:
-            return struct.unpack("=Q", file.read(8))[0], status, written
+            return struct.unpack("=QQ", file.read())[0], status, written
 
 
 def fault_of(whole, status, written):
     """What is wrong with a run in which a request was refused, or None."""
-    if (status, written) == whole or (status == ENDED and whole[1].startswith(written)):
+    if (status, written) == whole or (status == ENDED and whole[1].startswith(PLAYED.sub(b"", written))):
         return None
     if status is None:
         return f"did not end within {PATIENCE} seconds"
