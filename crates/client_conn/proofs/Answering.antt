@@ -7,7 +7,7 @@ use Rattle.client_frames.specs.declared.client_line.Awaited.{Awaited}
 use Rattle.client_frames.specs.declared.client_line.Awaited.TheVariants as awaits
 use Rattle.client_frames.specs.declared.client_line.Options.{Options}
 use Rattle.client_frames.specs.Streams.{StreamItem}
-use Rattle.client_conn.specs.declared.ask.Ask.{Ask}
+use Rattle.client_conn.specs.declared.ask.ClientAction.{ClientAction}
 use Rattle.client_conn.specs.declared.faults.ReadFault.{ReadFault}
 use Rattle.client_conn.specs.declared.faults.ReadFault.TheVariants.{Closed}
 use Rattle.client_conn.specs.declared.conn.ItemReader.{ItemReader}
@@ -22,7 +22,7 @@ use Rattle.client_conn.proofs.Closing.{finished_is}
 use Rattle.client_conn.proofs.Looking.{takes, passes, lessens_at_a_line, lessens_at_an_item}
 
 -- nothing was fed yet
-pub new_asks : (ask : Ask) → asking_at (record { asks = ask ∷ []; options = first_options }) (waits awaits.Line []) ≡ record { asks = ask ∷ []; onward = listens first_options awaits.Line [] }
+pub new_asks : (ask : ClientAction) → asking_at (record { asks = ask ∷ []; options = first_options }) (waits awaits.Line []) ≡ record { asks = ask ∷ []; onward = listens first_options awaits.Line [] }
 unfolding first_cr_lf reading_within
 new_asks ask = refl
 
@@ -33,7 +33,7 @@ taken_asks o old new told front =
     ∙ sym (told_before o (told ∷ []) (reading_at new))
     ∙ ap (asking_of o) (sym front)
 
-no_length : (asks : List Ask) → no_asks asks ≡ true → asks ≡ []
+no_length : (asks : List ClientAction) → no_asks asks ≡ true → asks ≡ []
 no_length [] is = refl
 no_length (ask ∷ asks) is = absurd (cc)
 
@@ -67,10 +67,10 @@ nothing_asked before stand old new is none empty =
     ∙ ap (items_asks before.options) none.none
 
 -- what is given is what stands first
-pub first_asked : (stand : OpenState) (end : End Awaited) (now : Asking) (got : Option Ask) → got ≡ slice_get stand.asks 0 → (stand.asks ≡ [] → (asking_at stand end).asks ≡ [])
+pub first_asked : (stand : OpenState) (end : End Awaited) (now : Asking) (got : Option ClientAction) → got ≡ slice_get stand.asks 0 → (stand.asks ≡ [] → (asking_at stand end).asks ≡ [])
     → asking_at stand end ≡ now → got ≡ slice_get now.asks 0
 first_asked stand end now got is none same = by_asks stand.asks is none same where
-  by_asks : (asks : List Ask) → got ≡ slice_get asks 0 → (asks ≡ [] → (asking_at (record { asks = asks; options = stand.options }) end).asks ≡ [])
+  by_asks : (asks : List ClientAction) → got ≡ slice_get asks 0 → (asks ≡ [] → (asking_at (record { asks = asks; options = stand.options }) end).asks ≡ [])
       → asking_at (record { asks = asks; options = stand.options }) end ≡ now → got ≡ slice_get now.asks 0
   by_asks [] is none same = is ∙ ap (λ l. slice_get l 0) (sym (none refl) ∙ ap (λ s. s.asks) same)
   by_asks (ask ∷ asks) is none same = is ∙ ap (λ s. slice_get s.asks 0) same

@@ -16,8 +16,8 @@ use Rattle.client_frames.specs.declared.server_frames.ReplyFrame.TheVariants as 
 use Rattle.client_frames.specs.ErrTexts.{text_closes, line_fault_text, cut_fault_text}
 use Rattle.client_frames.specs.Lines.{Meaning, line_meaning}
 use Rattle.client_frames.specs.Streams.{StreamItem, refused, unreadable, client_grammar, piece_told, line_told, command_told}
-use Rattle.client_conn.specs.declared.ask.Ask.{Ask}
-use Rattle.client_conn.specs.declared.ask.Ask.TheVariants.{Reply, Shut}
+use Rattle.client_conn.specs.declared.ask.ClientAction.{ClientAction}
+use Rattle.client_conn.specs.declared.ask.ClientAction.TheVariants.{Reply, Shut}
 use Rattle.client_conn.specs.declared.conn.ItemReader.{ItemReader}
 use Rattle.client_conn.specs.Items.{OpenState, options_after, items_asks, refusal_asks}
 use Rattle.client_conn.specs.Asks.{over, listens, asking_of, onward_of, read_onward, is_over, no_asks, is_finished}
@@ -25,10 +25,10 @@ use Rattle.client_conn.specs.Shuts.{AsksToShut}
 use Rattle.client_conn.specs.Streams.{end_of, asking_at}
 use Rattle.client_conn.proofs.Telling.{items_asks-append}
 
-refusing_shuts : (text : ErrText) (rest : List Ask) → text_closes text ≡ true → AsksToShut (refusal_asks text ++ rest)
+refusing_shuts : (text : ErrText) (rest : List ClientAction) → text_closes text ≡ true → AsksToShut (refusal_asks text ++ rest)
 refusing_shuts text rest closes = record { before = []; text = text; behind = rest; are = ap (λ b. (if b then Shut text ∷ [] else Reply (reply.Err text) ∷ []) ++ rest) closes }
 
-pub shut_behind : (front rest : List Ask) → AsksToShut rest → AsksToShut (front ++ rest)
+pub shut_behind : (front rest : List ClientAction) → AsksToShut rest → AsksToShut (front ++ rest)
 shut_behind front rest shuts = record { before = front ++ shuts.before; text = shuts.text; behind = shuts.behind; are = ap (λ l. front ++ l) shuts.are ∙ sym (append_assoc front shuts.before (Shut shuts.text ∷ shuts.behind)) }
 
 last_asks : (o : Options) (items : List StreamItem) (last : List StreamItem) → ((p : Options) → AsksToShut (items_asks p last)) → AsksToShut (items_asks o (items ++ last))
@@ -109,9 +109,9 @@ shuts_at_the_end o awaited bytes is = within_asks _ awaited bytes o (ended (read
   ended (waits next rest) e = absurd (cc)
   ended closed e = refl
 
-some_asks : (asks : List Ask) → AsksToShut asks → no_asks asks ≡ false
+some_asks : (asks : List ClientAction) → AsksToShut asks → no_asks asks ≡ false
 some_asks asks some = ap no_asks some.are ∙ by_front some.before where
-  by_front : (front : List Ask) → no_asks (front ++ (Shut some.text ∷ some.behind)) ≡ false
+  by_front : (front : List ClientAction) → no_asks (front ++ (Shut some.text ∷ some.behind)) ≡ false
   by_front [] = refl
   by_front (ask ∷ front) = refl
 
@@ -123,7 +123,7 @@ read_finished : (o : Options) (r : Reading Awaited StreamItem) (end : End Awaite
 read_finished o r (waits awaited unread) is some = ap (λ e. no_asks (items_asks o r.items) && is_over (onward_of (options_after r.items o) e)) is ∙ and_false _
 read_finished o r closed is some = ap (λ b. b && is_over (onward_of (options_after r.items o) r.end)) (some_asks (items_asks o r.items) (some refl))
 
-finished_at : (open_asks : List Ask) (o : Options) (awaited : Awaited) (unread : List ℕ) (ended : Bool)
+finished_at : (open_asks : List ClientAction) (o : Options) (awaited : Awaited) (unread : List ℕ) (ended : Bool)
     → (no_asks open_asks && ended) ≡ is_finished (asking_at (record { asks = open_asks; options = o }) (if ended then closed else waits awaited unread))
 finished_at (ask ∷ open_asks) o awaited unread ended = refl
 finished_at [] o awaited unread true = refl

@@ -4,7 +4,7 @@ use Rattle.wire_cut.specs.Cut.{first_cr_lf}
 use Rattle.wire_cut.specs.Reading.{reading_of, reading_within}
 use Rattle.client_frames.specs.declared.info.InfoData.{InfoData}
 use Rattle.client_frames.specs.Streams.{client_grammar}
-use Rattle.client_conn.specs.declared.ask.Ask.{Ask}
+use Rattle.client_conn.specs.declared.ask.ClientAction.{ClientAction}
 use Rattle.client_conn.specs.declared.ask.Refusal.TheVariants.{Busy, TooManySubscriptions, NumbersSpent, TooManyQueueGroups, Other}
 use Rattle.client_conn.specs.Asks.{Asking, Answer, Onward, listens, over, asked_before, asking_of, read_onward, asks_after_bytes, asks_after_answer, answered_of, answered_first, asks_after_answers, first_asking}
 use Rattle.client_conn.specs.Laws.{Happening, more_bytes, an_answer, after_all, after, bytes_in, answers_in, EachAnswersAnAsk, FollowsBytesAndAnswers, AsksForStreamCommands}
@@ -23,7 +23,7 @@ fed_twice s first second = fed_behind s.asks (read_onward s.onward first) second
 
 -- ---- an answer before bytes, and behind them
 
-answered_then_fed : (answer : Answer) (ask : Ask) (asks : List Ask) (onward : Onward) (bytes : List ℕ)
+answered_then_fed : (answer : Answer) (ask : ClientAction) (asks : List ClientAction) (onward : Onward) (bytes : List ℕ)
     → asks_after_bytes bytes (answered_of answer ask asks onward) ≡ answered_of answer ask (asks ++ (read_onward onward bytes).asks) (read_onward onward bytes).onward
 answered_then_fed (Ok done) ask asks onward bytes = refl
 answered_then_fed (Err Busy) ask asks onward bytes = refl
@@ -32,7 +32,7 @@ answered_then_fed (Err NumbersSpent) ask asks onward bytes = refl
 answered_then_fed (Err TooManyQueueGroups) ask asks onward bytes = refl
 answered_then_fed (Err Other) ask asks onward bytes = refl
 
-first_answered : (answer : Answer) (asks : List Ask) (onward : Onward) (bytes : List ℕ) → ¬ (asks ≡ [])
+first_answered : (answer : Answer) (asks : List ClientAction) (onward : Onward) (bytes : List ℕ) → ¬ (asks ≡ [])
     → asks_after_bytes bytes (answered_first answer asks onward) ≡ asks_after_answer answer (asks_after_bytes bytes (record { asks = asks; onward = onward }))
 first_answered answer [] onward bytes some = absurd (some refl)
 first_answered answer (ask ∷ asks) onward bytes some = answered_then_fed answer ask asks onward bytes

@@ -21,7 +21,7 @@ use Rattle.client_frames.specs.declared.faults.LineFault.{LineFault}
 use Rattle.client_frames.specs.declared.faults.LineFault.TheVariants.{BadSubject}
 use Rattle.client_frames.specs.ErrTexts.{text_closes, line_fault_text, cut_fault_text}
 use Rattle.client_frames.specs.Streams.{StreamItem, asked, published, refused, unreadable, client_grammar, piece_told, line_told, command_told, refusal_told}
-use Rattle.client_conn.specs.declared.ask.Ask.TheVariants.{Publish}
+use Rattle.client_conn.specs.declared.ask.ClientAction.TheVariants.{Publish}
 use Rattle.client_conn.specs.declared.conn.ItemReader.{ItemReader}
 use Rattle.client_conn.specs.declared.conn.Looked.{Looked}
 use Rattle.client_conn.specs.declared.conn.Looked.TheVariants.{Waits, Announced, Told as told_item}

@@ -5,7 +5,7 @@ use Rattle.wire_cut.proofs.ReadingLemmas.{reads_on}
 use Rattle.client_frames.specs.declared.client_line.Awaited.{Awaited}
 use Rattle.client_frames.specs.declared.client_line.Options.{Options}
 use Rattle.client_frames.specs.Streams.{StreamItem, client_grammar}
-use Rattle.client_conn.specs.declared.ask.Ask.{Ask}
+use Rattle.client_conn.specs.declared.ask.ClientAction.{ClientAction}
 use Rattle.client_conn.specs.Items.{OpenState, options_behind, options_after, item_asks, items_asks}
 use Rattle.client_conn.specs.Asks.{Asking, Onward, asked_before, onward_of, asking_of, read_onward, asks_after_bytes}
 use Rattle.client_conn.specs.Streams.{reading_at, longer, asking_at}
@@ -22,7 +22,7 @@ options_after-append : (o : Options) (xs ys : List StreamItem) → options_after
 options_after-append o [] ys = refl
 options_after-append o (x ∷ xs) ys = options_after-append (options_behind x o) xs ys
 
-asking-is : (a b : List Ask) (c d : Onward) → a ≡ b → c ≡ d → (let s : Asking = record { asks = a; onward = c } in s) ≡ record { asks = b; onward = d }
+asking-is : (a b : List ClientAction) (c d : Onward) → a ≡ b → c ≡ d → (let s : Asking = record { asks = a; onward = c } in s) ≡ record { asks = b; onward = d }
 asking-is a b c d first second =
     ap (λ l. let s : Asking = record { asks = l; onward = c } in s) first ∙ ap (λ l. let s : Asking = record { asks = b; onward = l } in s) second
 
@@ -31,7 +31,7 @@ pub told_before : (o : Options) (items : List StreamItem) (r : Reading Awaited S
 told_before o items r =
     asking-is _ _ _ _ (items_asks-append o items r.items) (ap (λ p. onward_of p r.end) (options_after-append o items r.items))
 
-pub asked_before_twice : (front rest : List Ask) (s : Asking) → asked_before front (asked_before rest s) ≡ asked_before (front ++ rest) s
+pub asked_before_twice : (front rest : List ClientAction) (s : Asking) → asked_before front (asked_before rest s) ≡ asked_before (front ++ rest) s
 asked_before_twice front rest s = ap (λ l. let t : Asking = record s { asks = l } in t) (sym (append_assoc front rest s.asks))
 
 -- ---- bytes that are added
@@ -47,7 +47,7 @@ fed_reading o awaited bytes more =
     ∙ sym (told_before o r.items (continuation client_grammar r.end more))
     ∙ ap (asking_of o) (reads_on client_grammar awaited bytes more)
 
-pub fed_behind : (open_asks : List Ask) (s : Asking) (bytes : List ℕ) → asks_after_bytes bytes (asked_before open_asks s) ≡ asked_before open_asks (asks_after_bytes bytes s)
+pub fed_behind : (open_asks : List ClientAction) (s : Asking) (bytes : List ℕ) → asks_after_bytes bytes (asked_before open_asks s) ≡ asked_before open_asks (asks_after_bytes bytes s)
 fed_behind open_asks s bytes = sym (asked_before_twice open_asks s.asks (read_onward s.onward bytes))
 
 fed_end : (o : Options) (end : End Awaited) (bytes : List ℕ) → asks_after_bytes bytes (asking_of o (reading_at end)) ≡ asking_of o (reading_at (longer bytes end))

@@ -9,8 +9,8 @@ use Rattle.client_frames.specs.declared.err_texts.ErrText.TheVariants as text
 use Rattle.client_frames.specs.declared.info.InfoData.{InfoData}
 use Rattle.client_frames.specs.declared.server_frames.ReplyFrame.TheVariants as reply
 use Rattle.client_frames.specs.Streams.{StreamItem, client_grammar}
-use Rattle.client_conn.specs.declared.ask.Ask.{Ask}
-use Rattle.client_conn.specs.declared.ask.Ask.TheVariants.{Reply}
+use Rattle.client_conn.specs.declared.ask.ClientAction.{ClientAction}
+use Rattle.client_conn.specs.declared.ask.ClientAction.TheVariants.{Reply}
 use Rattle.client_conn.specs.declared.ask.Refusal.{Refusal}
 use Rattle.client_conn.specs.declared.ask.Refusal.TheVariants.{Busy, TooManySubscriptions, NumbersSpent, TooManyQueueGroups, Other}
 use Rattle.client_conn.specs.Items.{first_options, options_after, items_asks}
@@ -24,11 +24,11 @@ pub data Onward : Type 0 where
 
 -- what a connection has still to ask, first to last, where each ask is done; and how it goes on
 pub record Asking : Type 0 where
-  pub asks : List Ask
+  pub asks : List ClientAction
   pub onward : Onward
 
 -- these are asked before
-abbrev pub asked_before : List Ask → Asking → Asking
+abbrev pub asked_before : List ClientAction → Asking → Asking
 asked_before asks s = record s { asks = asks ++ s.asks }
 
 abbrev pub nothing_more : Asking
@@ -55,11 +55,11 @@ asks_after_bytes bytes s = asked_before s.asks (read_onward s.onward bytes)
 -- ---- answers
 
 -- the client is told of a refusal, and its connection goes on
-abbrev pub asking_with_err : ErrText → List Ask → Onward → Asking
+abbrev pub asking_with_err : ErrText → List ClientAction → Onward → Asking
 asking_with_err text asks onward = record { asks = Reply (reply.Err text) ∷ asks; onward = onward }
 
 -- A busy server is asked the same again. Four refusals are told; of all others nothing comes any more.
-abbrev pub refused_by : Refusal → Ask → List Ask → Onward → Asking
+abbrev pub refused_by : Refusal → ClientAction → List ClientAction → Onward → Asking
 refused_by Busy ask asks onward = record { asks = ask ∷ asks; onward = onward }
 refused_by TooManySubscriptions ask asks onward = asking_with_err text.TooManySubscriptions asks onward
 refused_by NumbersSpent ask asks onward = asking_with_err text.NumbersSpent asks onward
@@ -70,11 +70,11 @@ refused_by Other ask asks onward = nothing_more
 abbrev pub Answer : Type 0
 Answer = Result (Unit {0}) Refusal
 
-abbrev pub answered_of : Answer → Ask → List Ask → Onward → Asking
+abbrev pub answered_of : Answer → ClientAction → List ClientAction → Onward → Asking
 answered_of (Ok done) ask asks onward = record { asks = asks; onward = onward }
 answered_of (Err refusal) ask asks onward = refused_by refusal ask asks onward
 
-abbrev pub answered_first : Answer → List Ask → Onward → Asking
+abbrev pub answered_first : Answer → List ClientAction → Onward → Asking
 answered_first answer [] onward = record { asks = []; onward = onward }
 answered_first answer (ask ∷ asks) onward = answered_of answer ask asks onward
 
@@ -92,7 +92,7 @@ abbrev pub is_over : Onward → Bool
 is_over (listens options awaited unread) = false
 is_over over = true
 
-abbrev pub no_asks : List Ask → Bool
+abbrev pub no_asks : List ClientAction → Bool
 no_asks [] = true
 no_asks (ask ∷ asks) = false
 

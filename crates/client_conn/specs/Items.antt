@@ -12,8 +12,8 @@ use Rattle.client_frames.specs.declared.err_texts.ErrText.{ErrText}
 use Rattle.client_frames.specs.declared.server_frames.ReplyFrame.TheVariants as reply
 use Rattle.client_frames.specs.ErrTexts.{text_closes, line_fault_text, cut_fault_text}
 use Rattle.client_frames.specs.Streams.{StreamItem, asked, published, refused, unreadable}
-use Rattle.client_conn.specs.declared.ask.Ask.{Ask}
-use Rattle.client_conn.specs.declared.ask.Ask.TheVariants.{Reply, Shut, Subscribe, Unsubscribe, Publish}
+use Rattle.client_conn.specs.declared.ask.ClientAction.{ClientAction}
+use Rattle.client_conn.specs.declared.ask.ClientAction.TheVariants.{Reply, Shut, Subscribe, Unsubscribe, Publish}
 
 -- ---- options
 
@@ -45,15 +45,15 @@ options_after (item ∷ items) options = options_after items (options_behind ite
 -- ---- one item
 
 -- in verbose mode `+OK` comes before what a command asks for itself
-abbrev pub with_confirmation : Options → List Ask → List Ask
+abbrev pub with_confirmation : Options → List ClientAction → List ClientAction
 with_confirmation options own = if options.verbose then Reply reply.Ok ∷ own else own
 
 -- a text that closes shuts the connection
-abbrev pub refusal_asks : ErrText → List Ask
+abbrev pub refusal_asks : ErrText → List ClientAction
 refusal_asks text = if text_closes text then Shut text ∷ [] else Reply (reply.Err text) ∷ []
 
 -- CONNECT is confirmed by the options that it chooses. A publication asks for nothing before its payload is there.
-abbrev pub command_asks : Options → ClientLine → List Ask
+abbrev pub command_asks : Options → ClientLine → List ClientAction
 command_asks options (line.Connect chosen) = with_confirmation chosen []
 command_asks options (line.Pub head) = []
 command_asks options (line.PubBad size) = []
@@ -69,7 +69,7 @@ message_of head payload = record { subject = head.subject; reply = head.reply; p
 abbrev pub publication_of : Content → Options → Pub
 publication_of message options = record { message = message; echo = options.echo }
 
-abbrev pub item_asks : Options → StreamItem → List Ask
+abbrev pub item_asks : Options → StreamItem → List ClientAction
 item_asks options (asked command) = command_asks options command
 item_asks options (published head payload) = with_confirmation options (Publish (publication_of (message_of head payload) options) ∷ [])
 item_asks options (refused fault) = refusal_asks (line_fault_text fault)
@@ -77,7 +77,7 @@ item_asks options (unreadable fault) = refusal_asks (cut_fault_text fault)
 
 -- what stands to be asked of one item, and the options by which the next ones ask
 pub record OpenState : Type 0 where
-  pub asks : List Ask
+  pub asks : List ClientAction
   pub options : Options
 
 -- what stands behind an item that comes by these options
@@ -87,6 +87,6 @@ asked_by item options = record { asks = item_asks options item; options = option
 -- ---- all items
 
 -- one after the other, each by the options as those before it leave them
-abbrev pub items_asks : Options → List StreamItem → List Ask
+abbrev pub items_asks : Options → List StreamItem → List ClientAction
 items_asks options [] = []
 items_asks options (item ∷ items) = item_asks options item ++ items_asks (options_behind item options) items

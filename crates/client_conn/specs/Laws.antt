@@ -3,7 +3,7 @@ use Rattle.std.specs.Prelude.{◌≡◌, ℕ, List, [], ◌∷◌, ◌++◌}
 use Rattle.client_frames.specs.declared.info.InfoData.{InfoData}
 use Rattle.client_frames.specs.declared.server_frames.ReplyFrame.TheVariants as reply
 use Rattle.client_frames.specs.Streams.{stream_commands}
-use Rattle.client_conn.specs.declared.ask.Ask.TheVariants.{Reply}
+use Rattle.client_conn.specs.declared.ask.ClientAction.TheVariants.{Reply}
 use Rattle.client_conn.specs.Items.{first_options, items_asks}
 use Rattle.client_conn.specs.Asks.{Asking, Answer, asks_after_bytes, asks_after_answer, first_asking, asking_after}
 

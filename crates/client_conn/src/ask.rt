@@ -6,7 +6,7 @@ use thiserror::Error;
 
 /// What a connection asks of its server. Whoever hands it on knows which connection asks.
 #[derive(Drop)]
-pub enum Ask {
+pub enum ClientAction {
     /// To put this line for the client.
     Reply(ReplyFrame),
     /// To put this text, and to close the connection behind it.

@@ -1,12 +1,12 @@
 //! One client's connection: what its stream tells is read, and items of it ask for something.
 
 ghost use Rattle.client_frames.specs.declared.server_frames.ReplyFrame.TheVariants as reply;
-ghost use Rattle.client_conn.specs.declared.ask.Ask.TheVariants as ask;
+ghost use Rattle.client_conn.specs.declared.ask.ClientAction.TheVariants as ask;
 ghost use Rattle.client_frames.specs.declared.client_line.Awaited.TheVariants as awaits;
 ghost use Rattle.client_conn.specs.declared.conn.Looked.TheVariants as looks;
 ghost use Rattle.std.specs.Prelude.{◌≡◌, ◌∷◌, ◌++◌, List, [], drop, is_some, not, slice_get, option_copied, option_to_list, ◌≤◌, length, false, true, None, Some, IfOk, OnOk, OnErr, IsSome, IsOkAnd, Err, if◌then◌else◌};
 ghost use Rattle.client_frames.specs.Streams.{asked, client_grammar, command_told, refusal_told};
-ghost use Rattle.client_conn.specs.declared.ask.Ask.{Ask};
+ghost use Rattle.client_conn.specs.declared.ask.ClientAction.{ClientAction};
 ghost use Rattle.client_conn.specs.Asks.{no_asks, first_asking, asks_after_bytes, asks_after_answer, is_finished};
 ghost use Rattle.client_conn.specs.Items.{asked_by, with_confirmation, first_options, publication_of, refusal_asks};
 ghost use Rattle.wire_cut.specs.Reading.{waits, finding_before};
@@ -17,7 +17,7 @@ ghost use Rattle.client_conn.specs.Streams.{end_of, longer, IsInStep, IsBehindLi
 ghost use Rattle.std.specs.Borrow.{sem};
 ghost use Rattle.client_conn.specs.Shown.{Stays};
 
-use crate::ask::{Ask, Refusal};
+use crate::ask::{ClientAction, Refusal};
 use crate::faults::ReadFault;
 use bytes::Bytes;
 use client_frames::{
@@ -38,8 +38,8 @@ use wire_cut::{Cutter, FeedFault, FillFault, Piece, Source};
 pub struct OpenAsks {
     options: Options,
     /// What is asked before the item's own, where that is asked too.
-    confirmation: Option<Ask>,
-    own: Option<Ask>,
+    confirmation: Option<ClientAction>,
+    own: Option<ClientAction>,
 }
 
 impl Model for OpenAsks {
@@ -52,21 +52,21 @@ impl Model for OpenAsks {
 }
 
 /// Asks for `+OK` in verbose mode, before what a command asks for itself.
-fn confirm(confirmation: &mut Option<Ask>, options: Options)
-    ensures { (own : List Ask) → option_to_list confirmation.new ++ own ≡ with_confirmation options own }
+fn confirm(confirmation: &mut Option<ClientAction>, options: Options)
+    ensures { (own : List ClientAction) → option_to_list confirmation.new ++ own ≡ with_confirmation options own }
 {
     if options.verbose {
-        *confirmation = Some(Ask::Reply(ReplyFrame::Ok));
+        *confirmation = Some(ClientAction::Reply(ReplyFrame::Ok));
     } else {
         *confirmation = None;
     }
 }
 
 /// The message that it asks to publish, if it does.
-fn message_in(ask: Option<Ask>) -> Option<Message> {
+fn message_in(ask: Option<ClientAction>) -> Option<Message> {
     match ask {
-        Some(Ask::Publish(said)) => {
-            let Pub { message, .. } = said;
+        Some(ClientAction::Publish(publication)) => {
+            let Pub { message, .. } = publication;
             Some(message)
         }
         _ => None,
@@ -75,7 +75,7 @@ fn message_in(ask: Option<Ask>) -> Option<Message> {
 
 impl OpenAsks {
     /// This alone is asked, of a client that has chosen no options yet.
-    pub fn of(ask: Ask) -> OpenAsks
+    pub fn of(ask: ClientAction) -> OpenAsks
         ensures { result ≡ record { asks = ask ∷ []; options = first_options } }
     {
         OpenAsks {
@@ -105,13 +105,13 @@ impl OpenAsks {
             } => {
                 let key = Key { pattern, queue };
                 confirm(&mut self.confirmation, self.options);
-                self.own = Some(Ask::Subscribe { key, sid });
+                self.own = Some(ClientAction::Subscribe { key, sid });
             }
             ClientLine::Unsub { sid, max } => {
                 confirm(&mut self.confirmation, self.options);
-                self.own = Some(Ask::Unsubscribe { sid, max });
+                self.own = Some(ClientAction::Unsubscribe { sid, max });
             }
-            ClientLine::Ping => self.ask_alone(Ask::Reply(ReplyFrame::Pong)),
+            ClientLine::Ping => self.ask_alone(ClientAction::Reply(ReplyFrame::Pong)),
             ClientLine::Pong | ClientLine::Pub(_) | ClientLine::PubBad { .. } => self.clear(),
         }
     }
@@ -125,7 +125,7 @@ impl OpenAsks {
             echo: self.options.echo,
         };
         confirm(&mut self.confirmation, self.options);
-        self.own = Some(Ask::Publish(publication));
+        self.own = Some(ClientAction::Publish(publication));
     }
 
     /// What a refusal with this text asks for stands in place of what stood.
@@ -133,13 +133,13 @@ impl OpenAsks {
         ensures { self.new ≡ record self.old { asks = refusal_asks text } }
     {
         if text.closes() {
-            self.ask_alone(Ask::Shut(text));
+            self.ask_alone(ClientAction::Shut(text));
         } else {
-            self.ask_alone(Ask::Reply(ReplyFrame::Err(text)));
+            self.ask_alone(ClientAction::Reply(ReplyFrame::Err(text)));
         }
     }
 
-    fn ask_alone(&mut self, ask: Ask)
+    fn ask_alone(&mut self, ask: ClientAction)
         ensures { self.new ≡ record self.old { asks = ask ∷ [] } }
     {
         self.confirmation = None;
@@ -154,7 +154,7 @@ impl OpenAsks {
     }
 
     /// What is asked first.
-    pub fn first(&self) -> Option<&Ask>
+    pub fn first(&self) -> Option<&ClientAction>
         ensures value { option_copied result ≡ slice_get self.now.asks 0 }
         ensures some { is_some result ≡ not (no_asks self.now.asks) }
     {
@@ -179,7 +179,7 @@ impl OpenAsks {
     pub fn tell(&mut self, text: ErrText)
         ensures { self.new ≡ record self.old { asks = ask.Reply (reply.Err text) ∷ drop 1 self.old.asks } }
     {
-        let told = Some(Ask::Reply(ReplyFrame::Err(text)));
+        let told = Some(ClientAction::Reply(ReplyFrame::Err(text)));
         if self.confirmation.is_some() {
             self.confirmation = told;
         } else {
@@ -381,11 +381,11 @@ impl ItemReader {
         };
         match meaning {
             Ok(command) => {
-                self.cutter.use_up(size);
+                self.cutter.consume(size);
                 Ok(self.tell(command, open_asks))
             }
             Err(Failure::Refused(fault)) => {
-                self.cutter.use_up(size);
+                self.cutter.consume(size);
                 Ok(self.refuse(fault, open_asks))
             }
             Err(Failure::OutOfMemory) => Err(AllocError),
@@ -462,7 +462,7 @@ impl ItemReader {
             Err(fault) => return Ok(self.end_with(ErrText::of_cut(fault), open_asks)),
         };
         let message = message_with(self.alloc, &mut self.awaited, payload)?;
-        self.cutter.use_up(size);
+        self.cutter.consume(size);
         open_asks.ask_publication(message);
         Ok(Looked::Told)
     }
@@ -482,7 +482,7 @@ impl ItemReader {
             Ok(Some(Piece::Line(_))) => unreachable!(),
             Err(fault) => return self.end_with(ErrText::of_cut(fault), open_asks),
         };
-        self.cutter.use_up(size);
+        self.cutter.consume(size);
         self.awaited = Awaited::Line;
         open_asks.refuse(ErrText::of_line(LineFault::BadSubject));
         Looked::Told
@@ -540,7 +540,7 @@ impl Conn {
     {
         Conn {
             reader: ItemReader::new(alloc),
-            open_asks: OpenAsks::of(Ask::Reply(ReplyFrame::Info(info))),
+            open_asks: OpenAsks::of(ClientAction::Reply(ReplyFrame::Info(info))),
         }
     }
 
@@ -576,7 +576,7 @@ impl Conn {
     /// or where nothing is asked any more.
     ///
     /// Want of memory changes nothing: no command is lost by it.
-    pub fn next(&mut self) -> Result<Option<&Ask>, AllocError>
+    pub fn next(&mut self) -> Result<Option<&ClientAction>, AllocError>
         ensures first { IfOk result (λ ask. option_copied ask ≡ slice_get self.old.asking.asks 0) }
         ensures* rest { sem 𝓛 (Stays (IsOkAnd result (λ ask. IsSome ask)) self.entry) }
     {

@@ -19,7 +19,7 @@ mod conn;
 mod faults;
 mod laws;
 
-pub use ask::{Ask, Refusal};
+pub use ask::{ClientAction, Refusal};
 pub use conn::Conn;
 pub use faults::ReadFault;
 pub use laws::asks_follow_bytes_and_answers;

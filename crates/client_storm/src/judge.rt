@@ -267,7 +267,7 @@ impl Subscription {
 
 impl<'a> Listener for Judge<'a> {
     /// Judges a message. The error is want of memory.
-    fn hear(&mut self, message: &Message<'_>) -> io::Result<()> {
+    fn on_message(&mut self, message: &Message<'_>) -> io::Result<()> {
         self.verdict.heard = self.verdict.heard.saturating_add(1);
         match self.judged(message) {
             Ok(()) => Ok(()),

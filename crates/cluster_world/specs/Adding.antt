@@ -19,7 +19,7 @@ use Rattle.world_law.specs.State.{Publication, Life, is_sub}
 abbrev pub published_by_own : PubId → ℕ → OwnEvent → List Publication
 published_by_own id now (OfConn conn event) = []
 published_by_own id now (AtShard shard work) = []
-published_by_own id now (Publish p) = record { step = now; id = id; message = p.said.message; publisher = p.conn; echo = p.said.echo } ∷ []
+published_by_own id now (Publish p) = record { step = now; id = id; message = p.publication.message; publisher = p.conn; echo = p.publication.echo } ∷ []
 published_by_own id now (Collect shard) = []
 published_by_own id now (Dial q) = []
 published_by_own id now Accept = []

@@ -1,7 +1,7 @@
 -- Events, outcomes and lists as the code has them, and as the definitions do.
 use Rattle.std.specs.Prelude.{ℕ, List, [], ◌∷◌, map, Option, Some, None}
 use Rattle.std.specs.declared.vec.Vec.{Vec}
-use Rattle.subj.specs.Servers.{Server}
+use Rattle.subj.specs.Servers.{ServerIdentity}
 use Rattle.node_core.specs.InCode.{own_event_of, answer_of}
 use Rattle.cluster_world.specs.declared.events.Event.{Event}
 use Rattle.cluster_world.specs.declared.events.Event.TheVariants as event
@@ -53,7 +53,7 @@ abbrev pub life_of : Life → state.Life
 life_of life = record { id = life_id_of life.id; conn = life.conn; key = life.key; sid = life.sid; opened = life.opened; closed = life.closed }
 
 -- of the server that puts a message, its placement has the place and the incarnation alone
-abbrev pub placing_server : ℕ → ℕ → Server
+abbrev pub placing_server : ℕ → ℕ → ServerIdentity
 placing_server node inc = record { names = []; me = node; inc = inc; shards = 0 }
 
 -- the messages among what a step put

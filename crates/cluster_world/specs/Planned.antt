@@ -26,5 +26,5 @@ IsPlannedBy v n p (Some plan) =
 -- where the cluster is settled for a publication and has room for it, no server that is up refuses to publish it
 abbrev pub TakesWhereSettled : Cluster → World → Type 0
 TakesWhereSettled c w =
-    (n : ℕ) (a : Running) (p : Publication) → slice_get w.nodes n ≡ Some (Some a) → settled_for c w (subject_of p) ≡ true → room_for w p.said.message ≡ true
+    (n : ℕ) (a : Running) (p : Publication) → slice_get w.nodes n ≡ Some (Some a) → settled_for c w (subject_of p) ≡ true → room_for w p.publication.message ≡ true
     → world_refusal c w (At n (Publish p)) ≡ None

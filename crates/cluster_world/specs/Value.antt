@@ -4,7 +4,7 @@ use Rattle.std.specs.Option.{option_map, option_to_list}
 use Rattle.std.specs.List.{flat_map}
 use Rattle.std.specs.Vec.{vec_len, vec_capacity}
 use Rattle.route_values.specs.declared.frames.RouteFrame.{RouteFrame}
-use Rattle.subj.specs.Servers.{Server, is_server, server_of}
+use Rattle.subj.specs.Servers.{ServerIdentity, is_server, server_of}
 use Rattle.node_core.specs.declared.did.Did.{Did}
 use Rattle.node_core.specs.InCode.{answer_of}
 use Rattle.node_core.specs.Served.{Served, refusal}
@@ -121,13 +121,13 @@ pub record Shown : Type 0 where
   pub cluster : Cluster
   pub world : World
 
-abbrev pub cluster_of : Server → Cluster
+abbrev pub cluster_of : ServerIdentity → Cluster
 cluster_of server = record { names = server.names; shards = server.shards }
 
 abbrev pub world_of : ℕ → List (Option Served) → Listed → World
 world_of step nodes l = record { step = step; nodes = map running_in nodes; started = l.started; publications = l.publications; lives = l.lives; placements = l.placements; sent = l.sent }
 
-abbrev pub value_of_parts : Server → ℕ → List (Option Served) → Listed → Shown
+abbrev pub value_of_parts : ServerIdentity → ℕ → List (Option Served) → Listed → Shown
 value_of_parts server step nodes l = record { cluster = cluster_of server; world = world_of step nodes l }
 
 -- a new cluster, if that is one: its first server is then within the limits
@@ -135,7 +135,7 @@ abbrev pub new_cluster : Cluster → Option Shown
 new_cluster c = if is_server (server_at c 0 1) then Some (record { cluster = c; world = new_world c }) else None
 
 -- the server of the same cluster at this place, if it has that
-abbrev pub server_in : Server → ℕ → ℕ → Option Server
+abbrev pub server_in : ServerIdentity → ℕ → ℕ → Option ServerIdentity
 server_in server n inc = server_of (record { names = server.names; me = n; inc = inc; shards = server.shards })
 
 -- each server that is up is that of its place in this cluster
@@ -143,7 +143,7 @@ abbrev pub InPlace : Cluster → List (Option Served) → Type 0
 InPlace c nodes = (n : ℕ) (s : Served) → slice_get nodes n ≡ Some (Some s) → s.server ≡ server_at c n s.server.inc
 
 -- the names are apart, and within the limits with the number of shards; the servers are in their places; and some run ends here
-pub record IsKept (server : Server) (nodes : List (Option Served)) (world : World) : Type 0 where
+pub record IsKept (server : ServerIdentity) (nodes : List (Option Served)) (world : World) : Type 0 where
   pub apart : IsCluster (cluster_of server)
   pub tested : is_server (server_at (cluster_of server) 0 1) ≡ true
   pub size : length nodes ≡ length server.names

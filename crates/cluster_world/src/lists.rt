@@ -14,7 +14,7 @@ ghost use Rattle.cluster_world.specs.Value.{listed_of, no_lists, with_start, wit
 ghost use Rattle.node_core.specs.Lent.{asked_of};
 
 use crate::records::{Life, LifeId, Placements, Publication, Started};
-use node_core::{Answer, Asked, ConnEvent, Did, OwnEvent};
+use node_core::{Answer, ConnEvent, Did, EventRef, OwnEvent};
 use route_values::RouteFrame;
 use shard_core::Placed;
 use std::alloc::{AllocError, Global};
@@ -282,30 +282,37 @@ pub(crate) struct Noted {
 
 /// The publication that an event makes in this step, under this name.
 fn publication_in(
-    asked: &Asked<'_>,
+    asked: &EventRef<'_>,
     id: PubId,
     step: u64,
 ) -> Result<Option<Publication>, AllocError>
     ensures { IfOk result (λ noted. option_to_list (option_map publication_of noted) ≡ published_by id step (asked_of asked.now)) }
 {
-    let Asked::Own(OwnEvent::Publish { conn, said, .. }) = *asked else {
+    let EventRef::Own(
+        OwnEvent::Publish {
+            conn,
+            publication,
+            ..
+        },
+    ) = *asked
+    else {
         return Ok(None);
     };
-    let message = said.message.try_clone()?;
+    let message = publication.message.try_clone()?;
     Ok(Some(Publication {
         step,
         id,
         message,
         publisher: *conn,
-        echo: said.echo,
+        echo: publication.echo,
     }))
 }
 
 /// The subscription that an event opens, if its id is free.
-fn opening_in(alloc: Global, asked: &Asked<'_>) -> Result<Option<Opening>, AllocError>
+fn opening_in(alloc: Global, asked: &EventRef<'_>) -> Result<Option<Opening>, AllocError>
     ensures { IfOk result (λ noted. noted ≡ opening_by (asked_of asked.now)) }
 {
-    let Asked::Own(OwnEvent::OfConn { conn, event }) = *asked else {
+    let EventRef::Own(OwnEvent::OfConn { conn, event }) = *asked else {
         return Ok(None);
     };
     let ConnEvent::Subscribe { key, sid } = event else {
@@ -323,7 +330,7 @@ fn opening_in(alloc: Global, asked: &Asked<'_>) -> Result<Option<Opening>, Alloc
 /// What an event may add in this step, where the next publication is called so.
 pub(crate) fn note(
     alloc: Global,
-    asked: &Asked<'_>,
+    asked: &EventRef<'_>,
     id: PubId,
     step: u64,
 ) -> Result<Noted, AllocError>

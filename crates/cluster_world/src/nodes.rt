@@ -1,7 +1,7 @@
 //! The servers of a cluster, by place.
 
 ghost use Rattle.std.specs.Prelude.{◌≡◌, ◌<◌, ◌&&◌, ◌∷◌, [], length, map, None, Some, IfOk, OnErr, replicate, slice_get, set, is_some};
-ghost use Rattle.hub_core.specs.Chosen.{publication};
+ghost use Rattle.hub_core.specs.Chosen.{publication_by};
 ghost use Rattle.hub_core.specs.Settled.{has_few_names};
 ghost use Rattle.node_law.specs.Settled.{is_node_settled};
 ghost use Rattle.settled_law.specs.Tests.{are_peers_settled, are_settled, are_roomy};
@@ -19,13 +19,13 @@ use crate::events::Event;
 use crate::lists::{Lists, Noted, note};
 use claim_race::Race;
 use hub_core::PublishPlan;
-use node_core::{Asked, Did, Node, Refused};
+use node_core::{Did, EventRef, Node, Refused};
 use route_session::SessionId;
 use route_values::RouteFrame;
 use std::alloc::{AllocError, Global};
 use std::marker::Model;
 use sub_table::SubTable;
-use subj::{ConnId, Failure, Incarnation, Message, Pub, Server, Subject};
+use subj::{ConnId, Failure, Incarnation, Message, Pub, ServerIdentity, Subject};
 use world_law::WorldFault;
 
 /// Puts a value in the place of another.
@@ -59,12 +59,12 @@ fn has_room_at<T: SubTable, R: Race>(slot: &Option<Node<T, R>>, message: &Messag
 fn plan_at<T: SubTable, R: Race>(
     node: &Node<T, R>,
     conn: ConnId,
-    said: &Pub,
+    publication: &Pub,
     word: u64,
 ) -> Result<Option<PublishPlan>, AllocError>
-    ensures { IfOk result (λ plan. IsPlannedAt (Some (Some node.now)) (publication conn said.now word) plan) }
+    ensures { IfOk result (λ plan. IsPlannedAt (Some (Some node.now)) (publication_by conn publication.now word) plan) }
 {
-    match node.plan_publish(conn, said, word) {
+    match node.plan_publish(conn, publication, word) {
         Ok(plan) => Ok(Some(plan)),
         Err(Failure::Refused(_)) => Ok(None),
         Err(Failure::OutOfMemory) => Err(AllocError),
@@ -159,7 +159,7 @@ impl<T: SubTable, R: Race> Nodes<T, R> {
     }
 
     /// Why the event is refused at the place; none of it where it hands over no frame. Takes no memory.
-    pub(crate) fn fault(&self, n: usize, asked: &Option<Asked<'_>>) -> Option<WorldFault>
+    pub(crate) fn fault(&self, n: usize, asked: &Option<EventRef<'_>>) -> Option<WorldFault>
         ensures { result ≡ slot_refusal (option_map asked_of asked.now) (slice_get self.now n) }
     {
         match self.slots.get(n) {
@@ -180,15 +180,15 @@ impl<T: SubTable, R: Race> Nodes<T, R> {
         &self,
         n: usize,
         conn: ConnId,
-        said: &Pub,
+        publication: &Pub,
         word: u64,
     ) -> Result<Option<PublishPlan>, AllocError>
-        ensures { IfOk result (λ plan. IsPlannedAt (slice_get self.now n) (publication conn said.now word) plan) }
+        ensures { IfOk result (λ plan. IsPlannedAt (slice_get self.now n) (publication_by conn publication.now word) plan) }
     {
         match self.slots.get(n) {
             None => Ok(None),
             Some(None) => Ok(None),
-            Some(Some(node)) => plan_at(node, conn, said, word),
+            Some(Some(node)) => plan_at(node, conn, publication, word),
         }
     }
 
@@ -197,7 +197,7 @@ impl<T: SubTable, R: Race> Nodes<T, R> {
     pub(crate) fn step(
         &mut self,
         n: usize,
-        asked: &Option<Asked<'_>>,
+        asked: &Option<EventRef<'_>>,
         now: u64,
     ) -> Result<Made, AllocError>
         requires within { n < length self.old }
@@ -246,14 +246,14 @@ impl<T: SubTable, R: Race> Nodes<T, R> {
 /// The server of the cluster at the place, in this incarnation; none where there is no such place.
 pub(crate) fn server_of(
     alloc: Global,
-    server: &Server,
+    server: &ServerIdentity,
     n: usize,
     inc: Incarnation,
-) -> Result<Option<Server>, AllocError>
+) -> Result<Option<ServerIdentity>, AllocError>
     ensures { IfOk result (λ made. made ≡ server_in server.now n inc) }
 {
     let names = Vec::from_slice(alloc, server.names())?;
-    Ok(Server::new(names, n, inc, server.shards()))
+    Ok(ServerIdentity::new(names, n, inc, server.shards()))
 }
 
 /// Why no server starts at the place with this incarnation. Takes no memory.
@@ -303,38 +303,38 @@ pub(crate) fn frame_at(sent: &[Vec<RouteFrame>], number: usize) -> Option<&Route
 }
 
 /// The frame, where it is a numbered one, as what a server is asked.
-fn numbered_ask(frame: Option<&RouteFrame>) -> Option<Asked<'_>>
+fn numbered_ask(frame: Option<&RouteFrame>) -> Option<EventRef<'_>>
     ensures { option_map asked_of result ≡ numbered_frame (option_copied frame.entry) }
 {
     match frame {
-        Some(RouteFrame::Numbered(frame)) => Some(Asked::Receive(frame)),
+        Some(RouteFrame::Numbered(frame)) => Some(EventRef::Receive(frame)),
         _ => None,
     }
 }
 
 /// The frame, where it is an `INFO`, as what a server is asked on this session.
-fn info_on(session: SessionId, frame: Option<&RouteFrame>) -> Option<Asked<'_>>
+fn info_on(session: SessionId, frame: Option<&RouteFrame>) -> Option<EventRef<'_>>
     ensures { option_map asked_of result ≡ info_of_frame session (option_copied frame.entry) }
 {
     match frame {
-        Some(RouteFrame::Info(info)) => Some(Asked::OnInfo(session, info)),
+        Some(RouteFrame::Info(info)) => Some(EventRef::OnInfo(session, info)),
         _ => None,
     }
 }
 
 /// The frame, where it is a `CONNECT`, as what a server is asked on this session.
-fn connect_on(session: SessionId, frame: Option<&RouteFrame>) -> Option<Asked<'_>>
+fn connect_on(session: SessionId, frame: Option<&RouteFrame>) -> Option<EventRef<'_>>
     ensures { option_map asked_of result ≡ connect_of_frame session (option_copied frame.entry) }
 {
     match frame {
-        Some(RouteFrame::Connect(connect)) => Some(Asked::OnConnect(session, connect)),
+        Some(RouteFrame::Connect(connect)) => Some(EventRef::OnConnect(session, connect)),
         _ => None,
     }
 }
 
 /// What an event asks of the server that it is for; none where there is no frame of that kind with its
 /// number.
-pub(crate) fn asked_by<'a>(event: &'a Event, sent: &'a [Vec<RouteFrame>]) -> Option<Asked<'a>>
+pub(crate) fn asked_by<'a>(event: &'a Event, sent: &'a [Vec<RouteFrame>]) -> Option<EventRef<'a>>
     ensures { (w : World) → w.sent ≡ flat_map items_of sent.now → option_map asked_of result ≡ event_for w (event_of event.now) }
 {
     match event {
@@ -342,6 +342,6 @@ pub(crate) fn asked_by<'a>(event: &'a Event, sent: &'a [Vec<RouteFrame>]) -> Opt
         Event::Receive { frame, .. } => numbered_ask(frame_at(sent, *frame)),
         Event::OnInfo { session, frame, .. } => info_on(*session, frame_at(sent, *frame)),
         Event::OnConnect { session, frame, .. } => connect_on(*session, frame_at(sent, *frame)),
-        Event::At { event, .. } => Some(Asked::Own(event)),
+        Event::At { event, .. } => Some(EventRef::Own(event)),
     }
 }

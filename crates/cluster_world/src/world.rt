@@ -13,7 +13,7 @@ ghost use Rattle.cluster_world.specs.InCode.{event_of, outcome_of, outcomes_in, 
 ghost use Rattle.world_law.specs.Refusals.{world_refusal};
 ghost use Rattle.world_law.specs.RestsOn.{CameSo};
 ghost use Rattle.cluster_world.specs.Planned.{IsPlannedBy, TakesWhereSettled};
-ghost use Rattle.hub_core.specs.Chosen.{publication};
+ghost use Rattle.hub_core.specs.Chosen.{publication_by};
 ghost use Rattle.cluster_world.specs.Value.{IsFor, IsStepped, Ran, IsPart, GivesOnce, new_cluster};
 
 use crate::events::Event;
@@ -32,7 +32,7 @@ use settled_law::{
 use std::alloc::{AllocError, Global};
 use std::marker::Model;
 use sub_table::SubTable;
-use subj::{ConnId, Incarnation, NodeId, Pub, Server, Subject};
+use subj::{ConnId, Incarnation, NodeId, Pub, ServerIdentity, Subject};
 use world_law::{
     WorldFault, carried_echo_is_kept, carried_frames_were_sent, carried_lives_are_open,
     carried_names_are_unique, carried_worlds_keep_the_headline, carried_worlds_rest_on_this,
@@ -48,7 +48,7 @@ use world_law::{
 pub struct World<T: SubTable, R: Race> {
     alloc: Global,
     /// The names of the servers and the number of shards, as a server's at the first place.
-    server: Server,
+    server: ServerIdentity,
     step: u64,
     nodes: Nodes<T, R>,
     lists: Lists,
@@ -82,7 +82,7 @@ impl<T: SubTable, R: Race> World<T, R> {
             // 1 is an incarnation
             unreachable!()
         };
-        let Some(server) = Server::new(names, 0, inc, shards) else {
+        let Some(server) = ServerIdentity::new(names, 0, inc, shards) else {
             return Ok(None);
         };
         let _me = server.me();
@@ -181,13 +181,13 @@ impl<T: SubTable, R: Race> World<T, R> {
 
     /// Whether each connection with open subscriptions that get the publication's subject has room for the messages of all of
     /// them together. Takes no memory.
-    pub fn room_for(&self, said: &Pub) -> bool
-        ensures same { result ≡ room_for self.now.world said.now.message }
-        ensures exact { (result ≡ true) ↔ IsRoomy self.now.world said.now.message }
+    pub fn room_for(&self, publication: &Pub) -> bool
+        ensures same { result ≡ room_for self.now.world publication.now.message }
+        ensures exact { (result ≡ true) ↔ IsRoomy self.now.world publication.now.message }
     {
         let _step = self.step;
         tests_are_exact();
-        self.nodes.have_room_for(&said.message)
+        self.nodes.have_room_for(&publication.message)
     }
 
     /// The number of the first frame that the next event sends. Want of memory also stands for more frames than can
@@ -211,13 +211,13 @@ impl<T: SubTable, R: Race> World<T, R> {
         &self,
         node: usize,
         conn: ConnId,
-        said: &Pub,
+        publication: &Pub,
         word: u64,
     ) -> Result<Option<PublishPlan>, AllocError>
-        ensures { IfOk result (λ plan. IsPlannedBy self.now node (publication conn said.now word) plan) }
+        ensures { IfOk result (λ plan. IsPlannedBy self.now node (publication_by conn publication.now word) plan) }
     {
         let _step = self.step;
-        self.nodes.plan(node, conn, said, word)
+        self.nodes.plan(node, conn, publication, word)
     }
 
     /// No publish at a server that is up is refused where the cluster is settled for it ([`World::settled_for`]) and has room
@@ -432,23 +432,27 @@ impl<T: SubTable, R: Race> World<T, R> {
         &mut self,
         node: usize,
         conn: ConnId,
-        said: &Pub,
+        publication: &Pub,
         word: u64,
         order: &[Event],
     ) -> Result<Delivery, AllocError>
-        ensures ok { IfOk result (λ made. Ran self.old (At node (Publish (record { conn = conn; said = said.now; word = word })) ∷ map event_of order.now) (outcomes_in made) self.new) }
-        ensures delivers { IfOk result (λ made. GivesOnce self.old node (record { conn = conn; said = said.now; word = word }) (map event_of order.now) (outcomes_in made) self.new) }
-        ensures err { OnErr result (IsPart self.old (At node (Publish (record { conn = conn; said = said.now; word = word })) ∷ map event_of order.now) self.new) }
+        ensures ok { IfOk result (λ made. Ran self.old (At node (Publish (record { conn = conn; publication = publication.now; word = word })) ∷ map event_of order.now) (outcomes_in made) self.new) }
+        ensures delivers { IfOk result (λ made. GivesOnce self.old node (record { conn = conn; publication = publication.now; word = word }) (map event_of order.now) (outcomes_in made) self.new) }
+        ensures err { OnErr result (IsPart self.old (At node (Publish (record { conn = conn; publication = publication.now; word = word })) ∷ map event_of order.now) self.new) }
     {
         let _step = self.step;
         carried_worlds_deliver();
-        let message = match said.message.try_clone() {
+        let message = match publication.message.try_clone() {
             Ok(message) => message,
             Err(error) => return Err(error),
         };
-        let echo = said.echo;
-        let said = Pub { message, echo };
-        let event = OwnEvent::Publish { conn, said, word };
+        let echo = publication.echo;
+        let publication = Pub { message, echo };
+        let event = OwnEvent::Publish {
+            conn,
+            publication,
+            word,
+        };
         self.make_behind(&Event::At { node, event }, order)
     }
 

@@ -1,7 +1,7 @@
 //! Calls of what a client and its server tell each other: refusals, lines of clients, frames of the server, and what a connection asks.
 
 use crate::names::message_in;
-use client_conn::{Ask, Conn, Refusal};
+use client_conn::{ClientAction, Conn, Refusal};
 use client_frames::{
     ClientLine, Delivery, ErrText, InfoData, LineFault, MessageLines, PubHead, ReplyFrame,
     ServerFrame, SharedTexts, decode_line, encode, info_text, message_line, reply_line,
@@ -292,13 +292,13 @@ fn publication_told(answer: &mut String, publication: &Pub) -> Option<()> {
 }
 
 /// Tells what is asked.
-fn ask_told(answer: &mut String, ask: &Ask) -> Option<()> {
+fn ask_told(answer: &mut String, ask: &ClientAction) -> Option<()> {
     match ask {
-        Ask::Reply(reply) => reply_told(answer, reply),
-        Ask::Shut(told) => tell_bytes(answer, "shut ", told.line()),
-        Ask::Subscribe { key, sid } => subscription_told(answer, key, sid),
-        Ask::Unsubscribe { sid, max } => unsub_told(answer, "unsubscribe ", sid, *max),
-        Ask::Publish(publication) => publication_told(answer, publication),
+        ClientAction::Reply(reply) => reply_told(answer, reply),
+        ClientAction::Shut(told) => tell_bytes(answer, "shut ", told.line()),
+        ClientAction::Subscribe { key, sid } => subscription_told(answer, key, sid),
+        ClientAction::Unsubscribe { sid, max } => unsub_told(answer, "unsubscribe ", sid, *max),
+        ClientAction::Publish(publication) => publication_told(answer, publication),
     }
 }
 

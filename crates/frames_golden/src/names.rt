@@ -16,8 +16,8 @@ use subj::{
     MAX_QUEUE_NAME, MAX_QUEUE_NAMES, MAX_SERIAL, MAX_SESSIONS, MAX_SHARDS, MAX_SID, MAX_SNAPSHOT,
     MAX_SUBJECT, MAX_WEIGHT, Message, NameFault, NodeId, OUTBOX_BYTES, OUTBOX_ENTRIES, Pattern,
     Pub, PubId, QueueName, QueueNames, READ_BYTES, ROUTE_FRAMES, ROUTE_LINE, SCRIPT_BYTES,
-    SCRIPT_EVENTS, SUBSCRIPTION_BYTES, SUBSCRIPTION_COST, SUBSCRIPTIONS, Server, Sid, SubId,
-    Subject, Turn, WINDOW,
+    SCRIPT_EVENTS, SUBSCRIPTION_BYTES, SUBSCRIPTION_COST, SUBSCRIPTIONS, ServerIdentity, Sid,
+    SubId, Subject, Turn, WINDOW,
 };
 
 /// Tells the number of the cause for which the bytes are no name of this kind.
@@ -265,7 +265,7 @@ pub fn number_call(answer: &mut String, call: &str, words: &Words<'_>) -> Option
 }
 
 /// Tells what is in a server.
-fn server_told(answer: &mut String, server: &Server) -> Option<()> {
+fn server_told(answer: &mut String, server: &ServerIdentity) -> Option<()> {
     write!(
         answer,
         "{} at {}, incarnation {}, {} shards, {} servers",
@@ -279,13 +279,13 @@ fn server_told(answer: &mut String, server: &Server) -> Option<()> {
 }
 
 /// Tells a copy of a server.
-fn server_copy(answer: &mut String, alloc: Global, server: &Server) -> Option<()> {
+fn server_copy(answer: &mut String, alloc: Global, server: &ServerIdentity) -> Option<()> {
     let copy = server.try_clone(alloc).ok()?;
     server_told(answer, &copy)
 }
 
 /// Tells the place of the server of this name.
-fn place(answer: &mut String, server: &Server, name: &str) -> Option<()> {
+fn place(answer: &mut String, server: &ServerIdentity, name: &str) -> Option<()> {
     let name = NodeId::read(name.as_bytes()).ok()?;
     match server.place(name) {
         None => tell(answer, "none"),

@@ -150,7 +150,7 @@ fn read_frame(alloc: Global, text: &str) -> Result<RouteFrame, Failure<RouteFaul
 }
 
 /// Tells the canonical spelling of a frame.
-fn tell_spelling(answer: &mut String, alloc: Global, frame: &RouteFrame) -> Option<()> {
+fn tell_encoding(answer: &mut String, alloc: Global, frame: &RouteFrame) -> Option<()> {
     let mut bytes = Vec::new(alloc);
     encode(frame, &mut bytes).ok()?;
     push_shown(answer, &bytes).ok()
@@ -165,7 +165,7 @@ fn read(
 ) -> Option<()> {
     match read_frame(alloc, text) {
         Ok(frame) => {
-            tell_spelling(answer, alloc, &frame)?;
+            tell_encoding(answer, alloc, &frame)?;
             put(place, Some(frame));
             Some(())
         }
@@ -414,21 +414,21 @@ pub fn snapshot_call(
     }
 }
 
-/// A stream that is read, and the spellings of the frames that came whole.
+/// A stream that is read, and the encodings of the frames that came whole.
 #[derive(Drop)]
-struct Spelling {
+struct Encoding {
     cutter: Cutter,
     /// A line whose payload is still to come.
     waiting: Option<RouteLine>,
-    spelt: Vec<u8>,
+    encoded: Vec<u8>,
 }
 
-impl Spelling {
-    /// Joins a line with its payload, and spells that frame.
-    fn spell(&mut self, alloc: Global, line: RouteLine, payload: &[u8]) -> Option<()> {
+impl Encoding {
+    /// Joins a line with its payload, and encodes that frame.
+    fn encode_frame(&mut self, alloc: Global, line: RouteLine, payload: &[u8]) -> Option<()> {
         let payload = Bytes::copy_from_slice(alloc, payload).ok()?;
         let frame = line.into_frame(alloc, payload).ok()?;
-        encode(&frame, &mut self.spelt).ok()
+        encode(&frame, &mut self.encoded).ok()
     }
 
     /// The line waits for a payload of this size.
@@ -445,7 +445,7 @@ impl Spelling {
     fn take_line(&mut self, alloc: Global, bytes: &[u8]) -> Option<()> {
         let line = RouteLine::read(alloc, bytes).ok()?;
         match line.payload_size() {
-            None => self.spell(alloc, line, b""),
+            None => self.encode_frame(alloc, line, b""),
             Some(size) => self.wait(line, size),
         }
     }
@@ -454,7 +454,7 @@ impl Spelling {
     fn take_piece(&mut self, alloc: Global, bytes: &[u8]) -> Option<()> {
         match self.waiting.take() {
             None => self.take_line(alloc, bytes),
-            Some(line) => self.spell(alloc, line, bytes),
+            Some(line) => self.encode_frame(alloc, line, bytes),
         }
     }
 
@@ -482,24 +482,24 @@ impl Spelling {
     }
 }
 
-/// The spellings of the frames of a stream that comes in parts of so many bytes, or in one for 0.
-fn spellings(alloc: Global, stream: &[u8], part: usize) -> Option<Vec<u8>> {
-    let mut spelling = Spelling {
+/// The encodings of the frames of a stream that comes in parts of so many bytes, or in one for 0.
+fn encodings(alloc: Global, stream: &[u8], part: usize) -> Option<Vec<u8>> {
+    let mut encoding = Encoding {
         cutter: Cutter::new(alloc, ROUTE_LINE, MAX_SNAPSHOT as u64),
         waiting: None,
-        spelt: Vec::new(alloc),
+        encoded: Vec::new(alloc),
     };
     let part = if part == 0 { stream.len() } else { part };
     for bytes in stream.chunks(part.max(1)) {
-        spelling.feed(alloc, bytes)?;
+        encoding.feed(alloc, bytes)?;
     }
-    Some(spelling.spelt)
+    Some(encoding.encoded)
 }
 
 /// Whether the stream is one, and no frame of it is whole.
 fn has_no_frame(alloc: Global, stream: &[u8], part: usize) -> bool {
-    match spellings(alloc, stream, part) {
-        Some(spelt) => spelt.is_empty(),
+    match encodings(alloc, stream, part) {
+        Some(encoded) => encoded.is_empty(),
         None => false,
     }
 }
@@ -519,7 +519,7 @@ pub fn stream_call(answer: &mut String, alloc: Global, call: &str, text: &str) -
     let (part, stream) = text.split_once('|')?;
     let stream = bytes_of(alloc, stream).ok()?;
     match call {
-        "spelt" => push_shown(answer, &spellings(alloc, &stream, number(part) as usize)?).ok(),
+        "spelt" => push_shown(answer, &encodings(alloc, &stream, number(part) as usize)?).ok(),
         "beginnings" => beginnings(answer, alloc, &stream, number(part) as usize),
         _ => None,
     }

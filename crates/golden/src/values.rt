@@ -5,7 +5,7 @@ use crate::words::number;
 use bytes::Bytes;
 use std::alloc::{AllocError, Global};
 use subj::{
-    Incarnation, Key, Message, NodeId, Pattern, QueueName, QueueNames, Server, Sid, Subject,
+    Incarnation, Key, Message, NodeId, Pattern, QueueName, QueueNames, ServerIdentity, Sid, Subject,
 };
 
 /// The pattern that a word is.
@@ -125,7 +125,7 @@ pub fn server_of(
     place: usize,
     inc: u64,
     shards: u64,
-) -> Option<Server> {
+) -> Option<ServerIdentity> {
     let inc = Incarnation::new(inc)?;
-    Server::new(nodes_of(alloc, names)?, place, inc, shards)
+    ServerIdentity::new(nodes_of(alloc, names)?, place, inc, shards)
 }

@@ -11,7 +11,7 @@ use Rattle.subj.specs.declared.identities.PubId.{PubId}
 use Rattle.subj.specs.declared.keys.Key.{Key}
 use Rattle.subj.specs.declared.limits.TheConstants.{MAX_QUEUE_NAMES, WINDOW}
 use Rattle.subj.specs.Messages.{Content}
-use Rattle.subj.specs.Servers.{Server, IsListed, place}
+use Rattle.subj.specs.Servers.{ServerIdentity, IsListed, place}
 use Rattle.interest.specs.declared.changes.Change.{Change}
 use Rattle.interest.specs.declared.changes.Change.TheVariants.{Up, Gone}
 use Rattle.subj.specs.declared.keys.Delta.{Delta}
@@ -42,12 +42,12 @@ abbrev pub change_of : Change → interest.Change
 change_of (Up weighted) = interest.Up (weighted_of weighted)
 change_of (Gone key) = interest.Gone (key_of key)
 
-abbrev pub id_of : Server → PubId → names.PubId
+abbrev pub id_of : ServerIdentity → PubId → names.PubId
 id_of server id = record { origin = place server id.origin; inc = id.inc; number = id.number }
 
 -- ---- frames
 
-abbrev pub routed_of : Server → Frame → Content → List (List ℕ) → messages.Routed
+abbrev pub routed_of : ServerIdentity → Frame → Content → List (List ℕ) → messages.Routed
 routed_of server frame content queues = record {
   id = record { origin = place server frame.from; inc = frame.inc; number = frame.number };
   to = place server frame.to;
@@ -56,16 +56,16 @@ routed_of server frame content queues = record {
   names = queues;
 }
 
-abbrev pub news_of : Server → Frame → messages.Body → messages.News
+abbrev pub news_of : ServerIdentity → Frame → messages.Body → messages.News
 news_of server frame body = record { origin = place server frame.from; inc = frame.inc; to = place server frame.to; to_inc = frame.to_inc; number = frame.number; body = body }
 
-abbrev pub as_said : Server → Frame → Body → messages.Frame
+abbrev pub as_said : ServerIdentity → Frame → Body → messages.Frame
 as_said server frame (Plus weighted) = messages.Interest (news_of server frame (messages.Changed (interest.Up (weighted_of weighted))))
 as_said server frame (Minus key) = messages.Interest (news_of server frame (messages.Changed (interest.Gone (key_of key))))
 as_said server frame (Snapshot keys) = messages.Interest (news_of server frame (messages.Snapshot (view_of keys)))
 as_said server frame (Msg content queues) = messages.Message (routed_of server frame content queues)
 
-abbrev pub frame_of : Server → Frame → messages.Frame
+abbrev pub frame_of : ServerIdentity → Frame → messages.Frame
 frame_of server frame = as_said server frame frame.body
 
 -- ---- the hub
@@ -98,59 +98,59 @@ routing c = record c { queue_names = MAX_QUEUE_NAMES; follow = follow }
 
 -- ---- what each event is in the law
 
-abbrev pub HasPeers : Server → State → Type 0
+abbrev pub HasPeers : ServerIdentity → State → Type 0
 HasPeers server hub = length hub.peers ≡ length server.names
 
 -- no shard of the server is a window behind
-abbrev pub HasRoom : Server → State → List ℕ → Type 0
+abbrev pub HasRoom : ServerIdentity → State → List ℕ → Type 0
 HasRoom server hub finished = (place done : ℕ) → place < server.shards → slice_get finished place ≡ Some done → suc hub.issued ≤ done + WINDOW
 
-pub record IsPublished (c : Config) (server : Server) (hub : State) (p : Publication) (finished : List ℕ) (now : ℕ) : Type 0 where
+pub record IsPublished (c : Config) (server : ServerIdentity) (hub : State) (p : Publication) (finished : List ℕ) (now : ℕ) : Type 0 where
   pub frames : List messages.Routed
   pub frames_are : map (frame_of server) (frames_of server hub p) ≡ map messages.Message frames
   pub id_is : id_of server (next_id server hub) ≡ law.next_id server.me server.inc (hub_of hub)
-  pub publishes : HubPublishes every_rule (routing c) server.me (hub_of hub) (record { id = law.next_id server.me server.inc (hub_of hub); content = content_of p.said.message; step = now }) (own_job server hub p).queues frames (hub_of (after_publish server hub p))
+  pub publishes : HubPublishes every_rule (routing c) server.me (hub_of hub) (record { id = law.next_id server.me server.inc (hub_of hub); content = content_of p.publication.message; step = now }) (own_job server hub p).queues frames (hub_of (after_publish server hub p))
   pub room : HasRoom server hub finished
   pub peers : HasPeers server (after_publish server hub p)
 
 -- a publish that is not refused
 abbrev pub PublishesInLaw : Type 0
-PublishesInLaw = (c : Config) (server : Server) (hub : State) (p : Publication) (finished : List ℕ) (now : ℕ) → IsListed server → HasPeers server hub → publish_refusal server hub p finished ≡ None → IsPublished c server hub p finished now
+PublishesInLaw = (c : Config) (server : ServerIdentity) (hub : State) (p : Publication) (finished : List ℕ) (now : ℕ) → IsListed server → HasPeers server hub → publish_refusal server hub p finished ≡ None → IsPublished c server hub p finished now
 
-abbrev pub TakenAs : Config → Server → State → List ℕ → Frame → messages.Frame → Type 0
+abbrev pub TakenAs : Config → ServerIdentity → State → List ℕ → Frame → messages.Frame → Type 0
 TakenAs c server hub finished frame (messages.Message m) = HubReceives every_rule server.me server.inc (hub_of hub) m (hub_of (after_receive server hub frame)) × HasRoom server hub finished
 TakenAs c server hub finished frame (messages.Interest news) = HubHears every_rule (routing c) server.me server.inc (hub_of hub) news (hub_of (after_receive server hub frame))
 TakenAs c server hub finished frame (messages.Greeting origin inc) = ⊥
 
 -- a frame that is not refused: a message is received, and news are heard
 abbrev pub ReceivesInLaw : Type 0
-ReceivesInLaw = (c : Config) (server : Server) (hub : State) (finished : List ℕ) (frame : Frame) → IsListed server → HasPeers server hub → receive_refusal server hub finished frame ≡ None → TakenAs c server hub finished frame (frame_of server frame) × HasPeers server (after_receive server hub frame)
+ReceivesInLaw = (c : Config) (server : ServerIdentity) (hub : State) (finished : List ℕ) (frame : Frame) → IsListed server → HasPeers server hub → receive_refusal server hub finished frame ≡ None → TakenAs c server hub finished frame (frame_of server frame) × HasPeers server (after_receive server hub frame)
 
-pub record IsMet (server : Server) (hub : State) (q inc : ℕ) : Type 0 where
+pub record IsMet (server : ServerIdentity) (hub : State) (q inc : ℕ) : Type 0 where
   pub meets : HubMeets every_rule server.me (hub_of hub) q inc (hub_of (up server hub q inc))
   pub snapshot : IsTold server.me server.inc (hub_of hub) [] (hub_of hub) (frame_of server (snapshot_to server hub q inc))
   pub peers : HasPeers server (up server hub q inc)
 
 -- another server comes up at an incarnation that is not below the one seen
 abbrev pub MeetsInLaw : Type 0
-MeetsInLaw = (server : Server) (hub : State) (q inc : ℕ) (peer : Peer) → IsListed server → HasPeers server hub → q ≢ server.me → slice_get hub.peers q ≡ Some peer → peer.seen ≤ inc → IsMet server hub q inc
+MeetsInLaw = (server : ServerIdentity) (hub : State) (q inc : ℕ) (peer : Peer) → IsListed server → HasPeers server hub → q ≢ server.me → slice_get hub.peers q ≡ Some peer → peer.seen ≤ inc → IsMet server hub q inc
 
-pub record IsAnnounced (c : Config) (server : Server) (hub : State) (deltas : List Delta) : Type 0 where
+pub record IsAnnounced (c : Config) (server : ServerIdentity) (hub : State) (deltas : List Delta) : Type 0 where
   pub announces : HubAnnounces (routing c) server.me server.inc (hub_of hub) (map change_of (changes_of hub deltas)) (map (frame_of server) (collect_frames server hub deltas)) (hub_of (after_collect server hub deltas))
   pub within : IsInterest (after_collect server hub deltas).counts
   pub peers : HasPeers server (after_collect server hub deltas)
 
 -- a collect that is not refused, of counts within their limits
 abbrev pub AnnouncesInLaw : Type 0
-AnnouncesInLaw = (c : Config) (server : Server) (hub : State) (deltas : List Delta) → IsListed server → HasPeers server hub → IsInterest hub.counts → collect_refusal hub deltas ≡ None → IsAnnounced c server hub deltas
+AnnouncesInLaw = (c : Config) (server : ServerIdentity) (hub : State) (deltas : List Delta) → IsListed server → HasPeers server hub → IsInterest hub.counts → collect_refusal hub deltas ≡ None → IsAnnounced c server hub deltas
 
 -- a cut and a take are not seen
-pub record IsUnseen (server : Server) (hub new : State) : Type 0 where
+pub record IsUnseen (server : ServerIdentity) (hub new : State) : Type 0 where
   pub hub_is : hub_of new ≡ hub_of hub
   pub peers : HasPeers server new
 
 abbrev pub CutsUnseen : Type 0
-CutsUnseen = (server : Server) (hub : State) (q : ℕ) → HasPeers server hub → IsUnseen server hub (cut hub q)
+CutsUnseen = (server : ServerIdentity) (hub : State) (q : ℕ) → HasPeers server hub → IsUnseen server hub (cut hub q)
 
 abbrev pub TakesUnseen : Type 0
-TakesUnseen = (server : Server) (hub : State) (q count : ℕ) → HasPeers server hub → IsUnseen server hub (after_take hub q count)
+TakesUnseen = (server : ServerIdentity) (hub : State) (q count : ℕ) → HasPeers server hub → IsUnseen server hub (after_take hub q count)

@@ -3,7 +3,7 @@ use Rattle.std.specs.Prelude.{◌≡◌, ℕ, ◌+◌, ◌<◌, ◌≤◌, List,
 use Rattle.std.specs.Option.{option_map}
 use Rattle.std.specs.Str.{bytes_eq}
 use Rattle.subj.specs.declared.limits.TheConstants.{ROUTE_FRAMES}
-use Rattle.subj.specs.Servers.{Server, own_name, name_of, place}
+use Rattle.subj.specs.Servers.{ServerIdentity, own_name, name_of, place}
 use Rattle.subj.specs.declared.jobs.Job.{Job}
 use Rattle.interest.specs.declared.changes.Change.{Change}
 use Rattle.interest.specs.declared.changes.Change.TheVariants.{Up, Gone}
@@ -30,7 +30,7 @@ use Rattle.hub_core.specs.Receiving.{receive_refusal, routed_job}
 use Rattle.hub_core.specs.Hubs.{Hub}
 
 -- the frame is for another server, or for another life of this one
-abbrev pub address_fault : Server → Frame → Option HubFault
+abbrev pub address_fault : ServerIdentity → Frame → Option HubFault
 address_fault server frame =
     if not (bytes_eq frame.to (own_name server)) then Some NotMe
     else (if not (nat_eq frame.to_inc server.inc) then Some OtherMe else None)
@@ -56,7 +56,7 @@ job_of hub frame (Snapshot keys) = None
 job_of hub frame (Msg content queues) = Some (routed_job hub frame content queues)
 
 -- the frame is not refused, by what some list of finished turns tells
-pub record IsTaken (server : Server) (hub : State) (frame : Frame) : Type 0 where
+pub record IsTaken (server : ServerIdentity) (hub : State) (frame : Frame) : Type 0 where
   pub finished : List ℕ
   pub taken : receive_refusal server hub finished frame ≡ None
 
@@ -72,21 +72,21 @@ abbrev pub with_frame : Frame → Peer → Peer
 with_frame frame peer = record peer { outbox = peer.outbox ++ frame ∷ [] }
 
 -- each is to a server of the cluster, and each outbox has room for those that are to its peer
-pub record HasRoomFor (server : Server) (frames : List Frame) (peers : List Peer) : Type 0 where
+pub record HasRoomFor (server : ServerIdentity) (frames : List Frame) (peers : List Peer) : Type 0 where
   pub listed : All (λ frame. place server frame.to < length server.names) frames
   pub room : (q : ℕ) (peer : Peer) → slice_get peers q ≡ Some peer → length peer.outbox + length (filter (is_to server q) frames) ≤ ROUTE_FRAMES
 
 -- ---- a publish
 
 -- a plan of a publication that is not refused, by what some list of finished turns tells
-pub record IsPlanned (server : Server) (hub : State) (frames : List Frame) : Type 0 where
+pub record IsPlanned (server : ServerIdentity) (hub : State) (frames : List Frame) : Type 0 where
   pub publication : Publication
   pub finished : List ℕ
   pub taken : publish_refusal server hub publication finished ≡ None
   pub frames_are : frames ≡ frames_of server hub publication
 
 -- these frames are put, and the numbers count up
-abbrev pub after_frames : Server → State → List Frame → State
+abbrev pub after_frames : ServerIdentity → State → List Frame → State
 after_frames server hub frames = record hub { issued = hub.issued + 1; published = hub.published + 1; peers = with_frames server frames 0 hub.peers }
 
 -- ---- a collect
@@ -96,17 +96,17 @@ pub record WereSeen (peers : List Peer) : Type 0 where
   pub seen : (q : ℕ) (peer : Peer) → slice_get peers q ≡ Some peer → peer.up ≡ true → 1 ≤ peer.seen
 
 -- the change of this number, to the peer at place q
-abbrev pub change_to : Server → ℕ → Change → ℕ → Peer → Frame
+abbrev pub change_to : ServerIdentity → ℕ → Change → ℕ → Peer → Frame
 change_to server number change q peer = record { from = own_name server; inc = server.inc; to = name_of server q; to_inc = peer.seen; number = number; body = body_of change }
 
 -- so many changes and these frames are those of deltas that are not refused
-pub record AreCounted (server : Server) (hub : State) (deltas : List Delta) (count : ℕ) (frames : List Frame) : Type 0 where
+pub record AreCounted (server : ServerIdentity) (hub : State) (deltas : List Delta) (count : ℕ) (frames : List Frame) : Type 0 where
   pub taken : collect_refusal hub deltas ≡ None
   pub count_is : count ≡ count_of_changes hub deltas
   pub frames_are : frames ≡ collect_frames server hub deltas
 
 -- so many changes are told, by these frames
-abbrev pub after_changes : Server → State → Counts → ℕ → List Frame → State
+abbrev pub after_changes : ServerIdentity → State → Counts → ℕ → List Frame → State
 after_changes server hub counts count frames = record hub { changed = hub.changed + count; counts = counts; peers = with_frames server frames 0 (map (without_slow count) hub.peers) }
 
 -- what a collect of these deltas is planned as: what becomes of the counts, the changes, the frames, and the peers that are cut

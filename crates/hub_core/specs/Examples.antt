@@ -5,7 +5,7 @@ use Rattle.subj.specs.declared.jobs.Job.{Job}
 use Rattle.subj.specs.declared.keys.Key.{Key}
 use Rattle.subj.specs.declared.limits.TheConstants.{ROUTE_FRAMES}
 use Rattle.subj.specs.Messages.{Content}
-use Rattle.subj.specs.Servers.{Server}
+use Rattle.subj.specs.Servers.{ServerIdentity}
 use Rattle.interest.specs.declared.changes.Change.TheVariants as change
 use Rattle.subj.specs.declared.keys.Delta.{Delta}
 use Rattle.interest.specs.Counts.{Counts}
@@ -23,14 +23,14 @@ use Rattle.hub_core.specs.Steps.{hub_refusal, hub_after, hub_answer, HubStep}
 -- ---- what an example says
 
 -- the event is done with this answer
-abbrev pub Gives : Server → State → Event → Answer → Type 0
+abbrev pub Gives : ServerIdentity → State → Event → Answer → Type 0
 Gives server hub event answer = (hub_refusal server hub event ≡ None) × (hub_answer server hub event ≡ answer)
 
-abbrev pub Refuses : Server → State → Event → HubFault → Type 0
+abbrev pub Refuses : ServerIdentity → State → Event → HubFault → Type 0
 Refuses server hub event why = hub_refusal server hub event ≡ Some why
 
 -- after events that are done
-abbrev pub after_all : Server → State → List Event → State
+abbrev pub after_all : ServerIdentity → State → List Event → State
 after_all server hub [] = hub
 after_all server hub (event ∷ events) = after_all server (hub_after server hub event) events
 
@@ -48,7 +48,7 @@ plain pattern = record { pattern = pattern; queue = None }
 abbrev pub group_key : List ℕ → Key
 group_key pattern = record { pattern = pattern; queue = Some (codes "q") }
 
-abbrev pub n1 : ℕ → Server
+abbrev pub n1 : ℕ → ServerIdentity
 n1 shards = record { names = codes "n1" ∷ codes "n2" ∷ codes "n3" ∷ []; me = 0; inc = 5; shards = shards }
 
 abbrev pub peer : View → List Frame → Peer
@@ -65,7 +65,7 @@ hello = hello_on foo
 
 -- connection 9 publishes, where the first two shards have finished these turns and no other has finished any
 abbrev pub publish_after : ℕ → ℕ → List ℕ → ℕ → Event
-publish_after first second subject word = Publish (record { conn = 9; said = record { message = hello_on subject; echo = true }; word = word }) (first ∷ second ∷ 0 ∷ 0 ∷ 0 ∷ 0 ∷ 0 ∷ 0 ∷ [])
+publish_after first second subject word = Publish (record { conn = 9; publication = record { message = hello_on subject; echo = true }; word = word }) (first ∷ second ∷ 0 ∷ 0 ∷ 0 ∷ 0 ∷ 0 ∷ 0 ∷ [])
 
 abbrev pub publish : ℕ → Event
 publish word = publish_after 0 0 foo word

@@ -1,7 +1,7 @@
 -- A hub with the server that it is of, and the calls on it.
 use Rattle.std.specs.Prelude.{◌≡◌, ℕ, ◌≤◌, List, Option}
 use Rattle.subj.specs.declared.limits.TheConstants.{MAX_COUNTER}
-use Rattle.subj.specs.Servers.{Server, IsListed}
+use Rattle.subj.specs.Servers.{ServerIdentity, IsListed}
 use Rattle.interest.specs.Counts.{Counts}
 use Rattle.hub_core.specs.declared.faults.HubFault.{HubFault}
 use Rattle.hub_core.specs.State.{State, Peer, IsSound, new_hub}
@@ -9,10 +9,10 @@ use Rattle.hub_core.specs.Events.{Event, Answer}
 use Rattle.hub_core.specs.Steps.{hub_refusal, hub_after, hub_answer}
 
 pub record Hub : Type 0 where
-  pub server : Server
+  pub server : ServerIdentity
   pub state : State
 
-abbrev pub hub_at_start : Server → Hub
+abbrev pub hub_at_start : ServerIdentity → Hub
 hub_at_start server = record { server = server; state = new_hub server }
 
 -- the first cause for which the event is refused
@@ -29,7 +29,7 @@ pub record DoesStep (old : Hub) (event : Event) (answer : Answer) (new : Hub) : 
 
 -- ---- the fields of a hub in code
 
-abbrev pub hub_of_parts : Server → ℕ → ℕ → ℕ → Counts → List Peer → Hub
+abbrev pub hub_of_parts : ServerIdentity → ℕ → ℕ → ℕ → Counts → List Peer → Hub
 hub_of_parts server issued published changed counts peers = record { server = server; state = record { issued = issued; published = published; changed = changed; counts = counts; peers = peers } }
 
 -- the server is one of its cluster, and no number is beyond its limit

@@ -1,6 +1,6 @@
 -- Peers come up and are cut, and frames are taken from their outboxes (profile).
 use Rattle.std.specs.Prelude.{ℕ, true, false, List, [], ◌∷◌, take, drop, Option, Some, None, slice_get, if◌then◌else◌}
-use Rattle.subj.specs.Servers.{Server, name_of, own_name, is_peer}
+use Rattle.subj.specs.Servers.{ServerIdentity, name_of, own_name, is_peer}
 use Rattle.interest.specs.Views.{told_view}
 use Rattle.route_values.specs.declared.bodies.Body.TheVariants.{Snapshot}
 use Rattle.route_values.specs.Frames.{Frame}
@@ -9,11 +9,11 @@ use Rattle.hub_core.specs.declared.faults.HubFault.TheVariants.{NotInCluster}
 use Rattle.hub_core.specs.State.{State, Peer, peer_in_life, changed_at}
 
 -- all interest of the counts, at the number of the last change, to an incarnation of the peer at place q
-abbrev pub snapshot_to : Server → State → ℕ → ℕ → Frame
+abbrev pub snapshot_to : ServerIdentity → State → ℕ → ℕ → Frame
 snapshot_to server hub q inc = record { from = own_name server; inc = server.inc; to = name_of server q; to_inc = inc; number = hub.changed; body = Snapshot (told_view hub.counts) }
 
 -- a session with an incarnation of the peer is kept: it is up, and a snapshot is all that waits
-abbrev pub up : Server → State → ℕ → ℕ → State
+abbrev pub up : ServerIdentity → State → ℕ → ℕ → State
 up server hub q inc = record hub { peers = changed_at (λ peer. record (peer_in_life peer inc) { up = true; outbox = snapshot_to server hub q inc ∷ [] }) q hub.peers }
 
 -- the kept session has ended: marks, view and outbox stay
@@ -22,7 +22,7 @@ cut hub q = record hub { peers = changed_at (λ peer. record peer { up = false }
 
 -- ---- take: 65 where the place is of no peer
 
-abbrev pub take_refusal : Server → ℕ → Option HubFault
+abbrev pub take_refusal : ServerIdentity → ℕ → Option HubFault
 take_refusal server q = if is_peer server q then None else Some NotInCluster
 
 abbrev pub outbox_of : Option Peer → List Frame

@@ -1,7 +1,7 @@
 -- Whether a hub has nothing left to hear, and can go on (profile).
 use Rattle.std.specs.Prelude.{ℕ, Bool, false, ◌&&◌, nat_eq, nat_lt, nat_le, List, length, Option, Some, None}
 use Rattle.subj.specs.declared.limits.TheConstants.{MAX_COUNTER, MAX_QUEUE_NAMES, ROUTE_FRAMES}
-use Rattle.subj.specs.Servers.{Server}
+use Rattle.subj.specs.Servers.{ServerIdentity}
 use Rattle.interest.specs.Counts.{Counts}
 use Rattle.interest.specs.Views.{same_views, told_view}
 use Rattle.hub_core.specs.Choice.{queue_names}
@@ -17,5 +17,5 @@ abbrev pub can_number : State → Bool
 can_number hub = nat_lt hub.issued MAX_COUNTER && nat_lt hub.published MAX_COUNTER
 
 -- not too many queue names want the subject
-abbrev pub has_few_names : Server → State → List ℕ → Bool
+abbrev pub has_few_names : ServerIdentity → State → List ℕ → Bool
 has_few_names server hub subject = nat_le (length (queue_names server hub subject)) MAX_QUEUE_NAMES

@@ -1,7 +1,7 @@
 -- A hub as its callers see it.
 use Rattle.std.specs.Prelude.{◌≡◌, ◌≢◌, ℕ, ◌≤◌, Bool, true, false, nat_lt, List, [], length, replicate, Option, Some, None, slice_get, slice_set, if◌then◌else◌}
 use Rattle.subj.specs.declared.limits.TheConstants.{ROUTE_FRAMES}
-use Rattle.subj.specs.Servers.{Server, place, is_peer}
+use Rattle.subj.specs.Servers.{ServerIdentity, place, is_peer}
 use Rattle.interest.specs.Counts.{Counts}
 use Rattle.interest.specs.Heard.{Heard, nothing_heard}
 use Rattle.route_values.specs.Frames.{Frame}
@@ -26,15 +26,15 @@ pub record State : Type 0 where
 abbrev pub unknown_peer : Peer
 unknown_peer = record { seen = 0; mark = 0; heard = nothing_heard; up = false; outbox = [] }
 
-abbrev pub new_hub : Server → State
+abbrev pub new_hub : ServerIdentity → State
 new_hub server = record { issued = 0; published = 0; changed = 0; counts = []; peers = replicate (length server.names) unknown_peer }
 
 -- the peer at this place
-abbrev pub peer_at : Server → State → ℕ → Option Peer
+abbrev pub peer_at : ServerIdentity → State → ℕ → Option Peer
 peer_at server hub q = if is_peer server q then slice_get hub.peers q else None
 
 -- the peer of this name
-abbrev pub peer_of : Server → State → List ℕ → Option Peer
+abbrev pub peer_of : ServerIdentity → State → List ℕ → Option Peer
 peer_of server hub name = peer_at server hub (place server name)
 
 -- the greatest incarnation seen
@@ -61,12 +61,12 @@ changed_at change q peers = changed_in change q (slice_get peers q) peers
 -- ---- what a hub keeps, from its start on
 
 -- the server itself is never up; whoever is up was seen, at an incarnation from 1 on; and an outbox has a limit
-pub record IsSoundAt (server : Server) (q : ℕ) (peer : Peer) : Type 0 where
+pub record IsSoundAt (server : ServerIdentity) (q : ℕ) (peer : Peer) : Type 0 where
   pub other : peer.up ≡ true → q ≢ server.me
   pub seen : peer.up ≡ true → 1 ≤ peer.seen
   pub room : length peer.outbox ≤ ROUTE_FRAMES
 
 -- each server of the cluster has its place among the peers
-pub record IsSound (server : Server) (hub : State) : Type 0 where
+pub record IsSound (server : ServerIdentity) (hub : State) : Type 0 where
   pub placed : length hub.peers ≡ length server.names
   pub peers : (q : ℕ) (peer : Peer) → slice_get hub.peers q ≡ Some peer → IsSoundAt server q peer

@@ -1,7 +1,7 @@
 -- Collect: the deltas of a shard are counted, and what they change is told to the peers (NATS documentation, "Cluster Protocol": `RS+` and `RS-`; numbers, order and cuts: profile).
 use Rattle.std.specs.Prelude.{ℕ, suc, ◌+◌, Bool, not, ◌&&◌, nat_lt, nat_le, List, [], ◌∷◌, ◌++◌, length, map, Option, Some, None, if◌then◌else◌}
 use Rattle.subj.specs.declared.limits.TheConstants.{MAX_COUNTER, ROUTE_FRAMES}
-use Rattle.subj.specs.Servers.{Server, name_of, own_name}
+use Rattle.subj.specs.Servers.{ServerIdentity, name_of, own_name}
 use Rattle.interest.specs.declared.changes.Change.{Change}
 use Rattle.interest.specs.declared.changes.Change.TheVariants.{Up, Gone}
 use Rattle.subj.specs.declared.keys.Delta.{Delta}
@@ -57,7 +57,7 @@ body_of (Up weighted) = Plus weighted
 body_of (Gone key) = Minus key
 
 -- the change of this number, to each peer that is told all of them
-abbrev pub frames_of_change : Server → ℕ → ℕ → Change → ℕ → List Peer → List Frame
+abbrev pub frames_of_change : ServerIdentity → ℕ → ℕ → Change → ℕ → List Peer → List Frame
 frames_of_change server count number change q [] = []
 frames_of_change server count number change q (peer ∷ peers) =
     (if is_told count peer
@@ -66,16 +66,16 @@ frames_of_change server count number change q (peer ∷ peers) =
     ++ frames_of_change server count number change (suc q) peers
 
 -- the changes behind the one of this number
-abbrev pub frames_behind : Server → ℕ → ℕ → List Change → List Peer → List Frame
+abbrev pub frames_behind : ServerIdentity → ℕ → ℕ → List Change → List Peer → List Frame
 frames_behind server count number [] peers = []
 frames_behind server count number (change ∷ changes) peers = frames_of_change server count (number + 1) change 0 peers ++ frames_behind server count (number + 1) changes peers
 
-abbrev pub collect_frames : Server → State → List Delta → List Frame
+abbrev pub collect_frames : ServerIdentity → State → List Delta → List Frame
 collect_frames server hub deltas = frames_behind server (count_of_changes hub deltas) hub.changed (changes_of hub deltas) hub.peers
 
 -- ---- after: each peer is judged alone, by its outbox as it was
 
-abbrev pub after_collect : Server → State → List Delta → State
+abbrev pub after_collect : ServerIdentity → State → List Delta → State
 after_collect server hub deltas = record hub {
   changed = hub.changed + count_of_changes hub deltas;
   counts = counts_told hub.counts deltas;

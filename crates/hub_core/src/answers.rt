@@ -17,20 +17,20 @@ pub enum Received {
 
 /// What was told of deltas that were counted.
 #[derive(Debug, Drop)]
-pub struct Told {
+pub struct CollectResult {
     /// The changes that the peers are told, in their order.
     pub changes: Vec<Change>,
     /// The peers that were cut since they had no room for all of them, by their places.
     pub cut: Vec<usize>,
 }
 
-impl Told {
+impl CollectResult {
     /// Nothing was told. Takes no memory.
-    pub(crate) fn nothing(alloc: Global) -> Told
+    pub(crate) fn nothing(alloc: Global) -> CollectResult
         ensures changes { result.changes.items ≡ [] }
         ensures cut { result.cut.items ≡ [] }
     {
-        Told {
+        CollectResult {
             changes: Vec::new(alloc),
             cut: Vec::new(alloc),
         }

@@ -9,7 +9,7 @@ use crate::peers::{Peer, frame_to};
 use interest::{Change, Recount};
 use route_values::{Body, Numbered};
 use std::alloc::{AllocError, Global};
-use subj::{ROUTE_FRAMES, Server};
+use subj::{ROUTE_FRAMES, ServerIdentity};
 
 /// What a collect does, found before anything is changed.
 #[derive(Debug, Drop)]
@@ -51,7 +51,7 @@ fn body_of(alloc: Global, change: &Change) -> Result<Body, AllocError>
 /// The frame that tells the peer at the place of a change.
 fn frame_of_change(
     alloc: Global,
-    server: &Server,
+    server: &ServerIdentity,
     place: usize,
     peer: &Peer,
     number: u64,
@@ -103,7 +103,7 @@ pub(crate) fn cut_slow(peers: &mut [Peer], count: usize)
 
 /// Adds the frames that tell of the change of this number, of so many, to each peer that is told all.
 fn add_frames(
-    server: &Server,
+    server: &ServerIdentity,
     peers: &[Peer],
     count: usize,
     number: u64,
@@ -130,7 +130,7 @@ fn add_frames(
 /// then of peer.
 pub(crate) fn frames_of_changes(
     alloc: Global,
-    server: &Server,
+    server: &ServerIdentity,
     peers: &[Peer],
     changed: u64,
     changes: &[Change],

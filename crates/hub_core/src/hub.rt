@@ -15,7 +15,7 @@ ghost use Rattle.hub_core.specs.Receiving.{receive_refusal, origin_fault as refu
 ghost use Rattle.hub_core.specs.Calls.{job_of, IsTaken, answer_of, IsPlanned, after_frames, IsTellingOf, AreCounted, after_changes};
 ghost use Rattle.hub_core.specs.Peers.{snapshot_to};
 ghost use Rattle.std.specs.List.{count_by};
-ghost use Rattle.hub_core.specs.Chosen.{publication, IsPlanOf, turn_refusal};
+ghost use Rattle.hub_core.specs.Chosen.{publication_by, IsPlanOf, turn_refusal};
 ghost use Rattle.hub_core.specs.Telling.{collect_refusal, collect_frames};
 ghost use Rattle.claim_race.specs.Race.{busy_of, is_behind};
 ghost use Rattle.hub_core.specs.Choice.{queue_names as wanted_names};
@@ -23,7 +23,7 @@ ghost use Rattle.hub_core.specs.Serving.{IsServed, ServesAlone};
 ghost use Rattle.interest.specs.Told.{counts_told};
 ghost use Rattle.interest.specs.Recounts.{IsPlanOf as IsPlanOfCounts, IsRecountOf};
 
-use crate::answers::{Received, Told};
+use crate::answers::{CollectResult, Received};
 use crate::collects::{CollectPlan, cut_slow, frames_of_changes, slow_peers};
 use crate::faults::HubFault;
 use crate::own_interest::OwnInterest;
@@ -39,7 +39,7 @@ use std::alloc::{AllocError, Global};
 use std::marker::Model;
 use subj::{
     Busy, ConnId, Delta, Failure, Finished, Incarnation, Job, MAX_COUNTER, NodeId, Pub, PubId,
-    QueueNames, Server, Subject, Turn, WINDOW,
+    QueueNames, ServerIdentity, Subject, Turn, WINDOW,
 };
 
 /// The hub of a server. (Profile.)
@@ -52,7 +52,7 @@ use subj::{
 #[derive(Drop)]
 pub struct Hub {
     pub(crate) alloc: Global,
-    pub(crate) server: Server,
+    pub(crate) server: ServerIdentity,
     pub(crate) issued: Turn,
     pub(crate) published: u64,
     pub(crate) changed: u64,
@@ -74,7 +74,7 @@ impl Model for Hub {
 
 impl Hub {
     /// The hub of a server that has just started: nothing is counted, and nothing is known of any peer.
-    pub fn new(alloc: Global, server: Server) -> Result<Hub, AllocError>
+    pub fn new(alloc: Global, server: ServerIdentity) -> Result<Hub, AllocError>
         ensures { IfOk result (λ hub. hub ≡ hub_at_start server) }
     {
         let _me = server.me();
@@ -92,7 +92,7 @@ impl Hub {
     }
 
     /// The server that it is of.
-    pub fn server(&self) -> &Server
+    pub fn server(&self) -> &ServerIdentity
         ensures { result.now ≡ self.now.server }
     {
         &self.server
@@ -269,8 +269,8 @@ impl Hub {
         peer.take_message(alloc, frame);
     }
 
-    /// Hears news that are not refused. Want of memory leaves all as it was.
-    fn hear(&mut self, frame: &Numbered) -> Result<(), Failure<HubFault>>
+    /// Applies news that are not refused. Want of memory leaves all as it was.
+    fn apply_update(&mut self, frame: &Numbered) -> Result<(), Failure<HubFault>>
         requires news { has_message frame.now.body ≡ false }
         requires taken { IsTaken self.old.server self.old.state frame.now }
         ensures { IsAnswered None (λ _. self.new ≡ record self.old { state = after_receive self.old.server self.old.state frame.now }) (self.new ≡ self.old) result }
@@ -278,7 +278,7 @@ impl Hub {
         let place = peer_place(&self.server, frame.from()).unwrap();
         let alloc = self.alloc;
         let peer = &mut self.peers[place];
-        peer.hear(alloc, frame)
+        peer.apply_update(alloc, frame)
     }
 
     /// Takes a frame of a peer. A greater incarnation than was seen is a new life of the peer: marks and
@@ -297,7 +297,7 @@ impl Hub {
                 Ok(Received::Routed(job))
             }
             None => {
-                self.hear(frame)?;
+                self.apply_update(frame)?;
                 Ok(Received::Heard(frame.number()))
             }
         }
@@ -355,13 +355,13 @@ impl Hub {
 
 impl Hub {
     /// Why [`Hub::plan_publish`] refuses. Takes no memory.
-    pub fn publish_fault(&self, said: &Pub, finished: &Finished) -> Option<HubFault>
-        ensures { (conn word : ℕ) → result ≡ publish_refusal self.now.server self.now.state (publication conn said.now word) finished.now }
+    pub fn publish_fault(&self, publication: &Pub, finished: &Finished) -> Option<HubFault>
+        ensures { (conn word : ℕ) → result ≡ publish_refusal self.now.server self.now.state (publication_by conn publication.now word) finished.now }
     {
         if let Err(fault) = self.next_turn(finished) {
             return Some(fault);
         }
-        let subject = said.message.subject();
+        let subject = publication.message.subject();
         let mut names = FoundNames::new();
         match gather_names(
             &self.server,
@@ -438,28 +438,28 @@ impl Hub {
         &self,
         turn: Turn,
         conn: ConnId,
-        said: &Pub,
+        publication: &Pub,
         word: u64,
         names: Option<&FoundNames<'_>>,
         servers: &[Option<NodeId>],
     ) -> Result<PublishPlan, Failure<HubFault>>
         requires turn { turn ≡ self.now.state.issued + 1 }
         requires number { self.now.state.published < MAX_COUNTER }
-        requires names { unwrap_or (option_copied names) [] ≡ wanted_names self.now.server self.now.state said.now.message.subject }
-        requires servers { IsServed self.now.server self.now.state (publication conn said.now word) (unwrap_or (option_copied names) []) servers.now }
-        ensures { IsAnswered None (λ plan. IsPlanOf self.now.server self.now.state (publication conn said.now word) plan.job plan.frames.items) ⊤ result }
+        requires names { unwrap_or (option_copied names) [] ≡ wanted_names self.now.server self.now.state publication.now.message.subject }
+        requires servers { IsServed self.now.server self.now.state (publication_by conn publication.now word) (unwrap_or (option_copied names) []) servers.now }
+        ensures { IsAnswered None (λ plan. IsPlanOf self.now.server self.now.state (publication_by conn publication.now word) plan.job plan.frames.items) ⊤ result }
     {
         let _word = word;
         let out = Outgoing {
             alloc: self.alloc,
             server: &self.server,
             number: self.published + 1,
-            message: &said.message,
+            message: &publication.message,
             names,
             servers,
         };
         let frames = frames_for(&out, &self.peers)?;
-        let job = own_job(&out, turn, conn, said.echo)?;
+        let job = own_job(&out, turn, conn, publication.echo)?;
         Ok(PublishPlan { job, frames })
     }
 
@@ -468,16 +468,16 @@ impl Hub {
         &self,
         turn: Turn,
         conn: ConnId,
-        said: &Pub,
+        publication: &Pub,
         word: u64,
         names: &FoundNames<'_>,
     ) -> Result<PublishPlan, Failure<HubFault>>
         requires turn { turn ≡ self.now.state.issued + 1 }
         requires number { self.now.state.published < MAX_COUNTER }
-        requires names { names.now ≡ wanted_names self.now.server self.now.state said.now.message.subject }
-        ensures { IsAnswered None (λ plan. IsPlanOf self.now.server self.now.state (publication conn said.now word) plan.job plan.frames.items) ⊤ result }
+        requires names { names.now ≡ wanted_names self.now.server self.now.state publication.now.message.subject }
+        ensures { IsAnswered None (λ plan. IsPlanOf self.now.server self.now.state (publication_by conn publication.now word) plan.job plan.frames.items) ⊤ result }
     {
-        let subject = said.message.subject();
+        let subject = publication.message.subject();
         let servers = servers_for(
             self.alloc,
             &self.server,
@@ -487,7 +487,7 @@ impl Hub {
             word,
             names,
         )?;
-        self.plan_by(turn, conn, said, word, Some(names), &servers)
+        self.plan_by(turn, conn, publication, word, Some(names), &servers)
     }
 
     /// What a publication owes that has this turn. Refused: 61 where more queue names want it than a publication may
@@ -496,14 +496,14 @@ impl Hub {
         &self,
         turn: Turn,
         conn: ConnId,
-        said: &Pub,
+        publication: &Pub,
         word: u64,
     ) -> Result<PublishPlan, Failure<HubFault>>
         requires turn { turn ≡ self.now.state.issued + 1 }
         requires number { self.now.state.published < MAX_COUNTER }
-        ensures { IsAnswered (if nat_lt MAX_QUEUE_NAMES (length (wanted_names self.now.server self.now.state said.now.message.subject)) then Some TooManyQueues else None) (λ plan. IsPlanOf self.now.server self.now.state (publication conn said.now word) plan.job plan.frames.items) ⊤ result }
+        ensures { IsAnswered (if nat_lt MAX_QUEUE_NAMES (length (wanted_names self.now.server self.now.state publication.now.message.subject)) then Some TooManyQueues else None) (λ plan. IsPlanOf self.now.server self.now.state (publication_by conn publication.now word) plan.job plan.frames.items) ⊤ result }
     {
-        let subject = said.message.subject();
+        let subject = publication.message.subject();
         let mut names = FoundNames::new();
         match gather_names(
             &self.server,
@@ -512,7 +512,7 @@ impl Hub {
             subject,
             &mut names,
         ) {
-            Ok(()) => self.plan_split(turn, conn, said, word, &names),
+            Ok(()) => self.plan_split(turn, conn, publication, word, &names),
             Err(_) => Err(Failure::Refused(HubFault::TooManyQueues)),
         }
     }
@@ -522,15 +522,15 @@ impl Hub {
         &self,
         turn: Turn,
         conn: ConnId,
-        said: &Pub,
+        publication: &Pub,
         word: u64,
     ) -> Result<PublishPlan, Failure<HubFault>>
         requires turn { turn ≡ self.now.state.issued + 1 }
         requires number { self.now.state.published < MAX_COUNTER }
-        requires names { wanted_names self.now.server self.now.state said.now.message.subject ≡ [] }
-        ensures { IsAnswered None (λ plan. IsPlanOf self.now.server self.now.state (publication conn said.now word) plan.job plan.frames.items) ⊤ result }
+        requires names { wanted_names self.now.server self.now.state publication.now.message.subject ≡ [] }
+        ensures { IsAnswered None (λ plan. IsPlanOf self.now.server self.now.state (publication_by conn publication.now word) plan.job plan.frames.items) ⊤ result }
     {
-        self.plan_by(turn, conn, said, word, None, &[])
+        self.plan_by(turn, conn, publication, word, None, &[])
     }
 
     /// The queue names that want the subject, where they are in mind and no peer is eligible.
@@ -549,22 +549,22 @@ impl Hub {
         &self,
         turn: Turn,
         conn: ConnId,
-        said: &Pub,
+        publication: &Pub,
         names: &QueueNames,
     ) -> Result<PublishPlan, Failure<HubFault>>
         requires turn { turn ≡ self.now.state.issued + 1 }
         requires number { self.now.state.published < MAX_COUNTER }
-        requires names { ServesAlone self.now.server self.now.state said.now.message.subject names.now }
-        ensures { (word : ℕ) → IsAnswered None (λ plan. IsPlanOf self.now.server self.now.state (publication conn said.now word) plan.job plan.frames.items) ⊤ result }
+        requires names { ServesAlone self.now.server self.now.state publication.now.message.subject names.now }
+        ensures { (word : ℕ) → IsAnswered None (λ plan. IsPlanOf self.now.server self.now.state (publication_by conn publication.now word) plan.job plan.frames.items) ⊤ result }
     {
         let queues = names.try_clone()?;
-        let message = said.message.try_clone()?;
+        let message = publication.message.try_clone()?;
         let job = Job {
             turn,
             id: self.next_id(),
             message,
             publisher: Some(conn),
-            echo: said.echo,
+            echo: publication.echo,
             queues,
         };
         Ok(PublishPlan {
@@ -586,21 +586,21 @@ impl Hub {
         &self,
         turn: Turn,
         conn: ConnId,
-        said: &Pub,
+        publication: &Pub,
         word: u64,
     ) -> Result<PublishPlan, Failure<HubFault>>
         requires turn { turn ≡ self.now.state.issued + 1 }
         requires number { self.now.state.published < MAX_COUNTER }
-        ensures { IsAnswered (if nat_lt MAX_QUEUE_NAMES (length (wanted_names self.now.server self.now.state said.now.message.subject)) then Some TooManyQueues else None) (λ plan. IsPlanOf self.now.server self.now.state (publication conn said.now word) plan.job plan.frames.items) ⊤ result }
+        ensures { IsAnswered (if nat_lt MAX_QUEUE_NAMES (length (wanted_names self.now.server self.now.state publication.now.message.subject)) then Some TooManyQueues else None) (λ plan. IsPlanOf self.now.server self.now.state (publication_by conn publication.now word) plan.job plan.frames.items) ⊤ result }
     {
-        let subject = said.message.subject();
+        let subject = publication.message.subject();
         if let Some(names) = self.names_alone(subject) {
-            return self.plan_alone(turn, conn, said, names);
+            return self.plan_alone(turn, conn, publication, names);
         }
         if self.is_named(subject) {
-            return self.plan_named(turn, conn, said, word);
+            return self.plan_named(turn, conn, publication, word);
         }
-        self.plan_unnamed(turn, conn, said, word)
+        self.plan_unnamed(turn, conn, publication, word)
     }
 
     /// What a publish of the connection owes, where the word decides who serves each queue name. It changes
@@ -612,17 +612,17 @@ impl Hub {
     pub fn plan_publish(
         &self,
         conn: ConnId,
-        said: &Pub,
+        publication: &Pub,
         word: u64,
         finished: &Finished,
     ) -> Result<PublishPlan, Failure<HubFault>>
-        ensures { IsAnswered (publish_refusal self.now.server self.now.state (publication conn said.now word) finished.now) (λ plan. IsPlanOf self.now.server self.now.state (publication conn said.now word) plan.job plan.frames.items) ⊤ result }
+        ensures { IsAnswered (publish_refusal self.now.server self.now.state (publication_by conn publication.now word) finished.now) (λ plan. IsPlanOf self.now.server self.now.state (publication_by conn publication.now word) plan.job plan.frames.items) ⊤ result }
     {
         let turn = match self.next_turn(finished) {
             Ok(turn) => turn,
             Err(fault) => return Err(Failure::Refused(fault)),
         };
-        self.plan_at(turn, conn, said, word)
+        self.plan_at(turn, conn, publication, word)
     }
 
     /// [`Hub::plan_publish`] and [`Hub::commit_publish`] together: the publication takes the next number
@@ -631,13 +631,13 @@ impl Hub {
     pub fn publish(
         &mut self,
         conn: ConnId,
-        said: &Pub,
+        publication: &Pub,
         word: u64,
         finished: &Finished,
     ) -> Result<Job, Failure<HubFault>>
-        ensures { let p = publication conn said.now word in IsAnswered (publish_refusal self.old.server self.old.state p finished.now) (λ job. DoesStep self.old (Publish p finished.now) (Issued job (frames_of self.old.server self.old.state p)) self.new) (self.new ≡ self.old) result }
+        ensures { let p = publication_by conn publication.now word in IsAnswered (publish_refusal self.old.server self.old.state p finished.now) (λ job. DoesStep self.old (Publish p finished.now) (Issued job (frames_of self.old.server self.old.state p)) self.new) (self.new ≡ self.old) result }
     {
-        let PublishPlan { job, frames } = self.plan_publish(conn, said, word, finished)?;
+        let PublishPlan { job, frames } = self.plan_publish(conn, publication, word, finished)?;
         self.commit_publish(frames);
         Ok(job)
     }
@@ -712,7 +712,7 @@ impl Hub {
     /// Counts deltas, and tells of them: their changes take the next numbers, peers without room for all of
     /// them are cut, and the frames wait for the others. Required: the deltas are not refused, and the plan
     /// is the one that [`Hub::plan_collect`] gives for them. Takes no memory.
-    pub fn commit_collect(&mut self, deltas: &[Delta], plan: CollectPlan) -> Told
+    pub fn commit_collect(&mut self, deltas: &[Delta], plan: CollectPlan) -> CollectResult
         requires taken { collect_refusal self.old.state deltas.now ≡ None }
         requires planned { IsTellingOf self.old deltas.now plan.recount plan.changes.items plan.frames.items plan.cut.items }
         ensures { (shard : ℕ) → DoesStep self.old (Collect shard deltas.now) (Collected result.changes.items (collect_frames self.old.server self.old.state deltas.now) result.cut.items) self.new }
@@ -724,7 +724,7 @@ impl Hub {
             cut,
         } = plan;
         self.tell(deltas, recount, changes.len(), frames);
-        Told { changes, cut }
+        CollectResult { changes, cut }
     }
 
     /// Counts the deltas of a shard, in their order, and tells each peer that is up of all that they
@@ -736,11 +736,11 @@ impl Hub {
     /// Refused, all of them together, with [`HubFault::BadInterest`] where one could not be counted in its
     /// turn, as [`Local::apply`](interest::Local::apply) tells, and then with [`HubFault::Spent`] where
     /// their changes would go beyond the last number.
-    pub fn collect(&mut self, deltas: &[Delta]) -> Result<Told, Failure<HubFault>>
+    pub fn collect(&mut self, deltas: &[Delta]) -> Result<CollectResult, Failure<HubFault>>
         ensures { (shard : ℕ) → IsAnswered (refusal self.old (Collect shard deltas.now)) (λ told. DoesStep self.old (Collect shard deltas.now) (Collected told.changes.items (collect_frames self.old.server self.old.state deltas.now) told.cut.items) self.new) (self.new ≡ self.old) result }
     {
         if deltas.is_empty() {
-            return Ok(Told::nothing(self.alloc));
+            return Ok(CollectResult::nothing(self.alloc));
         }
         let plan = self.plan_collect(deltas)?;
         Ok(self.commit_collect(deltas, plan))

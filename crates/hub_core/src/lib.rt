@@ -4,7 +4,7 @@
 //! ```text
 //! let mut hub = Hub::new(alloc, server)?;
 //! let told = hub.collect(&deltas)?;
-//! let job = hub.publish(conn, &said, 0, &Finished::new())?;
+//! let job = hub.publish(conn, &publication, 0, &Finished::new())?;
 //! let frames = hub.take_route(1, usize::MAX)?;
 //! ```
 //!
@@ -25,7 +25,7 @@ mod peers;
 mod publishing;
 mod settled;
 
-pub use answers::{Received, Told};
+pub use answers::{CollectResult, Received};
 pub use collects::CollectPlan;
 pub use examples::{
     a_peer_comes_up, a_publication_is_split, changes_are_heard_in_order, frames_are_taken_once,

@@ -23,7 +23,7 @@ use route_values::{Body, Numbered, SnapshotKeys, WeightedKey};
 use std::alloc::{AllocError, Global};
 use std::collections::VecDeque;
 use std::marker::Model;
-use subj::{Failure, Incarnation, Key, MAX_INCARNATION, NodeId, ROUTE_FRAMES, Server};
+use subj::{Failure, Incarnation, Key, MAX_INCARNATION, NodeId, ROUTE_FRAMES, ServerIdentity};
 
 /// What a hub knows of a peer. (Profile.)
 ///
@@ -175,7 +175,7 @@ pub(crate) fn unknown_peers(alloc: Global, count: usize) -> Result<Vec<Peer>, Al
 }
 
 /// The place of the name, which is listed.
-fn place_in(server: &Server, name: NodeId) -> usize
+fn place_in(server: &ServerIdentity, name: NodeId) -> usize
     requires { place_of server.now name < length server.now.names }
     ensures { result ≡ place_of server.now name }
 {
@@ -183,7 +183,7 @@ fn place_in(server: &Server, name: NodeId) -> usize
 }
 
 /// Puts a frame behind those that wait for its peer.
-fn put(server: &Server, peers: &mut [Peer], frame: Numbered)
+fn put(server: &ServerIdentity, peers: &mut [Peer], frame: Numbered)
     requires listed { place_of server.now frame.to < length server.now.names }
     requires placed { length peers.old ≡ length server.now.names }
     requires room { (peer : KnownPeer) → slice_get peers.old (place_of server.now frame.to) ≡ Some peer → length peer.outbox < ROUTE_FRAMES }
@@ -195,7 +195,7 @@ fn put(server: &Server, peers: &mut [Peer], frame: Numbered)
 }
 
 /// Puts frames behind those that wait for their peers, in order. Takes no memory.
-pub(crate) fn put_all(server: &Server, peers: &mut [Peer], frames: Vec<Numbered>)
+pub(crate) fn put_all(server: &ServerIdentity, peers: &mut [Peer], frames: Vec<Numbered>)
     requires known { IsListed server.now }
     requires placed { length peers.old ≡ length server.now.names }
     requires room { HasRoomFor server.now frames.items peers.old }
@@ -222,7 +222,7 @@ fn key_with_weight(alloc: Global, key: &Key, count: u64) -> Result<WeightedKey, 
 
 /// A frame of this server to an incarnation of the server at the place.
 pub(crate) fn frame_to(
-    server: &Server,
+    server: &ServerIdentity,
     place: usize,
     inc: Incarnation,
     number: u64,
@@ -262,7 +262,7 @@ fn fault_of_interest(fault: InterestFault) -> HubFault
 }
 
 /// Why the frame is for another server, or for another life of this one.
-pub(crate) fn address_fault(server: &Server, frame: &Numbered) -> Option<HubFault>
+pub(crate) fn address_fault(server: &ServerIdentity, frame: &Numbered) -> Option<HubFault>
     ensures { result ≡ wrong_address server.now frame.now }
 {
     if frame.to().bytes() != server.name().bytes() {
@@ -275,7 +275,7 @@ pub(crate) fn address_fault(server: &Server, frame: &Numbered) -> Option<HubFaul
 }
 
 /// The place of the peer of this name.
-pub(crate) fn peer_place(server: &Server, name: NodeId) -> Option<usize>
+pub(crate) fn peer_place(server: &ServerIdentity, name: NodeId) -> Option<usize>
     ensures { result ≡ (if is_peer server.now (place_of server.now name) then Some (place_of server.now name) else None) }
 {
     let place = server.place(name)?;
@@ -294,20 +294,25 @@ fn interest_fault(heard: &View, number: u64, body: &Body) -> Option<HubFault>
     }
 }
 
-/// Hears a change that can be taken.
+/// Applies a change that can be taken.
 fn follow(heard: &mut View, number: u64, change: Change) -> Result<(), Failure<HubFault>>
     requires { news_fault heard.old (Changed number change) ≡ None }
     ensures { IsAnswered None (λ _. heard.new ≡ heard_after heard.old (Changed number change)) (heard.new ≡ heard.old) result }
 {
-    match heard.hear(number, change) {
+    match heard.apply_update(number, change) {
         Ok(()) => Ok(()),
         Err(_) => Err(Failure::OutOfMemory),
     }
 }
 
-/// Hears news of this number. Refused by the cause that `interest_fault` tells; any `Err` leaves all as
+/// Applies news of this number. Refused by the cause that `interest_fault` tells; any `Err` leaves all as
 /// it was.
-fn hear(alloc: Global, heard: &mut View, number: u64, body: &Body) -> Result<(), Failure<HubFault>>
+fn apply_update(
+    alloc: Global,
+    heard: &mut View,
+    number: u64,
+    body: &Body,
+) -> Result<(), Failure<HubFault>>
     ensures { IsAnswered (unheard heard.old number body.now) (λ _. heard.new ≡ heard_by heard.old number body.now) (heard.new ≡ heard.old) result }
 {
     if let Some(fault) = interest_fault(heard, number, body) {
@@ -318,7 +323,7 @@ fn hear(alloc: Global, heard: &mut View, number: u64, body: &Body) -> Result<(),
         Body::Minus(key) => follow(heard, number, Change::Gone(key.try_clone(alloc)?)),
         Body::Snapshot(keys) => {
             let keys = keys.try_clone(alloc)?;
-            match heard.hear_all(number, keys) {
+            match heard.apply_snapshot(number, keys) {
                 Ok(()) => Ok(()),
                 Err(_) => Err(Failure::OutOfMemory),
             }
@@ -352,20 +357,20 @@ impl Peer {
         interest_fault(&self.heard, frame.number(), frame.body())
     }
 
-    /// Hears the news of a frame. Refused by the cause that [`Peer::interest_fault`] tells; any `Err`
+    /// Applies the news of a frame. Refused by the cause that [`Peer::interest_fault`] tells; any `Err`
     /// leaves all as it was.
-    pub fn hear(&mut self, alloc: Global, frame: &Numbered) -> Result<(), Failure<HubFault>>
+    pub fn apply_update(&mut self, alloc: Global, frame: &Numbered) -> Result<(), Failure<HubFault>>
         requires { says_message frame.now.body ≡ false }
         ensures { IsAnswered (unheard (peer_in_life self.old frame.now.inc).heard frame.now.number frame.now.body) (λ _. self.new ≡ told_by frame.now.body frame.now.number (peer_in_life self.old frame.now.inc)) (self.new ≡ self.old) result }
     {
         if self.seen < frame.inc().get() {
             let mut heard = View::new(alloc);
-            hear(alloc, &mut heard, frame.number(), frame.body())?;
+            apply_update(alloc, &mut heard, frame.number(), frame.body())?;
             self.know(alloc, frame.inc());
             put_in(&mut self.heard, heard);
             return Ok(());
         }
-        hear(alloc, &mut self.heard, frame.number(), frame.body())
+        apply_update(alloc, &mut self.heard, frame.number(), frame.body())
     }
 
     /// Takes the message of a frame.

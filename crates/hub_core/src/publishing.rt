@@ -22,7 +22,7 @@ use route_values::{Body, Numbered};
 use std::alloc::{AllocError, Global};
 use subj::{
     ConnId, Incarnation, Job, MAX_COUNTER, MAX_KEYS, MAX_NODES, MAX_QUEUE_NAMES, MAX_WEIGHT,
-    Message, NodeId, PubId, QueueName, QueueNames, ROUTE_FRAMES, Server, Subject, Turn,
+    Message, NodeId, PubId, QueueName, QueueNames, ROUTE_FRAMES, ServerIdentity, Subject, Turn,
 };
 
 /// What a publish owes, found before anything is changed.
@@ -38,7 +38,7 @@ pub struct PublishPlan {
 #[derive(Clone, Copy)]
 pub(crate) struct Outgoing<'a> {
     pub alloc: Global,
-    pub server: &'a Server,
+    pub server: &'a ServerIdentity,
     pub number: u64,
     pub message: &'a Message,
     /// None where no queue name wants it.
@@ -166,14 +166,14 @@ pub(crate) fn own_job(
 const SERVERS: usize = MAX_NODES as usize;
 
 /// Whether the peer at the place is up, with room for one frame more.
-pub(crate) fn is_eligible(server: &Server, place: usize, peer: &Peer) -> bool
+pub(crate) fn is_eligible(server: &ServerIdentity, place: usize, peer: &Peer) -> bool
     ensures { result ≡ eligible server.now place peer.now }
 {
     place != server.me() && (peer.up && peer.outbox.len() < ROUTE_FRAMES)
 }
 
 /// Whether no peer is eligible.
-pub(crate) fn is_alone(server: &Server, peers: &[Peer]) -> bool
+pub(crate) fn is_alone(server: &ServerIdentity, peers: &[Peer]) -> bool
     ensures { result ≡ is_alone_from server.now 0 peers.now }
 {
     for (place, peer) in peers.iter().enumerate() {
@@ -185,7 +185,7 @@ pub(crate) fn is_alone(server: &Server, peers: &[Peer]) -> bool
 }
 
 /// Whether the peer is eligible, and has a key with a queue name that matches the subject.
-fn wants_name(server: &Server, place: usize, peer: &Peer, subject: &Subject) -> bool
+fn wants_name(server: &ServerIdentity, place: usize, peer: &Peer, subject: &Subject) -> bool
     ensures { result ≡ (eligible server.now place peer.now && has_queue_match subject.now peer.now.heard.keys) }
 {
     is_eligible(server, place, peer) && peer.heard.has_queue(subject)
@@ -193,7 +193,7 @@ fn wants_name(server: &Server, place: usize, peer: &Peer, subject: &Subject) -> 
 
 /// Whether some queue name wants the subject: whether [`gather_names`] would find any. Takes no memory.
 pub(crate) fn is_name_wanted(
-    server: &Server,
+    server: &ServerIdentity,
     counts: &OwnInterest,
     peers: &[Peer],
     subject: &Subject,
@@ -213,7 +213,7 @@ pub(crate) fn is_name_wanted(
 
 /// Adds the queue names that the peer wants, where it is eligible.
 fn add_names<'a>(
-    server: &Server,
+    server: &ServerIdentity,
     place: usize,
     peer: &'a Peer,
     subject: &Subject,
@@ -231,7 +231,7 @@ fn add_names<'a>(
 /// order of bytes, gathered in `names`, where there are none yet. Refused where they are more than a
 /// publication may have. Takes no memory. (Profile.)
 pub(crate) fn gather_names<'a>(
-    server: &Server,
+    server: &ServerIdentity,
     counts: &'a Local,
     peers: &'a [Peer],
     subject: &Subject,
@@ -250,7 +250,7 @@ pub(crate) fn gather_names<'a>(
 
 /// What the server at the place weighs for the queue name. (Profile.)
 fn weight_at(
-    server: &Server,
+    server: &ServerIdentity,
     counts: &Local,
     subject: &Subject,
     name: &QueueName,
@@ -272,7 +272,7 @@ fn weight_at(
 /// The server that serves the queue name, picked by the word among those that weigh for it. Takes no
 /// memory. (Profile.)
 fn server_for(
-    server: &Server,
+    server: &ServerIdentity,
     counts: &Local,
     peers: &[Peer],
     subject: &Subject,
@@ -293,7 +293,7 @@ fn server_for(
 
 /// The same of a name that may be none.
 fn server_at(
-    server: &Server,
+    server: &ServerIdentity,
     counts: &Local,
     peers: &[Peer],
     subject: &Subject,
@@ -309,7 +309,7 @@ fn server_at(
 /// The server of each of the names, at its place. Takes memory for as many as there are.
 pub(crate) fn servers_for(
     alloc: Global,
-    server: &Server,
+    server: &ServerIdentity,
     counts: &Local,
     peers: &[Peer],
     subject: &Subject,

@@ -5,7 +5,7 @@
 //! let mut counts = Local::new(alloc)?;
 //! let mut view = View::new(alloc);
 //! if let Some(change) = counts.apply(&Delta { key, up: true })? {
-//!     view.hear(1, change)?;
+//!     view.apply_update(1, change)?;
 //! }
 //! ```
 //!

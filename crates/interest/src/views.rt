@@ -223,7 +223,11 @@ impl View {
 
     /// Takes the change of this number. Refused by the cause that [`View::change_fault`] tells. Any `Err`
     /// leaves all as it was; memory is wanted for a new key alone.
-    pub fn hear(&mut self, number: u64, change: Change) -> Result<(), Failure<InterestFault>>
+    pub fn apply_update(
+        &mut self,
+        number: u64,
+        change: Change,
+    ) -> Result<(), Failure<InterestFault>>
         ensures { IsAnswered (news_fault self.old (Changed number change)) (λ _. self.new ≡ heard_after self.old (Changed number change)) (self.new ≡ self.old) result }
     {
         if let Some(fault) = self.change_fault(number, &change) {
@@ -236,7 +240,7 @@ impl View {
 
     /// Takes these keys in place of all that was heard, as after the change of this number. Refused by the
     /// cause that [`View::snapshot_fault`] tells, with all as it was. Takes no memory.
-    pub fn hear_all(&mut self, number: u64, keys: SnapshotKeys) -> Result<(), InterestFault>
+    pub fn apply_snapshot(&mut self, number: u64, keys: SnapshotKeys) -> Result<(), InterestFault>
         ensures { IsDecided (news_fault self.old (Whole number keys)) (λ _. self.new ≡ heard_after self.old (Whole number keys)) (self.new ≡ self.old) result }
     {
         if let Some(fault) = self.snapshot_fault(number, &keys) {

@@ -75,10 +75,10 @@ pub struct Connection {
     pub complaints: Complaints,
 }
 
-/// What hears messages.
+/// What gets messages.
 pub trait Listener {
     /// A message has come. The error ends the reading, and is that of the call that read.
-    fn hear(&mut self, message: &Message<'_>) -> io::Result<()>;
+    fn on_message(&mut self, message: &Message<'_>) -> io::Result<()>;
 }
 
 /// Counts messages.
@@ -88,7 +88,7 @@ struct Count {
 }
 
 impl Listener for Count {
-    fn hear(&mut self, _message: &Message<'_>) -> io::Result<()> {
+    fn on_message(&mut self, _message: &Message<'_>) -> io::Result<()> {
         self.messages = self.messages.saturating_add(1);
         Ok(())
     }
@@ -162,7 +162,7 @@ impl Connection {
         }
     }
 
-    /// Goes over the frames that were read: the listener hears the messages, and a PING is answered. Whether a PONG
+    /// Goes over the frames that were read: the listener gets the messages, and a PING is answered. Whether a PONG
     /// was among them.
     ///
     /// The kind of the error is `InvalidData` where the bytes are no frame; else it is that of the listener, or of
@@ -174,7 +174,7 @@ impl Connection {
         let mut ponged = false;
         for _frame in 0..most {
             match frames.next_frame() {
-                Ok(Frame::Message(message)) => listener.hear(&message)?,
+                Ok(Frame::Message(message)) => listener.on_message(&message)?,
                 Ok(Frame::Pong) => ponged = true,
                 Ok(Frame::Refusal(text)) => self.complaints.note(text)?,
                 Ok(Frame::Ping) => (&self.stream).write_all(b"PONG\r\n")?,
@@ -188,7 +188,7 @@ impl Connection {
         Ok(ponged)
     }
 
-    /// Waits until the server has done all that was sent; the listener hears what comes meanwhile.
+    /// Waits until the server has done all that was sent; the listener gets what comes meanwhile.
     ///
     /// The kind of the error is `TimedOut` where nothing comes for 20 seconds, and `UnexpectedEof` where the server
     /// closes the connection; else it is that of [`Connection::send`] or [`Connection::listen`].
@@ -217,7 +217,7 @@ impl Connection {
         Ok(heard.messages)
     }
 
-    /// Reads until the server closes the connection; the listener hears what comes.
+    /// Reads until the server closes the connection; the listener gets what comes.
     ///
     /// The kind of the error is `TimedOut` where nothing comes for 20 seconds; else it is that of
     /// [`Connection::listen`].

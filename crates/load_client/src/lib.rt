@@ -6,7 +6,7 @@
 //! connection.settle_with(&mut listener)?;
 //! ```
 //!
-//! In reading order: `connection` sends, and reads into a `window` the `frames` that a `Listener` hears; `meeting` is how two clients
+//! In reading order: `connection` sends, and reads into a `window` the `frames` that a `Listener` gets; `meeting` is how two clients
 //! learn that what one publishes comes to the other.
 #![tactic(auto)]
 

@@ -1,6 +1,6 @@
 -- The server of a pipe, by its one shard.
 use Rattle.std.specs.Prelude.{◌≡◌, ℕ, ◌+◌, ◌*◌, ◌-◌, ◌^◌, ◌≤◌, Bool, true, false, nat_le, nat_lt, List, [], ◌∷◌, length, take, codes, Option, Some, None, Result, Ok, Err, if◌then◌else◌}
-use Rattle.subj.specs.Servers.{Server}
+use Rattle.subj.specs.Servers.{ServerIdentity}
 use Rattle.subj.specs.declared.jobs.Job.{Job}
 use Rattle.subj.specs.declared.limits.TheConstants.{MAX_COUNTER, MAX_QUEUE_NAMES, MAX_SERIAL}
 use Rattle.subj.specs.declared.messages.Pub.{Pub}
@@ -18,22 +18,22 @@ use Rattle.shard_core.specs.Lines.{waiting_after}
 use Rattle.shard_core.specs.declared.faults.ShardFault.{ShardFault}
 use Rattle.node_law.specs.declared.faults.NodeFault.{NodeFault}
 use Rattle.node_law.specs.declared.faults.NodeFault.TheVariants as node_fault
-use Rattle.node_law.specs.State.{Line, Node}
+use Rattle.node_law.specs.State.{ShardWithJobs, Node}
 use Rattle.node_law.specs.Runs.{Done, Ran}
 use Rattle.node_core.specs.Served as of_node
 use Rattle.mesh_pipe.specs.PipeText.{names_wanted, job_of, served_by, after_claims, after_job}
 
 -- node `n1`, alone in its cluster, in its first life, with one shard
-abbrev pub pipe_server : Server
+abbrev pub pipe_server : ServerIdentity
 pipe_server = record { names = codes "n1" ∷ []; me = 0; inc = 1; shards = 1 }
 
 -- ---- its shard, and the jobs that wait for it
 
-abbrev pub first_line : List Line → Line
+abbrev pub first_line : List ShardWithJobs → ShardWithJobs
 first_line [] = record { shard = new_shard 1 1; waiting = [] }
 first_line (line ∷ lines) = line
 
-abbrev pub line_in : of_node.Served → Line
+abbrev pub line_in : of_node.Served → ShardWithJobs
 line_in s = first_line s.node.lines
 
 abbrev pub shard_in : of_node.Served → State

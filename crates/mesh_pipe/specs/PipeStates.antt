@@ -1,8 +1,8 @@
 -- What the server of a pipe is between two asks of its client's connection, and what its calls do.
 use Rattle.std.specs.Prelude.{◌≡◌, ℕ, Bool, true, false, [], ◌++◌, Ok, Err}
 use Rattle.client_frames.specs.declared.err_texts.ErrText.TheVariants as text
-use Rattle.client_conn.specs.declared.ask.Ask.{Ask}
-use Rattle.client_conn.specs.declared.ask.Ask.TheVariants as ask
+use Rattle.client_conn.specs.declared.ask.ClientAction.{ClientAction}
+use Rattle.client_conn.specs.declared.ask.ClientAction.TheVariants as ask
 use Rattle.client_conn.specs.declared.ask.Refusal.{Refusal}
 use Rattle.client_conn.specs.declared.ask.Refusal.TheVariants.{Busy, TooManySubscriptions, NumbersSpent, TooManyQueueGroups, Other}
 use Rattle.mesh_pipe.specs.declared.pipe_server.Outcome.{Outcome}
@@ -55,7 +55,7 @@ HasServed (Answered (Err why)) said old new = IsTold why (served_state old) said
 HasServed Closed said old new = (said.closed ≡ true) × (new.output.items ≡ old.output.items ++ said.text)
 
 -- how much an ask leads to, where of a refusal the client is told
-abbrev pub asks_of : Ask → ℕ
+abbrev pub asks_of : ClientAction → ℕ
 asks_of (ask.Reply frame) = 1
 asks_of (ask.Shut text) = 1
 asks_of (ask.Subscribe key sid) = 2
@@ -63,7 +63,7 @@ asks_of (ask.Unsubscribe sid max) = 1
 asks_of (ask.Publish p) = 2
 
 -- a refusal is told of the asks that lead to more than one
-abbrev pub MayBeTold : Outcome → Ask → Type 0
+abbrev pub MayBeTold : Outcome → ClientAction → Type 0
 MayBeTold (Answered (Ok done)) a = Unit {0}
 MayBeTold (Answered (Err why)) a = asks_of a ≡ 2
 MayBeTold Closed a = Unit {0}

@@ -10,8 +10,8 @@ use Rattle.client_frames.specs.declared.err_texts.ErrText.{ErrText}
 use Rattle.client_frames.specs.declared.err_texts.ErrText.TheVariants.{TooManySubscriptions, TooManyQueueGroups, NumbersSpent}
 use Rattle.client_frames.specs.declared.info.InfoData.{InfoData}
 use Rattle.client_frames.specs.declared.server_frames.ReplyFrame.TheVariants as reply
-use Rattle.client_conn.specs.declared.ask.Ask.{Ask}
-use Rattle.client_conn.specs.declared.ask.Ask.TheVariants as ask
+use Rattle.client_conn.specs.declared.ask.ClientAction.{ClientAction}
+use Rattle.client_conn.specs.declared.ask.ClientAction.TheVariants as ask
 use Rattle.client_conn.specs.Asks.{asking_after}
 use Rattle.outbox.specs.Views.{bytes_of_all}
 use Rattle.sub_table.specs.declared.Subscription.{Subscription}
@@ -123,7 +123,7 @@ output_of_publish p s =
 
 -- ---- all that a client's connection asks
 
-abbrev pub ask_said : Ask → Served → Output
+abbrev pub ask_said : ClientAction → Served → Output
 ask_said (ask.Reply frame) s = after_event (Reply 1 frame) s
 ask_said (ask.Shut text) s = after_event (Shut 1 text) s
 ask_said (ask.Subscribe key sid) s = output_of_subscribe key sid s
@@ -131,7 +131,7 @@ ask_said (ask.Unsubscribe sid max) s = after_event (Unsubscribe 1 sid max) s
 ask_said (ask.Publish p) s = output_of_publish p s
 
 -- one after the other, up to the first that closes
-unfoldable pub asks_said : List Ask → Served → Output
+unfoldable pub asks_said : List ClientAction → Served → Output
 asks_said [] s = no_output s
 asks_said (a ∷ asks) s = and_then (ask_said a s) (asks_said asks)
 

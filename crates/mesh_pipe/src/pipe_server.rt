@@ -14,16 +14,16 @@ ghost use Rattle.mesh_pipe.specs.PipeServing.{refusal_of as refused, line_in, sh
 ghost use Rattle.mesh_pipe.specs.PipeStates.{outcome_by, served_state, IsNew, IsReady, HasServed, MayBeTold};
 
 use claim_race::Race;
-use client_conn::{Ask, Refusal};
+use client_conn::{ClientAction, Refusal};
 use client_frames::{ErrText, InfoData, ReplyFrame, ServerFrame, encode, reply_line};
 use client_refusals::{refusal_of_hub, refusal_of_shard};
 use hub_core::queue_names_are_wanted;
 use line_fields::{CR_LF, append_reserved};
-use node_core::{Line, Node, NodeFault, counts_are_open};
+use node_core::{Node, NodeFault, ShardWithJobs, counts_are_open};
 use std::alloc::{AllocError, Global};
 use std::marker::Model;
 use sub_trie::TrieTable;
-use subj::{ConnId, Failure, Incarnation, Key, NodeId, OUTBOX_BYTES, Pub, Server, Sid};
+use subj::{ConnId, Failure, Incarnation, Key, NodeId, OUTBOX_BYTES, Pub, ServerIdentity, Sid};
 
 /// `+OK` with its line end, put together once, since in verbose mode each command is answered by it.
 #[derive(Drop)]
@@ -87,13 +87,13 @@ pub fn info() -> InfoData
 }
 
 /// Node `n1`, alone in its cluster, in its first life, with one shard.
-fn only_server(alloc: Global) -> Result<Server, AllocError>
+fn only_server(alloc: Global) -> Result<ServerIdentity, AllocError>
     ensures { IfOk result (λ server. server ≡ pipe_server) }
 {
     let info = info();
     let mut names = Vec::new(alloc);
     names.push(info.name)?;
-    match Server::new(names, 0, info.inc, SHARD) {
+    match ServerIdentity::new(names, 0, info.inc, SHARD) {
         Some(server) => Ok(server),
         // one name, the first place and one shard are a server
         None => unreachable!(),
@@ -195,18 +195,18 @@ fn unsubscribe<R: Race>(node: &mut PipeNode<R>, conn: ConnId, sid: &Sid, max: Op
 fn publish<R: Race>(
     node: &mut PipeNode<R>,
     conn: ConnId,
-    said: &Pub,
+    publication: &Pub,
 ) -> Result<Result<(), Refusal>, AllocError>
     requires serving { IsServing node.old }
     requires conn { conn ≡ 1 }
     requires idle { waiting_in node.old ≡ [] }
     requires none { (shard_in node.old).hand ≡ None }
     requires told { (shard_in node.old).deltas ≡ [] }
-    ensures { IfOk result (λ published. IsPublished (placing_refused said.now (shard_in node.old)) said.now node.old published node.new) }
+    ensures { IfOk result (λ published. IsPublished (placing_refused publication.now (shard_in node.old)) publication.now node.old published node.new) }
 {
     queue_names_are_wanted();
     counts_are_open();
-    match node.publish(conn, said, 0) {
+    match node.publish(conn, publication, 0) {
         Ok(_) => Ok(Ok(())),
         Err(Failure::Refused(fault)) => Ok(Err(refusal_of(fault))),
         Err(Failure::OutOfMemory) => Err(AllocError),
@@ -290,7 +290,7 @@ fn work_off<R: Race>(node: &mut PipeNode<R>) -> Result<bool, AllocError>
 }
 
 /// Its one shard, and the jobs that wait for it.
-fn only_line<R: Race>(node: &PipeNode<R>) -> &Line<TrieTable>
+fn only_line<R: Race>(node: &PipeNode<R>) -> &ShardWithJobs<TrieTable>
     requires { IsServing node.now }
     ensures { result.now ≡ line_in node.now }
 {
@@ -401,23 +401,23 @@ impl<R: Race> PipeServer<R> {
     }
 
     /// Does what the connection asks, and takes all that was put for it.
-    pub fn serve(&mut self, ask: &Ask) -> Result<Outcome, AllocError>
+    pub fn serve(&mut self, ask: &ClientAction) -> Result<Outcome, AllocError>
         requires { IsReady self.old }
         ensures served { IfOk result (λ outcome. HasServed outcome (ask_said ask.now (served_state self.old)) self.old self.new) }
         ensures told { IfOk result (λ outcome. MayBeTold outcome ask.now) }
     {
         match ask {
-            Ask::Reply(frame) => Ok(outcome_of(self.reply(frame)?)),
-            Ask::Shut(text) => {
+            ClientAction::Reply(frame) => Ok(outcome_of(self.reply(frame)?)),
+            ClientAction::Shut(text) => {
                 self.shut(*text)?;
                 Ok(Outcome::Closed)
             }
-            Ask::Subscribe { key, sid } => self.subscribe(key, sid),
-            Ask::Unsubscribe { sid, max } => {
+            ClientAction::Subscribe { key, sid } => self.subscribe(key, sid),
+            ClientAction::Unsubscribe { sid, max } => {
                 self.unsubscribe(sid, *max)?;
                 Ok(Outcome::Answered(Ok(())))
             }
-            Ask::Publish(said) => self.publish(said),
+            ClientAction::Publish(publication) => self.publish(publication),
         }
     }
 
@@ -485,11 +485,11 @@ impl<R: Race> PipeServer<R> {
         Ok(())
     }
 
-    fn publish(&mut self, said: &Pub) -> Result<Outcome, AllocError>
+    fn publish(&mut self, publication: &Pub) -> Result<Outcome, AllocError>
         requires { IsReady self.old }
-        ensures { IfOk result (λ outcome. HasServed outcome (output_of_publish said.now (served_state self.old)) self.old self.new) }
+        ensures { IfOk result (λ outcome. HasServed outcome (output_of_publish publication.now (served_state self.old)) self.old self.new) }
     {
-        match publish(&mut self.node, self.conn, said)? {
+        match publish(&mut self.node, self.conn, publication)? {
             Ok(()) => {
                 let shut = work_off(&mut self.node)?;
                 collect(&mut self.node)?;

@@ -4,7 +4,7 @@ use Rattle.std.specs.Prelude.{codes, decimal}
 use Rattle.std.specs.List.{flat_map}
 use Rattle.std.proofs.lemmas.List.{at_drop_more}
 use Rattle.list_laws.proofs.Changes.{map_append}
-use Rattle.subj.specs.Servers.{Server}
+use Rattle.subj.specs.Servers.{ServerIdentity}
 use Rattle.shard_core.specs.declared.calls.Placed.{Placed}
 use Rattle.world_law.specs.Changes.{placement_of}
 use Rattle.world_law.specs.Play.{placements_put}
@@ -40,7 +40,7 @@ counted_behind (x ∷ first) more = let e = counted_behind first more in omega a
 
 -- ---- lists that are gone over
 
-pub put_dropped : (server : Server) (now : ℕ) (xs items : List Placed) (i : ℕ) (x : Placed) → xs ≡ items → i < length xs → x ≡ get_or xs i x → placements_put server now (drop i items) ≡ placement_of server now x.conn x.entry.bytes x.entry.tag ++ placements_put server now (drop (i + 1) items)
+pub put_dropped : (server : ServerIdentity) (now : ℕ) (xs items : List Placed) (i : ℕ) (x : Placed) → xs ≡ items → i < length xs → x ≡ get_or xs i x → placements_put server now (drop i items) ≡ placement_of server now x.conn x.entry.bytes x.entry.tag ++ placements_put server now (drop (i + 1) items)
 put_dropped server now xs items i x same lt is =
     ap (λ l. placements_put server now (drop i l)) (sym same)
     ∙ at_drop_more (placements_put server now) xs i x lt

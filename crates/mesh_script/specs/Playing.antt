@@ -8,8 +8,8 @@ use Rattle.world_law.specs.Headline.{IsCluster}
 use Rattle.world_law.specs.State.{Cluster, World, new_world}
 use Rattle.world_law.specs.Written.{last_lines}
 use Rattle.script_form.specs.Form.{Script}
-use Rattle.mesh_script.specs.declared.player.Asked.{Asked}
-use Rattle.mesh_script.specs.declared.player.Asked.TheVariants as asked
+use Rattle.mesh_script.specs.declared.player.ScriptEvents.{ScriptEvents}
+use Rattle.mesh_script.specs.declared.player.ScriptEvents.TheVariants as asked
 use Rattle.mesh_script.specs.declared.faults.PlayFault.{PlayFault}
 use Rattle.mesh_script.specs.Asks.{Asks, NoMore, Ask, work_asks, Wants, Once, Joins, Tells, Delivers}
 use Rattle.mesh_script.specs.Lines.{lines_text}
@@ -57,11 +57,11 @@ MakesBehind result old was e behind new is = (more : World → Outcome → Asks)
 
 -- ---- what an act wants, as the code has it
 
-abbrev pub wants_of : Asked → Wants
+abbrev pub wants_of : ScriptEvents → Wants
 wants_of (asked.Event event) = Once (event_of event)
 wants_of (asked.Join a b) = Joins a b
 wants_of (asked.Settled subject) = Tells subject
-wants_of (asked.Deliver node conn said word) = Delivers node (record { conn = conn; said = said; word = word })
+wants_of (asked.Deliver node conn publication word) = Delivers node (record { conn = conn; publication = publication; word = word })
 
 -- ---- a whole script
 

@@ -35,7 +35,7 @@ use wire_cut::{Sink, Source};
 
 /// What a step asks of the cluster.
 #[derive(Drop)]
-enum Asked {
+enum ScriptEvents {
     Event(Event),
     /// The servers at these places: the one that dials, and the one that is dialed.
     Join(usize, usize),
@@ -45,7 +45,7 @@ enum Asked {
     Deliver {
         node: usize,
         conn: ConnId,
-        said: Pub,
+        publication: Pub,
         word: u64,
     },
 }
@@ -67,19 +67,19 @@ fn place_of(names: &[NodeId], name: NodeId) -> usize
     }
 }
 
-fn own(node: usize, event: OwnEvent) -> Asked
+fn own(node: usize, event: OwnEvent) -> ScriptEvents
     ensures { wants_of result ≡ Once (of_world.At node (own_event_of event)) }
 {
-    Asked::Event(Event::At { node, event })
+    ScriptEvents::Event(Event::At { node, event })
 }
 
-fn of_conn(node: usize, conn: ConnId, event: ConnEvent) -> Asked
+fn of_conn(node: usize, conn: ConnId, event: ConnEvent) -> ScriptEvents
     ensures { wants_of result ≡ Once (of_world.At node (of_node.OfConn conn event)) }
 {
     own(node, OwnEvent::OfConn { conn, event })
 }
 
-fn at_shard(node: usize, shard: u64, work: ShardWork) -> Asked
+fn at_shard(node: usize, shard: u64, work: ShardWork) -> ScriptEvents
     ensures { wants_of result ≡ Once (of_world.At node (of_node.AtShard shard work)) }
 {
     own(node, OwnEvent::AtShard { shard, work })
@@ -91,7 +91,7 @@ fn subscribe(
     conn: ConnId,
     key: &Key,
     sid: &Sid,
-) -> Result<Asked, AllocError>
+) -> Result<ScriptEvents, AllocError>
     ensures { IfOk result (λ asked. wants_of asked ≡ Once (of_world.At node (of_node.OfConn conn (for_conn.Subscribe key.now sid.now)))) }
 {
     let key = key.try_clone(alloc)?;
@@ -105,7 +105,7 @@ fn unsubscribe(
     conn: ConnId,
     sid: &Sid,
     max: Option<u64>,
-) -> Result<Asked, AllocError>
+) -> Result<ScriptEvents, AllocError>
     ensures { IfOk result (λ asked. wants_of asked ≡ Once (of_world.At node (of_node.OfConn conn (for_conn.Unsubscribe sid.now max)))) }
 {
     let sid = sid.try_clone(alloc)?;
@@ -113,88 +113,105 @@ fn unsubscribe(
 }
 
 /// A copy that shares the message.
-fn copy_of(said: &Pub) -> Result<Pub, AllocError>
-    ensures { IfOk result (λ copy. copy ≡ said.now) }
+fn copy_of(publication: &Pub) -> Result<Pub, AllocError>
+    ensures { IfOk result (λ copy. copy ≡ publication.now) }
 {
-    let message = said.message.try_clone()?;
-    let echo = said.echo;
+    let message = publication.message.try_clone()?;
+    let echo = publication.echo;
     Ok(Pub { message, echo })
 }
 
-fn publish(node: usize, conn: ConnId, said: &Pub, word: u64) -> Result<Asked, AllocError>
-    ensures { IfOk result (λ asked. wants_of asked ≡ Once (of_world.At node (of_node.Publish (record { conn = conn; said = said.now; word = word })))) }
+fn publish(
+    node: usize,
+    conn: ConnId,
+    publication: &Pub,
+    word: u64,
+) -> Result<ScriptEvents, AllocError>
+    ensures { IfOk result (λ asked. wants_of asked ≡ Once (of_world.At node (of_node.Publish (record { conn = conn; publication = publication.now; word = word })))) }
 {
-    let said = copy_of(said)?;
-    Ok(own(node, OwnEvent::Publish { conn, said, word }))
+    let publication = copy_of(publication)?;
+    Ok(own(
+        node,
+        OwnEvent::Publish {
+            conn,
+            publication,
+            word,
+        },
+    ))
 }
 
-fn deliver(node: usize, conn: ConnId, said: &Pub, word: u64) -> Result<Asked, AllocError>
-    ensures { IfOk result (λ asked. wants_of asked ≡ Delivers node (record { conn = conn; said = said.now; word = word })) }
+fn deliver(
+    node: usize,
+    conn: ConnId,
+    publication: &Pub,
+    word: u64,
+) -> Result<ScriptEvents, AllocError>
+    ensures { IfOk result (λ asked. wants_of asked ≡ Delivers node (record { conn = conn; publication = publication.now; word = word })) }
 {
-    let said = copy_of(said)?;
-    Ok(Asked::Deliver {
+    let publication = copy_of(publication)?;
+    Ok(ScriptEvents::Deliver {
         node,
         conn,
-        said,
+        publication,
         word,
     })
 }
 
-fn settled(subject: &Subject) -> Result<Asked, AllocError>
+fn settled(subject: &Subject) -> Result<ScriptEvents, AllocError>
     ensures { IfOk result (λ asked. wants_of asked ≡ Tells subject.now) }
 {
     let subject = subject.try_clone()?;
-    Ok(Asked::Settled(subject))
+    Ok(ScriptEvents::Settled(subject))
 }
 
-fn take_entries(node: usize, conn: ConnId, count: u64) -> Asked
+fn take_entries(node: usize, conn: ConnId, count: u64) -> ScriptEvents
     ensures { wants_of result ≡ Once (of_world.At node (of_node.OfConn conn (for_conn.Take count))) }
 {
     let count = count as usize;
     of_conn(node, conn, ConnEvent::Take { count })
 }
 
-fn receive(node: usize, frame: u64) -> Asked
+fn receive(node: usize, frame: u64) -> ScriptEvents
     ensures { wants_of result ≡ Once (of_world.Receive node frame) }
 {
     let frame = frame as usize;
-    Asked::Event(Event::Receive { node, frame })
+    ScriptEvents::Event(Event::Receive { node, frame })
 }
 
-fn on_info(node: usize, session: u64, frame: u64) -> Asked
+fn on_info(node: usize, session: u64, frame: u64) -> ScriptEvents
     ensures { wants_of result ≡ Once (of_world.OnInfo node session frame) }
 {
-    Asked::Event(Event::OnInfo {
+    ScriptEvents::Event(Event::OnInfo {
         node,
         session: SessionId::new(session),
         frame: frame as usize,
     })
 }
 
-fn on_connect(node: usize, session: u64, frame: u64) -> Asked
+fn on_connect(node: usize, session: u64, frame: u64) -> ScriptEvents
     ensures { wants_of result ≡ Once (of_world.OnConnect node session frame) }
 {
-    Asked::Event(Event::OnConnect {
+    ScriptEvents::Event(Event::OnConnect {
         node,
         session: SessionId::new(session),
         frame: frame as usize,
     })
 }
 
-fn cut(node: usize, session: u64) -> Asked
+fn cut(node: usize, session: u64) -> ScriptEvents
     ensures { wants_of result ≡ Once (of_world.At node (of_node.CutSession session)) }
 {
     let session = SessionId::new(session);
     own(node, OwnEvent::CutSession { session })
 }
 
-fn dial(node: usize, peer: usize) -> Asked
+fn dial(node: usize, peer: usize) -> ScriptEvents
     ensures { wants_of result ≡ Once (of_world.At node (of_node.Dial peer)) }
 {
     own(node, OwnEvent::Dial { peer })
 }
 
-fn take_frames(node: usize, peer: usize, count: u64) -> Asked
+fn take_frames(node: usize, peer: usize, count: u64) -> ScriptEvents
     ensures { wants_of result ≡ Once (of_world.At node (of_node.TakeFrames peer count)) }
 {
     let count = count as usize;
@@ -202,19 +219,32 @@ fn take_frames(node: usize, peer: usize, count: u64) -> Asked
 }
 
 /// What is asked for this act of the server at the place.
-fn asked_by(alloc: Global, names: &[NodeId], node: usize, act: &Act) -> Result<Asked, AllocError>
+fn asked_by(
+    alloc: Global,
+    names: &[NodeId],
+    node: usize,
+    act: &Act,
+) -> Result<ScriptEvents, AllocError>
     ensures { IfOk result (λ asked. wants_of asked ≡ act_wants names.now node act.now) }
 {
     match act {
-        Act::Start { inc } => Ok(Asked::Event(Event::Start { node, inc: *inc })),
-        Act::Stop => Ok(Asked::Event(Event::Stop { node })),
+        Act::Start { inc } => Ok(ScriptEvents::Event(Event::Start { node, inc: *inc })),
+        Act::Stop => Ok(ScriptEvents::Event(Event::Stop { node })),
         Act::Attach { shard } => Ok(at_shard(node, *shard, ShardWork::Attach)),
         Act::Sub { conn, key, sid } => subscribe(alloc, node, *conn, key, sid),
         Act::Unsub { conn, sid, max } => unsubscribe(alloc, node, *conn, sid, *max),
         Act::Detach { conn } => Ok(of_conn(node, *conn, ConnEvent::Detach)),
-        Act::Publish { conn, said, word } => publish(node, *conn, said, *word),
+        Act::Publish {
+            conn,
+            publication,
+            word,
+        } => publish(node, *conn, publication, *word),
         Act::Settled { subject } => settled(subject),
-        Act::Deliver { conn, said, word } => deliver(node, *conn, said, *word),
+        Act::Deliver {
+            conn,
+            publication,
+            word,
+        } => deliver(node, *conn, publication, *word),
         Act::Receive { frame } => Ok(receive(node, *frame)),
         Act::Collect { shard } => Ok(own(node, OwnEvent::Collect { shard: *shard })),
         Act::Begin { shard } => Ok(at_shard(node, *shard, ShardWork::Begin)),
@@ -230,7 +260,7 @@ fn asked_by(alloc: Global, names: &[NodeId], node: usize, act: &Act) -> Result<A
         Act::Cut { session } => Ok(cut(node, *session)),
         Act::TakeEntries { conn, count } => Ok(take_entries(node, *conn, *count)),
         Act::TakeFrames { peer, count } => { Ok(take_frames(node, place_of(names, *peer), *count)) }
-        Act::Join { peer } => Ok(Asked::Join(node, place_of(names, *peer))),
+        Act::Join { peer } => Ok(ScriptEvents::Join(node, place_of(names, *peer))),
     }
 }
 
@@ -255,7 +285,7 @@ impl<T: SubTable, R: Race> Model for Player<T, R> {
 
 /// A server, and its end of a session.
 #[derive(Clone, Copy)]
-struct Side {
+struct SessionEnd {
     node: usize,
     session: SessionId,
 }
@@ -334,7 +364,12 @@ impl<T: SubTable, R: Race> Player<T, R> {
     }
 
     /// The side that accepted is handed the `CONNECT`.
-    fn connect<S: Sink>(&mut self, b: Side, frame: usize, sink: &mut S) -> Result<(), PlayFault>
+    fn connect<S: Sink>(
+        &mut self,
+        b: SessionEnd,
+        frame: usize,
+        sink: &mut S,
+    ) -> Result<(), PlayFault>
         ensures makes { Makes result self.old (S.written sink.old) (connect_asks b.node b.session frame) self.new (S.written sink.new) }
         ensures failures { CountsWrites result (S.failures sink.old) (S.failures sink.new) }
     {
@@ -350,8 +385,8 @@ impl<T: SubTable, R: Race> Player<T, R> {
     /// sends.
     fn inform<S: Sink>(
         &mut self,
-        a: Side,
-        b: Side,
+        a: SessionEnd,
+        b: SessionEnd,
         frame: usize,
         sink: &mut S,
     ) -> Result<(), PlayFault>
@@ -372,7 +407,7 @@ impl<T: SubTable, R: Race> Player<T, R> {
     }
 
     /// The server at place `b` accepts; where that is done, the side that dialed is handed the `INFO` that it sends.
-    fn accept<S: Sink>(&mut self, a: Side, b: usize, sink: &mut S) -> Result<(), PlayFault>
+    fn accept<S: Sink>(&mut self, a: SessionEnd, b: usize, sink: &mut S) -> Result<(), PlayFault>
         ensures makes { Makes result self.old (S.written sink.old) (accept_asks a.node b a.session) self.new (S.written sink.new) }
         ensures failures { CountsWrites result (S.failures sink.old) (S.failures sink.new) }
     {
@@ -384,7 +419,7 @@ impl<T: SubTable, R: Race> Player<T, R> {
         let outcome = self.ask_for(event, sink)?;
         match session_in(&outcome) {
             None => Ok(()),
-            Some(session) => self.inform(a, Side { node: b, session }, info, sink),
+            Some(session) => self.inform(a, SessionEnd { node: b, session }, info, sink),
         }
     }
 
@@ -400,7 +435,7 @@ impl<T: SubTable, R: Race> Player<T, R> {
         let outcome = self.ask_for(event, sink)?;
         match session_in(&outcome) {
             None => Ok(()),
-            Some(session) => self.accept(Side { node: a, session }, b, sink),
+            Some(session) => self.accept(SessionEnd { node: a, session }, b, sink),
         }
     }
 
@@ -460,12 +495,12 @@ impl<T: SubTable, R: Race> Player<T, R> {
         &self,
         node: usize,
         conn: ConnId,
-        said: &Pub,
+        publication: &Pub,
         word: u64,
     ) -> Result<Vec<Event>, AllocError>
-        ensures { IfOk result (λ events. map event_of events.items ≡ work_behind self.now.cluster self.now.world node (record { conn = conn; said = said.now; word = word })) }
+        ensures { IfOk result (λ events. map event_of events.items ≡ work_behind self.now.cluster self.now.world node (record { conn = conn; publication = publication.now; word = word })) }
     {
-        delivery(self.alloc, &self.world, node, conn, said, word)
+        delivery(self.alloc, &self.world, node, conn, publication, word)
     }
 
     /// Publishes for the connection at the server of this place, and makes the work that is owed of it.
@@ -473,33 +508,37 @@ impl<T: SubTable, R: Race> Player<T, R> {
         &mut self,
         node: usize,
         conn: ConnId,
-        said: Pub,
+        publication: Pub,
         word: u64,
         sink: &mut S,
     ) -> Result<(), PlayFault>
-        ensures makes { Makes result self.old (S.written sink.old) (deliver_asks self.old.cluster node (record { conn = conn; said = said; word = word })) self.new (S.written sink.new) }
+        ensures makes { Makes result self.old (S.written sink.old) (deliver_asks self.old.cluster node (record { conn = conn; publication = publication; word = word })) self.new (S.written sink.new) }
         ensures failures { CountsWrites result (S.failures sink.old) (S.failures sink.new) }
     {
-        let events = self.delivery_of(node, conn, &said, word)?;
-        let event = OwnEvent::Publish { conn, said, word };
+        let events = self.delivery_of(node, conn, &publication, word)?;
+        let event = OwnEvent::Publish {
+            conn,
+            publication,
+            word,
+        };
         self.ask_and_work(&Event::At { node, event }, &events, sink)
     }
 
     /// Makes what is asked for.
-    fn make_asked<S: Sink>(&mut self, asked: Asked, sink: &mut S) -> Result<(), PlayFault>
+    fn make_asked<S: Sink>(&mut self, asked: ScriptEvents, sink: &mut S) -> Result<(), PlayFault>
         ensures makes { Makes result self.old (S.written sink.old) (asks_for self.old.cluster (wants_of asked)) self.new (S.written sink.new) }
         ensures failures { CountsWrites result (S.failures sink.old) (S.failures sink.new) }
     {
         match asked {
-            Asked::Join(a, b) => self.join(a, b, sink),
-            Asked::Event(event) => self.once(event, sink),
-            Asked::Settled(subject) => self.tell_settled(&subject, sink),
-            Asked::Deliver {
+            ScriptEvents::Join(a, b) => self.join(a, b, sink),
+            ScriptEvents::Event(event) => self.once(event, sink),
+            ScriptEvents::Settled(subject) => self.tell_settled(&subject, sink),
+            ScriptEvents::Deliver {
                 node,
                 conn,
-                said,
+                publication,
                 word,
-            } => self.deliver(node, conn, said, word, sink),
+            } => self.deliver(node, conn, publication, word, sink),
         }
     }
 

@@ -7,7 +7,7 @@ use crate::faults::ServeFault;
 use event_log::EventLog;
 use mio::net::TcpListener;
 use mio::{Poll, Waker};
-use node_net::{Company, Server as Connections, Sockets, WAKER};
+use node_net::{Server as Connections, Shutdown, Sockets, WAKER};
 use router_command::Options;
 use server_calls::ServerCalls;
 use server_events::{Event, SystemCause};
@@ -19,13 +19,13 @@ use std::sync::{OnceLock, Wait};
 use std::thread::Threads;
 use std::{io, thread};
 use sub_trie::TrieTable;
-use subj::{MAX_NODES, NodeId, Server};
+use subj::{MAX_NODES, NodeId, ServerIdentity};
 use thread_node::{NodeName, Parts, ThreadNode};
 
 /// A server before it runs.
 #[derive(Drop)]
-struct Station {
-    life: Server,
+struct BoundServer {
+    life: ServerIdentity,
     port: u16,
     word: u64,
     sockets: Sockets,
@@ -84,28 +84,28 @@ fn name_of(place: u16) -> Result<NodeId, ServeFault> {
 }
 
 /// The life of the server at this place.
-fn life_of(alloc: Global, options: &Options, place: u16) -> Result<Server, ServeFault> {
+fn life_of(alloc: Global, options: &Options, place: u16) -> Result<ServerIdentity, ServeFault> {
     let mut names = Vec::new(alloc);
     for other in 0..options.nodes {
         names.push(name_of(other)?)?;
     }
-    match Server::new(names, place as usize, options.inc, options.shards) {
+    match ServerIdentity::new(names, place as usize, options.inc, options.shards) {
         Some(life) => Ok(life),
         None => Err(ServeFault::NoCluster),
     }
 }
 
 /// The server at this place, with its sockets bound.
-fn bound_station<R: Net>(
+fn bound_server<R: Net>(
     rt: &R,
     alloc: Global,
     options: &Options,
     place: u16,
-) -> Result<Station, ServeFault>
+) -> Result<BoundServer, ServeFault>
     requires within { AreWithin options.now }
     requires place { place < options.now.nodes }
 {
-    Ok(Station {
+    Ok(BoundServer {
         life: life_of(alloc, options, place)?,
         port: options.client_port(place),
         word: options.word,
@@ -129,7 +129,7 @@ fn addresses(alloc: Global, options: &Options) -> Result<Vec<SocketAddr>, ServeF
 struct Mesh<'a> {
     /// Where other servers connect to each server.
     addresses: &'a [SocketAddr],
-    company: &'a Company,
+    shutdown: &'a Shutdown,
     /// Why all of them stop, where one could not go on: the first cause.
     cause: &'a OnceLock<ServeFault>,
     /// What tells of them.
@@ -140,7 +140,7 @@ impl Mesh<'_> {
     /// All servers stop, for this cause where there was none before.
     fn stop<R: Wait>(&self, rt: &R, cause: ServeFault) {
         let _ = self.cause.set(rt, cause);
-        self.company.fail();
+        self.shutdown.fail();
     }
 
     /// The server of this name and number could not go on: all of them stop.
@@ -162,17 +162,17 @@ fn run_connections<C: ServerCalls, R: Wait + Net<Listener = Listener, Stream = S
     rt: &R,
     alloc: Global,
     node: C,
-    station: Station,
+    server: BoundServer,
     mesh: Mesh<'_>,
 ) -> io::Result<()> {
-    let Station {
+    let BoundServer {
         life,
         port,
         word,
         sockets,
-    } = station;
+    } = server;
     let mut connections = Connections::new(alloc, node, life, port, word)?;
-    connections.run(rt, sockets, mesh.addresses, mesh.company, mesh.log)
+    connections.run(rt, sockets, mesh.addresses, mesh.shutdown, mesh.log)
 }
 
 /// Runs a server of these parts.
@@ -180,25 +180,25 @@ fn run_named<N: NodeName, R: Wait + Net<Listener = Listener, Stream = Stream> + 
     rt: &R,
     alloc: Global,
     parts: Parts,
-    station: Station,
+    server: BoundServer,
     mesh: Mesh<'_>,
 ) -> io::Result<()>
     requires { (parts.race ≡ N.race) × (parts.lanes ≡ N.lanes) × (parts.keep ≡ N.keep) }
 {
     let node: ThreadNode<TrieTable, N> = ThreadNode::start(alloc, parts)?;
-    run_connections(rt, alloc, &node, station, mesh)
+    run_connections(rt, alloc, &node, server, mesh)
 }
 
 /// Runs a server.
-fn run_station<R: Wait + Net<Listener = Listener, Stream = Stream> + Clock>(
+fn run_server<R: Wait + Net<Listener = Listener, Stream = Stream> + Clock>(
     rt: &R,
     alloc: Global,
-    station: Station,
+    server: BoundServer,
     mesh: Mesh<'_>,
 ) -> io::Result<()> {
-    let life = station.life.try_clone(alloc)?;
+    let life = server.life.try_clone(alloc)?;
     let (parts, _parkers) = Parts::new(alloc, life, false)?;
-    run_named::<Brand, _>(rt, alloc, parts, station, mesh)
+    run_named::<Brand, _>(rt, alloc, parts, server, mesh)
 }
 
 /// Runs the server of this number; where it cannot go on, all of them stop.
@@ -206,11 +206,11 @@ fn work<R: Wait + Net<Listener = Listener, Stream = Stream> + Clock>(
     rt: &R,
     alloc: Global,
     number: u64,
-    station: Station,
+    server: BoundServer,
     mesh: Mesh<'_>,
 ) {
-    let name = station.life.name();
-    match run_station(rt, alloc, station, mesh) {
+    let name = server.life.name();
+    match run_server(rt, alloc, server, mesh) {
         Ok(()) => mesh.log.tell(rt, name, Event::Stopped),
         Err(error) => mesh.fail(rt, name, number, error),
     }
@@ -220,24 +220,24 @@ fn work<R: Wait + Net<Listener = Listener, Stream = Stream> + Clock>(
 fn run_all<'m, R: Threads + Wait + Net<Listener = Listener, Stream = Stream> + Clock + Sync>(
     rt: &R,
     alloc: Global,
-    stations: Vec<Station>,
+    servers: Vec<BoundServer>,
     addresses: &'m [SocketAddr],
-    company: &'m Company,
+    shutdown: &'m Shutdown,
     log: &'m EventLog,
 ) -> Result<(), ServeFault> {
     let cause = OnceLock::new();
     let mesh = Mesh {
         addresses,
-        company,
+        shutdown,
         cause: &cause,
         log,
     };
     thread::scope(thread::scope_env(), rt, |scope| {
         let mut number = 0u64;
-        for station in stations {
+        for server in servers {
             number = number.saturating_add(1);
             if scope
-                .spawn(move || work(rt, alloc, number, station, mesh))
+                .spawn(move || work(rt, alloc, number, server, mesh))
                 .is_err()
             {
                 mesh.stop(rt, ServeFault::NoThread { server: number });
@@ -290,21 +290,21 @@ fn tell_log<R: Wait + Clock>(rt: &R, options: &Options, log: &EventLog)
 }
 
 /// The servers of a mesh, with their sockets bound.
-fn stations<R: Net>(rt: &R, alloc: Global, options: &Options) -> Result<Vec<Station>, ServeFault>
+fn servers<R: Net>(rt: &R, alloc: Global, options: &Options) -> Result<Vec<BoundServer>, ServeFault>
     requires { AreWithin options.now }
 {
     let mut all = Vec::new(alloc);
     for place in 0..options.nodes {
-        all.push(bound_station(rt, alloc, options, place)?)?;
+        all.push(bound_server(rt, alloc, options, place)?)?;
     }
     Ok(all)
 }
 
 /// What wakes each server.
-fn wakers(alloc: Global, stations: &[Station]) -> Result<Vec<Waker>, ServeFault> {
+fn wakers(alloc: Global, servers: &[BoundServer]) -> Result<Vec<Waker>, ServeFault> {
     let mut all = Vec::new(alloc);
-    for station in stations {
-        all.push(Waker::new(station.sockets.poll.registry(), WAKER)?)?;
+    for server in servers {
+        all.push(Waker::new(server.sockets.poll.registry(), WAKER)?)?;
     }
     Ok(all)
 }
@@ -312,9 +312,9 @@ fn wakers(alloc: Global, stations: &[Station]) -> Result<Vec<Waker>, ServeFault>
 /// A mesh before it runs: its servers, where other servers connect to each, and what they share.
 #[derive(Drop)]
 struct BoundMesh {
-    stations: Vec<Station>,
+    servers: Vec<BoundServer>,
     addresses: Vec<SocketAddr>,
-    company: Company,
+    shutdown: Shutdown,
 }
 
 /// A mesh whose sockets are bound.
@@ -322,12 +322,12 @@ fn bound_mesh<R: Net>(rt: &R, alloc: Global, options: &Options) -> Result<BoundM
     requires { AreWithin options.now }
 {
     let addresses = addresses(alloc, options)?;
-    let stations = stations(rt, alloc, options)?;
-    let company = Company::new(options.stop_after, wakers(alloc, &stations)?);
+    let servers = servers(rt, alloc, options)?;
+    let shutdown = Shutdown::new(options.stop_after, wakers(alloc, &servers)?);
     Ok(BoundMesh {
-        stations,
+        servers,
         addresses,
-        company,
+        shutdown,
     })
 }
 
@@ -346,11 +346,11 @@ where
     tell(rt, alloc, options)?;
     tell_log(rt, options, log);
     let BoundMesh {
-        stations,
+        servers,
         addresses,
-        company,
+        shutdown,
     } = bound;
-    run_all(rt, alloc, stations, &addresses, &company, log)
+    run_all(rt, alloc, servers, &addresses, &shutdown, log)
 }
 
 /// Serves the mesh that the options tell of, each server in a thread of its own. When all sockets are bound, a

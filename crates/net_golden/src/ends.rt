@@ -10,7 +10,7 @@ use server_events::Event;
 use std::alloc::{AllocError, Global};
 use std::fmt::Write;
 use std::sync::Wait;
-use subj::Server as Life;
+use subj::ServerIdentity as Life;
 
 /// What is known of a connection: its key, and how much of what was written to it came to its other end.
 #[derive(Clone, Copy)]

@@ -1,7 +1,7 @@
 //! A server whose lanes take nothing for a while, as where there is no memory.
 
 use client_calls::Outcome;
-use hub_core::{HubFault, Told};
+use hub_core::{CollectResult, HubFault};
 use route_session::{SessionFault, SessionId};
 use route_values::{Numbered, RouteConnect, RouteInfo};
 use server_calls::{HubCalls, ServerCalls};
@@ -35,8 +35,8 @@ impl<C: ServerCalls> LanedNode<C> {
 }
 
 impl<'n, H: HubCalls> HubCalls for LanedHub<'n, H> {
-    fn publish(&mut self, conn: ConnId, said: &Pub, word: u64) -> Outcome {
-        self.hub.publish(conn, said, word)
+    fn publish(&mut self, conn: ConnId, publication: &Pub, word: u64) -> Outcome {
+        self.hub.publish(conn, publication, word)
     }
 
     fn receive(&mut self, frame: &Numbered) -> Result<(), Failure<HubFault>> {
@@ -112,7 +112,7 @@ impl<'n, C: ServerCalls> ServerCalls for &'n LanedNode<C> {
         }
     }
 
-    fn collect<R: Wait>(&self, rt: &R, shard: u64) -> Result<Option<Told>, AllocError> {
+    fn collect<R: Wait>(&self, rt: &R, shard: u64) -> Result<Option<CollectResult>, AllocError> {
         let laned: &'n LanedNode<C> = *self;
         laned.node.collect(rt, shard)
     }

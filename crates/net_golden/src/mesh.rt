@@ -12,7 +12,7 @@ use std::alloc::{AllocError, Global};
 use std::marker::Brand;
 use std::sync::Wait;
 use sub_trie::TrieTable;
-use subj::Server as Life;
+use subj::ServerIdentity as Life;
 use thread_node::{NodeName, Parts, ThreadNode};
 
 /// How many servers are in the cluster and how many shards each has, how many times the first one's lanes take nothing, and the numbers with

@@ -4,7 +4,7 @@ use crate::ends::is_question;
 use crate::log_lines::log_line;
 use crate::mesh::Mesh;
 use golden::{Call, Rig, Words, call_of, push_line, put, text, yes_or_no};
-use node_net::Company;
+use node_net::Shutdown;
 use std::alloc::{AllocError, Global};
 use std::sync::Wait;
 
@@ -14,31 +14,31 @@ pub struct NetRig<'r, R: Wait> {
     rt: &'r R,
     alloc: Global,
     mesh: Mesh,
-    company: Company,
+    shutdown: Shutdown,
     /// The calls of this case on servers, one a line.
     calls: String,
 }
 
 /// Servers that have taken nobody, and stop once they have taken so many clients and all of these are gone; those of 0 go on. Nobody is woken
 /// here: `is_over` is asked for.
-fn company_of(alloc: Global, clients: u64) -> Company {
+fn shutdown_of(alloc: Global, clients: u64) -> Shutdown {
     let stops_after = (clients > 0).then_some(clients);
-    Company::new(stops_after, Vec::new(alloc))
+    Shutdown::new(stops_after, Vec::new(alloc))
 }
 
 /// The answer of a call on what the servers of a process share.
-fn company_answer(
-    company: &mut Company,
+fn shutdown_answer(
+    shutdown: &mut Shutdown,
     alloc: Global,
     call: &str,
     number: u64,
 ) -> Result<String, AllocError> {
     match call {
-        "new" => put(company, company_of(alloc, number)),
-        "take" => company.take(),
-        "lose" => company.lose(number),
-        "fail" => company.fail(),
-        "is_over" => return yes_or_no(alloc, company.is_over()),
+        "new" => put(shutdown, shutdown_of(alloc, number)),
+        "take" => shutdown.take(),
+        "lose" => shutdown.lose(number),
+        "fail" => shutdown.fail(),
+        "is_over" => return yes_or_no(alloc, shutdown.is_over()),
         _ => return text(alloc, "no such call"),
     }
     text(alloc, "ok")
@@ -51,7 +51,7 @@ impl<'r, R: Wait> NetRig<'r, R> {
             rt,
             alloc,
             mesh: Mesh::new(),
-            company: company_of(alloc, 0),
+            shutdown: shutdown_of(alloc, 0),
             calls: String::new(alloc),
         }
     }
@@ -70,7 +70,7 @@ impl<'r, R: Wait> NetRig<'r, R> {
 impl<'r, R: Wait> Rig for NetRig<'r, R> {
     fn renew(&mut self) -> Result<(), AllocError> {
         self.mesh = Mesh::new();
-        put(&mut self.company, company_of(self.alloc, 0));
+        put(&mut self.shutdown, shutdown_of(self.alloc, 0));
         put(&mut self.calls, String::new(self.alloc));
         Ok(())
     }
@@ -79,7 +79,7 @@ impl<'r, R: Wait> Rig for NetRig<'r, R> {
         let Call { of, name: call, .. } = call_of(name);
         match of {
             "mesh" => text(self.alloc, self.mesh.set(call, words)),
-            "company" => company_answer(&mut self.company, self.alloc, call, words.number(0)),
+            "company" => shutdown_answer(&mut self.shutdown, self.alloc, call, words.number(0)),
             "log" => log_line(self.alloc, call, words),
             "stream" | "n1" | "n2" | "link" | "numbers" => self.server_answer(name, words),
             _ => text(self.alloc, "no such call"),

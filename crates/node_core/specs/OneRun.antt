@@ -13,10 +13,10 @@ use Rattle.node_core.specs.Served.{Served, refusal}
 
 -- ---- the answers
 
-abbrev pub is_short : {X : Type 0} → Result X Refused → Bool
-is_short (Ok x) = false
-is_short (Err (Fault why)) = false
-is_short (Err OutOfMemory) = true
+abbrev pub is_out_of_memory : {X : Type 0} → Result X Refused → Bool
+is_out_of_memory (Ok x) = false
+is_out_of_memory (Err (Fault why)) = false
+is_out_of_memory (Err OutOfMemory) = true
 
 -- what is told of an answer
 abbrev pub outcome_told : Result Did Refused → Result Outcome Refused
@@ -34,7 +34,7 @@ abbrev pub IsRun : Served → List NodeEvent → List (Result Outcome Refused) �
 IsRun old [] [] new = new ≡ old
 IsRun old [] (r ∷ rs) new = ⊥
 IsRun old (e ∷ es) [] new = ⊥
-IsRun old (e ∷ es) (r ∷ rs) new = (mid : Served) × IsAnswered (refusal old e) (λ did. Does old e did mid) (mid ≡ old) (result_in_code r) × Follows (is_short r) ((rs ≡ []) × (new ≡ mid)) (IsRun mid es rs new)
+IsRun old (e ∷ es) (r ∷ rs) new = (mid : Served) × IsAnswered (refusal old e) (λ did. Does old e did mid) (mid ≡ old) (result_in_code r) × Follows (is_out_of_memory r) ((rs ≡ []) × (new ≡ mid)) (IsRun mid es rs new)
 
 -- ---- the promises
 

@@ -1,6 +1,6 @@
 -- What a step of a server comes to: its answer, what it puts into outboxes, and what closes.
 use Rattle.std.specs.Prelude.{◌≡◌, ℕ, Bool, true, false, List, [], Option, Some, None, option_to_list}
-use Rattle.subj.specs.Servers.{Server}
+use Rattle.subj.specs.Servers.{ServerIdentity}
 use Rattle.subj.specs.declared.identities.SubId.{SubId}
 use Rattle.route_values.specs.declared.frames.RouteFrame.{RouteFrame}
 use Rattle.shard_core.specs.declared.calls.Placed.{Placed}
@@ -41,7 +41,7 @@ pub record Outcome : Type 0 where
   pub shut : List ℕ
   pub ended : List SubId
 
-abbrev pub outcome_of : Server → Node → NodeEvent → Bool → Outcome
+abbrev pub outcome_of : ServerIdentity → Node → NodeEvent → Bool → Outcome
 outcome_of server a e won = record {
   answer = node_answer server a e won;
   entries = put_at (part_of server a e won);

@@ -1,7 +1,7 @@
 -- A server as one value with who it is, and how its calls go.
 use Rattle.std.specs.Prelude.{◌≡◌, ℕ, ◌≤◌, ◌+◌, Bool, false, List, Option, Some, None, Result, Ok, Err}
 use Rattle.std.specs.Option.{option_map}
-use Rattle.subj.specs.Servers.{Server, IsListed, place}
+use Rattle.subj.specs.Servers.{ServerIdentity, IsListed, place}
 use Rattle.subj.specs.declared.failures.Failure.{Failure}
 use Rattle.subj.specs.declared.failures.Failure.TheVariants.{Refused, OutOfMemory}
 use Rattle.subj.specs.declared.jobs.Job.{Job}
@@ -32,12 +32,12 @@ use Rattle.node_law.specs.declared.events.ConnEvent.{ConnEvent}
 use Rattle.node_law.specs.declared.events.ShardWork.{ShardWork}
 use Rattle.node_law.specs.declared.events.ShardWork.TheVariants.{Begin, Claim, DropJob}
 use Rattle.node_law.specs.Sound.{SoundNode}
-use Rattle.node_law.specs.State.{Line, Node, new_node}
+use Rattle.node_law.specs.State.{ShardWithJobs, Node, new_node}
 use Rattle.node_law.specs.Steps.{conn_line, shard_line, conn_event, work_event, node_refusal, NodeStep}
 pub use Rattle.node_parts.specs.Lines.{LineStep, LineBegins, LineEnds, dropped_job, LineDrops, is_won, IsClaimTold, LineClaims, MayClaim, WaitsNext, failure_of_shard, of_answer, of_decision}
 pub use Rattle.node_parts.specs.Jobs.{MayIssue, AreGiven, IsReceived, MayRoute, AreRouted}
 pub use Rattle.node_parts.specs.Places.{place_of_conn, place_of_shard}
-use Rattle.node_parts.specs.Sides.{Side}
+use Rattle.node_parts.specs.Sides.{HubWithSessions}
 
 -- ---- what a part refuses, its server refuses
 
@@ -64,15 +64,15 @@ of_hub_answer (Err why) = Err (failure_of_hub why)
 -- ---- a server's calls
 
 pub record Served : Type 0 where
-  pub server : Server
+  pub server : ServerIdentity
   pub node : Node
 
 -- a server with these parts
-abbrev pub served_of_parts : Side → RaceState → List Line → Served
+abbrev pub served_of_parts : HubWithSessions → RaceState → List ShardWithJobs → Served
 served_of_parts side race lines = record { server = side.server; node = record { hub = side.hub; sessions = side.sessions; race = race; lines = lines } }
 
 -- a server that has just started
-abbrev pub new_server : Server → Served
+abbrev pub new_server : ServerIdentity → Served
 new_server server = record { server = server; node = new_node server }
 
 -- the first cause for which the event is refused
@@ -86,14 +86,14 @@ pub record DoesStep (old : Served) (event : NodeEvent) (won : Bool) (new : Serve
   pub step : NodeStep old.server old.node event won race new.node
 
 -- what the line answers to the event
-abbrev pub line_answer : Option of_shard.Event → Line → Option of_shard.Answer
+abbrev pub line_answer : Option of_shard.Event → ShardWithJobs → Option of_shard.Answer
 line_answer event line = option_map (shard_answer line.shard) event
 
-abbrev pub answer_at : Option of_shard.Event → Option Line → Option of_shard.Answer
+abbrev pub answer_at : Option of_shard.Event → Option ShardWithJobs → Option of_shard.Answer
 answer_at event None = None
 answer_at event (Some line) = line_answer event line
 
-abbrev pub work_answer : ShardWork → Bool → Option Line → Option of_shard.Answer
+abbrev pub work_answer : ShardWork → Bool → Option ShardWithJobs → Option of_shard.Answer
 work_answer work won None = None
 work_answer work won (Some line) = line_answer (work_event work won line) line
 
@@ -119,7 +119,7 @@ pub record WorkStep (old : Served) (shard : ℕ) (work : ShardWork) (won : Bool)
   pub answered : Some answer ≡ work_answer work won (shard_line old.node shard)
 
 -- what a begin answers, of the line's shard before it
-abbrev pub IsToldAt : Bool → Option Line → Begun → Type 0
+abbrev pub IsToldAt : Bool → Option ShardWithJobs → Begun → Type 0
 IsToldAt copies None begun = ⊥
 IsToldAt copies (Some line) begun = (job : Job) × (first_of line.waiting ≡ Some job) × IsTold copies line.shard job begun
 
@@ -147,7 +147,7 @@ pub record FramesStep (old : Served) (peer count : ℕ) (frames : List Frame) (n
   pub step : DoesStep old (Own (TakeFrames peer count)) false new
   pub answered : frames ≡ first_frames old.node.hub peer count
 
-abbrev pub dropped_turn : Option Line → Option ℕ
+abbrev pub dropped_turn : Option ShardWithJobs → Option ℕ
 dropped_turn None = None
 dropped_turn (Some line) = option_map (λ (job : Job). job.turn) (dropped_job line)
 

@@ -5,26 +5,26 @@
 //! let mut node: Node<ListTable, PlainRace> = Node::new(alloc, server)?;
 //! let conn = node.attach(1)?;
 //! node.subscribe(conn, key, sid)?;
-//! node.publish(conn, &said, 0)?;
+//! node.publish(conn, &publication, 0)?;
 //! node.begin(1, false)?;
 //! ```
 //!
 //! Each call of [`Node`] is a step of the server, by the definitions of `node_law`; a list of events is a run of such steps, which
 //! keeps the promises of one server.
 //!
-//! In reading order: `asked` and `did` are what a server is asked and what it did, `node` is the server with a call for each event, why it
+//! In reading order: `event_ref` and `did` are what a server is asked and what it did, `node` is the server with a call for each event, why it
 //! refuses, and a list of events; `node/stepping` is the step of any event, with its answer alone or with all that it did.
 #![tactic(auto)]
 
 mod answers;
-mod asked;
 mod did;
+mod event_ref;
 mod node;
 mod refused;
 
 pub use answers::Answer;
-pub use asked::Asked;
 pub use did::Did;
+pub use event_ref::EventRef;
 pub use node::Node;
 pub use node_law::{
     ConnEvent, NodeEvent, NodeFault, OwnEvent, ShardWork, claims_place, counts_are_open,
@@ -33,5 +33,5 @@ pub use node_law::{
     races_follow_the_law, runs_stay_sound, servers_follow_the_law, servers_keep_their_promises,
     servers_stay_sound, shards_stay_held, turns_are_fresh, turns_have_one_job,
 };
-pub use node_parts::{Claimed, Issued, Line, Received, Told};
+pub use node_parts::{Claimed, CollectResult, Issued, Received, ShardWithJobs};
 pub use refused::Refused;

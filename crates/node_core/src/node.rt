@@ -10,26 +10,26 @@ ghost use Rattle.node_law.specs.declared.events.ConnEvent.TheVariants.{Subscribe
 ghost use Rattle.node_law.specs.declared.events.ShardWork.TheVariants.{Attach, Begin, Claim, End, DropJob};
 ghost use Rattle.node_core.specs.Served.{new_server, of_session_answer, of_session_decision, of_hub_answer, refusal, ConnStep, WorkStep, BeginStep, DialStep, AcceptStep, CutStep, FramesStep, DropStep, ClaimStep, InfoStep, ConnectStep, PublishStep, ReceiveStep, CollectStep};
 ghost use Rattle.node_law.specs.State.{lines_from};
-ghost use Rattle.hub_core.specs.Chosen.{publication};
+ghost use Rattle.hub_core.specs.Chosen.{publication_by};
 ghost use Rattle.node_law.specs.declared.faults.NodeFault.TheVariants.{Hub};
 ghost use Rattle.node_core.specs.InCode.{event_of, own_event_of};
-ghost use Rattle.node_core.specs.OneRun.{GoesOn, IsRun, done_with, is_short, outcome_told};
+ghost use Rattle.node_core.specs.OneRun.{GoesOn, IsRun, done_with, is_out_of_memory as lacks_memory, outcome_told};
 ghost use Rattle.node_law.specs.Runs.{Done, Ran};
 ghost use Rattle.node_core.specs.TakesBytes.{TakesBytes};
 
 mod resting;
 mod stepping;
 
-use crate::asked::lend;
 use crate::did::Did;
+use crate::event_ref::lend;
 use crate::refused::Refused;
 use claim_race::Race;
 use client_frames::{ErrText, ReplyFrame};
 use hub_core::{HubFault, PublishPlan};
 use node_law::{ConnEvent, NodeEvent, NodeFault, OwnEvent, ShardWork, servers_keep_their_promises};
 use node_parts::{
-    Claimed, Issued, Line, Received, Side, Told, fill, finished_by, issue, place_of_conn,
-    place_of_shard, route, take_in,
+    Claimed, CollectResult, HubWithSessions, Issued, Received, ShardWithJobs, fill, finished_by,
+    issue, place_of_conn, place_of_shard, route, take_in,
 };
 use outbox::Entry;
 use route_session::{Kept, SessionFault, SessionId};
@@ -38,18 +38,18 @@ use shard_core::{Begun, Closed, ShardFault, Subscribed};
 use std::alloc::{AllocError, Global};
 use std::marker::Model;
 use sub_table::SubTable;
-use subj::{ConnId, Failure, Job, Key, Pub, Server, Sid, SubId, Turn};
+use subj::{ConnId, Failure, Job, Key, Pub, ServerIdentity, Sid, SubId, Turn};
 
 /// The lines of a server of so many shards.
 #[tactic(auto, using(crate::proofs::Calls::Starts::lines_more))]
-fn new_lines<T: SubTable>(alloc: Global, shards: u64) -> Result<Vec<Line<T>>, AllocError>
+fn new_lines<T: SubTable>(alloc: Global, shards: u64) -> Result<Vec<ShardWithJobs<T>>, AllocError>
     requires first { 1 ≤ shards }
     requires few { shards ≤ MAX_SHARDS }
     ensures { IfOk result (λ lines. lines.items ≡ lines_from shards 1 shards) }
 {
     let mut lines = Vec::new(alloc);
     for made in 0..shards {
-        lines.push(Line::new(alloc, made + 1, shards)?)?;
+        lines.push(ShardWithJobs::new(alloc, made + 1, shards)?)?;
     }
     Ok(lines)
 }
@@ -95,9 +95,9 @@ fn of_hub<X>(answer: Result<X, Failure<HubFault>>) -> Result<X, Failure<NodeFaul
 #[derive(Drop)]
 pub struct Node<T: SubTable, R: Race> {
     pub(crate) alloc: Global,
-    pub(crate) side: Side,
+    pub(crate) side: HubWithSessions,
     pub(crate) race: R,
-    pub(crate) lines: Vec<Line<T>>,
+    pub(crate) lines: Vec<ShardWithJobs<T>>,
     /// Memory for the copies of a job, which the lines get.
     pub(crate) copies: Vec<Job>,
 }
@@ -116,13 +116,13 @@ impl<T: SubTable, R: Race> Model for Node<T, R> {
 
 impl<T: SubTable, R: Race> Node<T, R> {
     /// A server that has just started: nothing is counted, nobody is known, and no job waits.
-    pub fn new(alloc: Global, server: Server) -> Result<Node<T, R>, AllocError>
+    pub fn new(alloc: Global, server: ServerIdentity) -> Result<Node<T, R>, AllocError>
         ensures { IfOk result (λ node. node ≡ new_server server) }
     {
         let _me = server.me();
         let lines = new_lines(alloc, server.shards())?;
         let race = R::new(alloc, server.shards())?;
-        let side = Side::new(alloc, server)?;
+        let side = HubWithSessions::new(alloc, server)?;
         Ok(Node {
             alloc,
             side,
@@ -133,7 +133,7 @@ impl<T: SubTable, R: Race> Node<T, R> {
     }
 
     /// Opens a subscription, unless the connection has one of this id open. Refused as
-    /// [`Line::subscribe`] is, and with [`ShardFault::NoConn`] where no shard has the connection.
+    /// [`ShardWithJobs::subscribe`] is, and with [`ShardFault::NoConn`] where no shard has the connection.
     pub fn subscribe(
         &mut self,
         conn: ConnId,
@@ -149,7 +149,7 @@ impl<T: SubTable, R: Race> Node<T, R> {
         line.subscribe(conn, key, sid)
     }
 
-    /// Closes what the connection calls by this id: [`Line::unsubscribe`]. Takes no memory.
+    /// Closes what the connection calls by this id: [`ShardWithJobs::unsubscribe`]. Takes no memory.
     pub fn unsubscribe(
         &mut self,
         conn: ConnId,
@@ -165,7 +165,7 @@ impl<T: SubTable, R: Race> Node<T, R> {
         line.unsubscribe(conn, sid, max)
     }
 
-    /// Puts an answer for a connection: [`Line::reply`].
+    /// Puts an answer for a connection: [`ShardWithJobs::reply`].
     pub fn reply(&mut self, conn: ConnId, frame: &ReplyFrame) -> Result<Closed, Failure<NodeFault>>
         ensures { IsAnswered (refusal self.old (Own (OfConn conn (Reply frame.now)))) (λ closed. ConnStep self.old conn (Reply frame.now) (Replied closed.shut closed.ended.items) self.new) (self.new ≡ self.old) result }
     {
@@ -176,7 +176,7 @@ impl<T: SubTable, R: Race> Node<T, R> {
         line.reply(conn, frame)
     }
 
-    /// Shuts a connection with this text: [`Line::shut`].
+    /// Shuts a connection with this text: [`ShardWithJobs::shut`].
     pub fn shut(&mut self, conn: ConnId, text: ErrText) -> Result<Vec<SubId>, Failure<NodeFault>>
         ensures { IsAnswered (refusal self.old (Own (OfConn conn (Shut text)))) (λ ended. ConnStep self.old conn (Shut text) (WasShut ended.items) self.new) (self.new ≡ self.old) result }
     {
@@ -187,7 +187,7 @@ impl<T: SubTable, R: Race> Node<T, R> {
         line.shut(conn, text)
     }
 
-    /// The connection goes: [`Line::detach`].
+    /// The connection goes: [`ShardWithJobs::detach`].
     pub fn detach(&mut self, conn: ConnId) -> Result<Vec<SubId>, Failure<NodeFault>>
         ensures { IsAnswered (refusal self.old (Own (OfConn conn Detach))) (λ ended. ConnStep self.old conn Detach (Detached ended.items) self.new) (self.new ≡ self.old) result }
     {
@@ -198,7 +198,7 @@ impl<T: SubTable, R: Race> Node<T, R> {
         line.detach(conn)
     }
 
-    /// Gives and removes the first entries that wait for a connection: [`Line::take`].
+    /// Gives and removes the first entries that wait for a connection: [`ShardWithJobs::take`].
     pub fn take(&mut self, conn: ConnId, count: usize) -> Result<Vec<Entry>, Failure<NodeFault>>
         ensures { IsAnswered (refusal self.old (Own (OfConn conn (Take count)))) (λ entries. ConnStep self.old conn (Take count) (Taken entries.items) self.new) (self.new ≡ self.old) result }
     {
@@ -210,7 +210,7 @@ impl<T: SubTable, R: Race> Node<T, R> {
     }
 
     /// A new connection of the shard. Refused with [`NodeFault::NoShard`] where there is no such shard,
-    /// and as [`Line::attach`] is.
+    /// and as [`ShardWithJobs::attach`] is.
     pub fn attach(&mut self, shard: u64) -> Result<ConnId, Failure<NodeFault>>
         ensures { IsAnswered (refusal self.old (Own (AtShard shard Attach))) (λ conn. WorkStep self.old shard Attach false (Attached conn) self.new) (self.new ≡ self.old) result }
     {
@@ -221,7 +221,7 @@ impl<T: SubTable, R: Race> Node<T, R> {
         line.attach()
     }
 
-    /// The shard begins the first job that waits for it: [`Line::begin`]. Refused with
+    /// The shard begins the first job that waits for it: [`ShardWithJobs::begin`]. Refused with
     /// [`NodeFault::NoShard`] first.
     pub fn begin(&mut self, shard: u64, copies: bool) -> Result<Begun, Failure<NodeFault>>
         ensures { IsAnswered (refusal self.old (Own (AtShard shard Begin))) (λ begun. BeginStep copies self.old shard begun self.new) (self.new ≡ self.old) result }
@@ -234,7 +234,7 @@ impl<T: SubTable, R: Race> Node<T, R> {
     }
 
     /// The shard claims the queue name of this index of the job in hand, which is the next one:
-    /// [`Line::claim`]. Refused with [`NodeFault::NoShard`] first.
+    /// [`ShardWithJobs::claim`]. Refused with [`NodeFault::NoShard`] first.
     pub fn claim(
         &mut self,
         shard: u64,
@@ -250,7 +250,7 @@ impl<T: SubTable, R: Race> Node<T, R> {
         line.claim(&mut self.race, shard, index, copies)
     }
 
-    /// The shard finishes the turn in hand: [`Line::end`]. Refused with [`NodeFault::NoShard`] first.
+    /// The shard finishes the turn in hand: [`ShardWithJobs::end`]. Refused with [`NodeFault::NoShard`] first.
     /// Takes no memory.
     pub fn end(&mut self, shard: u64) -> Result<(), NodeFault>
         ensures { IsDecided (refusal self.old (Own (AtShard shard End))) (λ _. WorkStep self.old shard End false Finished self.new) (self.new ≡ self.old) result }
@@ -269,7 +269,7 @@ impl<T: SubTable, R: Race> Node<T, R> {
     }
 
     /// The shard drops the job in hand, or else the first that waits, and its turn is finished:
-    /// [`Line::drop_job`]. Gives that turn. Refused with [`NodeFault::NoShard`] first. Takes no memory.
+    /// [`ShardWithJobs::drop_job`]. Gives that turn. Refused with [`NodeFault::NoShard`] first. Takes no memory.
     pub fn drop_job(&mut self, shard: u64) -> Result<Turn, NodeFault>
         ensures { IsDecided (refusal self.old (Own (AtShard shard DropJob))) (λ turn. DropStep self.old shard turn self.new) (self.new ≡ self.old) result }
     {
@@ -286,14 +286,14 @@ impl<T: SubTable, R: Race> Node<T, R> {
         }
     }
 
-    /// Dials the server at this place: [`Side::dial`]. Gives the number of the session.
+    /// Dials the server at this place: [`HubWithSessions::dial`]. Gives the number of the session.
     pub fn dial(&mut self, peer: usize) -> Result<SessionId, Failure<NodeFault>>
         ensures { IsAnswered (refusal self.old (Own (Dial peer))) (λ session. DialStep self.old peer session self.new) (self.new ≡ self.old) result }
     {
         of_sessions(self.side.dial(peer))
     }
 
-    /// Accepts a session: [`Side::accept`]. Gives its number, and the `INFO` to send.
+    /// Accepts a session: [`HubWithSessions::accept`]. Gives its number, and the `INFO` to send.
     pub fn accept(&mut self) -> Result<(SessionId, RouteInfo), Failure<NodeFault>>
         ensures { IsAnswered (refusal self.old (Own Accept)) (λ given. AcceptStep self.old given.0 given.1 self.new) (self.new ≡ self.old) result }
     {
@@ -301,14 +301,14 @@ impl<T: SubTable, R: Race> Node<T, R> {
     }
 
     /// Ends a session; where it was kept, its peer is not up any more. Gives the place of that peer.
-    /// Refused as [`Side::cut`] is. Takes no memory.
+    /// Refused as [`HubWithSessions::cut`] is. Takes no memory.
     pub fn cut(&mut self, session: SessionId) -> Result<Option<usize>, NodeFault>
         ensures { IsDecided (refusal self.old (Own (CutSession session))) (λ peer. CutStep self.old session peer self.new) (self.new ≡ self.old) result }
     {
         of_decision(self.side.cut(session))
     }
 
-    /// Completes a dialed session on the `INFO` of the server that was dialed: [`Side::info`]. The
+    /// Completes a dialed session on the `INFO` of the server that was dialed: [`HubWithSessions::info`]. The
     /// peer is up, and a snapshot of all interest is what waits for it. Gives the session that this one
     /// took the place of, and the `CONNECT` to send.
     pub fn info(
@@ -322,7 +322,7 @@ impl<T: SubTable, R: Race> Node<T, R> {
     }
 
     /// Completes an accepted session on the `CONNECT` of the server that dialed:
-    /// [`Side::connect`]. The peer is up, and a snapshot of all interest is what waits for it.
+    /// [`HubWithSessions::connect`]. The peer is up, and a snapshot of all interest is what waits for it.
     /// Gives the session that this one took the place of.
     pub fn connect(
         &mut self,
@@ -334,7 +334,7 @@ impl<T: SubTable, R: Race> Node<T, R> {
         of_sessions(self.side.connect(session, connect))
     }
 
-    /// Gives and removes the first frames that wait for the peer at the place: [`Side::take_frames`].
+    /// Gives and removes the first frames that wait for the peer at the place: [`HubWithSessions::take_frames`].
     pub fn take_frames(
         &mut self,
         peer: usize,
@@ -404,12 +404,12 @@ impl<T: SubTable, R: Race> Node<T, R> {
     }
 
     /// Why it refuses a publish.
-    fn publish_fault(&self, conn: ConnId, said: &Pub, word: u64) -> Option<NodeFault>
-        ensures { result ≡ refusal self.now (Own (Publish (publication conn said.now word))) }
+    fn publish_fault(&self, conn: ConnId, publication: &Pub, word: u64) -> Option<NodeFault>
+        ensures { result ≡ refusal self.now (Own (Publish (publication_by conn publication.now word))) }
     {
         let count = self.lines.len();
         let finished = finished_by(&self.race, count as u64);
-        of_hub_fault(self.side.hub().publish_fault(said, &finished))
+        of_hub_fault(self.side.hub().publish_fault(publication, &finished))
     }
 
     /// Why it refuses a frame of a peer.
@@ -449,7 +449,11 @@ impl<T: SubTable, R: Race> Node<T, R> {
         match event {
             OwnEvent::OfConn { conn, event } => self.conn_fault(*conn, event),
             OwnEvent::AtShard { shard, work } => self.work_fault(*shard, *work),
-            OwnEvent::Publish { conn, said, word } => self.publish_fault(*conn, said, *word),
+            OwnEvent::Publish {
+                conn,
+                publication,
+                word,
+            } => self.publish_fault(*conn, publication, *word),
             OwnEvent::Collect { shard } => self.collect_fault(*shard),
             OwnEvent::Dial { peer } => {
                 Some(NodeFault::Session(self.side.sessions().dial_fault(*peer)?))
@@ -474,7 +478,7 @@ impl<T: SubTable, R: Race> Node<T, R> {
 
 /// Whether memory was wanting.
 fn is_out_of_memory(answer: &Result<Did, Refused>) -> bool
-    ensures { result ≡ is_short answer.now }
+    ensures { result ≡ lacks_memory answer.now }
 {
     matches!(answer, Err(Refused::OutOfMemory))
 }
@@ -537,16 +541,16 @@ impl<T: SubTable, R: Race> Node<T, R> {
     pub fn publish(
         &mut self,
         conn: ConnId,
-        said: &Pub,
+        publication: &Pub,
         word: u64,
     ) -> Result<Issued, Failure<NodeFault>>
-        ensures { let p = publication conn said.now word in IsAnswered (refusal self.old (Own (Publish p))) (λ done. PublishStep self.old p done.turn done.frames self.new) (self.new ≡ self.old) result }
+        ensures { let p = publication_by conn publication.now word in IsAnswered (refusal self.old (Own (Publish p))) (λ done. PublishStep self.old p done.turn done.frames self.new) (self.new ≡ self.old) result }
     {
         let count = self.lines.len();
         let finished = finished_by(&self.race, count as u64);
         let PublishPlan { job, frames } = match self
             .side
-            .plan_publish(conn, said, word, &finished)
+            .plan_publish(conn, publication, word, &finished)
         {
             Ok(plan) => plan,
             Err(fault) => return of_hub(Err(fault)),
@@ -587,7 +591,7 @@ impl<T: SubTable, R: Race> Node<T, R> {
     /// that is up: [`Hub::collect`](hub_core::Hub::collect). A peer without room for all of it is cut, and
     /// the session that was kept with it ends. Refused with [`NodeFault::NoShard`] where there is no such
     /// shard, and as the hub's call is.
-    pub fn collect(&mut self, shard: u64) -> Result<Told, Failure<NodeFault>>
+    pub fn collect(&mut self, shard: u64) -> Result<CollectResult, Failure<NodeFault>>
         ensures { IsAnswered (refusal self.old (Own (Collect shard))) (λ told. CollectStep self.old shard told.changes told.frames told.cut.items self.new) (self.new ≡ self.old) result }
     {
         let Some(place) = place_of_shard(self.lines.len(), shard) else {
@@ -602,7 +606,7 @@ impl<T: SubTable, R: Race> Node<T, R> {
         line.take_deltas();
         let changes = told.changes.len();
         let frames = changes * self.side.hub().up_count();
-        Ok(Told {
+        Ok(CollectResult {
             changes,
             frames,
             cut: told.cut,

@@ -81,7 +81,7 @@ fn publication(alloc: Global, words: &Words<'_>, echo: bool) -> Option<NodeEvent
     let message = message_of(alloc, words.at(1), "", words.at(2))?;
     Some(NodeEvent::Own(OwnEvent::Publish {
         conn: ConnId::new(count(words.at(0))),
-        said: Pub { message, echo },
+        publication: Pub { message, echo },
         word: count(words.at(3)),
     }))
 }

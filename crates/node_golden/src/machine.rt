@@ -9,7 +9,7 @@ use node_law::{NodeEvent, NodeFault};
 use outbox::Entry;
 use std::alloc::{AllocError, Global};
 use sub_trie::TrieTable;
-use subj::{ConnId, Failure, Incarnation, NodeId, Server};
+use subj::{ConnId, Failure, Incarnation, NodeId, ServerIdentity};
 
 /// The names of the servers, each at its place.
 fn names() -> Option<[NodeId; 3]> {
@@ -20,10 +20,10 @@ fn names() -> Option<[NodeId; 3]> {
 }
 
 /// The server at this place, with so many shards, in its incarnation 5.
-fn server_at(alloc: Global, place: usize, shards: u64) -> Option<Server> {
+fn server_at(alloc: Global, place: usize, shards: u64) -> Option<ServerIdentity> {
     let inc = Incarnation::new(5)?;
     let names = Vec::from_array(alloc, names()?).ok()?;
-    Server::new(names, place, inc, shards)
+    ServerIdentity::new(names, place, inc, shards)
 }
 
 /// The bytes of the entries.

@@ -2,7 +2,7 @@
 -- caller is told. What is put into outboxes, and what closes, is told apart.
 use Rattle.std.specs.Prelude.{ℕ, Bool, List, length, Option, Some, None}
 use Rattle.outbox.specs.Views.{Written}
-use Rattle.subj.specs.Servers.{Server}
+use Rattle.subj.specs.Servers.{ServerIdentity}
 use Rattle.subj.specs.declared.identities.SubId.{SubId}
 use Rattle.route_values.specs.Frames.{Frame}
 use Rattle.shard_core.specs.ShardEvents as of_shard
@@ -11,7 +11,7 @@ use Rattle.hub_core.specs.Events as of_hub
 use Rattle.hub_core.specs.Steps.{hub_answer}
 use Rattle.route_session.specs.Events as of_sessions
 use Rattle.route_session.specs.Steps.{session_answer}
-use Rattle.node_law.specs.State.{Line, Node, finished_turns}
+use Rattle.node_law.specs.State.{ShardWithJobs, Node, finished_turns}
 use Rattle.node_law.specs.Events.{OwnEvent, OfConn, AtShard, Publish, Collect, Dial, Accept, CutSession, TakeFrames, NodeEvent, Own, Receive, OnInfo, OnConnect}
 use Rattle.node_law.specs.Steps.{conn_line, shard_line, conn_event, work_event, deltas_at, seen_name}
 
@@ -79,15 +79,15 @@ told_of_sessions (of_sessions.WasCut peer) = Nothing
 
 -- ---- which part answers
 
-abbrev pub told_of_line : Line → Option of_shard.Event → Answer
+abbrev pub told_of_line : ShardWithJobs → Option of_shard.Event → Answer
 told_of_line line None = Nothing
 told_of_line line (Some event) = told_of_shard (shard_answer line.shard event)
 
-abbrev pub told_at : Option Line → (Line → Option of_shard.Event) → Answer
+abbrev pub told_at : Option ShardWithJobs → (ShardWithJobs → Option of_shard.Event) → Answer
 told_at None event = Nothing
 told_at (Some line) event = told_of_line line (event line)
 
-abbrev pub own_answer : Server → Node → OwnEvent → Bool → Answer
+abbrev pub own_answer : ServerIdentity → Node → OwnEvent → Bool → Answer
 own_answer server a (OfConn conn event) won = told_at (conn_line server a conn) (λ line. Some (conn_event conn event))
 own_answer server a (AtShard shard work) won = told_at (shard_line a shard) (work_event work won)
 own_answer server a (Publish p) won = told_of_hub (hub_answer server a.hub (of_hub.Publish p (finished_turns a.lines)))
@@ -98,7 +98,7 @@ own_answer server a (CutSession session) won = told_of_sessions (session_answer 
 own_answer server a (TakeFrames q count) won = told_of_hub (hub_answer server a.hub (of_hub.TakeFrom q count))
 
 -- with whether a claim was won; it is looked at only there
-abbrev pub node_answer : Server → Node → NodeEvent → Bool → Answer
+abbrev pub node_answer : ServerIdentity → Node → NodeEvent → Bool → Answer
 node_answer server a (Own event) won = own_answer server a event won
 node_answer server a (Receive frame) won = told_of_hub (hub_answer server a.hub (of_hub.Receive frame (finished_turns a.lines)))
 node_answer server a (OnInfo session info) won = told_of_sessions (session_answer server a.sessions (of_sessions.OnInfo session info (seen_name server a info.server_name)))

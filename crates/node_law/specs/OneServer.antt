@@ -2,7 +2,7 @@
 use Rattle.std.specs.Prelude.{◌≡◌, ◌≢◌, ℕ, ◌<◌, ◌-◌, Bool, ◌&&◌, nat_eq, List, [], ◌∷◌, ◌++◌, length, filter, Option, Some, None, is_some, if◌then◌else◌}
 use Rattle.std.specs.List.{list_any}
 use Rattle.list_laws.specs.Lists.{In, Each, Pairs}
-use Rattle.subj.specs.Servers.{Server, IsListed}
+use Rattle.subj.specs.Servers.{ServerIdentity, IsListed}
 use Rattle.subj.specs.declared.jobs.Job.{Job}
 use Rattle.sub_table.specs.declared.Subscription.{Subscription}
 use Rattle.outbox.specs.Views.{Written}
@@ -15,7 +15,7 @@ use Rattle.node_law.specs.Events.{ShardWork, Attach, Begin, Claim, End, DropJob,
 use Rattle.node_law.specs.Race.{race_of}
 use Rattle.node_law.specs.Runs.{Done, Ran}
 use Rattle.node_law.specs.Sound.{SoundNode}
-use Rattle.node_law.specs.State.{Line, Node}
+use Rattle.node_law.specs.State.{ShardWithJobs, Node}
 use Rattle.node_law.specs.Steps.{shard_line, NodeStep}
 
 -- ---- claims
@@ -34,7 +34,7 @@ abbrev pub claimed_with : ℕ → ℕ → Bool → Option Job → Option Subscri
 claimed_with shard index won None sub = []
 claimed_with shard index won (Some job) sub = record { shard = shard; job = job; index = index; candidate = sub; won = won } ∷ []
 
-abbrev pub claimed_at : ℕ → ℕ → Bool → Option Line → List Claimed
+abbrev pub claimed_at : ℕ → ℕ → Bool → Option ShardWithJobs → List Claimed
 claimed_at shard index won None = []
 claimed_at shard index won (Some line) = claimed_with shard index won line.shard.hand (candidate_of line.shard line.shard.hand index)
 
@@ -86,11 +86,11 @@ HasOneWinner claims = (turn index : ℕ) → length (filter (is_win turn index) 
 
 -- in each run each queue name of each turn has one winner
 abbrev pub OneWinner : Type 0
-OneWinner = (server : Server) (h : List Done) (a : Node) → IsListed server → Ran server h a → HasOneWinner (claims_of h)
+OneWinner = (server : ServerIdentity) (h : List Done) (a : Node) → IsListed server → Ran server h a → HasOneWinner (claims_of h)
 
 -- in each run nothing is won in a turn that was not issued
 abbrev pub TurnsAreFresh : Type 0
-TurnsAreFresh = (server : Server) (h : List Done) (a : Node) → IsListed server → Ran server h a → (turn index : ℕ) → a.race.issued < turn → In (turn, index) (race_of a.race).won → ⊥
+TurnsAreFresh = (server : ServerIdentity) (h : List Done) (a : Node) → IsListed server → Ran server h a → (turn index : ℕ) → a.race.issued < turn → In (turn, index) (race_of a.race).won → ⊥
 
 -- ---- what a Claim puts
 
@@ -106,7 +106,7 @@ placed_by x place conn = if nat_eq (x.shard - 1) place then entries_for conn (pl
 -- each Claim puts just that, behind what waits, and nothing else goes into any outbox of any shard
 abbrev pub ClaimsPlace : Type 0
 ClaimsPlace =
-    (server : Server) (a : Node) (e : NodeEvent) (won : Bool) (race : RaceState) (b : Node)
+    (server : ServerIdentity) (a : Node) (e : NodeEvent) (won : Bool) (race : RaceState) (b : Node)
     → SoundNode server a → NodeStep server a e won race b
     → Each (λ x. (place conn : ℕ) → waits_at b place conn ≡ waits_at a place conn ++ placed_by x place conn) (claims_by a e won)
 
@@ -121,7 +121,7 @@ abbrev pub ended_with : ℕ → Option Job → List Ended
 ended_with shard None = []
 ended_with shard (Some job) = record { shard = shard; job = job } ∷ []
 
-abbrev pub ended_at : ℕ → Option Line → List Ended
+abbrev pub ended_at : ℕ → Option ShardWithJobs → List Ended
 ended_at shard None = []
 ended_at shard (Some line) = ended_with shard line.shard.hand
 
@@ -154,18 +154,18 @@ ends_of [] = []
 ends_of (d ∷ earlier) = ends_by d.before d.event ++ ends_of earlier
 
 -- the jobs of the turns that a run issued, the newest first
-abbrev pub jobs_of : Server → List Done → List Job
+abbrev pub jobs_of : ServerIdentity → List Done → List Job
 jobs_of server [] = []
 jobs_of server (d ∷ earlier) = jobs_by server d.before d.event ++ jobs_of server earlier
 
 -- Each turn has one job, in all shards, and Claims and Ends are of these: so an index of a turn is one queue name.
-pub record HasOneJob (server : Server) (h : List Done) : Type 0 where
+pub record HasOneJob (server : ServerIdentity) (h : List Done) : Type 0 where
   pub turns : Pairs (λ j k. j.turn ≢ k.turn) (jobs_of server h)
   pub claims : Each (λ x. In x.job (jobs_of server h)) (claims_of h)
   pub ends : Each (λ x. In x.job (jobs_of server h)) (ends_of h)
 
 abbrev pub OneJob : Type 0
-OneJob = (server : Server) (h : List Done) (a : Node) → IsListed server → Ran server h a → HasOneJob server h
+OneJob = (server : ServerIdentity) (h : List Done) (a : Node) → IsListed server → Ran server h a → HasOneJob server h
 
 abbrev pub is_of_shard : ℕ → ℕ → ℕ → Claimed → Bool
 is_of_shard shard turn index x = nat_eq x.shard shard && is_of_pair turn index x
@@ -175,4 +175,4 @@ abbrev pub EndedAll : List Claimed → List Ended → Type 0
 EndedAll claims ends = Each (λ x. (index : ℕ) → index < length x.job.queues → length (filter (is_of_shard x.shard x.job.turn index) claims) ≡ 1) ends
 
 abbrev pub EndedTurns : Type 0
-EndedTurns = (server : Server) (h : List Done) (a : Node) → IsListed server → Ran server h a → EndedAll (claims_of h) (ends_of h)
+EndedTurns = (server : ServerIdentity) (h : List Done) (a : Node) → IsListed server → Ran server h a → EndedAll (claims_of h) (ends_of h)

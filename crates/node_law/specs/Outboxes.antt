@@ -3,7 +3,7 @@ use Rattle.std.specs.Prelude.{◌≡◌, ℕ, Bool, false, nat_eq, List, [], ◌
 use Rattle.client_frames.specs.ErrTexts.{err_line}
 use Rattle.client_frames.specs.Frames.{reply_line}
 use Rattle.outbox.specs.Views.{Written}
-use Rattle.subj.specs.Servers.{Server}
+use Rattle.subj.specs.Servers.{ServerIdentity}
 use Rattle.shard_core.specs.declared.calls.Placed.{Placed}
 use Rattle.shard_core.specs.Owed.{whole_walk, slow_consumer, candidate_of, placed_for}
 use Rattle.shard_core.specs.Puts.{put_line, put_by_claim, entries_for}
@@ -12,7 +12,7 @@ use Rattle.shard_core.specs.ShardSteps.{answer_fits}
 use Rattle.shard_core.specs.Shards.{State, Client, client_at, waits_for}
 use Rattle.node_law.specs.AsLaw.{Part, part_of, waits_at}
 use Rattle.node_law.specs.Runs.{Done, Ran}
-use Rattle.node_law.specs.State.{Line, Node}
+use Rattle.node_law.specs.State.{ShardWithJobs, Node}
 
 -- ---- of what an event of a shard puts
 
@@ -61,7 +61,7 @@ abbrev pub after_part : Option Part → ℕ → ℕ → History → History
 after_part None place conn x = x
 after_part (Some part) place conn x = if nat_eq part.place place then after_event part.line.shard part.event conn x else x
 
-abbrev pub history_of : Server → List Done → ℕ → ℕ → History
+abbrev pub history_of : ServerIdentity → List Done → ℕ → ℕ → History
 history_of server [] place conn = no_history
 history_of server (d ∷ earlier) place conn = after_part (part_of server d.before d.event d.won) place conn (history_of server earlier place conn)
 
@@ -75,7 +75,7 @@ is_shut_client (Some client) = client.outbox.shut
 abbrev pub is_shut : ℕ → List Client → Bool
 is_shut conn clients = is_shut_client (client_at conn clients)
 
-abbrev pub shut_in : ℕ → Option Line → Bool
+abbrev pub shut_in : ℕ → Option ShardWithJobs → Bool
 shut_in conn None = false
 shut_in conn (Some line) = is_shut conn line.shard.clients
 
@@ -90,4 +90,4 @@ pub record IsKnown (x : History) (waits : List Written) (shut : Bool) : Type 0 w
 
 -- of every run, and each connection
 abbrev pub OutboxesAreKnown : Type 0
-OutboxesAreKnown = (server : Server) (h : List Done) (a : Node) → Ran server h a → (place conn : ℕ) → IsKnown (history_of server h place conn) (waits_at a place conn) (is_shut_at a place conn)
+OutboxesAreKnown = (server : ServerIdentity) (h : List Done) (a : Node) → Ran server h a → (place conn : ℕ) → IsKnown (history_of server h place conn) (waits_at a place conn) (is_shut_at a place conn)

@@ -1,7 +1,7 @@
 -- Peers and sessions: a peer is up at an incarnation just where a kept session has it, and that is the greatest seen of it.
 use Rattle.std.specs.Prelude.{◌≡◌, ◌⊎◌, ◌↔◌, ℕ, ◌≤◌, true, List, [], ◌∷◌, ◌++◌, slice_get, Some}
 use Rattle.list_laws.specs.Lists.{In, Each, Pairs}
-use Rattle.subj.specs.Servers.{Server, IsListed, place}
+use Rattle.subj.specs.Servers.{ServerIdentity, IsListed, place}
 use Rattle.hub_core.specs.State.{Peer}
 use Rattle.route_session.specs.Best.{Offer}
 use Rattle.route_session.specs.State.{Session, is_of_peer}
@@ -31,14 +31,14 @@ KeptOnce standing = Pairs (λ x y. (q : ℕ) → is_of_peer q x.kept ≡ true �
 
 -- ---- the incarnations seen: of a frame, an INFO or a CONNECT that was not refused, with the place of its sender
 
-abbrev pub seen_in : Server → NodeEvent → List (ℕ × ℕ)
+abbrev pub seen_in : ServerIdentity → NodeEvent → List (ℕ × ℕ)
 seen_in server (Own event) = []
 seen_in server (Receive frame) = (place server frame.from, frame.inc) ∷ []
 seen_in server (OnInfo session info) = (place server info.server_name, info.inc) ∷ []
 seen_in server (OnConnect session connect) = (place server connect.server_name, connect.inc) ∷ []
 
 -- those of a run, the newest first
-abbrev pub seen_of_run : Server → List Done → List (ℕ × ℕ)
+abbrev pub seen_of_run : ServerIdentity → List Done → List (ℕ × ℕ)
 seen_of_run server [] = []
 seen_of_run server (d ∷ earlier) = seen_in server d.event ++ seen_of_run server earlier
 
@@ -54,4 +54,4 @@ pub record PeersAreKept (a : Node) (seen : List (ℕ × ℕ)) : Type 0 where
 
 -- of every run of a server from its start
 abbrev pub KeepsPeers : Type 0
-KeepsPeers = (server : Server) (h : List Done) (a : Node) → IsListed server → Ran server h a → PeersAreKept a (seen_of_run server h)
+KeepsPeers = (server : ServerIdentity) (h : List Done) (a : Node) → IsListed server → Ran server h a → PeersAreKept a (seen_of_run server h)

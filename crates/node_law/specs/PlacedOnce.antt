@@ -7,7 +7,7 @@ use Rattle.outbox.specs.declared.entries.Mode.TheVariants.{Plain, Queue}
 use Rattle.outbox.specs.declared.entries.Tag.{Tag}
 use Rattle.outbox.specs.declared.entries.Tag.TheVariants as tag
 use Rattle.subj.specs.QueueNames.{is_named}
-use Rattle.subj.specs.Servers.{Server, IsListed}
+use Rattle.subj.specs.Servers.{ServerIdentity, IsListed}
 use Rattle.subj.specs.declared.jobs.Job.{Job}
 use Rattle.shard_core.specs.declared.calls.Placed.{Placed}
 use Rattle.shard_core.specs.AsLaw.{job_by}
@@ -29,7 +29,7 @@ all_placed turn index h = flat_map (placed_of turn index) (claims_of h)
 
 -- it is one message where any Claim had a candidate, and else none (NATS documentation, "Queue Groups": one member is chosen)
 abbrev pub PlacesOnce : Type 0
-PlacesOnce = (server : Server) (h : List Done) (a : Node) → IsListed server → Ran server h a → (turn index : ℕ) → length (all_placed turn index h) ≡ (if list_any (is_tried turn index) (claims_of h) then 1 else 0)
+PlacesOnce = (server : ServerIdentity) (h : List Done) (a : Node) → IsListed server → Ran server h a → (turn index : ℕ) → length (all_placed turn index h) ≡ (if list_any (is_tried turn index) (claims_of h) then 1 else 0)
 
 -- ---- by outboxes: whatever the event
 
@@ -55,7 +55,7 @@ put_for turn name None = []
 put_for turn name (Some part) = if is_of_turn turn (job_by part.line.shard part.event) then filter (is_for name) (put_by part.line.shard part.event) else []
 
 -- what the events of a run put so, over all shards, the newest first
-abbrev pub entries_put : Server → ℕ → List ℕ → List Done → List Placed
+abbrev pub entries_put : ServerIdentity → ℕ → List ℕ → List Done → List Placed
 entries_put server turn name h = flat_map (λ (d : Done). put_for turn name (part_of server d.before d.event d.won)) h
 
 -- the name stands at no other place among the queue names of the job
@@ -65,6 +65,6 @@ StandsAt name index job = (other : ℕ) → slice_get job.queues other ≡ Some 
 -- At most one message for a queue name of a turn, where that stands at most once among the queue names of its job.
 abbrev pub PutsOnce : Type 0
 PutsOnce =
-    (server : Server) (h : List Done) (a : Node) → IsListed server → Ran server h a
+    (server : ServerIdentity) (h : List Done) (a : Node) → IsListed server → Ran server h a
     → (turn index : ℕ) (name : List ℕ) → Each (λ job. job.turn ≡ turn → StandsAt name index job) (jobs_of server h)
     → length (entries_put server turn name h) ≤ 1

@@ -1,7 +1,7 @@
 -- What a server promises of all that it did.
 use Rattle.std.specs.Prelude.{◌≡◌, ℕ, List, length, if◌then◌else◌}
 use Rattle.std.specs.List.{list_any}
-use Rattle.subj.specs.Servers.{Server, IsListed}
+use Rattle.subj.specs.Servers.{ServerIdentity, IsListed}
 use Rattle.node_law.specs.AsLaw.{waits_at}
 use Rattle.node_law.specs.CountsOpen.{CountsAreOpen}
 use Rattle.node_law.specs.OneServer.{HasOneWinner, HasOneJob, EndedAll, claims_of, ends_of, is_tried}
@@ -12,7 +12,7 @@ use Rattle.node_law.specs.Runs.{Done, Ran}
 use Rattle.node_law.specs.State.{Node}
 
 -- One server end to end, of all that it did since its start.
-pub record KeepsPromises (server : Server) (h : List Done) (a : Node) : Type 0 where
+pub record KeepsPromises (server : ServerIdentity) (h : List Done) (a : Node) : Type 0 where
   -- of the Claims of one queue name of a job, over all shards, exactly one won where any had a candidate, and none otherwise;
   pub winners : HasOneWinner (claims_of h)
   -- just that one was placed: one message where any had a candidate with room, and else none
@@ -29,4 +29,4 @@ pub record KeepsPromises (server : Server) (h : List Done) (a : Node) : Type 0 w
   pub peers : PeersAreKept a (seen_of_run server h)
 
 abbrev pub OneServerKeeps : Type 0
-OneServerKeeps = (server : Server) (h : List Done) (a : Node) → IsListed server → Ran server h a → KeepsPromises server h a
+OneServerKeeps = (server : ServerIdentity) (h : List Done) (a : Node) → IsListed server → Ran server h a → KeepsPromises server h a

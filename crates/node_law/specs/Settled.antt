@@ -6,10 +6,10 @@ use Rattle.subj.specs.Messages.{Content}
 use Rattle.route_session.specs.State.{has_session}
 use Rattle.hub_core.specs.Settled.{knows_at, can_number}
 use Rattle.shard_core.specs.Room.{has_room_for}
-use Rattle.node_law.specs.State.{Line, Node}
+use Rattle.node_law.specs.State.{ShardWithJobs, Node}
 
 -- no job waits or is in hand, and the hub was told of all
-abbrev pub is_line_settled : Line → Bool
+abbrev pub is_line_settled : ShardWithJobs → Bool
 is_line_settled line = is_empty line.waiting && (is_none line.shard.hand && is_empty line.shard.deltas)
 
 -- and one more publication and one more turn can be numbered
@@ -22,5 +22,5 @@ abbrev pub is_peer_settled : Node → Node → ℕ → ℕ → Bool
 is_peer_settled node other inc q = has_session q inc node.sessions.standing && knows_at (slice_get node.hub.peers q) inc other.hub.counts
 
 -- each connection of the shard has room for the messages of all its open matching subscriptions together
-abbrev pub has_room_in : Content → Line → Bool
+abbrev pub has_room_in : Content → ShardWithJobs → Bool
 has_room_in message line = has_room_for message line.shard

@@ -1,7 +1,7 @@
 -- A server's step: the hub's part, the sessions' part, a shard's part and the race, put together.
 use Rattle.std.specs.Prelude.{◌≡◌, ℕ, ◌+◌, ◌-◌, ◌%◌, Bool, false, nat_eq, nat_lt, List, [], ◌∷◌, ◌++◌, map, set, slice_get, Option, Some, None, if◌then◌else◌}
 use Rattle.std.specs.Option.{option_map}
-use Rattle.subj.specs.Servers.{Server, place}
+use Rattle.subj.specs.Servers.{ServerIdentity, place}
 use Rattle.subj.specs.declared.jobs.Job.{Job}
 use Rattle.sub_table.specs.declared.Subscription.{Subscription}
 use Rattle.subj.specs.declared.keys.Delta.{Delta}
@@ -27,19 +27,19 @@ use Rattle.route_session.specs.State.{session_at, peer_of_session}
 use Rattle.route_session.specs.Steps.{dial_refusal, room_refusal, info_refusal, connect_refusal, cut_refusal, after_dial, after_accept, without_peer, after_completion, after_info, connect_offer, after_cut, without_peers, own_info, own_connect, serial_of}
 use Rattle.node_law.specs.declared.faults.NodeFault.{NodeFault}
 use Rattle.node_law.specs.declared.faults.NodeFault.TheVariants.{NoShard, Shard, Hub, Session}
-use Rattle.node_law.specs.State.{Line, Node, finished_turns}
+use Rattle.node_law.specs.State.{ShardWithJobs, Node, finished_turns}
 use Rattle.node_law.specs.Events.{ConnEvent, Subscribe, Unsubscribe, Reply, Shut, Detach, Take, ShardWork, Attach, Begin, Claim, End, DropJob, OwnEvent, OfConn, AtShard, Publish, Collect, Dial, Accept, CutSession, TakeFrames, NodeEvent, Own, Receive, OnInfo, OnConnect}
 
 -- ---- which line an event is for, and what it is there
 
 -- a connection's number tells its shard: that of shard s are s, s + K, s + 2K, .. (profile)
-abbrev pub conn_place : Server → ℕ → ℕ
+abbrev pub conn_place : ServerIdentity → ℕ → ℕ
 conn_place server conn = (conn - 1) % server.shards
 
-abbrev pub conn_line : Server → Node → ℕ → Option Line
+abbrev pub conn_line : ServerIdentity → Node → ℕ → Option ShardWithJobs
 conn_line server a conn = if nat_eq conn 0 then None else slice_get a.lines (conn_place server conn)
 
-abbrev pub shard_line : Node → ℕ → Option Line
+abbrev pub shard_line : Node → ℕ → Option ShardWithJobs
 shard_line a shard = if nat_eq shard 0 then None else slice_get a.lines (shard - 1)
 
 abbrev pub conn_event : ℕ → ConnEvent → of_shard.Event
@@ -61,7 +61,7 @@ drop_of None None = None
 drop_of None (Some job) = Some (of_shard.DropJob (Some job))
 drop_of (Some hand) job = Some (of_shard.DropJob None)
 
-abbrev pub work_event : ShardWork → Bool → Line → Option of_shard.Event
+abbrev pub work_event : ShardWork → Bool → ShardWithJobs → Option of_shard.Event
 work_event Attach won line = Some of_shard.Attach
 work_event Begin won line = begin_of (first_of line.waiting)
 work_event (Claim index) won line = Some (of_shard.Claim index won)
@@ -71,7 +71,7 @@ work_event DropJob won line = drop_of line.shard.hand (first_of line.waiting)
 -- ---- why an event is refused, the first cause first (profile)
 
 -- a connection of no shard is unknown
-abbrev pub conn_refusal : ConnEvent → ℕ → Option Line → Option NodeFault
+abbrev pub conn_refusal : ConnEvent → ℕ → Option ShardWithJobs → Option NodeFault
 conn_refusal event conn None = Some (Shard NoConn)
 conn_refusal event conn (Some line) = option_map Shard (shard_refusal line.shard (conn_event conn event))
 
@@ -80,19 +80,19 @@ abbrev pub no_job : Option Job → NodeFault
 no_job None = Shard NoJob
 no_job (Some job) = Shard JobInHand
 
-abbrev pub event_refusal : Line → Option of_shard.Event → Option NodeFault
+abbrev pub event_refusal : ShardWithJobs → Option of_shard.Event → Option NodeFault
 event_refusal line None = Some (no_job line.shard.hand)
 event_refusal line (Some event) = option_map Shard (shard_refusal line.shard event)
 
-abbrev pub work_refusal : ShardWork → Option Line → Option NodeFault
+abbrev pub work_refusal : ShardWork → Option ShardWithJobs → Option NodeFault
 work_refusal work None = Some NoShard
 work_refusal work (Some line) = event_refusal line (work_event work false line)
 
-abbrev pub collect_refusal_at : hub.State → Option Line → Option NodeFault
+abbrev pub collect_refusal_at : hub.State → Option ShardWithJobs → Option NodeFault
 collect_refusal_at hub None = Some NoShard
 collect_refusal_at hub (Some line) = option_map Hub (collect_refusal hub line.shard.deltas)
 
-abbrev pub own_refusal : Server → Node → OwnEvent → Option NodeFault
+abbrev pub own_refusal : ServerIdentity → Node → OwnEvent → Option NodeFault
 own_refusal server a (OfConn conn event) = conn_refusal event conn (conn_line server a conn)
 own_refusal server a (AtShard shard work) = work_refusal work (shard_line a shard)
 own_refusal server a (Publish p) = option_map Hub (publish_refusal server a.hub p (finished_turns a.lines))
@@ -103,10 +103,10 @@ own_refusal server a (CutSession session) = option_map Session (cut_refusal (ses
 own_refusal server a (TakeFrames q count) = option_map Hub (take_refusal server q)
 
 -- the greatest incarnation seen of a server, by its name
-abbrev pub seen_name : Server → Node → List ℕ → ℕ
+abbrev pub seen_name : ServerIdentity → Node → List ℕ → ℕ
 seen_name server a name = seen_of (peer_of server a.hub name)
 
-abbrev pub node_refusal : Server → Node → NodeEvent → Option NodeFault
+abbrev pub node_refusal : ServerIdentity → Node → NodeEvent → Option NodeFault
 node_refusal server a (Own event) = own_refusal server a event
 node_refusal server a (Receive frame) = option_map Hub (receive_refusal server a.hub (finished_turns a.lines) frame)
 node_refusal server a (OnInfo session info) = option_map Session (info_refusal server a.sessions (session_at session a.sessions.standing) info (seen_name server a info.server_name))
@@ -120,7 +120,7 @@ ClaimRace race shard index None sub won after = after ≡ race
 ClaimRace race shard index (Some job) None won after = after ≡ race
 ClaimRace race shard index (Some job) (Some sub) won after = IsClaimed race shard job.turn index won after
 
-abbrev pub WorkRace : RaceState → ℕ → ShardWork → Option Line → Bool → RaceState → Type 0
+abbrev pub WorkRace : RaceState → ℕ → ShardWork → Option ShardWithJobs → Bool → RaceState → Type 0
 WorkRace race shard work None won after = after ≡ race
 WorkRace race shard Attach (Some line) won after = after ≡ race
 WorkRace race shard Begin (Some line) won after = after ≡ race
@@ -152,30 +152,30 @@ NodeRace a (OnConnect session connect) won after = after ≡ a.race
 
 -- ---- the server after an event that is not refused
 
-abbrev pub line_after : of_shard.Event → Line → Line
+abbrev pub line_after : of_shard.Event → ShardWithJobs → ShardWithJobs
 line_after event line = record { shard = shard_after line.shard event; waiting = waiting_after line.shard.hand event line.waiting }
 
-abbrev pub line_after_if : Option of_shard.Event → Line → Line
+abbrev pub line_after_if : Option of_shard.Event → ShardWithJobs → ShardWithJobs
 line_after_if None line = line
 line_after_if (Some event) line = line_after event line
 
-abbrev pub set_line : List Line → ℕ → (Line → Line) → Option Line → List Line
+abbrev pub set_line : List ShardWithJobs → ℕ → (ShardWithJobs → ShardWithJobs) → Option ShardWithJobs → List ShardWithJobs
 set_line lines place change None = lines
 set_line lines place change (Some line) = set lines place (change line)
 
-abbrev pub on_line : Node → ℕ → (Line → Line) → Option Line → Node
+abbrev pub on_line : Node → ℕ → (ShardWithJobs → ShardWithJobs) → Option ShardWithJobs → Node
 on_line a place change line = record a { lines = set_line a.lines place change line }
 
 -- each shard gets the job
-abbrev pub line_with_job : Job → Line → Line
+abbrev pub line_with_job : Job → ShardWithJobs → ShardWithJobs
 line_with_job job line = record line { waiting = line.waiting ++ job ∷ [] }
 
-abbrev pub deltas_at : Option Line → List Delta
+abbrev pub deltas_at : Option ShardWithJobs → List Delta
 deltas_at None = []
 deltas_at (Some line) = line.shard.deltas
 
 -- a peer without room for the frames of a collect is cut, and so is its kept session
-abbrev pub collected_at : Server → Node → ℕ → List Delta → Node
+abbrev pub collected_at : ServerIdentity → Node → ℕ → List Delta → Node
 collected_at server a shard deltas = record (on_line a (shard - 1) (line_after of_shard.Collect) (shard_line a shard)) {
   hub = after_collect server a.hub deltas;
   sessions = without_peers (slow_peers a.hub deltas) a.sessions;
@@ -186,7 +186,7 @@ abbrev pub cut_if : hub.State → Option ℕ → hub.State
 cut_if hub None = hub
 cut_if hub (Some q) = cut hub q
 
-abbrev pub own_after : Server → Node → OwnEvent → Bool → RaceState → Node
+abbrev pub own_after : ServerIdentity → Node → OwnEvent → Bool → RaceState → Node
 own_after server a (OfConn conn event) won race = on_line a (conn_place server conn) (line_after (conn_event conn event)) (conn_line server a conn)
 own_after server a (AtShard shard work) won race = record (on_line a (shard - 1) (λ line. line_after_if (work_event work won line) line) (shard_line a shard)) { race = race }
 own_after server a (Publish p) won race = record a { hub = after_publish server a.hub p; race = race; lines = map (line_with_job (own_job server a.hub p)) a.lines }
@@ -197,17 +197,17 @@ own_after server a (CutSession session) won race = record a { hub = cut_if a.hub
 own_after server a (TakeFrames q count) won race = record a { hub = after_take a.hub q count }
 
 -- a frame of a greater incarnation of its server ends the session that was kept with it
-abbrev pub sessions_after_frame : Server → Node → Frame → sessions.State
+abbrev pub sessions_after_frame : ServerIdentity → Node → Frame → sessions.State
 sessions_after_frame server a frame = if nat_lt (seen_name server a frame.from) frame.inc then without_peer (place server frame.from) a.sessions else a.sessions
 
 -- a message gives each shard its job, and goes to nobody else (NATS documentation, "Cluster Protocol")
-abbrev pub lines_after_body : Node → Frame → Body → List Line
+abbrev pub lines_after_body : Node → Frame → Body → List ShardWithJobs
 lines_after_body a frame (Plus weighted) = a.lines
 lines_after_body a frame (Minus key) = a.lines
 lines_after_body a frame (Snapshot keys) = a.lines
 lines_after_body a frame (Msg content queues) = map (line_with_job (routed_job a.hub frame content queues)) a.lines
 
-abbrev pub node_after : Server → Node → NodeEvent → Bool → RaceState → Node
+abbrev pub node_after : ServerIdentity → Node → NodeEvent → Bool → RaceState → Node
 node_after server a (Own event) won race = own_after server a event won race
 node_after server a (Receive frame) won race = record { hub = after_receive server a.hub frame; sessions = sessions_after_frame server a frame; race = race; lines = lines_after_body a frame frame.body }
 node_after server a (OnInfo session info) won race = record a { hub = up server a.hub (place server info.server_name) info.inc; sessions = after_info server a.sessions info (session_at session a.sessions.standing) }
@@ -215,7 +215,7 @@ node_after server a (OnConnect session connect) won race = record a { hub = up s
 
 -- ---- the frames that it puts for peers, or gives to a session, in order
 
-abbrev pub own_frames : Server → Node → OwnEvent → List RouteFrame
+abbrev pub own_frames : ServerIdentity → Node → OwnEvent → List RouteFrame
 own_frames server a (OfConn conn event) = []
 own_frames server a (AtShard shard work) = []
 own_frames server a (Publish p) = map route.Numbered (frames_of server a.hub p)
@@ -225,14 +225,14 @@ own_frames server a Accept = route.Info (own_info server) ∷ []
 own_frames server a (CutSession session) = []
 own_frames server a (TakeFrames q count) = []
 
-abbrev pub node_frames : Server → Node → NodeEvent → List RouteFrame
+abbrev pub node_frames : ServerIdentity → Node → NodeEvent → List RouteFrame
 node_frames server a (Own event) = own_frames server a event
 node_frames server a (Receive frame) = []
 node_frames server a (OnInfo session info) = route.Connect (own_connect server info (serial_of (session_at session a.sessions.standing))) ∷ route.Numbered (snapshot_to server a.hub (place server info.server_name) info.inc) ∷ []
 node_frames server a (OnConnect session connect) = route.Numbered (snapshot_to server a.hub (place server connect.server_name) connect.inc) ∷ []
 
 -- ---- the step: whether a claim was won, and the race after it, are the race's to say
-pub record NodeStep (server : Server) (a : Node) (event : NodeEvent) (won : Bool) (race : RaceState) (b : Node) : Type 0 where
+pub record NodeStep (server : ServerIdentity) (a : Node) (event : NodeEvent) (won : Bool) (race : RaceState) (b : Node) : Type 0 where
   pub cause : node_refusal server a event ≡ None
   pub moves : NodeRace a event won race
   pub after : b ≡ node_after server a event won race

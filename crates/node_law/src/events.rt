@@ -46,22 +46,41 @@ pub enum ShardWork {
 #[derive(Debug, Drop)]
 pub enum OwnEvent {
     /// Of the connection of this number.
-    OfConn { conn: ConnId, event: ConnEvent },
+    OfConn {
+        conn: ConnId,
+        event: ConnEvent,
+    },
     /// Of the shard of this number.
-    AtShard { shard: u64, work: ShardWork },
+    AtShard {
+        shard: u64,
+        work: ShardWork,
+    },
     /// A client publishes. Its connection may be gone since. The word decides which server serves each
     /// queue name.
-    Publish { conn: ConnId, said: Pub, word: u64 },
+    Publish {
+        conn: ConnId,
+        publication: Pub,
+        word: u64,
+    },
     /// The hub takes the deltas of the shard of this number, and tells its peers of them.
-    Collect { shard: u64 },
+    Collect {
+        shard: u64,
+    },
     /// Dials the server at this place.
-    Dial { peer: usize },
+    Dial {
+        peer: usize,
+    },
     /// Accepts a session that another server dialed.
     Accept,
     /// Ends the session.
-    CutSession { session: SessionId },
+    CutSession {
+        session: SessionId,
+    },
     /// Takes the first frames that wait for the peer at this place, at most so many.
-    TakeFrames { peer: usize, count: usize },
+    TakeFrames {
+        peer: usize,
+        count: usize,
+    },
 }
 
 /// What a server is asked: by its clients and its own parts, or by a frame of another server. (Profile.)

@@ -3,7 +3,7 @@
 ghost use Rattle.std.specs.Prelude.{⊤};
 
 use crate::limits::SHARD_RUN;
-use crate::runs::{Ran, Run, cost_of};
+use crate::runs::{Ran, RunOutcome, cost_of};
 use client_calls::{ClientCalls, ClientLink as Calls, Outcome, Served};
 use client_conn::{ReadFault, Refusal};
 use client_frames::{ErrText, ReplyFrame};
@@ -13,7 +13,7 @@ use server_calls::{HubCalls, ServerCalls, ShardCalls};
 use std::alloc::{AllocError, Global};
 use std::collections::BTreeSet;
 use std::sync::Wait;
-use subj::{ConnId, Failure, Key, Pub, SUBSCRIPTIONS, Server as Life, Sid, WINDOW};
+use subj::{ConnId, Failure, Key, Pub, SUBSCRIPTIONS, ServerIdentity as Life, Sid, WINDOW};
 use wire_cut::Source;
 
 /// What a client calls its open subscriptions, but for those that end by themselves (`UNSUB` with a maximum), and those for which there was
@@ -69,9 +69,9 @@ fn replied_after(replied: usize, outcome: Outcome) -> usize {
 }
 
 /// As how many bytes a publication counts that came to this; one that was not handed on counts as none.
-fn issued_by(said: &Pub, outcome: Outcome) -> usize {
+fn issued_by(publication: &Pub, outcome: Outcome) -> usize {
     match outcome {
-        Outcome::Done => cost_of(said.message.payload().len()),
+        Outcome::Done => cost_of(publication.message.payload().len()),
         _ => 0,
     }
 }
@@ -88,7 +88,7 @@ fn note_opened(sids: &mut Sids, sid: &Sid, outcome: Outcome) {
 struct ShardTally<S: ShardCalls> {
     shard: S,
     sids: Sids,
-    so_far: Run,
+    so_far: RunOutcome,
 }
 
 impl<S: ShardCalls> ShardTally<S> {
@@ -97,12 +97,12 @@ impl<S: ShardCalls> ShardTally<S> {
         ShardTally {
             shard,
             sids,
-            so_far: Run::of(Ran::Goes),
+            so_far: RunOutcome::of(Ran::Goes),
         }
     }
 
     /// What was asked, in a run that came to this.
-    fn run(&self, end: Ran) -> Run {
+    fn run(&self, end: Ran) -> RunOutcome {
         let mut run = self.so_far;
         run.end = end;
         run
@@ -147,8 +147,8 @@ impl<S: ShardCalls> ClientCalls for ShardTally<S> {
         outcome
     }
 
-    fn publish(&mut self, conn: ConnId, said: &Pub) -> Outcome {
-        self.shard.publish(conn, said)
+    fn publish(&mut self, conn: ConnId, publication: &Pub) -> Outcome {
+        self.shard.publish(conn, publication)
     }
 
     fn detach(&mut self, conn: ConnId) -> Result<(), AllocError> {
@@ -161,7 +161,7 @@ impl<S: ShardCalls> ClientCalls for ShardTally<S> {
 struct HubTally<H: HubCalls> {
     hub: H,
     words: Pcg64,
-    so_far: Run,
+    so_far: RunOutcome,
 }
 
 impl<H: HubCalls> HubTally<H> {
@@ -170,12 +170,12 @@ impl<H: HubCalls> HubTally<H> {
         HubTally {
             hub,
             words,
-            so_far: Run::of(Ran::Goes),
+            so_far: RunOutcome::of(Ran::Goes),
         }
     }
 
     /// What was published, in a run that came to this.
-    fn run(&self, end: Ran) -> Run {
+    fn run(&self, end: Ran) -> RunOutcome {
         let mut run = self.so_far;
         run.end = end;
         run
@@ -206,11 +206,11 @@ impl<H: HubCalls> ClientCalls for HubTally<H> {
         Outcome::Elsewhere
     }
 
-    fn publish(&mut self, conn: ConnId, said: &Pub) -> Outcome {
+    fn publish(&mut self, conn: ConnId, publication: &Pub) -> Outcome {
         self.so_far.is_empty = false;
         let word = self.words.next_word();
-        let outcome = self.hub.publish(conn, said, word);
-        self.so_far.count(issued_by(said, outcome));
+        let outcome = self.hub.publish(conn, publication, word);
+        self.so_far.count(issued_by(publication, outcome));
         outcome
     }
 
@@ -367,7 +367,12 @@ impl ClientLink {
 
     /// Does what is asked next: the publications up to another ask under one hold of the hub's lock, or
     /// other asks up to a publication under one hold of the shard's lock.
-    pub fn advance<C: ServerCalls, R: Wait>(&mut self, rt: &R, node: C, words: &mut Pcg64) -> Run {
+    pub fn advance<C: ServerCalls, R: Wait>(
+        &mut self,
+        rt: &R,
+        node: C,
+        words: &mut Pcg64,
+    ) -> RunOutcome {
         let before = self.place;
         let run = self.run(rt, node, words);
         if run.is_empty && self.place != before {
@@ -378,7 +383,7 @@ impl ClientLink {
     }
 
     /// A run at the place where the next ask is asked first.
-    fn run<C: ServerCalls, R: Wait>(&mut self, rt: &R, node: C, words: &mut Pcg64) -> Run {
+    fn run<C: ServerCalls, R: Wait>(&mut self, rt: &R, node: C, words: &mut Pcg64) -> RunOutcome {
         match self.place {
             Place::Shard => self.ask(rt, node),
             Place::Hub => self.publish(rt, node, words),
@@ -386,7 +391,12 @@ impl ClientLink {
     }
 
     /// Publishes what is asked up to another ask, at most a window.
-    fn publish<C: ServerCalls, R: Wait>(&mut self, rt: &R, node: C, words: &mut Pcg64) -> Run {
+    fn publish<C: ServerCalls, R: Wait>(
+        &mut self,
+        rt: &R,
+        node: C,
+        words: &mut Pcg64,
+    ) -> RunOutcome {
         let own = Pcg64::from_state(words.state(), words.stream());
         let mut tally = HubTally::new(node.hub(rt), own);
         let served = served_of(self.calls.serve(&mut tally, WINDOW));
@@ -402,9 +412,9 @@ impl ClientLink {
     }
 
     /// Asks its shard, up to a publication.
-    fn ask<C: ServerCalls, R: Wait>(&mut self, rt: &R, node: C) -> Run {
+    fn ask<C: ServerCalls, R: Wait>(&mut self, rt: &R, node: C) -> RunOutcome {
         match node.shard(rt, self.shard) {
-            None => Run::of(Ran::Refused),
+            None => RunOutcome::of(Ran::Refused),
             Some(shard) => {
                 let sids = std::mem::replace(&mut self.sids, Sids::new(self.alloc));
                 let mut tally = ShardTally::new(shard, sids);
@@ -414,7 +424,7 @@ impl ClientLink {
     }
 
     /// Asks its shard, which is held, up to a publication.
-    fn ask_held<S: ShardCalls>(&mut self, tally: &mut ShardTally<S>) -> Run {
+    fn ask_held<S: ShardCalls>(&mut self, tally: &mut ShardTally<S>) -> RunOutcome {
         let served = served_of(self.calls.serve(tally, SHARD_RUN));
         let mut run = tally.run(ran_of(served));
         run.has_deltas = !run.is_empty && tally.shard.has_deltas();

@@ -12,7 +12,7 @@ use server_calls::{ServerCalls, ShardCalls};
 use server_events::{ClientCause, Event};
 use std::alloc::{AllocError, Global};
 use std::sync::Wait;
-use subj::{ConnId, Failure, READ_BYTES, Server as Life};
+use subj::{ConnId, Failure, READ_BYTES, ServerIdentity as Life};
 use wire_cut::FillFault;
 
 /// By how much the parts grow.
@@ -522,10 +522,10 @@ impl<S: Stream> Connection<S> {
         }
     }
 
-    /// Sends what was spelt, where there was memory for it.
-    pub fn send_spelt(&mut self, spelt: &[u8], is_whole: bool) {
+    /// Sends what was encoded, where there was memory for it.
+    pub fn send_encoded(&mut self, encoded: &[u8], is_whole: bool) {
         if is_whole {
-            self.send(spelt);
+            self.send(encoded);
         } else {
             self.want_memory();
         }

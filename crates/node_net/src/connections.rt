@@ -15,7 +15,7 @@ use server_events::{Caller, Event, Events, RefusalCause};
 use slab::Slab;
 use std::alloc::{AllocError, Global};
 use std::sync::Wait;
-use subj::Server as Life;
+use subj::ServerIdentity as Life;
 
 /// The connections of a server, by their keys. In each list of keys but `awaited` each stands once, and there is room for all.
 #[derive(Drop)]
@@ -288,10 +288,10 @@ impl<S: Stream> Connections<S> {
         }
     }
 
-    /// Sends what was spelt for a connection, where there was memory for all of it.
-    pub fn send_spelt(&mut self, key: usize, spelt: &[u8], is_whole: bool) {
+    /// Sends what was encoded for a connection, where there was memory for all of it.
+    pub fn send_encoded(&mut self, key: usize, encoded: &[u8], is_whole: bool) {
         if let Some(connection) = self.table.get_mut(key) {
-            connection.send_spelt(spelt, is_whole);
+            connection.send_encoded(encoded, is_whole);
         }
     }
 

@@ -9,7 +9,7 @@ use crate::taken::Taken;
 use net_streams::Stream;
 use route_frames::{Numbered, RouteFrame, encode};
 use server_calls::{HubCalls, ServerCalls, ShardCalls};
-use shard_core::Recipients;
+use shard_core::DirtyConns;
 use std::alloc::{AllocError, Global};
 use std::sync::Wait;
 use subj::{Failure, MAX_PAYLOAD};
@@ -196,26 +196,26 @@ fn take_frames<C: ServerCalls, R: Wait>(
 }
 
 /// Hands out for which clients of a shard something was put since the last time, for those that were handed out then.
-fn swap_recipients<C: ServerCalls, R: Wait>(
+fn swap_dirty_conns<C: ServerCalls, R: Wait>(
     rt: &R,
     node: C,
     shard: u64,
-    recipients: &mut Recipients,
+    dirty_conns: &mut DirtyConns,
 ) {
     if let Some(mut shard) = node.shard(rt, shard) {
-        shard.swap_recipients(recipients);
+        shard.swap_dirty_conns(dirty_conns);
     }
 }
 
-/// Spells a frame behind what is spelt.
-fn spell_one(frame: Numbered, spelt: &mut Vec<u8>) -> Result<(), AllocError> {
-    encode(&RouteFrame::Numbered(frame), spelt)
+/// Encodes a frame behind what is encoded.
+fn encode_frame(frame: Numbered, encoded: &mut Vec<u8>) -> Result<(), AllocError> {
+    encode(&RouteFrame::Numbered(frame), encoded)
 }
 
-/// Spells frames behind what is spelt.
-fn spell(frames: Vec<Numbered>, spelt: &mut Vec<u8>) -> Result<(), AllocError> {
+/// Encodes frames behind what is encoded.
+fn encode_frames(frames: Vec<Numbered>, encoded: &mut Vec<u8>) -> Result<(), AllocError> {
     for frame in frames {
-        spell_one(frame, spelt)?;
+        encode_frame(frame, encoded)?;
     }
     Ok(())
 }
@@ -234,9 +234,9 @@ impl<S: Stream, C: ServerCalls> Server<S, C> {
 
     /// Takes and writes what waits for the clients of a shard.
     fn flush_shard<R: Wait>(&mut self, rt: &R, number: u64, served: &[usize], is_any: bool) {
-        swap_recipients(rt, self.node, number, &mut self.recipients);
+        swap_dirty_conns(rt, self.node, number, &mut self.dirty_conns);
         let mut keys = Vec::new(self.alloc);
-        if is_any || self.recipients.is_any() || self.put_keys(served, &mut keys).is_err() {
+        if is_any || self.dirty_conns.is_any() || self.put_keys(served, &mut keys).is_err() {
             let all = Awaited::All(self.connections.table.capacity());
             self.flush_awaited(rt, number, all);
         } else {
@@ -246,7 +246,7 @@ impl<S: Stream, C: ServerCalls> Server<S, C> {
 
     /// Puts the connections that something was put for into the list, and behind them those that were served.
     fn put_keys(&self, served: &[usize], keys: &mut Vec<usize>) -> Result<(), AllocError> {
-        for id in self.recipients.conns() {
+        for id in self.dirty_conns.conns() {
             if let Some(key) = self.clients.key_of(*id) {
                 keys.push(key)?;
             }
@@ -335,12 +335,12 @@ impl<S: Stream, C: ServerCalls> Server<S, C> {
         if frames.is_empty() {
             return false;
         }
-        self.spelt.clear();
-        let is_whole = spell(frames, &mut self.spelt).is_ok();
-        self.connections.send_spelt(key, &self.spelt, is_whole);
+        self.encoded.clear();
+        let is_whole = encode_frames(frames, &mut self.encoded).is_ok();
+        self.connections.send_encoded(key, &self.encoded, is_whole);
         self.connections.leave_if_gone(key);
-        if self.spelt.capacity() > TAKEN_AT_ONCE {
-            put(&mut self.spelt, Vec::new(self.alloc));
+        if self.encoded.capacity() > TAKEN_AT_ONCE {
+            put(&mut self.encoded, Vec::new(self.alloc));
         }
         true
     }

@@ -13,13 +13,12 @@
 //! In reading order: `client_link` and `route_link` make calls of what was read, and tell what they have come to (`runs`);
 //! `connection` has one of them with its stream; `connections` has all of them, and what is noted of each until it is done; `server` takes them
 //! and lets them go, and finds those of clients (`clients`) and of other servers (`peers`); `turning` and `flushing` are a turn of its loop, by
-//! what was `taken` for clients, and `running` is the loop. `company` says when the loop ends, the `limits` when and how much of everything, and
+//! what was `taken` for clients, and `running` is the loop. `shutdown` says when the loop ends, the `limits` when and how much of everything, and
 //! `faults` why no stream is taken.
 #![tactic(auto)]
 
 mod client_link;
 mod clients;
-mod company;
 mod connection;
 mod connections;
 mod faults;
@@ -31,11 +30,12 @@ mod route_link;
 mod running;
 mod runs;
 mod server;
+mod shutdown;
 mod taken;
 mod turning;
 
-pub use company::Company;
 pub use faults::AddFault;
 pub use net_streams::{MemStream, Stream, StreamFault};
 pub use running::{Sockets, WAKER};
 pub use server::{Server, Side, shard_of_client};
+pub use shutdown::Shutdown;

@@ -5,7 +5,7 @@ use std::alloc::{AllocError, Global};
 
 /// What leads to one other server.
 #[derive(Clone, Copy)]
-struct Way {
+struct PeerLink {
     /// The connection whose session is kept.
     kept: Option<usize>,
     /// The connection that this server has dialed, while its session is not complete.
@@ -15,7 +15,7 @@ struct Way {
 /// What leads to each server of the cluster, by its place.
 #[derive(Drop)]
 pub(crate) struct Peers {
-    ways: Vec<Way>,
+    links: Vec<PeerLink>,
 }
 
 /// Whether it is this connection.
@@ -26,30 +26,30 @@ fn is_at(place: Option<usize>, key: usize) -> bool {
 impl Peers {
     /// Nothing leads to any of so many.
     pub fn new(alloc: Global, count: usize) -> Result<Peers, AllocError> {
-        let mut ways = Vec::with_capacity(alloc, count)?;
+        let mut links = Vec::with_capacity(alloc, count)?;
         for _place in 0..count {
-            ways.push(Way {
+            links.push(PeerLink {
                 kept: None,
                 dialed: None,
             })?;
         }
-        Ok(Peers { ways })
+        Ok(Peers { links })
     }
 
     /// How many servers the cluster has.
     pub fn count(&self) -> usize {
-        self.ways.len()
+        self.links.len()
     }
 
     /// The connection whose session with the server at this place is kept.
     pub fn kept_connection(&self, place: usize) -> Option<usize> {
-        self.ways.get(place)?.kept
+        self.links.get(place)?.kept
     }
 
     /// The place of the server whose session with this connection is kept.
     pub fn place_of(&self, key: usize) -> Option<usize> {
-        for (place, way) in self.ways.iter().enumerate() {
-            if is_at(way.kept, key) {
+        for (place, link) in self.links.iter().enumerate() {
+            if is_at(link.kept, key) {
                 return Some(place);
             }
         }
@@ -58,28 +58,28 @@ impl Peers {
 
     /// Whether the server at this place is reached, or is being dialed.
     pub fn is_reached(&self, place: usize) -> bool {
-        match self.ways.get(place) {
+        match self.links.get(place) {
             None => false,
-            Some(way) => way.kept.is_some() || way.dialed.is_some(),
+            Some(link) => link.kept.is_some() || link.dialed.is_some(),
         }
     }
 
     /// The connection dials the server at this place.
     pub fn dial(&mut self, place: usize, key: usize) {
-        if let Some(way) = self.ways.get_mut(place) {
-            way.dialed = Some(key);
+        if let Some(link) = self.links.get_mut(place) {
+            link.dialed = Some(key);
         }
     }
 
     /// The session of the connection with the server at this place is kept. Gives the connection that was
     /// kept before.
     pub fn keep(&mut self, place: usize, key: usize) -> Option<usize> {
-        let way = self.ways.get_mut(place)?;
-        if is_at(way.dialed, key) {
-            way.dialed = None;
+        let link = self.links.get_mut(place)?;
+        if is_at(link.dialed, key) {
+            link.dialed = None;
         }
-        let old = way.kept;
-        way.kept = Some(key);
+        let old = link.kept;
+        link.kept = Some(key);
         match old {
             Some(old) if old != key => Some(old),
             _ => None,
@@ -88,12 +88,12 @@ impl Peers {
 
     /// The connection is gone.
     pub fn lose(&mut self, key: usize) {
-        for way in &mut self.ways {
-            if is_at(way.kept, key) {
-                way.kept = None;
+        for link in &mut self.links {
+            if is_at(link.kept, key) {
+                link.kept = None;
             }
-            if is_at(way.dialed, key) {
-                way.dialed = None;
+            if is_at(link.dialed, key) {
+                link.dialed = None;
             }
         }
     }

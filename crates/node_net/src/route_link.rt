@@ -1,7 +1,7 @@
 //! A route: a connection to another server, cut into frames.
 
 use crate::placing::put;
-use crate::runs::{Ran, Run, cost_of};
+use crate::runs::{Ran, RunOutcome, cost_of};
 use bytes::Bytes;
 use hub_core::HubFault;
 use route_frames::{Body, Numbered, RouteConnect, RouteFrame, RouteInfo, RouteLine, Unjoined};
@@ -9,7 +9,7 @@ use route_session::{SessionFault, SessionId};
 use server_calls::{HubCalls, ServerCalls};
 use std::alloc::Global;
 use std::sync::Wait;
-use subj::{Failure, Incarnation, MAX_SNAPSHOT, ROUTE_LINE, Server as Life, WINDOW};
+use subj::{Failure, Incarnation, MAX_SNAPSHOT, ROUTE_LINE, ServerIdentity as Life, WINDOW};
 use wire_cut::{Cutter, FillFault, Piece, Source};
 
 /// How far the session of a route is.
@@ -33,7 +33,7 @@ pub(crate) struct Greeted {
 /// What one step of a route came to.
 #[derive(Clone, Copy)]
 pub(crate) enum Stepped {
-    Ran(Run),
+    Ran(RunOutcome),
     Greeted(Greeted),
 }
 
@@ -175,7 +175,7 @@ impl RouteLink {
             },
             Ok(Some(Piece::Payload(_))) | Err(_) => return Err(Ran::Refused),
         };
-        self.cutter.use_up(size);
+        self.cutter.consume(size);
         Ok(line)
     }
 
@@ -191,7 +191,7 @@ impl RouteLink {
             }
             Ok(Some(Piece::Line(_))) | Err(_) => return Err(Ran::Refused),
         };
-        self.cutter.use_up(size);
+        self.cutter.consume(size);
         Ok(payload)
     }
 
@@ -269,7 +269,7 @@ impl RouteLink {
     /// Frames before the session is kept, and those of another server than it is kept with, are refused.
     pub fn advance<C: ServerCalls, R: Wait>(&mut self, rt: &R, node: C, life: &Life) -> Stepped {
         if let Some(end) = self.look_ahead() {
-            return Stepped::Ran(Run::of(end));
+            return Stepped::Ran(RunOutcome::of(end));
         }
         if let Some(info) = self.info_ahead() {
             return self.greet_back(rt, node, info);
@@ -299,11 +299,11 @@ impl RouteLink {
     /// The server that was dialed has told who it is.
     fn greet_back<C: ServerCalls, R: Wait>(&mut self, rt: &R, node: C, info: RouteInfo) -> Stepped {
         let Stage::Dialed(peer) = self.stage else {
-            return Stepped::Ran(Run::of(Ran::Refused));
+            return Stepped::Ran(RunOutcome::of(Ran::Refused));
         };
         match answer_to(rt, node, self.session, &info) {
             Ok(answer) => self.keep(peer, info.inc(), Some(answer)),
-            Err(fault) => Stepped::Ran(Run::of(end_of(fault))),
+            Err(fault) => Stepped::Ran(RunOutcome::of(end_of(fault))),
         }
     }
 
@@ -323,16 +323,16 @@ impl RouteLink {
         told: RouteConnect,
     ) -> Stepped {
         let Some(peer) = life.place(told.server_name()) else {
-            return Stepped::Ran(Run::of(Ran::Refused));
+            return Stepped::Ran(RunOutcome::of(Ran::Refused));
         };
         match connect(rt, node, self.session, &told) {
             Ok(()) => self.keep(peer, told.inc(), None),
-            Err(fault) => Stepped::Ran(Run::of(end_of(fault))),
+            Err(fault) => Stepped::Ran(RunOutcome::of(end_of(fault))),
         }
     }
 
     /// Takes numbered frames, at most a window.
-    fn receive<C: ServerCalls, R: Wait>(&mut self, rt: &R, node: C, life: &Life) -> Run {
+    fn receive<C: ServerCalls, R: Wait>(&mut self, rt: &R, node: C, life: &Life) -> RunOutcome {
         let mut hub = node.hub(rt);
         let run = self.receive_all(&mut hub, life);
         hub.push_jobs(rt);
@@ -340,8 +340,8 @@ impl RouteLink {
     }
 
     /// The same of a hub that is held, which hands no jobs to the shards yet.
-    fn receive_all<H: HubCalls>(&mut self, hub: &mut H, life: &Life) -> Run {
-        let mut run = Run::of(Ran::Goes);
+    fn receive_all<H: HubCalls>(&mut self, hub: &mut H, life: &Life) -> RunOutcome {
+        let mut run = RunOutcome::of(Ran::Goes);
         for _frame in 0..WINDOW {
             match self.receive_next(hub, life) {
                 Heard::Done(bytes) => run.count(bytes),
@@ -380,7 +380,7 @@ impl RouteLink {
         if let Some(end) = self.look_ahead() {
             return Heard::Ended(end);
         }
-        let heard = self.hear_ahead(hub, life);
+        let heard = self.apply_ahead(hub, life);
         if heard.is_taken() {
             put(&mut self.ahead, None);
         }
@@ -388,15 +388,15 @@ impl RouteLink {
     }
 
     /// Has the hub take the frame that is to be taken next, where it is a numbered one.
-    fn hear_ahead<H: HubCalls>(&self, hub: &mut H, life: &Life) -> Heard {
+    fn apply_ahead<H: HubCalls>(&self, hub: &mut H, life: &Life) -> Heard {
         match &self.ahead {
-            Some(RouteFrame::Numbered(frame)) => self.hear(hub, life, frame),
+            Some(RouteFrame::Numbered(frame)) => self.apply_update(hub, life, frame),
             _ => Heard::Ended(Ran::Goes),
         }
     }
 
     /// Has the hub take a frame, where it is of the server that the session is kept with.
-    fn hear<H: HubCalls>(&self, hub: &mut H, life: &Life, frame: &Numbered) -> Heard {
+    fn apply_update<H: HubCalls>(&self, hub: &mut H, life: &Life, frame: &Numbered) -> Heard {
         if !self.is_of_peer(frame, life) {
             return Heard::Ended(Ran::Refused);
         }

@@ -1,11 +1,11 @@
 //! The loop of a server's thread: it polls, accepts, dials, and turns.
 
-use crate::company::Company;
 use crate::connection::Cause;
 use crate::faults::AddFault;
 use crate::limits::{ACCEPTS, EVENTS, RETRY};
 use crate::peers::Redials;
 use crate::server::{Server, Side};
+use crate::shutdown::Shutdown;
 use mio::event::Event as Ready;
 use mio::net::{TcpListener, TcpStream};
 use mio::{Events, Interest, Poll, Token};
@@ -166,7 +166,7 @@ fn refusal_of(fault: AddFault) -> RefusalCause {
 }
 
 impl<C: ServerCalls> Server<TcpStream, C> {
-    /// Serves until all servers of the company stop: waits until a socket is ready, takes clients and routes,
+    /// Serves until all servers of the process stop: waits until a socket is ready, takes clients and routes,
     /// dials each other server of the cluster that is not reached at its address, those of all servers in
     /// their order, and makes a turn. What happens is told to the log. May wait, and for ever.
     pub fn run<R: Wait + Net + Clock, L: EventSink>(
@@ -174,46 +174,46 @@ impl<C: ServerCalls> Server<TcpStream, C> {
         rt: &R,
         mut sockets: Sockets,
         addresses: &[SocketAddr],
-        company: &Company,
+        shutdown: &Shutdown,
         log: &L,
     ) -> io::Result<()> {
         self.connections.events.set_filter(log.filter());
         register(&sockets.poll, &mut sockets.clients, &mut sockets.routes)?;
         let mut rounds = Rounds::new(self.alloc, Instant::now(rt)?, sockets);
-        self.run_rounds(rt, &mut rounds, addresses, company, log)
+        self.run_rounds(rt, &mut rounds, addresses, shutdown, log)
     }
 
-    /// Serves until all servers of the company stop, over sockets that are registered.
+    /// Serves until all servers of the process stop, over sockets that are registered.
     fn run_rounds<R: Wait + Net + Clock, L: EventSink>(
         &mut self,
         rt: &R,
         rounds: &mut Rounds,
         addresses: &[SocketAddr],
-        company: &Company,
+        shutdown: &Shutdown,
         log: &L,
     ) -> io::Result<()> {
         rounds.reserve(addresses.len())?;
         let mut events = Events::with_capacity(self.alloc, EVENTS)?;
-        self.go_round(rt, rounds, &mut events, addresses, company, log)
+        self.go_round(rt, rounds, &mut events, addresses, shutdown, log)
     }
 
-    /// Goes round, until all servers of the company stop.
+    /// Goes round, until all servers of the process stop.
     fn go_round<R: Wait + Net + Clock, L: EventSink>(
         &mut self,
         rt: &R,
         rounds: &mut Rounds,
         events: &mut Events,
         addresses: &[SocketAddr],
-        company: &Company,
+        shutdown: &Shutdown,
         log: &L,
     ) -> io::Result<()> {
         for _round in rt.forever() {
-            if company.is_over() {
+            if shutdown.is_over() {
                 return Ok(());
             }
-            self.go_once(rt, rounds, addresses, company);
-            self.tell(rt, company, log);
-            if company.is_over() {
+            self.go_once(rt, rounds, addresses, shutdown);
+            self.tell(rt, shutdown, log);
+            if shutdown.is_over() {
                 return Ok(());
             }
             self.wait(rt, rounds, events)?;
@@ -227,18 +227,18 @@ impl<C: ServerCalls> Server<TcpStream, C> {
         rt: &R,
         rounds: &mut Rounds,
         addresses: &[SocketAddr],
-        company: &Company,
+        shutdown: &Shutdown,
     ) {
-        self.accept_all(rt, rounds, company);
+        self.accept_all(rt, rounds, shutdown);
         self.dial_all(rt, rounds, addresses);
         self.turn(rt, &rounds.ready);
         rounds.ready.clear();
     }
 
-    /// Tells the log what has happened, and the company who is gone.
-    fn tell<R: Wait + Clock, L: EventSink>(&mut self, rt: &R, company: &Company, log: &L) {
+    /// Tells the log what has happened, and the other servers who is gone.
+    fn tell<R: Wait + Clock, L: EventSink>(&mut self, rt: &R, shutdown: &Shutdown, log: &L) {
         log.take(rt, self.life.name(), &mut self.connections.events);
-        company.lose(std::mem::replace(&mut self.gone, 0));
+        shutdown.lose(std::mem::replace(&mut self.gone, 0));
     }
 
     /// Waits until a socket is ready, or something is to be done, and notes which connections are ready. May wait, and for ever.
@@ -256,13 +256,13 @@ impl<C: ServerCalls> Server<TcpStream, C> {
     }
 
     /// Takes all clients and routes that wait.
-    fn accept_all<R: Wait>(&mut self, rt: &R, rounds: &mut Rounds, company: &Company) {
+    fn accept_all<R: Wait>(&mut self, rt: &R, rounds: &mut Rounds, shutdown: &Shutdown) {
         let had_failed = rounds.has_failed;
         let clients_fail = self.accept_from(
             rt,
             &rounds.poll,
             &mut rounds.clients,
-            company,
+            shutdown,
             had_failed,
         );
         let has_failed = had_failed || clients_fail;
@@ -270,7 +270,7 @@ impl<C: ServerCalls> Server<TcpStream, C> {
             rt,
             &rounds.poll,
             &mut rounds.routes,
-            company,
+            shutdown,
             has_failed,
         );
         rounds.has_failed = clients_fail || routes_fail;
@@ -282,7 +282,7 @@ impl<C: ServerCalls> Server<TcpStream, C> {
         rt: &R,
         poll: &Poll,
         door: &mut Door,
-        company: &Company,
+        shutdown: &Shutdown,
         had_failed: bool,
     ) -> bool {
         for _accept in 0..ACCEPTS {
@@ -290,7 +290,7 @@ impl<C: ServerCalls> Server<TcpStream, C> {
                 return false;
             }
             match door.accept() {
-                Accepted::Stream(stream) => self.take_in(rt, poll, &*door, company, stream),
+                Accepted::Stream(stream) => self.take_in(rt, poll, &*door, shutdown, stream),
                 Accepted::Nothing => door.has_more = false,
                 Accepted::Failed(cause) => {
                     self.tell_failed(&*door, cause, had_failed);
@@ -307,11 +307,11 @@ impl<C: ServerCalls> Server<TcpStream, C> {
         rt: &R,
         poll: &Poll,
         door: &Door,
-        company: &Company,
+        shutdown: &Shutdown,
         stream: TcpStream,
     ) {
         if self.take(rt, poll, stream, door.side) && door.is_for_clients() {
-            company.take();
+            shutdown.take();
         }
     }
 

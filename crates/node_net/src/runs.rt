@@ -34,7 +34,7 @@ pub(crate) enum Ran {
 
 /// What a run has done beside what it came to.
 #[derive(Clone, Copy)]
-pub(crate) struct Run {
+pub(crate) struct RunOutcome {
     pub end: Ran,
     /// As how many bytes the messages count that were handed to the shards.
     pub issued: usize,
@@ -50,10 +50,10 @@ pub(crate) struct Run {
     pub is_empty: bool,
 }
 
-impl Run {
+impl RunOutcome {
     /// A run that has done nothing else.
-    pub fn of(end: Ran) -> Run {
-        Run {
+    pub fn of(end: Ran) -> RunOutcome {
+        RunOutcome {
             end,
             issued: 0,
             jobs: 0,

@@ -20,10 +20,10 @@ use route_frames::{RouteFrame, RouteInfo, encode};
 use route_session::{SessionFault, SessionId};
 use server_calls::{HubCalls, ServerCalls};
 use server_events::{Event, Events, PeerCause};
-use shard_core::Recipients;
+use shard_core::DirtyConns;
 use std::alloc::{AllocError, Global};
 use std::sync::Wait;
-use subj::{ConnId, Failure, NodeId, Server as Life};
+use subj::{ConnId, Failure, NodeId, ServerIdentity as Life};
 
 /// Who is at the other end of a stream.
 #[derive(Clone, Copy)]
@@ -113,13 +113,13 @@ pub struct Server<S: Stream, C: ServerCalls> {
     /// How much was put since the last time that what waits for clients was taken, as bytes.
     pub(crate) put: usize,
     /// The clients of a shard that something was put for.
-    pub(crate) recipients: Recipients,
+    pub(crate) dirty_conns: DirtyConns,
     /// How many jobs the shards are to work still, each counted once for each shard.
     pub(crate) unworked: u64,
     /// What was taken for clients and is about to be written.
     pub(crate) taken: Taken,
-    /// Frames that are spelt and about to be written.
-    pub(crate) spelt: Vec<u8>,
+    /// Frames that are encoded and about to be written.
+    pub(crate) encoded: Vec<u8>,
 }
 
 impl<S: Stream, C: ServerCalls> Server<S, C> {
@@ -146,10 +146,10 @@ impl<S: Stream, C: ServerCalls> Server<S, C> {
             gone: 0,
             first: 0,
             put: 0,
-            recipients: Recipients::new(alloc),
+            dirty_conns: DirtyConns::new(alloc),
             unworked: 0,
             taken: Taken::new(alloc),
-            spelt: Vec::new(alloc),
+            encoded: Vec::new(alloc),
         })
     }
 
@@ -217,17 +217,17 @@ impl<S: Stream, C: ServerCalls> Server<S, C> {
         stream: S,
         side: Side,
     ) -> Result<Connection<S>, AddFault> {
-        self.spelt.clear();
+        self.encoded.clear();
         let link = self.link(rt, side)?;
         let mut connection = Connection::new(self.alloc, stream, link);
         if connection.is_unknown() {
             connection.limit(self.connections.now.saturating_add(GREETING));
         }
-        connection.send(&self.spelt);
+        connection.send(&self.encoded);
         Ok(connection)
     }
 
-    /// What is known of whoever is at the other end. What that is told first is spelt.
+    /// What is known of whoever is at the other end. What that is told first is encoded.
     fn link<R: Wait>(&mut self, rt: &R, side: Side) -> Result<Link, AddFault> {
         match side {
             Side::Client => self.client(rt),
@@ -255,9 +255,9 @@ impl<S: Stream, C: ServerCalls> Server<S, C> {
         Ok(self.route(session, Stage::Accepted))
     }
 
-    /// Spells what a server that has dialed is told first.
+    /// Encodes what a server that has dialed is told first.
     fn spell_info(&mut self, info: RouteInfo) -> Result<(), AllocError> {
-        encode(&RouteFrame::Info(info), &mut self.spelt)
+        encode(&RouteFrame::Info(info), &mut self.encoded)
     }
 
     /// The server at this place, which is dialed.

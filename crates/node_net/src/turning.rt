@@ -2,7 +2,7 @@
 
 use crate::connection::Cause;
 use crate::route_link::{Greeted, Stepped};
-use crate::runs::{Ran, Run, TAKEN_EARLY};
+use crate::runs::{Ran, RunOutcome, TAKEN_EARLY};
 use crate::server::Server;
 use net_streams::Stream;
 use route_frames::{RouteConnect, RouteFrame, encode};
@@ -64,7 +64,7 @@ fn push_jobs<C: ServerCalls, R: Wait>(rt: &R, node: C) {
 }
 
 /// Why a client was shut in a run: for what it asked, where it was told so, and else since it does not read.
-fn shut_cause(run: Run) -> Cause {
+fn shut_cause(run: RunOutcome) -> Cause {
     if run.is_refused {
         Cause::Refused
     } else {
@@ -150,7 +150,7 @@ impl<S: Stream, C: ServerCalls> Server<S, C> {
     }
 
     /// What follows a run. Whether the connection goes on.
-    fn after_run<R: Wait>(&mut self, rt: &R, key: usize, run: Run) -> bool {
+    fn after_run<R: Wait>(&mut self, rt: &R, key: usize, run: RunOutcome) -> bool {
         self.note_run(rt, key, run);
         if run.issued > 0 || run.end == Ran::Busy {
             self.connections.has_told = true;
@@ -161,7 +161,7 @@ impl<S: Stream, C: ServerCalls> Server<S, C> {
     }
 
     /// Notes what a run has come to, what it has told, and what it has handed to the shards.
-    fn note_run<R: Wait>(&mut self, rt: &R, key: usize, run: Run) {
+    fn note_run<R: Wait>(&mut self, rt: &R, key: usize, run: RunOutcome) {
         if run.end == Ran::Shut {
             self.connections.shut_for(key, shut_cause(run));
         }
@@ -173,7 +173,7 @@ impl<S: Stream, C: ServerCalls> Server<S, C> {
     }
 
     /// Notes how much a run has put, as bytes, and takes and writes it where it has come to enough.
-    fn count_put<R: Wait>(&mut self, rt: &R, run: Run) {
+    fn count_put<R: Wait>(&mut self, rt: &R, run: RunOutcome) {
         self.put = self.put.saturating_add(run.issued);
         self.put = self.put.saturating_add(run.replied);
         if self.put >= TAKEN_EARLY {
@@ -209,9 +209,9 @@ impl<S: Stream, C: ServerCalls> Server<S, C> {
 
     /// Sends another server the answer to what it was told first.
     fn send_answer(&mut self, key: usize, answer: RouteConnect) {
-        self.spelt.clear();
-        let is_whole = encode(&RouteFrame::Connect(answer), &mut self.spelt).is_ok();
-        self.connections.send_spelt(key, &self.spelt, is_whole);
+        self.encoded.clear();
+        let is_whole = encode(&RouteFrame::Connect(answer), &mut self.encoded).is_ok();
+        self.connections.send_encoded(key, &self.encoded, is_whole);
     }
 
     /// Works all shards until no job waits. Jobs that a lane had no memory for are handed over again, and where there is none still in

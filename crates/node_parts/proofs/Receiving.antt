@@ -1,6 +1,6 @@
 -- A frame of a peer, at the hub with its sessions.
 use Rattle.std.proofs.Common.{◌≡◌, ℕ, true, false, true≢false, List, None, refl, sym, ap, ◌∙◌, subst}
-use Rattle.subj.specs.Servers.{Server, IsListed, place, is_peer}
+use Rattle.subj.specs.Servers.{ServerIdentity, IsListed, place, is_peer}
 use Rattle.route_values.specs.Frames.{Frame}
 use Rattle.route_values.specs.declared.bodies.Body.{Body}
 use Rattle.route_values.specs.declared.bodies.Body.TheVariants.{Plus, Minus, Snapshot, Msg}
@@ -33,5 +33,5 @@ received_side old new s t frame finished seen same is seen_is dropped =
     λ k. record { server = (is k).server; hub = (is k).state; sessions = state k }
 
 -- the frame is of a peer
-pub of_a_peer : (server given : Server) (h : hub.State) (finished : List ℕ) (frame : Frame) → IsListed server → given ≡ server → receive_refusal server h finished frame ≡ None → is_peer given (place given frame.from) ≡ true
+pub of_a_peer : (server given : ServerIdentity) (h : hub.State) (finished : List ℕ) (frame : Frame) → IsListed server → given ≡ server → receive_refusal server h finished frame ≡ None → is_peer given (place given frame.from) ≡ true
 of_a_peer server given h finished frame listed same free = subst (λ s. is_peer s (place s frame.from) ≡ true) (sym same) (from_peer server listed h finished frame free).is

@@ -10,10 +10,10 @@ use Rattle.route_session.specs.Calls as calls
 use Rattle.route_session.specs.Events as of_sessions
 use Rattle.route_session.specs.State as sessions
 use Rattle.route_session.specs.Steps.{session_refusal, session_answer, session_after, without_peers}
-use Rattle.node_parts.specs.Sides.{Side, Event, ByHub, BySessions, Answer, OfHub, OfSessions, IsAskedSessions, IsDone, hub_with}
+use Rattle.node_parts.specs.Sides.{HubWithSessions, Event, ByHub, BySessions, Answer, OfHub, OfSessions, IsAskedSessions, IsDone, hub_with}
 
 -- the hub with the sessions
-abbrev pub side_of : Hub → calls.Served → Side
+abbrev pub side_of : Hub → calls.Served → HubWithSessions
 side_of hub s = record { server = hub.server; hub = hub.state; sessions = s.state }
 
 -- ---- an INFO or a CONNECT

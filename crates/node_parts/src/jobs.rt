@@ -8,14 +8,14 @@ ghost use Rattle.claim_race.specs.Race.{shards_of};
 ghost use Rattle.hub_core.specs.Events.{Receive as ReceiveFrame};
 ghost use Rattle.hub_core.specs.Receiving.{has_message};
 ghost use Rattle.hub_core.specs.Steps.{hub_refusal};
-ghost use Rattle.node_law.specs.State.{Line as OneLine};
+ghost use Rattle.node_law.specs.State.{ShardWithJobs as OneLine};
 ghost use Rattle.node_law.specs.Steps.{line_with_job};
 ghost use Rattle.node_parts.specs.Jobs.{MayIssue, AreGiven, IsReceived, MayRoute, AreRouted};
 ghost use Rattle.node_parts.specs.Sides.{ByHub, side_after};
 
-use crate::lines::Line;
+use crate::lines::ShardWithJobs;
 use crate::peers::is_message;
-use crate::side::Side;
+use crate::side::HubWithSessions;
 use crate::told::Received;
 use claim_race::Race;
 use hub_core::HubFault;
@@ -62,7 +62,7 @@ fn copy_all(copies: &mut Vec<Job>, job: Job, count: usize) -> Result<Turn, Alloc
 }
 
 /// Each line gets one of the jobs. Takes no memory.
-fn hand_out<T: SubTable>(lines: &mut [Line<T>], jobs: &mut Vec<Job>)
+fn hand_out<T: SubTable>(lines: &mut [ShardWithJobs<T>], jobs: &mut Vec<Job>)
     requires enough { length jobs.old.items ≡ length lines.old }
     requires room { (place : ℕ) (line : OneLine) → slice_get lines.old place ≡ Some line → length line.waiting < WINDOW }
     ensures { (job : OneJob) → jobs.old.items ≡ replicate (length lines.old) job → lines.new ≡ map (line_with_job job) lines.old }
@@ -77,7 +77,7 @@ fn hand_out<T: SubTable>(lines: &mut [Line<T>], jobs: &mut Vec<Job>)
 }
 
 /// The first line gets the job, and each other one a copy of it. Takes no memory.
-fn give<T: SubTable>(lines: &mut [Line<T>], job: Job, copies: &mut Vec<Job>)
+fn give<T: SubTable>(lines: &mut [ShardWithJobs<T>], job: Job, copies: &mut Vec<Job>)
     requires enough { length (copies.old.items ++ job ∷ []) ≡ length lines.old }
     requires room { (place : ℕ) (line : OneLine) → slice_get lines.old place ≡ Some line → length line.waiting < WINDOW }
     ensures { (same : OneJob) → copies.old.items ++ job ∷ [] ≡ replicate (length lines.old) same → lines.new ≡ map (line_with_job same) lines.old }
@@ -93,7 +93,7 @@ fn give<T: SubTable>(lines: &mut [Line<T>], job: Job, copies: &mut Vec<Job>)
 /// The next turn is issued; the first line gets the job, and each other one a copy of it. Takes no memory.
 pub fn issue<T: SubTable, R: Race>(
     race: &mut R,
-    lines: &mut [Line<T>],
+    lines: &mut [ShardWithJobs<T>],
     job: Job,
     copies: &mut Vec<Job>,
 )
@@ -107,7 +107,11 @@ pub fn issue<T: SubTable, R: Race>(
 }
 
 /// The next turn is issued, and each line gets one of the jobs. Takes no memory.
-fn issue_all<T: SubTable, R: Race>(race: &mut R, lines: &mut [Line<T>], jobs: &mut Vec<Job>)
+fn issue_all<T: SubTable, R: Race>(
+    race: &mut R,
+    lines: &mut [ShardWithJobs<T>],
+    jobs: &mut Vec<Job>,
+)
     requires ready { MayIssue (R.contents race.old) lines.old }
     requires enough { length jobs.old.items ≡ length lines.old }
     ensures { AreGiven (R.contents race.old) lines.old jobs.old.items (R.contents race.new) lines.new }
@@ -119,7 +123,7 @@ fn issue_all<T: SubTable, R: Race>(race: &mut R, lines: &mut [Line<T>], jobs: &m
 
 /// Takes a frame of a peer; of a message, so many copies of its job are made first.
 pub fn take_in(
-    side: &mut Side,
+    side: &mut HubWithSessions,
     frame: &Numbered,
     finished: &Finished,
     copies: &mut Vec<Job>,
@@ -129,7 +133,7 @@ pub fn take_in(
     ensures { let e = ReceiveFrame frame.now finished.now in IsAnswered (hub_refusal side.old.server side.old.hub e) (λ received. (side.new ≡ side_after side.old (ByHub e)) × IsReceived side.old.hub frame.now frame.now.body count received copies.new.items) (side.new ≡ side.old) result }
 {
     if !is_message(frame) {
-        side.hear(frame, finished)?;
+        side.apply_update(frame, finished)?;
         return Ok(Received::Heard(frame.number()));
     }
     let Some(job) = side.plan_receive(frame, finished)? else {
@@ -144,7 +148,7 @@ pub fn take_in(
 /// Of a message each line gets its job; of news none does. Takes no memory.
 pub fn route<T: SubTable, R: Race>(
     race: &mut R,
-    lines: &mut [Line<T>],
+    lines: &mut [ShardWithJobs<T>],
     jobs: &mut Vec<Job>,
     frame: &Numbered,
 )

@@ -1,8 +1,8 @@
-//! The parts of one server in code: a shard with the jobs that wait for it ([`Line`]), and the hub with its sessions ([`Side`]).
+//! The parts of one server in code: a shard with the jobs that wait for it ([`ShardWithJobs`]), and the hub with its sessions ([`HubWithSessions`]).
 //!
 //! ```text
-//! let mut side = Side::new(alloc, server)?;
-//! let mut line: Line<ListTable> = Line::new(alloc, 1, 1)?;
+//! let mut side = HubWithSessions::new(alloc, server)?;
+//! let mut line: ShardWithJobs<ListTable> = ShardWithJobs::new(alloc, 1, 1)?;
 //! let conn = line.attach()?;
 //! line.subscribe(conn, key, sid)?;
 //! let told = side.collect(1, line.deltas())?;
@@ -21,8 +21,8 @@ mod side;
 mod told;
 
 pub use jobs::{fill, finished_by, issue, route, take_in};
-pub use lines::{Claimed, Line};
+pub use lines::{Claimed, ShardWithJobs};
 pub use peers::is_message;
 pub use places::{place_of_conn, place_of_shard};
-pub use side::Side;
-pub use told::{Issued, Received, Told};
+pub use side::HubWithSessions;
+pub use told::{CollectResult, Issued, Received};

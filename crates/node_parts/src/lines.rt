@@ -79,15 +79,15 @@ pub enum Claimed {
 ///
 /// Seen as the shard's state and the list of the jobs. It has a place for each job of a window.
 #[derive(Drop)]
-pub struct Line<T: SubTable> {
+pub struct ShardWithJobs<T: SubTable> {
     shard: Shard<T>,
     waiting: VecDeque<Job>,
 }
 
-impl<T: SubTable> Model for Line<T> {
-    ghost use Rattle.node_law.specs.State.{Line};
+impl<T: SubTable> Model for ShardWithJobs<T> {
+    ghost use Rattle.node_law.specs.State.{ShardWithJobs};
 
-    ghost Value = { Line };
+    ghost Value = { ShardWithJobs };
 
     ghost use Rattle.std.specs.Prelude.{◌≤◌};
     ghost use Rattle.std.specs.VecDeque.{deque_capacity};
@@ -98,9 +98,9 @@ impl<T: SubTable> Model for Line<T> {
     ghost invariant = { λ line. WINDOW ≤ deque_capacity line.waiting };
 }
 
-impl<T: SubTable> Line<T> {
+impl<T: SubTable> ShardWithJobs<T> {
     /// The line of the shard of this number, of so many: no job waits.
-    pub fn new(alloc: Global, shard: u64, shards: u64) -> Result<Line<T>, AllocError>
+    pub fn new(alloc: Global, shard: u64, shards: u64) -> Result<ShardWithJobs<T>, AllocError>
         requires first { 1 ≤ shard }
         requires last { shard ≤ shards }
         requires few { shards ≤ MAX_SHARDS }
@@ -108,7 +108,7 @@ impl<T: SubTable> Line<T> {
     {
         let shard = Shard::new(alloc, shard, shards)?;
         let waiting = VecDeque::with_capacity(alloc, WINDOW as usize)?;
-        Ok(Line { shard, waiting })
+        Ok(ShardWithJobs { shard, waiting })
     }
 
     /// [`Shard::attach`].
@@ -261,7 +261,7 @@ impl<T: SubTable> Line<T> {
     }
 }
 
-impl<T: SubTable> Line<T> {
+impl<T: SubTable> ShardWithJobs<T> {
     /// Claims the queue name of this index of the job in hand, which is the next one: the candidate of the
     /// shard is chosen ([`Shard::candidate`]); where there is one the race decides, and one that wins gets
     /// its entry ([`Shard::place`]), of which the answer has a copy with `copies`. Refused as

@@ -11,11 +11,11 @@ ghost use Rattle.node_parts.specs.Sides.{session_after_frame};
 use hub_core::Hub;
 use route_session::Sessions;
 use route_values::{Body, Numbered};
-use subj::{NodeId, Server};
+use subj::{NodeId, ServerIdentity};
 
 /// The place of the peer of this name.
 #[tactic(auto, using(crate::proofs::Greeting::nobody, crate::proofs::Greeting::at_place))]
-pub(crate) fn peer_named(server: &Server, name: NodeId) -> Option<usize>
+pub(crate) fn peer_named(server: &ServerIdentity, name: NodeId) -> Option<usize>
     ensures { result ≡ peer_by_name server.now name }
 {
     let place = server.place(name)?;

@@ -3,7 +3,7 @@
 ghost use Rattle.std.specs.Prelude.{◌≡◌, ◌&&◌, ⊤, [], true, false, option_map, slice_get, IfOk};
 ghost use Rattle.subj.specs.Answers.{IsAnswered, IsDecided};
 ghost use Rattle.hub_core.specs.Calls.{IsPlanned, IsTaken, job_of, after_frames};
-ghost use Rattle.hub_core.specs.Chosen.{IsPlanOf, publication};
+ghost use Rattle.hub_core.specs.Chosen.{IsPlanOf, publication_by};
 ghost use Rattle.hub_core.specs.Events.{Collect, Receive, TakeFrom, Collected, Heard, Taken};
 ghost use Rattle.hub_core.specs.Publishing.{publish_refusal};
 ghost use Rattle.hub_core.specs.Receiving.{has_message, receive_refusal};
@@ -20,15 +20,15 @@ ghost use Rattle.subj.specs.Servers.{IsListed};
 ghost use Rattle.node_parts.specs.Sides.{ByHub, BySessions, OfHub, OfSessions, IsDone, new_side, seen_name, side_after};
 
 use crate::peers::{drop_sessions, end_old_session, peer_named, seen_of};
-use hub_core::{Hub, HubFault, PublishPlan, Told};
+use hub_core::{CollectResult, Hub, HubFault, PublishPlan};
 use route_session::{Kept, SessionFault, SessionId, Sessions};
 use route_values::{Numbered, RouteConnect, RouteInfo};
 use std::alloc::{AllocError, Global};
 use std::marker::Model;
-use subj::{ConnId, Delta, Failure, Finished, Incarnation, Job, NodeId, Pub, Server};
+use subj::{ConnId, Delta, Failure, Finished, Incarnation, Job, NodeId, Pub, ServerIdentity};
 
 /// Counts the deltas of the shard, and tells of them: [`Hub::collect`].
-fn tell(hub: &mut Hub, shard: u64, deltas: &[Delta]) -> Result<Told, Failure<HubFault>>
+fn tell(hub: &mut Hub, shard: u64, deltas: &[Delta]) -> Result<CollectResult, Failure<HubFault>>
     ensures { IsAnswered (hub_refusal hub.old.server hub.old.state (Collect shard deltas.now)) (λ told. DoesStep hub.old (Collect shard deltas.now) (Collected told.changes.items (collect_frames hub.old.server hub.old.state deltas.now) told.cut.items) hub.new) (hub.new ≡ hub.old) result }
 {
     let _shard = shard;
@@ -40,30 +40,30 @@ fn tell(hub: &mut Hub, shard: u64, deltas: &[Delta]) -> Result<Told, Failure<Hub
 /// Seen as who the server is, and the states of both. Each call is a step of the one or of the other, with what the
 /// other does at it; a refusal and want of memory leave both as they were.
 #[derive(Drop)]
-pub struct Side {
+pub struct HubWithSessions {
     hub: Hub,
     sessions: Sessions,
 }
 
-impl Model for Side {
+impl Model for HubWithSessions {
     ghost use Rattle.std.specs.Prelude.{◌≡◌};
-    ghost use Rattle.node_parts.specs.Sides.{Side};
+    ghost use Rattle.node_parts.specs.Sides.{HubWithSessions};
 
-    ghost Value = { Side };
+    ghost Value = { HubWithSessions };
 
     ghost view = { λ s. record { server = s.hub.server; hub = s.hub.state; sessions = s.sessions.state } };
 
     ghost invariant = { λ s. s.sessions.server ≡ s.hub.server };
 }
 
-impl Side {
+impl HubWithSessions {
     /// Those of a server that has just started.
-    pub fn new(alloc: Global, server: Server) -> Result<Side, AllocError>
+    pub fn new(alloc: Global, server: ServerIdentity) -> Result<HubWithSessions, AllocError>
         ensures { IfOk result (λ side. side ≡ new_side server) }
     {
         let sessions = Sessions::new(alloc, server.try_clone(alloc)?);
         let hub = Hub::new(alloc, server)?;
-        Ok(Side { hub, sessions })
+        Ok(HubWithSessions { hub, sessions })
     }
 
     /// The names tell the servers of the cluster apart, and this one is one of them.
@@ -91,7 +91,7 @@ impl Side {
 
     /// Whether the other server, at this place, is known as it runs: a session with its incarnation is kept, and
     /// [`Hub::knows`]. Takes no memory.
-    pub fn knows(&self, place: usize, other: &Side) -> bool
+    pub fn knows(&self, place: usize, other: &HubWithSessions) -> bool
         ensures { result ≡ (has_session place other.now.server.inc self.now.sessions.standing && knows_at (slice_get self.now.hub.peers place) other.now.server.inc other.now.hub.counts) }
     {
         self.sessions.keeps(place, other.hub.server().inc()) && self.hub.knows(place, &other.hub)
@@ -132,13 +132,13 @@ impl Side {
     pub fn plan_publish(
         &self,
         conn: ConnId,
-        said: &Pub,
+        publication: &Pub,
         word: u64,
         finished: &Finished,
     ) -> Result<PublishPlan, Failure<HubFault>>
-        ensures { IsAnswered (publish_refusal self.now.server self.now.hub (publication conn said.now word) finished.now) (λ plan. IsPlanOf self.now.server self.now.hub (publication conn said.now word) plan.job plan.frames.items) ⊤ result }
+        ensures { IsAnswered (publish_refusal self.now.server self.now.hub (publication_by conn publication.now word) finished.now) (λ plan. IsPlanOf self.now.server self.now.hub (publication_by conn publication.now word) plan.job plan.frames.items) ⊤ result }
     {
-        self.hub.plan_publish(conn, said, word, finished)
+        self.hub.plan_publish(conn, publication, word, finished)
     }
 
     /// [`Hub::plan_receive`].
@@ -239,7 +239,11 @@ impl Side {
     }
 
     /// [`Hub::collect`] of the deltas of the shard; the sessions that are kept with peers that are cut end.
-    pub fn collect(&mut self, shard: u64, deltas: &[Delta]) -> Result<Told, Failure<HubFault>>
+    pub fn collect(
+        &mut self,
+        shard: u64,
+        deltas: &[Delta],
+    ) -> Result<CollectResult, Failure<HubFault>>
         ensures { IsAnswered (hub_refusal self.old.server self.old.hub (Collect shard deltas.now)) (λ told. IsDone self.old (ByHub (Collect shard deltas.now)) (OfHub (Collected told.changes.items (collect_frames self.old.server self.old.hub deltas.now) told.cut.items)) self.new) (self.new ≡ self.old) result }
     {
         let told = match tell(&mut self.hub, shard, deltas) {
@@ -251,7 +255,11 @@ impl Side {
     }
 
     /// [`Hub::receive`] of news. A frame of a later life of its peer ends the session that was kept with it.
-    pub fn hear(&mut self, frame: &Numbered, finished: &Finished) -> Result<(), Failure<HubFault>>
+    pub fn apply_update(
+        &mut self,
+        frame: &Numbered,
+        finished: &Finished,
+    ) -> Result<(), Failure<HubFault>>
         requires { has_message frame.now.body ≡ false }
         ensures { IsAnswered (hub_refusal self.old.server self.old.hub (Receive frame.now finished.now)) (λ _. IsDone self.old (ByHub (Receive frame.now finished.now)) (OfHub (Heard frame.now.number)) self.new) (self.new ≡ self.old) result }
     {

@@ -22,7 +22,7 @@ pub enum Received {
 
 /// What the peers were told of a shard's subscriptions.
 #[derive(Debug, Drop)]
-pub struct Told {
+pub struct CollectResult {
     /// How many changes of interest.
     pub changes: usize,
     /// How many frames were put.

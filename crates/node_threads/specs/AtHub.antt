@@ -21,20 +21,20 @@ use Rattle.node_parts.specs.declared.told.Received.TheVariants.{Routed, Heard}
 use Rattle.hub_core.specs.Receiving.{receive_refusal}
 use Rattle.hub_core.specs.Steps.{hub_refusal}
 use Rattle.hub_core.specs.Telling.{collect_frames}
-use Rattle.hub_core.specs.declared.answers.Told.{Told}
+use Rattle.hub_core.specs.declared.answers.CollectResult.{CollectResult}
 use Rattle.shard_core.specs.ShardEvents as of_shard
 use Rattle.node_threads.specs.AtWork as at_shard
 use Rattle.node_threads.specs.AtWork.{AtWork}
-use Rattle.node_parts.specs.Sides.{Side, new_side, Event, ByHub, Answer, OfHub, IsDone, Done, Leads, jobs_of}
+use Rattle.node_parts.specs.Sides.{HubWithSessions, new_side, Event, ByHub, Answer, OfHub, IsDone, Done, Leads, jobs_of}
 
 -- the hub with its sessions; the last turn that it issued in the race, and its loads of the shards' finished turns; the last of these; and all jobs that it gave to the shards, in order
 pub record AtHub : Type 0 where
-  pub side : Side
+  pub side : HubWithSessions
   pub part : HubPart
   pub finished : List ℕ
   pub issued : List Job
 
-abbrev pub hub_at : Side → HubPart → List ℕ → List Job → AtHub
+abbrev pub hub_at : HubWithSessions → HubPart → List ℕ → List Job → AtHub
 hub_at side part finished issued = record { side = side; part = part; finished = finished; issued = issued }
 
 -- ---- what it does
@@ -101,11 +101,11 @@ pub record Receives (shards : ℕ) (old : AtHub) (frame : Frame) (result : Resul
   pub answered : IsAnswered (receive_refusal seen.side.server seen.side.hub seen.finished frame) (λ received. IsReceived seen frame received new) (new ≡ seen) result
 
 -- the deltas that the hub counts are those that the shard gives away
-pub record HasCollected (old : AtHub) (shard : AtWork) (told : Told) (new : AtHub) (left : AtWork) : Type 0 where
+pub record HasCollected (old : AtHub) (shard : AtWork) (told : CollectResult) (new : AtHub) (left : AtWork) : Type 0 where
   pub does : Does old (ByHub (of_hub.Collect shard.part.shard shard.state.deltas)) (OfHub (of_hub.Collected told.changes.items (collect_frames old.side.server old.side.hub shard.state.deltas) told.cut.items)) new
   pub gives : at_shard.Does shard of_shard.Collect (of_shard.Collected shard.state.deltas) left
 
-abbrev pub Collects : AtHub → AtWork → Result Told (Failure HubFault) → AtHub → AtWork → Type 0
+abbrev pub Collects : AtHub → AtWork → Result CollectResult (Failure HubFault) → AtHub → AtWork → Type 0
 Collects old shard result new left = IsAnswered (hub_refusal old.side.server old.side.hub (of_hub.Collect shard.part.shard shard.state.deltas)) (λ told. HasCollected old shard told new left) ((new ≡ old) × (left ≡ shard)) result
 
 -- ---- what its fields keep

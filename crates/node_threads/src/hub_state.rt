@@ -6,7 +6,7 @@ ghost use Rattle.node_threads.specs.Outlets.{jobs_owed, AreFirst};
 ghost use Rattle.subj.specs.Answers.{IsAnswered, IsDecided};
 ghost use Rattle.claim_cells.specs.Calls.{IsLooked};
 ghost use Rattle.claim_cells.specs.Rule.{fresh_hub};
-ghost use Rattle.hub_core.specs.Chosen.{IsPlanOf, publication};
+ghost use Rattle.hub_core.specs.Chosen.{IsPlanOf, publication_by};
 ghost use Rattle.hub_core.specs.Calls.{job_of};
 ghost use Rattle.hub_core.specs.Events.{Receive, TakeFrom, Heard as WasHeard, Taken};
 ghost use Rattle.hub_core.specs.Publishing.{publish_refusal};
@@ -20,48 +20,48 @@ ghost use Rattle.node_parts.specs.Sides.{ByHub, BySessions, OfHub, OfSessions, n
 use crate::node_name::NodeName;
 use crate::shard_state::ShardState;
 use claim_cells::{Cells, HubSeat};
-use hub_core::{HubFault, PublishPlan, Told};
+use hub_core::{CollectResult, HubFault, PublishPlan};
 use job_lane::{LaneIn, Run};
-use node_parts::{Issued, Received, Side, is_message};
+use node_parts::{HubWithSessions, Issued, Received, is_message};
 use route_session::{Kept, SessionFault, SessionId};
 use route_values::{Numbered, RouteConnect, RouteInfo};
 use std::alloc::{AllocError, Global};
 use std::marker::{Model, PhantomData};
 use std::sync::Wait;
 use sub_table::SubTable;
-use subj::{ConnId, Failure, Finished, Job, Pub, Server, Turn};
+use subj::{ConnId, Failure, Finished, Job, Pub, ServerIdentity, Turn};
 
 /// The end of a shard's lane that runs are pushed at.
 ///
 /// Seen as the shard, all jobs pushed, and whether the lane has the run that is handed out.
 #[derive(Drop)]
-pub struct Line<N: NodeName> {
+pub struct LaneSender<N: NodeName> {
     shard: u64,
     lane: LaneIn,
     taken: bool,
     of: PhantomData<N>,
 }
 
-impl<N: NodeName> Model for Line<N> {
+impl<N: NodeName> Model for LaneSender<N> {
     ghost use Rattle.std.specs.Prelude.{◌≡◌, ◌-◌, Some, slice_get};
-    ghost use Rattle.node_threads.specs.Outlets.{Line};
+    ghost use Rattle.node_threads.specs.Outlets.{LaneSender};
 
-    ghost Value = { Line };
+    ghost Value = { LaneSender };
 
     ghost view = { λ s. record { shard = s.shard; pushed = s.lane.pushed; taken = s.taken } };
 
     ghost invariant = { λ s. slice_get N.lanes (s.shard - 1) ≡ Some s.lane.lane };
 }
 
-impl<N: NodeName> Line<N> {
+impl<N: NodeName> LaneSender<N> {
     /// The end of the lane of this shard, counted from 1, to which nothing was pushed. Required: the server's
     /// name has it as that shard's lane.
-    pub fn new(shard: u64, lane: LaneIn) -> Line<N>
+    pub fn new(shard: u64, lane: LaneIn) -> LaneSender<N>
         requires lane { slice_get N.lanes (shard - 1) ≡ Some lane.lane }
         requires fresh { lane.pushed ≡ [] }
         ensures { result ≡ record { shard = shard; pushed = []; taken = false } }
     {
-        Line {
+        LaneSender {
             shard,
             lane,
             taken: false,
@@ -81,7 +81,7 @@ impl<N: NodeName> Line<N> {
         ensures lane { slice_get N.lanes (self.shard - 1) ≡ Some result.lane }
         ensures pushed { result.pushed ≡ self.pushed }
     {
-        let Line { lane, .. } = self;
+        let LaneSender { lane, .. } = self;
         lane
     }
 
@@ -126,7 +126,7 @@ impl<N: NodeName> Line<N> {
 #[derive(Drop)]
 struct Outlet<N: NodeName> {
     alloc: Global,
-    lines: Vec<Line<N>>,
+    lines: Vec<LaneSender<N>>,
     run: Option<Run>,
     unsent: Vec<Job>,
 }
@@ -143,14 +143,14 @@ impl<N: NodeName> Model for Outlet<N> {
 }
 
 /// Whether each lane has the run that is handed out.
-fn all_have<N: NodeName>(lines: &[Line<N>]) -> bool
+fn all_have<N: NodeName>(lines: &[LaneSender<N>]) -> bool
     ensures { result ≡ true → All (λ line. line.taken ≡ true) lines.now }
 {
     lines.iter().all(|line| line.has_taken())
 }
 
 /// Pushes the run to each lane that does not have it.
-fn offer_to_each<N: NodeName, R: Wait>(rt: &R, lines: &mut [Line<N>], run: &Run)
+fn offer_to_each<N: NodeName, R: Wait>(rt: &R, lines: &mut [LaneSender<N>], run: &Run)
     requires { All (λ line. AreNumbered (line.pushed ++ jobs_owed line.taken (Some run.now))) lines.old }
     ensures { map (λ line. line.pushed ++ jobs_owed line.taken (Some run.now)) lines.new ≡ map (λ line. line.pushed ++ jobs_owed line.taken (Some run.now)) lines.old }
 {
@@ -160,7 +160,7 @@ fn offer_to_each<N: NodeName, R: Wait>(rt: &R, lines: &mut [Line<N>], run: &Run)
 }
 
 /// Another run is handed out, that no lane has.
-fn begin_each<N: NodeName>(lines: &mut [Line<N>])
+fn begin_each<N: NodeName>(lines: &mut [LaneSender<N>])
     ensures { (map (λ line. line.pushed) lines.new ≡ map (λ line. line.pushed) lines.old) × All (λ line. line.taken ≡ false) lines.new }
 {
     for line in lines.iter_mut() {
@@ -169,7 +169,7 @@ fn begin_each<N: NodeName>(lines: &mut [Line<N>])
 }
 
 /// Pushes the run to each lane that does not have it.
-fn offer_all<N: NodeName, R: Wait>(rt: &R, lines: &mut Vec<Line<N>>, run: &Run)
+fn offer_all<N: NodeName, R: Wait>(rt: &R, lines: &mut Vec<LaneSender<N>>, run: &Run)
     requires { All (λ line. AreNumbered (line.pushed ++ jobs_owed line.taken (Some run.now))) lines.old.items }
     ensures { map (λ line. line.pushed ++ jobs_owed line.taken (Some run.now)) lines.new.items ≡ map (λ line. line.pushed ++ jobs_owed line.taken (Some run.now)) lines.old.items }
 {
@@ -177,7 +177,7 @@ fn offer_all<N: NodeName, R: Wait>(rt: &R, lines: &mut Vec<Line<N>>, run: &Run)
 }
 
 /// Another run is handed out, that no lane has.
-fn begin_all<N: NodeName>(lines: &mut Vec<Line<N>>)
+fn begin_all<N: NodeName>(lines: &mut Vec<LaneSender<N>>)
     ensures { (map (λ line. line.pushed) lines.new.items ≡ map (λ line. line.pushed) lines.old.items) × All (λ line. line.taken ≡ false) lines.new.items }
 {
     begin_each(lines.as_mut_slice());
@@ -185,7 +185,7 @@ fn begin_all<N: NodeName>(lines: &mut Vec<Line<N>>)
 
 impl<N: NodeName> Outlet<N> {
     /// The lanes, one a shard, to which nothing was pushed.
-    fn new(alloc: Global, lines: Vec<Line<N>>) -> Outlet<N>
+    fn new(alloc: Global, lines: Vec<LaneSender<N>>) -> Outlet<N>
         requires some { 0 < length lines.items }
         requires fresh { All (λ line. line.pushed ≡ []) lines.items }
         ensures { result.jobs ≡ [] }
@@ -258,7 +258,7 @@ impl<N: NodeName> Outlet<N> {
     }
 
     /// The ends of the lanes.
-    fn into_lines(self) -> Vec<Line<N>>
+    fn into_lines(self) -> Vec<LaneSender<N>>
         ensures { All (λ line. AreFirst line.pushed self.jobs) result.items }
     {
         let Outlet { lines, .. } = self;
@@ -275,7 +275,7 @@ impl<N: NodeName> Outlet<N> {
 /// lane is a beginning of these.
 #[derive(Drop)]
 pub struct HubState<N: NodeName> {
-    side: Side,
+    side: HubWithSessions,
     seat: HubSeat,
     finished: Finished,
     outlet: Outlet<N>,
@@ -304,10 +304,10 @@ impl<N: NodeName> HubState<N> {
     /// The hub of a server that has just started, with these lanes, one a shard: nothing is issued.
     pub fn new(
         alloc: Global,
-        server: Server,
+        server: ServerIdentity,
         cells: &Cells,
         seat: HubSeat,
-        lines: Vec<Line<N>>,
+        lines: Vec<LaneSender<N>>,
     ) -> Result<HubState<N>, AllocError>
         requires race { (cells.now ≡ N.race) × (seat.race ≡ N.race) }
         requires shards { server.shards ≡ N.race.shards }
@@ -316,7 +316,7 @@ impl<N: NodeName> HubState<N> {
         requires lines { All (λ line. line.pushed ≡ []) lines.items }
         ensures { IfOk result (λ made. (made.side ≡ new_side server) × (made.issued ≡ [])) }
     {
-        let side = Side::new(alloc, server)?;
+        let side = HubWithSessions::new(alloc, server)?;
         side.is_listed();
         let mut seat = seat;
         let finished = cells.look(&mut seat);
@@ -359,20 +359,23 @@ impl<N: NodeName> HubState<N> {
         &mut self,
         cells: &Cells,
         conn: ConnId,
-        said: &Pub,
+        publication: &Pub,
         word: u64,
     ) -> Result<PublishPlan, Failure<HubFault>>
         requires race { cells.now ≡ N.race }
         ensures looks { Looks N.race.shards self.old self.new }
-        ensures planned { IsAnswered (publish_refusal self.new.side.server self.new.side.hub (publication conn said.now word) self.new.finished) (λ plan. IsPlanOf self.new.side.server self.new.side.hub (publication conn said.now word) plan.job plan.frames.items) ⊤ result }
+        ensures planned { IsAnswered (publish_refusal self.new.side.server self.new.side.hub (publication_by conn publication.now word) self.new.finished) (λ plan. IsPlanOf self.new.side.server self.new.side.hub (publication_by conn publication.now word) plan.job plan.frames.items) ⊤ result }
         ensures fresh { refuses_busy result ≡ true → IsLooked N.race.shards self.old.part self.new.finished self.new.part }
     {
-        let planned = self.side.plan_publish(conn, said, word, &self.finished);
+        let planned = self
+            .side
+            .plan_publish(conn, publication, word, &self.finished);
         if !is_busy(&planned) {
             return planned;
         }
         self.look(cells);
-        self.side.plan_publish(conn, said, word, &self.finished)
+        self.side
+            .plan_publish(conn, publication, word, &self.finished)
     }
 
     /// Issues a publication of the connection: it takes the next number and the next turn, its frames wait
@@ -386,13 +389,13 @@ impl<N: NodeName> HubState<N> {
         &mut self,
         cells: &Cells,
         conn: ConnId,
-        said: &Pub,
+        publication: &Pub,
         word: u64,
     ) -> Result<Issued, Failure<HubFault>>
         requires { cells.now ≡ N.race }
-        ensures { Publishes N.race.shards self.old (publication conn said.now word) result self.new }
+        ensures { Publishes N.race.shards self.old (publication_by conn publication.now word) result self.new }
     {
-        let PublishPlan { job, frames } = self.plan_publish(cells, conn, said, word)?;
+        let PublishPlan { job, frames } = self.plan_publish(cells, conn, publication, word)?;
         let Ok(()) = self.outlet.reserve() else {
             return Err(Failure::OutOfMemory);
         };
@@ -453,12 +456,12 @@ impl<N: NodeName> HubState<N> {
         Ok(turn)
     }
 
-    /// Hears news of a peer.
-    fn hear(&mut self, frame: &Numbered) -> Result<(), Failure<HubFault>>
+    /// Applies news of a peer.
+    fn apply_update(&mut self, frame: &Numbered) -> Result<(), Failure<HubFault>>
         requires { has_message frame.now.body ≡ false }
         ensures { IsAnswered (receive_refusal self.old.side.server self.old.side.hub self.old.finished frame.now) (λ _. Does self.old (ByHub (Receive frame.now self.old.finished)) (OfHub (WasHeard frame.now.number)) self.new) (self.new ≡ self.old) result }
     {
-        self.side.hear(frame, &self.finished)
+        self.side.apply_update(frame, &self.finished)
     }
 
     /// Takes a frame of a peer. A message is issued: its job has the next turn and is given to each shard,
@@ -483,7 +486,7 @@ impl<N: NodeName> HubState<N> {
                 Err(fault) => Err(fault),
             };
         }
-        match self.hear(frame) {
+        match self.apply_update(frame) {
             Ok(()) => Ok(Received::Heard(frame.number())),
             Err(fault) => Err(fault),
         }
@@ -542,7 +545,7 @@ impl<N: NodeName> HubState<N> {
     pub fn collect<T: SubTable>(
         &mut self,
         shard: &mut ShardState<T, N>,
-    ) -> Result<Told, Failure<HubFault>>
+    ) -> Result<CollectResult, Failure<HubFault>>
         ensures { Collects self.old shard.old result self.new shard.new }
     {
         let number = shard.shard();
@@ -567,7 +570,7 @@ impl<N: NodeName> HubState<N> {
 
     /// Its seat, and its ends of the lanes: what was pushed to each is a beginning of the jobs that it gave
     /// to the shards. All that it ever did is a list of the hub's and the sessions' own steps.
-    pub fn into_parts(self) -> (HubSeat, Vec<Line<N>>)
+    pub fn into_parts(self) -> (HubSeat, Vec<LaneSender<N>>)
         ensures seat { (result.0.race ≡ N.race) × (result.0.part ≡ self.part) }
         ensures lines { All (λ line. AreFirst line.pushed self.issued) result.1.items }
         ensures done { IsAtHub N.race.shards self }

@@ -4,13 +4,13 @@
 //! ```text
 //! let mut shard: ShardState<ListTable, N> = ShardState::new(alloc, seat, 1, far)?;
 //! let conn = shard.attach()?;
-//! hub.publish(&cells, conn, &said, 0)?;
+//! hub.publish(&cells, conn, &publication, 0)?;
 //! hub.push_jobs(rt);
 //! let turned = shard.turn(rt, &cells, &Open, &mut Tape::new(alloc, false));
 //! ```
 //!
 //! In reading order: `node_name` ties the parts of one server; `hub_state` and `shard_state` stand under the locks, the first with the hub's
-//! ends of the lanes (`Line`), the second with the turns of a shard, which `gates` may hold, and which come to what `turned` says. A `tape`
+//! ends of the lanes (`LaneSender`), the second with the turns of a shard, which `gates` may hold, and which come to what `turned` says. A `tape`
 //! is what is kept in writing, of a shard by `noting`, in `shard_entries`. `laws` says that all this is the server's own step.
 #![tactic(auto)]
 
@@ -25,7 +25,7 @@ mod tape;
 mod turned;
 
 pub use gates::{Gate, Open};
-pub use hub_state::{HubState, Line};
+pub use hub_state::{HubState, LaneSender};
 pub use laws::sides_are_parts;
 pub use node_name::NodeName;
 pub use shard_entries::{Deltas, ShardEntry, ShardEvent, ShardTold};

@@ -23,7 +23,7 @@ use claim_cells::{Cells, ShardSeat};
 use client_frames::{ErrText, ReplyFrame};
 use job_lane::LaneOut;
 use outbox::Entry;
-use shard_core::{Closed, Recipients, Shard, ShardFault, Subscribed, claims_are_whole};
+use shard_core::{Closed, DirtyConns, Shard, ShardFault, Subscribed, claims_are_whole};
 use std::alloc::{AllocError, Global};
 use std::marker::{Model, PhantomData};
 use std::sync::Wait;
@@ -185,11 +185,11 @@ impl<T: SubTable, N: NodeName> ShardState<T, N> {
         self.shard.is_urgent()
     }
 
-    /// [`Shard::swap_recipients`].
-    pub fn swap_recipients(&mut self, recipients: &mut Recipients)
+    /// [`Shard::swap_dirty_conns`].
+    pub fn swap_dirty_conns(&mut self, dirty_conns: &mut DirtyConns)
         ensures { self.new ≡ self.old }
     {
-        self.shard.swap_recipients(recipients);
+        self.shard.swap_dirty_conns(dirty_conns);
     }
 
     /// [`Shard::deltas`].

@@ -121,9 +121,9 @@ fn heard_told(
     tell_number(answer, ", mark ", mark)
 }
 
-/// Hears a change.
-fn hear(answer: &mut String, view: &mut View, number: u64, change: Change) -> Option<()> {
-    let heard = view.hear(number, change);
+/// Applies a change.
+fn apply_update(answer: &mut String, view: &mut View, number: u64, change: Change) -> Option<()> {
+    let heard = view.apply_update(number, change);
     heard_told(answer, heard, view.mark())
 }
 
@@ -138,10 +138,15 @@ fn numbered_keys(alloc: Global, count: u64) -> Option<SnapshotKeys> {
     SnapshotKeys::from_keys(keys)
 }
 
-/// Hears a snapshot.
-fn hear_all(answer: &mut String, view: &mut View, alloc: Global, words: &Words<'_>) -> Option<()> {
+/// Applies a snapshot.
+fn apply_snapshot(
+    answer: &mut String,
+    view: &mut View,
+    alloc: Global,
+    words: &Words<'_>,
+) -> Option<()> {
     let keys = numbered_keys(alloc, words.number(1))?;
-    match view.hear_all(words.number(0), keys) {
+    match view.apply_snapshot(words.number(0), keys) {
         Ok(()) => heard_told(answer, Ok(()), view.mark()),
         Err(fault) => heard_told(answer, Err(Failure::Refused(fault)), view.mark()),
     }
@@ -178,10 +183,10 @@ pub fn view_call(
     match call {
         "hear_up" => {
             let weighted = WeightedKey::new(key_at(alloc, words, 1)?, words.number(3))?;
-            hear(answer, view, number, Change::Up(weighted))
+            apply_update(answer, view, number, Change::Up(weighted))
         }
-        "hear_gone" => hear(answer, view, number, Change::Gone(key_at(alloc, words, 1)?)),
-        "hear_all" => hear_all(answer, view, alloc, words),
+        "hear_gone" => apply_update(answer, view, number, Change::Gone(key_at(alloc, words, 1)?)),
+        "hear_all" => apply_snapshot(answer, view, alloc, words),
         "has_plain" => tell_whether(answer, view.has_plain(&subject_of(alloc, words.at(0))?)),
         "weight_in" => weight_in(answer, view, alloc, words),
         "names_twice" => names_twice(answer, view, &subject_of(alloc, words.at(0))?),
@@ -280,7 +285,7 @@ fn body_of(alloc: Global, kind: &str, words: &Words<'_>) -> Option<Body> {
 }
 
 /// Takes a frame of this kind.
-fn hear_frame(
+fn receive_frame(
     answer: &mut String,
     stand: &mut HubStand,
     alloc: Global,
@@ -304,8 +309,13 @@ fn publication(alloc: Global, words: &Words<'_>) -> Option<Pub> {
 }
 
 /// Publishes, with the word 0.
-fn publish(answer: &mut String, stand: &mut HubStand, conn: ConnId, said: &Pub) -> Option<()> {
-    match stand.hub.publish(conn, said, 0, &stand.finished) {
+fn publish(
+    answer: &mut String,
+    stand: &mut HubStand,
+    conn: ConnId,
+    publication: &Pub,
+) -> Option<()> {
+    match stand.hub.publish(conn, publication, 0, &stand.finished) {
         Ok(job) => {
             stand.note(job.turn);
             let (turn, names) = (job.turn.get(), job.queues.as_slice().len());
@@ -353,8 +363,8 @@ fn plan_told(answer: &mut String, plan: &PublishPlan) -> Option<()> {
 }
 
 /// Tells what a publication would owe, where no shard has finished a turn.
-fn plan(answer: &mut String, hub: &Hub, conn: ConnId, said: &Pub, word: u64) -> Option<()> {
-    match hub.plan_publish(conn, said, word, &Finished::new()) {
+fn plan(answer: &mut String, hub: &Hub, conn: ConnId, publication: &Pub, word: u64) -> Option<()> {
+    match hub.plan_publish(conn, publication, word, &Finished::new()) {
         Ok(plan) => plan_told(answer, &plan),
         Err(fault) => hub_refused(answer, fault),
     }
@@ -459,7 +469,7 @@ fn stand_call(
             ConnId::new(number),
             &publication(alloc, words)?,
         ),
-        "message" | "plus" | "snapshot" => hear_frame(answer, stand, alloc, call, words),
+        "message" | "plus" | "snapshot" => receive_frame(answer, stand, alloc, call, words),
         "finish" => {
             finish(&mut stand.finished, number, turn)?;
             tell(answer, "ok")

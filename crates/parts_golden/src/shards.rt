@@ -9,7 +9,7 @@ use golden::{
 };
 use outbox::{Entry, Mode, Outbox, Tag};
 use pattern_trie::PatternTrie;
-use shard_core::{Candidate, Recipients, Shard, ShardFault, Subscribed, claims_are_whole};
+use shard_core::{Candidate, DirtyConns, Shard, ShardFault, Subscribed, claims_are_whole};
 use std::alloc::Global;
 use std::fmt::Write;
 use sub_table::ListTable;
@@ -468,11 +468,11 @@ pub fn race_call(
 
 type ListShard = Shard<ListTable>;
 
-/// A shard, the recipients that it told last, and the turn that comes next.
+/// A shard, the connections that it told last, and the turn that comes next.
 #[derive(Drop)]
 pub struct Stand {
     shard: ListShard,
-    recipients: Recipients,
+    dirty_conns: DirtyConns,
     turn: u64,
 }
 
@@ -494,7 +494,7 @@ fn start_shard(
     let shard = shard_of(alloc, words.number(0), words.number(1))?;
     let stand = Stand {
         shard,
-        recipients: Recipients::new(alloc),
+        dirty_conns: DirtyConns::new(alloc),
         turn: 1,
     };
     put(place, Some(stand));
@@ -678,13 +678,13 @@ fn place_first(answer: &mut String, shard: &mut ListShard, alloc: Global) -> Opt
 }
 
 /// Tells the connections that something was put for.
-fn recipients(answer: &mut String, stand: &mut Stand) -> Option<()> {
-    stand.shard.swap_recipients(&mut stand.recipients);
-    if stand.recipients.is_any() {
+fn dirty_conns(answer: &mut String, stand: &mut Stand) -> Option<()> {
+    stand.shard.swap_dirty_conns(&mut stand.dirty_conns);
+    if stand.dirty_conns.is_any() {
         return tell(answer, "any");
     }
     tell(answer, "conns")?;
-    for conn in stand.recipients.conns() {
+    for conn in stand.dirty_conns.conns() {
         tell_number(answer, " ", conn.get())?;
     }
     Some(())
@@ -744,7 +744,7 @@ fn stand_call(
         "begin" => begin(answer, stand, alloc, words),
         "end" => end(answer, stand, "ok"),
         "work" => work(answer, stand, alloc, words),
-        "recipients" => recipients(answer, stand),
+        "recipients" => dirty_conns(answer, stand),
         _ => lone_call(answer, &mut stand.shard, alloc, call, words),
     }
 }

@@ -2,12 +2,12 @@
 use Rattle.std.proofs.Common.{◌≡◌, ℕ, ◌+◌, ◌<◌, List, ◌++◌, length, drop, get_or, sym, ap, ◌∙◌, append_assoc}
 use Rattle.std.specs.List.{flat_map}
 use Rattle.std.proofs.lemmas.List.{at_drop_more}
-use Rattle.subj.specs.Servers.{Server}
+use Rattle.subj.specs.Servers.{ServerIdentity}
 use Rattle.shard_core.specs.declared.calls.Placed.{Placed}
 use Rattle.world_law.specs.Changes.{placement_of}
 use Rattle.world_law.specs.Play.{placements_put}
 
-pub entry_split : (server : Server) (step : ℕ) (xs items : List Placed) (i : ℕ) (x : Placed) → xs ≡ items → i < length xs → x ≡ get_or xs i x
+pub entry_split : (server : ServerIdentity) (step : ℕ) (xs items : List Placed) (i : ℕ) (x : Placed) → xs ≡ items → i < length xs → x ≡ get_or xs i x
     → placements_put server step (drop i items) ≡ placement_of server step x.conn x.entry.bytes x.entry.tag ++ placements_put server step (drop (i + 1) items)
 entry_split server step xs items i x same lt is =
     ap (λ l. placements_put server step (drop i l)) (sym same)

@@ -4,7 +4,7 @@ use Rattle.std.specs.Prelude.{filter, is_some, if◌then◌else◌}
 use Rattle.std.specs.Option.{option_and_then}
 use Rattle.std.proofs.lemmas.Option.{none-some, same_Some}
 use Rattle.list_laws.proofs.Tests.{eq_true, true_eq, no_cause, and_true, not_false}
-use Rattle.subj.specs.Servers.{Server, place, is_peer}
+use Rattle.subj.specs.Servers.{ServerIdentity, place, is_peer}
 use Rattle.route_values.specs.Records.{Info, Connect}
 use Rattle.route_session.specs.declared.faults.SessionFault.{SessionFault}
 use Rattle.route_session.specs.declared.faults.SessionFault.TheVariants.{WrongName, OldIncarnation, Duplicate, UnknownSession}
@@ -79,13 +79,13 @@ past false why o kept other e = e
 
 -- ---- an INFO
 
-pub record AfterInfo (server : Server) (s : State) (session : Session) (info : Info) (end : Option SessionFault) : Type 0 where
+pub record AfterInfo (server : ServerIdentity) (s : State) (session : Session) (info : Info) (end : Option SessionFault) : Type 0 where
   pub q : ℕ
   pub new : is_some session.kept ≡ false
   pub peer : place server info.server_name ≡ q
   pub told : duplicate_fault (info_offer server session info) (kept_for q s.standing) ≡ end
 
-pub info_taken : (server : Server) (s : State) (session : Session) (info : Info) (least : ℕ) → info_refusal server s (Some session) info least ≡ None → AfterInfo server s session info None
+pub info_taken : (server : ServerIdentity) (s : State) (session : Session) (info : Info) (least : ℕ) → info_refusal server s (Some session) info least ≡ None → AfterInfo server s session info None
 info_taken server s session info least e = let f = no_cause (is_some session.kept) UnknownSession (info_fault server s session info least session.dialed) e in by session.dialed f.0 f.1
   where
     by : (o : Option ℕ) → is_some session.kept ≡ false → info_fault server s session info least o ≡ None → AfterInfo server s session info None
@@ -95,7 +95,7 @@ info_taken server s session info least e = let f = no_cause (is_some session.kep
         let g = no_cause (nat_lt info.inc least) OldIncarnation (duplicate_fault (info_offer server session info) (kept_for q s.standing)) f.1 in
         record { q = q; new = new; peer = eq_true (place server info.server_name) q ((and_true (nat_eq (place server info.server_name) q) (is_peer server q) (not_false (nat_eq (place server info.server_name) q && is_peer server q) f.0)).0); told = g.1 }
 
-info_lost : (server : Server) (s : State) (session : Session) (info : Info) (least kept : ℕ) → info_refusal server s (Some session) info least ≡ Some (Duplicate kept) → duplicate_fault (info_offer server session info) (kept_for (place server info.server_name) s.standing) ≡ Some (Duplicate kept)
+info_lost : (server : ServerIdentity) (s : State) (session : Session) (info : Info) (least kept : ℕ) → info_refusal server s (Some session) info least ≡ Some (Duplicate kept) → duplicate_fault (info_offer server session info) (kept_for (place server info.server_name) s.standing) ≡ Some (Duplicate kept)
 info_lost server s session info least kept e = by session.dialed (past (is_some session.kept) UnknownSession (info_fault server s session info least session.dialed) kept refl e)
   where
     by : (o : Option ℕ) → info_fault server s session info least o ≡ Some (Duplicate kept) → duplicate_fault (info_offer server session info) (kept_for (place server info.server_name) s.standing) ≡ Some (Duplicate kept)
@@ -129,11 +129,11 @@ info_keeps_best server s number info least session at = record {
 
 -- ---- a CONNECT
 
-pub record AfterConnect (server : Server) (s : State) (session : Session) (connect : Connect) : Type 0 where
+pub record AfterConnect (server : ServerIdentity) (s : State) (session : Session) (connect : Connect) : Type 0 where
   pub new : is_some session.kept ≡ false
   pub told : duplicate_fault (connect_offer server connect) (kept_for (place server connect.server_name) s.standing) ≡ None
 
-pub connect_taken : (server : Server) (s : State) (session : Session) (connect : Connect) (least : ℕ) → connect_refusal server s (Some session) connect least ≡ None → AfterConnect server s session connect
+pub connect_taken : (server : ServerIdentity) (s : State) (session : Session) (connect : Connect) (least : ℕ) → connect_refusal server s (Some session) connect least ≡ None → AfterConnect server s session connect
 connect_taken server s session connect least e = let f = no_cause (is_some session.kept) UnknownSession (connect_fault server s connect least session.dialed) e in by session.dialed f.0 f.1
   where
     by : (o : Option ℕ) → is_some session.kept ≡ false → connect_fault server s connect least o ≡ None → AfterConnect server s session connect
@@ -144,7 +144,7 @@ connect_taken server s session connect least e = let f = no_cause (is_some sessi
         let g = no_cause (nat_lt connect.inc least || not (nat_eq connect.to_inc server.inc)) OldIncarnation last f.1 in
         record { new = new; told = g.1 }
 
-connect_lost : (server : Server) (s : State) (session : Session) (connect : Connect) (least kept : ℕ) → connect_refusal server s (Some session) connect least ≡ Some (Duplicate kept) → duplicate_fault (connect_offer server connect) (kept_for (place server connect.server_name) s.standing) ≡ Some (Duplicate kept)
+connect_lost : (server : ServerIdentity) (s : State) (session : Session) (connect : Connect) (least kept : ℕ) → connect_refusal server s (Some session) connect least ≡ Some (Duplicate kept) → duplicate_fault (connect_offer server connect) (kept_for (place server connect.server_name) s.standing) ≡ Some (Duplicate kept)
 connect_lost server s session connect least kept e = by session.dialed (past (is_some session.kept) UnknownSession (connect_fault server s connect least session.dialed) kept refl e)
   where
     by : (o : Option ℕ) → connect_fault server s connect least o ≡ Some (Duplicate kept) → duplicate_fault (connect_offer server connect) (kept_for (place server connect.server_name) s.standing) ≡ Some (Duplicate kept)

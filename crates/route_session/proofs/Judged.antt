@@ -6,7 +6,7 @@ use Rattle.std.specs.Str.{bytes_eq}
 use Rattle.std.specs.Bool.{then_some}
 use Rattle.std.proofs.lemmas.Bool.Decides.{nat_tests}
 use Rattle.std.proofs.lemmas.Option.{none-some, same_Some}
-use Rattle.subj.specs.Servers.{Server, place, is_peer}
+use Rattle.subj.specs.Servers.{ServerIdentity, place, is_peer}
 use Rattle.route_values.specs.Records.{Info, is_serial}
 use Rattle.list_laws.proofs.Tests.{true_eq}
 use Rattle.subj.specs.declared.limits.TheConstants.{MAX_COUNTER}
@@ -29,25 +29,25 @@ past a b e = grind (arith, nat_tests)
 within : (a b i : ℕ) → cond (nat_lt a b) (Some a) None ≡ Some i → a ≡ i
 within a b i e = grind (arith, nat_tests)
 
-pub nobody : (server : Server) (name : List ℕ) → position (λ other. bytes_eq other name) server.names ≡ None → peer_of server name ≡ None
+pub nobody : (server : ServerIdentity) (name : List ℕ) → position (λ other. bytes_eq other name) server.names ≡ None → peer_of server name ≡ None
 nobody server name e = go (nat_lt (place server name) (length server.names)) (past (place server name) (length server.names) e) (not (nat_eq (place server name) server.me))
   where
     go : (b : Bool) → b ≡ false → (a : Bool) → cond (a && b) (Some (place server name)) None ≡ None
     go b e true = ap (λ t. cond t (Some (place server name)) None) e
     go b e false = refl
 
-pub at_place : (server : Server) (name : List ℕ) (q : ℕ) → position (λ other. bytes_eq other name) server.names ≡ Some q → then_some (is_peer server q) q ≡ peer_of server name
+pub at_place : (server : ServerIdentity) (name : List ℕ) (q : ℕ) → position (λ other. bytes_eq other name) server.names ≡ Some q → then_some (is_peer server q) q ≡ peer_of server name
 at_place server name q e = go (is_peer server q) ∙ ap (λ p. cond (is_peer server p) (Some p) None) (sym (within (place server name) (length server.names) q e))
   where
     go : (b : Bool) → then_some b q ≡ cond b (Some q) None
     go true = refl
     go false = refl
 
-record IsPeerOf (server : Server) (name : List ℕ) (q : ℕ) : Type 0 where
+record IsPeerOf (server : ServerIdentity) (name : List ℕ) (q : ℕ) : Type 0 where
   same : place server name ≡ q
   peer : is_peer server q ≡ true
 
-peer_is : (server : Server) (name : List ℕ) (q : ℕ) → peer_of server name ≡ Some q → IsPeerOf server name q
+peer_is : (server : ServerIdentity) (name : List ℕ) (q : ℕ) → peer_of server name ≡ Some q → IsPeerOf server name q
 peer_is server name q e = go (is_peer server (place server name)) refl e
   where
     go : (b : Bool) → is_peer server (place server name) ≡ b → cond b (Some (place server name)) None ≡ Some q → IsPeerOf server name q
@@ -72,7 +72,7 @@ opened number standing session e = go (session_at number standing) refl e
     go (Some x) there e = at (is_some x.kept) x refl there e
 
 -- of one that is found, the serial is that of a dial
-pub dial_found : (server : Server) (s : State) (number : ℕ) (session : Session) → AreSessions server s → session_at number s.standing ≡ Some session → is_dial MAX_COUNTER session.serial session.dialed ≡ true
+pub dial_found : (server : ServerIdentity) (s : State) (number : ℕ) (session : Session) → AreSessions server s → session_at number s.standing ≡ Some session → is_dial MAX_COUNTER session.serial session.dialed ≡ true
 dial_found server s number session is at = go session.dialed (found (IsSession server s.numbers s.dials) (λ x. nat_eq x.number number) s.standing session is.each at).dial
   where
     fits : (serial dials : ℕ) → (nat_le 1 serial && nat_le serial dials) ≡ true → dials ≤ MAX_COUNTER → is_serial serial ≡ true
@@ -83,7 +83,7 @@ dial_found server s number session is at = go session.dialed (found (IsSession s
     go (Some q) e = let a = is.numbers in let b = is.dials in fits session.serial s.dials e (omega arith)
 
 -- the peer of one that is found is a peer
-pub peer_found : (server : Server) (s : State) (number : ℕ) (session : Session) → AreSessions server s → session_at number s.standing ≡ Some session → IfSome (option_map (λ (offer : Offer). offer.peer) session.kept) (λ q. is_peer server q ≡ true)
+pub peer_found : (server : ServerIdentity) (s : State) (number : ℕ) (session : Session) → AreSessions server s → session_at number s.standing ≡ Some session → IfSome (option_map (λ (offer : Offer). offer.peer) session.kept) (λ q. is_peer server q ≡ true)
 peer_found server s number session is at = go session.kept (found (IsSession server s.numbers s.dials) (λ x. nat_eq x.number number) s.standing session is.each at).peer
   where
     go : (o : Option Offer) → is_of_a_peer server o ≡ true → IfSome (option_map (λ (offer : Offer). offer.peer) o) (λ q. is_peer server q ≡ true)

@@ -7,7 +7,7 @@ use Rattle.list_laws.specs.Lists.{In, Each, Pairs}
 use Rattle.list_laws.proofs.Lists.{in_map, each_append, each_one, pairs_append, pairs_cases, pairs_map, pairs_weaker}
 use Rattle.list_laws.proofs.Changes.{append_nil, in_filter, pairs_filter}
 use Rattle.list_laws.proofs.Tests.{eq_true, eq_false, false_eq}
-use Rattle.subj.specs.Servers.{Server}
+use Rattle.subj.specs.Servers.{ServerIdentity}
 use Rattle.route_session.specs.declared.faults.SessionFault.{SessionFault}
 use Rattle.route_session.specs.declared.faults.SessionFault.TheVariants.{WrongName, OldIncarnation, Duplicate, UnknownSession, TooManySessions, Spent}
 use Rattle.route_session.specs.Best.{Offer, better_of_kept, best_after}
@@ -189,7 +189,7 @@ not_completed (Some offer) e = absurd (true≢false e)
 only_new : (s : State) → Stand s → (k : ℕ) (session : Session) → session_at k s.standing ≡ Some session → is_some session.kept ≡ false → Each (λ (x : Session). x.number ≡ k → x.kept ≡ None) s.standing
 only_new s h k session at new x i e = ap (λ (y : Session). y.kept) (same_session s h x session i (there k s.standing session at) (e ∙ sym (same_number k s.standing session at))) ∙ not_completed session.kept new
 
-stands_next : (server : Server) (s : State) (e : Event) → Stand s → Stand (next server s e)
+stands_next : (server : ServerIdentity) (s : State) (e : Event) → Stand s → Stand (next server s e)
 stands_next server s e h = go (session_refusal server s e)
   where
     by : (e : Event) → Stand (session_after server s e)
@@ -216,7 +216,7 @@ judged q offer offers old new h its other = go (nat_eq offer.peer q) refl
     go false e = other (eq_false offer.peer q e) ∙ h ∙ sym (ap (best_after None) (append_nil offers)) ∙ sym (ap (λ b. best_after None (offers ++ cond b (offer ∷ []) [])) e)
 
 -- of an offer, whatever the refusal: it is kept, lost as a duplicate, or not judged
-decided : (q : ℕ) (server : Server) (s : State) (e : Event) (offer : Offer) (offers : List Offer) → offer_of server s e ≡ Some offer → offer_kept q s.standing ≡ best_after None offers
+decided : (q : ℕ) (server : ServerIdentity) (s : State) (e : Event) (offer : Offer) (offers : List Offer) → offer_of server s e ≡ Some offer → offer_kept q s.standing ≡ best_after None offers
     → (session_refusal server s e ≡ None → offer_kept offer.peer (session_after server s e).standing ≡ better_of_kept offer (offer_kept offer.peer s.standing))
     → (session_refusal server s e ≡ None → offer.peer ≢ q → offer_kept q (session_after server s e).standing ≡ offer_kept q s.standing)
     → ((kept : ℕ) → session_refusal server s e ≡ Some (Duplicate kept) → offer_kept offer.peer s.standing ≡ better_of_kept offer (offer_kept offer.peer s.standing))
@@ -242,7 +242,7 @@ decided q server s e offer offers is h taken other lost = go (session_refusal se
     go (Some Spent) f = still Spent refl
 
 -- of an event without an offer, which leaves what is kept
-without : (q : ℕ) (server : Server) (s : State) (e : Event) (offers : List Offer) → offer_of server s e ≡ None → offer_kept q s.standing ≡ best_after None offers → (session_refusal server s e ≡ None → offer_kept q (session_after server s e).standing ≡ offer_kept q s.standing) → offer_kept q (next server s e).standing ≡ best_after None (offers ++ offers_at q server s e)
+without : (q : ℕ) (server : ServerIdentity) (s : State) (e : Event) (offers : List Offer) → offer_of server s e ≡ None → offer_kept q s.standing ≡ best_after None offers → (session_refusal server s e ≡ None → offer_kept q (session_after server s e).standing ≡ offer_kept q s.standing) → offer_kept q (next server s e).standing ≡ best_after None (offers ++ offers_at q server s e)
 without q server s e offers none h same = go (session_refusal server s e) refl ∙ h ∙ sym (ap (best_after None) (append_nil offers)) ∙ sym (ap (λ t. best_after None (offers ++ t)) (nothing (is_judged (session_refusal server s e))))
   where
     nothing : (b : Bool) → cond b (of_peer q (offer_of server s e)) [] ≡ []
@@ -271,7 +271,7 @@ nobody_there k (y ∷ xs) e x i = go (λ f j. nobody_there k xs f x j) (nat_eq y
     go rest false f g (inl same) = λ h. eq_false y.number k f (sym (ap (λ (z : Session). z.number) same) ∙ h)
     go rest false f g (inr j) = rest g j
 
-cut_one : (q : ℕ) (server : Server) (s : State) (number : ℕ) (offers : List Offer) → Stand s → offer_kept q s.standing ≡ best_after None offers → offer_kept q (next server s (Cut number)).standing ≡ best_after None (if cuts q s (Cut number) then [] else offers ++ offers_at q server s (Cut number))
+cut_one : (q : ℕ) (server : ServerIdentity) (s : State) (number : ℕ) (offers : List Offer) → Stand s → offer_kept q s.standing ≡ best_after None offers → offer_kept q (next server s (Cut number)).standing ≡ best_after None (if cuts q s (Cut number) then [] else offers ++ offers_at q server s (Cut number))
 cut_one q server s number offers stand h = go (session_at number s.standing) refl
   where
     nothing : (b : Bool) → cond b (of_peer q None) [] ≡ []
@@ -296,7 +296,7 @@ cut_one q server s number offers stand h = go (session_at number s.standing) ref
         by true = refl
         by false = h ∙ sym none_more
 
-step_kept : (q : ℕ) (server : Server) (s : State) (e : Event) (offers : List Offer) → Stand s → offer_kept q s.standing ≡ best_after None offers → offer_kept q (next server s e).standing ≡ best_after None (if cuts q s e then [] else offers ++ offers_at q server s e)
+step_kept : (q : ℕ) (server : ServerIdentity) (s : State) (e : Event) (offers : List Offer) → Stand s → offer_kept q s.standing ≡ best_after None offers → offer_kept q (next server s e).standing ≡ best_after None (if cuts q s e then [] else offers ++ offers_at q server s e)
 step_kept q server s (Dial p) offers stand h = without q server s (Dial p) offers refl h (λ f. kept_opened q s.standing _ refl)
 step_kept q server s Accept offers stand h = without q server s Accept offers refl h (λ f. kept_opened q s.standing _ refl)
 step_kept q server s (OnInfo number info least) offers stand h = go (session_at number s.standing) refl
@@ -324,7 +324,7 @@ step_kept q server s (OnConnect number connect least) offers stand h = go (sessi
         best.refused
 step_kept q server s (Cut number) offers stand h = cut_one q server s number offers stand h
 
-over_kept : (q : ℕ) (server : Server) (s : State) (es : List Event) (offers : List Offer) → Stand s → offer_kept q s.standing ≡ best_after None offers → offer_kept q (after_run server s es).standing ≡ best_after None (offers_since q server s es offers)
+over_kept : (q : ℕ) (server : ServerIdentity) (s : State) (es : List Event) (offers : List Offer) → Stand s → offer_kept q s.standing ≡ best_after None offers → offer_kept q (after_run server s es).standing ≡ best_after None (offers_since q server s es offers)
 over_kept q server s [] offers stand h = h
 over_kept q server s (e ∷ es) offers stand h = over_kept q server (next server s e) es (if cuts q s e then [] else offers ++ offers_at q server s e) (stands_next server s e stand) (step_kept q server s e offers stand h)
 

@@ -8,7 +8,7 @@ use Rattle.std.proofs.lemmas.List.Elements.{All-head, All-tail, All-filter, All-
 use Rattle.std.proofs.lemmas.List.Filters.{length-filter_both}
 use Rattle.std.proofs.lemmas.List.Kept.{AllPairs-filter}
 use Rattle.subj.specs.declared.limits.TheConstants.{MAX_SESSIONS}
-use Rattle.subj.specs.Servers.{Server, is_peer}
+use Rattle.subj.specs.Servers.{ServerIdentity, is_peer}
 use Rattle.route_session.specs.Best.{Offer}
 use Rattle.route_session.specs.State.{State, Session}
 use Rattle.route_session.specs.Steps.{kept_at}
@@ -24,7 +24,7 @@ found {A} P test (y ∷ ys) x all e = go (found P test ys x (All-tail P y ys all
     go later false f = later f
 
 -- some of them end
-pub some_end : (server : Server) (s : State) (test : Session → Bool) → AreSessions server s → AreSessions server (record s { standing = filter test s.standing })
+pub some_end : (server : ServerIdentity) (s : State) (test : Session → Bool) → AreSessions server s → AreSessions server (record s { standing = filter test s.standing })
 some_end server s test is = record {
   numbers = is.numbers;
   dials = is.dials;
@@ -49,7 +49,7 @@ rising_kept number offer xs rising i j d low high =
     let below : (get_or xs i d).number < (get_or xs j d).number = rising i j d low within in
     subst (λ n. n < (get_or (map f xs) j d).number) (sym (ap (λ (x : Session). x.number) first ∙ same_number number offer (get_or xs i d))) (subst (λ n. (get_or xs i d).number < n) (sym (ap (λ (x : Session). x.number) second ∙ same_number number offer (get_or xs j d))) below)
 
-session_kept : (server : Server) (numbers dials number : ℕ) (offer : Offer) → is_peer server offer.peer ≡ true → (session : Session) → IsSession server numbers dials session → IsSession server numbers dials (kept_at number offer session)
+session_kept : (server : ServerIdentity) (numbers dials number : ℕ) (offer : Offer) → is_peer server offer.peer ≡ true → (session : Session) → IsSession server numbers dials session → IsSession server numbers dials (kept_at number offer session)
 session_kept server numbers dials number offer peer session is = go (nat_eq session.number number)
   where
     go : (b : Bool) → IsSession server numbers dials (cond b (record session { kept = Some offer }) session)
@@ -57,7 +57,7 @@ session_kept server numbers dials number offer peer session is = go (nat_eq sess
     go false = is
 
 -- what a peer offers is kept
-pub one_kept : (server : Server) (s : State) (number : ℕ) (offer : Offer) → is_peer server offer.peer ≡ true → AreSessions server s → AreSessions server (record s { standing = map (kept_at number offer) s.standing })
+pub one_kept : (server : ServerIdentity) (s : State) (number : ℕ) (offer : Offer) → is_peer server offer.peer ≡ true → AreSessions server s → AreSessions server (record s { standing = map (kept_at number offer) s.standing })
 one_kept server s number offer peer is = record {
   numbers = is.numbers;
   dials = is.dials;

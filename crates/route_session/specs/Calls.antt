@@ -2,7 +2,7 @@
 use Rattle.std.specs.Prelude.{◌≡◌, ℕ, ◌<◌, ◌≤◌, Bool, true, ◌&&◌, nat_le, List, length, All, Option, Some, None, is_some, if◌then◌else◌}
 use Rattle.std.specs.List.{AllPairs}
 use Rattle.subj.specs.declared.limits.TheConstants.{MAX_COUNTER, MAX_SESSIONS}
-use Rattle.subj.specs.Servers.{Server, place, is_peer}
+use Rattle.subj.specs.Servers.{ServerIdentity, place, is_peer}
 use Rattle.route_values.specs.Records.{Info, Connect, is_serial}
 use Rattle.route_session.specs.declared.faults.SessionFault.{SessionFault}
 use Rattle.route_session.specs.Best.{Offer}
@@ -12,11 +12,11 @@ use Rattle.route_session.specs.Steps.{session_refusal, session_after, session_an
 
 -- a server, and its sessions
 pub record Served : Type 0 where
-  pub server : Server
+  pub server : ServerIdentity
   pub state : State
 
 -- before the first session
-abbrev pub new_sessions : Server → Served
+abbrev pub new_sessions : ServerIdentity → Served
 new_sessions server = record { server = server; state = no_sessions }
 
 -- why an event is refused
@@ -35,7 +35,7 @@ pub record DoesStep (old : Served) (event : Event) (answer : Answer) (new : Serv
 -- ---- what an offer is judged by
 
 -- the place of the peer of this name
-abbrev pub peer_of : Server → List ℕ → Option ℕ
+abbrev pub peer_of : ServerIdentity → List ℕ → Option ℕ
 peer_of server name = if is_peer server (place server name) then Some (place server name) else None
 
 -- the session, where it is not completed
@@ -67,19 +67,19 @@ is_dial dials serial None = true
 is_dial dials serial (Some q) = nat_le 1 serial && nat_le serial dials
 
 -- what is kept was offered by another server of the cluster
-abbrev pub is_of_a_peer : Server → Option Offer → Bool
+abbrev pub is_of_a_peer : ServerIdentity → Option Offer → Bool
 is_of_a_peer server None = true
 is_of_a_peer server (Some offer) = is_peer server offer.peer
 
 -- a session that stands, of so many numbers and dials
-pub record IsSession (server : Server) (numbers dials : ℕ) (session : Session) : Type 0 where
+pub record IsSession (server : ServerIdentity) (numbers dials : ℕ) (session : Session) : Type 0 where
   pub first : 1 ≤ session.number
   pub last : session.number ≤ numbers
   pub dial : is_dial dials session.serial session.dialed ≡ true
   pub peer : is_of_a_peer server session.kept ≡ true
 
 -- numbers and dials are counted within their limit; no more sessions stand than may, each once and in order of its number
-pub record AreSessions (server : Server) (s : State) : Type 0 where
+pub record AreSessions (server : ServerIdentity) (s : State) : Type 0 where
   pub numbers : s.numbers ≤ MAX_COUNTER
   pub dials : s.dials ≤ s.numbers
   pub few : length s.standing ≤ MAX_SESSIONS

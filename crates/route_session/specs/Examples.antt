@@ -1,7 +1,7 @@
 -- Closed examples: what sessions answer, by hand.
 use Rattle.std.specs.Prelude.{◌≡◌, ℕ, codes, List, [], ◌∷◌, replicate, Some, None}
 use Rattle.subj.specs.declared.limits.TheConstants.{MAX_COUNTER, MAX_SESSIONS}
-use Rattle.subj.specs.Servers.{Server}
+use Rattle.subj.specs.Servers.{ServerIdentity}
 use Rattle.route_values.specs.Records.{Info, Connect}
 use Rattle.route_session.specs.declared.faults.SessionFault.{SessionFault}
 use Rattle.route_session.specs.declared.faults.SessionFault.TheVariants.{WrongName, OldIncarnation, Duplicate, UnknownSession, TooManySessions, Spent}
@@ -12,18 +12,18 @@ use Rattle.route_session.specs.Steps.{session_refusal, session_after, session_an
 -- ---- what an example says
 
 -- the event is done with this answer
-abbrev pub Gives : Server → State → Event → Answer → Type 0
+abbrev pub Gives : ServerIdentity → State → Event → Answer → Type 0
 Gives server s event answer = (session_refusal server s event ≡ None) × (session_answer server s event ≡ answer)
 
-abbrev pub Refuses : Server → State → Event → SessionFault → Type 0
+abbrev pub Refuses : ServerIdentity → State → Event → SessionFault → Type 0
 Refuses server s event why = session_refusal server s event ≡ Some why
 
 -- after events that are done, from the start
-abbrev pub after_all : Server → State → List Event → State
+abbrev pub after_all : ServerIdentity → State → List Event → State
 after_all server s [] = s
 after_all server s (event ∷ events) = after_all server (session_after server s event) events
 
-abbrev pub after : Server → List Event → State
+abbrev pub after : ServerIdentity → List Event → State
 after server events = after_all server no_sessions events
 
 -- ---- two servers, both in their incarnation 5; n1 has the smaller place
@@ -31,10 +31,10 @@ after server events = after_all server no_sessions events
 abbrev pub names : List (List ℕ)
 names = codes "n1" ∷ codes "n2" ∷ []
 
-abbrev pub n1 : Server
+abbrev pub n1 : ServerIdentity
 n1 = record { names = names; me = 0; inc = 5; shards = 1 }
 
-abbrev pub n2 : Server
+abbrev pub n2 : ServerIdentity
 n2 = record { names = names; me = 1; inc = 5; shards = 1 }
 
 abbrev pub info : List ℕ → ℕ → Info

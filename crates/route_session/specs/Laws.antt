@@ -2,7 +2,7 @@
 use Rattle.std.specs.Prelude.{◌≡◌, ◌↔◌, ℕ, true, false, List, [], ◌∷◌, ◌++◌, map, Option, Some, None, MatchOption}
 use Rattle.std.specs.List.{AllByRecursion}
 use Rattle.list_laws.specs.Lists.{In}
-use Rattle.subj.specs.Servers.{Server}
+use Rattle.subj.specs.Servers.{ServerIdentity}
 use Rattle.route_values.specs.Records.{Info, Connect}
 use Rattle.route_session.specs.declared.faults.SessionFault.TheVariants.{Duplicate}
 use Rattle.route_session.specs.Best.{Offer, is_better, better_of_kept, best_after}
@@ -13,15 +13,15 @@ use Rattle.route_session.specs.Events.{Event, OnInfo, OnConnect}
 -- ---- one end
 
 -- of the session kept for the peer, if there is one, and the new one the better stays: the new one where it is not refused, and the kept one where it is a duplicate
-pub record BestStays (server : Server) (s : State) (e : Event) (offer : Offer) : Type 0 where
+pub record BestStays (server : ServerIdentity) (s : State) (e : Event) (offer : Offer) : Type 0 where
   pub taken : session_refusal server s e ≡ None → offer_kept offer.peer (session_after server s e).standing ≡ better_of_kept offer (offer_kept offer.peer s.standing)
   pub refused : (kept : ℕ) → session_refusal server s e ≡ Some (Duplicate kept) → offer_kept offer.peer s.standing ≡ better_of_kept offer (offer_kept offer.peer s.standing)
 
 abbrev pub InfoKeepsBest : Type 0
-InfoKeepsBest = (server : Server) (s : State) (number : ℕ) (info : Info) (least : ℕ) (session : Session) → session_at number s.standing ≡ Some session → BestStays server s (OnInfo number info least) (info_offer server session info)
+InfoKeepsBest = (server : ServerIdentity) (s : State) (number : ℕ) (info : Info) (least : ℕ) (session : Session) → session_at number s.standing ≡ Some session → BestStays server s (OnInfo number info least) (info_offer server session info)
 
 abbrev pub ConnectKeepsBest : Type 0
-ConnectKeepsBest = (server : Server) (s : State) (number : ℕ) (connect : Connect) (least : ℕ) (session : Session) → session_at number s.standing ≡ Some session → BestStays server s (OnConnect number connect least) (connect_offer server connect)
+ConnectKeepsBest = (server : ServerIdentity) (s : State) (number : ℕ) (connect : Connect) (least : ℕ) (session : Session) → session_at number s.standing ≡ Some session → BestStays server s (OnConnect number connect least) (connect_offer server connect)
 
 -- ---- the best of those offered
 

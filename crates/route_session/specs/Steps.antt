@@ -2,7 +2,7 @@
 use Rattle.std.specs.Prelude.{◌≡◌, ℕ, ◌+◌, Bool, not, ◌&&◌, ◌||◌, nat_eq, nat_lt, nat_le, List, [], ◌∷◌, ◌++◌, length, filter, map, Option, Some, None, is_some, Result, if◌then◌else◌}
 use Rattle.subj.specs.Answers.{IsDecided}
 use Rattle.subj.specs.declared.limits.TheConstants.{MAX_COUNTER, MAX_SESSIONS}
-use Rattle.subj.specs.Servers.{Server, own_name, place, is_peer}
+use Rattle.subj.specs.Servers.{ServerIdentity, own_name, place, is_peer}
 use Rattle.route_values.specs.Records.{Info, Connect}
 use Rattle.route_session.specs.declared.faults.SessionFault.{SessionFault}
 use Rattle.route_session.specs.declared.faults.SessionFault.TheVariants.{WrongName, OldIncarnation, Duplicate, UnknownSession, TooManySessions, Spent}
@@ -17,7 +17,7 @@ room_refusal s =
     if nat_le MAX_SESSIONS (length s.standing) then Some TooManySessions
     else (if nat_le MAX_COUNTER s.numbers then Some Spent else None)
 
-abbrev pub dial_refusal : Server → State → ℕ → Option SessionFault
+abbrev pub dial_refusal : ServerIdentity → State → ℕ → Option SessionFault
 dial_refusal server s q = if is_peer server q then room_refusal s else Some WrongName
 
 -- the new one must be better than the kept one
@@ -30,31 +30,31 @@ duplicate_fault new None = None
 duplicate_fault new (Some old) = loses_to new old.number old.kept
 
 -- what an INFO offers on a dialed session, and a CONNECT on an accepted one
-abbrev pub info_offer : Server → Session → Info → Offer
+abbrev pub info_offer : ServerIdentity → Session → Info → Offer
 info_offer server session info = record { peer = place server info.server_name; inc = info.inc; dialer = server.me; serial = session.serial }
 
-abbrev pub connect_offer : Server → Connect → Offer
+abbrev pub connect_offer : ServerIdentity → Connect → Offer
 connect_offer server connect = record { peer = place server connect.server_name; inc = connect.inc; dialer = place server connect.server_name; serial = connect.serial }
 
-abbrev pub info_fault : Server → State → Session → Info → ℕ → Option ℕ → Option SessionFault
+abbrev pub info_fault : ServerIdentity → State → Session → Info → ℕ → Option ℕ → Option SessionFault
 info_fault server s session info least None = Some UnknownSession
 info_fault server s session info least (Some q) =
     if not (nat_eq (place server info.server_name) q && is_peer server q) then Some WrongName
     else (if nat_lt info.inc least then Some OldIncarnation
     else duplicate_fault (info_offer server session info) (kept_for q s.standing))
 
-abbrev pub info_refusal : Server → State → Option Session → Info → ℕ → Option SessionFault
+abbrev pub info_refusal : ServerIdentity → State → Option Session → Info → ℕ → Option SessionFault
 info_refusal server s None info least = Some UnknownSession
 info_refusal server s (Some session) info least = if is_some session.kept then Some UnknownSession else info_fault server s session info least session.dialed
 
-abbrev pub connect_fault : Server → State → Connect → ℕ → Option ℕ → Option SessionFault
+abbrev pub connect_fault : ServerIdentity → State → Connect → ℕ → Option ℕ → Option SessionFault
 connect_fault server s connect least (Some q) = Some UnknownSession
 connect_fault server s connect least None =
     if not (nat_eq (place server connect.to) server.me && is_peer server (place server connect.server_name)) then Some WrongName
     else (if nat_lt connect.inc least || not (nat_eq connect.to_inc server.inc) then Some OldIncarnation
     else duplicate_fault (connect_offer server connect) (kept_for (place server connect.server_name) s.standing))
 
-abbrev pub connect_refusal : Server → State → Option Session → Connect → ℕ → Option SessionFault
+abbrev pub connect_refusal : ServerIdentity → State → Option Session → Connect → ℕ → Option SessionFault
 connect_refusal server s None connect least = Some UnknownSession
 connect_refusal server s (Some session) connect least = if is_some session.kept then Some UnknownSession else connect_fault server s connect least session.dialed
 
@@ -62,7 +62,7 @@ abbrev pub cut_refusal : Option Session → Option SessionFault
 cut_refusal None = Some UnknownSession
 cut_refusal (Some session) = None
 
-abbrev pub session_refusal : Server → State → Event → Option SessionFault
+abbrev pub session_refusal : ServerIdentity → State → Event → Option SessionFault
 session_refusal server s (Dial q) = dial_refusal server s q
 session_refusal server s Accept = room_refusal s
 session_refusal server s (OnInfo number info least) = info_refusal server s (session_at number s.standing) info least
@@ -91,7 +91,7 @@ kept_at number offer session = if nat_eq session.number number then record sessi
 abbrev pub after_completion : ℕ → Offer → State → State
 after_completion number offer s = record s { standing = map (kept_at number offer) (without_peer offer.peer s).standing }
 
-abbrev pub after_info : Server → State → Info → Option Session → State
+abbrev pub after_info : ServerIdentity → State → Info → Option Session → State
 after_info server s info None = s
 after_info server s info (Some session) = after_completion session.number (info_offer server session info) s
 
@@ -106,7 +106,7 @@ abbrev pub without_peers : List ℕ → State → State
 without_peers [] s = s
 without_peers (q ∷ qs) s = without_peers qs (without_peer q s)
 
-abbrev pub session_after : Server → State → Event → State
+abbrev pub session_after : ServerIdentity → State → Event → State
 session_after server s (Dial q) = after_dial s q
 session_after server s Accept = after_accept s
 session_after server s (OnInfo number info least) = after_info server s info (session_at number s.standing)
@@ -115,7 +115,7 @@ session_after server s (Cut number) = after_cut number s
 
 -- ---- what is answered
 
-abbrev pub own_info : Server → Info
+abbrev pub own_info : ServerIdentity → Info
 own_info server = record { server_name = own_name server; inc = server.inc }
 
 abbrev pub serial_of : Option Session → ℕ
@@ -123,10 +123,10 @@ serial_of None = 0
 serial_of (Some session) = session.serial
 
 -- the CONNECT that answers an INFO
-abbrev pub own_connect : Server → Info → ℕ → Connect
+abbrev pub own_connect : ServerIdentity → Info → ℕ → Connect
 own_connect server info serial = record { server_name = own_name server; inc = server.inc; to = info.server_name; to_inc = info.inc; serial = serial }
 
-abbrev pub session_answer : Server → State → Event → Answer
+abbrev pub session_answer : ServerIdentity → State → Event → Answer
 session_answer server s (Dial q) = Dialed (s.numbers + 1)
 session_answer server s Accept = Accepted (s.numbers + 1) (own_info server)
 session_answer server s (OnInfo number info least) = KeptAfterInfo (number_kept (place server info.server_name) s.standing) (own_connect server info (serial_of (session_at number s.standing)))
@@ -134,5 +134,5 @@ session_answer server s (OnConnect number connect least) = Kept (number_kept (pl
 session_answer server s (Cut number) = WasCut (peer_of_session number s.standing)
 
 -- ---- a step: done as computed, or refused by the first cause, which changes nothing
-abbrev pub SessionStep : Server → State → Event → Result Answer SessionFault → State → Type 0
+abbrev pub SessionStep : ServerIdentity → State → Event → Result Answer SessionFault → State → Type 0
 SessionStep server old event outcome new = IsDecided (session_refusal server old event) (λ answer. (answer ≡ session_answer server old event) × (new ≡ session_after server old event)) (new ≡ old) outcome

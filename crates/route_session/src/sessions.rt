@@ -16,7 +16,7 @@ use crate::session_ids::SessionId;
 use route_values::{RouteConnect, RouteInfo};
 use std::alloc::Global;
 use std::marker::Model;
-use subj::{Failure, Incarnation, MAX_COUNTER, MAX_SESSIONS, NodeId, Server};
+use subj::{Failure, Incarnation, MAX_COUNTER, MAX_SESSIONS, NodeId, ServerIdentity};
 
 /// What a `CONNECT` of this peer offers.
 fn offer_of_connect(connect: &RouteConnect, peer: usize) -> Offer
@@ -31,7 +31,7 @@ fn offer_of_connect(connect: &RouteConnect, peer: usize) -> Offer
 }
 
 /// The `CONNECT` of the server that answers an `INFO`, on a dial of this serial.
-fn own_connect(server: &Server, info: &RouteInfo, serial: u64) -> RouteConnect
+fn own_connect(server: &ServerIdentity, info: &RouteInfo, serial: u64) -> RouteConnect
     requires { is_serial serial ≡ true }
     ensures { result ≡ connect_to server.now info.now serial }
 {
@@ -64,7 +64,7 @@ pub struct Kept {
 /// does what the step says. Only [`Sessions::dial`] and [`Sessions::accept`] take memory.
 #[derive(Drop)]
 pub struct Sessions {
-    server: Server,
+    server: ServerIdentity,
     /// How many sessions there were.
     numbers: u64,
     /// How many of them were dialed.
@@ -85,7 +85,7 @@ impl Model for Sessions {
 
 impl Sessions {
     /// No sessions of this server.
-    pub fn new(alloc: Global, server: Server) -> Sessions
+    pub fn new(alloc: Global, server: ServerIdentity) -> Sessions
         ensures { result ≡ new_sessions server }
     {
         Sessions {
@@ -97,7 +97,7 @@ impl Sessions {
     }
 
     /// The server.
-    pub fn server(&self) -> &Server
+    pub fn server(&self) -> &ServerIdentity
         ensures { result.now ≡ self.now.server }
     {
         &self.server

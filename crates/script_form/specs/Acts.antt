@@ -83,8 +83,8 @@ detach_in json = do
   Some (Detach conn)
 
 -- with echo, where that is not said
-unfoldable pub said_in : Data → Option Pub
-said_in json = do
+unfoldable pub publication_in : Data → Option Pub
+publication_in json = do
   subject ← name_at subject_fault key.Subject json
   reply ← optional_name_at subject_fault key.Reply json
   payload ← member text key.Payload json
@@ -95,9 +95,9 @@ said_in json = do
 unfoldable pub publish_in : (ℕ → Pub → ℕ → Act) → Data → Option Act
 publish_in act json = do
   conn ← conn json
-  said ← said_in json
+  publication ← publication_in json
   word ← number key.Word json
-  Some (act conn said word)
+  Some (act conn publication word)
 
 unfoldable pub settled_in : Data → Option Act
 settled_in json = do

@@ -7,7 +7,7 @@ ghost use Rattle.subj.specs.declared.faults.NameFault.{NameFault as Cause};
 ghost use Rattle.subj.specs.Answers.{IsAnswered};
 ghost use Rattle.subj.specs.Names.{node_name_fault, pattern_fault, subject_fault, queue_name_fault, sid_fault};
 ghost use Rattle.script_form.specs.Members.{MemberMeans, Says, SaysBy, member as there, optional, whole, text as is_text, truth as is_truth, node as is_node, name_at, optional_name_at, MeansBy};
-ghost use Rattle.script_form.specs.Acts.{start_in, attach_in, key_in, sub_in, unsub_in, said_in, publish_in, settled_in, claim_in, take_entries_in, take_frames_in, take_in, act_in, verb_in, step_in, shard, peer, session, frame, conn};
+ghost use Rattle.script_form.specs.Acts.{start_in, attach_in, key_in, sub_in, unsub_in, publication_in, publish_in, settled_in, claim_in, take_entries_in, take_frames_in, take_in, act_in, verb_in, step_in, shard, peer, session, frame, conn};
 ghost use Rattle.script_form.specs.declared.steps.Act.TheVariants.{Publish, Deliver};
 ghost use Rattle.serde_json.specs.Find.{as_array};
 ghost use Rattle.script_form.specs.Form.{each, count_of, script_in, Reads, ReadsJson};
@@ -20,7 +20,7 @@ use std::alloc::Global;
 use std::marker::Model;
 use subj::{
     ConnId, Failure, Incarnation, Key, NameFault, NodeId, Pattern, Pub, QueueName, SCRIPT_BYTES,
-    SCRIPT_EVENTS, Server, Sid, Subject,
+    SCRIPT_EVENTS, ServerIdentity, Sid, Subject,
 };
 
 /// A whole number of at least 0.
@@ -270,18 +270,18 @@ fn read_unsub(alloc: Global, object: &Value) -> Result<Act, Failure<Misfit>>
 }
 
 /// What is published.
-#[tactic(auto, unfolding(crate::specs::Acts::said_in))]
-fn read_said(alloc: Global, object: &Value) -> Result<Pub, Failure<Misfit>>
-    ensures { MemberMeans (said_in (view object.now)) result }
+#[tactic(auto, unfolding(crate::specs::Acts::publication_in))]
+fn read_publication(alloc: Global, object: &Value) -> Result<Pub, Failure<Misfit>>
+    ensures { MemberMeans (publication_in (view object.now)) result }
 {
     let subject = subject(alloc, object, Member::Subject)?;
     let reply = optional_subject(alloc, object, Member::Reply)?;
     let payload = text(object, Member::Payload)?;
     let echo = optional_truth(object, Member::Echo)?.unwrap_or(true);
     let payload = Bytes::copy_from_slice(alloc, payload.as_bytes())?;
-    let said = Pub::new(alloc, subject, reply, payload, echo)?;
-    match said {
-        Some(said) => Ok(said),
+    let publication = Pub::new(alloc, subject, reply, payload, echo)?;
+    match publication {
+        Some(publication) => Ok(publication),
         None => Err(Failure::Refused(Misfit {
             member: Member::Payload,
         })),
@@ -293,9 +293,13 @@ fn read_publish(alloc: Global, object: &Value) -> Result<Act, Failure<Misfit>>
     ensures { MemberMeans (publish_in Publish (view object.now)) result }
 {
     let conn = read_conn(object)?;
-    let said = read_said(alloc, object)?;
+    let publication = read_publication(alloc, object)?;
     let word = number(object, Member::Word)?;
-    Ok(Act::Publish { conn, said, word })
+    Ok(Act::Publish {
+        conn,
+        publication,
+        word,
+    })
 }
 
 #[tactic(auto, unfolding(crate::specs::Acts::publish_in))]
@@ -303,9 +307,13 @@ fn read_deliver(alloc: Global, object: &Value) -> Result<Act, Failure<Misfit>>
     ensures { MemberMeans (publish_in Deliver (view object.now)) result }
 {
     let conn = read_conn(object)?;
-    let said = read_said(alloc, object)?;
+    let publication = read_publication(alloc, object)?;
     let word = number(object, Member::Word)?;
-    Ok(Act::Deliver { conn, said, word })
+    Ok(Act::Deliver {
+        conn,
+        publication,
+        word,
+    })
 }
 
 #[tactic(auto, unfolding(crate::specs::Acts::settled_in))]
@@ -436,7 +444,7 @@ fn read_step(alloc: Global, object: &Value) -> Result<Step, Failure<Misfit>>
 #[derive(Drop)]
 pub struct Script {
     /// The names of the servers and the number of shards, as a server's at the first place.
-    server: Server,
+    server: ServerIdentity,
     steps: Vec<Step>,
 }
 
@@ -548,7 +556,7 @@ impl Script {
             // 1 is an incarnation
             unreachable!()
         };
-        let server = Server::new(names, 0, inc, shards)?;
+        let server = ServerIdentity::new(names, 0, inc, shards)?;
         Some(Script { server, steps })
     }
 

@@ -42,7 +42,7 @@ pub enum Act {
     /// The connection publishes; the word decides which server serves each queue name.
     Publish {
         conn: ConnId,
-        said: Pub,
+        publication: Pub,
         word: u64,
     },
     /// It is told whether the cluster is settled for a publication on the subject. No event: of the server only the name is read.
@@ -53,7 +53,7 @@ pub enum Act {
     /// every server; the number of events that this takes is known only then, and it counts as one.
     Deliver {
         conn: ConnId,
-        said: Pub,
+        publication: Pub,
         word: u64,
     },
     /// The numbered frame of this number is handed to the server.

@@ -147,7 +147,7 @@ impl Tally {
 
 impl Listener for Tally {
     /// Notes a message; those of the subscription 0 are calls.
-    fn hear(&mut self, message: &Message<'_>) -> io::Result<()> {
+    fn on_message(&mut self, message: &Message<'_>) -> io::Result<()> {
         if message.subscription == 0 {
             return Ok(());
         }

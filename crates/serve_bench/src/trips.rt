@@ -42,7 +42,7 @@ struct Replies {
 
 impl Listener for Replies {
     /// Replies with what the message holds, if a reply is wanted.
-    fn hear(&mut self, message: &Message<'_>) -> io::Result<()> {
+    fn on_message(&mut self, message: &Message<'_>) -> io::Result<()> {
         if message.reply.is_empty() {
             return Ok(());
         }
@@ -74,7 +74,7 @@ impl Asker {
     }
 
     /// Waits for a reply: whether one came.
-    fn hear(&mut self) -> io::Result<bool> {
+    fn await_reply(&mut self) -> io::Result<bool> {
         let arrived = self.tally.arrived;
         let mut in_vain = 0u32;
         for _read in 0..u64::MAX {
@@ -99,7 +99,7 @@ impl Asker {
         for _request in 0..requests {
             let start = Instant::now(rt)?;
             self.ask()?;
-            if self.hear()? {
+            if self.await_reply()? {
                 let time = start.elapsed(rt)?.as_nanos();
                 self.trips.push(u64::try_from(time).unwrap_or(u64::MAX))?;
             }

@@ -11,7 +11,7 @@ use subj::{ConnId, Failure, Pub};
 pub trait HubCalls: Drop {
     /// Publishes for a client; the word decides who serves each queue group. Too many publications under way are
     /// [`Refusal::Busy`](client_conn::Refusal::Busy). [`HubCalls::push_jobs`] hands the job to the shards.
-    fn publish(&mut self, conn: ConnId, said: &Pub, word: u64) -> Outcome;
+    fn publish(&mut self, conn: ConnId, publication: &Pub, word: u64) -> Outcome;
 
     /// Takes a frame of another server. [`HubCalls::push_jobs`] hands the job of a message to the shards.
     fn receive(&mut self, frame: &Numbered) -> Result<(), Failure<HubFault>>;

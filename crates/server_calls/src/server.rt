@@ -2,7 +2,7 @@
 
 use crate::hub::HubCalls;
 use crate::shard::ShardCalls;
-use hub_core::Told;
+use hub_core::CollectResult;
 use std::alloc::AllocError;
 use std::sync::Wait;
 
@@ -27,5 +27,5 @@ pub trait ServerCalls: Copy {
 
     /// Has the hub count what the shard has opened and closed: what it tells of it. None where there is nothing, and where
     /// the hub refuses it. May wait.
-    fn collect<R: Wait>(&self, rt: &R, shard: u64) -> Result<Option<Told>, AllocError>;
+    fn collect<R: Wait>(&self, rt: &R, shard: u64) -> Result<Option<CollectResult>, AllocError>;
 }

@@ -1,7 +1,7 @@
 //! The calls of a shard that is held.
 
 use client_calls::ClientCalls;
-use shard_core::{Recipients, ShardFault};
+use shard_core::{DirtyConns, ShardFault};
 use std::sync::Wait;
 use subj::{ConnId, Failure};
 
@@ -44,5 +44,5 @@ pub trait ShardCalls: ClientCalls + Drop {
     fn is_open(&self, conn: ConnId) -> bool;
 
     /// Hands out which clients something was put for since the last time, for those that were handed out then.
-    fn swap_recipients(&mut self, recipients: &mut Recipients);
+    fn swap_dirty_conns(&mut self, dirty_conns: &mut DirtyConns);
 }

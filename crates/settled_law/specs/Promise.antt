@@ -51,9 +51,9 @@ pub record IsDelivered (w : World) (id : PubId) (subject : List ℕ) (outcomes :
 -- a publish with echo of a server that is up, for which the cluster is settled and has room, and an order of work behind it
 pub record IsRight (c : Cluster) (w : World) (n : ℕ) (a : Running) (p : Publication) (order : List Event) : Type 0 where
   pub up : slice_get w.nodes n ≡ Some (Some a)
-  pub echo : p.said.echo ≡ true
+  pub echo : p.publication.echo ≡ true
   pub settled : IsSettled c w (subject_of p)
-  pub roomy : IsRoomy w p.said.message
+  pub roomy : IsRoomy w p.publication.message
   pub order_is : IsOrder c w n a p order
 
 -- of every run from there

@@ -32,7 +32,7 @@ pub record APairSettles : Type 0 where
   -- before the second one's changes are heard it is not settled; then it is
   pub not_yet : settled_for pair (end_of pair before_the_last) (codes "foo") ≡ false
   pub settled : settled_for pair (end_of pair prepared) (codes "foo") ≡ true
-  pub roomy : room_for (end_of pair prepared) hi.said.message ≡ true
+  pub roomy : room_for (end_of pair prepared) hi.publication.message ≡ true
   -- the order is right
   pub right : (a : Running) → slice_get (end_of pair prepared).nodes 0 ≡ Some (Some a) → IsOrder pair (end_of pair prepared) 0 a hi order
   -- nothing is refused, and there are three placements

@@ -11,7 +11,7 @@ use Rattle.interest.specs.Views.{View}
 use Rattle.hub_core.specs.State.{Peer}
 use Rattle.node_law.specs.CountsOpen.{open_keys}
 use Rattle.node_law.specs.PeersKept.{KeptAt}
-use Rattle.node_law.specs.State.{Line}
+use Rattle.node_law.specs.State.{ShardWithJobs}
 use Rattle.world_law.specs.Headline.{EachUp}
 use Rattle.world_law.specs.State.{Cluster, World, Running}
 use Rattle.settled_law.specs.Room.{HasRoom, IsMember}
@@ -19,7 +19,7 @@ use Rattle.settled_law.specs.Room.{HasRoom, IsMember}
 -- ---- what a server knows of another one
 
 -- the view has just the keys of the open subscriptions, each with the number of them, and a plain key with 1
-pub record Tells (keys : View) (lines : List Line) : Type 0 where
+pub record Tells (keys : View) (lines : List ShardWithJobs) : Type 0 where
   pub told : (key : Key) (weight : ℕ) → In (key, weight) keys → (0 < times key (open_keys lines)) × (weight ≡ told_weight key (times key (open_keys lines)))
   pub all : (key : Key) → 0 < times key (open_keys lines) → In (key, told_weight key (times key (open_keys lines))) keys
 
@@ -37,14 +37,14 @@ pub record PeerIsSettled (a b : Running) (q : ℕ) : Type 0 where
 -- ---- a server of its own
 
 -- no job waits or is in hand, and the hub was told of all
-pub record LineIsSettled (line : Line) : Type 0 where
+pub record LineIsSettled (line : ShardWithJobs) : Type 0 where
   pub waiting : line.waiting ≡ []
   pub hand : line.shard.hand ≡ None
   pub told : line.shard.deltas ≡ []
 
 -- and one more publication and one more turn can be numbered
 pub record NodeIsSettled (a : Running) : Type 0 where
-  pub lines : (place : ℕ) (line : Line) → slice_get a.node.lines place ≡ Some line → LineIsSettled line
+  pub lines : (place : ℕ) (line : ShardWithJobs) → slice_get a.node.lines place ≡ Some line → LineIsSettled line
   pub issued : a.node.hub.issued < MAX_COUNTER
   pub published : a.node.hub.published < MAX_COUNTER
 
@@ -56,7 +56,7 @@ pub record IsWantedName (w : World) (subject name : List ℕ) : Type 0 where
   pub a : Running
   pub up : slice_get w.nodes node ≡ Some (Some a)
   pub place : ℕ
-  pub line : Line
+  pub line : ShardWithJobs
   pub at : slice_get a.node.lines place ≡ Some line
   pub sub : Subscription
   pub there : In sub line.shard.subs
@@ -75,4 +75,4 @@ pub record IsSettled (c : Cluster) (w : World) (subject : List ℕ) : Type 0 whe
 
 -- each connection has room for the messages of all its open matching subscriptions together
 pub record IsRoomy (w : World) (message : Content) : Type 0 where
-  pub room : EachUp (λ n a. (place : ℕ) (line : Line) → slice_get a.node.lines place ≡ Some line → HasRoom message line.shard) w
+  pub room : EachUp (λ n a. (place : ℕ) (line : ShardWithJobs) → slice_get a.node.lines place ≡ Some line → HasRoom message line.shard) w

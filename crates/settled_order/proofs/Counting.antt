@@ -4,7 +4,7 @@ use Rattle.list_laws.proofs.Changes.{append_assoc, append_nil}
 use Rattle.hub_core.proofs.Neighbours.Known.{map_length}
 use Rattle.sub_table.specs.declared.Subscription.{Subscription}
 use Rattle.subj.specs.declared.jobs.Job.{Job}
-use Rattle.subj.specs.Servers.{Server}
+use Rattle.subj.specs.Servers.{ServerIdentity}
 use Rattle.client_frames.specs.declared.server_frames.ReplyFrame.{ReplyFrame}
 use Rattle.client_frames.specs.Frames.{reply_line}
 use Rattle.hub_core.specs.Steps.{received_answer}
@@ -20,7 +20,7 @@ use Rattle.shard_core.specs.ShardSteps.{shard_answer, claim_answer, subscribe_an
 use Rattle.node_law.specs.Answers.{node_answer, told_at, told_of_line, told_of_shard, told_of_hub}
 use Rattle.node_law.specs.Events.{OfConn, AtShard, Publish, Collect, Dial, Accept, CutSession, TakeFrames, NodeEvent, Own, Receive, OnInfo, OnConnect}
 use Rattle.node_law.specs.Sound.{SoundNode}
-use Rattle.node_law.specs.State.{Line, Node}
+use Rattle.node_law.specs.State.{ShardWithJobs, Node}
 use Rattle.node_law.specs.Steps.{conn_line, shard_line, conn_event, work_event}
 use Rattle.world_law.specs.Changes.{placement_of, PlacementsAreOne}
 use Rattle.world_law.specs.declared.faults.WorldFault.{WorldFault}
@@ -36,7 +36,7 @@ use Rattle.settled_order.specs.Counted.{placed_by_answer, placed_by}
 
 -- ---- what a shard puts
 
-module _ (server : Server) (now : ℕ) where
+module _ (server : ServerIdentity) (now : ℕ) where
   behind : (xs ys : List Placed) → placements_put server now (xs ++ ys) ≡ placements_put server now xs ++ placements_put server now ys
   behind [] ys = refl
   behind (x ∷ xs) ys = ap (λ l. placement_of server now x.conn x.entry.bytes x.entry.tag ++ l) (behind xs ys) ∙ sym (append_assoc (placement_of server now x.conn x.entry.bytes x.entry.tag) (placements_put server now xs) (placements_put server now ys))
@@ -84,11 +84,11 @@ module _ (server : Server) (now : ℕ) where
   by_shard s (part.DropJob waiting) = refl
   by_shard s part.Collect = refl
 
-  by_line : (line : Line) (event : Option part.Event) → length (placements_put server now (put_if line event)) ≡ placed_by_answer (told_of_line line event)
+  by_line : (line : ShardWithJobs) (event : Option part.Event) → length (placements_put server now (put_if line event)) ≡ placed_by_answer (told_of_line line event)
   by_line line None = refl
   by_line line (Some event) = by_shard line.shard event
 
-  by_part : (o : Option Line) (event : Line → Option part.Event) → length (placements_put server now (put_at o event)) ≡ placed_by_answer (told_at o event)
+  by_part : (o : Option ShardWithJobs) (event : ShardWithJobs → Option part.Event) → length (placements_put server now (put_at o event)) ≡ placed_by_answer (told_at o event)
   by_part None event = refl
   by_part (Some line) event = by_line line (event line)
 
@@ -100,7 +100,7 @@ received a frame (Minus key) = refl
 received a frame (Snapshot keys) = refl
 received a frame (Msg content queues) = refl
 
-by_node : (server : Server) (now : ℕ) (a : Node) (e : NodeEvent) (won : Bool) → length (placements_put server now (puts server a e won)) ≡ placed_by_answer (node_answer server a e won)
+by_node : (server : ServerIdentity) (now : ℕ) (a : Node) (e : NodeEvent) (won : Bool) → length (placements_put server now (puts server a e won)) ≡ placed_by_answer (node_answer server a e won)
 by_node server now a (Own (OfConn conn event)) won = by_part server now (conn_line server a conn) (λ line. Some (conn_event conn event))
 by_node server now a (Own (AtShard shard work)) won = by_part server now (shard_line a shard) (work_event work won)
 by_node server now a (Own (Publish p)) won = refl

@@ -24,7 +24,7 @@ plan_owed v n p plan names shards first order planned names_are shards_are some 
 
 pub owed_is_right : SomeOrderIsRight → (c : Cluster) (w : World) → TakesWhereSettled c w → 0 < c.shards → (n : ℕ) (p : Publication) (order : List Event) → order ≡ delivery c w n p → IsOwedOrder c w n p order
 owed_is_right right c w takes some n p order is a at ready =
-    let both = and_true (settled_for c w (subject_of p)) (room_for w p.said.message) ready in
+    let both = and_true (settled_for c w (subject_of p)) (room_for w p.publication.message) ready in
     let free = takes n a p at both.0 both.1 in
     subst (IsOrder c w n a p)
     (sym (is ∙ ap (λ b. cond b (work_owed c w n p) []) ready ∙ ap (λ o. work_unless o (work_at c w n p (slice_get w.nodes n))) free ∙ ap (work_at c w n p) at))

@@ -70,8 +70,8 @@ is_ready c w message = settled_for c w message.subject && room_for w message
 
 -- the work behind a publish that is delivered
 abbrev pub delivery : Cluster → World → ℕ → Publication → List Event
-delivery c w n p = if is_ready c w p.said.message then work_owed c w n p else []
+delivery c w n p = if is_ready c w p.publication.message then work_owed c w n p else []
 
 -- of a server that is up, where the cluster is ready, it is an order of work
 abbrev pub IsOwedOrder : Cluster → World → ℕ → Publication → List Event → Type 0
-IsOwedOrder c w n p order = (a : Running) → slice_get w.nodes n ≡ Some (Some a) → is_ready c w p.said.message ≡ true → IsOrder c w n a p order
+IsOwedOrder c w n p order = (a : Running) → slice_get w.nodes n ≡ Some (Some a) → is_ready c w p.publication.message ≡ true → IsOrder c w n a p order

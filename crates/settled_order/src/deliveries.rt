@@ -1,7 +1,7 @@
 //! The work behind a publish that is delivered.
 
 ghost use Rattle.std.specs.Prelude.{◌≡◌, IfOk};
-ghost use Rattle.hub_core.specs.Chosen.{publication};
+ghost use Rattle.hub_core.specs.Chosen.{publication_by};
 ghost use Rattle.settled_order.specs.Owed.{events_in, work_owed, is_ready as ready, delivery as delivered, IsOwedOrder};
 
 use crate::order::{Origin, order_of};
@@ -18,10 +18,10 @@ fn work_of<T: SubTable, R: Race>(
     world: &World<T, R>,
     node: usize,
     conn: ConnId,
-    said: &Pub,
+    publication: &Pub,
     word: u64,
 ) -> Result<Vec<Event>, AllocError>
-    ensures { IfOk result (λ order. events_in order ≡ work_owed world.now.cluster world.now.world node (publication conn said.now word)) }
+    ensures { IfOk result (λ order. events_in order ≡ work_owed world.now.cluster world.now.world node (publication_by conn publication.now word)) }
 {
     let first = world.next_frame()?;
     let origin = Origin {
@@ -30,7 +30,7 @@ fn work_of<T: SubTable, R: Race>(
         node,
         first,
     };
-    let planned = world.plan_publish(node, conn, said, word)?;
+    let planned = world.plan_publish(node, conn, publication, word)?;
     match planned {
         None => Ok(Vec::new(alloc)),
         Some(plan) => order_of(alloc, &origin, &plan),
@@ -38,10 +38,10 @@ fn work_of<T: SubTable, R: Race>(
 }
 
 /// Whether the cluster is settled for the publication, and has room for it.
-fn is_ready<T: SubTable, R: Race>(world: &World<T, R>, said: &Pub) -> bool
-    ensures { result ≡ ready world.now.cluster world.now.world said.now.message }
+fn is_ready<T: SubTable, R: Race>(world: &World<T, R>, publication: &Pub) -> bool
+    ensures { result ≡ ready world.now.cluster world.now.world publication.now.message }
 {
-    world.settled_for(said.message.subject()) && world.room_for(said)
+    world.settled_for(publication.message.subject()) && world.room_for(publication)
 }
 
 /// The work that a publish makes; none where the cluster is not ready for it.
@@ -50,15 +50,15 @@ fn ready_work<T: SubTable, R: Race>(
     world: &World<T, R>,
     node: usize,
     conn: ConnId,
-    said: &Pub,
+    publication: &Pub,
     word: u64,
 ) -> Result<Vec<Event>, AllocError>
-    ensures { IfOk result (λ order. events_in order ≡ delivered world.now.cluster world.now.world node (publication conn said.now word)) }
+    ensures { IfOk result (λ order. events_in order ≡ delivered world.now.cluster world.now.world node (publication_by conn publication.now word)) }
 {
-    if !is_ready(world, said) {
+    if !is_ready(world, publication) {
         return Ok(Vec::new(alloc));
     }
-    work_of(alloc, world, node, conn, said, word)
+    work_of(alloc, world, node, conn, publication, word)
 }
 
 /// The work that a publish of the connection at the server of this place makes, in an order of its own, where the cluster is
@@ -71,14 +71,14 @@ pub fn delivery<T: SubTable, R: Race>(
     world: &World<T, R>,
     node: usize,
     conn: ConnId,
-    said: &Pub,
+    publication: &Pub,
     word: u64,
 ) -> Result<Vec<Event>, AllocError>
-    ensures same { IfOk result (λ order. events_in order ≡ delivered world.now.cluster world.now.world node (publication conn said.now word)) }
-    ensures right { IfOk result (λ order. IsOwedOrder world.now.cluster world.now.world node (publication conn said.now word) (events_in order)) }
+    ensures same { IfOk result (λ order. events_in order ≡ delivered world.now.cluster world.now.world node (publication_by conn publication.now word)) }
+    ensures right { IfOk result (λ order. IsOwedOrder world.now.cluster world.now.world node (publication_by conn publication.now word) (events_in order)) }
 {
     some_order_is_right();
     world.takes_where_settled();
     let _shards = world.shards();
-    ready_work(alloc, world, node, conn, said, word)
+    ready_work(alloc, world, node, conn, publication, word)
 }

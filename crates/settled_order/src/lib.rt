@@ -1,8 +1,8 @@
 //! The work that is owed of a publication in a cluster, in an order of its own.
 //!
 //! ```text
-//! let order = delivery(alloc, &world, node, conn, &said, word)?;
-//! world.settled_publish(node, conn, &said, word, &order)?;
+//! let order = delivery(alloc, &world, node, conn, &publication, word)?;
+//! world.settled_publish(node, conn, &publication, word, &order)?;
 //! ```
 //!
 //! `settled_law` says in which orders the work of a publication may be done, and that some order always is right. [`order_of`] makes that

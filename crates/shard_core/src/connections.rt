@@ -9,7 +9,7 @@ ghost use Rattle.outbox.specs.Views.{has_room, with_entry, with_last, without_fi
 ghost use Rattle.shard_core.specs.Shards.{is_open as opened, is_known as known, client_at, clients_with_change, without_client, fits, fits_len, waits_for};
 ghost use Rattle.shard_core.specs.ShardSteps.{new_client};
 
-use crate::recipients::Recipients;
+use crate::dirty_conns::DirtyConns;
 use bytes::Bytes;
 use outbox::{Entry, LAST_LINE_TEXT, Mode, Outbox};
 use std::alloc::{AllocError, Global};
@@ -185,11 +185,11 @@ fn is_half_full(outbox: &Outbox) -> bool {
 }
 
 /// Notes that something is put for a connection, which stands at this place.
-fn note(recipients: &mut Recipients, conns: &[Conn], place: usize, conn: ConnId)
+fn note(dirty_conns: &mut DirtyConns, conns: &[Conn], place: usize, conn: ConnId)
     requires { place < length conns.now }
 {
     let is_urgent = is_half_full(&conns[place].outbox);
-    recipients.note(conn, conns.len(), is_urgent);
+    dirty_conns.note(conn, conns.len(), is_urgent);
 }
 
 /// What room is left behind the entries that wait.
@@ -206,7 +206,7 @@ fn room_of(outbox: &Outbox) -> Room
 fn note_staged(
     conns: &Vec<Conn>,
     places: &mut Vec<usize>,
-    recipients: &mut Recipients,
+    dirty_conns: &mut DirtyConns,
     seat: Seat,
 ) -> Result<(), AllocError>
     requires { seat.place < length conns.now.items }
@@ -214,7 +214,7 @@ fn note_staged(
     ensures err { OnErr result (places.new.items ≡ places.old.items) }
 {
     places.push(seat.place)?;
-    note(recipients, conns, seat.place, seat.conn);
+    note(dirty_conns, conns, seat.place, seat.conn);
     Ok(())
 }
 
@@ -274,7 +274,7 @@ pub struct Conns {
     /// Where something was staged before the last commit, in order: the next entries often go the same way.
     last_places: Vec<usize>,
     /// For which connections something was put.
-    recipients: Recipients,
+    dirty_conns: DirtyConns,
 }
 
 impl Model for Conns {
@@ -300,7 +300,7 @@ impl Conns {
             conns: Vec::new(alloc),
             places: Vec::new(alloc),
             last_places: Vec::new(alloc),
-            recipients: Recipients::new(alloc),
+            dirty_conns: DirtyConns::new(alloc),
         }
     }
 
@@ -413,7 +413,7 @@ impl Conns {
         ensures err { OnErr result (self.new.next ≡ self.old.next) }
     {
         let place = seat.place;
-        note_staged(&self.conns, &mut self.places, &mut self.recipients, seat)?;
+        note_staged(&self.conns, &mut self.places, &mut self.dirty_conns, seat)?;
         stage_message_at(&mut self.conns, place, id, sub, mode, line, payload)?;
         Ok(())
     }
@@ -429,7 +429,7 @@ impl Conns {
         ensures err { OnErr result (self.new.next ≡ self.old.next) }
     {
         let place = seat.place;
-        note_staged(&self.conns, &mut self.places, &mut self.recipients, seat)?;
+        note_staged(&self.conns, &mut self.places, &mut self.dirty_conns, seat)?;
         stage_last_at(&mut self.conns, place, line)?;
         Ok(())
     }
@@ -473,7 +473,7 @@ impl Conns {
         if !self.conns[place].outbox.room_for(line) {
             return Ok(false);
         }
-        note(&mut self.recipients, &self.conns, place, conn);
+        note(&mut self.dirty_conns, &self.conns, place, conn);
         let conn = &mut self.conns[place];
         conn.outbox.stage_reply(line)?;
         conn.outbox.commit();
@@ -488,7 +488,7 @@ impl Conns {
         ensures { self.new ≡ on_both (clients_with_change (with_last line.now) conn) self.old }
     {
         if let Some(place) = place_in(&self.conns, conn) {
-            note(&mut self.recipients, &self.conns, place, conn);
+            note(&mut self.dirty_conns, &self.conns, place, conn);
             let conn = &mut self.conns[place];
             conn.outbox.shut(line);
         }
@@ -538,18 +538,18 @@ impl Conns {
         }
     }
 
-    /// Whether the recipients that are told next are to be asked for soon ([`Recipients::is_urgent`]).
+    /// Whether the connections that are told next are to be asked for soon ([`DirtyConns::is_urgent`]).
     pub fn is_urgent(&self) -> bool {
-        self.recipients.is_urgent()
+        self.dirty_conns.is_urgent()
     }
 
-    /// Gives for which connections something was put since the last time in place of what `recipients` tells,
+    /// Gives for which connections something was put since the last time in place of what `dirty_conns` tells,
     /// which is forgotten.
-    pub fn swap_recipients(&mut self, recipients: &mut Recipients)
+    pub fn swap_dirty_conns(&mut self, dirty_conns: &mut DirtyConns)
         ensures { self.new ≡ self.old }
     {
-        recipients.clear();
-        std::mem::swap(&mut self.recipients, recipients);
+        dirty_conns.clear();
+        std::mem::swap(&mut self.dirty_conns, dirty_conns);
     }
 
     /// The connection goes, with all that waits for it. Takes no memory.

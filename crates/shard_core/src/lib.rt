@@ -10,23 +10,24 @@
 //! ```
 //!
 //! In reading order: `shard` has the calls, `calls` their answers, and `shard/refusals` why they are refused; `connections` keeps the
-//! outboxes, `openings` the open subscriptions; `tally` is what Begin places, `queue_claim` with `members` the choice of one member.
+//! outboxes, `openings` the open subscriptions; `delivery_buffer` is what Begin places, `queue_claim` with `members` the choice of one member.
 #![tactic(auto)]
 
 mod calls;
 mod connections;
+mod delivery_buffer;
+mod dirty_conns;
 mod examples;
 mod faults;
 mod laws;
 mod members;
 mod openings;
 mod queue_claim;
-mod recipients;
 mod shard;
-mod tally;
 
 pub use calls::{BeginFault, Begun, Candidate, Closed, Placed, Subscribed};
 pub use connections::Conns;
+pub use dirty_conns::DirtyConns;
 pub use examples::{
     an_outbox_is_filled, claims_place_once, maxima_are_kept, members_take_turns, openings_are_told,
     room_is_filled, the_slow_are_closed,
@@ -38,5 +39,4 @@ pub use laws::{
 };
 pub use openings::Openings;
 pub use queue_claim::claims_are_whole;
-pub use recipients::Recipients;
 pub use shard::Shard;

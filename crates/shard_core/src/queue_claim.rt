@@ -15,8 +15,8 @@ ghost use Rattle.shard_core.specs.Tallies.{lent_subs};
 
 use crate::calls::{Candidate, Placed};
 use crate::connections::{Conns, Seat};
+use crate::delivery_buffer::{due_entry, due_len, due_mode, may_get};
 use crate::openings::Openings;
-use crate::tally::{due_entry, due_len, due_mode, may_get};
 use client_frames::MessageLines;
 use std::alloc::{AllocError, Global};
 use sub_table::{SubTable, Subscription};

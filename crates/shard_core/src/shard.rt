@@ -21,11 +21,11 @@ mod refusals;
 
 use crate::calls::{BeginFault, Begun, Candidate, Closed, Subscribed};
 use crate::connections::Conns;
+use crate::delivery_buffer::{DeliveryBuffer, is_last, place_all, sub_ids};
+use crate::dirty_conns::DirtyConns;
 use crate::faults::ShardFault;
 use crate::openings::Openings;
 use crate::queue_claim::{QueueClaim, choose};
-use crate::recipients::Recipients;
-use crate::tally::{Tally, is_last, place_all, sub_ids};
 use client_frames::{ErrText, ReplyFrame, message_len, reply_line};
 use outbox::{Entry, LAST_LINE_TEXT};
 use std::alloc::{AllocError, Global};
@@ -192,7 +192,7 @@ pub struct Shard<T: SubTable> {
     /// The serial of the candidate that stands, whose entry is staged.
     chosen: Option<u64>,
     /// The memory of a walk, used again by the next.
-    tally: Tally,
+    buffer: DeliveryBuffer,
 }
 
 impl<T: SubTable> Model for Shard<T> {
@@ -251,7 +251,7 @@ impl<T: SubTable> Shard<T> {
             conns: Conns::new(alloc),
             openings,
             chosen: None,
-            tally: Tally::new(alloc, shard),
+            buffer: DeliveryBuffer::new(alloc, shard),
         })
     }
 
@@ -442,17 +442,17 @@ impl<T: SubTable> Shard<T> {
             .have_room(table, message.subject(), message_len(message))
     }
 
-    /// Whether the recipients that are told next are to be asked for soon ([`Recipients::is_urgent`]).
+    /// Whether the connections that are told next are to be asked for soon ([`DirtyConns::is_urgent`]).
     pub fn is_urgent(&self) -> bool {
         self.conns.is_urgent()
     }
 
-    /// Gives for which connections something was put since the last time, in place of what `recipients`
+    /// Gives for which connections something was put since the last time, in place of what `dirty_conns`
     /// tells, which is forgotten. Takes no memory.
-    pub fn swap_recipients(&mut self, recipients: &mut Recipients)
+    pub fn swap_dirty_conns(&mut self, dirty_conns: &mut DirtyConns)
         ensures { self.new ≡ self.old }
     {
-        self.conns.swap_recipients(recipients);
+        self.conns.swap_dirty_conns(dirty_conns);
     }
 
     /// The job in hand.
@@ -484,8 +484,9 @@ impl<T: SubTable> Shard<T> {
                 cause: Failure::Refused(ShardFault::WrongTurn),
             });
         }
-        self.tally.start(self.shard, copies);
-        let Ok(begun) = place_all(&mut self.tally, &mut self.conns, &mut self.openings, &job) else {
+        self.buffer.start(self.shard, copies);
+        let Ok(begun) = place_all(&mut self.buffer, &mut self.conns, &mut self.openings, &job)
+        else {
             return Err(BeginFault {
                 job,
                 cause: Failure::OutOfMemory,

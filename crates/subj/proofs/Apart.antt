@@ -6,7 +6,7 @@ use Rattle.std.proofs.lemmas.List.Elements.{All-nil, All-cons}
 use Rattle.std.specs.List.{list_any}
 use Rattle.std.specs.Str.{bytes_eq}
 use Rattle.subj.specs.Names.{node_name_fault}
-use Rattle.subj.specs.Servers.{Server, IsServer, AreApart, are_apart}
+use Rattle.subj.specs.Servers.{ServerIdentity, IsServer, AreApart, are_apart}
 use Rattle.subj.specs.declared.limits.TheConstants.{MAX_NODES, MAX_SHARDS}
 
 none_like : (name : List ℕ) (names : List (List ℕ)) → list_any (bytes_eq name) names ≡ false → All (λ other. name ≢ other) names
@@ -26,7 +26,7 @@ all_apart (name ∷ names) apart = go (all_apart names) (list_any (bytes_eq name
     go rest false e f = AllPairs-cons (λ a b. a ≢ b) name names (none_like name names e) (rest f)
 
 -- names and numbers that were tested make a server
-pub tested : (server : Server) → are_apart server.names ≡ true → All (λ name. node_name_fault name ≡ None) server.names → length server.names ≤ MAX_NODES → server.me < length server.names → (1 ≤ server.shards) × (server.shards ≤ MAX_SHARDS) → IsServer server
+pub tested : (server : ServerIdentity) → are_apart server.names ≡ true → All (λ name. node_name_fault name ≡ None) server.names → length server.names ≤ MAX_NODES → server.me < length server.names → (1 ≤ server.shards) × (server.shards ≤ MAX_SHARDS) → IsServer server
 tested server apart named few listed shards = record {
   known = record { apart = all_apart server.names apart; listed = listed };
   named = named;

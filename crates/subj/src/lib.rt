@@ -45,7 +45,7 @@ pub use names::split_token;
 pub use node_ids::NodeId;
 pub use patterns::Pattern;
 pub use queue_names::QueueName;
-pub use servers::Server;
+pub use servers::ServerIdentity;
 pub use sids::Sid;
 pub use subjects::{Reply, Subject};
 pub use turns::{Busy, Finished, Turn};

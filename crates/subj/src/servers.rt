@@ -42,17 +42,17 @@ fn are_apart(names: &[NodeId]) -> bool
 /// Seen as these. There are 1 to [`MAX_NODES`] names, all apart, and 1 to [`MAX_SHARDS`] shards; places
 /// are counted from 0.
 #[derive(Debug, Drop)]
-pub struct Server {
+pub struct ServerIdentity {
     names: Vec<NodeId>,
     me: usize,
     inc: Incarnation,
     shards: u64,
 }
 
-impl Model for Server {
-    ghost use Rattle.subj.specs.Servers.{Server};
+impl Model for ServerIdentity {
+    ghost use Rattle.subj.specs.Servers.{ServerIdentity};
 
-    ghost Value = { Server };
+    ghost Value = { ServerIdentity };
 
     ghost use Rattle.subj.specs.Servers.{IsServer};
 
@@ -61,11 +61,16 @@ impl Model for Server {
     ghost invariant = { λ s. IsServer (record { names = s.names.items; me = s.me; inc = s.inc; shards = s.shards }) };
 }
 
-impl Server {
+impl ServerIdentity {
     /// None just where two names are one, there are more than [`MAX_NODES`], the place is of none of
     /// them, or the number of shards is not 1 to [`MAX_SHARDS`].
     #[tactic(auto, using(crate::proofs::Apart::tested))]
-    pub fn new(names: Vec<NodeId>, me: usize, inc: Incarnation, shards: u64) -> Option<Server>
+    pub fn new(
+        names: Vec<NodeId>,
+        me: usize,
+        inc: Incarnation,
+        shards: u64,
+    ) -> Option<ServerIdentity>
         ensures { result ≡ server_of (record { names = names.items; me = me; inc = inc; shards = shards }) }
     {
         if names.len() as u64 > MAX_NODES || me >= names.len() {
@@ -77,7 +82,7 @@ impl Server {
         if !are_apart(&names) {
             return None;
         }
-        Some(Server {
+        Some(ServerIdentity {
             names,
             me,
             inc,
@@ -141,11 +146,11 @@ impl Server {
     }
 
     /// A copy.
-    pub fn try_clone(&self, alloc: Global) -> Result<Server, AllocError>
+    pub fn try_clone(&self, alloc: Global) -> Result<ServerIdentity, AllocError>
         ensures { IfOk result (λ server. server ≡ self.now) }
     {
         let names = Vec::from_slice(alloc, &self.names)?;
-        Ok(Server {
+        Ok(ServerIdentity {
             names,
             me: self.me,
             inc: self.inc,

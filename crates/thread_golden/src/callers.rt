@@ -68,10 +68,10 @@ fn publishes_and_goes<N: NodeName, R: Wait>(
     rt: &R,
     node: &Node<N>,
     pass: &mut Pass<N>,
-    said: &Pub,
+    publication: &Pub,
 ) -> Option<()> {
     let conn = pass.attach(rt, node, 1).ok()?;
-    done(pass.publish(rt, node, conn, said, 7))?;
+    done(pass.publish(rt, node, conn, publication, 7))?;
     done(pass.drop_job(rt, node, 1))?;
     done(pass.detach(rt, node, 1, conn))
 }

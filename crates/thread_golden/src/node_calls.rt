@@ -115,8 +115,8 @@ fn publish<N: NodeName, R: Wait>(
     node: &Node<N>,
     conn: ConnId,
 ) -> Result<String, AllocError> {
-    let said = hello(alloc).ok_or(AllocError)?;
-    published_told(alloc, node.publish(rt, conn, &said, 0))
+    let publication = hello(alloc).ok_or(AllocError)?;
+    published_told(alloc, node.publish(rt, conn, &publication, 0))
 }
 
 /// A call on a connection of a shard.

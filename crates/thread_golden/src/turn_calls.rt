@@ -7,14 +7,14 @@ ghost use Rattle.thread_golden.specs.Turns.{IsAlone};
 use crate::lanes::{message, run_behind};
 use claim_cells::{Cells, HubSeat, ShardSeat};
 use golden::{Call, call_of, key_of, server_of, sid_of, text};
-use hub_core::{HubFault, Told};
+use hub_core::{CollectResult, HubFault};
 use job_lane::{LANE_CAPACITY, LaneIn, LaneOut, lane};
-use node_threads::{HubState, Line, NodeName, Open, ShardState, Tape, Turned};
+use node_threads::{HubState, LaneSender, NodeName, Open, ShardState, Tape, Turned};
 use std::alloc::{AllocError, Global};
 use std::marker::Brand;
 use std::sync::Wait;
 use sub_table::ListTable;
-use subj::{ConnId, Failure, MAX_COUNTER, Pub, Server, Turn};
+use subj::{ConnId, Failure, MAX_COUNTER, Pub, ServerIdentity, Turn};
 
 /// The parts of a server of one shard.
 #[derive(Drop)]
@@ -242,14 +242,14 @@ struct Beside<N: NodeName> {
 }
 
 /// The server n1, alone, of one shard.
-fn server(alloc: Global) -> Option<Server>
+fn server(alloc: Global) -> Option<ServerIdentity>
     ensures { IfSome result (λ server. server.shards ≡ 1) }
 {
     of_one_shard(server_of(alloc, "n1", 0, 1, 1)?)
 }
 
 /// The server, where it is of one shard.
-fn of_one_shard(server: Server) -> Option<Server>
+fn of_one_shard(server: ServerIdentity) -> Option<ServerIdentity>
     ensures { IfSome result (λ server. server.shards ≡ 1) }
 {
     if server.shards() == 1 {
@@ -275,12 +275,12 @@ fn hub_of<N: NodeName>(
         return Err(AllocError);
     };
     let mut lines = Vec::new(alloc);
-    lines.push(Line::new(1, near))?;
+    lines.push(LaneSender::new(1, near))?;
     HubState::new(alloc, server, cells, seat, lines)
 }
 
 /// What is published: the first job's message.
-fn said(alloc: Global) -> Option<Pub> {
+fn publication(alloc: Global) -> Option<Pub> {
     Some(Pub {
         message: message(alloc, 1)?,
         echo: true,
@@ -288,10 +288,15 @@ fn said(alloc: Global) -> Option<Pub> {
 }
 
 /// Publishes it once: the turn of its job, or None where a shard is a window behind; 0 is any other refusal.
-fn publish<N: NodeName>(hub: &mut HubState<N>, cells: &Cells, said: &Pub, conn: u64) -> Option<u64>
+fn publish<N: NodeName>(
+    hub: &mut HubState<N>,
+    cells: &Cells,
+    publication: &Pub,
+    conn: u64,
+) -> Option<u64>
     requires { cells.now ≡ N.race }
 {
-    match hub.publish(cells, ConnId::new(conn), said, 0) {
+    match hub.publish(cells, ConnId::new(conn), publication, 0) {
         Ok(issued) => Some(issued.turn.get()),
         Err(Failure::Refused(HubFault::Busy(_))) => None,
         Err(_) => Some(0),
@@ -308,7 +313,7 @@ fn publish_told(alloc: Global, turn: Option<u64>) -> Result<String, AllocError> 
 
 fn changes_told(
     alloc: Global,
-    told: Result<Told, Failure<HubFault>>,
+    told: Result<CollectResult, Failure<HubFault>>,
 ) -> Result<String, AllocError> {
     match told {
         Ok(told) => format!(in alloc; "changes {}", told.changes.len()),
@@ -354,9 +359,12 @@ impl<N: NodeName> Beside<N> {
 
     /// Publishes for this connection.
     fn publish(&mut self, conn: u64) -> Result<String, AllocError> {
-        match said(self.alloc) {
-            Some(said) => {
-                publish_told(self.alloc, publish(&mut self.hub, &self.cells, &said, conn))
+        match publication(self.alloc) {
+            Some(publication) => {
+                publish_told(
+                    self.alloc,
+                    publish(&mut self.hub, &self.cells, &publication, conn),
+                )
             }
             None => text(self.alloc, "no memory"),
         }

@@ -8,7 +8,7 @@ use Rattle.list_laws.proofs.Lists.{each_append, each_one, pairs_append, read_set
 use Rattle.list_laws.proofs.Changes.{append_nil, get_set_here}
 use Rattle.list_laws.proofs.Tests.{no_cause, le_false, lt_true, lt_false}
 use Rattle.subj.specs.Messages.{Content}
-use Rattle.subj.specs.Servers.{Server, IsListed, own_name, place}
+use Rattle.subj.specs.Servers.{ServerIdentity, IsListed, own_name, place}
 use Rattle.subj.specs.declared.jobs.Job.{Job}
 use Rattle.subj.specs.declared.limits.TheConstants.{MAX_COUNTER}
 use Rattle.interest.specs.Heard.{nothing_heard}
@@ -30,7 +30,7 @@ use Rattle.node_law.specs.Steps.{cut_if}
 use Rattle.route_session.specs.Events as of_sessions
 use Rattle.route_session.specs.State as sessions
 use Rattle.route_session.specs.State.{peer_of_session}
-use Rattle.node_parts.specs.Sides.{Side, new_side, Event, ByHub, BySessions, OfHub, IsAsked, IsFree, Done, Leads, side_after, side_answer, sessions_with, job_in, jobs_of}
+use Rattle.node_parts.specs.Sides.{HubWithSessions, new_side, Event, ByHub, BySessions, OfHub, IsAsked, IsFree, Done, Leads, side_after, side_answer, sessions_with, job_in, jobs_of}
 use Rattle.thread_law.specs.Once.{Precedes}
 
 -- ---- a peer goes on: a later incarnation is seen, or of the same one no lower mark
@@ -99,7 +99,7 @@ changed_on change q peers on = go (slice_get peers q) refl
     go None at = on_same peers
     go (Some p) at = read_set (λ n b. (a : Peer) × (slice_get peers n ≡ Some a) × Forward a b) peers q (change p) (λ n a apart e. (a, e, stays a a refl refl)) (p, at, on p at)
 
-frames_on : (server : Server) (frames : List Frame) (q : ℕ) (peers : List Peer) → On peers (with_frames server frames q peers)
+frames_on : (server : ServerIdentity) (frames : List Frame) (q : ℕ) (peers : List Peer) → On peers (with_frames server frames q peers)
 frames_on server frames q [] n b e = absurd (none-some b e)
 frames_on server frames q (p ∷ ps) zero b e = (p, refl, subst (Forward p) (same_Some _ b e) (stays p _ refl refl))
 frames_on server frames q (p ∷ ps) (suc n) b e = frames_on server frames (suc q) ps n b e
@@ -114,7 +114,7 @@ slow_on count peers n b e =
 abbrev Reached : Peer → ℕ → ℕ → Type 0
 Reached peer inc number = (inc ≤ peer.seen) × (inc ≡ peer.seen → number ≤ peer.mark)
 
-record IsPast (server : Server) (hub : hub.State) (job : Job) : Type 0 where
+record IsPast (server : ServerIdentity) (hub : hub.State) (job : Job) : Type 0 where
   turn : job.turn ≤ hub.issued
   own : job.id.origin ≡ own_name server → job.id.inc ≡ server.inc → job.id.number ≤ hub.published
   others : place server job.id.origin ≢ server.me → (peer : Peer) → slice_get hub.peers (place server job.id.origin) ≡ Some peer → Reached peer job.id.inc job.id.number
@@ -124,7 +124,7 @@ pub record Follows (a b : Job) : Type 0 where
   pub turn : a.turn < b.turn
   pub id : Precedes a.id b.id
 
-pub record Past (s : Side) (jobs : List Job) : Type 0 where
+pub record Past (s : HubWithSessions) (jobs : List Job) : Type 0 where
   pub listed : IsListed s.server
   each : Each (IsPast s.server s.hub) jobs
   pub rising : Pairs Follows jobs
@@ -134,7 +134,7 @@ record Goes (old new : hub.State) : Type 0 where
   published : old.published ≤ new.published
   peers : On old.peers new.peers
 
-past_on : (server : Server) (old new : hub.State) (job : Job) → Goes old new → IsPast server old job → IsPast server new job
+past_on : (server : ServerIdentity) (old new : hub.State) (job : Job) → Goes old new → IsPast server old job → IsPast server new job
 past_on server old new job g p = record {
   turn = (let a = g.issued in let b = p.turn in omega arith);
   own = λ e f. (let a = g.published in let b = p.own e f in omega arith);
@@ -147,13 +147,13 @@ past_on server old new job g p = record {
       (omega arith, λ (is : job.id.inc ≡ peer.seen). (let m = on.mark (omega arith) in let l = r.1 (omega arith) in omega arith));
 }
 
-abbrev side_with : Side → hub.State → sessions.State → Side
+abbrev side_with : HubWithSessions → hub.State → sessions.State → HubWithSessions
 side_with s h x = record { server = s.server; hub = h; sessions = x }
 
-quiet : (s : Side) (h : hub.State) (x : sessions.State) (jobs : List Job) → Goes s.hub h → Past s jobs → Past (side_with s h x) (jobs ++ [])
+quiet : (s : HubWithSessions) (h : hub.State) (x : sessions.State) (jobs : List Job) → Goes s.hub h → Past s jobs → Past (side_with s h x) (jobs ++ [])
 quiet s h x jobs g p = subst (Past (side_with s h x)) (sym (append_nil jobs)) (record { listed = p.listed; each = λ job i. past_on s.server s.hub h job g (p.each job i); rising = p.rising })
 
-one_more : (s : Side) (h : hub.State) (x : sessions.State) (jobs : List Job) (job : Job) → Goes s.hub h → s.hub.issued < job.turn → IsPast s.server h job → Each (λ a. Precedes a.id job.id) jobs → Past s jobs → Past (side_with s h x) (jobs ++ job ∷ [])
+one_more : (s : HubWithSessions) (h : hub.State) (x : sessions.State) (jobs : List Job) (job : Job) → Goes s.hub h → s.hub.issued < job.turn → IsPast s.server h job → Each (λ a. Precedes a.id job.id) jobs → Past s jobs → Past (side_with s h x) (jobs ++ job ∷ [])
 one_more s h x jobs job g turn new before p = record {
   listed = p.listed;
   each = each_append (IsPast s.server h) jobs (job ∷ []) (λ a i. past_on s.server s.hub h a g (p.each a i)) (each_one (IsPast s.server h) job new);
@@ -163,7 +163,7 @@ one_more s h x jobs job g turn new before p = record {
 
 -- ---- what the hub is asked
 
-published_past : (s : Side) (p : Publication) (jobs : List Job) (h : hub.State) (x : sessions.State) → Goes s.hub h → h.issued ≡ s.hub.issued + 1 → h.published ≡ s.hub.published + 1 → Past s jobs → Past (side_with s h x) (jobs ++ own_job s.server s.hub p ∷ [])
+published_past : (s : HubWithSessions) (p : Publication) (jobs : List Job) (h : hub.State) (x : sessions.State) → Goes s.hub h → h.issued ≡ s.hub.issued + 1 → h.published ≡ s.hub.published + 1 → Past s jobs → Past (side_with s h x) (jobs ++ own_job s.server s.hub p ∷ [])
 published_past s p jobs h x g turn number past = one_more s h x jobs (own_job s.server s.hub p) g (omega arith)
     (record {
       turn = omega arith;
@@ -179,7 +179,7 @@ changed_there change q peers p b at e =
     same_Some b (change p) (sym there ∙ get_set_here peers q p (change p) at)
 
 -- a frame of a peer, by what it says
-module _ (s : Side) (frame : Frame) (finished : List ℕ) (x : sessions.State) (jobs : List Job) (past : Past s jobs) (from : FromPeer s.server s.hub finished frame) where
+module _ (s : HubWithSessions) (frame : Frame) (finished : List ℕ) (x : sessions.State) (jobs : List Job) (past : Past s jobs) (from : FromPeer s.server s.hub finished frame) where
   abbrev base : Peer
   base = peer_in_life from.peer frame.inc
 
@@ -245,17 +245,17 @@ module _ (s : Side) (frame : Frame) (finished : List ℕ) (x : sessions.State) (
 
 -- ---- each step
 
-peers_go : (s : Side) (h : hub.State) → h.issued ≡ s.hub.issued → h.published ≡ s.hub.published → On s.hub.peers h.peers → Goes s.hub h
+peers_go : (s : HubWithSessions) (h : hub.State) → h.issued ≡ s.hub.issued → h.published ≡ s.hub.published → On s.hub.peers h.peers → Goes s.hub h
 peers_go s h i p on = record { issued = omega arith; published = omega arith; peers = on }
 
-up_goes : (s : Side) (q inc : ℕ) → Goes s.hub (up s.server s.hub q inc)
+up_goes : (s : HubWithSessions) (q inc : ℕ) → Goes s.hub (up s.server s.hub q inc)
 up_goes s q inc = peers_go s (up s.server s.hub q inc) refl refl (changed_on (λ peer. record (peer_in_life peer inc) { up = true; outbox = snapshot_to s.server s.hub q inc ∷ [] }) q s.hub.peers (λ p at. known_on p inc _ refl refl))
 
-cut_goes : (s : Side) (o : Option ℕ) → Goes s.hub (cut_if s.hub o)
+cut_goes : (s : HubWithSessions) (o : Option ℕ) → Goes s.hub (cut_if s.hub o)
 cut_goes s None = peers_go s s.hub refl refl (on_same s.hub.peers)
 cut_goes s (Some q) = peers_go s (cut s.hub q) refl refl (changed_on (λ peer. record peer { up = false }) q s.hub.peers (λ p at. stays p _ refl refl))
 
-past_hub : (s : Side) (e : of_hub.Event) (jobs : List Job) → Past s jobs → IsFree s (ByHub e) → IsAsked s (ByHub e) → Past (side_after s (ByHub e)) (jobs ++ job_in (side_answer s (ByHub e)))
+past_hub : (s : HubWithSessions) (e : of_hub.Event) (jobs : List Job) → Past s jobs → IsFree s (ByHub e) → IsAsked s (ByHub e) → Past (side_after s (ByHub e)) (jobs ++ job_in (side_answer s (ByHub e)))
 past_hub s (of_hub.Publish p finished) jobs past free asked = published_past s p jobs (after_publish s.server s.hub p) s.sessions (record { issued = omega arith; published = omega arith; peers = frames_on s.server (frames_of s.server s.hub p) 0 s.hub.peers }) refl refl past
 past_hub s (of_hub.Receive frame finished) jobs past free asked = taken s frame finished (sessions_with s (of_hub.Receive frame finished)) jobs past (from_peer s.server past.listed s.hub finished frame free) frame.body refl
 past_hub s (of_hub.Collect shard deltas) jobs past free asked =
@@ -266,20 +266,20 @@ past_hub s (of_hub.Up q inc) jobs past free asked = absurd asked
 past_hub s (of_hub.Cut q) jobs past free asked = absurd asked
 past_hub s (of_hub.TakeFrom q count) jobs past free asked = quiet s (taken_from s.hub q count) s.sessions jobs (peers_go s (taken_from s.hub q count) refl refl (changed_on (λ peer. record peer { outbox = drop count peer.outbox }) q s.hub.peers (λ p at. stays p _ refl refl))) past
 
-past_sessions : (s : Side) (e : of_sessions.Event) (jobs : List Job) → Past s jobs → Past (side_after s (BySessions e)) (jobs ++ [])
+past_sessions : (s : HubWithSessions) (e : of_sessions.Event) (jobs : List Job) → Past s jobs → Past (side_after s (BySessions e)) (jobs ++ [])
 past_sessions s (of_sessions.Dial peer) jobs past = quiet s s.hub _ jobs (cut_goes s None) past
 past_sessions s of_sessions.Accept jobs past = quiet s s.hub _ jobs (cut_goes s None) past
 past_sessions s (of_sessions.OnInfo session info least) jobs past = quiet s (up s.server s.hub (place s.server info.server_name) info.inc) _ jobs (up_goes s (place s.server info.server_name) info.inc) past
 past_sessions s (of_sessions.OnConnect session connect least) jobs past = quiet s (up s.server s.hub (place s.server connect.server_name) connect.inc) _ jobs (up_goes s (place s.server connect.server_name) connect.inc) past
 past_sessions s (of_sessions.Cut session) jobs past = quiet s (cut_if s.hub (peer_of_session session s.sessions.standing)) _ jobs (cut_goes s (peer_of_session session s.sessions.standing)) past
 
-past_step : (s : Side) (e : Event) (jobs : List Job) → Past s jobs → IsFree s e → IsAsked s e → Past (side_after s e) (jobs ++ job_in (side_answer s e))
+past_step : (s : HubWithSessions) (e : Event) (jobs : List Job) → Past s jobs → IsFree s e → IsAsked s e → Past (side_after s e) (jobs ++ job_in (side_answer s e))
 past_step s (ByHub e) jobs past free asked = past_hub s e jobs past free asked
 past_step s (BySessions e) jobs past free asked = past_sessions s e jobs past
 
 -- ---- each run
 
-pub past_run : (server : Server) → IsListed server → (h : List Done) (to : Side) → Leads (new_side server) h to → Past to (jobs_of h)
+pub past_run : (server : ServerIdentity) → IsListed server → (h : List Done) (to : HubWithSessions) → Leads (new_side server) h to → Past to (jobs_of h)
 past_run server listed [] to is = subst (λ s. Past s []) (sym is) (record { listed = listed; each = λ job i. absurd i; rising = tt })
 past_run server listed (d ∷ earlier) to (done, led) =
     let past = past_step d.before d.event (jobs_of earlier) (past_run server listed earlier d.before led) done.free done.asked in

@@ -4,32 +4,32 @@ use mathlib.Core.Option.{some-ne-none, some-injective}
 use Rattle.list_laws.specs.Lists.{In, Pairs}
 use Rattle.list_laws.proofs.Lists.{in_append, in_left, in_right}
 use Rattle.claim_cells.specs.Rule.{At}
-use Rattle.subj.specs.Servers.{Server}
+use Rattle.subj.specs.Servers.{ServerIdentity}
 use Rattle.subj.specs.declared.jobs.Job.{Job}
 use Rattle.route_values.specs.Frames.{Frame}
 use Rattle.route_values.specs.declared.bodies.Body.{Body}
 use Rattle.route_values.specs.declared.bodies.Body.TheVariants.{Plus, Minus, Snapshot, Msg}
 use Rattle.hub_core.specs.Events as of_hub
 use Rattle.hub_core.specs.Steps.{received_answer}
-use Rattle.node_parts.specs.Sides.{Side, new_side, Event, ByHub, BySessions, OfHub, Done, Leads, side_after, side_answer, job_in, jobs_of}
+use Rattle.node_parts.specs.Sides.{HubWithSessions, new_side, Event, ByHub, BySessions, OfHub, Done, Leads, side_after, side_answer, job_in, jobs_of}
 use Rattle.thread_law.specs.Once.{Brings}
 
 -- ---- where it came from
 
-record Gives (server : Server) (e : Event) (jobs : List Job) (job : Job) : Type 0 where
+record Gives (server : ServerIdentity) (e : Event) (jobs : List Job) (job : Job) : Type 0 where
   brings : Brings server e job.id
   gives : jobs ≡ job ∷ []
 
-one_given : (server : Server) (e : Event) (x job : Job) → Brings server e x.id → In job (x ∷ []) → Gives server e (x ∷ []) job
+one_given : (server : ServerIdentity) (e : Event) (x job : Job) → Brings server e x.id → In job (x ∷ []) → Gives server e (x ∷ []) job
 one_given server e x job b i = ⊎_elim (λ (is : job ≡ x). record { brings = subst (λ (j : Job). Brings server e j.id) (sym is) b; gives = ap (λ j. j ∷ []) (sym is) }) (λ (j : ⊥). absurd j) i
 
-by_frame : (s : Side) (frame : Frame) (finished : List ℕ) (job : Job) (b : Body) → In job (job_in (OfHub (received_answer s.hub frame b))) → Gives s.server (ByHub (of_hub.Receive frame finished)) (job_in (OfHub (received_answer s.hub frame b))) job
+by_frame : (s : HubWithSessions) (frame : Frame) (finished : List ℕ) (job : Job) (b : Body) → In job (job_in (OfHub (received_answer s.hub frame b))) → Gives s.server (ByHub (of_hub.Receive frame finished)) (job_in (OfHub (received_answer s.hub frame b))) job
 by_frame s frame finished job (Plus weighted) i = absurd i
 by_frame s frame finished job (Minus key) i = absurd i
 by_frame s frame finished job (Snapshot keys) i = absurd i
 by_frame s frame finished job (Msg content queues) i = one_given s.server (ByHub (of_hub.Receive frame finished)) _ job refl i
 
-by_step : (s : Side) (e : Event) (job : Job) → In job (job_in (side_answer s e)) → Gives s.server e (job_in (side_answer s e)) job
+by_step : (s : HubWithSessions) (e : Event) (job : Job) → In job (job_in (side_answer s e)) → Gives s.server e (job_in (side_answer s e)) job
 by_step s (ByHub (of_hub.Publish p finished)) job i = one_given s.server (ByHub (of_hub.Publish p finished)) _ job (refl, refl) i
 by_step s (ByHub (of_hub.Receive frame finished)) job i = by_frame s frame finished job frame.body i
 by_step s (ByHub (of_hub.Collect shard deltas)) job i = absurd i
@@ -38,29 +38,29 @@ by_step s (ByHub (of_hub.Cut q)) job i = absurd i
 by_step s (ByHub (of_hub.TakeFrom q count)) job i = absurd i
 by_step s (BySessions e) job i = absurd i
 
-server_stays : (s : Side) (e : Event) → (side_after s e).server ≡ s.server
+server_stays : (s : HubWithSessions) (e : Event) → (side_after s e).server ≡ s.server
 server_stays s (ByHub e) = refl
 server_stays s (BySessions e) = refl
 
-led_server : (server : Server) (h : List Done) (to : Side) → Leads (new_side server) h to → to.server ≡ server
-led_server server [] to is = ap (λ (s : Side). s.server) is
-led_server server (d ∷ earlier) to (done, led) = ap (λ (s : Side). s.server) done.after ∙ server_stays d.before d.event ∙ led_server server earlier d.before led
+led_server : (server : ServerIdentity) (h : List Done) (to : HubWithSessions) → Leads (new_side server) h to → to.server ≡ server
+led_server server [] to is = ap (λ (s : HubWithSessions). s.server) is
+led_server server (d ∷ earlier) to (done, led) = ap (λ (s : HubWithSessions). s.server) done.after ∙ server_stays d.before d.event ∙ led_server server earlier d.before led
 
 -- a step of these gave it
-pub record From (server : Server) (h : List Done) (job : Job) : Type 0 where
+pub record From (server : ServerIdentity) (h : List Done) (job : Job) : Type 0 where
   pub place : ℕ
   pub step : Done
   pub there : At h place step
   pub brings : Brings server step.event job.id
   pub gives : job_in step.answer ≡ job ∷ []
 
-pub from_one : (server : Server) (h : List Done) (to : Side) → Leads (new_side server) h to → (job : Job) → In job (jobs_of h) → From server h job
+pub from_one : (server : ServerIdentity) (h : List Done) (to : HubWithSessions) → Leads (new_side server) h to → (job : Job) → In job (jobs_of h) → From server h job
 from_one server [] to is job i = absurd i
 from_one server (d ∷ earlier) to (done, led) job i = ⊎_elim
     (λ (j : In job (jobs_of earlier)). let f = from_one server earlier d.before led job j in record { place = suc f.place; step = f.step; there = f.there; brings = f.brings; gives = f.gives })
     (λ (j : In job (job_in d.answer)).
     let g = by_step d.before d.event job (subst (λ a. In job (job_in a)) done.answered j) in
-    record { place = 0; step = d; there = refl; brings = subst (λ (z : Server). Brings z d.event job.id) (led_server server earlier d.before led) g.brings; gives = ap job_in done.answered ∙ g.gives })
+    record { place = 0; step = d; there = refl; brings = subst (λ (z : ServerIdentity). Brings z d.event job.id) (led_server server earlier d.before led) g.brings; gives = ap job_in done.answered ∙ g.gives })
     (in_append job (jobs_of earlier) (job_in d.answer) i)
 
 -- ---- no other step gave one of the same publication

@@ -1,7 +1,7 @@
 -- What a legal run does once: each publication has one job, and is put once for a queue name and once for a subscription.
 use Rattle.std.specs.Prelude.{◌≡◌, ℕ, ◌+◌, ◌<◌, List, [], ◌∷◌, ◌++◌}
 use Rattle.list_laws.specs.Lists.{Pairs}
-use Rattle.subj.specs.Servers.{Server, own_name}
+use Rattle.subj.specs.Servers.{ServerIdentity, own_name}
 use Rattle.subj.specs.declared.identities.PubId.{PubId}
 use Rattle.subj.specs.declared.identities.SubId.{SubId}
 use Rattle.subj.specs.declared.jobs.Job.{Job}
@@ -24,7 +24,7 @@ abbrev pub Precedes : PubId → PubId → Type 0
 Precedes a b = a.origin ≡ b.origin → a.inc ≡ b.inc → a.number < b.number
 
 -- a client published it at this server, or a peer sent it
-abbrev pub BringsToHub : Server → of_hub.Event → PubId → Type 0
+abbrev pub BringsToHub : ServerIdentity → of_hub.Event → PubId → Type 0
 BringsToHub server (of_hub.Publish p finished) id = (id.origin ≡ own_name server) × (id.inc ≡ server.inc)
 BringsToHub server (of_hub.Receive frame finished) id = id ≡ record { origin = frame.from; inc = frame.inc; number = frame.number }
 BringsToHub server (of_hub.Collect shard deltas) id = ⊥
@@ -32,7 +32,7 @@ BringsToHub server (of_hub.Up peer inc) id = ⊥
 BringsToHub server (of_hub.Cut peer) id = ⊥
 BringsToHub server (of_hub.TakeFrom peer count) id = ⊥
 
-abbrev pub Brings : Server → Event → PubId → Type 0
+abbrev pub Brings : ServerIdentity → Event → PubId → Type 0
 Brings server (ByHub event) id = BringsToHub server event id
 Brings server (BySessions event) id = ⊥
 

@@ -5,7 +5,7 @@ use Rattle.std.proofs.lemmas.List.Elements.{All-append}
 use Rattle.atomic_table.specs.Seated.{TableId}
 use Rattle.claim_cells.specs.Rule.{At, newcomer}
 use Rattle.claim_cells.specs.Seats.{RaceId, HubShown}
-use Rattle.subj.specs.Servers.{Server}
+use Rattle.subj.specs.Servers.{ServerIdentity}
 use Rattle.thread_node.specs.declared.parts.ShardParts.{ShardParts}
 use Rattle.thread_node.specs.Parts.{AreFresh, IsNamed}
 
@@ -23,7 +23,7 @@ get_map f (x ∷ xs) (suc k) d lt = get_map f xs k d (omega arith)
 before : (k : ℕ) → k + 1 - 1 ≡ k
 before k = omega arith
 
-pub named : (server : Server) (race : RaceId) (hub : HubShown) (shards : List ShardParts) (lanes : List TableId) → AreFresh server race hub shards → map (λ (p : ShardParts). p.near.lane) shards ≡ lanes → All (IsNamed race lanes) shards
+pub named : (server : ServerIdentity) (race : RaceId) (hub : HubShown) (shards : List ShardParts) (lanes : List TableId) → AreFresh server race hub shards → map (λ (p : ShardParts). p.near.lane) shards ≡ lanes → All (IsNamed race lanes) shards
 named server race hub shards lanes fresh is k d lt =
     let p = get_or shards k d in
     let seat = fresh.seats.1 k p.seat (at_map (λ (q : ShardParts). q.seat) shards k d lt) in

@@ -1,14 +1,14 @@
 -- What is kept in writing stays what was done.
 use Rattle.std.proofs.Common.{◌≡◌, ℕ, Bool, true, false, cond, List, [], ◌∷◌, ◌++◌, Option, Some, None, Ok, Err, refl, sym, ap, ◌∙◌, subst, append-nil, ⊎_elim}
-use Rattle.subj.specs.Servers.{Server}
+use Rattle.subj.specs.Servers.{ServerIdentity}
 use Rattle.subj.specs.declared.failures.Failure.{Failure}
 use Rattle.subj.specs.declared.messages.Pub.{Pub}
 use Rattle.route_values.specs.Frames.{Frame}
-use Rattle.hub_core.specs.Chosen.{publication}
+use Rattle.hub_core.specs.Chosen.{publication_by}
 use Rattle.hub_core.specs.declared.faults.HubFault.{HubFault}
 use Rattle.hub_core.specs.Publishing.{Publication, publish_refusal}
 use Rattle.hub_core.specs.Receiving.{receive_refusal}
-use Rattle.node_parts.specs.Sides.{Side, new_side, Event, Answer, IsDone, Leads, job_in}
+use Rattle.node_parts.specs.Sides.{HubWithSessions, new_side, Event, Answer, IsDone, Leads, job_in}
 use Rattle.node_parts.specs.declared.told.Issued.{Issued}
 use Rattle.node_parts.specs.declared.told.Received.{Received}
 use Rattle.node_parts.specs.declared.told.Received.TheVariants.{Routed, Heard}
@@ -46,9 +46,9 @@ tape_does shards w v e answer tape more t c free d g = tape_more shards w v tape
 
 -- ---- the hub's
 
-pub hub_tape_starts : (w : AtHub) (server : Server) (keep : Bool) (tape : Option (List HubEntry)) → w.side ≡ new_side server → w.issued ≡ [] → tape ≡ cond keep (Some []) None → IsHubTape w tape
+pub hub_tape_starts : (w : AtHub) (server : ServerIdentity) (keep : Bool) (tape : Option (List HubEntry)) → w.side ≡ new_side server → w.issued ≡ [] → tape ≡ cond keep (Some []) None → IsHubTape w tape
 hub_tape_starts w server keep tape fresh none is = record {
-  done = record { steps = []; led = fresh ∙ ap new_side (sym (ap (λ (s : Side). s.server) fresh)); gave = none };
+  done = record { steps = []; led = fresh ∙ ap new_side (sym (ap (λ (s : HubWithSessions). s.server) fresh)); gave = none };
   grows = subst (Grows (Some []) []) (sym is) (new_tape _ keep);
 }
 
@@ -76,13 +76,13 @@ hub_looks shards w v tape l t = ⊎_elim (λ (same : v ≡ w). subst (λ x. IsHu
 pub publish_left : (shards : ℕ) (w v : AtHub) (p : Publication) (why : Failure HubFault) (tape : Option (List HubEntry)) → IsHubTape w tape → Publishes shards w p (Err why) v → IsHubTape v tape
 publish_left shards w v p why tape t d = subst (λ x. IsHubTape x tape) (sym (refused_same (publish_refusal d.seen.side.server d.seen.side.hub p d.seen.finished) (v ≡ d.seen) why d.answered)) (hub_looks shards w d.seen tape d.looks t)
 
-pub publish_kept : (shards : ℕ) (w v : AtHub) (conn word : ℕ) (said : Pub) (issued : Issued) (tape more : Option (List HubEntry)) → IsHubTape w tape → Publishes shards w (publication conn said word) (Ok issued) v
-    → Grows tape (hub_entry (event.Publish conn said word v.finished) (told.Issued issued.turn issued.frames) ∷ []) more → IsHubTape v more
-publish_kept shards w v conn word said issued tape more t d g =
-    let p = publication conn said word in
+pub publish_kept : (shards : ℕ) (w v : AtHub) (conn word : ℕ) (publication : Pub) (issued : Issued) (tape more : Option (List HubEntry)) → IsHubTape w tape → Publishes shards w (publication_by conn publication word) (Ok issued) v
+    → Grows tape (hub_entry (event.Publish conn publication word v.finished) (told.Issued issued.turn issued.frames) ∷ []) more → IsHubTape v more
+publish_kept shards w v conn word publication issued tape more t d g =
+    let p = publication_by conn publication word in
     let did = d.answered.1 in
     hub_more d.seen v _ _ tape more (hub_looks shards w d.seen tape d.looks t) did.issues.done did.issues.issued
-    (subst (λ es. Grows tape es more) ((λ k. hub_entry (event.Publish conn said word (did.issues.finished k)) (told.Issued (did.turn k) (did.frames k)) ∷ [])) g)
+    (subst (λ es. Grows tape es more) ((λ k. hub_entry (event.Publish conn publication word (did.issues.finished k)) (told.Issued (did.turn k) (did.frames k)) ∷ [])) g)
 
 -- a frame of a peer that is refused
 pub receive_left : (shards : ℕ) (w v : AtHub) (frame : Frame) (why : Failure HubFault) (tape : Option (List HubEntry)) → IsHubTape w tape → Receives shards w frame (Err why) v → IsHubTape v tape

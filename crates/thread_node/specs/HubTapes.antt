@@ -43,7 +43,7 @@ of_received (Heard mark) = told.Heard mark
 -- ---- an event; the greatest incarnation that the hub has seen of a sender follows from what was done before
 
 abbrev pub asked_of_hub : of_hub.Event → List HubEvent
-asked_of_hub (of_hub.Publish p finished) = event.Publish p.conn p.said p.word finished ∷ []
+asked_of_hub (of_hub.Publish p finished) = event.Publish p.conn p.publication p.word finished ∷ []
 asked_of_hub (of_hub.Receive frame finished) = event.Receive frame finished ∷ []
 asked_of_hub (of_hub.Collect shard deltas) = event.Collect shard deltas ∷ []
 asked_of_hub (of_hub.Up peer inc) = []

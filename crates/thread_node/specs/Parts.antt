@@ -5,12 +5,12 @@ use Rattle.claim_cells.specs.Calls.{AllNew}
 use Rattle.claim_cells.specs.Rule.{newcomer, fresh_hub}
 use Rattle.claim_cells.specs.Seats.{RaceId, HubShown}
 use Rattle.job_lane.specs.Ends.{Writer, Reader}
-use Rattle.subj.specs.Servers.{Server}
+use Rattle.subj.specs.Servers.{ServerIdentity}
 use Rattle.thread_node.specs.declared.parts.ShardParts.{ShardParts}
 
 -- the server, its race and its lanes, and whether what its calls answer is kept in writing
 pub record Given : Type 0 where
-  pub server : Server
+  pub server : ServerIdentity
   pub race : RaceId
   pub lanes : List TableId
   pub keep : Bool
@@ -23,7 +23,7 @@ pub record IsFreshLane (near : Writer) (far : Reader) : Type 0 where
   pub hand : far.hand ≡ None
 
 -- all parts of a server that has done nothing
-pub record AreFresh (server : Server) (race : RaceId) (hub : HubShown) (shards : List ShardParts) : Type 0 where
+pub record AreFresh (server : ServerIdentity) (race : RaceId) (hub : HubShown) (shards : List ShardParts) : Type 0 where
   pub count : race.shards ≡ server.shards
   pub hub_race : hub.race ≡ race
   pub hub_part : hub.part ≡ fresh_hub

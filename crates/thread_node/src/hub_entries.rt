@@ -14,7 +14,7 @@ pub enum HubEvent {
     /// A client published, on the connection of this number; the word decided who serves each queue name.
     Publish {
         conn: ConnId,
-        said: Pub,
+        publication: Pub,
         word: u64,
         finished: Finished,
     },

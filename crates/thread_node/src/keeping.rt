@@ -81,15 +81,15 @@ pub(crate) fn unsubscribe_event(
 }
 
 /// A copy of what a client said, where there is memory for it.
-pub fn copy_of_pub(said: &Pub) -> Option<Pub>
-    ensures { IfSome result (λ copy. copy ≡ said.now) }
+pub fn copy_of_pub(publication: &Pub) -> Option<Pub>
+    ensures { IfSome result (λ copy. copy ≡ publication.now) }
 {
-    let Ok(message) = said.message.try_clone() else {
+    let Ok(message) = publication.message.try_clone() else {
         return None;
     };
     Some(Pub {
         message,
-        echo: said.echo,
+        echo: publication.echo,
     })
 }
 
@@ -97,19 +97,19 @@ pub fn copy_of_pub(said: &Pub) -> Option<Pub>
 pub(crate) fn publish_event(
     tape: &Tape<HubEntry>,
     conn: ConnId,
-    said: &Pub,
+    publication: &Pub,
     word: u64,
     finished: Finished,
 ) -> Option<HubEvent>
-    ensures { IfSome result (λ event. event ≡ Publish conn said.now word finished) }
+    ensures { IfSome result (λ event. event ≡ Publish conn publication.now word finished) }
 {
     if !tape.is_kept() {
         return None;
     }
-    let said = copy_of_pub(said)?;
+    let publication = copy_of_pub(publication)?;
     Some(HubEvent::Publish {
         conn,
-        said,
+        publication,
         word,
         finished,
     })

@@ -3,7 +3,7 @@
 //! ```text
 //! let node: ThreadNode<ListTable, N> = ThreadNode::start(alloc, parts)?;
 //! let conn = node.attach(rt, 1)?;
-//! node.publish(rt, conn, &said, 0)?;
+//! node.publish(rt, conn, &publication, 0)?;
 //! let turned = node.turn(rt, 1, &Open);
 //! let (hub, shards) = node.into_locked();
 //! ```

@@ -3,12 +3,12 @@
 ghost use Rattle.std.specs.Prelude.{◌≡◌, []};
 ghost use Rattle.std.specs.Arc.{arc_value};
 ghost use Rattle.subj.specs.Answers.{IsAnswered, IsDecided};
-ghost use Rattle.hub_core.specs.Chosen.{publication};
+ghost use Rattle.hub_core.specs.Chosen.{publication_by};
 ghost use Rattle.hub_core.specs.Events.{TakeFrom, Taken};
 ghost use Rattle.hub_core.specs.Steps.{hub_refusal};
 ghost use Rattle.route_session.specs.Events.{Dial, Accept, OnInfo, OnConnect, Cut, Dialed, Accepted, KeptAfterInfo, Kept as WasKept, WasCut};
 ghost use Rattle.route_session.specs.Steps.{session_refusal};
-ghost use Rattle.subj.specs.Servers.{Server};
+ghost use Rattle.subj.specs.Servers.{ServerIdentity};
 ghost use Rattle.node_parts.specs.Sides.{ByHub, BySessions, OfHub, OfSessions, new_side, seen_name};
 ghost use Rattle.node_threads.specs.AtHub.{Collects, Does, Publishes, Receives};
 ghost use Rattle.thread_node.specs.HubTapes.{IsHubTape};
@@ -20,7 +20,7 @@ use crate::keeping::{
 };
 use crate::locked_shard::LockedShard;
 use claim_cells::Cells;
-use hub_core::{HubFault, Told};
+use hub_core::{CollectResult, HubFault};
 use node_parts::{Issued, Received};
 use node_threads::{HubState, NodeName, Tape};
 use route_session::{Kept, SessionFault, SessionId};
@@ -65,7 +65,7 @@ impl<N: NodeName> LockedHub<N> {
         keep: bool,
     ) -> LockedHub<N>
         requires race { arc_value cells ≡ N.race }
-        requires fresh { (server : Server) × (state.side ≡ new_side server) × (state.issued ≡ []) }
+        requires fresh { (server : ServerIdentity) × (state.side ≡ new_side server) × (state.issued ≡ []) }
         ensures { result ≡ state }
     {
         LockedHub {
@@ -80,14 +80,14 @@ impl<N: NodeName> LockedHub<N> {
     pub fn publish(
         &mut self,
         conn: ConnId,
-        said: &Pub,
+        publication: &Pub,
         word: u64,
     ) -> Result<Issued, Failure<HubFault>>
-        ensures { Publishes N.race.shards self.old (publication conn said.now word) result self.new }
+        ensures { Publishes N.race.shards self.old (publication_by conn publication.now word) result self.new }
     {
-        let issued = self.state.publish(&self.cells, conn, said, word)?;
+        let issued = self.state.publish(&self.cells, conn, publication, word)?;
         let finished = self.state.finished();
-        let event = publish_event(&self.tape, conn, said, word, finished);
+        let event = publish_event(&self.tape, conn, publication, word, finished);
         let told = HubTold::Issued {
             turn: issued.turn,
             frames: issued.frames,
@@ -196,7 +196,7 @@ impl<N: NodeName> LockedHub<N> {
     pub fn collect<T: SubTable>(
         &mut self,
         shard: &mut LockedShard<T, N>,
-    ) -> Result<Told, Failure<HubFault>>
+    ) -> Result<CollectResult, Failure<HubFault>>
         ensures { Collects self.old shard.old result self.new shard.new }
     {
         let number = shard.shard();

@@ -18,7 +18,7 @@ use claim_cells::Cells;
 use client_frames::{ErrText, ReplyFrame};
 use node_threads::{Gate, NodeName, ShardEntry, ShardEvent, ShardState, ShardTold, Tape, Turned};
 use outbox::Entry;
-use shard_core::{Closed, Recipients, ShardFault, Subscribed};
+use shard_core::{Closed, DirtyConns, ShardFault, Subscribed};
 use std::alloc::Global;
 use std::marker::Model;
 use std::sync::{Arc, Wait};
@@ -215,11 +215,11 @@ impl<T: SubTable, N: NodeName> LockedShard<T, N> {
         self.state.is_urgent()
     }
 
-    /// [`ShardState::swap_recipients`].
-    pub fn swap_recipients(&mut self, recipients: &mut Recipients)
+    /// [`ShardState::swap_dirty_conns`].
+    pub fn swap_dirty_conns(&mut self, dirty_conns: &mut DirtyConns)
         ensures { self.new ≡ self.old }
     {
-        self.state.swap_recipients(recipients);
+        self.state.swap_dirty_conns(dirty_conns);
     }
 
     /// [`ShardState::deltas`].

@@ -14,10 +14,10 @@ use crate::parts::{Parts, ShardParts};
 use claim_cells::{Cells, HubSeat};
 use client_frames::{ErrText, ReplyFrame};
 use crossbeam_utils::sync::{Parker, Unparker};
-use hub_core::{HubFault, Told};
+use hub_core::{CollectResult, HubFault};
 use node_law::NodeFault;
 use node_parts::{Issued, Received, place_of_shard};
-use node_threads::{Gate, HubState, Line, NodeName, ShardState, Turned};
+use node_threads::{Gate, HubState, LaneSender, NodeName, ShardState, Turned};
 use outbox::Entry;
 use route_session::{Kept, SessionFault, SessionId};
 use route_values::{Numbered, RouteConnect, RouteInfo};
@@ -28,7 +28,7 @@ use std::sync::{Arc, Mutex, MutexGuard, Wait};
 use std::thread;
 use std::thread::Threads;
 use sub_table::SubTable;
-use subj::{ConnId, Failure, Key, Pub, Server, Sid, SubId, Turn};
+use subj::{ConnId, Failure, Key, Pub, ServerIdentity, Sid, SubId, Turn};
 
 /// The hub's lock, held.
 pub type HubSection<'a, N> = MutexGuard<'a, LockedHub<N>>;
@@ -59,7 +59,7 @@ fn locked_shard<T: SubTable, N: NodeName>(
     count: u64,
     keep: bool,
     parts: ShardParts,
-) -> Result<(Line<N>, Mutex<LockedShard<T, N>>), AllocError>
+) -> Result<(LaneSender<N>, Mutex<LockedShard<T, N>>), AllocError>
     requires race { (arc_value cells.now ≡ N.race) × (count ≡ N.race.shards) }
     requires few { count ≤ MAX_SHARDS }
     requires parts { IsNamed N.race N.lanes parts }
@@ -67,14 +67,14 @@ fn locked_shard<T: SubTable, N: NodeName>(
 {
     let cells = Arc::try_clone(cells)?;
     let ShardParts { seat, near, far } = parts;
-    let line = Line::new(seat.shard(), near);
+    let line = LaneSender::new(seat.shard(), near);
     let state = ShardState::new(alloc, seat, count, far)?;
     let shard = LockedShard::new(alloc, state, cells, keep);
     Ok((line, Mutex::new(shard)))
 }
 
 /// The hub's ends of the lanes, and the shards under their locks, in their order.
-type Shards<T, N> = (Vec<Line<N>>, Vec<Mutex<LockedShard<T, N>>>);
+type Shards<T, N> = (Vec<LaneSender<N>>, Vec<Mutex<LockedShard<T, N>>>);
 
 /// The same of all these parts.
 fn locked_shards<T: SubTable, N: NodeName>(
@@ -103,11 +103,11 @@ fn locked_shards<T: SubTable, N: NodeName>(
 /// The hub of this server under its lock, with its ends of the lanes.
 fn locked_hub<N: NodeName>(
     alloc: Global,
-    server: Server,
+    server: ServerIdentity,
     cells: Arc<Cells, Global>,
     seat: HubSeat,
     keep: bool,
-    lines: Vec<Line<N>>,
+    lines: Vec<LaneSender<N>>,
 ) -> Result<Mutex<LockedHub<N>>, AllocError>
     requires race { (arc_value cells ≡ N.race) × (seat.race ≡ N.race) }
     requires shards { server.shards ≡ N.race.shards }
@@ -271,11 +271,11 @@ impl<T: SubTable, N: NodeName> ThreadNode<T, N> {
         &self,
         rt: &R,
         conn: ConnId,
-        said: &Pub,
+        publication: &Pub,
         word: u64,
     ) -> Result<Issued, Failure<HubFault>> {
         let mut hub = self.hub(rt);
-        let issued = hub.publish(conn, said, word)?;
+        let issued = hub.publish(conn, publication, word)?;
         hub.push_jobs(rt);
         drop(hub);
         self.unpark_workers();
@@ -344,7 +344,7 @@ impl<T: SubTable, N: NodeName> ThreadNode<T, N> {
 
     /// [`HubState::collect`](node_threads::HubState::collect), of the shard of this number; the only call that takes two locks, the
     /// hub's and then the shard's. Refused with [`NodeFault::NoShard`] first. May wait.
-    pub fn collect<R: Wait>(&self, rt: &R, shard: u64) -> Result<Told, Failure<NodeFault>>
+    pub fn collect<R: Wait>(&self, rt: &R, shard: u64) -> Result<CollectResult, Failure<NodeFault>>
         ensures { AnswersAt (has_shard N.race shard) result }
     {
         let mut hub = self.hub(rt);

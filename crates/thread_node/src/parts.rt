@@ -8,7 +8,7 @@ use crossbeam_utils::sync::{Parker, Unparker};
 use job_lane::{LANE_CAPACITY, LaneIn, LaneOut, lane};
 use std::alloc::{AllocError, Global};
 use std::marker::Model;
-use subj::Server;
+use subj::ServerIdentity;
 
 /// What a shard has: its seat at the race, and both ends of its lane.
 #[derive(Drop)]
@@ -25,7 +25,7 @@ pub(crate) struct ShardParts {
 /// written down.
 #[derive(Drop)]
 pub struct Parts {
-    pub(crate) server: Server,
+    pub(crate) server: ServerIdentity,
     pub(crate) keep: bool,
     pub(crate) cells: Cells,
     pub(crate) hub: HubSeat,
@@ -74,7 +74,7 @@ impl Parts {
     /// memory, for as long as the server lives, and stands on the tapes of what [`ThreadNode::into_locked`](crate::ThreadNode::into_locked) gives.
     pub fn new(
         alloc: Global,
-        server: Server,
+        server: ServerIdentity,
         keep: bool,
     ) -> Result<(Parts, Vec<Parker>), AllocError>
         ensures { IfOk result (λ made. (made.0.server ≡ server) × (made.0.keep ≡ keep)) }

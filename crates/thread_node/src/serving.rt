@@ -9,12 +9,12 @@ use client_calls::{ClientCalls, Outcome};
 use client_conn::Refusal;
 use client_frames::{ErrText, ReplyFrame};
 use client_refusals::{refusal_of_hub, refusal_of_shard};
-use hub_core::{HubFault, Told};
+use hub_core::{CollectResult, HubFault};
 use node_threads::{NodeName, Open, Turned};
 use route_session::{SessionFault, SessionId};
 use route_values::{Numbered, RouteConnect, RouteInfo};
 use server_calls::{HubCalls, NextJob, ServerCalls, ShardCalls};
-use shard_core::{Recipients, ShardFault};
+use shard_core::{DirtyConns, ShardFault};
 use std::alloc::{AllocError, Global};
 use std::sync::Wait;
 use sub_table::SubTable;
@@ -52,7 +52,7 @@ fn copies_of(alloc: Global, key: &Key, sid: &Sid) -> Result<(Key, Sid), AllocErr
 fn collected<T: SubTable, N: NodeName>(
     hub: &mut LockedHub<N>,
     shard: &mut LockedShard<T, N>,
-) -> Result<Option<Told>, AllocError> {
+) -> Result<Option<CollectResult>, AllocError> {
     if shard.deltas().is_empty() {
         return Ok(None);
     }
@@ -164,16 +164,16 @@ impl<'n, T: SubTable, N: NodeName> ShardCalls for HeldShard<'n, T, N> {
         self.guard.is_open(conn)
     }
 
-    fn swap_recipients(&mut self, recipients: &mut Recipients) {
+    fn swap_dirty_conns(&mut self, dirty_conns: &mut DirtyConns) {
         let shard = &mut *self.guard;
-        shard.swap_recipients(recipients);
+        shard.swap_dirty_conns(dirty_conns);
     }
 }
 
 impl<'n, N: NodeName> HubCalls for HeldHub<'n, N> {
-    fn publish(&mut self, conn: ConnId, said: &Pub, word: u64) -> Outcome {
+    fn publish(&mut self, conn: ConnId, publication: &Pub, word: u64) -> Outcome {
         let hub = &mut *self.guard;
-        match hub.publish(conn, said, word) {
+        match hub.publish(conn, publication, word) {
             Ok(_) => Outcome::Done,
             Err(Failure::Refused(fault)) => Outcome::Refused(refusal_of_hub(fault)),
             Err(Failure::OutOfMemory) => Outcome::Short,
@@ -265,7 +265,7 @@ impl<'n, T: SubTable, N: NodeName> ServerCalls for &'n ThreadNode<T, N> {
         }
     }
 
-    fn collect<R: Wait>(&self, rt: &R, shard: u64) -> Result<Option<Told>, AllocError> {
+    fn collect<R: Wait>(&self, rt: &R, shard: u64) -> Result<Option<CollectResult>, AllocError> {
         let node: &'n ThreadNode<T, N> = *self;
         let mut hub_guard = node.hub(rt);
         let Some(mut shard_guard) = node.shard(rt, shard) else {

@@ -4,7 +4,7 @@ use Rattle.node_law.specs.declared.events.NodeEvent.{NodeEvent}
 use Rattle.node_threads.specs.declared.shard_entries.ShardEntry.{ShardEntry}
 use Rattle.thread_node.specs.declared.hub_entries.HubEntry.{HubEntry}
 use Rattle.thread_report.specs.declared.passes.Call.{Call}
-use Rattle.thread_report.specs.declared.passes.Told.{Told}
+use Rattle.thread_report.specs.declared.passes.CallAnswer.{CallAnswer}
 use Rattle.thread_report.specs.Owed.{Gains, call, call_of_hub, owed_by_hub, owed_by_shard, owed_by_shards, owed_one}
 
 pub owed_by_hub_more : (from n i : ℕ) (xs : List HubEntry) (d : HubEntry) → i < length xs → n ≡ from + i → owed_by_hub from (take (suc i) xs) ≡ owed_by_hub from (take i xs) ++ call_of_hub n (get_or xs i d) ∷ []
@@ -29,7 +29,7 @@ module _ {A : Type 0} (f : A → List ShardEntry) where
       ∙ sym (append_assoc (owed_by_shard from 0 (f x)) (owed_by_shards (suc from) (map f (take i xs))) (owed_by_shard n 0 (f (get_or xs i d))))
 
 -- a pass gains a call, or is lost
-pub gains : (keep lost lost' : Bool) (lock place : ℕ) (event : NodeEvent) (told : Told) (calls calls' : List Call) → keep ≡ true → (lost' ≡ false → (lost ≡ false) × (calls' ≡ calls ++ call lock place event told ∷ []))
+pub gains : (keep lost lost' : Bool) (lock place : ℕ) (event : NodeEvent) (told : CallAnswer) (calls calls' : List Call) → keep ≡ true → (lost' ≡ false → (lost ≡ false) × (calls' ≡ calls ++ call lock place event told ∷ []))
     → Gains keep lock event told (cond lost None (Some calls)) (cond lost' None (Some calls'))
 gains false lost lost' lock place event told calls calls' on h = absurd (true≢false (sym on))
 gains true lost true lock place event told calls calls' on h = (place, tt)

@@ -12,7 +12,7 @@ use Rattle.thread_node.specs.declared.hub_entries.HubEvent.TheVariants as hub_ev
 
 -- of the hub or its sessions: without what the shards had finished, and without the deltas
 abbrev pub event_of_hub : HubEvent → NodeEvent
-event_of_hub (hub_event.Publish conn said word finished) = Own (own.Publish conn said word)
+event_of_hub (hub_event.Publish conn publication word finished) = Own (own.Publish conn publication word)
 event_of_hub (hub_event.Receive frame finished) = Receive frame
 event_of_hub (hub_event.Collect shard deltas) = Own (own.Collect shard)
 event_of_hub (hub_event.TakeFrames peer count) = Own (own.TakeFrames peer count)

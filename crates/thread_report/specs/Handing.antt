@@ -10,7 +10,7 @@ use Rattle.thread_node.specs.declared.hub_entries.HubEvent.TheVariants as hub
 
 -- those of the shard of this number
 abbrev pub heard_in : ℕ → HubEvent → List (List Delta)
-heard_in number (hub.Publish conn said word finished) = []
+heard_in number (hub.Publish conn publication word finished) = []
 heard_in number (hub.Receive frame finished) = []
 heard_in number (hub.Collect of deltas) = cond (nat_eq of number) (deltas ∷ []) []
 heard_in number (hub.TakeFrames peer count) = []

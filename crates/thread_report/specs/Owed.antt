@@ -9,11 +9,11 @@ use Rattle.node_threads.specs.declared.shard_entries.ShardTold.TheVariants.{Atta
 use Rattle.thread_report.specs.Events.{event_of_hub, event_of_shard}
 use Rattle.thread_node.specs.declared.hub_entries.HubEntry.{HubEntry}
 use Rattle.thread_report.specs.declared.passes.Call.{Call}
-use Rattle.thread_report.specs.declared.passes.Told.{Told}
-use Rattle.thread_report.specs.declared.passes.Told.TheVariants.{Hub, Shard}
+use Rattle.thread_report.specs.declared.passes.CallAnswer.{CallAnswer}
+use Rattle.thread_report.specs.declared.passes.CallAnswer.TheVariants.{Hub, Shard}
 
 -- under the hub's lock, which is 0, or that of the shard of this number
-abbrev pub call : ℕ → ℕ → NodeEvent → Told → Call
+abbrev pub call : ℕ → ℕ → NodeEvent → CallAnswer → Call
 call lock place event told = record { lock = lock; place = place; event = event; told = told }
 
 -- the calls of a pass, unless they were given up
@@ -22,7 +22,7 @@ calls_of None = []
 calls_of (Some calls) = calls
 
 -- where steps are written down, a pass gains this call, at some place among the steps under its lock
-abbrev pub Gains : Bool → ℕ → NodeEvent → Told → Option (List Call) → Option (List Call) → Type 0
+abbrev pub Gains : Bool → ℕ → NodeEvent → CallAnswer → Option (List Call) → Option (List Call) → Type 0
 Gains true lock event told old new = (place : ℕ) × Grows old (call lock place event told ∷ []) new
 Gains false lock event told old new = new ≡ old
 

@@ -47,14 +47,18 @@ fn is_own_of_hub(event: &OwnEvent, asked: &HubEvent) -> bool
 {
     match (event, asked) {
         (
-            OwnEvent::Publish { conn, said, word },
+            OwnEvent::Publish {
+                conn,
+                publication,
+                word,
+            },
             HubEvent::Publish {
                 conn: by,
-                said: of,
+                publication: of,
                 word: drawn,
                 ..
             },
-        ) => conn == by && word == drawn && is_same_pub(said, of),
+        ) => conn == by && word == drawn && is_same_pub(publication, of),
         (OwnEvent::Collect { shard }, HubEvent::Collect { shard: of, .. }) => shard == of,
         (OwnEvent::Dial { peer }, HubEvent::Dial { peer: of }) => peer == of,
         (OwnEvent::Accept, HubEvent::Accept) => true,

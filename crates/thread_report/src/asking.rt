@@ -12,14 +12,23 @@ use subj::{ConnId, Key, Pub, Sid};
 use thread_node::copy_of_pub;
 
 /// A publication.
-pub(crate) fn publication(kept: bool, conn: ConnId, said: &Pub, word: u64) -> Option<NodeEvent>
-    ensures { IfSome result (λ event. event ≡ Own (Publish conn said.now word)) }
+pub(crate) fn publish_event(
+    kept: bool,
+    conn: ConnId,
+    publication: &Pub,
+    word: u64,
+) -> Option<NodeEvent>
+    ensures { IfSome result (λ event. event ≡ Own (Publish conn publication.now word)) }
 {
     if !kept {
         return None;
     }
-    let said = copy_of_pub(said)?;
-    Some(NodeEvent::Own(OwnEvent::Publish { conn, said, word }))
+    let publication = copy_of_pub(publication)?;
+    Some(NodeEvent::Own(OwnEvent::Publish {
+        conn,
+        publication,
+        word,
+    }))
 }
 
 /// A frame of a peer.

@@ -4,7 +4,7 @@
 //! ```text
 //! let mut pass = Pass::new(alloc);
 //! let conn = pass.attach(rt, &node, 1)?;
-//! pass.publish(rt, &node, conn, &said, 0)?;
+//! pass.publish(rt, &node, conn, &publication, 0)?;
 //! passes.push(pass)?;
 //! let report = finish(rt, alloc, node, passes)?;
 //! ```
@@ -26,5 +26,5 @@ mod passes_told;
 mod report;
 
 pub use faults::Unfinished;
-pub use passes::{Call, Pass, Told};
+pub use passes::{Call, CallAnswer, Pass};
 pub use report::{Report, finish};

@@ -3,7 +3,7 @@
 ghost use Rattle.std.specs.Prelude.{◌≡◌, ◌∷◌, ◌++◌, [], true, false, Some, IfSome, length, option_to_list, IfOk, OnErr};
 ghost use Rattle.node_law.specs.declared.events.NodeEvent.{NodeEvent};
 ghost use Rattle.thread_report.specs.Owed.{Gains, IsInOrder, calls_of};
-ghost use Rattle.thread_report.specs.declared.passes.Told.TheVariants.{Hub, Shard};
+ghost use Rattle.thread_report.specs.declared.passes.CallAnswer.TheVariants.{Hub, Shard};
 ghost use Rattle.shard_core.specs.Answers.{answer_of};
 ghost use Rattle.node_law.specs.declared.events.ConnEvent.TheVariants as of_conn;
 ghost use Rattle.node_law.specs.declared.events.NodeEvent.TheVariants.{Own, Receive, OnInfo, OnConnect};
@@ -15,7 +15,7 @@ ghost use Rattle.thread_node.specs.HubTapes.{of_received};
 ghost use Rattle.thread_node.specs.Refusing.{AnswersAt, DecidesAt, has_shard};
 ghost use Rattle.thread_node.specs.declared.hub_entries.HubTold.TheVariants as hub_told;
 
-use crate::asking::{frame_of_peer, of_conn, publication, subscription, unsubscription};
+use crate::asking::{frame_of_peer, of_conn, publish_event, subscription, unsubscription};
 use crate::order::are_rising;
 use client_frames::{ErrText, ReplyFrame};
 use hub_core::HubFault;
@@ -38,7 +38,7 @@ use thread_node::{
 
 /// What a call answered, in numbers: one of the hub's, or one of a shard's.
 #[derive(Clone, Copy, PartialEq, Eq)]
-pub enum Told {
+pub enum CallAnswer {
     Hub(HubTold),
     Shard(ShardTold),
 }
@@ -50,7 +50,7 @@ pub struct Call {
     pub lock: u64,
     pub place: usize,
     pub event: NodeEvent,
-    pub told: Told,
+    pub told: CallAnswer,
 }
 
 /// The calls that one caller made of the server that N names, in order. (Profile.)
@@ -102,7 +102,14 @@ impl<N: NodeName> Pass<N> {
     }
 
     /// Adds a call behind the others, where calls are written down. Where there is no copy of what it was asked, all are given up.
-    fn tell(&mut self, keep: bool, lock: u64, place: usize, event: Option<NodeEvent>, told: Told)
+    fn tell(
+        &mut self,
+        keep: bool,
+        lock: u64,
+        place: usize,
+        event: Option<NodeEvent>,
+        told: CallAnswer,
+    )
         ensures { (e : NodeEvent) → IfSome event (λ x. x ≡ e) → Gains keep lock e told self.old self.new }
     {
         if !keep {
@@ -125,7 +132,7 @@ impl<N: NodeName> Pass<N> {
     fn tell_hub(&mut self, keep: bool, place: usize, event: Option<NodeEvent>, told: HubTold)
         ensures { (e : NodeEvent) → IfSome event (λ x. x ≡ e) → Gains keep 0 e (Hub told) self.old self.new }
     {
-        self.tell(keep, 0, place, event, Told::Hub(told));
+        self.tell(keep, 0, place, event, CallAnswer::Hub(told));
     }
 
     /// The same of a call under the lock of the shard of this number.
@@ -139,7 +146,7 @@ impl<N: NodeName> Pass<N> {
     )
         ensures { (e : NodeEvent) → IfSome event (λ x. x ≡ e) → Gains keep shard e (Shard told) self.old self.new }
     {
-        self.tell(keep, shard, place, event, Told::Shard(told));
+        self.tell(keep, shard, place, event, CallAnswer::Shard(told));
     }
 
     /// Whether the calls under each lock stand in the order in which they were made.
@@ -169,15 +176,15 @@ impl<N: NodeName> Pass<N> {
         rt: &R,
         node: &ThreadNode<T, N>,
         conn: ConnId,
-        said: &Pub,
+        publication: &Pub,
         word: u64,
     ) -> Result<Issued, Failure<HubFault>>
-        ensures told { IfOk result (λ issued. Gains N.keep 0 (Own (own.Publish conn said.now word)) (Hub (hub_told.Issued issued.turn issued.frames)) self.old self.new) }
+        ensures told { IfOk result (λ issued. Gains N.keep 0 (Own (own.Publish conn publication.now word)) (Hub (hub_told.Issued issued.turn issued.frames)) self.old self.new) }
         ensures same { OnErr result (self.new ≡ self.old) }
     {
         let mut hub = node.hub(rt);
         let place = hub.steps_kept();
-        let issued = hub.publish(conn, said, word)?;
+        let issued = hub.publish(conn, publication, word)?;
         hub.push_jobs(rt);
         drop(hub);
         node.unpark_workers();
@@ -186,7 +193,7 @@ impl<N: NodeName> Pass<N> {
             frames: issued.frames,
         };
         let keep = node.keeps_tapes();
-        let event = publication(self.is_kept(keep), conn, said, word);
+        let event = publish_event(self.is_kept(keep), conn, publication, word);
         self.tell_hub(keep, place, event, told);
         Ok(issued)
     }
@@ -363,7 +370,7 @@ impl<N: NodeName> Pass<N> {
         rt: &R,
         node: &ThreadNode<T, N>,
         shard: u64,
-    ) -> Result<hub_core::Told, Failure<NodeFault>>
+    ) -> Result<hub_core::CollectResult, Failure<NodeFault>>
         ensures told { IfOk result (λ told. Gains N.keep 0 (Own (own.Collect shard)) (Hub (hub_told.Collected (length told.changes.items) (length told.cut.items))) self.old self.new) }
         ensures same { OnErr result (self.new ≡ self.old) }
         ensures answers { AnswersAt (has_shard N.race shard) result }

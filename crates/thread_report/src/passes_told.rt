@@ -5,7 +5,7 @@ ghost use Rattle.thread_report.specs.Owed.{AreTold, IsInOrder, call_of_hub, call
 
 use crate::asked::{is_of_hub, is_of_shard};
 use crate::faults::Unfinished;
-use crate::passes::{Call, Pass, Told};
+use crate::passes::{Call, CallAnswer, Pass};
 use node_threads::{NodeName, ShardEntry, ShardTold};
 use std::alloc::Global;
 use thread_node::HubEntry;
@@ -142,7 +142,7 @@ fn is_by_hub(call: &Call, place: usize, entry: &HubEntry) -> bool
 {
     call.lock == 0
         && call.place == place
-        && call.told == Told::Hub(entry.told)
+        && call.told == CallAnswer::Hub(entry.told)
         && is_of_hub(&call.event, &entry.event)
 }
 
@@ -152,6 +152,6 @@ fn is_by_shard(call: &Call, shard: u64, place: usize, entry: &ShardEntry) -> boo
 {
     call.lock == shard
         && call.place == place
-        && call.told == Told::Shard(entry.told)
+        && call.told == CallAnswer::Shard(entry.told)
         && is_of_shard(&call.event, shard, &entry.event)
 }

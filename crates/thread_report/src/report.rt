@@ -19,7 +19,7 @@ use crate::passes::Pass;
 use crate::passes_told::are_told;
 use claim_cells::{Cells, Closed, HubSeat, ShardSeat};
 use job_lane::meet;
-use node_threads::{Line, NodeName, ShardEntry, Tape};
+use node_threads::{LaneSender, NodeName, ShardEntry, Tape};
 use std::alloc::Global;
 use std::sync::{Arc, Mutex, Wait};
 use sub_table::SubTable;
@@ -59,7 +59,7 @@ fn close_shard<T: SubTable, N: NodeName, R: Wait>(
     alloc: Global,
     keep: bool,
     number: u64,
-    line: Line<N>,
+    line: LaneSender<N>,
     shard: LockedShard<T, N>,
 ) -> Result<(ShardSeat, Vec<ShardEntry>), Unfinished>
     ensures seat { IfOk result (λ made. (made.0.race ≡ N.race) × (made.0.part ≡ shard.part)) }
@@ -82,7 +82,7 @@ fn close_shards<T: SubTable, N: NodeName, R: Wait>(
     rt: &R,
     alloc: Global,
     keep: bool,
-    lines: Vec<Line<N>>,
+    lines: Vec<LaneSender<N>>,
     shards: Vec<Mutex<LockedShard<T, N>>>,
 ) -> Result<(Vec<ShardSeat>, Vec<Vec<ShardEntry>>), Unfinished>
     ensures { IfOk result (λ made. (length made.0.items ≡ vec_len shards) × ((issued : List Job) → All (λ line. AreFirst line.pushed issued) lines.items → AreClosed N.race issued keep made.0.items (map (λ entries. entries.items) made.1.items))) }

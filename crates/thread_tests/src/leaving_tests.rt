@@ -26,7 +26,7 @@ fn publish_all<N: NodeName, R: Wait>(
     alloc: Global,
     node: &ThreadNode<ListTable, N>,
     conn: u64,
-    said: &Pub,
+    publication: &Pub,
     count: &AtomicU64,
 ) -> Pass<N> {
     let mut pass = Pass::new(alloc);
@@ -35,7 +35,7 @@ fn publish_all<N: NodeName, R: Wait>(
         if published >= EACH {
             return pass;
         }
-        match told_publish(rt, node, &mut pass, ConnId::new(conn), said) {
+        match told_publish(rt, node, &mut pass, ConnId::new(conn), publication) {
             Published::Turn(_) => {
                 published = published.saturating_add(1);
                 count.fetch_add(1, Ordering::SeqCst);
@@ -112,7 +112,7 @@ fn answered<N: NodeName + Send + Sync, R: Abort + Threads + Wait + Sync>(
     rt: &R,
     alloc: Global,
     node: &ThreadNode<ListTable, N>,
-    said: &Pub,
+    publication: &Pub,
     clients: Pass<N>,
     members: ((u64, u64), (u64, u64)),
 ) -> ((Pass<N>, Pass<N>), Pass<N>) {
@@ -124,8 +124,8 @@ fn answered<N: NodeName + Send + Sync, R: Abort + Threads + Wait + Sync>(
         move || {
             thread::join(
                 rt,
-                move || publish_all(rt, alloc, node, staying.0, said, count),
-                move || publish_all(rt, alloc, node, staying.1, said, count),
+                move || publish_all(rt, alloc, node, staying.0, publication, count),
+                move || publish_all(rt, alloc, node, staying.1, publication, count),
             )
         },
         move || {
@@ -148,8 +148,15 @@ fn serve<N: NodeName + Send + Sync, R: Abort + Threads + Wait + Sync>(
     let mut clients = Pass::new(alloc);
     let staying = pair(rt, alloc, node, &mut clients);
     let leaving = pair(rt, alloc, node, &mut clients);
-    let said = hello(rt, alloc);
-    let ((first, second), clients) = answered(rt, alloc, node, &said, clients, (staying, leaving));
+    let publication = hello(rt, alloc);
+    let ((first, second), clients) = answered(
+        rt,
+        alloc,
+        node,
+        &publication,
+        clients,
+        (staying, leaving),
+    );
     let mut passes = Vec::new(alloc);
     passes.push(first).ok().expect(rt, "memory");
     passes.push(second).ok().expect(rt, "memory");

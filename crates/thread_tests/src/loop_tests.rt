@@ -4,7 +4,7 @@ ghost use Rattle.std.specs.Prelude.{◌≡◌};
 
 use mio::net::{TcpListener, TcpStream};
 use mio::{Poll, Waker};
-use node_net::{Company, Server as Connections, Sockets, WAKER};
+use node_net::{Server as Connections, Shutdown, Sockets, WAKER};
 use server_calls::ServerCalls;
 use server_events::{Caller, Event, EventSink, Events, LevelFilter, RefusalCause};
 use std::alloc::Global;
@@ -20,7 +20,7 @@ use std::thread;
 use std::thread::join;
 use std::time::{Duration, Instant};
 use sub_table::ListTable;
-use subj::{Incarnation, NodeId, Server};
+use subj::{Incarnation, NodeId, ServerIdentity};
 use thread_node::{NodeName, Parts, ThreadNode};
 
 /// Where the server's own routes come in, and where the other server is to be reached.
@@ -103,21 +103,21 @@ fn sockets<R: Net + Abort>(rt: &R) -> Sockets {
 }
 
 /// A process with the one server that waits on this.
-fn company<R: Abort>(rt: &R, alloc: Global, poll: &Poll) -> Company {
+fn shutdown<R: Abort>(rt: &R, alloc: Global, poll: &Poll) -> Shutdown {
     let waker = Waker::new(poll.registry(), WAKER)
         .ok()
         .expect(rt, "a waker");
     let wakers = Vec::from_array(alloc, [waker]).ok().expect(rt, "memory");
-    Company::new(None, wakers)
+    Shutdown::new(None, wakers)
 }
 
 /// The server n1 of n1 and n2.
-fn life<R: Abort>(rt: &R, alloc: Global) -> Server {
+fn life<R: Abort>(rt: &R, alloc: Global) -> ServerIdentity {
     let first = NodeId::read(b"n1").ok().expect(rt, "a name");
     let second = NodeId::read(b"n2").ok().expect(rt, "a name");
     let names = Vec::from_array(alloc, [first, second]).ok();
     let inc = Incarnation::new(1).expect(rt, "an incarnation");
-    Server::new(names.expect(rt, "memory"), 0, inc, 1).expect(rt, "a server")
+    ServerIdentity::new(names.expect(rt, "memory"), 0, inc, 1).expect(rt, "a server")
 }
 
 /// Whether a server has streams, and each sends small messages without a pause.
@@ -132,19 +132,19 @@ fn has_prompt_streams<C: ServerCalls>(connections: &Connections<TcpStream, C>) -
     all > 0 && prompt == all
 }
 
-/// Runs the loop until its company stops. Whether its streams are as they are to be then.
+/// Runs the loop until its servers stop. Whether its streams are as they are to be then.
 fn run_on<C: ServerCalls, R: Abort + Wait + Net + Clock>(
     rt: &R,
     alloc: Global,
     node: C,
     sockets: Sockets,
-    company: &Company,
+    shutdown: &Shutdown,
     watch: &Watch,
 ) -> bool {
     let connections = Connections::new(alloc, node, life(rt, alloc), OWN, 0).ok();
     let mut connections = connections.expect(rt, "memory");
     let addresses = [address_of(OWN), address_of(OTHER)];
-    let ran = connections.run(rt, sockets, &addresses, company, watch);
+    let ran = connections.run(rt, sockets, &addresses, shutdown, watch);
     assert!(rt; ran.is_ok());
     has_prompt_streams(&connections)
 }
@@ -155,13 +155,13 @@ fn run_named<N: NodeName, R: Abort + Wait + Net + Clock>(
     alloc: Global,
     parts: Parts,
     sockets: Sockets,
-    company: &Company,
+    shutdown: &Shutdown,
     watch: &Watch,
 ) -> bool
     requires { (parts.race ≡ N.race) × (parts.lanes ≡ N.lanes) × (parts.keep ≡ N.keep) }
 {
     let node: ThreadNode<ListTable, N> = ThreadNode::start(alloc, parts).ok().expect(rt, "memory");
-    run_on(rt, alloc, &node, sockets, company, watch)
+    run_on(rt, alloc, &node, sockets, shutdown, watch)
 }
 
 /// The same of a server that has just started.
@@ -169,12 +169,12 @@ fn run<R: Abort + Wait + Net + Clock>(
     rt: &R,
     alloc: Global,
     sockets: Sockets,
-    company: &Company,
+    shutdown: &Shutdown,
     watch: &Watch,
 ) -> bool {
     let made = Parts::new(alloc, life(rt, alloc), false).ok();
     let (parts, _parkers) = made.expect(rt, "memory");
-    run_named::<Brand, _>(rt, alloc, parts, sockets, company, watch)
+    run_named::<Brand, _>(rt, alloc, parts, sockets, shutdown, watch)
 }
 
 /// Closes each dial that has come by now. How many there were.
@@ -221,14 +221,14 @@ struct Dials {
 }
 
 /// The other server closes each route for a while, and holds one at last; then all servers stop.
-fn refuses_routes<R: Clock>(rt: &R, other: &TcpListener, company: &Company) -> Dials {
+fn refuses_routes<R: Clock>(rt: &R, other: &TcpListener, shutdown: &Shutdown) -> Dials {
     let first = close_first_dials(rt, other, 3);
     thread::sleep(rt, Duration::from_millis(COUNTED));
     let closed = first.saturating_add(close_dials(other));
     let open = next_dial(rt, other);
     thread::sleep(rt, Duration::from_millis(OPEN));
     let beside = close_dials(other);
-    company.fail();
+    shutdown.fail();
     drop(open);
     Dials { closed, beside }
 }
@@ -240,7 +240,7 @@ fn a_loop_pauses_where_accepting_fails_and_each_route_is_refused(
     let alloc = rt.alloc();
     let other = listener(&rt, OTHER);
     let sockets = sockets(&rt);
-    let company = company(&rt, alloc, &sockets.poll);
+    let shutdown = shutdown(&rt, alloc, &sockets.poll);
     let watch = Watch {
         rounds: AtomicU64::new(0),
         refused: AtomicU64::new(0),
@@ -248,8 +248,8 @@ fn a_loop_pauses_where_accepting_fails_and_each_route_is_refused(
     let start = Instant::now(&rt)?;
     let (is_prompt, dials) = join(
         &rt,
-        || run(&rt, alloc, sockets, &company, &watch),
-        || refuses_routes(&rt, &other, &company),
+        || run(&rt, alloc, sockets, &shutdown, &watch),
+        || refuses_routes(&rt, &other, &shutdown),
     );
     let milliseconds = start.elapsed(&rt)?.as_millis();
     assert!(rt; is_prompt);

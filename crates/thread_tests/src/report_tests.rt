@@ -26,9 +26,9 @@ fn publish_all<N: NodeName, R: Abort + Wait>(
     conn: ConnId,
     count: u64,
 ) {
-    let said = hello(rt, alloc);
+    let publication = hello(rt, alloc);
     for before in 0..count {
-        let published = told_publish(rt, node, pass, conn, &said);
+        let published = told_publish(rt, node, pass, conn, &publication);
         assert!(rt; published == Published::Turn(before.saturating_add(1)));
     }
 }

@@ -8,18 +8,18 @@ use std::sync::Wait;
 use std::thread;
 use sub_table::ListTable;
 use subj::{
-    ConnId, Failure, Incarnation, Key, Message, NodeId, Pattern, Pub, QueueName, Server, Sid,
-    Subject,
+    ConnId, Failure, Incarnation, Key, Message, NodeId, Pattern, Pub, QueueName, ServerIdentity,
+    Sid, Subject,
 };
 use thread_node::{NodeName, ThreadNode};
 use thread_report::{Pass, finish};
 
 /// The server n1, alone, of two shards.
-pub fn server(rt: &impl Abort, alloc: Global) -> Server {
+pub fn server(rt: &impl Abort, alloc: Global) -> ServerIdentity {
     let name = NodeId::read(b"n1").ok().expect(rt, "a name");
     let names = Vec::from_array(alloc, [name]).ok().expect(rt, "memory");
     let inc = Incarnation::new(1).expect(rt, "an incarnation");
-    Server::new(names, 0, inc, 2).expect(rt, "a server")
+    ServerIdentity::new(names, 0, inc, 2).expect(rt, "a server")
 }
 
 /// `hello` on `foo`, as a client says it.
@@ -92,9 +92,9 @@ pub fn publish<N: NodeName, R: Wait>(
     rt: &R,
     node: &ThreadNode<ListTable, N>,
     conn: ConnId,
-    said: &Pub,
+    publication: &Pub,
 ) -> Published {
-    match node.publish(rt, conn, said, 0) {
+    match node.publish(rt, conn, publication, 0) {
         Ok(issued) => Published::Turn(issued.turn.get()),
         Err(Failure::Refused(HubFault::Busy(_))) => Published::Busy,
         Err(_) => Published::Refused,
@@ -107,9 +107,9 @@ pub fn told_publish<N: NodeName, R: Wait>(
     node: &ThreadNode<ListTable, N>,
     pass: &mut Pass<N>,
     conn: ConnId,
-    said: &Pub,
+    publication: &Pub,
 ) -> Published {
-    match pass.publish(rt, node, conn, said, 0) {
+    match pass.publish(rt, node, conn, publication, 0) {
         Ok(issued) => Published::Turn(issued.turn.get()),
         Err(Failure::Refused(HubFault::Busy(_))) => Published::Busy,
         Err(_) => Published::Refused,
@@ -122,7 +122,7 @@ pub fn publish_all<N: NodeName, R: Wait>(
     rt: &R,
     node: &ThreadNode<ListTable, N>,
     conn: u64,
-    said: &Pub,
+    publication: &Pub,
     count: u64,
 ) -> u64 {
     let mut published = 0_u64;
@@ -130,7 +130,7 @@ pub fn publish_all<N: NodeName, R: Wait>(
         if published >= count {
             return published;
         }
-        match publish(rt, node, ConnId::new(conn), said) {
+        match publish(rt, node, ConnId::new(conn), publication) {
             Published::Turn(_) => published = published.saturating_add(1),
             Published::Busy => thread::yield_now(),
             Published::Refused => return published,

@@ -80,7 +80,7 @@ fn work_until<N: NodeName + Send + Sync, R: Threads + Wait + Sync>(
 fn published<N: NodeName + Send + Sync, R: Abort + Threads + Wait + Sync>(
     rt: &R,
     node: &ThreadNode<ListTable, N>,
-    said: &Pub,
+    publication: &Pub,
     conns: (u64, u64),
 ) -> (u64, u64) {
     let (published, ()) = thread::join(
@@ -88,8 +88,8 @@ fn published<N: NodeName + Send + Sync, R: Abort + Threads + Wait + Sync>(
         move || {
             thread::join(
                 rt,
-                move || publish_all(rt, node, conns.0, said, EACH),
-                move || publish_all(rt, node, conns.1, said, EACH),
+                move || publish_all(rt, node, conns.0, publication, EACH),
+                move || publish_all(rt, node, conns.1, publication, EACH),
             )
         },
         move || work_until(rt, node, 2 * EACH, u64::MAX),
@@ -105,8 +105,8 @@ fn serves_from_four<N: NodeName + Send + Sync, R: Abort + Threads + Wait + Sync>
 ) {
     let first = member(rt, alloc, node, 1);
     let second = member(rt, alloc, node, 2);
-    let said = hello(rt, alloc);
-    let published = published(rt, node, &said, (first.get(), second.get()));
+    let publication = hello(rt, alloc);
+    let published = published(rt, node, &publication, (first.get(), second.get()));
     assert_eq!(rt; published, (EACH, EACH));
     assert_eq!(rt; all_taken(rt, node, first, second), 2 * EACH);
 }
@@ -115,7 +115,7 @@ fn serves_from_four<N: NodeName + Send + Sync, R: Abort + Threads + Wait + Sync>
 fn published_until_stopped<N: NodeName + Send + Sync, R: Abort + Threads + Wait + Sync>(
     rt: &R,
     node: &ThreadNode<ListTable, N>,
-    said: &Pub,
+    publication: &Pub,
     conn: u64,
     parkers: (Parker, Parker),
 ) -> u64 {
@@ -123,7 +123,7 @@ fn published_until_stopped<N: NodeName + Send + Sync, R: Abort + Threads + Wait 
     let (published, _) = thread::join(
         rt,
         move || {
-            let published = publish_all(rt, node, conn, said, EACH);
+            let published = publish_all(rt, node, conn, publication, EACH);
             node.stop();
             published
         },
@@ -147,8 +147,8 @@ fn works_until_stopped<N: NodeName + Send + Sync, R: Abort + Threads + Wait + Sy
 ) {
     let first = member(rt, alloc, node, 1);
     let second = member(rt, alloc, node, 2);
-    let said = hello(rt, alloc);
-    let published = published_until_stopped(rt, node, &said, first.get(), parkers);
+    let publication = hello(rt, alloc);
+    let published = published_until_stopped(rt, node, &publication, first.get(), parkers);
     assert_eq!(rt; published, EACH);
     work_until(rt, node, EACH, LOOKS);
     assert_eq!(rt; all_taken(rt, node, first, second), EACH);

@@ -227,16 +227,16 @@ impl Cutter {
         }
     }
 
-    /// Uses up the piece of `size` bytes that [`Cutter::peek`] gives, with its CR LF: what [`Cutter::next`] does, without
+    /// Consumes the piece of `size` bytes that [`Cutter::peek`] gives, with its CR LF: what [`Cutter::next`] does, without
     /// another look for its end.
-    pub fn use_up(&mut self, size: usize)
+    pub fn consume(&mut self, size: usize)
         requires { piece_length (cut_of self.old) ≡ Some size }
         ensures { self.new ≡ after_next self.old }
     {
         self.next_piece(size);
     }
 
-    /// Uses up the piece that is due, of `size` bytes, with its CR LF, and lends its bytes.
+    /// Consumes the piece that is due, of `size` bytes, with its CR LF, and lends its bytes.
     #[inline]
     fn next_piece(&mut self, size: usize) -> &[u8]
         requires { piece_length (cut_of self.old) ≡ Some size }

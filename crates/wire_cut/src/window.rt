@@ -95,7 +95,7 @@ impl Window {
         &self.buffer[self.start..self.end]
     }
 
-    /// Uses up the next `count` bytes.
+    /// Consumes the next `count` bytes.
     #[inline]
     pub fn advance(&mut self, count: usize)
         requires { count ≤ length self.old.unread }

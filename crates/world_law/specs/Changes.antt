@@ -7,7 +7,7 @@ use Rattle.outbox.specs.declared.entries.Tag.TheVariants as tag
 use Rattle.sub_table.specs.declared.Subscription.{Subscription}
 use Rattle.subj.specs.declared.identities.SubId.{SubId}
 use Rattle.subj.specs.declared.keys.Key.{Key}
-use Rattle.subj.specs.Servers.{Server}
+use Rattle.subj.specs.Servers.{ServerIdentity}
 use Rattle.hub_core.specs.Publishing as hub
 use Rattle.hub_core.specs.Publishing.{next_id}
 use Rattle.shard_core.specs.Closings.{id_of, serials_of}
@@ -17,7 +17,7 @@ use Rattle.claim_race.specs.Race.{RaceState}
 use Rattle.node_law.specs.AsLaw.{Part, part_of, waits_at, is_open_in}
 use Rattle.shard_core.specs.ShardSteps.{sub_called}
 use Rattle.node_law.specs.Sound.{SoundNode}
-use Rattle.node_law.specs.State.{Line, Node}
+use Rattle.node_law.specs.State.{ShardWithJobs, Node}
 use Rattle.node_law.specs.declared.events.ConnEvent.{ConnEvent}
 use Rattle.node_law.specs.declared.events.ConnEvent.TheVariants.{Subscribe, Unsubscribe, Reply, Shut, Detach, Take}
 use Rattle.node_law.specs.Events.{OwnEvent, OfConn, AtShard, Publish, Collect, Dial, Accept, CutSession, TakeFrames, NodeEvent, Own, Receive, OnInfo, OnConnect}
@@ -26,10 +26,10 @@ use Rattle.world_law.specs.State.{Publication, LifeId, Life, Placement, Running,
 
 -- ---- publications: each publish that is accepted (profile)
 
-abbrev pub publication : Server → ℕ → Node → hub.Publication → Publication
-publication server now a p = record { step = now; id = next_id server a.hub; message = p.said.message; publisher = p.conn; echo = p.said.echo }
+abbrev pub publication : ServerIdentity → ℕ → Node → hub.Publication → Publication
+publication server now a p = record { step = now; id = next_id server a.hub; message = p.publication.message; publisher = p.conn; echo = p.publication.echo }
 
-abbrev pub own_publications : Server → ℕ → Node → OwnEvent → List Publication
+abbrev pub own_publications : ServerIdentity → ℕ → Node → OwnEvent → List Publication
 own_publications server now a (OfConn conn event) = []
 own_publications server now a (AtShard shard work) = []
 own_publications server now a (Publish p) = publication server now a p ∷ []
@@ -39,7 +39,7 @@ own_publications server now a Accept = []
 own_publications server now a (CutSession session) = []
 own_publications server now a (TakeFrames q count) = []
 
-abbrev pub publications_of : Server → ℕ → Node → NodeEvent → List Publication
+abbrev pub publications_of : ServerIdentity → ℕ → Node → NodeEvent → List Publication
 publications_of server now a (Own event) = own_publications server now a event
 publications_of server now a (Receive frame) = []
 publications_of server now a (OnInfo session info) = []
@@ -47,11 +47,11 @@ publications_of server now a (OnConnect session connect) = []
 
 -- ---- lives: a subscription opens where its sid was not open on its connection (profile)
 
-abbrev pub new_life : Server → ℕ → ℕ → Key → List ℕ → Line → Option Subscription → List Life
+abbrev pub new_life : ServerIdentity → ℕ → ℕ → Key → List ℕ → ShardWithJobs → Option Subscription → List Life
 new_life server now conn key sid line (Some same) = []
 new_life server now conn key sid line None = record { id = record { node = server.me; inc = server.inc; sub = id_of line.shard.shard (line.shard.opened + 1) }; conn = conn; key = key; sid = sid; opened = now; closed = None } ∷ []
 
-abbrev pub conn_lives : Server → ℕ → ℕ → ConnEvent → Option Line → List Life
+abbrev pub conn_lives : ServerIdentity → ℕ → ℕ → ConnEvent → Option ShardWithJobs → List Life
 conn_lives server now conn event None = []
 conn_lives server now conn (Subscribe key sid) (Some line) = new_life server now conn key sid line (sub_called conn sid line.shard.subs)
 conn_lives server now conn (Unsubscribe sid max) (Some line) = []
@@ -60,7 +60,7 @@ conn_lives server now conn (Shut text) (Some line) = []
 conn_lives server now conn Detach (Some line) = []
 conn_lives server now conn (Take count) (Some line) = []
 
-abbrev pub own_lives : Server → ℕ → Node → OwnEvent → List Life
+abbrev pub own_lives : ServerIdentity → ℕ → Node → OwnEvent → List Life
 own_lives server now a (OfConn conn event) = conn_lives server now conn event (conn_line server a conn)
 own_lives server now a (AtShard shard work) = []
 own_lives server now a (Publish p) = []
@@ -70,7 +70,7 @@ own_lives server now a Accept = []
 own_lives server now a (CutSession session) = []
 own_lives server now a (TakeFrames q count) = []
 
-abbrev pub lives_of : Server → ℕ → Node → NodeEvent → List Life
+abbrev pub lives_of : ServerIdentity → ℕ → Node → NodeEvent → List Life
 lives_of server now a (Own event) = own_lives server now a event
 lives_of server now a (Receive frame) = []
 lives_of server now a (OnInfo session info) = []
@@ -98,16 +98,16 @@ looked_at now nodes life = if is_none life.closed && not (is_open nodes life.id)
 -- ---- placements: the new messages in the outboxes. A take removes what stood in front, and a connection that goes takes its
 -- outbox along: there is nothing new in either. Else what waited stays, and what is new stands behind it.
 
-abbrev pub new_entries : List Line → List Line → ℕ → List Written
+abbrev pub new_entries : List ShardWithJobs → List ShardWithJobs → ℕ → List Written
 new_entries [] after conn = []
 new_entries (line ∷ lines) [] conn = []
 new_entries (line ∷ lines) (new ∷ after) conn = drop (length (waits_for conn line.shard.clients)) (waits_for conn new.shard.clients) ++ new_entries lines after conn
 
-abbrev pub placement_of : Server → ℕ → ℕ → List ℕ → Tag → List Placement
+abbrev pub placement_of : ServerIdentity → ℕ → ℕ → List ℕ → Tag → List Placement
 placement_of server now conn bytes tag.Reply = []
 placement_of server now conn bytes (tag.Msg id sub mode) = record { step = now; life = record { node = server.me; inc = server.inc; sub = sub }; conn = conn; id = id; mode = mode; bytes = bytes } ∷ []
 
-abbrev pub placements_of : Server → ℕ → ℕ → List Written → List Placement
+abbrev pub placements_of : ServerIdentity → ℕ → ℕ → List Written → List Placement
 placements_of server now conn [] = []
 placements_of server now conn (entry ∷ entries) = placement_of server now conn entry.bytes entry.tag ++ placements_of server now conn entries
 
@@ -115,20 +115,20 @@ abbrev pub is_on : ℕ → Placement → Bool
 is_on conn p = nat_eq p.conn conn
 
 -- all open subscriptions, shard by shard, in order of opening
-abbrev pub open_subs : List Line → List SubId
+abbrev pub open_subs : List ShardWithJobs → List SubId
 open_subs [] = []
 open_subs (line ∷ lines) = map (id_of line.shard.shard) (serials_of line.shard.subs) ++ open_subs lines
 
 -- these are the placements, where the shards' lines were the first and are the second: of each connection the new messages of
 -- its outbox, in their order; and all of them in the order of their subscriptions
-pub record AreGained (server : Server) (now : ℕ) (old new : List Line) (gained : List Placement) : Type 0 where
+pub record AreGained (server : ServerIdentity) (now : ℕ) (old new : List ShardWithJobs) (gained : List Placement) : Type 0 where
   pub outboxes : (conn : ℕ) → filter (is_on conn) gained ≡ placements_of server now conn (new_entries old new conn)
   pub order : SubList (map (λ p. p.life.sub) gained) (open_subs old)
 
 -- so there is one such list, where the server is sound
 abbrev pub PlacementsAreOne : Type 0
 PlacementsAreOne =
-    (server : Server) (now : ℕ) (a : Node) (after : List Line) (gained other : List Placement)
+    (server : ServerIdentity) (now : ℕ) (a : Node) (after : List ShardWithJobs) (gained other : List Placement)
     → SoundNode server a → AreGained server now a.lines after gained → AreGained server now a.lines after other → gained ≡ other
 
 -- ---- what stands new behind what waited, messages and lines: what the event puts for a connection of the shard at this place, in order
@@ -139,6 +139,6 @@ entries_at (Some part) place conn = if nat_eq part.place place then entries_for 
 
 abbrev pub EntriesWerePut : Type 0
 EntriesWerePut =
-    (server : Server) (a : Node) (e : NodeEvent) (won : Bool) (race : RaceState) (b : Node) (place conn : ℕ)
+    (server : ServerIdentity) (a : Node) (e : NodeEvent) (won : Bool) (race : RaceState) (b : Node) (place conn : ℕ)
     → NodeStep server a e won race b
     → drop (length (waits_at a place conn)) (waits_at b place conn) ≡ entries_at (part_of server a e won) place conn

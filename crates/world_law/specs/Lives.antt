@@ -6,7 +6,7 @@ use Rattle.shard_core.specs.Causes.{HasCause}
 use Rattle.shard_core.specs.Closings.{id_of}
 use Rattle.node_law.specs.AsLaw.{Part, part_of}
 use Rattle.node_law.specs.Events.{NodeEvent}
-use Rattle.node_law.specs.State.{Line}
+use Rattle.node_law.specs.State.{ShardWithJobs}
 use Rattle.world_law.specs.Changes.{is_open}
 use Rattle.world_law.specs.Events.{Event}
 use Rattle.world_law.specs.Headline.{IsCluster}
@@ -15,7 +15,7 @@ use Rattle.world_law.specs.State.{Cluster, Life, Running, World, new_world, serv
 use Rattle.world_law.specs.Steps.{Acts, Starts, Stops, Run}
 
 -- a life is this subscription of the shard of this line, at the server of this place in this incarnation
-pub record IsSub (n inc : ℕ) (line : Line) (sub : Subscription) (l : Life) : Type 0 where
+pub record IsSub (n inc : ℕ) (line : ShardWithJobs) (sub : Subscription) (l : Life) : Type 0 where
   pub id : l.id ≡ record { node = n; inc = inc; sub = id_of line.shard.shard sub.serial }
   pub conn : l.conn ≡ sub.conn
   pub key : l.key ≡ sub.key
@@ -26,7 +26,7 @@ pub record IsOpenLife (w : World) (l : Life) : Type 0 where
   pub a : Running
   pub up : slice_get w.nodes l.id.node ≡ Some (Some a)
   pub place : ℕ
-  pub line : Line
+  pub line : ShardWithJobs
   pub at : slice_get a.node.lines place ≡ Some line
   pub sub : Subscription
   pub there : In sub line.shard.subs

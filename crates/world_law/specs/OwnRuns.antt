@@ -1,7 +1,7 @@
 -- Each server that is up came to its state by a run of its own, so that what holds of all runs of a server holds of it.
 use Rattle.std.specs.Prelude.{List}
 use Rattle.list_laws.specs.Lists.{Each}
-use Rattle.subj.specs.Servers.{Server, IsListed}
+use Rattle.subj.specs.Servers.{ServerIdentity, IsListed}
 use Rattle.node_law.specs.EachShard.{ShardsAreHeld}
 use Rattle.node_law.specs.HubsSound.{IsSpelt, HubIsSound}
 use Rattle.node_law.specs.Promises.{KeepsPromises}
@@ -13,14 +13,14 @@ use Rattle.world_law.specs.State.{Cluster, World, new_world, server_at}
 use Rattle.world_law.specs.Steps.{Run}
 
 -- from its start in this incarnation these steps led the server here; each INFO and CONNECT that it was handed can be spelt
-pub record HasRun (server : Server) (a : Node) : Type 0 where
+pub record HasRun (server : ServerIdentity) (a : Node) : Type 0 where
   pub listed : IsListed server
   pub steps : List Done
   pub ran : Ran server steps a
   pub spelt : Each (λ d. IsSpelt d.event) steps
 
 -- And what holds of it: all that one server promises of what it did; its hub is sound; and each of its shards keeps what shards keep.
-pub record KeepsItsLaws (server : Server) (a : Node) : Type 0 where
+pub record KeepsItsLaws (server : ServerIdentity) (a : Node) : Type 0 where
   pub run : HasRun server a
   pub promises : KeepsPromises server run.steps a
   pub hub : HubIsSound server a

@@ -3,14 +3,14 @@ use Rattle.std.specs.Prelude.{◌≡◌, ℕ, suc, ◌+◌, ◌-◌, ◌<◌, Bo
 use Rattle.claim_race.specs.Race.{RaceState, Win, winner}
 use Rattle.sub_table.specs.declared.Subscription.{Subscription}
 use Rattle.subj.specs.declared.jobs.Job.{Job}
-use Rattle.subj.specs.Servers.{Server}
+use Rattle.subj.specs.Servers.{ServerIdentity}
 use Rattle.route_values.specs.declared.bodies.Body.{Body}
 use Rattle.route_values.specs.declared.bodies.Body.TheVariants.{Plus, Minus, Snapshot, Msg}
 use Rattle.shard_core.specs.declared.calls.Placed.{Placed}
 use Rattle.shard_core.specs.ShardEvents as of_shard
 use Rattle.shard_core.specs.Owed.{candidate_of}
 use Rattle.shard_core.specs.Puts.{put_by}
-use Rattle.node_law.specs.State.{Line, Node}
+use Rattle.node_law.specs.State.{ShardWithJobs, Node}
 use Rattle.node_law.specs.Answers.{Answer, Nothing, node_answer}
 use Rattle.node_law.specs.declared.events.ShardWork.{ShardWork}
 use Rattle.node_law.specs.declared.events.ShardWork.TheVariants.{Attach, Begin, Claim, End, DropJob}
@@ -59,7 +59,7 @@ race_after_claim race shard index None sub = race
 race_after_claim race shard index (Some job) None = race
 race_after_claim race shard index (Some job) (Some sub) = claimed_next race shard job.turn index
 
-abbrev pub work_wins : RaceState → ShardWork → Option Line → Bool
+abbrev pub work_wins : RaceState → ShardWork → Option ShardWithJobs → Bool
 work_wins race work None = false
 work_wins race Attach (Some line) = false
 work_wins race Begin (Some line) = false
@@ -67,7 +67,7 @@ work_wins race (Claim index) (Some line) = wins race index line.shard.hand (cand
 work_wins race End (Some line) = false
 work_wins race DropJob (Some line) = false
 
-abbrev pub race_after_work : RaceState → ℕ → ShardWork → Option Line → RaceState
+abbrev pub race_after_work : RaceState → ℕ → ShardWork → Option ShardWithJobs → RaceState
 race_after_work race shard work None = race
 race_after_work race shard Attach (Some line) = race
 race_after_work race shard Begin (Some line) = race
@@ -109,15 +109,15 @@ node_race a (OnConnect session connect) = a.race
 
 -- ---- what a step puts into outboxes, in the order of putting
 
-abbrev pub put_if : Line → Option of_shard.Event → List Placed
+abbrev pub put_if : ShardWithJobs → Option of_shard.Event → List Placed
 put_if line None = []
 put_if line (Some event) = put_by line.shard event
 
-abbrev pub put_at : Option Line → (Line → Option of_shard.Event) → List Placed
+abbrev pub put_at : Option ShardWithJobs → (ShardWithJobs → Option of_shard.Event) → List Placed
 put_at None event = []
 put_at (Some line) event = put_if line (event line)
 
-abbrev pub puts : Server → Node → NodeEvent → Bool → List Placed
+abbrev pub puts : ServerIdentity → Node → NodeEvent → Bool → List Placed
 puts server a (Own (OfConn conn event)) won = put_at (conn_line server a conn) (λ line. Some (conn_event conn event))
 puts server a (Own (AtShard shard work)) won = put_at (shard_line a shard) (work_event work won)
 puts server a (Own (Publish p)) won = []
@@ -130,14 +130,14 @@ puts server a (Receive frame) won = []
 puts server a (OnInfo session info) won = []
 puts server a (OnConnect session connect) won = []
 
-abbrev pub placements_put : Server → ℕ → List Placed → List Placement
+abbrev pub placements_put : ServerIdentity → ℕ → List Placed → List Placement
 placements_put server now [] = []
 placements_put server now (put ∷ puts) = placement_of server now put.conn put.entry.bytes put.entry.tag ++ placements_put server now puts
 
 -- they are what the step adds to the placements
 abbrev pub PutsArePlaced : Type 0
 PutsArePlaced =
-    (server : Server) (now : ℕ) (a : Node) (e : NodeEvent) (won : Bool) (race : RaceState) (b : Node)
+    (server : ServerIdentity) (now : ℕ) (a : Node) (e : NodeEvent) (won : Bool) (race : RaceState) (b : Node)
     → NodeStep server a e won race b → AreGained server now a.lines b.lines (placements_put server now (puts server a e won))
 
 -- ---- the next world

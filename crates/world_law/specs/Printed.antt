@@ -81,7 +81,7 @@ pub record WritesClaims : Type 0 where
 -- n1 has two connections, each with a plain subscription, and n2 one; the first connection of n1 publishes; frame 5 is the change of n2, 6 and 7
 -- are those of n1, and 8 is the message
 abbrev pub without_echo : Event
-without_echo = At 0 (Publish (record hi { said = record { message = hi.said.message; echo = false } }))
+without_echo = At 0 (Publish (record hi { publication = record { message = hi.publication.message; echo = false } }))
 
 abbrev pub own_messages : List Event
 own_messages =

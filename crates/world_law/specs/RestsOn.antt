@@ -14,7 +14,7 @@ use Rattle.route_values.specs.declared.bodies.Body.{Body}
 use Rattle.route_values.specs.declared.bodies.Body.TheVariants.{Plus, Minus, Snapshot, Msg}
 use Rattle.route_values.specs.declared.frames.RouteFrame.{RouteFrame}
 use Rattle.route_values.specs.declared.frames.RouteFrame.TheVariants as route
-use Rattle.node_law.specs.State.{Line}
+use Rattle.node_law.specs.State.{ShardWithJobs}
 use Rattle.world_law.specs.Events.{Event}
 use Rattle.world_law.specs.Headline.{IsCluster, EachUp}
 use Rattle.world_law.specs.Made.{Passed, passed_events, MadeJob, MadeChange, jobs_made, changes_made, changes_in_life}
@@ -90,7 +90,7 @@ in_line None waiting = waiting
 in_line (Some job) waiting = job ∷ waiting
 
 -- each job stands there once, in order of turns, and none of a finished turn
-pub record IsLine (line : Line) : Type 0 where
+pub record IsLine (line : ShardWithJobs) : Type 0 where
   pub rising : Pairs (λ i j. i.turn < j.turn) (in_line line.shard.hand line.waiting)
   pub unfinished : Each (λ j. line.shard.finished < j.turn) (in_line line.shard.hand line.waiting)
 
@@ -98,7 +98,7 @@ pub record IsLine (line : Line) : Type 0 where
 abbrev pub TurnsStay : World → World → Type 0
 TurnsStay w w' =
     (n : ℕ) (a b : Running) → slice_get w.nodes n ≡ Some (Some a) → slice_get w'.nodes n ≡ Some (Some b) → b.inc ≡ a.inc
-    → (place : ℕ) (x y : Line) → slice_get a.node.lines place ≡ Some x → slice_get b.node.lines place ≡ Some y → x.shard.finished ≤ y.shard.finished
+    → (place : ℕ) (x y : ShardWithJobs) → slice_get a.node.lines place ≡ Some x → slice_get b.node.lines place ≡ Some y → x.shard.finished ≤ y.shard.finished
 
 -- ---- all of it
 
@@ -112,7 +112,7 @@ pub record RestsOn (c : Cluster) (steps : List Passed) (w : World) : Type 0 wher
   pub made_messages : Each (IsMessageOf w.publications) (messages_in w.sent)
   pub made_jobs : Each (λ made. IsJobOf w.publications made.job) (jobs_made c steps)
   pub views : EachUp (λ n a. (q : ℕ) (peer : Peer) → slice_get a.node.hub.peers q ≡ Some peer → IsViewOf w.started (changes_made c steps) q peer) w
-  pub lines : EachUp (λ n a. (place : ℕ) (line : Line) → slice_get a.node.lines place ≡ Some line → IsLine line) w
+  pub lines : EachUp (λ n a. (place : ℕ) (line : ShardWithJobs) → slice_get a.node.lines place ≡ Some line → IsLine line) w
 
 abbrev pub RunsRestOn : Type 0
 RunsRestOn = (c : Cluster) → IsCluster c → (events : List Event) (w : World) (run : Run c (new_world c) events w) → RestsOn c (passed_events c (new_world c) events w run) w

@@ -5,7 +5,7 @@ use Rattle.subj.specs.declared.identities.PubId.{PubId}
 use Rattle.subj.specs.declared.identities.SubId.{SubId}
 use Rattle.subj.specs.declared.keys.Key.{Key}
 use Rattle.subj.specs.Messages.{Content}
-use Rattle.subj.specs.Servers.{Server}
+use Rattle.subj.specs.Servers.{ServerIdentity}
 use Rattle.route_values.specs.declared.frames.RouteFrame.{RouteFrame}
 use Rattle.node_law.specs.State.{Node}
 
@@ -15,7 +15,7 @@ pub record Cluster : Type 0 where
   pub shards : ℕ
 
 -- one life of the server at this place
-abbrev pub server_at : Cluster → ℕ → ℕ → Server
+abbrev pub server_at : Cluster → ℕ → ℕ → ServerIdentity
 server_at c n inc = record { names = c.names; me = n; inc = inc; shards = c.shards }
 
 -- ---- what was done, each with its step; steps are counted from 1

@@ -2,7 +2,7 @@
 use Rattle.std.specs.Prelude.{◌≡◌, ℕ, Bool, nat_eq, List, ◌++◌, Option, Some, None, if◌then◌else◌}
 use Rattle.claim_race.specs.Race.{RaceState}
 use Rattle.outbox.specs.Views.{Written}
-use Rattle.subj.specs.Servers.{Server}
+use Rattle.subj.specs.Servers.{ServerIdentity}
 use Rattle.shard_core.specs.Puts.{kept_of}
 use Rattle.node_law.specs.AsLaw.{Part, part_of, waits_at}
 use Rattle.node_law.specs.Events.{NodeEvent}
@@ -17,6 +17,6 @@ kept_at (Some part) place conn entries = if nat_eq part.place place then kept_of
 
 abbrev pub WaitsAreKept : Type 0
 WaitsAreKept =
-    (server : Server) (a : Node) (e : NodeEvent) (won : Bool) (race : RaceState) (b : Node) (place conn : ℕ)
+    (server : ServerIdentity) (a : Node) (e : NodeEvent) (won : Bool) (race : RaceState) (b : Node) (place conn : ℕ)
     → NodeStep server a e won race b
     → waits_at b place conn ≡ kept_at (part_of server a e won) place conn (waits_at a place conn) ++ entries_at (part_of server a e won) place conn

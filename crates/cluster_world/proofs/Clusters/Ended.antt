@@ -14,7 +14,7 @@ use Rattle.sub_table.specs.Subscriptions.{serial_of, with_max}
 use Rattle.sub_table.specs.declared.Subscription.{Subscription}
 use Rattle.subj.specs.declared.identities.SubId.{SubId}
 use Rattle.subj.specs.declared.jobs.Job.{Job}
-use Rattle.subj.specs.Servers.{Server}
+use Rattle.subj.specs.Servers.{ServerIdentity}
 use Rattle.route_values.specs.declared.bodies.Body.{Body}
 use Rattle.route_values.specs.declared.bodies.Body.TheVariants.{Plus, Minus, Snapshot, Msg}
 use Rattle.route_values.specs.Frames.{Frame}
@@ -32,7 +32,7 @@ use Rattle.node_law.specs.Events as of_node
 use Rattle.node_law.specs.Events.{OfConn, AtShard, Publish, Dial, Accept, CutSession, TakeFrames, NodeEvent, Own, Receive, OnInfo, OnConnect}
 use Rattle.node_core.specs.Outcome.{ended_at}
 use Rattle.node_law.specs.Sound.{SoundNode}
-use Rattle.node_law.specs.State.{Line, Node}
+use Rattle.node_law.specs.State.{ShardWithJobs, Node}
 use Rattle.node_law.specs.Steps.{conn_place, conn_line, shard_line, conn_event, work_event, line_after, line_after_if, set_line, line_with_job, lines_after_body, node_after}
 use Rattle.node_law.specs.AsLaw.{is_open_in}
 use Rattle.world_law.specs.State.{is_sub}
@@ -167,7 +167,7 @@ shard_agrees s Collect = nothing s.subs s.subs refl
 -- ---- a server
 
 -- it is open in the line of its shard
-abbrev open_in : SubId → List Line → Bool
+abbrev open_in : SubId → List ShardWithJobs → Bool
 open_in sub lines = is_open_in sub.serial (cond (nat_eq sub.shard 0) None (slice_get lines (sub.shard - 1)))
 
 ids_here : (sub : SubId) (shard : ℕ) → nat_eq sub.shard shard ≡ true → (ks : List ℕ) → list_any (is_sub sub) (ended_ids shard ks) ≡ list_any (nat_eq sub.serial) ks
@@ -178,11 +178,11 @@ ids_there : (sub : SubId) (shard : ℕ) → nat_eq sub.shard shard ≡ false →
 ids_there sub shard e [] = refl
 ids_there sub shard e (k ∷ ks) = (λ i. (e i && nat_eq sub.serial k) || ids_there sub shard e ks i)
 
-pub at_part : (lines : List Line) (place : ℕ) (line : Line) (ev : Event) → slice_get lines place ≡ Some line → line.shard.shard ≡ suc place → (sub : SubId) → open_in sub lines ≡ true
+pub at_part : (lines : List ShardWithJobs) (place : ℕ) (line : ShardWithJobs) (ev : Event) → slice_get lines place ≡ Some line → line.shard.shard ≡ suc place → (sub : SubId) → open_in sub lines ≡ true
     → list_any (is_sub sub) (ended_of (shard_answer line.shard ev)) ≡ not (open_in sub (set lines place (line_after ev line)))
 at_part lines place line ev at number sub = go (nat_eq sub.shard 0) refl (nat_eq (sub.shard - 1) place) refl
   where
-    after : List Line
+    after : List ShardWithJobs
     after = set lines place (line_after ev line)
 
     go : (none : Bool) → nat_eq sub.shard 0 ≡ none → (here : Bool) → nat_eq (sub.shard - 1) place ≡ here → is_open_in sub.serial (cond none None (slice_get lines (sub.shard - 1))) ≡ true
@@ -208,44 +208,44 @@ at_part lines place line ev at number sub = go (nat_eq sub.shard 0) refl (nat_eq
         less a b q e number = omega (arith, e, number)
 
 -- nothing is told, and nothing closes
-same_open : (sub : SubId) (lines after : List Line) → ((q : ℕ) → is_open_in sub.serial (slice_get after q) ≡ is_open_in sub.serial (slice_get lines q)) → open_in sub lines ≡ true → false ≡ not (open_in sub after)
+same_open : (sub : SubId) (lines after : List ShardWithJobs) → ((q : ℕ) → is_open_in sub.serial (slice_get after q) ≡ is_open_in sub.serial (slice_get lines q)) → open_in sub lines ≡ true → false ≡ not (open_in sub after)
 same_open sub lines after same = go (nat_eq sub.shard 0)
   where
     go : (none : Bool) → is_open_in sub.serial (cond none None (slice_get lines (sub.shard - 1))) ≡ true → false ≡ not (is_open_in sub.serial (cond none None (slice_get after (sub.shard - 1))))
     go true is = absurd (true≢false (sym is))
     go false is = ap not (sym (same (sub.shard - 1) ∙ is))
 
-queued_same : (sub : SubId) (job : Job) (lines : List Line) (q : ℕ) → is_open_in sub.serial (slice_get (map (line_with_job job) lines) q) ≡ is_open_in sub.serial (slice_get lines q)
+queued_same : (sub : SubId) (job : Job) (lines : List ShardWithJobs) (q : ℕ) → is_open_in sub.serial (slice_get (map (line_with_job job) lines) q) ≡ is_open_in sub.serial (slice_get lines q)
 queued_same sub job lines q = ap (is_open_in sub.serial) (slice_get-map (line_with_job job) lines q) ∙ go (slice_get lines q)
   where
-    go : (o : Option Line) → is_open_in sub.serial (option_map (line_with_job job) o) ≡ is_open_in sub.serial o
+    go : (o : Option ShardWithJobs) → is_open_in sub.serial (option_map (line_with_job job) o) ≡ is_open_in sub.serial o
     go None = refl
     go (Some line) = refl
 
 -- a line that is put where it was
-put_back : (lines : List Line) (place : ℕ) (line : Line) → slice_get lines place ≡ Some line → (q : ℕ) → slice_get (set lines place line) q ≡ slice_get lines q
+put_back : (lines : List ShardWithJobs) (place : ℕ) (line : ShardWithJobs) → slice_get lines place ≡ Some line → (q : ℕ) → slice_get (set lines place line) q ≡ slice_get lines q
 put_back lines place line at q = go (nat_eq q place) refl
   where
     go : (b : Bool) → nat_eq q place ≡ b → slice_get (set lines place line) q ≡ slice_get lines q
     go true e = ap (slice_get (set lines place line)) (eq_true q place e) ∙ get_set_here lines place line line at ∙ sym (ap (slice_get lines) (eq_true q place e) ∙ at)
     go false e = get_set_there lines place q line (eq_false q place e)
 
-found_at : (none : Bool) (o : Option Line) (line : Line) → cond none None o ≡ Some line → o ≡ Some line
+found_at : (none : Bool) (o : Option ShardWithJobs) (line : ShardWithJobs) → cond none None o ≡ Some line → o ≡ Some line
 found_at true o line e = absurd (none-some line e)
 found_at false o line e = e
 
-module _ (server : Server) (a : Node) (sound : SoundNode server a) (sub : SubId) (is : open_in sub a.lines ≡ true) where
+module _ (server : ServerIdentity) (a : Node) (sound : SoundNode server a) (sub : SubId) (is : open_in sub a.lines ≡ true) where
   -- the part of an event at a line, if any
-  on_part : (place : ℕ) (line : Line) (o : Option Event) → slice_get a.lines place ≡ Some line → list_any (is_sub sub) (ended_at (part_if place line o)) ≡ not (open_in sub (set a.lines place (line_after_if o line)))
+  on_part : (place : ℕ) (line : ShardWithJobs) (o : Option Event) → slice_get a.lines place ≡ Some line → list_any (is_sub sub) (ended_at (part_if place line o)) ≡ not (open_in sub (set a.lines place (line_after_if o line)))
   on_part place line None at = same_open sub a.lines (set a.lines place line) (λ q. ap (is_open_in sub.serial) (put_back a.lines place line at q)) is
   on_part place line (Some ev) at = at_part a.lines place line ev at (sound.lines place line at).number sub is
 
-  on_line : (place : ℕ) (event : Line → Option Event) (o : Option Line) → ((line : Line) → o ≡ Some line → slice_get a.lines place ≡ Some line)
+  on_line : (place : ℕ) (event : ShardWithJobs → Option Event) (o : Option ShardWithJobs) → ((line : ShardWithJobs) → o ≡ Some line → slice_get a.lines place ≡ Some line)
       → list_any (is_sub sub) (ended_at (part_at place event o)) ≡ not (open_in sub (set_line a.lines place (λ line. line_after_if (event line) line) o))
   on_line place event None at = same_open sub a.lines a.lines (λ q. refl) is
   on_line place event (Some line) at = on_part place line (event line) (at line refl)
 
-  on_collect : (place : ℕ) (o : Option Line) → ((line : Line) → o ≡ Some line → slice_get a.lines place ≡ Some line) → false ≡ not (open_in sub (set_line a.lines place (line_after Collect) o))
+  on_collect : (place : ℕ) (o : Option ShardWithJobs) → ((line : ShardWithJobs) → o ≡ Some line → slice_get a.lines place ≡ Some line) → false ≡ not (open_in sub (set_line a.lines place (line_after Collect) o))
   on_collect place None at = same_open sub a.lines a.lines (λ q. refl) is
   on_collect place (Some line) at = at_part a.lines place line Collect (at line refl) (sound.lines place line (at line refl)).number sub is
 
@@ -255,7 +255,7 @@ module _ (server : Server) (a : Node) (sound : SoundNode server a) (sub : SubId)
   on_body frame (Snapshot keys) = same_open sub a.lines a.lines (λ q. refl) is
   on_body frame (Msg content queues) = let job = routed_job a.hub frame content queues in same_open sub a.lines (map (line_with_job job) a.lines) (queued_same sub job a.lines) is
 
-  here : (k q : ℕ) (line : Line) → cond (nat_eq k 0) None (slice_get a.lines q) ≡ Some line → slice_get a.lines q ≡ Some line
+  here : (k q : ℕ) (line : ShardWithJobs) → cond (nat_eq k 0) None (slice_get a.lines q) ≡ Some line → slice_get a.lines q ≡ Some line
   here k q line e = found_at (nat_eq k 0) (slice_get a.lines q) line e
 
   pub server_agrees : (e : NodeEvent) (won : Bool) (race : RaceState) → list_any (is_sub sub) (ended_at (part_of server a e won)) ≡ not (open_in sub (node_after server a e won race).lines)

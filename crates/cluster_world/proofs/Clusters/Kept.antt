@@ -3,7 +3,7 @@ use Rattle.std.proofs.Common.{◌≡◌, ◌<◌, ◌≤◌, ℕ, ◌+◌, List,
 use Rattle.std.specs.Prelude.{slice_get}
 use Rattle.std.specs.Option.{option_map}
 use Rattle.std.proofs.lemmas.Option.{slice_get_within, slice_get-map}
-use Rattle.subj.specs.Servers.{Server}
+use Rattle.subj.specs.Servers.{ServerIdentity}
 use Rattle.node_law.specs.Answers.{Nothing}
 use Rattle.node_law.specs.Events.{NodeEvent}
 use Rattle.node_core.specs.InCode.{answer_of}
@@ -28,7 +28,7 @@ CarriedOn = (c : Cluster) (w : World) (e : Event) (outcome : Outcome) (w' : Worl
 abbrev pub CarriedOpen : Type 0
 CarriedOpen = (c : Cluster) → IsCluster c → (w : World) → Carried c w → LivesAreFound w
 
-module _ (server : Server) (step : ℕ) (nodes : List (Option Served)) (l : Listed) (v : Shown) (view_is : value_of_parts server step nodes l ≡ v) (kept : IsKept server nodes (world_of step nodes l)) where
+module _ (server : ServerIdentity) (step : ℕ) (nodes : List (Option Served)) (l : Listed) (v : Shown) (view_is : value_of_parts server step nodes l ≡ v) (kept : IsKept server nodes (world_of step nodes l)) where
   abbrev c : Cluster
   c = cluster_of server
 
@@ -96,11 +96,11 @@ module _ (server : Server) (step : ℕ) (nodes : List (Option Served)) (l : List
   pub start_within : (n inc : ℕ) → world_refusal v.cluster v.world (Start n inc) ≡ None → n < length server.names
   start_within n inc cause = subst (λ k. n < k) kept.size (slice_get_within nodes n None (start_at n inc cause))
 
-  pub start_steps : (n inc now : ℕ) (made : Server) (y : Served) (l' : Listed) → now ≡ v.world.step + 1 → 1 ≤ inc → world_refusal v.cluster v.world (Start n inc) ≡ None → made ≡ server_at c n inc → y ≡ new_server made → l' ≡ with_start n inc l
+  pub start_steps : (n inc now : ℕ) (made : ServerIdentity) (y : Served) (l' : Listed) → now ≡ v.world.step + 1 → 1 ≤ inc → world_refusal v.cluster v.world (Start n inc) ≡ None → made ≡ server_at c n inc → y ≡ new_server made → l' ≡ with_start n inc l
       → IsStepped v (Start n inc) (Done Nothing) (value_of_parts server now (set nodes n (Some y)) l')
   start_steps n inc now made y l' next some cause made_is y_is lists = stepped (Start n inc) (Done Nothing) now (set nodes n (Some y)) l' (start_step server made step now n inc nodes l l' y (now_here now next) some (cause_here (Start n inc) None cause) made_is y_is lists)
 
-  pub start_keeps : CarriedOn → (n inc now : ℕ) (made : Server) (y : Served) (l' : Listed) → now ≡ v.world.step + 1 → 1 ≤ inc → world_refusal v.cluster v.world (Start n inc) ≡ None → made ≡ server_at c n inc → y ≡ new_server made → l' ≡ with_start n inc l
+  pub start_keeps : CarriedOn → (n inc now : ℕ) (made : ServerIdentity) (y : Served) (l' : Listed) → now ≡ v.world.step + 1 → 1 ≤ inc → world_refusal v.cluster v.world (Start n inc) ≡ None → made ≡ server_at c n inc → y ≡ new_server made → l' ≡ with_start n inc l
       → IsKept server (set nodes n (Some y)) (world_of now (set nodes n (Some y)) l')
   start_keeps on n inc now made y l' next some cause made_is y_is lists = record {
     apart = kept.apart;

@@ -12,7 +12,7 @@ use Rattle.outbox.specs.declared.entries.Tag.{Tag}
 use Rattle.outbox.specs.declared.entries.Tag.TheVariants as tag
 use Rattle.sub_table.specs.declared.Subscription.{Subscription}
 use Rattle.subj.specs.declared.identities.SubId.{SubId}
-use Rattle.subj.specs.Servers.{Server}
+use Rattle.subj.specs.Servers.{ServerIdentity}
 use Rattle.shard_core.specs.declared.calls.Placed.{Placed}
 use Rattle.shard_core.specs.ShardSteps.{sub_called, subscribe_answer}
 use Rattle.hub_core.specs.Publishing.{next_id}
@@ -26,7 +26,7 @@ use Rattle.node_core.specs.Outcome as of_server
 use Rattle.node_core.specs.Outcome.{did_of, ended_at}
 use Rattle.node_core.specs.Served.{Served}
 use Rattle.node_law.specs.Sound.{SoundNode}
-use Rattle.node_law.specs.State.{Line, Node}
+use Rattle.node_law.specs.State.{ShardWithJobs, Node}
 use Rattle.node_law.specs.Steps.{NodeStep, conn_line, conn_event, shard_line, node_refusal, node_after}
 use Rattle.node_law.specs.AsLaw.{is_open_in}
 use Rattle.world_law.specs.declared.faults.WorldFault.TheVariants as fault
@@ -47,7 +47,7 @@ use Rattle.world_law.proofs.Seen.Worlds.{set_size}
 
 -- ---- publications
 
-pub published_are : (server : Server) (now : ℕ) (a : Node) (e : NodeEvent) → published_by (next_id server a.hub) now e ≡ publications_of server now a e
+pub published_are : (server : ServerIdentity) (now : ℕ) (a : Node) (e : NodeEvent) → published_by (next_id server a.hub) now e ≡ publications_of server now a e
 published_are server now a (Own (OfConn conn event)) = refl
 published_are server now a (Own (AtShard shard work)) = refl
 published_are server now a (Own (Publish p)) = refl
@@ -62,7 +62,7 @@ published_are server now a (OnConnect session connect) = refl
 
 -- ---- lives that opens
 
-opened_at : (server : Server) (now conn : ℕ) (event : ConnEvent) (o : Option Line) → opened_lives server.me server.inc now (opening_of conn event) (told_at o (λ line. Some (conn_event conn event))) ≡ conn_lives server now conn event o
+opened_at : (server : ServerIdentity) (now conn : ℕ) (event : ConnEvent) (o : Option ShardWithJobs) → opened_lives server.me server.inc now (opening_of conn event) (told_at o (λ line. Some (conn_event conn event))) ≡ conn_lives server now conn event o
 opened_at server now conn (Subscribe key sid) None = refl
 opened_at server now conn (Subscribe key sid) (Some line) = go (sub_called conn sid line.shard.subs)
   where
@@ -80,7 +80,7 @@ opened_at server now conn Detach (Some line) = refl
 opened_at server now conn (Take count) None = refl
 opened_at server now conn (Take count) (Some line) = refl
 
-pub opened_are : (server : Server) (now : ℕ) (a : Node) (e : NodeEvent) (won : Bool) → opened_lives server.me server.inc now (opening_by e) (node_answer server a e won) ≡ lives_of server now a e
+pub opened_are : (server : ServerIdentity) (now : ℕ) (a : Node) (e : NodeEvent) (won : Bool) → opened_lives server.me server.inc now (opening_by e) (node_answer server a e won) ≡ lives_of server now a e
 opened_are server now a (Own (OfConn conn event)) won = opened_at server now conn event (conn_line server a conn)
 opened_are server now a (Own (AtShard shard work)) won = refl
 opened_are server now a (Own (Publish p)) won = refl
@@ -136,7 +136,7 @@ both_true : (a b : Bool) → (a && b) ≡ true → b ≡ true
 both_true true b e = e
 both_true false b e = absurd (true≢false (sym e))
 
-pub told_close : (server : Server) (a b : Running) (e : NodeEvent) (won : Bool) (race : RaceState) (ended : List SubId) → SoundNode server a.node → b.inc ≡ a.inc → b.node ≡ node_after server a.node e won race → ended ≡ ended_at (part_of server a.node e won) → Tells a (Some b) (closes (Some ended))
+pub told_close : (server : ServerIdentity) (a b : Running) (e : NodeEvent) (won : Bool) (race : RaceState) (ended : List SubId) → SoundNode server a.node → b.inc ≡ a.inc → b.node ≡ node_after server a.node e won race → ended ≡ ended_at (part_of server a.node e won) → Tells a (Some b) (closes (Some ended))
 told_close server a b e won race ended sound same after is sub opens =
     ap (list_any (is_sub sub)) is
     ∙ server_agrees server a.node sound sub (both_true (nat_eq a.inc a.inc) _ opens) e won race
@@ -145,7 +145,7 @@ told_close server a b e won race ended sound same after is sub opens =
 -- ---- placements
 
 -- of its server they have the place and the incarnation alone
-placed_alike : (s t : Server) (now : ℕ) → s.me ≡ t.me → s.inc ≡ t.inc → (ps : List Placed) → placements_put s now ps ≡ placements_put t now ps
+placed_alike : (s t : ServerIdentity) (now : ℕ) → s.me ≡ t.me → s.inc ≡ t.inc → (ps : List Placed) → placements_put s now ps ≡ placements_put t now ps
 placed_alike s t now me inc [] = refl
 placed_alike s t now me inc (p ∷ ps) = (λ i. one p.entry.tag i ++ placed_alike s t now me inc ps i)
   where
@@ -191,7 +191,7 @@ cause_for c w n (asked.OnConnect m session k) at = ap (λ q. refusal_at c q (eve
 cause_for c w n (At m event) at = ap (λ q. refusal_at c q (event_for w (At q event)) (slice_get w.nodes q)) at
 
 -- what the code finds at a place is the cause
-pub cause_is : (server : Server) (step n : ℕ) (nodes : List (Option Served)) (l : Listed) (e : Event) (found : Option NodeEvent) → InPlace (cluster_of server) nodes → IsFor n e → found ≡ event_for (world_of step nodes l) e
+pub cause_is : (server : ServerIdentity) (step n : ℕ) (nodes : List (Option Served)) (l : Listed) (e : Event) (found : Option NodeEvent) → InPlace (cluster_of server) nodes → IsFor n e → found ≡ event_for (world_of step nodes l) e
     → slot_refusal found (slice_get nodes n) ≡ world_refusal (cluster_of server) (world_of step nodes l) e
 cause_is server step n nodes l e found places at is =
     ap (λ o. slot_refusal o (slice_get nodes n)) is
@@ -213,7 +213,7 @@ module _ (puts_placed : PutsArePlaced) (c : Cluster) (step n inc : ℕ) (nodes :
   abbrev w : World
   w = world_of step nodes l
 
-  abbrev server : Server
+  abbrev server : ServerIdentity
   server = server_at c n inc
 
   acts : (x y : Served) (e : NodeEvent) (won : Bool) (race : RaceState) (made : Made)
@@ -271,7 +271,7 @@ module _ (puts_placed : PutsArePlaced) (c : Cluster) (step n inc : ℕ) (nodes :
       lives_added = ap (λ k. map (closed_if (suc step) n k (Some made.did.ended.items)) l.lives ++ opened_lives n k (suc step) made.noted.opening (answer_of made.did.answer)) made_inc ∙ (λ i. closed i ++ opened i)
 
 -- the step of a server that is not refused
-pub made_step : PutsArePlaced → (server : Server) (step now n : ℕ) (nodes new : List (Option Served)) (l : Listed) (e : Event) (found : Option NodeEvent) (made : Made)
+pub made_step : PutsArePlaced → (server : ServerIdentity) (step now n : ℕ) (nodes new : List (Option Served)) (l : Listed) (e : Event) (found : Option NodeEvent) (made : Made)
     → now ≡ step + 1 → InPlace (cluster_of server) nodes → LivesAreFound (world_of step nodes l) → IsFor n e → found ≡ event_for (world_of step nodes l) e
     → world_refusal (cluster_of server) (world_of step nodes l) e ≡ None
     → IsMade n now found nodes made new
@@ -279,7 +279,7 @@ pub made_step : PutsArePlaced → (server : Server) (step now n : ℕ) (nodes ne
 made_step puts_placed server step now n nodes new l e found made now_is places opens at found_is cause m = (
   subst (λ k. WorldStep c w e out (world_of k new (listed_with (record { step = k; node = n; inc = made.inc }) made.noted made.did l))) (sym next)
       (subst (λ o. Decided c w e o out w') (sym cause) (happens_for c w w' n e out at (subst (λ o. Acts c w n o out w') (sym m.is ∙ found_is) there))),
-  subst (InPlace c) (sym m.after) (in_place_set c nodes n (Some m.x) (Some m.y) places m.x_is (λ s is. subst (λ (t : Served). t.server ≡ server_at c n t.server.inc) (same_Some m.y s is) (m.does.step.server ∙ placed ∙ ap (λ (t : Server). server_at c n t.inc) (sym m.does.step.server)))),
+  subst (InPlace c) (sym m.after) (in_place_set c nodes n (Some m.x) (Some m.y) places m.x_is (λ s is. subst (λ (t : Served). t.server ≡ server_at c n t.server.inc) (same_Some m.y s is) (m.does.step.server ∙ placed ∙ ap (λ (t : ServerIdentity). server_at c n t.inc) (sym m.does.step.server)))),
   ap length m.after ∙ size_set nodes n (Some m.y),
 )
   where
@@ -310,6 +310,6 @@ made_step puts_placed server step now n nodes new l e found made now_is places o
         (subst (λ s. SoundNode s m.x.node) placed m.sound)
         m.inc
         (subst (λ k. AreNoted (next_id (server_at c n inc) m.x.node.hub) k m.e made.noted) next (subst (λ s. AreNoted (next_id s m.x.node.hub) now m.e made.noted) placed m.noted))
-        (ap (λ (t : Server). t.inc) m.does.step.server)
+        (ap (λ (t : ServerIdentity). t.inc) m.does.step.server)
         (subst (λ s. NodeStep s m.x.node m.e m.does.won m.does.step.race m.y.node) placed m.does.step.step)
         (subst (λ s. did_of made.did ≡ of_server.outcome_of s m.x.node m.e m.does.won) placed m.does.told))

@@ -4,7 +4,7 @@ use Rattle.std.specs.Prelude.{slice_get}
 use Rattle.std.proofs.Math.Logic.{∥∥₁_elim}
 use Rattle.hub_core.specs.Publishing.{Publication, subject_of, own_job, frames_of}
 use Rattle.hub_core.specs.declared.publishing.PublishPlan.{PublishPlan}
-use Rattle.subj.specs.Servers.{Server}
+use Rattle.subj.specs.Servers.{ServerIdentity}
 use Rattle.node_core.specs.Served.{Served}
 use Rattle.node_law.specs.Answers.{Answer}
 use Rattle.node_law.specs.Events.{Publish, Own}
@@ -25,7 +25,7 @@ use Rattle.cluster_world.specs.Planned.{IsPlannedAt, IsPlannedBy, TakesWhereSett
 use Rattle.cluster_world.specs.Value.{Listed, InPlace, cluster_of, value_of_parts, running_of, slot_refusal}
 use Rattle.cluster_world.proofs.Clusters.Making.{cause_is, shown_at}
 
-pub planned_by : (server : Server) (step : ℕ) (nodes : List (Option Served)) (l : Listed) → InPlace (cluster_of server) nodes → (n : ℕ) (p : Publication) (plan : Option PublishPlan) → IsPlannedAt (slice_get nodes n) p plan
+pub planned_by : (server : ServerIdentity) (step : ℕ) (nodes : List (Option Served)) (l : Listed) → InPlace (cluster_of server) nodes → (n : ℕ) (p : Publication) (plan : Option PublishPlan) → IsPlannedAt (slice_get nodes n) p plan
     → IsPlannedBy (value_of_parts server step nodes l) n p plan
 planned_by server step nodes l places n p None planned =
     let cause = cause_is server step n nodes l (At n (Publish p)) (Some (Own (Publish p))) places refl refl in
@@ -60,7 +60,7 @@ goes_on goes c cluster (e ∷ es) events w run =
 
 -- the same publication, which its own connection may get back
 abbrev echoed : Publication → Publication
-echoed p = record p { said = record p.said { echo = true } }
+echoed p = record p { publication = record p.publication { echo = true } }
 
 abbrev WasRefused : Outcome → Type 0
 WasRefused (Refused why) = Unit {0}
@@ -71,7 +71,7 @@ not_done why told e = subst WasRefused e tt
 
 -- a publish that was refused would be one of those that settled clusters deliver
 taken : SomeOrderIsRight → SettledDelivers → EachGoesOn → (c : Cluster) → IsCluster c → 0 < c.shards → (events : List Event) (w : World) → Run c (new_world c) events w
-    → (n : ℕ) (a : Running) (p : Publication) → slice_get w.nodes n ≡ Some (Some a) → IsSettled c w (subject_of p) → IsRoomy w p.said.message → (why : WorldFault) → world_refusal c w (At n (Publish p)) ≡ Some why → ⊥
+    → (n : ℕ) (a : Running) (p : Publication) → slice_get w.nodes n ≡ Some (Some a) → IsSettled c w (subject_of p) → IsRoomy w p.publication.message → (why : WorldFault) → world_refusal c w (At n (Publish p)) ≡ Some why → ⊥
 taken right delivers goes c cluster some events w run n a p up settled roomy why cause =
     let q = echoed p in
     let e = At n (Publish q) in
@@ -90,4 +90,4 @@ takes_where_settled right delivers goes exact c cluster some w carried n a p up 
     go : (o : Option WorldFault) → world_refusal c w (At n (Publish p)) ≡ o → world_refusal c w (At n (Publish p)) ≡ None
     go None is = is
     go (Some why) is =
-        absurd (∥∥₁_elim carried (λ x y. absurd x) (λ r. taken right delivers goes c cluster some r.0 w r.1 n a p up ((exact.settled c cluster r.0 w r.1 (subject_of p)).0 settled) ((exact.room w p.said.message).0 roomy) why is))
+        absurd (∥∥₁_elim carried (λ x y. absurd x) (λ r. taken right delivers goes c cluster some r.0 w r.1 n a p up ((exact.settled c cluster r.0 w r.1 (subject_of p)).0 settled) ((exact.room w p.publication.message).0 roomy) why is))

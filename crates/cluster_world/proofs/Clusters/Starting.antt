@@ -6,7 +6,7 @@ use Rattle.std.proofs.lemmas.Option.{none-some, same_Some, slice_get-map}
 use Rattle.list_laws.proofs.Lists.{read_replicate}
 use Rattle.list_laws.proofs.Tests.{lt_false}
 use Rattle.list_laws.proofs.Changes.{map_set}
-use Rattle.subj.specs.Servers.{Server, IsListed, is_server, server_of}
+use Rattle.subj.specs.Servers.{ServerIdentity, IsListed, is_server, server_of}
 use Rattle.node_law.specs.Answers.{Nothing}
 use Rattle.node_core.specs.Served.{Served, new_server}
 use Rattle.world_law.specs.Changes.{LivesAreFound}
@@ -30,12 +30,12 @@ size_replicate : {A : Type 0} (k : ℕ) (x : A) → length (replicate k x) ≡ k
 size_replicate zero x = refl
 size_replicate (suc k) x = let z = size_replicate k x in omega arith
 
-pub first_world : (server : Server) (count : ℕ) (nodes : List (Option Served)) (l : Listed) → count ≡ length server.names → nodes ≡ replicate count None → l ≡ no_lists → world_of 0 nodes l ≡ new_world (cluster_of server)
+pub first_world : (server : ServerIdentity) (count : ℕ) (nodes : List (Option Served)) (l : Listed) → count ≡ length server.names → nodes ≡ replicate count None → l ≡ no_lists → world_of 0 nodes l ≡ new_world (cluster_of server)
 first_world server count nodes l size nodes_are lists =
     (λ i. world_of 0 (nodes_are i) (lists i))
     ∙ (λ i. record { step = 0; nodes = (map_replicate running_in count None ∙ ap (λ k. replicate k None) size) i; started = []; publications = []; lives = []; placements = []; sent = [] })
 
-pub first_kept : (server : Server) (count : ℕ) (nodes : List (Option Served)) (w : World) → IsListed server → is_server (server_at (cluster_of server) 0 1) ≡ true → count ≡ length server.names → nodes ≡ replicate count None → w ≡ new_world (cluster_of server) → Carried (cluster_of server) (new_world (cluster_of server)) → IsKept server nodes w
+pub first_kept : (server : ServerIdentity) (count : ℕ) (nodes : List (Option Served)) (w : World) → IsListed server → is_server (server_at (cluster_of server) 0 1) ≡ true → count ≡ length server.names → nodes ≡ replicate count None → w ≡ new_world (cluster_of server) → Carried (cluster_of server) (new_world (cluster_of server)) → IsKept server nodes w
 first_kept server count nodes w listed tested size nodes_are is carried = record {
   apart = record { apart = listed.apart };
   tested = tested;
@@ -44,21 +44,21 @@ first_kept server count nodes w listed tested size nodes_are is carried = record
   carried = subst (Carried (cluster_of server)) (sym is) carried;
 }
 
-pub made_server : (s made : Server) → Some made ≡ server_of s → (is_server s ≡ true) × (made ≡ s)
+pub made_server : (s made : ServerIdentity) → Some made ≡ server_of s → (is_server s ≡ true) × (made ≡ s)
 made_server s made e = go (is_server s) refl e
   where
     go : (b : Bool) → is_server s ≡ b → Some made ≡ cond b (Some s) None → (is_server s ≡ true) × (made ≡ s)
     go true f e = (f, same_Some made s e)
     go false f e = absurd (none-some made (sym e))
 
-pub no_server : (s : Server) → None ≡ server_of s → is_server s ≡ false
+pub no_server : (s : ServerIdentity) → None ≡ server_of s → is_server s ≡ false
 no_server s e = go (is_server s) refl e
   where
     go : (b : Bool) → is_server s ≡ b → None ≡ cond b (Some s) None → is_server s ≡ false
     go true f e = absurd (none-some s e)
     go false f e = f
 
-pub new_made : (c : Cluster) (server : Server) (w : World) → is_server (server_at c 0 1) ≡ true → cluster_of server ≡ c → w ≡ new_world (cluster_of server) → Some (record { cluster = cluster_of server; world = w }) ≡ new_cluster c
+pub new_made : (c : Cluster) (server : ServerIdentity) (w : World) → is_server (server_at c 0 1) ≡ true → cluster_of server ≡ c → w ≡ new_world (cluster_of server) → Some (record { cluster = cluster_of server; world = w }) ≡ new_cluster c
 new_made c server w tested same is = (λ i. Some (record { cluster = same i; world = (is ∙ ap new_world same) i })) ∙ ap (λ b. cond b (Some (record { cluster = c; world = new_world c })) None) (sym tested)
 
 -- ---- the server of another place
@@ -75,7 +75,7 @@ is_below a b lt = go (nat_lt a b) refl
     go true e = e
     go false e = absurd (let le = lt_false a b e in omega (arith, lt, le))
 
-pub server_there : (server : Server) (n inc : ℕ) → is_server (server_at (cluster_of server) 0 1) ≡ true → n < length server.names → server_in server n inc ≡ Some (server_at (cluster_of server) n inc)
+pub server_there : (server : ServerIdentity) (n inc : ℕ) → is_server (server_at (cluster_of server) 0 1) ≡ true → n < length server.names → server_in server n inc ≡ Some (server_at (cluster_of server) n inc)
 server_there server n inc tested lt = ap (λ b. cond b (Some (server_at (cluster_of server) n inc)) None) (swap _ _ (nat_lt n (length server.names)) _ _ tested (is_below n (length server.names) lt))
 
 -- ---- a refusal
@@ -96,7 +96,7 @@ free_of n inc used (Some (Some s)) e = absurd (none-some fault.NodeUp (sym e))
 pub free_at : (c : Cluster) (step n inc : ℕ) (nodes : List (Option Served)) (l : Listed) → world_refusal c (world_of step nodes l) (Start n inc) ≡ None → slice_get nodes n ≡ Some None
 free_at c step n inc nodes l cause = free_of n inc l.started (slice_get nodes n) (ap (start_refusal n inc l.started) (sym (slice_get-map running_in nodes n)) ∙ cause)
 
-pub start_step : (server made : Server) (step now n inc : ℕ) (nodes : List (Option Served)) (l l' : Listed) (y : Served)
+pub start_step : (server made : ServerIdentity) (step now n inc : ℕ) (nodes : List (Option Served)) (l l' : Listed) (y : Served)
     → now ≡ step + 1 → 1 ≤ inc → world_refusal (cluster_of server) (world_of step nodes l) (Start n inc) ≡ None → made ≡ server_at (cluster_of server) n inc → y ≡ new_server made → l' ≡ with_start n inc l
     → WorldStep (cluster_of server) (world_of step nodes l) (Start n inc) (Done Nothing) (world_of now (set nodes n (Some y)) l')
 start_step server made step now n inc nodes l l' y now_is some cause made_is y_is lists =
@@ -113,7 +113,7 @@ start_step server made step now n inc nodes l l' y now_is some cause made_is y_i
     is : y ≡ new_server (server_at (cluster_of server) n inc)
     is = y_is ∙ ap new_server made_is
 
-pub start_places : (server made : Server) (n inc step : ℕ) (nodes : List (Option Served)) (l : Listed) (y : Served) → InPlace (cluster_of server) nodes → world_refusal (cluster_of server) (world_of step nodes l) (Start n inc) ≡ None → made ≡ server_at (cluster_of server) n inc → y ≡ new_server made → InPlace (cluster_of server) (set nodes n (Some y))
+pub start_places : (server made : ServerIdentity) (n inc step : ℕ) (nodes : List (Option Served)) (l : Listed) (y : Served) → InPlace (cluster_of server) nodes → world_refusal (cluster_of server) (world_of step nodes l) (Start n inc) ≡ None → made ≡ server_at (cluster_of server) n inc → y ≡ new_server made → InPlace (cluster_of server) (set nodes n (Some y))
 start_places server made n inc step nodes l y places cause made_is y_is =
     in_place_set (cluster_of server) nodes n None (Some y) places (free_at (cluster_of server) step n inc nodes l cause)
     (λ s is. subst (λ (t : Served). t.server ≡ server_at (cluster_of server) n t.server.inc) (same_Some y s is) (subst (λ (t : Served). t.server ≡ server_at (cluster_of server) n t.server.inc) (sym (y_is ∙ ap new_server made_is)) refl))
@@ -128,7 +128,7 @@ up_of (Some (Some s)) e = (s, refl)
 pub up_at : (c : Cluster) (step n : ℕ) (nodes : List (Option Served)) (l : Listed) → world_refusal c (world_of step nodes l) (Stop n) ≡ None → (s : Served) × (slice_get nodes n ≡ Some (Some s))
 up_at c step n nodes l cause = up_of (slice_get nodes n) (ap stop_refusal (sym (slice_get-map running_in nodes n)) ∙ cause)
 
-pub stop_step : (server : Server) (step now n inc : ℕ) (nodes : List (Option Served)) (l l' : Listed)
+pub stop_step : (server : ServerIdentity) (step now n inc : ℕ) (nodes : List (Option Served)) (l l' : Listed)
     → now ≡ step + 1 → LivesAreFound (world_of step nodes l) → world_refusal (cluster_of server) (world_of step nodes l) (Stop n) ≡ None → Some inc ≡ inc_in (slice_get nodes n) → l' ≡ with_closed (record { step = now; node = n; inc = inc }) l
     → WorldStep (cluster_of server) (world_of step nodes l) (Stop n) (Done Nothing) (world_of now (set nodes n None) l')
 stop_step server step now n inc nodes l l' now_is opens cause inc_is lists =

@@ -15,7 +15,7 @@ use Rattle.subj.specs.declared.limits.TheConstants.{MAX_QUEUE_NAMES, MAX_WEIGHT}
 use Rattle.subj.specs.Matching.{subject_matches}
 use Rattle.subj.specs.Messages.{Content}
 use Rattle.subj.specs.QueueNames.{are_rising, is_named}
-use Rattle.subj.specs.Servers.{Server, IsListed, name_of, own_name}
+use Rattle.subj.specs.Servers.{ServerIdentity, IsListed, name_of, own_name}
 use Rattle.pick.specs.Pick.{units}
 use Rattle.route_values.specs.declared.bodies.Body.TheVariants.{Msg}
 use Rattle.route_values.specs.Frames.{Frame}
@@ -30,24 +30,24 @@ use Rattle.hub_core.specs.Wanted.{Wants, SomeWants}
 use Rattle.hub_core.proofs.Choices.Wanted.{from_keys}
 use Rattle.hub_core.proofs.Neighbours.Sending.{not_too_many}
 
-abbrev Alone : Server → ℕ → List Peer → Type 0
+abbrev Alone : ServerIdentity → ℕ → List Peer → Type 0
 Alone server q peers = is_alone_from server q peers ≡ true
 
-first : (server : Server) (q : ℕ) (peer : Peer) (peers : List Peer) → Alone server q (peer ∷ peers) → is_eligible server q peer ≡ false
+first : (server : ServerIdentity) (q : ℕ) (peer : Peer) (peers : List Peer) → Alone server q (peer ∷ peers) → is_eligible server q peer ≡ false
 first server q peer peers alone = not_true (is_eligible server q peer) (and_true (not (is_eligible server q peer)) (is_alone_from server (suc q) peers) alone).0
 
-others : (server : Server) (q : ℕ) (peer : Peer) (peers : List Peer) → Alone server q (peer ∷ peers) → Alone server (suc q) peers
+others : (server : ServerIdentity) (q : ℕ) (peer : Peer) (peers : List Peer) → Alone server q (peer ∷ peers) → Alone server (suc q) peers
 others server q peer peers alone = (and_true (not (is_eligible server q peer)) (is_alone_from server (suc q) peers) alone).1
 
 -- ---- no peer adds a name, and none is owed a frame
 
-names_alone : (server : Server) (subject : List ℕ) (q : ℕ) (peers : List Peer) (names : List (List ℕ)) → Alone server q peers → names_from server subject q peers names ≡ names
+names_alone : (server : ServerIdentity) (subject : List ℕ) (q : ℕ) (peers : List Peer) (names : List (List ℕ)) → Alone server q peers → names_from server subject q peers names ≡ names
 names_alone server subject q [] names alone = refl
 names_alone server subject q (peer ∷ peers) names alone =
     ap (λ b. names_from server subject (suc q) peers (cond b (names_in subject peer.heard.keys names) names)) (first server q peer peers alone)
     ∙ names_alone server subject (suc q) peers names (others server q peer peers alone)
 
-frames_alone : (server : Server) (number : ℕ) (content : Content) (choice : List ℕ → Option (List ℕ)) (names : List (List ℕ)) (q : ℕ) (peers : List Peer) → Alone server q peers → frames_from server number content choice names q peers ≡ []
+frames_alone : (server : ServerIdentity) (number : ℕ) (content : Content) (choice : List ℕ → Option (List ℕ)) (names : List (List ℕ)) (q : ℕ) (peers : List Peer) → Alone server q peers → frames_from server number content choice names q peers ≡ []
 frames_alone server number content choice names q [] alone = refl
 frames_alone server number content choice names q (peer ∷ peers) alone =
     let queues = names_for choice (name_of server q) names in
@@ -57,7 +57,7 @@ frames_alone server number content choice names q (peer ∷ peers) alone =
 
 -- ---- all units are the server's own
 
-module _ (server : Server) (counts : Counts) (subject name : List ℕ) where
+module _ (server : ServerIdentity) (counts : Counts) (subject name : List ℕ) where
   no_unit : (q : ℕ) (peer : Peer) (peers : List Peer) → nat_eq q server.me ≡ false → is_eligible server q peer ≡ false → units (weights_from server counts subject name q (peer ∷ peers)) ≡ units (weights_from server counts subject name (suc q) peers)
   no_unit q peer peers other none = λ k. units ((name_of server q, cond (other k) (weight_in subject name counts) (cond (none k) (weight_in subject name peer.heard.keys) 0)) ∷ weights_from server counts subject name (suc q) peers)
 
@@ -122,7 +122,7 @@ filter_all test (x ∷ xs) all = ap (λ b. cond b (x ∷ filter test xs) (filter
 
 -- ---- what is owed then
 
-module _ (server : Server) (hub : State) (p : Publication) (names : List (List ℕ)) (listed : IsListed server) (sound : IsSound server hub) (serves : ServesAlone server hub (subject_of p) names) where
+module _ (server : ServerIdentity) (hub : State) (p : Publication) (names : List (List ℕ)) (listed : IsListed server) (sound : IsSound server hub) (serves : ServesAlone server hub (subject_of p) names) where
   wanted : names ≡ publishing.names_of server hub p
   wanted = serves.in_mind.names_are ∙ sym (names_alone server (subject_of p) 0 hub.peers (names_in (subject_of p) hub.counts []) serves.alone)
 
@@ -141,11 +141,11 @@ module _ (server : Server) (hub : State) (p : Publication) (names : List (List �
       ∙ ap (names_for (choice_of server hub p) (own_name server)) wanted
 
   pub sends_none : [] ≡ frames_of server hub p
-  sends_none = sym (frames_alone server (hub.published + 1) p.said.message (choice_of server hub p) (publishing.names_of server hub p) 0 hub.peers serves.alone)
+  sends_none = sym (frames_alone server (hub.published + 1) p.publication.message (choice_of server hub p) (publishing.names_of server hub p) 0 hub.peers serves.alone)
 
 -- ---- and there are not too many
 
-pub few_alone : (server : Server) (hub : State) (subject : List ℕ) (names : List (List ℕ)) → ServesAlone server hub subject names → nat_lt MAX_QUEUE_NAMES (length (queue_names server hub subject)) ≡ false
+pub few_alone : (server : ServerIdentity) (hub : State) (subject : List ℕ) (names : List (List ℕ)) → ServesAlone server hub subject names → nat_lt MAX_QUEUE_NAMES (length (queue_names server hub subject)) ≡ false
 few_alone server hub subject names serves =
     let are : names ≡ queue_names server hub subject = serves.in_mind.names_are ∙ sym (names_alone server subject 0 hub.peers (names_in subject hub.counts []) serves.alone) in
     let few = le_true (length names) MAX_QUEUE_NAMES (and_true (nat_le (length names) MAX_QUEUE_NAMES) (are_rising names) serves.in_mind.ordered).0 in

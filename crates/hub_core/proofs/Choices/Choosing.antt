@@ -6,7 +6,7 @@ use Rattle.std.proofs.lemmas.List.Sums.{sum_by-append}
 use Rattle.std.proofs.lemmas.Option.{slice_get-get_or}
 use Rattle.list_laws.proofs.Tests.{or_false}
 use Rattle.subj.specs.QueueNames.{is_named}
-use Rattle.subj.specs.Servers.{Server, name_of}
+use Rattle.subj.specs.Servers.{ServerIdentity, name_of}
 use Rattle.pick.specs.Pick.{Weighted, total_weight}
 use Rattle.interest.specs.Counts.{Counts}
 use Rattle.interest.specs.Matches.{names_in, has_queue_match}
@@ -22,26 +22,26 @@ set_step xs ys i x below = ap (λ l. l ++ ys) (take_more_set xs i x below) ∙ a
 
 -- ---- the names, peer by peer
 
-abbrev pub names_with : Server → List ℕ → ℕ → Peer → List (List ℕ) → List (List ℕ)
+abbrev pub names_with : ServerIdentity → List ℕ → ℕ → Peer → List (List ℕ) → List (List ℕ)
 names_with server subject q peer names = if is_eligible server q peer then names_in subject peer.heard.keys names else names
 
-not_fewer_with : (server : Server) (subject : List ℕ) (q : ℕ) (peer : Peer) (names : List (List ℕ)) → length names ≤ length (names_with server subject q peer names)
+not_fewer_with : (server : ServerIdentity) (subject : List ℕ) (q : ℕ) (peer : Peer) (names : List (List ℕ)) → length names ≤ length (names_with server subject q peer names)
 not_fewer_with server subject q peer names = elim (is_eligible server q peer) as (λ b. length names ≤ length (cond b (names_in subject peer.heard.keys names) names)) [
   | true ↦ not_fewer_in subject peer.heard.keys names
   | false ↦ omega arith
 ]
 
-pub not_fewer_from : (server : Server) (subject : List ℕ) (q : ℕ) (peers : List Peer) (names : List (List ℕ)) → length names ≤ length (names_from server subject q peers names)
+pub not_fewer_from : (server : ServerIdentity) (subject : List ℕ) (q : ℕ) (peers : List Peer) (names : List (List ℕ)) → length names ≤ length (names_from server subject q peers names)
 not_fewer_from server subject q [] names = omega arith
 not_fewer_from server subject q (peer ∷ peers) names =
     let one = not_fewer_with server subject q peer names in
     let rest = not_fewer_from server subject (suc q) peers (names_with server subject q peer names) in
     omega arith
 
-names_step : (server : Server) (subject : List ℕ) (peers : List Peer) (i : ℕ) (d : Peer) (names : List (List ℕ)) → i < length peers → names_from server subject i (drop i peers) names ≡ names_from server subject (suc i) (drop (i + 1) peers) (names_with server subject i (get_or peers i d) names)
+names_step : (server : ServerIdentity) (subject : List ℕ) (peers : List Peer) (i : ℕ) (d : Peer) (names : List (List ℕ)) → i < length peers → names_from server subject i (drop i peers) names ≡ names_from server subject (suc i) (drop (i + 1) peers) (names_with server subject i (get_or peers i d) names)
 names_step server subject peers i d names below = at_drop_more (λ l. names_from server subject i l names) peers i d below
 
-pub too_many_at : (server : Server) (subject : List ℕ) (peers : List Peer) (i : ℕ) (peer : Peer) (names first all : List (List ℕ)) (most : ℕ) → i < length peers → peer ≡ get_or peers i peer → names_from server subject i (drop i peers) names ≡ names_from server subject 0 peers first → first ≡ all → most < length (names_with server subject i peer names) → most < length (names_from server subject 0 peers all)
+pub too_many_at : (server : ServerIdentity) (subject : List ℕ) (peers : List Peer) (i : ℕ) (peer : Peer) (names first all : List (List ℕ)) (most : ℕ) → i < length peers → peer ≡ get_or peers i peer → names_from server subject i (drop i peers) names ≡ names_from server subject 0 peers first → first ≡ all → most < length (names_with server subject i peer names) → most < length (names_from server subject 0 peers all)
 too_many_at server subject peers i peer names first all most below read is begun more =
     let here = ap (λ p. length (names_with server subject i p names)) read in
     let rest = not_fewer_from server subject (suc i) (drop (i + 1) peers) (names_with server subject i (get_or peers i peer) names) in
@@ -50,27 +50,27 @@ too_many_at server subject peers i peer names first all most below read is begun
 
 -- ---- where nobody wants a name, there is none
 
-none_with : (server : Server) (subject : List ℕ) (q : ℕ) (peer : Peer) (names : List (List ℕ)) → (is_eligible server q peer && has_queue_match subject peer.heard.keys) ≡ false → names_with server subject q peer names ≡ names
+none_with : (server : ServerIdentity) (subject : List ℕ) (q : ℕ) (peer : Peer) (names : List (List ℕ)) → (is_eligible server q peer && has_queue_match subject peer.heard.keys) ≡ false → names_with server subject q peer names ≡ names
 none_with server subject q peer names = go (is_eligible server q peer)
   where
     go : (b : Bool) → (b && has_queue_match subject peer.heard.keys) ≡ false → cond b (names_in subject peer.heard.keys names) names ≡ names
     go true none = none_queued subject peer.heard.keys names none
     go false none = refl
 
-none_from : (server : Server) (subject : List ℕ) (q : ℕ) (peers : List Peer) (names : List (List ℕ)) → wants_name_from server subject q peers ≡ false → names_from server subject q peers names ≡ names
+none_from : (server : ServerIdentity) (subject : List ℕ) (q : ℕ) (peers : List Peer) (names : List (List ℕ)) → wants_name_from server subject q peers ≡ false → names_from server subject q peers names ≡ names
 none_from server subject q [] names none = refl
 none_from server subject q (peer ∷ peers) names none =
     let parts = or_false (is_eligible server q peer && has_queue_match subject peer.heard.keys) (wants_name_from server subject (suc q) peers) none in
     ap (names_from server subject (suc q) peers) (none_with server subject q peer names parts.0) ∙ none_from server subject (suc q) peers names parts.1
 
-pub none_wanted : (server : Server) (hub : State) (subject : List ℕ) → (has_queue_match subject hub.counts || wants_name_from server subject 0 hub.peers) ≡ false → queue_names server hub subject ≡ []
+pub none_wanted : (server : ServerIdentity) (hub : State) (subject : List ℕ) → (has_queue_match subject hub.counts || wants_name_from server subject 0 hub.peers) ≡ false → queue_names server hub subject ≡ []
 none_wanted server hub subject none =
     let parts = or_false (has_queue_match subject hub.counts) (wants_name_from server subject 0 hub.peers) none in
     ap (names_from server subject 0 hub.peers) (none_queued subject hub.counts [] parts.0) ∙ none_from server subject 0 hub.peers [] parts.1
 
 -- ---- the weights, peer by peer
 
-pub weights_step : (server : Server) (counts : Counts) (subject name : List ℕ) (peers : List Peer) (i : ℕ) (peer : Peer) (server_name : List ℕ) (weight : ℕ) → i < length peers → length peers ≡ length server.names → peer ≡ get_or peers i peer → server_name ≡ get_or server.names i server_name → weight ≡ weight_at server counts subject name i peer
+pub weights_step : (server : ServerIdentity) (counts : Counts) (subject name : List ℕ) (peers : List Peer) (i : ℕ) (peer : Peer) (server_name : List ℕ) (weight : ℕ) → i < length peers → length peers ≡ length server.names → peer ≡ get_or peers i peer → server_name ≡ get_or server.names i server_name → weight ≡ weight_at server counts subject name i peer
     → weights_from server counts subject name i (drop i peers) ≡ (server_name, weight) ∷ weights_from server counts subject name (i + 1) (drop (i + 1) peers)
 weights_step server counts subject name peers i peer server_name weight below placed read named is =
     at_drop_more (weights_from server counts subject name i) peers i peer below

@@ -10,7 +10,7 @@ use Rattle.list_laws.proofs.Changes.{in_filter, pairs_filter}
 use Rattle.list_laws.proofs.Tests.{same_bytes}
 use Rattle.subj.specs.Matching.{subject_matches}
 use Rattle.subj.specs.QueueNames.{is_before, is_named}
-use Rattle.subj.specs.Servers.{Server}
+use Rattle.subj.specs.Servers.{ServerIdentity}
 use Rattle.interest.specs.Matches.{has_name, place_name, add_name, add_queue, names_in}
 use Rattle.route_values.specs.Snapshots.{Weighted}
 use Rattle.hub_core.specs.State.{State, Peer}
@@ -59,7 +59,7 @@ keys_distinct : (subject : List ℕ) (keys : List Weighted) (xs : List (List ℕ
 keys_distinct subject [] xs d = d
 keys_distinct subject (entry ∷ keys) xs d = keys_distinct subject keys (add_queue (subject_matches entry.0.pattern subject) entry.0.queue xs) (queue_distinct (subject_matches entry.0.pattern subject) entry.0.queue xs d)
 
-peers_distinct : (server : Server) (subject : List ℕ) (q : ℕ) (peers : List Peer) (xs : List (List ℕ)) → Distinct xs → Distinct (names_from server subject q peers xs)
+peers_distinct : (server : ServerIdentity) (subject : List ℕ) (q : ℕ) (peers : List Peer) (xs : List (List ℕ)) → Distinct xs → Distinct (names_from server subject q peers xs)
 peers_distinct server subject q [] xs d = d
 peers_distinct server subject q (peer ∷ peers) xs d = peers_distinct server subject (suc q) peers (cond (is_eligible server q peer) (names_in subject peer.heard.keys xs) xs) (go (is_eligible server q peer))
   where
@@ -67,7 +67,7 @@ peers_distinct server subject q (peer ∷ peers) xs d = peers_distinct server su
     go true = keys_distinct subject peer.heard.keys xs d
     go false = d
 
-pub names_distinct : (server : Server) (hub : State) (subject : List ℕ) → Distinct (queue_names server hub subject)
+pub names_distinct : (server : ServerIdentity) (hub : State) (subject : List ℕ) → Distinct (queue_names server hub subject)
 names_distinct server hub subject = peers_distinct server subject 0 hub.peers (names_in subject hub.counts []) (keys_distinct subject hub.counts [] tt)
 
 no_repeat : (xs : List (List ℕ)) → Distinct xs → NoRepeat xs

@@ -14,7 +14,7 @@ use Rattle.list_laws.proofs.Tests.{same_bytes, and_true, or_false}
 use Rattle.subj.specs.declared.keys.Key.{Key}
 use Rattle.subj.specs.Matching.{subject_matches}
 use Rattle.subj.specs.QueueNames.{is_before, is_before_first, are_rising}
-use Rattle.subj.specs.Servers.{Server}
+use Rattle.subj.specs.Servers.{ServerIdentity}
 use Rattle.interest.specs.Matches.{has_name, place_name, add_name, add_queue, names_in}
 use Rattle.hub_core.specs.State.{Peer}
 use Rattle.hub_core.specs.Choice.{is_eligible, names_from}
@@ -77,7 +77,7 @@ keys_rise : (subject : List ℕ) (keys : List (Key × ℕ)) (xs : List (List ℕ
 keys_rise subject [] xs r = r
 keys_rise subject (entry ∷ keys) xs r = keys_rise subject keys (add_queue (subject_matches entry.0.pattern subject) entry.0.queue xs) (queue_rises (subject_matches entry.0.pattern subject) entry.0.queue xs r)
 
-peers_rise : (server : Server) (subject : List ℕ) (q : ℕ) (peers : List Peer) (xs : List (List ℕ)) → Rises xs → Rises (names_from server subject q peers xs)
+peers_rise : (server : ServerIdentity) (subject : List ℕ) (q : ℕ) (peers : List Peer) (xs : List (List ℕ)) → Rises xs → Rises (names_from server subject q peers xs)
 peers_rise server subject q [] xs r = r
 peers_rise server subject q (peer ∷ peers) xs r = peers_rise server subject (suc q) peers (cond (is_eligible server q peer) (names_in subject peer.heard.keys xs) xs) (go (is_eligible server q peer))
   where
@@ -148,7 +148,7 @@ to_keys subject z (entry ∷ keys) xs x =
     (λ (i : In z xs). later (inr ((queued z matches entry.0.queue xs).1 (inr i)))) x
 
 -- an eligible peer from the one at place q on
-record PeerFrom (server : Server) (subject z : List ℕ) (q : ℕ) (peers : List Peer) : Type 0 where
+record PeerFrom (server : ServerIdentity) (subject z : List ℕ) (q : ℕ) (peers : List Peer) : Type 0 where
   n : ℕ
   place : ℕ
   place_is : place ≡ q + n
@@ -157,7 +157,7 @@ record PeerFrom (server : Server) (subject z : List ℕ) (q : ℕ) (peers : List
   eligible : is_eligible server place peer ≡ true
   wants : SomeWants subject z peer.heard.keys
 
-from_peers : (server : Server) (subject z : List ℕ) (q : ℕ) (peers : List Peer) (xs : List (List ℕ)) → In z (names_from server subject q peers xs) → PeerFrom server subject z q peers ⊎ In z xs
+from_peers : (server : ServerIdentity) (subject z : List ℕ) (q : ℕ) (peers : List Peer) (xs : List (List ℕ)) → In z (names_from server subject q peers xs) → PeerFrom server subject z q peers ⊎ In z xs
 from_peers server subject z q [] xs i = inr i
 from_peers server subject z q (peer ∷ peers) xs i =
     ⊎_elim (λ (p : PeerFrom server subject z (suc q) peers). let is = p.place_is in inl (record { n = suc p.n; place = p.place; place_is = omega arith; peer = p.peer; at = p.at; eligible = p.eligible; wants = p.wants }))
@@ -168,7 +168,7 @@ from_peers server subject z q (peer ∷ peers) xs i =
     go true e j = ⊎_elim (λ (s : SomeWants subject z peer.heard.keys). inl (record { n = 0; place = q; place_is = omega arith; peer = peer; at = refl; eligible = e; wants = s })) (λ (k : In z xs). inr k) (from_keys subject z peer.heard.keys xs j)
     go false e j = inr j
 
-stays : (server : Server) (subject z : List ℕ) (q : ℕ) (peers : List Peer) (xs : List (List ℕ)) → In z xs → In z (names_from server subject q peers xs)
+stays : (server : ServerIdentity) (subject z : List ℕ) (q : ℕ) (peers : List Peer) (xs : List (List ℕ)) → In z xs → In z (names_from server subject q peers xs)
 stays server subject z q [] xs i = i
 stays server subject z q (peer ∷ peers) xs i = stays server subject z (suc q) peers (cond (is_eligible server q peer) (names_in subject peer.heard.keys xs) xs) (go (is_eligible server q peer))
   where
@@ -176,7 +176,7 @@ stays server subject z q (peer ∷ peers) xs i = stays server subject z (suc q) 
     go true = to_keys subject z peer.heard.keys xs (inr i)
     go false = i
 
-to_peers : (server : Server) (subject z : List ℕ) (q n place : ℕ) (peer : Peer) (peers : List Peer) (xs : List (List ℕ)) → place ≡ q + n → slice_get peers n ≡ Some peer → is_eligible server place peer ≡ true → SomeWants subject z peer.heard.keys → In z (names_from server subject q peers xs)
+to_peers : (server : ServerIdentity) (subject z : List ℕ) (q n place : ℕ) (peer : Peer) (peers : List Peer) (xs : List (List ℕ)) → place ≡ q + n → slice_get peers n ≡ Some peer → is_eligible server place peer ≡ true → SomeWants subject z peer.heard.keys → In z (names_from server subject q peers xs)
 to_peers server subject z q n place peer [] xs is at eligible wants = absurd (none-some peer at)
 to_peers server subject z q zero place peer (first ∷ peers) xs is at eligible wants =
     let here : place ≡ q = omega arith in

@@ -6,7 +6,7 @@ use Rattle.list_laws.proofs.Tests.{lt_true, lt_false}
 use Rattle.cluster_law.specs.Config.{every_rule}
 use Rattle.cluster_law.specs.Hub.{Known}
 use Rattle.route_values.specs.Frames.{Frame}
-use Rattle.subj.specs.Servers.{Server}
+use Rattle.subj.specs.Servers.{ServerIdentity}
 use Rattle.interest.specs.Heard.{nothing_heard}
 use Rattle.hub_core.specs.State.{Peer, peer_in_life, changed_in, changed_at}
 use Rattle.hub_core.specs.Publishing.{with_frames}
@@ -51,10 +51,10 @@ peer_unseen q f same peers = go (slice_get peers q) refl
     go (Some peer) at = map_set_same peer_of peers q peer (f peer) at (same peer)
 
 -- outboxes are not seen
-pub frames_unseen : (server : Server) (frames : List Frame) (q : ℕ) (peers : List Peer) → map peer_of (with_frames server frames q peers) ≡ map peer_of peers
+pub frames_unseen : (server : ServerIdentity) (frames : List Frame) (q : ℕ) (peers : List Peer) → map peer_of (with_frames server frames q peers) ≡ map peer_of peers
 frames_unseen server frames q [] = refl
 frames_unseen server frames q (peer ∷ peers) = ap (λ t. peer_of peer ∷ t) (frames_unseen server frames (suc q) peers)
 
-pub frames_length : (server : Server) (frames : List Frame) (q : ℕ) (peers : List Peer) → length (with_frames server frames q peers) ≡ length peers
+pub frames_length : (server : ServerIdentity) (frames : List Frame) (q : ℕ) (peers : List Peer) → length (with_frames server frames q peers) ≡ length peers
 frames_length server frames q [] = refl
 frames_length server frames q (peer ∷ peers) = let z = frames_length server frames (suc q) peers in omega arith

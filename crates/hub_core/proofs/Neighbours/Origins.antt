@@ -11,7 +11,7 @@ use Rattle.subj.specs.Answers.{IsAnswered}
 use Rattle.subj.specs.declared.failures.Failure.{Failure}
 use Rattle.subj.specs.declared.failures.Failure.TheVariants.{Refused, OutOfMemory}
 use Rattle.subj.specs.Numbers.{next_turn}
-use Rattle.subj.specs.Servers.{Server, place, is_peer}
+use Rattle.subj.specs.Servers.{ServerIdentity, place, is_peer}
 use Rattle.route_values.specs.declared.bodies.Body.{Body}
 use Rattle.route_values.specs.declared.bodies.Body.TheVariants.{Plus, Minus, Snapshot, Msg}
 use Rattle.route_values.specs.Frames.{Frame}
@@ -38,22 +38,22 @@ above : (a b : ℕ) → b < a → nat_le a b ≡ false
 above a b lt = grind (arith, nat_tests)
 
 -- what is said, apart from the frame that says it
-news_are : (server : Server) (hub : State) (base : Peer) (number : ℕ) (finished : List ℕ) (body : Body) → has_message body ≡ false → body_fault server hub base number finished body ≡ interest_fault base.heard number body
+news_are : (server : ServerIdentity) (hub : State) (base : Peer) (number : ℕ) (finished : List ℕ) (body : Body) → has_message body ≡ false → body_fault server hub base number finished body ≡ interest_fault base.heard number body
 news_are server hub base number finished (Plus weighted) e = refl
 news_are server hub base number finished (Minus key) e = refl
 news_are server hub base number finished (Snapshot keys) e = refl
 news_are server hub base number finished (Msg content queues) e = cc
 
-message_is : (server : Server) (hub : State) (base : Peer) (number : ℕ) (finished : List ℕ) (body : Body) → has_message body ≡ true → body_fault server hub base number finished body ≡ message_fault server hub base number finished
+message_is : (server : ServerIdentity) (hub : State) (base : Peer) (number : ℕ) (finished : List ℕ) (body : Body) → has_message body ≡ true → body_fault server hub base number finished body ≡ message_fault server hub base number finished
 message_is server hub base number finished (Plus weighted) e = cc
 message_is server hub base number finished (Minus key) e = cc
 message_is server hub base number finished (Snapshot keys) e = cc
 message_is server hub base number finished (Msg content queues) e = refl
 
-abbrev turn_refusal : Server → State → List ℕ → Option HubFault
+abbrev turn_refusal : ServerIdentity → State → List ℕ → Option HubFault
 turn_refusal server hub finished = option_or (busy_fault server hub finished) (if nat_le MAX_COUNTER hub.issued then Some Spent else None)
 
-module _ (server : Server) (hub : State) (finished : List ℕ) (frame : Frame) (q : ℕ) (x : Peer) (within : q < length hub.peers) (at : x ≡ get_or hub.peers q x) (fresh : x.seen ≤ frame.inc) where
+module _ (server : ServerIdentity) (hub : State) (finished : List ℕ) (frame : Frame) (q : ℕ) (x : Peer) (within : q < length hub.peers) (at : x ≡ get_or hub.peers q x) (fresh : x.seen ≤ frame.inc) where
   by_body : origin_fault server hub finished frame (slice_get hub.peers q) ≡ body_fault server hub (peer_in_life x frame.inc) frame.number finished frame.body
   by_body = ap (origin_fault server hub finished frame) (slice_get-get_or hub.peers q x within ∙ ap (λ (p : Peer). let o : Option Peer = Some p in o) (sym at))
       ∙ ap (λ (b : Bool). if b then Some StaleOrigin else body_fault server hub (peer_in_life x frame.inc) frame.number finished frame.body) (not_below frame.inc x.seen fresh)

@@ -9,7 +9,7 @@ use Rattle.std.proofs.lemmas.Slice.Eq.{bytes_eq-Decides}
 use Rattle.list_laws.proofs.Changes.{append_assoc, append_nil}
 use Rattle.list_laws.proofs.Lists.{read_set}
 use Rattle.subj.specs.declared.limits.TheConstants.{ROUTE_FRAMES}
-use Rattle.subj.specs.Servers.{Server, IsListed, name_of, place}
+use Rattle.subj.specs.Servers.{ServerIdentity, IsListed, name_of, place}
 use Rattle.route_values.specs.Frames.{Frame}
 use Rattle.hub_core.specs.State.{Peer, changed_in, changed_at}
 use Rattle.hub_core.specs.Publishing.{is_to, with_frames}
@@ -17,20 +17,20 @@ use Rattle.hub_core.specs.Calls.{with_frame, HasRoomFor}
 use Rattle.hub_core.proofs.Choices.Places.{named, name_there, differs}
 
 -- the frame is to the server at the place of its name, and to no other
-pub to_here : (server : Server) (frame : Frame) → place server frame.to < length server.names → is_to server (place server frame.to) frame ≡ true
+pub to_here : (server : ServerIdentity) (frame : Frame) → place server frame.to < length server.names → is_to server (place server frame.to) frame ≡ true
 to_here server frame listed = (bytes_eq-Decides frame.to (name_of server (place server frame.to))).1 (sym (name_there server.names frame.to listed))
 
-pub to_none : (server : Server) (frame : Frame) (k : ℕ) → IsListed server → k < length server.names → k ≢ place server frame.to → is_to server k frame ≡ false
+pub to_none : (server : ServerIdentity) (frame : Frame) (k : ℕ) → IsListed server → k < length server.names → k ≢ place server frame.to → is_to server k frame ≡ false
 to_none server frame k is below apart = differs frame.to (name_of server k) (λ e. apart (sym (named server is k below) ∙ ap (place server) (sym e)))
 
 -- no peer from place k on gets the frame
-elsewhere : (server : Server) (frame : Frame) (frames : List Frame) (k : ℕ) (peers : List Peer) → ((j : ℕ) → k ≤ j → j < k + length peers → is_to server j frame ≡ false) → with_frames server frames k peers ≡ with_frames server (frame ∷ frames) k peers
+elsewhere : (server : ServerIdentity) (frame : Frame) (frames : List Frame) (k : ℕ) (peers : List Peer) → ((j : ℕ) → k ≤ j → j < k + length peers → is_to server j frame ≡ false) → with_frames server frames k peers ≡ with_frames server (frame ∷ frames) k peers
 elsewhere server frame frames k [] none = refl
 elsewhere server frame frames k (peer ∷ peers) none =
     (λ i. record peer { outbox = peer.outbox ++ cond (sym (none k (omega arith) (omega arith)) i) (frame ∷ filter (is_to server k) frames) (filter (is_to server k) frames) } ∷ elsewhere server frame frames (suc k) peers (λ j least most. none j (omega arith) (omega arith)) i)
 
 -- the peer n behind place k gets it
-one_more : (server : Server) (frame : Frame) (frames : List Frame) (k n q : ℕ) (peers : List Peer) (x : Peer) → q ≡ k + n → is_to server q frame ≡ true → ((j : ℕ) → j < k + length peers → j ≢ q → is_to server j frame ≡ false) → slice_get peers n ≡ Some x → with_frames server frames k (set peers n (with_frame frame x)) ≡ with_frames server (frame ∷ frames) k peers
+one_more : (server : ServerIdentity) (frame : Frame) (frames : List Frame) (k n q : ℕ) (peers : List Peer) (x : Peer) → q ≡ k + n → is_to server q frame ≡ true → ((j : ℕ) → j < k + length peers → j ≢ q → is_to server j frame ≡ false) → slice_get peers n ≡ Some x → with_frames server frames k (set peers n (with_frame frame x)) ≡ with_frames server (frame ∷ frames) k peers
 one_more server frame frames k n q [] x place_is here others at = absurd (none-some x at)
 one_more server frame frames k zero q (peer ∷ peers) x place_is here others at =
     let same : k ≡ q = omega arith in
@@ -52,7 +52,7 @@ one_more server frame frames k (suc n) q (peer ∷ peers) x place_is here others
 below : (a b : ℕ) → a < b → nat_lt a b ≡ true
 below a b lt = grind (arith, nat_tests)
 
-pub found_place : (server : Server) (name : List ℕ) → place server name < length server.names → position (λ other. bytes_eq other name) server.names ≡ Some (place server name)
+pub found_place : (server : ServerIdentity) (name : List ℕ) → place server name < length server.names → position (λ other. bytes_eq other name) server.names ≡ Some (place server name)
 found_place server name lt = ap (λ (b : Bool). let o : Option ℕ = cond b (Some (place server name)) None in o) (below (place server name) (length server.names) lt)
 
 -- ---- one frame after the other
@@ -63,7 +63,7 @@ there [] q lt = absurd (omega arith)
 there (x ∷ xs) zero lt = (x, refl)
 there (x ∷ xs) (suc q) lt = there xs q (omega arith)
 
-module _ (server : Server) (frame : Frame) (frames : List Frame) (peers : List Peer) (room : HasRoomFor server (frame ∷ frames) peers) where
+module _ (server : ServerIdentity) (frame : Frame) (frames : List Frame) (peers : List Peer) (room : HasRoomFor server (frame ∷ frames) peers) where
   pub is_listed : place server frame.to < length server.names
   is_listed = All-head (λ (frame : Frame). place server frame.to < length server.names) frame frames room.listed
 
@@ -111,7 +111,7 @@ module _ (server : Server) (frame : Frame) (frames : List Frame) (peers : List P
 
 -- ---- no frame
 
-pub nothing_put : (server : Server) (k : ℕ) (peers : List Peer) → with_frames server [] k peers ≡ peers
+pub nothing_put : (server : ServerIdentity) (k : ℕ) (peers : List Peer) → with_frames server [] k peers ≡ peers
 nothing_put server k [] = refl
 nothing_put server k (peer ∷ peers) = (λ i. record peer { outbox = append_nil peer.outbox i } ∷ nothing_put server (suc k) peers i)
 

@@ -9,7 +9,7 @@ use Rattle.subj.specs.declared.limits.TheConstants.{MAX_QUEUE_NAMES, ROUTE_FRAME
 use Rattle.subj.specs.Messages.{Content}
 use Rattle.subj.proofs.Rising.{before_trans}
 use Rattle.subj.specs.QueueNames.{is_before, is_before_first, are_rising, is_named, are_queue_names}
-use Rattle.subj.specs.Servers.{Server, name_of}
+use Rattle.subj.specs.Servers.{ServerIdentity, name_of}
 use Rattle.route_values.specs.Frames.{Frame}
 use Rattle.std.specs.Option.{option_or}
 use Rattle.hub_core.specs.declared.faults.HubFault.{HubFault}
@@ -23,15 +23,15 @@ use Rattle.hub_core.proofs.Choices.Names.{fewer}
 
 -- ---- who is eligible is up, and has room
 
-pub eligible_up : (server : Server) (q : ℕ) (peer : Peer) → is_eligible server q peer ≡ true → peer.up ≡ true
+pub eligible_up : (server : ServerIdentity) (q : ℕ) (peer : Peer) → is_eligible server q peer ≡ true → peer.up ≡ true
 eligible_up server q peer is = (and_true peer.up (nat_lt (length peer.outbox) ROUTE_FRAMES) (and_true (not (nat_eq q server.me)) (peer.up && nat_lt (length peer.outbox) ROUTE_FRAMES) is).1).0
 
-pub eligible_room : (server : Server) (q : ℕ) (peer : Peer) → is_eligible server q peer ≡ true → length peer.outbox < ROUTE_FRAMES
+pub eligible_room : (server : ServerIdentity) (q : ℕ) (peer : Peer) → is_eligible server q peer ≡ true → length peer.outbox < ROUTE_FRAMES
 eligible_room server q peer is = lt_true (length peer.outbox) ROUTE_FRAMES (and_true peer.up (nat_lt (length peer.outbox) ROUTE_FRAMES) (and_true (not (nat_eq q server.me)) (peer.up && nat_lt (length peer.outbox) ROUTE_FRAMES) is).1).1
 
 -- ---- peer by peer
 
-pub frames_step : (server : Server) (number : ℕ) (content : Content) (queues_of : List ℕ → List (List ℕ)) (peers : List Peer) (i : ℕ) (peer : Peer) (frames before all : List Frame) → i < length peers → peer ≡ get_or peers i peer → frames ≡ frame_at server number content (queues_of (name_of server i)) i peer
+pub frames_step : (server : ServerIdentity) (number : ℕ) (content : Content) (queues_of : List ℕ → List (List ℕ)) (peers : List Peer) (i : ℕ) (peer : Peer) (frames before all : List Frame) → i < length peers → peer ≡ get_or peers i peer → frames ≡ frame_at server number content (queues_of (name_of server i)) i peer
     → before ++ sent_from server number content queues_of i (drop i peers) ≡ all → (before ++ frames) ++ sent_from server number content queues_of (i + 1) (drop (i + 1) peers) ≡ all
 frames_step server number content queues_of peers i peer frames before all below read are is =
     append_assoc before frames (sent_from server number content queues_of (i + 1) (drop (i + 1) peers))
@@ -41,12 +41,12 @@ frames_step server number content queues_of peers i peer frames before all below
     )
     ∙ is
 
-pub listed_name : (server : Server) (names : List (List ℕ)) (q : ℕ) (name : List ℕ) → names ≡ server.names → q < length server.names → name ≡ get_or names q name → name ≡ name_of server q
+pub listed_name : (server : ServerIdentity) (names : List (List ℕ)) (q : ℕ) (name : List ℕ) → names ≡ server.names → q < length server.names → name ≡ get_or names q name → name ≡ name_of server q
 listed_name server names q name are below read =
     read ∙ ap (λ (names : List (List ℕ)). get_or names q name) are ∙ sym (ap (λ o. unwrap_or o []) (slice_get-get_or server.names q name below))
 
 -- what an eligible peer gets, of names that its name has
-module _ (server : Server) (number : ℕ) (content : Content) (names : List (List ℕ)) (servers : List (Option (List ℕ))) (q : ℕ) (peer : Peer) (name : List ℕ) (queues : List (List ℕ)) (called : name ≡ name_of server q) (queues_are : queues ≡ chosen_for name names servers) (is : is_eligible server q peer ≡ true) where
+module _ (server : ServerIdentity) (number : ℕ) (content : Content) (names : List (List ℕ)) (servers : List (Option (List ℕ))) (q : ℕ) (peer : Peer) (name : List ℕ) (queues : List (List ℕ)) (called : name ≡ name_of server q) (queues_are : queues ≡ chosen_for name names servers) (is : is_eligible server q peer ≡ true) where
   same : queues ≡ chosen_for (name_of server q) names servers
   same = queues_are ∙ ap (λ name. chosen_for name names servers) called
 
@@ -57,7 +57,7 @@ module _ (server : Server) (number : ℕ) (content : Content) (names : List (Lis
   one_owed due = ap (λ queues. frame_at server number content queues q peer) (sym same) ∙ (λ k. if is k && due k then message_frame server number content queues q peer ∷ [] else [])
 
 -- the frames of a publication are these
-pub sent_is : (server : Server) (number : ℕ) (content : Content) (choice : List ℕ → Option (List ℕ)) (names : List (List ℕ)) (q : ℕ) (peers : List Peer) → sent_from server number content (λ name. names_for choice name names) q peers ≡ frames_from server number content choice names q peers
+pub sent_is : (server : ServerIdentity) (number : ℕ) (content : Content) (choice : List ℕ → Option (List ℕ)) (names : List (List ℕ)) (q : ℕ) (peers : List Peer) → sent_from server number content (λ name. names_for choice name names) q peers ≡ frames_from server number content choice names q peers
 sent_is server number content choice names q [] = refl
 sent_is server number content choice names q (peer ∷ peers) =
     ap (λ l. frame_at server number content (names_for choice (name_of server q) names) q peer ++ l) (sent_is server number content choice names (suc q) peers)
@@ -115,7 +115,7 @@ split_is choice names servers room is rise few = record {
 }
 
 -- each name has its server
-pub served_all : (server : Server) (hub : State) (p : Publication) (names : List (List ℕ)) (servers : List (Option (List ℕ))) → length names ≤ MAX_QUEUE_NAMES → servers ≡ map (choice_of server hub p) names → IsServed server hub p names servers
+pub served_all : (server : ServerIdentity) (hub : State) (p : Publication) (names : List (List ℕ)) (servers : List (Option (List ℕ))) → length names ≤ MAX_QUEUE_NAMES → servers ≡ map (choice_of server hub p) names → IsServed server hub p names servers
 served_all server hub p names servers few are =
     let same : length servers ≡ length names = ap length are ∙ length-map names (choice_of server hub p) in record {
       few = few;

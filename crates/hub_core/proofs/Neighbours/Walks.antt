@@ -4,13 +4,13 @@ use Rattle.std.specs.Prelude.{filter, slice_get, All}
 use Rattle.std.proofs.lemmas.List.Elements.{All-nil, All-cons}
 use Rattle.std.proofs.lemmas.Option.{none-some, same_Some, slice_get_within}
 use Rattle.list_laws.proofs.Changes.{filter_append}
-use Rattle.subj.specs.Servers.{Server, IsListed, name_of, place}
+use Rattle.subj.specs.Servers.{ServerIdentity, IsListed, name_of, place}
 use Rattle.route_values.specs.Frames.{Frame}
 use Rattle.hub_core.specs.State.{Peer}
 use Rattle.hub_core.specs.Publishing.{is_to, with_frames}
 use Rattle.hub_core.proofs.Choices.Places.{named, differs}
 
-module _ (server : Server) (is : IsListed server) (sent : ℕ → Peer → Bool) (frame : ℕ → Peer → Frame) (to : (q : ℕ) (peer : Peer) → (frame q peer).to ≡ name_of server q) where
+module _ (server : ServerIdentity) (is : IsListed server) (sent : ℕ → Peer → Bool) (frame : ℕ → Peer → Frame) (to : (q : ℕ) (peer : Peer) → (frame q peer).to ≡ name_of server q) where
   abbrev pub walk : ℕ → List Peer → List Frame
   walk q [] = []
   walk q (peer ∷ peers) = cond (sent q peer) (frame q peer ∷ []) [] ++ walk (suc q) peers
@@ -82,12 +82,12 @@ module _ (server : Server) (is : IsListed server) (sent : ℕ → Peer → Bool)
 
 -- ---- what waits after
 
-pub record Waits (server : Server) (frames : List Frame) (k n : ℕ) (peers : List Peer) (new : Peer) : Type 0 where
+pub record Waits (server : ServerIdentity) (frames : List Frame) (k n : ℕ) (peers : List Peer) (new : Peer) : Type 0 where
   pub peer : Peer
   pub at : slice_get peers n ≡ Some peer
   pub is : new ≡ record peer { outbox = peer.outbox ++ filter (is_to server k) frames }
 
-pub waits : (server : Server) (frames : List Frame) (k q n : ℕ) (peers : List Peer) (new : Peer) → k ≡ q + n → slice_get (with_frames server frames q peers) n ≡ Some new → Waits server frames k n peers new
+pub waits : (server : ServerIdentity) (frames : List Frame) (k q n : ℕ) (peers : List Peer) (new : Peer) → k ≡ q + n → slice_get (with_frames server frames q peers) n ≡ Some new → Waits server frames k n peers new
 waits server frames k q n [] new place_is at = absurd (none-some new at)
 waits server frames k q zero (peer ∷ peers) new place_is at = record {
   peer = peer;

@@ -9,7 +9,7 @@ use Rattle.cluster_law.specs.Hub as law
 use Rattle.cluster_law.specs.Hub.{IsTold}
 use Rattle.cluster_law.specs.Interest.{view_after as law_after}
 use Rattle.subj.specs.declared.limits.TheConstants.{MAX_COUNTER}
-use Rattle.subj.specs.Servers.{Server, IsListed, name_of, own_name}
+use Rattle.subj.specs.Servers.{ServerIdentity, IsListed, name_of, own_name}
 use Rattle.interest.specs.declared.changes.Change.{Change}
 use Rattle.interest.specs.declared.changes.Change.TheVariants.{Up, Gone}
 use Rattle.subj.specs.declared.keys.Delta.{Delta}
@@ -52,7 +52,7 @@ slow_unseen count (peer ∷ peers) = ap (λ t. peer_of peer ∷ t) (slow_unseen 
 
 -- ---- the frames
 
-module _ (server : Server) (is : IsListed server) (old : law.Hub) (new : law.Hub) (all : List Change) (count : ℕ) where
+module _ (server : ServerIdentity) (is : IsListed server) (old : law.Hub) (new : law.Hub) (all : List Change) (count : ℕ) where
   abbrev Told : Frame → Type 0
   Told frame = IsTold server.me server.inc old (map change_of all) new (frame_of server frame)
 

@@ -29,8 +29,8 @@ next_turn_is false x y e = same_Some x y e
 module _ (old : Hub) (frames : List Frame) (kept : IsKept old) (plan : IsPlanned old.server old.state frames) where
   pub frames_have_room : HasRoomFor old.server frames old.state.peers
   frames_have_room = subst (λ (frames : List Frame). HasRoomFor old.server frames old.state.peers) (sym plan.frames_are) (record {
-    listed = frames_listed old.server kept.listed (old.state.published + 1) plan.publication.said.message (choice_of old.server old.state plan.publication) (names_of old.server old.state plan.publication) old.state.peers kept.sound.placed;
-    room = frames_fit old.server kept.listed (old.state.published + 1) plan.publication.said.message (choice_of old.server old.state plan.publication) (names_of old.server old.state plan.publication) old.state.peers kept.sound.placed kept.sound.peers;
+    listed = frames_listed old.server kept.listed (old.state.published + 1) plan.publication.publication.message (choice_of old.server old.state plan.publication) (names_of old.server old.state plan.publication) old.state.peers kept.sound.placed;
+    room = frames_fit old.server kept.listed (old.state.published + 1) plan.publication.publication.message (choice_of old.server old.state plan.publication) (names_of old.server old.state plan.publication) old.state.peers kept.sound.placed kept.sound.peers;
   })
 
   counters : (old.state.published < MAX_COUNTER) × (old.state.issued < MAX_COUNTER)

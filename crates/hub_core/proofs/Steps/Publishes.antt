@@ -12,7 +12,7 @@ use Rattle.cluster_law.specs.Names as names
 use Rattle.subj.specs.declared.limits.TheConstants.{MAX_COUNTER, MAX_QUEUE_NAMES}
 use Rattle.subj.specs.Messages.{Content}
 use Rattle.subj.specs.QueueNames.{is_named}
-use Rattle.subj.specs.Servers.{Server, IsListed, name_of, own_name, place}
+use Rattle.subj.specs.Servers.{ServerIdentity, IsListed, name_of, own_name, place}
 use Rattle.route_values.specs.declared.bodies.Body.TheVariants.{Msg}
 use Rattle.route_values.specs.Frames.{Frame}
 use Rattle.hub_core.specs.declared.faults.HubFault.TheVariants.{Spent, TooManyQueues}
@@ -28,7 +28,7 @@ use Rattle.hub_core.proofs.Steps.Rooms.{or_none, has_room}
 
 -- ---- the frames, by places
 
-module _ (server : Server) (id : names.PubId) (content : Content) (choice : List ℕ → Option (List ℕ)) (all : List (List ℕ)) where
+module _ (server : ServerIdentity) (id : names.PubId) (content : Content) (choice : List ℕ → Option (List ℕ)) (all : List (List ℕ)) where
   abbrev law_frame : ℕ → Peer → messages.Routed
   law_frame q peer = record { id = id; to = q; to_inc = peer.seen; content = content_of content; names = names_for choice (name_of server q) all }
 
@@ -85,7 +85,7 @@ module _ (server : Server) (id : names.PubId) (content : Content) (choice : List
       one true p each = ((λ g i. let f = each g i in let t = f.to in omega arith), p)
 
 -- the frames by names are these
-seen_from : (server : Server) → IsListed server → (number : ℕ) (content : Content) (choice : List ℕ → Option (List ℕ)) (all : List (List ℕ)) (q : ℕ) (peers : List Peer) → q + length peers ≤ length server.names
+seen_from : (server : ServerIdentity) → IsListed server → (number : ℕ) (content : Content) (choice : List ℕ → Option (List ℕ)) (all : List (List ℕ)) (q : ℕ) (peers : List Peer) → q + length peers ≤ length server.names
     → map (frame_of server) (frames_from server number content choice all q peers) ≡ map messages.Message (law_from server (record { origin = server.me; inc = server.inc; number = number }) content choice all q peers)
 seen_from server is number content choice all q [] fits = refl
 seen_from server is number content choice all q (peer ∷ peers) fits =
@@ -111,15 +111,15 @@ seen_from server is number content choice all q (peer ∷ peers) fits =
 pub publishes_in_law : PublishesInLaw
 publishes_in_law c server hub p finished now is size cause = record {
   frames = frames;
-  frames_are = seen_from server is (hub.published + 1) p.said.message choice all 0 hub.peers (omega arith)
-      ∙ ap (λ k. map messages.Message (law_from server (record { origin = server.me; inc = server.inc; number = k }) p.said.message choice all 0 hub.peers)) next;
+  frames_are = seen_from server is (hub.published + 1) p.publication.message choice all 0 hub.peers (omega arith)
+      ∙ ap (λ k. map messages.Message (law_from server (record { origin = server.me; inc = server.inc; number = k }) p.publication.message choice all 0 hub.peers)) next;
   id_is = λ i. record { origin = named server is server.me is.listed i; inc = server.inc; number = next i };
   publishes = record {
     once = for_distinct choice (own_name server) all distinct;
     few = (let f = fewer (λ name. is_named (own_name server) (choice name)) all in omega (arith, few_all, f));
     few_in_frame = λ f i. subst (λ t. length t ≤ MAX_QUEUE_NAMES) (sym (each f i).names_are) (let g = fewer (λ name. is_named (name_of server f.to) (choice name)) all in omega (arith, few_all, g));
     frames_of = routed;
-    frames_apart = pairs_weaker (λ f g. f.to < g.to) (λ f g. (f.to ≢ g.to) × Disjoint f.names g.names) frames (λ f g i j lt. ((λ e. omega arith), apart f g i j (λ e. omega arith))) (rise server id p.said.message choice all 0 hub.peers);
+    frames_apart = pairs_weaker (λ f g. f.to < g.to) (λ f g. (f.to ≢ g.to) × Disjoint f.names g.names) frames (λ f g i j lt. ((λ e. omega arith), apart f g i j (λ e. omega arith))) (rise server id p.publication.message choice all 0 hub.peers);
     job_apart = λ f i x k l. (let one = each f i in names_apart choice (name_of server f.to) (own_name server) all (differ f.to server.me (there f i) is.listed one.other) x (subst (In x) one.names_are k) l);
     after = λ i. record (hub_of hub) { published = next i; peers = frames_unseen server (frames_of server hub p) 0 hub.peers i };
   };
@@ -139,7 +139,7 @@ publishes_in_law c server hub p finished now is size cause = record {
   id = law.next_id server.me server.inc (hub_of hub)
 
   frames : List messages.Routed
-  frames = law_from server (law.next_id server.me server.inc (hub_of hub)) p.said.message (choice_of server hub p) (names_of server hub p) 0 hub.peers
+  frames = law_from server (law.next_id server.me server.inc (hub_of hub)) p.publication.message (choice_of server hub p) (names_of server hub p) 0 hub.peers
 
   causes : (busy_fault server hub finished ≡ None) × (publish_fault server hub p ≡ None)
   causes = or_none (busy_fault server hub finished) (publish_fault server hub p) cause
@@ -150,19 +150,19 @@ publishes_in_law c server hub p finished now is size cause = record {
   distinct : Distinct (names_of server hub p)
   distinct = names_distinct server hub (subject_of p)
 
-  each : Each (IsOneOf server (law.next_id server.me server.inc (hub_of hub)) p.said.message (choice_of server hub p) (names_of server hub p) 0 hub.peers) (law_from server (law.next_id server.me server.inc (hub_of hub)) p.said.message (choice_of server hub p) (names_of server hub p) 0 hub.peers)
-  each = each_is server (law.next_id server.me server.inc (hub_of hub)) p.said.message (choice_of server hub p) (names_of server hub p) 0 hub.peers
+  each : Each (IsOneOf server (law.next_id server.me server.inc (hub_of hub)) p.publication.message (choice_of server hub p) (names_of server hub p) 0 hub.peers) (law_from server (law.next_id server.me server.inc (hub_of hub)) p.publication.message (choice_of server hub p) (names_of server hub p) 0 hub.peers)
+  each = each_is server (law.next_id server.me server.inc (hub_of hub)) p.publication.message (choice_of server hub p) (names_of server hub p) 0 hub.peers
 
-  there : (f : messages.Routed) → In f (law_from server (law.next_id server.me server.inc (hub_of hub)) p.said.message (choice_of server hub p) (names_of server hub p) 0 hub.peers) → f.to < length server.names
+  there : (f : messages.Routed) → In f (law_from server (law.next_id server.me server.inc (hub_of hub)) p.publication.message (choice_of server hub p) (names_of server hub p) 0 hub.peers) → f.to < length server.names
   there f i = let one = each f i in let t = one.to in let b = one.below in omega arith
 
   differ : (a b : ℕ) → a < length server.names → b < length server.names → a ≢ b → name_of server a ≢ name_of server b
   differ a b la lb apart same = apart (sym (named server is a la) ∙ ap (place server) same ∙ named server is b lb)
 
-  apart : (f g : messages.Routed) → In f (law_from server (law.next_id server.me server.inc (hub_of hub)) p.said.message (choice_of server hub p) (names_of server hub p) 0 hub.peers) → In g (law_from server (law.next_id server.me server.inc (hub_of hub)) p.said.message (choice_of server hub p) (names_of server hub p) 0 hub.peers) → f.to ≢ g.to → Disjoint f.names g.names
+  apart : (f g : messages.Routed) → In f (law_from server (law.next_id server.me server.inc (hub_of hub)) p.publication.message (choice_of server hub p) (names_of server hub p) 0 hub.peers) → In g (law_from server (law.next_id server.me server.inc (hub_of hub)) p.publication.message (choice_of server hub p) (names_of server hub p) 0 hub.peers) → f.to ≢ g.to → Disjoint f.names g.names
   apart f g i j d x k l = names_apart (choice_of server hub p) (name_of server f.to) (name_of server g.to) (names_of server hub p) (differ f.to g.to (there f i) (there g j) d) x (subst (In x) (each f i).names_are k) (subst (In x) (each g j).names_are l)
 
-  routed : Each (RoutedOf server.me (hub_of hub) (record { id = law.next_id server.me server.inc (hub_of hub); content = content_of p.said.message; step = now })) (law_from server (law.next_id server.me server.inc (hub_of hub)) p.said.message (choice_of server hub p) (names_of server hub p) 0 hub.peers)
+  routed : Each (RoutedOf server.me (hub_of hub) (record { id = law.next_id server.me server.inc (hub_of hub); content = content_of p.publication.message; step = now })) (law_from server (law.next_id server.me server.inc (hub_of hub)) p.publication.message (choice_of server hub p) (names_of server hub p) 0 hub.peers)
   routed f i =
       let one = each f i in
       let at : f.to ≡ one.j = (let t = one.to in omega arith) in

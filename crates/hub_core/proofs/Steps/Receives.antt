@@ -8,7 +8,7 @@ use Rattle.list_laws.proofs.Changes.{get_map}
 use Rattle.list_laws.proofs.Tests.{eq_true, lt_false, le_false, no_cause, not_false, same_bytes}
 use Rattle.cluster_law.specs.Config.{Config}
 use Rattle.subj.specs.declared.limits.TheConstants.{MAX_COUNTER, MAX_KEYS}
-use Rattle.subj.specs.Servers.{Server, IsListed, own_name, place, is_peer}
+use Rattle.subj.specs.Servers.{ServerIdentity, IsListed, own_name, place, is_peer}
 use Rattle.interest.specs.declared.changes.Change.{Change}
 use Rattle.interest.specs.declared.changes.Change.TheVariants.{Up, Gone}
 use Rattle.interest.specs.declared.faults.InterestFault.TheVariants as interest
@@ -29,7 +29,7 @@ use Rattle.hub_core.proofs.Neighbours.Known.{known_is, peer_set, peer_unseen, ch
 use Rattle.hub_core.proofs.Steps.Rooms.{or_none, map_none, has_room}
 
 -- what the tests say that each frame meets
-pub record FromPeer (server : Server) (hub : State) (finished : List ℕ) (frame : Frame) : Type 0 where
+pub record FromPeer (server : ServerIdentity) (hub : State) (finished : List ℕ) (frame : Frame) : Type 0 where
   pub me_is : place server frame.to ≡ server.me
   pub inc_is : frame.to_inc ≡ server.inc
   pub is : is_peer server (place server frame.from) ≡ true
@@ -39,7 +39,7 @@ pub record FromPeer (server : Server) (hub : State) (finished : List ℕ) (frame
   pub fresh : peer.seen ≤ frame.inc
   pub none : body_fault server hub (peer_in_life peer frame.inc) frame.number finished frame.body ≡ None
 
-pub from_peer : (server : Server) → IsListed server → (hub : State) (finished : List ℕ) (frame : Frame) → receive_refusal server hub finished frame ≡ None → FromPeer server hub finished frame
+pub from_peer : (server : ServerIdentity) → IsListed server → (hub : State) (finished : List ℕ) (frame : Frame) → receive_refusal server hub finished frame ≡ None → FromPeer server hub finished frame
 from_peer server is hub finished frame e =
     let f = no_cause (not (bytes_eq frame.to (own_name server))) NotMe (if not (nat_eq frame.to_inc server.inc) then Some OtherMe else origin_fault server hub finished frame (named_peer server hub frame.from)) e in
     let g = no_cause (not (nat_eq frame.to_inc server.inc)) OtherMe (origin_fault server hub finished frame (named_peer server hub frame.from)) f.1 in
@@ -61,7 +61,7 @@ next mark number view change e =
     let y = lt_false (mark + 1) number g.0 in
     omega arith
 
-taken_as : (c : Config) (server : Server) → IsListed server → (hub : State) (finished : List ℕ) (from : List ℕ) (inc : ℕ) (to : List ℕ) (to_inc number : ℕ) (body : Body)
+taken_as : (c : Config) (server : ServerIdentity) → IsListed server → (hub : State) (finished : List ℕ) (from : List ℕ) (inc : ℕ) (to : List ℕ) (to_inc number : ℕ) (body : Body)
     → FromPeer server hub finished (record { from = from; inc = inc; to = to; to_inc = to_inc; number = number; body = body })
     → TakenAs c server hub finished (record { from = from; inc = inc; to = to; to_inc = to_inc; number = number; body = body }) (frame_of server (record { from = from; inc = inc; to = to; to_inc = to_inc; number = number; body = body }))
 taken_as c server is hub finished from inc to to_inc number (Plus weighted) f =

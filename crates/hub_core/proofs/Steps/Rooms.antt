@@ -9,7 +9,7 @@ use Rattle.std.proofs.lemmas.List.Sums.{fails_before_first}
 use Rattle.list_laws.proofs.Tests.{lt_false}
 use Rattle.subj.specs.declared.limits.TheConstants.{WINDOW}
 use Rattle.claim_race.specs.Race.{busy_of, busy_at, is_behind}
-use Rattle.subj.specs.Servers.{Server}
+use Rattle.subj.specs.Servers.{ServerIdentity}
 use Rattle.hub_core.specs.State.{State}
 use Rattle.hub_core.specs.Publishing.{busy_fault}
 use Rattle.hub_core.specs.AsLaw.{HasRoom}
@@ -41,7 +41,7 @@ none_behind : (issued : ℕ) (finished : List ℕ) → busy_of issued finished �
 unfolding busy_of
 none_behind issued finished e = map_none (busy_at finished) (position (is_behind issued) finished) e
 
-pub has_room : (server : Server) (hub : State) (finished : List ℕ) → busy_fault server hub finished ≡ None → HasRoom server hub finished
+pub has_room : (server : ServerIdentity) (hub : State) (finished : List ℕ) → busy_fault server hub finished ≡ None → HasRoom server hub finished
 has_room server hub finished e place done below at =
     let shown = take server.shards finished in
     let within = slice_get_within finished place done at in

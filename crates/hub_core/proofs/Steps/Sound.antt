@@ -7,7 +7,7 @@ use Rattle.list_laws.proofs.Changes.{filter_append}
 use Rattle.list_laws.proofs.Tests.{lt_true, lt_false, le_true, and_true}
 use Rattle.subj.specs.declared.limits.TheConstants.{ROUTE_FRAMES}
 use Rattle.subj.specs.Messages.{Content}
-use Rattle.subj.specs.Servers.{Server, IsListed, name_of, own_name, place}
+use Rattle.subj.specs.Servers.{ServerIdentity, IsListed, name_of, own_name, place}
 use Rattle.interest.specs.declared.changes.Change.{Change}
 use Rattle.subj.specs.declared.keys.Delta.{Delta}
 use Rattle.interest.specs.Heard.{nothing_heard}
@@ -27,29 +27,29 @@ use Rattle.hub_core.proofs.Choices.Places.{not_own}
 use Rattle.hub_core.proofs.Neighbours.Known.{changed_length, frames_length, map_length}
 use Rattle.hub_core.proofs.Neighbours.Walks.{walk, at_most, all_listed, waits}
 
-abbrev AllSound : Server → List Peer → Type 0
+abbrev AllSound : ServerIdentity → List Peer → Type 0
 AllSound server peers = (q : ℕ) (peer : Peer) → slice_get peers q ≡ Some peer → IsSoundAt server q peer
 
 -- ---- one peer is changed
 
-changed_sound : (server : Server) (f : Peer → Peer) (q : ℕ) (peers : List Peer) → AllSound server peers → ((peer : Peer) → IsSoundAt server q peer → IsSoundAt server q (f peer)) → AllSound server (changed_at f q peers)
+changed_sound : (server : ServerIdentity) (f : Peer → Peer) (q : ℕ) (peers : List Peer) → AllSound server peers → ((peer : Peer) → IsSoundAt server q peer → IsSoundAt server q (f peer)) → AllSound server (changed_at f q peers)
 changed_sound server f q peers sound stays = go (slice_get peers q) refl
   where
     go : (o : Option Peer) → slice_get peers q ≡ o → AllSound server (changed_in f q o peers)
     go None at = sound
     go (Some peer) at = read_set (IsSoundAt server) peers q (f peer) (λ n a other e. sound n a e) (stays peer (sound q peer at))
 
-changed_hub : (server : Server) (old : State) (f : Peer → Peer) (q : ℕ) → IsSound server old → ((peer : Peer) → IsSoundAt server q peer → IsSoundAt server q (f peer)) → (length (changed_at f q old.peers) ≡ length server.names) × AllSound server (changed_at f q old.peers)
+changed_hub : (server : ServerIdentity) (old : State) (f : Peer → Peer) (q : ℕ) → IsSound server old → ((peer : Peer) → IsSoundAt server q peer → IsSoundAt server q (f peer)) → (length (changed_at f q old.peers) ≡ length server.names) × AllSound server (changed_at f q old.peers)
 changed_hub server old f q sound stays = (changed_length f q (slice_get old.peers q) old.peers ∙ sound.placed, changed_sound server f q old.peers sound.peers stays)
 
-known_sound : (server : Server) (q inc : ℕ) (peer : Peer) → IsSoundAt server q peer → IsSoundAt server q (peer_in_life peer inc)
+known_sound : (server : ServerIdentity) (q inc : ℕ) (peer : Peer) → IsSoundAt server q peer → IsSoundAt server q (peer_in_life peer inc)
 known_sound server q inc peer sound = go (nat_lt peer.seen inc)
   where
     go : (b : Bool) → IsSoundAt server q (cond b (record { seen = inc; mark = 0; heard = nothing_heard; up = false; outbox = peer.outbox }) peer)
     go true = record { other = λ e. absurd (true≢false (sym e)); seen = λ e. absurd (true≢false (sym e)); room = sound.room }
     go false = sound
 
-told_sound : (server : Server) (q number : ℕ) (body : Body) (peer : Peer) → IsSoundAt server q peer → IsSoundAt server q (told_by body number peer)
+told_sound : (server : ServerIdentity) (q number : ℕ) (body : Body) (peer : Peer) → IsSoundAt server q peer → IsSoundAt server q (told_by body number peer)
 told_sound server q number (Plus weighted) peer sound = record { other = sound.other; seen = sound.seen; room = sound.room }
 told_sound server q number (Minus key) peer sound = record { other = sound.other; seen = sound.seen; room = sound.room }
 told_sound server q number (Snapshot keys) peer sound = record { other = sound.other; seen = sound.seen; room = sound.room }
@@ -74,7 +74,7 @@ long : {A : Type 0} (xs ys : List A) → length (xs ++ ys) ≡ length xs + lengt
 long [] ys = omega arith
 long (x ∷ xs) ys = let z = long xs ys in omega arith
 
-put_sound : (server : Server) (frames : List Frame) (peers : List Peer) → AllSound server peers → ((q : ℕ) (peer : Peer) → slice_get peers q ≡ Some peer → length peer.outbox + length (filter (is_to server q) frames) ≤ ROUTE_FRAMES) → AllSound server (with_frames server frames 0 peers)
+put_sound : (server : ServerIdentity) (frames : List Frame) (peers : List Peer) → AllSound server peers → ((q : ℕ) (peer : Peer) → slice_get peers q ≡ Some peer → length peer.outbox + length (filter (is_to server q) frames) ≤ ROUTE_FRAMES) → AllSound server (with_frames server frames 0 peers)
 put_sound server frames peers sound room q new at =
     let w = waits server frames q 0 q peers new (omega arith) at in
     let old = sound q w.peer w.at in
@@ -87,7 +87,7 @@ put_sound server frames peers sound room q new at =
 
 -- ---- a publish
 
-module _ (server : Server) (is : IsListed server) (number : ℕ) (content : Content) (choice : List ℕ → Option (List ℕ)) (all : List (List ℕ)) where
+module _ (server : ServerIdentity) (is : IsListed server) (number : ℕ) (content : Content) (choice : List ℕ → Option (List ℕ)) (all : List (List ℕ)) where
   abbrev is_sent : ℕ → Peer → Bool
   is_sent q peer = is_eligible server q peer && is_owed content.subject (names_for choice (name_of server q) all) peer
 
@@ -118,7 +118,7 @@ module _ (server : Server) (is : IsListed server) (number : ℕ) (content : Cont
 
 -- ---- a collect
 
-module _ (server : Server) (is : IsListed server) (count : ℕ) where
+module _ (server : ServerIdentity) (is : IsListed server) (count : ℕ) where
   abbrev told : ℕ → Peer → Bool
   told q peer = is_told count peer
 
@@ -162,13 +162,13 @@ module _ (server : Server) (is : IsListed server) (count : ℕ) where
       })
 
 -- what a collect puts has room
-pub collect_fits : (server : Server) (old : State) (deltas : List Delta) → IsListed server → IsSound server old → (q : ℕ) (new : Peer) → slice_get (map (without_slow (count_of_changes old deltas)) old.peers) q ≡ Some new → length new.outbox + length (filter (is_to server q) (collect_frames server old deltas)) ≤ ROUTE_FRAMES
+pub collect_fits : (server : ServerIdentity) (old : State) (deltas : List Delta) → IsListed server → IsSound server old → (q : ℕ) (new : Peer) → slice_get (map (without_slow (count_of_changes old deltas)) old.peers) q ≡ Some new → length new.outbox + length (filter (is_to server q) (collect_frames server old deltas)) ≤ ROUTE_FRAMES
 collect_fits server old deltas is sound q new at =
     let x = read_map (without_slow (count_of_changes old deltas)) old.peers q new at in
     subst (λ (peer : Peer). length peer.outbox + length (filter (is_to server q) (collect_frames server old deltas)) ≤ ROUTE_FRAMES) (sym x.2)
     (told_fits server is (count_of_changes old deltas) x.0 (length (filter (is_to server q) (collect_frames server old deltas))) (sound.peers q x.0 x.1).room (changes_few server is (count_of_changes old deltas) old.changed (changes_of old deltas) old.peers sound.placed q x.0 x.1))
 
-collect_sound : (server : Server) (old : State) (deltas : List Delta) → IsListed server → IsSound server old → IsSound server (after_collect server old deltas)
+collect_sound : (server : ServerIdentity) (old : State) (deltas : List Delta) → IsListed server → IsSound server old → IsSound server (after_collect server old deltas)
 collect_sound server old deltas is sound = record {
   placed = frames_length server frames 0 (map (without_slow count) old.peers) ∙ map_length (without_slow count) old.peers ∙ sound.placed;
   peers = put_sound server frames (map (without_slow count) old.peers) (slow_sound server is count old.peers sound.peers) (collect_fits server old deltas is sound);
@@ -180,21 +180,21 @@ collect_sound server old deltas is sound = record {
   frames = collect_frames server old deltas
 
 -- and each is to a server of the cluster
-pub changes_listed : (server : Server) → IsListed server → (count number : ℕ) (changes : List Change) (peers : List Peer) → length peers ≡ length server.names → All (λ (frame : Frame). place server frame.to < length server.names) (frames_behind server count number changes peers)
+pub changes_listed : (server : ServerIdentity) → IsListed server → (count number : ℕ) (changes : List Change) (peers : List Peer) → length peers ≡ length server.names → All (λ (frame : Frame). place server frame.to < length server.names) (frames_behind server count number changes peers)
 changes_listed server is count number [] peers placed = All-nil (λ (frame : Frame). place server frame.to < length server.names)
 changes_listed server is count number (change ∷ changes) peers placed = All-append (λ (frame : Frame). place server frame.to < length server.names) (frames_of_change server count (number + 1) change 0 peers) (frames_behind server count (number + 1) changes peers)
     (subst (λ (frames : List Frame). All (λ (frame : Frame). place server frame.to < length server.names) frames) (sym (walked_change server is count (number + 1) change 0 peers)) (all_listed server is (λ q peer. is_told count peer) (change_to server is count (number + 1) change) (λ q peer. refl) 0 peers (omega arith)))
     (changes_listed server is count (number + 1) changes peers placed)
 
-publish_sound : (server : Server) (old : State) (p : Publication) → IsListed server → IsSound server old → IsSound server (after_publish server old p)
+publish_sound : (server : ServerIdentity) (old : State) (p : Publication) → IsListed server → IsSound server old → IsSound server (after_publish server old p)
 publish_sound server old p is sound = record {
   placed = frames_length server (frames_of server old p) 0 old.peers ∙ sound.placed;
-  peers = put_sound server (frames_of server old p) old.peers sound.peers (frames_fit server is (old.published + 1) p.said.message (choice_of server old p) (names_of server old p) old.peers sound.placed sound.peers);
+  peers = put_sound server (frames_of server old p) old.peers sound.peers (frames_fit server is (old.published + 1) p.publication.message (choice_of server old p) (names_of server old p) old.peers sound.placed sound.peers);
 }
 
 -- ---- each event
 
-pub after_sound : (server : Server) (old : State) (event : Event) → IsListed server → IsSound server old → IsAsked server old event → IsSound server (hub_after server old event)
+pub after_sound : (server : ServerIdentity) (old : State) (event : Event) → IsListed server → IsSound server old → IsAsked server old event → IsSound server (hub_after server old event)
 after_sound server old (Publish p finished) is sound asked = publish_sound server old p is sound
 after_sound server old (Receive frame finished) is sound asked =
     let q = place server frame.from in
@@ -211,7 +211,7 @@ after_sound server old (TakeFrom q count) is sound asked =
     let c = changed_hub server old (λ peer. record peer { outbox = drop count peer.outbox }) q sound (λ peer at. record { other = at.other; seen = at.seen; room = (let less = fewer count peer.outbox in let room = at.room in omega arith) }) in
     record { placed = c.0; peers = c.1 }
 
-step_sound : (server : Server) (old : State) (event : Event) (outcome : Result Answer HubFault) (new : State) → IsListed server → IsSound server old → HubStep server old event outcome new → IsSound server new
+step_sound : (server : ServerIdentity) (old : State) (event : Event) (outcome : Result Answer HubFault) (new : State) → IsListed server → IsSound server old → HubStep server old event outcome new → IsSound server new
 step_sound server old event (Ok answer) new is sound step = subst (IsSound server) (sym step.decided.1.1) (after_sound server old event is sound step.asked)
 step_sound server old event (Err why) new is sound step = subst (IsSound server) (sym step.decided.1) sound
 

@@ -4,7 +4,7 @@ use Rattle.std.specs.Prelude.{is_some}
 use Rattle.std.specs.Option.{option_map}
 use Rattle.std.proofs.lemmas.Option.{none-some, same_Some}
 use Rattle.list_laws.proofs.Tests.{true_eq}
-use Rattle.subj.specs.Servers.{Server}
+use Rattle.subj.specs.Servers.{ServerIdentity}
 use Rattle.subj.specs.declared.jobs.Job.{Job}
 use Rattle.subj.specs.declared.messages.Pub.{Pub}
 use Rattle.subj.specs.declared.identities.SubId.{SubId}
@@ -47,7 +47,7 @@ answer_is : (old new : Served) (conn : ℕ) (event : ConnEvent) (answer : of_sha
 answer_is old new conn event answer serving is does =
     let step = subst (λ n. ConnStep old n event answer new) is does in
     same_Some answer (shard_answer (shard_in old) (conn_event 1 event))
-    (step.answered ∙ ap (λ (server : Server). answer_at (Some (conn_event 1 event)) (conn_line server old.node 1)) serving.server ∙ ap (answer_at (Some (conn_event 1 event))) (conn_there old serving))
+    (step.answered ∙ ap (λ (server : ServerIdentity). answer_at (Some (conn_event 1 event)) (conn_line server old.node 1)) serving.server ∙ ap (answer_at (Some (conn_event 1 event))) (conn_there old serving))
 
 abbrev shut_in : of_shard.Answer → Bool
 shut_in (of_shard.Replied shut ended) = shut

@@ -3,7 +3,7 @@ use Rattle.std.proofs.Common.{◌≡◌, ℕ, suc, ◌+◌, ◌*◌, ◌≤◌, 
 use Rattle.std.specs.Prelude.{nat_lt, option_to_list}
 use Rattle.std.specs.Option.{option_map}
 use Rattle.list_laws.proofs.Tests.{lt_true}
-use Rattle.subj.specs.Servers.{Server}
+use Rattle.subj.specs.Servers.{ServerIdentity}
 use Rattle.subj.specs.declared.limits.TheConstants.{MAX_COUNTER, MAX_SERIAL}
 use Rattle.interest.specs.declared.changes.Change.{Change}
 use Rattle.subj.specs.declared.keys.Delta.{Delta}
@@ -20,7 +20,7 @@ use Rattle.node_law.specs.declared.faults.NodeFault.TheVariants.{Hub}
 use Rattle.node_law.specs.CountsOpen.{CountsStayOpen}
 use Rattle.node_law.specs.Events.{Collect, Own}
 use Rattle.node_core.specs.Served.{Served, DoesStep, refusal}
-use Rattle.node_law.specs.State.{Line, Node}
+use Rattle.node_law.specs.State.{ShardWithJobs, Node}
 use Rattle.node_law.specs.Steps.{shard_line, deltas_at, line_after, set_line, collect_refusal_at, node_refusal}
 use Rattle.mesh_pipe.specs.PipeServing.{pipe_server, first_line, line_in, shard_in, IsServing, Steps}
 use Rattle.mesh_pipe.proofs.Server.Alone.{listed, run_more, shard_there}
@@ -64,7 +64,7 @@ collects law s serving = is ∙ go (are_refused s.node.hub.counts ds) refl (nat_
     there = ap (collect_refusal_at s.node.hub) (shard_there s serving)
 
     is : refusal s (Own (Collect 1)) ≡ option_map Hub (collect_refusal s.node.hub ds)
-    is = ap (λ (server : Server). node_refusal server s.node (Own (Collect 1))) serving.server ∙ there
+    is = ap (λ (server : ServerIdentity). node_refusal server s.node (Own (Collect 1))) serving.server ∙ there
 
     refused : Bool → Bool → Option NodeFault
     refused b c = option_map Hub (cond b (Some BadInterest) (cond c (Some Spent) None))
@@ -80,26 +80,26 @@ pub collect_steps : (old new : Served) → IsServing old → DoesStep old (Own (
 collect_steps old new serving does = record {
   serving = record {
     server = does.server ∙ serving.server;
-    line = lines ∙ ap (λ (l : Line). l ∷ []) (sym here);
+    line = lines ∙ ap (λ (l : ShardWithJobs). l ∷ []) (sym here);
     alone = ap (λ h. h.peers) hub_is ∙ still_alone old.node.hub ds serving.alone;
     published = ap (λ h. h.published) hub_is ∙ serving.published ∙ sym (ap (λ h. h.issued) hub_is);
-    changed = subst (λ (l : Line). new.node.hub.changed + (length l.shard.deltas + length l.shard.subs) ≤ 2 * l.shard.opened) (sym here)
+    changed = subst (λ (l : ShardWithJobs). new.node.hub.changed + (length l.shard.deltas + length l.shard.subs) ≤ 2 * l.shard.opened) (sym here)
         (subst (λ n. n + (0 + length (shard_in old).subs) ≤ 2 * (shard_in old).opened) (sym (ap (λ h. h.changed) hub_is)) (let few = few_changes old.node.hub.counts ds in let all = serving.changed in omega (arith, few, all)));
-    opened = subst (λ (l : Line). l.shard.opened ≤ MAX_SERIAL) (sym here) serving.opened;
+    opened = subst (λ (l : ShardWithJobs). l.shard.opened ≤ MAX_SERIAL) (sym here) serving.opened;
     ran = run_more old new (Own (Collect 1)) false serving.server serving.ran does;
   };
-  shard = ap (λ (l : Line). l.shard) here;
-  waiting = ap (λ (l : Line). l.waiting) here;
+  shard = ap (λ (l : ShardWithJobs). l.shard) here;
+  waiting = ap (λ (l : ShardWithJobs). l.waiting) here;
 }
   where
     ds : List Delta
     ds = (shard_in old).deltas
 
     lines : new.node.lines ≡ line_after of_shard.Collect (line_in old) ∷ []
-    lines = ap (λ (a : Node). a.lines) does.step.after ∙ ap (set_line old.node.lines 0 (line_after of_shard.Collect)) (shard_there old serving) ∙ ap (λ (ls : List Line). set ls 0 (line_after of_shard.Collect (line_in old))) serving.line
+    lines = ap (λ (a : Node). a.lines) does.step.after ∙ ap (set_line old.node.lines 0 (line_after of_shard.Collect)) (shard_there old serving) ∙ ap (λ (ls : List ShardWithJobs). set ls 0 (line_after of_shard.Collect (line_in old))) serving.line
 
     here : line_in new ≡ line_after of_shard.Collect (line_in old)
     here = ap first_line lines
 
     hub_is : new.node.hub ≡ after_collect pipe_server old.node.hub ds
-    hub_is = ap (λ (a : Node). a.hub) does.step.after ∙ ap (λ (server : Server). after_collect server old.node.hub (deltas_at (shard_line old.node 1))) serving.server ∙ ap (λ (o : Option Line). after_collect pipe_server old.node.hub (deltas_at o)) (shard_there old serving)
+    hub_is = ap (λ (a : Node). a.hub) does.step.after ∙ ap (λ (server : ServerIdentity). after_collect server old.node.hub (deltas_at (shard_line old.node 1))) serving.server ∙ ap (λ (o : Option ShardWithJobs). after_collect pipe_server old.node.hub (deltas_at o)) (shard_there old serving)

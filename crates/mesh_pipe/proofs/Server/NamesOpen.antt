@@ -23,7 +23,7 @@ use Rattle.subj.specs.Keys.{key_cmp}
 use Rattle.subj.specs.Matching.{subject_matches}
 use Rattle.subj.proofs.Rising.{before_trans, not_before, head_below}
 use Rattle.subj.specs.QueueNames.{is_before_first, are_rising, is_named}
-use Rattle.subj.specs.Servers.{Server}
+use Rattle.subj.specs.Servers.{ServerIdentity}
 use Rattle.interest.specs.Counts.{Counts, count_of, IsInterest}
 use Rattle.interest.specs.Laws.{one_if_same, times}
 use Rattle.interest.specs.Matches.{names_in, weight_in, matching_weight}
@@ -178,7 +178,7 @@ wanted_counted subject z subs counts c w =
 abbrev alone : Counts → State
 alone keys = record { issued = 0; published = 0; changed = 0; counts = keys; peers = [] }
 
-nowhere : Server
+nowhere : ServerIdentity
 nowhere = record { names = []; me = 0; inc = 0; shards = 0 }
 
 no_peer : (subject z : List ℕ) (keys : Counts) → PeerWants nowhere (alone keys) subject z → ⊥

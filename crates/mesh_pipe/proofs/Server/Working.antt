@@ -25,7 +25,7 @@ use Rattle.node_law.specs.declared.events.ShardWork.TheVariants.{Begin, Claim, E
 use Rattle.node_law.specs.Events.{AtShard, Own}
 use Rattle.node_core.specs.Served.{Served, DoesStep, BeginStep, ClaimStep, IsToldAt, refusal}
 use Rattle.node_parts.specs.Lines.{is_won}
-use Rattle.node_law.specs.State.{Line, Node}
+use Rattle.node_law.specs.State.{ShardWithJobs, Node}
 use Rattle.node_law.specs.Steps.{work_event, begin_of, event_refusal, line_after, line_after_if, WorkRace, ClaimRace}
 use Rattle.node_law.proofs.Moves.LineEvents.{same_refusal}
 use Rattle.node_law.proofs.Interest.CountsOpen.{is_collect}
@@ -51,8 +51,8 @@ works old new work won event serving is tells does =
     record {
       steps = record {
         serving = serves_on old new (Own (AtShard 1 work)) won _ _ serving does becomes (event_balance (shard_in old) event (apart old serving) cause tells serving.opened);
-        shard = ap (λ (l : Line). l.shard) here;
-        waiting = ap (λ (l : Line). l.waiting) here;
+        shard = ap (λ (l : ShardWithJobs). l.shard) here;
+        waiting = ap (λ (l : ShardWithJobs). l.waiting) here;
       };
       race_is = ap (λ (a : Node). a.race) becomes.node;
     }
@@ -65,7 +65,7 @@ one_job (j ∷ []) job one first = ap (λ (k : Job). k ∷ []) (same_Some j job 
 one_job (j ∷ k ∷ more) job one first = absurd (omega (arith, one))
 
 begin_race : (old new : Served) (event : Event) → IsServing old → (does : DoesStep old (Own (AtShard 1 Begin)) false new) → does.race ≡ old.node.race
-begin_race old new event serving does = subst (λ (o : Option Line). WorkRace old.node.race 1 Begin o false does.race) (shard_there old serving) does.step.moves
+begin_race old new event serving does = subst (λ (o : Option ShardWithJobs). WorkRace old.node.race 1 Begin o false does.race) (shard_there old serving) does.step.moves
 
 more_than_none : (n : ℕ) → (suc n == 0) ≡ false
 more_than_none n = grind (arith, nat_tests)
@@ -76,7 +76,7 @@ shut_told (x ∷ xs) len empty count is = ap not (is ∙ ap (λ m. m == 0) count
 
 pub has_begun : (old new : Served) (begun : Begun) (shut : Bool) → IsServing old → length (waiting_in old) ≡ 1 → BeginStep false old 1 begun new → shut ≡ has_any begun.closed.items → HasBegun old shut new
 has_begun old new begun shut serving one begins is =
-    let told = subst (λ (o : Option Line). IsToldAt false o begun) (shard_there old serving) begins.told in
+    let told = subst (λ (o : Option ShardWithJobs). IsToldAt false o begun) (shard_there old serving) begins.told in
     let job = told.0 in
     let first = one_job (waiting_in old) job one told.1 in
     let w = works old new Begin false (of_shard.Begin job) serving (ap begin_of told.1) refl begins.step in
@@ -138,7 +138,7 @@ has_claimed old new index claimed_as serving none free claims =
     let won = is_won claimed_as in
     let does = claims.step in
     let w = works old new (Claim index) won (of_shard.Claim index won) serving refl refl does in
-    let moves = subst (λ (o : Option Line). WorkRace old.node.race 1 (Claim index) o won does.race) (shard_there old serving) does.step.moves in
+    let moves = subst (λ (o : Option ShardWithJobs). WorkRace old.node.race 1 (Claim index) o won does.race) (shard_there old serving) does.step.moves in
     let t = shard_in old in
     let both = claim_decided old t t.hand (candidate_of t t.hand index) index won does.race (λ job hand. turn_is old serving job none hand) free moves in
     record {

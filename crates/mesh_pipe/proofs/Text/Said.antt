@@ -7,8 +7,8 @@ use Rattle.client_frames.specs.declared.err_texts.ErrText.{ErrText}
 use Rattle.client_frames.specs.declared.err_texts.ErrText.TheVariants as text
 use Rattle.client_frames.specs.declared.server_frames.ReplyFrame.TheVariants as reply
 use Rattle.client_frames.specs.ErrTexts.{err_line}
-use Rattle.client_conn.specs.declared.ask.Ask.{Ask}
-use Rattle.client_conn.specs.declared.ask.Ask.TheVariants as ask
+use Rattle.client_conn.specs.declared.ask.ClientAction.{ClientAction}
+use Rattle.client_conn.specs.declared.ask.ClientAction.TheVariants as ask
 use Rattle.client_conn.specs.declared.ask.Refusal.{Refusal}
 use Rattle.client_conn.specs.declared.ask.Refusal.TheVariants.{Busy, TooManySubscriptions, NumbersSpent, TooManyQueueGroups, Other}
 use Rattle.client_conn.specs.Asks.{Asking, Answer, ConnState, Onward, asks_after_bytes, read_onward, asks_after_answer, answered_first}
@@ -33,7 +33,7 @@ then_open first rest is = ap (λ b. cond b first (text_before first.text (rest f
 then_closed : (first : Output) (rest : Served → Output) → first.closed ≡ true → and_then first rest ≡ first
 then_closed first rest is = ap (λ b. cond b first (text_before first.text (rest first.served))) is
 
-said_first : (a : Ask) (asks : List Ask) (s : Served) → asks_said (a ∷ asks) s ≡ and_then (ask_said a s) (asks_said asks)
+said_first : (a : ClientAction) (asks : List ClientAction) (s : Served) → asks_said (a ∷ asks) s ≡ and_then (ask_said a s) (asks_said asks)
 unfolding asks_said
 said_first a asks s = refl
 
@@ -57,40 +57,40 @@ ends_further from mid front text first second = record {
 
 -- nothing is said where nothing stands to be asked
 pub waits_there : (at : PipeState) → asks_after_bytes [] at.asking ≡ at.asking → at.asking.asks ≡ [] → Waits at
-waits_there at settled none = ap (λ (a : Asking). asks_said a.asks at.served) settled ∙ ap (λ (asks : List Ask). asks_said asks at.served) none ∙ said_none at.served
+waits_there at settled none = ap (λ (a : Asking). asks_said a.asks at.served) settled ∙ ap (λ (asks : List ClientAction). asks_said asks at.served) none ∙ said_none at.served
 
 -- ---- the first ask
 
-record StartsWith (a : Ask) (asks : List Ask) : Type 0 where
-  rest : List Ask
+record StartsWith (a : ClientAction) (asks : List ClientAction) : Type 0 where
+  rest : List ClientAction
   are : asks ≡ a ∷ rest
 
-starts : (a : Ask) (asks : List Ask) → slice_get asks 0 ≡ Some a → StartsWith a asks
+starts : (a : ClientAction) (asks : List ClientAction) → slice_get asks 0 ≡ Some a → StartsWith a asks
 starts a [] is = absurd (none-some a is)
-starts a (b ∷ rest) is = record { rest = rest; are = ap (λ (x : Ask). x ∷ rest) (same_Some b a is) }
+starts a (b ∷ rest) is = record { rest = rest; are = ap (λ (x : ClientAction). x ∷ rest) (same_Some b a is) }
 
-pub none_there : (asks : List Ask) → slice_get asks 0 ≡ None → asks ≡ []
+pub none_there : (asks : List ClientAction) → slice_get asks 0 ≡ None → asks ≡ []
 none_there [] is = refl
 none_there (b ∷ rest) is = absurd (none-some b (sym is))
 
-abbrev at_ask : Ask → List Ask → Onward → Served → PipeState
+abbrev at_ask : ClientAction → List ClientAction → Onward → Served → PipeState
 at_ask a rest onward s = record { asking = record { asks = a ∷ rest; onward = onward }; served = s }
 
-abbrev behind_ask : List Ask → Onward → Served → PipeState
+abbrev behind_ask : List ClientAction → Onward → Served → PipeState
 behind_ask rest onward s = record { asking = record { asks = rest; onward = onward }; served = s }
 
-goes_by_ask : (a : Ask) (rest : List Ask) (onward : Onward) (s : Served) → (ask_said a s).closed ≡ false → GoesOn (at_ask a rest onward s) (ask_said a s).text (behind_ask rest onward (ask_said a s).served)
+goes_by_ask : (a : ClientAction) (rest : List ClientAction) (onward : Onward) (s : Served) → (ask_said a s).closed ≡ false → GoesOn (at_ask a rest onward s) (ask_said a s).text (behind_ask rest onward (ask_said a s).served)
 goes_by_ask a rest onward s still = record {
   whatever_follows = λ more. said_first a (rest ++ (read_onward onward more).asks) s ∙ then_open (ask_said a s) (asks_said (rest ++ (read_onward onward more).asks)) still;
 }
 
-ends_by_ask : (a : Ask) (rest : List Ask) (onward : Onward) (s : Served) → (ask_said a s).closed ≡ true → Ends (at_ask a rest onward s) (ask_said a s).text
+ends_by_ask : (a : ClientAction) (rest : List ClientAction) (onward : Onward) (s : Served) → (ask_said a s).closed ≡ true → Ends (at_ask a rest onward s) (ask_said a s).text
 ends_by_ask a rest onward s closes =
     let all : (more : List ℕ) → said_from (at_ask a rest onward s) more ≡ ask_said a s = λ more. said_first a (rest ++ (read_onward onward more).asks) s ∙ then_closed (ask_said a s) (asks_said (rest ++ (read_onward onward more).asks)) closes in
     record { text = λ more. ap (λ (r : Output). r.text) (all more); closed = λ more. ap (λ (r : Output). r.closed) (all more) ∙ closes }
 
 -- a refusal is told in its place
-goes_by_telling : (a : Ask) (rest : List Ask) (onward : Onward) (s : Served) (why : ErrText) → ask_said a s ≡ error_told why s → GoesOn (at_ask a rest onward s) [] (behind_ask (ask.Reply (reply.Err why) ∷ rest) onward s)
+goes_by_telling : (a : ClientAction) (rest : List ClientAction) (onward : Onward) (s : Served) (why : ErrText) → ask_said a s ≡ error_told why s → GoesOn (at_ask a rest onward s) [] (behind_ask (ask.Reply (reply.Err why) ∷ rest) onward s)
 goes_by_telling a rest onward s why is = record {
   whatever_follows = λ more. let others = rest ++ (read_onward onward more).asks in said_first a others s ∙ ap (λ (r : Output). and_then r (asks_said others)) is ∙ sym (said_first (ask.Reply (reply.Err why)) others s);
 }
@@ -100,25 +100,25 @@ goes_by_telling a rest onward s why is = record {
 shut_closes : (why : ErrText) (s : Served) → (ask_said (ask.Shut why) s).closed ≡ true
 shut_closes why s = output_closed _ (reply_entry (err_line why) ∷ []) true (behind_shut (at_rest s) (err_line why) (alone_at_rest (at_rest s) s refl))
 
-abbrev rest_of : List Ask → List Ask
+abbrev rest_of : List ClientAction → List ClientAction
 rest_of [] = []
 rest_of (a ∷ asks) = asks
 
-abbrev first_of : Ask → List Ask → Ask
+abbrev first_of : ClientAction → List ClientAction → ClientAction
 first_of d [] = d
 first_of d (a ∷ asks) = a
 
-shuts_later : (a : Ask) (rest : List Ask) → ((why : ErrText) → a ≡ ask.Shut why → ⊥) → AsksToShut (a ∷ rest) → AsksToShut rest
+shuts_later : (a : ClientAction) (rest : List ClientAction) → ((why : ErrText) → a ≡ ask.Shut why → ⊥) → AsksToShut (a ∷ rest) → AsksToShut rest
 shuts_later a rest other shuts = go shuts.before shuts.are
   where
-    go : (before : List Ask) → (a ∷ rest) ≡ before ++ (ask.Shut shuts.text ∷ shuts.behind) → AsksToShut rest
+    go : (before : List ClientAction) → (a ∷ rest) ≡ before ++ (ask.Shut shuts.text ∷ shuts.behind) → AsksToShut rest
     go [] is = absurd (other shuts.text (ap (first_of a) is))
     go (b ∷ before) is = record { before = before; text = shuts.text; behind = shuts.behind; are = ap rest_of is }
 
-one_more : (a : Ask) (rest : List Ask) → AsksToShut rest → AsksToShut (a ∷ rest)
+one_more : (a : ClientAction) (rest : List ClientAction) → AsksToShut rest → AsksToShut (a ∷ rest)
 one_more a rest shuts = record { before = a ∷ shuts.before; text = shuts.text; behind = shuts.behind; are = ap (λ l. a ∷ l) shuts.are }
 
-no_shut : (a : Ask) (why : ErrText) → asks_of a ≡ 2 → a ≡ ask.Shut why → ⊥
+no_shut : (a : ClientAction) (why : ErrText) → asks_of a ≡ 2 → a ≡ ask.Shut why → ⊥
 no_shut a why two is = let same = ap asks_of is in absurd (omega (arith, two, same))
 
 -- ---- an answer
@@ -130,27 +130,27 @@ record Goes {R : Type 0} (conn : ConnState) (server : PipeServer R) (next : Aski
   goes : GoesOn (state_of conn server) said (record { asking = next; served = served_state new })
   fewer : sum_by asks_of next.asks < left_of conn
 
-some_ask : (a : Ask) (rest : List Ask) → ¬ ((a ∷ rest) ≡ [])
+some_ask : (a : ClientAction) (rest : List ClientAction) → ¬ ((a ∷ rest) ≡ [])
 some_ask a rest is = cc
 
-weigh : (a : Ask) (rest : List Ask) → sum_by asks_of (a ∷ rest) ≡ asks_of a + sum_by asks_of rest
+weigh : (a : ClientAction) (rest : List ClientAction) → sum_by asks_of (a ∷ rest) ≡ asks_of a + sum_by asks_of rest
 weigh a rest = sum_by-cons asks_of a rest
 
-pos : (a : Ask) → 0 < asks_of a
+pos : (a : ClientAction) → 0 < asks_of a
 pos (ask.Reply frame) = omega arith
 pos (ask.Shut why) = omega arith
 pos (ask.Subscribe key sid) = omega arith
 pos (ask.Unsubscribe sid max) = omega arith
 pos (ask.Publish p) = omega arith
 
-settled_behind : (answer : Answer) (a : Ask) (rest : List Ask) (onward : Onward) → (let s : Asking = record { asks = a ∷ rest; onward = onward } in asks_after_bytes [] s ≡ s)
+settled_behind : (answer : Answer) (a : ClientAction) (rest : List ClientAction) (onward : Onward) → (let s : Asking = record { asks = a ∷ rest; onward = onward } in asks_after_bytes [] s ≡ s)
     → asks_after_bytes [] (answered_first answer (a ∷ rest) onward) ≡ answered_first answer (a ∷ rest) onward
 settled_behind answer a rest onward settled = in_any_order answer (record { asks = a ∷ rest; onward = onward }) [] (some_ask a rest) ∙ ap (asks_after_answer answer) settled
 
-abbrev conn_at : Ask → List Ask → Onward → Bool → ConnState
+abbrev conn_at : ClientAction → List ClientAction → Onward → Bool → ConnState
 conn_at a rest onward given = record { asking = record { asks = a ∷ rest; onward = onward }; given = given }
 
-telling_goes : {R : Type 0} (a : Ask) (rest : List Ask) (onward : Onward) (given : Bool) (server : PipeServer R) (refusal : Refusal) (why : ErrText) → IsInStep (conn_at a rest onward given) server → asks_of a ≡ 2 → ask_said a (served_state server) ≡ error_told why (served_state server)
+telling_goes : {R : Type 0} (a : ClientAction) (rest : List ClientAction) (onward : Onward) (given : Bool) (server : PipeServer R) (refusal : Refusal) (why : ErrText) → IsInStep (conn_at a rest onward given) server → asks_of a ≡ 2 → ask_said a (served_state server) ≡ error_told why (served_state server)
     → asks_after_bytes [] (answered_first (Err refusal) (a ∷ rest) onward) ≡ answered_first (Err refusal) (a ∷ rest) onward
     → answered_first (Err refusal) (a ∷ rest) onward ≡ record { asks = ask.Reply (reply.Err why) ∷ rest; onward = onward }
     → Goes (conn_at a rest onward given) server (record { asks = ask.Reply (reply.Err why) ∷ rest; onward = onward }) server
@@ -166,7 +166,7 @@ telling_goes a rest onward given server refusal why step two is settled same = r
   fewer = let before = weigh a rest in let after = weigh (ask.Reply (reply.Err why)) rest in omega (arith, before, after, two);
 }
 
-answer_goes : {R : Type 0} (answer : Answer) (a : Ask) (rest : List Ask) (onward : Onward) (given : Bool) (old new : PipeServer R) → IsInStep (conn_at a rest onward given) old → HasServed (Answered answer) (ask_said a (served_state old)) old new → MayBeTold (Answered answer) a
+answer_goes : {R : Type 0} (answer : Answer) (a : ClientAction) (rest : List ClientAction) (onward : Onward) (given : Bool) (old new : PipeServer R) → IsInStep (conn_at a rest onward given) old → HasServed (Answered answer) (ask_said a (served_state old)) old new → MayBeTold (Answered answer) a
     → Goes (conn_at a rest onward given) old (answered_first answer (a ∷ rest) onward) new
 answer_goes (Ok done) a rest onward given old new step serves may = record {
   said = (ask_said a (served_state old)).text;
@@ -189,7 +189,7 @@ answer_goes (Err TooManyQueueGroups) a rest onward given old new step serves may
 answer_goes (Err Other) a rest onward given old new step serves may = absurd serves.0
 
 -- a connection that asks for this first
-asking_is : (conn : ConnState) (a : Ask) (rest : List Ask) → conn.asking.asks ≡ a ∷ rest → conn ≡ conn_at a rest conn.asking.onward conn.given
+asking_is : (conn : ConnState) (a : ClientAction) (rest : List ClientAction) → conn.asking.asks ≡ a ∷ rest → conn ≡ conn_at a rest conn.asking.onward conn.given
 asking_is conn a rest is = λ k. record { asking = record { asks = is k; onward = conn.asking.onward }; given = conn.given }
 
 in_step_again : {R : Type 0} (conn : ConnState) (next : Asking) (new_conn : ConnState) (new : PipeServer R) → new_conn.asking ≡ next → IsInStep (record conn { asking = next }) new → IsInStep new_conn new
@@ -199,7 +199,7 @@ in_step_again conn next new_conn new is step = record {
   shuts = λ ends. subst (λ (s : Asking). AsksToShut s.asks) (sym is) (step.shuts (sym (ap (λ (s : Asking). s.onward) is) ∙ ends));
 }
 
-pub ask_worked : {R : Type 0} (answer : Answer) (a : Ask) (conn mid new_conn : ConnState) (old new : PipeServer R) → IsInStep conn old → slice_get conn.asking.asks 0 ≡ Some a → HasServed (Answered answer) (ask_said a (served_state old)) old new → MayBeTold (Answered answer) a
+pub ask_worked : {R : Type 0} (answer : Answer) (a : ClientAction) (conn mid new_conn : ConnState) (old new : PipeServer R) → IsInStep conn old → slice_get conn.asking.asks 0 ≡ Some a → HasServed (Answered answer) (ask_said a (served_state old)) old new → MayBeTold (Answered answer) a
     → mid.asking ≡ conn.asking → IsTrue mid.given → new_conn.asking ≡ (if mid.given then asks_after_answer answer mid.asking else mid.asking) → HasWorked conn old new_conn new
 ask_worked answer a conn mid new_conn old new step is serves may same given next =
     let begins = starts a conn.asking.asks is in
@@ -215,7 +215,7 @@ ask_worked answer a conn mid new_conn old new step is serves may same given next
       fewer = let fewer = goes.fewer in let here = ap (λ (s : Asking). sum_by asks_of s.asks) next_is in let there = ap left_of at in omega (arith, fewer, here, there);
     }
 
-pub ask_closed : {R : Type 0} (a : Ask) (conn : ConnState) (old new : PipeServer R) → slice_get conn.asking.asks 0 ≡ Some a → HasServed Closed (ask_said a (served_state old)) old new → HasClosed conn old new
+pub ask_closed : {R : Type 0} (a : ClientAction) (conn : ConnState) (old new : PipeServer R) → slice_get conn.asking.asks 0 ≡ Some a → HasServed Closed (ask_said a (served_state old)) old new → HasClosed conn old new
 ask_closed a conn old new is serves =
     let begins = starts a conn.asking.asks is in
     let at = asking_is conn a begins.rest begins.are in

@@ -3,7 +3,7 @@ use Rattle.std.proofs.Common.{◌≡◌, ℕ, true, false, List, [], ◌∷◌, 
 use Rattle.std.specs.Result.{IsErrAnd}
 use Rattle.std.specs.Io.KnownBytes.{Appends, Consumes}
 use Rattle.std.proofs.KnownBytes.{Appends-nil, Appends-trans, Consumes-nil, Consumes-trans}
-use Rattle.client_conn.specs.declared.ask.Ask.{Ask}
+use Rattle.client_conn.specs.declared.ask.ClientAction.{ClientAction}
 use Rattle.client_conn.specs.Asks.{Asking, ConnState, Onward, listens, over, first_asking, asks_after_bytes, read_onward}
 use Rattle.client_conn.specs.Feeding.{HasRead as Gains}
 use Rattle.client_conn.specs.Shuts.{AsksToShut}
@@ -123,7 +123,7 @@ pub not_over : {R : Type 0} (conn : ConnState) (server : PipeServer R) (before l
 not_over conn server before left was is serves ends =
     let shuts = serves.reads.in_step.shuts ends in none_shut shuts.behind _ shuts.before (sym serves.none ∙ shuts.are)
   where
-    none_shut : (last : List Ask) (a : Ask) (front : List Ask) → [] ≡ front ++ (a ∷ last) → ⊥
+    none_shut : (last : List ClientAction) (a : ClientAction) (front : List ClientAction) → [] ≡ front ++ (a ∷ last) → ⊥
     none_shut last a [] e = cc
     none_shut last a (x ∷ front) e = cc
 

@@ -11,20 +11,20 @@ use Rattle.node_core.proofs.Calls.Composed.{Called, IsShard, step_keeps, same_ke
 use Rattle.claim_race.specs.Race.{RaceState}
 use Rattle.shard_core.specs.ShardEvents as of_shard
 use Rattle.node_parts.specs.declared.lines.Claimed.{Claimed}
-use Rattle.node_law.specs.State.{Line}
+use Rattle.node_law.specs.State.{ShardWithJobs}
 use Rattle.node_law.specs.Steps.{event_refusal, work_refusal}
 use Rattle.node_law.specs.Sound.{tried_of}
 use Rattle.node_parts.specs.Lines.{LineClaims, MayClaim, is_won}
-use Rattle.node_parts.specs.Sides.{Side}
+use Rattle.node_parts.specs.Sides.{HubWithSessions}
 use Rattle.node_core.specs.Served.{IsClaimToldAt, ClaimStep, Served, IsKept, served_of_parts, refusal, work_answer}
 
-pub may_claim : (s : Served) (shard place : ℕ) (line : Line) → IsKept s → IsShard s.node shard place line → slice_get s.node.lines place ≡ Some line → MayClaim line s.node.race shard
+pub may_claim : (s : Served) (shard place : ℕ) (line : ShardWithJobs) → IsKept s → IsShard s.node shard place line → slice_get s.node.lines place ≡ Some line → MayClaim line s.node.race shard
 may_claim s shard place line kept p here = record {
   turn = λ t e. (held_turn s shard place t line kept p e).1;
   next = subst (λ q. slice_index s.node.race.next q ≤ tried_of line.shard.hand line.shard.next_index) (sym p.at) (kept.sound.raced.next place line here);
 }
 
-pub claim_call : (copies : Bool) (side : Side) (race new_race : RaceState) (lines : List Line) (shard place index : ℕ) (line after : Line) (r : Result Claimed (Failure NodeFault))
+pub claim_call : (copies : Bool) (side : HubWithSessions) (race new_race : RaceState) (lines : List ShardWithJobs) (shard place index : ℕ) (line after : ShardWithJobs) (r : Result Claimed (Failure NodeFault))
     → IsKept (served_of_parts side race lines) → IsShard (served_of_parts side race lines).node shard place line → slice_get lines place ≡ Some line
     → IsAnswered (event_refusal line (Some (of_shard.Claim index false))) (λ claimed. LineClaims copies line race shard index claimed after new_race) ((after ≡ line) × (new_race ≡ race)) r
     → Called Claimed (served_of_parts side race lines) (served_of_parts side new_race (set lines place after)) (Own (AtShard shard (Claim index))) (λ claimed. ClaimStep copies (served_of_parts side race lines) shard index claimed (served_of_parts side new_race (set lines place after))) r

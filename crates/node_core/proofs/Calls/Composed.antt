@@ -4,7 +4,7 @@ use Rattle.std.specs.Prelude.{slice_get, slice_index}
 use Rattle.std.specs.Option.{option_map, option_or}
 use Rattle.std.proofs.lemmas.Option.{none-some, same_Some, slice_get_past}
 use Rattle.list_laws.proofs.Tests.{eq_false, lt_false, lt_true}
-use Rattle.subj.specs.Servers.{Server}
+use Rattle.subj.specs.Servers.{ServerIdentity}
 use Rattle.claim_race.specs.Race.{RaceState, IsInTurn, IsFinished, finished_of}
 use Rattle.subj.specs.Answers.{IsAnswered, IsDecided}
 use Rattle.subj.specs.declared.failures.Failure.{Failure}
@@ -17,9 +17,9 @@ use Rattle.node_law.specs.Events.{NodeEvent, Own, OfConn, AtShard}
 use Rattle.node_law.specs.declared.events.ConnEvent.{ConnEvent}
 use Rattle.node_law.specs.declared.events.ShardWork.{ShardWork}
 use Rattle.node_law.specs.declared.events.ShardWork.TheVariants.{End, DropJob}
-use Rattle.node_law.specs.State.{Line, Node}
+use Rattle.node_law.specs.State.{ShardWithJobs, Node}
 use Rattle.node_law.specs.Steps.{conn_place, conn_line, shard_line, conn_event, work_event, conn_refusal, event_refusal, work_refusal, WorkRace, line_after, line_after_if, set_line}
-use Rattle.node_parts.specs.Sides.{Side}
+use Rattle.node_parts.specs.Sides.{HubWithSessions}
 use Rattle.node_core.specs.Served.{Served, LineStep, LineEnds, LineDrops, DropStep, WaitsNext, dropped_job, dropped_turn, DoesStep, ConnStep, WorkStep, work_answer, IsKept, served_of_parts, refusal, answer_at, place_of_conn, place_of_shard}
 use Rattle.subj.specs.declared.jobs.Job.{Job}
 use Rattle.subj.specs.declared.limits.TheConstants.{WINDOW}
@@ -61,11 +61,11 @@ write_same (x ∷ xs) (suc n) a e = ap (λ t. x ∷ t) (write_same xs n a e)
 
 -- ---- which line it is
 
-record IsPlace (server : Server) (a : Node) (conn place : ℕ) (line : Line) : Type 0 where
+record IsPlace (server : ServerIdentity) (a : Node) (conn place : ℕ) (line : ShardWithJobs) : Type 0 where
   at : conn_place server conn ≡ place
   is : conn_line server a conn ≡ Some line
 
-conn_found : (server : Server) (a : Node) (conn count place : ℕ) (o : Option ℕ) (line : Line)
+conn_found : (server : ServerIdentity) (a : Node) (conn count place : ℕ) (o : Option ℕ) (line : ShardWithJobs)
     → length a.lines ≡ server.shards → count ≡ length a.lines → o ≡ place_of_conn count conn → o ≡ Some place → slice_get a.lines place ≡ Some line → IsPlace server a conn place line
 conn_found server a conn count place o line size is_count given some here = go (nat_eq conn 0) refl (sym given ∙ some)
   where
@@ -78,7 +78,7 @@ conn_found server a conn count place o line size is_count given some here = go (
         let at = at_place (same_Some ((conn - 1) % count) place e) in
         record { at = at; is = ap (λ b. cond b None (slice_get a.lines (conn_place server conn))) z ∙ ap (slice_get a.lines) at ∙ here }
 
-pub record IsShard (a : Node) (shard place : ℕ) (line : Line) : Type 0 where
+pub record IsShard (a : Node) (shard place : ℕ) (line : ShardWithJobs) : Type 0 where
   pub at : shard - 1 ≡ place
   pub is : shard_line a shard ≡ Some line
   pub first : 1 ≤ shard
@@ -88,7 +88,7 @@ positive : (m : ℕ) → m ≢ 0 → 1 ≤ m
 positive zero n = absurd (n refl)
 positive (suc m) n = omega arith
 
-pub shard_found : (a : Node) (shard count place : ℕ) (o : Option ℕ) (line : Line) → count ≡ length a.lines → o ≡ place_of_shard count shard → o ≡ Some place → slice_get a.lines place ≡ Some line → IsShard a shard place line
+pub shard_found : (a : Node) (shard count place : ℕ) (o : Option ℕ) (line : ShardWithJobs) → count ≡ length a.lines → o ≡ place_of_shard count shard → o ≡ Some place → slice_get a.lines place ≡ Some line → IsShard a shard place line
 shard_found a shard count place o line is_count given some here = go (nat_eq shard 0) refl (nat_lt count shard) refl (sym given ∙ some)
   where
     go : (b : Bool) → nat_eq shard 0 ≡ b → (d : Bool) → nat_lt count shard ≡ d → cond (b || d) None (Some (shard - 1)) ≡ Some place → IsShard a shard place line
@@ -108,10 +108,10 @@ shard_found a shard count place o line is_count given some here = go (nat_eq sha
 -- ---- where there is no line
 
 -- a server has some shards
-pub some_lines : (side : Side) (race : RaceState) (lines : List Line) (count : ℕ) → IsKept (served_of_parts side race lines) → count ≡ length lines → 1 ≤ count
+pub some_lines : (side : HubWithSessions) (race : RaceState) (lines : List ShardWithJobs) (count : ℕ) → IsKept (served_of_parts side race lines) → count ≡ length lines → 1 ≤ count
 some_lines side race lines count kept is_count = subst (λ n. 1 ≤ n) (sym (is_count ∙ kept.sound.size)) kept.some
 
-pub no_conn : (side : Side) (race : RaceState) (lines : List Line) (conn count : ℕ) (o : Option ℕ) (event : ConnEvent) → o ≡ place_of_conn count conn → o ≡ None → refusal (served_of_parts side race lines) (Own (OfConn conn event)) ≡ Some (Shard NoConn)
+pub no_conn : (side : HubWithSessions) (race : RaceState) (lines : List ShardWithJobs) (conn count : ℕ) (o : Option ℕ) (event : ConnEvent) → o ≡ place_of_conn count conn → o ≡ None → refusal (served_of_parts side race lines) (Own (OfConn conn event)) ≡ Some (Shard NoConn)
 no_conn side race lines conn count o event given none = go (nat_eq conn 0) refl (sym given ∙ none)
   where
     go : (b : Bool) → nat_eq conn 0 ≡ b → cond b None (Some ((conn - 1) % count)) ≡ None → refusal (served_of_parts side race lines) (Own (OfConn conn event)) ≡ Some (Shard NoConn)
@@ -121,7 +121,7 @@ no_conn side race lines conn count o event given none = go (nat_eq conn 0) refl 
 pub no_shard : (a : Node) (shard count : ℕ) (o : Option ℕ) → count ≡ length a.lines → o ≡ place_of_shard count shard → o ≡ None → shard_line a shard ≡ None
 no_shard a shard count o is_count given none = go (nat_eq shard 0) refl (nat_lt count shard) refl (sym given ∙ none)
   where
-    here : Bool → Option Line
+    here : Bool → Option ShardWithJobs
     here b = cond b None (slice_get a.lines (shard - 1))
 
     go : (b : Bool) → nat_eq shard 0 ≡ b → (d : Bool) → nat_lt count shard ≡ d → cond (b || d) None (Some (shard - 1)) ≡ None → here (nat_eq shard 0) ≡ None
@@ -142,10 +142,10 @@ pub record Decided (X : Type 0) (old new : Served) (e : NodeEvent) (done : X →
   pub keeps : IsKept new
   pub answers : IsDecided (refusal old e) done (new ≡ old) r
 
-pub lines_same : (lines : List Line) (place : ℕ) (line after : Line) → slice_get lines place ≡ Some line → after ≡ line → set lines place after ≡ lines
+pub lines_same : (lines : List ShardWithJobs) (place : ℕ) (line after : ShardWithJobs) → slice_get lines place ≡ Some line → after ≡ line → set lines place after ≡ lines
 lines_same lines place line after here same = ap (set lines place) same ∙ write_same lines place line here
 
-conn_done : (side : Side) (race : RaceState) (lines : List Line) (conn place : ℕ) (event : ConnEvent) (line after : Line) (answer : of_shard.Answer)
+conn_done : (side : HubWithSessions) (race : RaceState) (lines : List ShardWithJobs) (conn place : ℕ) (event : ConnEvent) (line after : ShardWithJobs) (answer : of_shard.Answer)
     → IsPlace side.server (served_of_parts side race lines).node conn place line → event_refusal line (Some (conn_event conn event)) ≡ None → LineStep line (conn_event conn event) answer after
     → ConnStep (served_of_parts side race lines) conn event answer (served_of_parts side race (set lines place after))
 conn_done side race lines conn place event line after answer p free does = record {
@@ -163,7 +163,7 @@ conn_done side race lines conn place event line after answer p free does = recor
   answered = ap Some does.answered ∙ sym (ap (answer_at (Some (conn_event conn event))) p.is);
 }
 
-pub conn_call : {X : Type 0} (side : Side) (race : RaceState) (lines : List Line) (conn count place : ℕ) (o : Option ℕ) (event : ConnEvent) (line after : Line) (answer : X → of_shard.Answer) (r : Result X (Failure NodeFault))
+pub conn_call : {X : Type 0} (side : HubWithSessions) (race : RaceState) (lines : List ShardWithJobs) (conn count place : ℕ) (o : Option ℕ) (event : ConnEvent) (line after : ShardWithJobs) (answer : X → of_shard.Answer) (r : Result X (Failure NodeFault))
     → IsKept (served_of_parts side race lines) → count ≡ length lines → o ≡ place_of_conn count conn → o ≡ Some place → slice_get lines place ≡ Some line
     → IsAnswered (event_refusal line (Some (conn_event conn event))) (λ x. LineStep line (conn_event conn event) (answer x) after) (after ≡ line) r
     → Called X (served_of_parts side race lines) (served_of_parts side race (set lines place after)) (Own (OfConn conn event)) (λ x. ConnStep (served_of_parts side race lines) conn event (answer x) (served_of_parts side race (set lines place after))) r
@@ -189,7 +189,7 @@ conn_call {X = X} side race lines conn count place o event line after answer r k
     go (Err (Refused why)) g = (cause (Some why) g.0, same g.1)
     go (Err OutOfMemory) g = (cause None g.0, same g.1)
 
-pub conn_decision : {X : Type 0} (side : Side) (race : RaceState) (lines : List Line) (conn count place : ℕ) (o : Option ℕ) (event : ConnEvent) (line after : Line) (answer : X → of_shard.Answer) (r : Result X NodeFault)
+pub conn_decision : {X : Type 0} (side : HubWithSessions) (race : RaceState) (lines : List ShardWithJobs) (conn count place : ℕ) (o : Option ℕ) (event : ConnEvent) (line after : ShardWithJobs) (answer : X → of_shard.Answer) (r : Result X NodeFault)
     → IsKept (served_of_parts side race lines) → count ≡ length lines → o ≡ place_of_conn count conn → o ≡ Some place → slice_get lines place ≡ Some line
     → IsDecided (event_refusal line (Some (conn_event conn event))) (λ x. LineStep line (conn_event conn event) (answer x) after) (after ≡ line) r
     → Decided X (served_of_parts side race lines) (served_of_parts side race (set lines place after)) (Own (OfConn conn event)) (λ x. ConnStep (served_of_parts side race lines) conn event (answer x) (served_of_parts side race (set lines place after))) r
@@ -214,7 +214,7 @@ conn_decision {X = X} side race lines conn count place o event line after answer
 -- ---- shards
 
 -- the step of a shard's work, with the race after it
-pub work_done : (side : Side) (race new_race : RaceState) (lines : List Line) (shard place : ℕ) (work : ShardWork) (won : Bool) (line after : Line)
+pub work_done : (side : HubWithSessions) (race new_race : RaceState) (lines : List ShardWithJobs) (shard place : ℕ) (work : ShardWork) (won : Bool) (line after : ShardWithJobs)
     → IsShard (served_of_parts side race lines).node shard place line → event_refusal line (work_event work false line) ≡ None → after ≡ line_after_if (work_event work won line) line → WorkRace race shard work (Some line) won new_race
     → DoesStep (served_of_parts side race lines) (Own (AtShard shard work)) won (served_of_parts side new_race (set lines place after))
 work_done side race new_race lines shard place work won line after p free does moves =
@@ -232,7 +232,7 @@ work_done side race new_race lines shard place work won line after p free does m
     }
 
 -- of work that moves no race
-pub work_call : {X : Type 0} (side : Side) (race : RaceState) (lines : List Line) (shard count place : ℕ) (o : Option ℕ) (work : ShardWork) (line after : Line) (done : X → Type 0) (fact : X → Type 0) (r : Result X (Failure NodeFault))
+pub work_call : {X : Type 0} (side : HubWithSessions) (race : RaceState) (lines : List ShardWithJobs) (shard count place : ℕ) (o : Option ℕ) (work : ShardWork) (line after : ShardWithJobs) (done : X → Type 0) (fact : X → Type 0) (r : Result X (Failure NodeFault))
     → IsKept (served_of_parts side race lines) → count ≡ length lines → o ≡ place_of_shard count shard → o ≡ Some place → slice_get lines place ≡ Some line
     → WorkRace race shard work (Some line) false race → ((x : X) → done x → after ≡ line_after_if (work_event work false line) line)
     → (shard_line (served_of_parts side race lines).node shard ≡ Some line → (x : X) → done x → fact x)
@@ -282,7 +282,7 @@ turns_most b k [] t = omega arith
 turns_most b k (job ∷ jobs) t = let z = turns_most (suc b) k jobs t.1 in omega arith
 
 -- the job in hand is that of the turn that the race waits for
-pub held_turn : (s : Served) (shard place turn : ℕ) (line : Line) → IsKept s → IsShard s.node shard place line → option_map (λ (job : Job). job.turn) line.shard.hand ≡ Some turn → (turn ≡ line.shard.finished + 1) × IsInTurn s.node.race shard turn
+pub held_turn : (s : Served) (shard place turn : ℕ) (line : ShardWithJobs) → IsKept s → IsShard s.node shard place line → option_map (λ (job : Job). job.turn) line.shard.hand ≡ Some turn → (turn ≡ line.shard.finished + 1) × IsInTurn s.node.race shard turn
 held_turn s shard place turn line kept p held = go line.shard.hand refl held
   where
     here : slice_get s.node.lines place ≡ Some line
@@ -292,7 +292,7 @@ held_turn s shard place turn line kept p held = go line.shard.hand refl held
     sound = (kept.sound.lines place line here).sound
 
     finished : finished_of s.node.race shard ≡ line.shard.finished
-    finished = ap (λ q. slice_index s.node.race.finished q) p.at ∙ ap (λ t. slice_index t place) kept.sound.raced.finished ∙ index_map (λ (l : Line). l.shard.finished) s.node.lines place line here
+    finished = ap (λ q. slice_index s.node.race.finished q) p.at ∙ ap (λ t. slice_index t place) kept.sound.raced.finished ∙ index_map (λ (l : ShardWithJobs). l.shard.finished) s.node.lines place line here
 
     go : (hand : Option Job) → line.shard.hand ≡ hand → option_map (λ (job : Job). job.turn) hand ≡ Some turn → (turn ≡ line.shard.finished + 1) × IsInTurn s.node.race shard turn
     go None is e = absurd (none-some turn e)
@@ -300,12 +300,12 @@ held_turn s shard place turn line kept p held = go line.shard.hand refl held
         let t = same_Some job.turn turn e in
         let next = sound.hand job is in
         let most = turns_most (suc line.shard.finished) s.node.race.issued line.waiting (subst (λ h. Turns (begun_turn h line.shard.finished) line.waiting s.node.race.issued) is sound.turns) in
-        let size = ap length kept.sound.raced.finished ∙ map_length (λ (l : Line). l.shard.finished) s.node.lines in
+        let size = ap length kept.sound.raced.finished ∙ map_length (λ (l : ShardWithJobs). l.shard.finished) s.node.lines in
         let last = p.last in
         let at = finished in
         (omega arith, record { first = p.first; last = omega arith; follows = omega arith; issued = omega arith })
 
-pub end_done : (side : Side) (race new_race : RaceState) (lines : List Line) (shard place turn : ℕ) (line after : Line)
+pub end_done : (side : HubWithSessions) (race new_race : RaceState) (lines : List ShardWithJobs) (shard place turn : ℕ) (line after : ShardWithJobs)
     → IsKept (served_of_parts side race lines) → IsShard (served_of_parts side race lines).node shard place line → event_refusal line (Some of_shard.End) ≡ None → LineEnds line turn after → IsFinished race shard turn new_race
     → WorkStep (served_of_parts side race lines) shard End false of_shard.Finished (served_of_parts side new_race (set lines place after))
 end_done side race new_race lines shard place turn line after kept p free ends over = record {
@@ -314,7 +314,7 @@ end_done side race new_race lines shard place turn line after kept p free ends o
 }
 
 -- so with the job that a drop takes
-pub dropped_held : (s : Served) (shard place turn : ℕ) (line : Line) → IsKept s → IsShard s.node shard place line → option_map (λ (job : Job). job.turn) (dropped_job line) ≡ Some turn → (turn ≡ line.shard.finished + 1) × IsInTurn s.node.race shard turn
+pub dropped_held : (s : Served) (shard place turn : ℕ) (line : ShardWithJobs) → IsKept s → IsShard s.node shard place line → option_map (λ (job : Job). job.turn) (dropped_job line) ≡ Some turn → (turn ≡ line.shard.finished + 1) × IsInTurn s.node.race shard turn
 dropped_held s shard place turn line kept p held = go line.shard.hand refl held
   where
     here : slice_get s.node.lines place ≡ Some line
@@ -324,7 +324,7 @@ dropped_held s shard place turn line kept p held = go line.shard.hand refl held
     sound = (kept.sound.lines place line here).sound
 
     finished : finished_of s.node.race shard ≡ line.shard.finished
-    finished = ap (λ q. slice_index s.node.race.finished q) p.at ∙ ap (λ t. slice_index t place) kept.sound.raced.finished ∙ index_map (λ (l : Line). l.shard.finished) s.node.lines place line here
+    finished = ap (λ q. slice_index s.node.race.finished q) p.at ∙ ap (λ t. slice_index t place) kept.sound.raced.finished ∙ index_map (λ (l : ShardWithJobs). l.shard.finished) s.node.lines place line here
 
     first : (waiting : List Job) → Turns line.shard.finished waiting s.node.race.issued → option_map (λ (job : Job). job.turn) (first_of waiting) ≡ Some turn → (turn ≡ suc line.shard.finished) × (suc line.shard.finished ≤ s.node.race.issued)
     first [] t e = absurd (none-some turn e)
@@ -336,18 +336,18 @@ dropped_held s shard place turn line kept p held = go line.shard.hand refl held
         let t = first line.waiting (subst (λ h. Turns (begun_turn h line.shard.finished) line.waiting s.node.race.issued) is sound.turns) e in
         let next = t.0 in
         let most = t.1 in
-        let size = ap length kept.sound.raced.finished ∙ map_length (λ (l : Line). l.shard.finished) s.node.lines in
+        let size = ap length kept.sound.raced.finished ∙ map_length (λ (l : ShardWithJobs). l.shard.finished) s.node.lines in
         let last = p.last in
         let at = finished in
         (omega arith, record { first = p.first; last = omega arith; follows = omega arith; issued = omega arith })
 
-pub waits_next : (s : Served) (shard place : ℕ) (line : Line) → IsKept s → IsShard s.node shard place line → WaitsNext line
+pub waits_next : (s : Served) (shard place : ℕ) (line : ShardWithJobs) → IsKept s → IsShard s.node shard place line → WaitsNext line
 waits_next s shard place line kept p job free first =
     let here = subst (λ q. slice_get s.node.lines q ≡ Some line) p.at (found (nat_eq shard 0) (slice_get s.node.lines (shard - 1)) line p.is) in
     let next = next_turn line.shard line.waiting s.node.race.issued job (kept.sound.lines place line here).sound.turns free first in
     omega arith
 
-pub drop_done : (side : Side) (race new_race : RaceState) (lines : List Line) (shard place turn : ℕ) (line after : Line)
+pub drop_done : (side : HubWithSessions) (race new_race : RaceState) (lines : List ShardWithJobs) (shard place turn : ℕ) (line after : ShardWithJobs)
     → IsKept (served_of_parts side race lines) → IsShard (served_of_parts side race lines).node shard place line → event_refusal line (work_event DropJob false line) ≡ None → LineDrops line turn after → IsFinished race shard turn new_race
     → DropStep (served_of_parts side race lines) shard turn (served_of_parts side new_race (set lines place after))
 drop_done side race new_race lines shard place turn line after kept p free drops over = record {

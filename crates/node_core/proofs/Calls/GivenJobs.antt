@@ -5,7 +5,7 @@ use Rattle.std.specs.Option.{option_map, option_or}
 use Rattle.std.proofs.lemmas.List.{take_all}
 use Rattle.list_laws.proofs.Tests.{no_cause, or_false, le_false}
 use Rattle.list_laws.proofs.Changes.{get_map}
-use Rattle.subj.specs.Servers.{Server}
+use Rattle.subj.specs.Servers.{ServerIdentity}
 use Rattle.subj.specs.Answers.{IsAnswered, IsRefused}
 use Rattle.subj.specs.declared.failures.Failure.{Failure}
 use Rattle.subj.specs.declared.failures.Failure.TheVariants.{Refused, OutOfMemory}
@@ -24,10 +24,10 @@ use Rattle.hub_core.proofs.Steps.Rooms.{or_none, map_none, has_room}
 use Rattle.shard_core.specs.Lines.{Turns, begun_turn}
 use Rattle.node_law.specs.declared.faults.NodeFault.{NodeFault}
 use Rattle.node_law.specs.declared.faults.NodeFault.TheVariants.{Hub}
-use Rattle.node_law.specs.State.{Line, finished_turns}
+use Rattle.node_law.specs.State.{ShardWithJobs, finished_turns}
 use Rattle.node_law.specs.Answers.{Issued}
 use Rattle.node_law.specs.Steps.{line_with_job}
-use Rattle.node_parts.specs.Sides.{Side}
+use Rattle.node_parts.specs.Sides.{HubWithSessions}
 use Rattle.node_core.specs.Served.{Served, IsKept, MayIssue, AreGiven, PublishStep, failure_of_hub, of_hub_answer, served_of_parts}
 use Rattle.node_law.proofs.Moves.Hubs.{all_room}
 
@@ -61,8 +61,8 @@ refused_as x y p q OutOfMemory e f h = (sym e ∙ h.0, f h.1)
 
 -- ---- how far the shards have come
 
-pub finished_length : (lines : List Line) → length (finished_turns lines) ≡ length lines
-finished_length lines = map_length (λ (line : Line). line.shard.finished) lines
+pub finished_length : (lines : List ShardWithJobs) → length (finished_turns lines) ≡ length lines
+finished_length lines = map_length (λ (line : ShardWithJobs). line.shard.finished) lines
 
 -- there is a line for each shard of the race
 pub record AreCounted (s : Served) (count : ℕ) : Type 0 where
@@ -86,7 +86,7 @@ busy_same s finished kept e =
     let whole = take_all s.server.shards (finished_turns s.node.lines) (let size = kept.sound.size in let long = finished_length s.node.lines in omega arith) in
     ap (λ t. option_map Busy (busy_of s.node.hub.issued t)) (e ∙ kept.sound.raced.finished ∙ sym whole)
 
-pub publish_same : (server : Server) (hub : hub.State) (p : Publication) (x y : List ℕ) → busy_fault server hub x ≡ busy_fault server hub y → publish_refusal server hub p x ≡ publish_refusal server hub p y
+pub publish_same : (server : ServerIdentity) (hub : hub.State) (p : Publication) (x y : List ℕ) → busy_fault server hub x ≡ busy_fault server hub y → publish_refusal server hub p x ≡ publish_refusal server hub p y
 publish_same server hub p x y e = ap (λ b. option_or b (publish_fault server hub p)) e
 
 -- so a publication is refused just as the hub says
@@ -117,7 +117,7 @@ may_issue s kept free left =
           let sound = (kept.sound.lines place line at).sound in
           let count = turns_count (begun_turn line.shard.hand line.shard.finished) s.node.race.issued line.waiting sound.turns in
           let least = begun_least line.shard.hand line.shard.finished in
-          let room = all_room s.server s.node kept.sound (has_room s.server s.node.hub (finished_turns s.node.lines) free) place line.shard.finished (get_map (λ (x : Line). x.shard.finished) s.node.lines place line at) in
+          let room = all_room s.server s.node kept.sound (has_room s.server s.node.hub (finished_turns s.node.lines) free) place line.shard.finished (get_map (λ (x : ShardWithJobs). x.shard.finished) s.node.lines place line at) in
           omega arith;
     }
 
@@ -130,13 +130,13 @@ publish_ready s p kept cause =
     may_issue s kept o.0 (le_false MAX_COUNTER hub.issued (or_false (nat_le MAX_COUNTER hub.published) (nat_le MAX_COUNTER hub.issued) spent.0).1)
 
 -- there are as many lines as before
-pub given_length : (race new_race : RaceState) (lines new_lines : List Line) (jobs : List Job) (job : Job) → AreGiven race lines jobs new_race new_lines → jobs ≡ replicate (length lines) job → length new_lines ≡ length lines
+pub given_length : (race new_race : RaceState) (lines new_lines : List ShardWithJobs) (jobs : List Job) (job : Job) → AreGiven race lines jobs new_race new_lines → jobs ≡ replicate (length lines) job → length new_lines ≡ length lines
 given_length race new_race lines new_lines jobs job given alike = ap length (given.given job alike) ∙ map_length (line_with_job job) lines
 
 -- ---- what is done
 
 -- what a publication owes, with the jobs that the lines got
-pub record IsPublished (old new : Side) (race new_race : RaceState) (lines new_lines : List Line) (p : Publication) (turn frames : ℕ) : Type 0 where
+pub record IsPublished (old new : HubWithSessions) (race new_race : RaceState) (lines new_lines : List ShardWithJobs) (p : Publication) (turn frames : ℕ) : Type 0 where
   pub job : Job
   pub sent : List Frame
   pub jobs : List Job
@@ -147,12 +147,12 @@ pub record IsPublished (old new : Side) (race new_race : RaceState) (lines new_l
   pub alike : jobs ≡ replicate (length lines) job
   pub given : AreGiven race lines jobs new_race new_lines
 
-pub publish_done : (old new : Side) (race new_race : RaceState) (lines new_lines : List Line) (p : Publication) (turn frames : ℕ) → publish_refusal old.server old.hub p (finished_turns lines) ≡ None → IsPublished old new race new_race lines new_lines p turn frames
+pub publish_done : (old new : HubWithSessions) (race new_race : RaceState) (lines new_lines : List ShardWithJobs) (p : Publication) (turn frames : ℕ) → publish_refusal old.server old.hub p (finished_turns lines) ≡ None → IsPublished old new race new_race lines new_lines p turn frames
     → PublishStep (served_of_parts old race lines) p turn frames (served_of_parts new new_race new_lines)
 publish_done old new race new_race lines new_lines p turn frames cause done = record {
   step = record {
     race = new_race;
-    server = ap (λ (s : Side). s.server) done.side;
+    server = ap (λ (s : HubWithSessions). s.server) done.side;
     step = record {
       cause = ap (option_map Hub) cause;
       moves = done.given.issued;

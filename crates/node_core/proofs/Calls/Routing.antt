@@ -6,7 +6,7 @@ use Rattle.std.specs.Str.{bytes_eq}
 use Rattle.std.proofs.lemmas.List.{length-replicate}
 use Rattle.list_laws.proofs.Tests.{no_cause, le_false}
 use Rattle.subj.specs.Messages.{Content}
-use Rattle.subj.specs.Servers.{Server, own_name}
+use Rattle.subj.specs.Servers.{ServerIdentity, own_name}
 use Rattle.subj.specs.declared.jobs.Job.{Job}
 use Rattle.subj.specs.declared.limits.TheConstants.{MAX_COUNTER}
 use Rattle.claim_race.specs.Race.{RaceState}
@@ -23,17 +23,17 @@ use Rattle.hub_core.specs.Receiving.{has_message, body_fault, origin_fault, rece
 use Rattle.hub_core.proofs.Steps.Receives.{from_peer}
 use Rattle.hub_core.proofs.Steps.Rooms.{or_none}
 use Rattle.node_law.specs.declared.faults.NodeFault.TheVariants as node_fault
-use Rattle.node_parts.specs.Sides.{Side, ByHub, side_after}
+use Rattle.node_parts.specs.Sides.{HubWithSessions, ByHub, side_after}
 use Rattle.node_parts.specs.declared.told.Received.{Received}
 use Rattle.node_law.specs.Answers.{told_of_hub}
 use Rattle.node_law.specs.Events.{Receive}
-use Rattle.node_law.specs.State.{Line, Node, finished_turns}
+use Rattle.node_law.specs.State.{ShardWithJobs, Node, finished_turns}
 use Rattle.node_law.specs.Steps.{BodyRace, lines_after_body}
 use Rattle.node_core.specs.Served.{Served, IsKept, MayIssue, MayRoute, AreRouted, IsReceived, ReceiveStep, told_of_received, served_of_parts}
 use Rattle.node_core.proofs.Calls.GivenJobs.{are_counted, busy_same, may_issue, given_length}
 
 -- which turns are finished matters only by who is a window behind
-pub receive_same : (server : Server) (hub : hub.State) (x y : List ℕ) (frame : Frame) → busy_fault server hub x ≡ busy_fault server hub y → receive_refusal server hub x frame ≡ receive_refusal server hub y frame
+pub receive_same : (server : ServerIdentity) (hub : hub.State) (x y : List ℕ) (frame : Frame) → busy_fault server hub x ≡ busy_fault server hub y → receive_refusal server hub x frame ≡ receive_refusal server hub y frame
 receive_same server hub x y frame e = ap (λ o. if not (bytes_eq frame.to (own_name server)) then Some fault.NotMe else (if not (nat_eq frame.to_inc server.inc) then Some fault.OtherMe else o)) (origin (peer_of server hub frame.from))
   where
     of_body : (b : Body) (base : Peer) → body_fault server hub base frame.number x b ≡ body_fault server hub base frame.number y b
@@ -73,7 +73,7 @@ may_route s frame received jobs kept cause is = go frame.body refl is
     go (Msg content queues) e h = (message_ready s frame content queues kept cause e, ap length h.1 ∙ length-replicate (length s.node.lines) (routed_job s.node.hub frame content queues))
 
 -- there are as many lines as before
-pub routed_length : (hub : hub.State) (race new_race : RaceState) (lines new_lines : List Line) (frame : Frame) (received : Received) (jobs : List Job) → IsReceived hub frame frame.body (length lines) received jobs → AreRouted (has_message frame.body) race lines jobs new_race new_lines → length new_lines ≡ length lines
+pub routed_length : (hub : hub.State) (race new_race : RaceState) (lines new_lines : List ShardWithJobs) (frame : Frame) (received : Received) (jobs : List Job) → IsReceived hub frame frame.body (length lines) received jobs → AreRouted (has_message frame.body) race lines jobs new_race new_lines → length new_lines ≡ length lines
 routed_length hub race new_race lines new_lines frame received jobs is routed = go frame.body is routed
   where
     go : (b : Body) → IsReceived hub frame b (length lines) received jobs → AreRouted (has_message b) race lines jobs new_race new_lines → length new_lines ≡ length lines
@@ -85,18 +85,18 @@ routed_length hub race new_race lines new_lines frame received jobs is routed = 
 -- ---- what is done
 
 -- a received frame, and what was routed of it
-pub record IsRouted (old new : Side) (race new_race : RaceState) (lines new_lines : List Line) (frame : Frame) (received : Received) (jobs : List Job) : Type 0 where
+pub record IsRouted (old new : HubWithSessions) (race new_race : RaceState) (lines new_lines : List ShardWithJobs) (frame : Frame) (received : Received) (jobs : List Job) : Type 0 where
   pub finished : List ℕ
   pub side : new ≡ side_after old (ByHub (of_hub.Receive frame finished))
   pub received_is : IsReceived old.hub frame frame.body (length lines) received jobs
   pub routed : AreRouted (has_message frame.body) race lines jobs new_race new_lines
 
-pub receive_done : (old new : Side) (race new_race : RaceState) (lines new_lines : List Line) (frame : Frame) (received : Received) (jobs : List Job) → receive_refusal old.server old.hub (finished_turns lines) frame ≡ None
+pub receive_done : (old new : HubWithSessions) (race new_race : RaceState) (lines new_lines : List ShardWithJobs) (frame : Frame) (received : Received) (jobs : List Job) → receive_refusal old.server old.hub (finished_turns lines) frame ≡ None
     → IsRouted old new race new_race lines new_lines frame received jobs → ReceiveStep (served_of_parts old race lines) frame received (served_of_parts new new_race new_lines)
 receive_done old new race new_race lines new_lines frame received jobs cause done = record {
   step = record {
     race = new_race;
-    server = ap (λ (s : Side). s.server) done.side;
+    server = ap (λ (s : HubWithSessions). s.server) done.side;
     step = record {
       cause = ap (option_map node_fault.Hub) cause;
       moves = moves frame.body done.routed;

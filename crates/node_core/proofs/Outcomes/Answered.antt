@@ -22,12 +22,12 @@ use Rattle.node_core.specs.Outcome.{Answers, told_of_claim}
 use Rattle.node_core.specs.Served.{Served, ConnStep, WorkStep, BeginStep, ClaimStep, IsToldAt, DropStep, DialStep, AcceptStep, CutStep, FramesStep, InfoStep, ConnectStep, PublishStep, ReceiveStep, CollectStep, told_of_received, IsClaimTold, IsClaimToldAt, answer_at, line_answer, work_answer, is_won}
 use Rattle.hub_core.specs.Publishing.{Publication}
 use Rattle.node_parts.specs.declared.told.Received.{Received}
-use Rattle.node_law.specs.State.{Line}
+use Rattle.node_law.specs.State.{ShardWithJobs}
 use Rattle.node_law.specs.Steps.{conn_line, shard_line, conn_event, work_event, begin_of, drop_of}
 
 -- ---- connections
 
-told_conn : (event : of_shard.Event) (answer : of_shard.Answer) (o : Option Line) → Some answer ≡ answer_at (Some event) o → told_of_shard answer ≡ told_at o (λ line. Some event)
+told_conn : (event : of_shard.Event) (answer : of_shard.Answer) (o : Option ShardWithJobs) → Some answer ≡ answer_at (Some event) o → told_of_shard answer ≡ told_at o (λ line. Some event)
 told_conn event answer None e = absurd (none-some answer (sym e))
 told_conn event answer (Some line) e = ap told_of_shard (same_Some answer (shard_answer line.shard event) e)
 
@@ -36,11 +36,11 @@ conn_answers old new conn event answer d = record { won = false; step = d.step; 
 
 -- ---- shards
 
-told_line : (event : Option of_shard.Event) (line : Line) (answer : of_shard.Answer) → Some answer ≡ line_answer event line → told_of_shard answer ≡ told_of_line line event
+told_line : (event : Option of_shard.Event) (line : ShardWithJobs) (answer : of_shard.Answer) → Some answer ≡ line_answer event line → told_of_shard answer ≡ told_of_line line event
 told_line None line answer e = absurd (none-some answer (sym e))
 told_line (Some event) line answer e = ap told_of_shard (same_Some answer (shard_answer line.shard event) e)
 
-told_work : (work : ShardWork) (won : Bool) (answer : of_shard.Answer) (o : Option Line) → Some answer ≡ work_answer work won o → told_of_shard answer ≡ told_at o (work_event work won)
+told_work : (work : ShardWork) (won : Bool) (answer : of_shard.Answer) (o : Option ShardWithJobs) → Some answer ≡ work_answer work won o → told_of_shard answer ≡ told_at o (work_event work won)
 told_work work won answer None e = absurd (none-some answer (sym e))
 told_work work won answer (Some line) e = told_line (work_event work won line) line answer e
 
@@ -52,29 +52,29 @@ told_claim copies code.Nobody answer e = sym (ap told_of_shard e)
 told_claim copies code.Lost answer e = sym (ap told_of_shard e)
 told_claim copies (code.Won sub placed ended) answer e = sym (ap told_of_shard e.2)
 
-pub told_claim_at : (copies : Bool) (claimed : Claimed) (index : ℕ) (o : Option Line) → IsClaimToldAt copies claimed (work_answer (Claim index) (is_won claimed) o) → told_of_claim claimed ≡ told_at o (work_event (Claim index) (is_won claimed))
+pub told_claim_at : (copies : Bool) (claimed : Claimed) (index : ℕ) (o : Option ShardWithJobs) → IsClaimToldAt copies claimed (work_answer (Claim index) (is_won claimed) o) → told_of_claim claimed ≡ told_at o (work_event (Claim index) (is_won claimed))
 told_claim_at copies claimed index None e = absurd e
 told_claim_at copies claimed index (Some line) e = told_claim copies claimed (shard_answer line.shard (of_shard.Claim index (is_won claimed))) e
 
 pub claim_answers : (copies : Bool) (old new : Served) (shard index : ℕ) (claimed : Claimed) → ClaimStep copies old shard index claimed new → Answers old (Own (AtShard shard (Claim index))) (told_of_claim claimed) new
 claim_answers copies old new shard index claimed d = record { won = is_won claimed; step = d.step; told = told_claim_at copies claimed index (shard_line old.node shard) d.told }
 
-told_begin_of : (copies : Bool) (line : Line) (job : Job) (waits : Option Job) (begun : Begun) → waits ≡ Some job → IsTold copies line.shard job begun → Began begun.given (length begun.closed.items) ≡ told_of_line line (begin_of waits)
+told_begin_of : (copies : Bool) (line : ShardWithJobs) (job : Job) (waits : Option Job) (begun : Begun) → waits ≡ Some job → IsTold copies line.shard job begun → Began begun.given (length begun.closed.items) ≡ told_of_line line (begin_of waits)
 told_begin_of copies line job waits begun is d = (λ k. Began ((d.given ∙ sym (length-map (whole_walk line.shard job).given (placed_for line.shard.shard job None))) k) (length (d.closed k))) ∙ sym (ap (λ o. told_of_line line (begin_of o)) is)
 
-pub told_begin : (copies : Bool) (o : Option Line) (begun : Begun) → IsToldAt copies o begun → Began begun.given (length begun.closed.items) ≡ told_at o (work_event Begin false)
+pub told_begin : (copies : Bool) (o : Option ShardWithJobs) (begun : Begun) → IsToldAt copies o begun → Began begun.given (length begun.closed.items) ≡ told_at o (work_event Begin false)
 told_begin copies None begun e = absurd e
 told_begin copies (Some line) begun e = told_begin_of copies line e.0 (first_of line.waiting) begun e.1 e.2
 
 pub begin_answers : (copies : Bool) (old new : Served) (shard : ℕ) (begun : Begun) → BeginStep copies old shard begun new → Answers old (Own (AtShard shard Begin)) (Began begun.given (length begun.closed.items)) new
 begin_answers copies old new shard begun d = record { won = false; step = d.step; told = told_begin copies (shard_line old.node shard) begun d.told }
 
-told_drop : (line : Line) (hand waiting : Option Job) → Nothing ≡ told_of_line line (drop_of hand waiting)
+told_drop : (line : ShardWithJobs) (hand waiting : Option Job) → Nothing ≡ told_of_line line (drop_of hand waiting)
 told_drop line None None = refl
 told_drop line None (Some job) = refl
 told_drop line (Some hand) waiting = refl
 
-told_drop_at : (o : Option Line) → Nothing ≡ told_at o (work_event DropJob false)
+told_drop_at : (o : Option ShardWithJobs) → Nothing ≡ told_at o (work_event DropJob false)
 told_drop_at None = refl
 told_drop_at (Some line) = told_drop line line.shard.hand _
 

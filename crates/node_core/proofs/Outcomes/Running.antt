@@ -3,14 +3,14 @@ use Rattle.std.proofs.Common.{◌≡◌, ◌<◌, ◌≤◌, ◌+◌, ℕ, true,
 use Rattle.std.proofs.lemmas.List.{at_drop_more, drop_all}
 use Rattle.list_laws.proofs.Changes.{append_assoc, append_nil, map_append}
 use Rattle.subj.specs.Answers.{IsAnswered}
-use Rattle.subj.specs.Servers.{Server, IsListed}
+use Rattle.subj.specs.Servers.{ServerIdentity, IsListed}
 use Rattle.node_core.specs.declared.did.Did.{Did}
 use Rattle.node_law.specs.declared.events.NodeEvent as code
 use Rattle.node_core.specs.declared.refused.Refused.{Refused}
 use Rattle.node_core.specs.declared.refused.Refused.TheVariants.{Fault, OutOfMemory}
 use Rattle.node_law.specs.Events.{NodeEvent}
 use Rattle.node_core.specs.InCode.{result_in_code, event_of}
-use Rattle.node_core.specs.OneRun.{GoesOn, IsRun, Follows, OneServerKeeps, done_with, is_short, outcome_told}
+use Rattle.node_core.specs.OneRun.{GoesOn, IsRun, Follows, OneServerKeeps, done_with, is_out_of_memory, outcome_told}
 use Rattle.node_core.specs.Outcome.{Outcome, Does, did_of}
 use Rattle.node_law.specs.Runs.{Done, Ran}
 use Rattle.node_core.specs.Served.{Served, refusal}
@@ -25,12 +25,12 @@ IsBegun start all rs here rest = (more : List (Result Outcome Refused)) (new : S
 abbrev pub IsStepped : Served → NodeEvent → Result Outcome Refused → Served → Type 0
 IsStepped here e r next = IsAnswered (refusal here e) (λ did. Does here e did next) (next ≡ here) (result_in_code r)
 
-pub one_more : (start : Served) (all : List NodeEvent) (rs : List (Result Outcome Refused)) (here : Served) (e : NodeEvent) (rest : List NodeEvent) (r : Result Outcome Refused) (next : Served) → IsBegun start all rs here (e ∷ rest) → IsStepped here e r next → is_short r ≡ false → IsBegun start all (rs ++ r ∷ []) next rest
+pub one_more : (start : Served) (all : List NodeEvent) (rs : List (Result Outcome Refused)) (here : Served) (e : NodeEvent) (rest : List NodeEvent) (r : Result Outcome Refused) (next : Served) → IsBegun start all rs here (e ∷ rest) → IsStepped here e r next → is_out_of_memory r ≡ false → IsBegun start all (rs ++ r ∷ []) next rest
 one_more start all rs here e rest r next begun step long more new run =
     subst (λ l. IsRun start all l new) (sym (append_assoc rs (r ∷ []) more))
     (begun (r ∷ more) new (next, step, subst (λ b. Follows b ((more ≡ []) × (new ≡ next)) (IsRun next rest more new)) (sym long) run))
 
-pub the_last : (start : Served) (all : List NodeEvent) (rs : List (Result Outcome Refused)) (here : Served) (e : NodeEvent) (rest : List NodeEvent) (r : Result Outcome Refused) (next : Served) → IsBegun start all rs here (e ∷ rest) → IsStepped here e r next → is_short r ≡ true → IsRun start all (rs ++ r ∷ []) next
+pub the_last : (start : Served) (all : List NodeEvent) (rs : List (Result Outcome Refused)) (here : Served) (e : NodeEvent) (rest : List NodeEvent) (r : Result Outcome Refused) (next : Served) → IsBegun start all rs here (e ∷ rest) → IsStepped here e r next → is_out_of_memory r ≡ true → IsRun start all (rs ++ r ∷ []) next
 the_last start all rs here e rest r next begun step short =
     begun (r ∷ []) next (next, step, subst (λ b. Follows b ((no_more ≡ no_more) × (next ≡ next)) (IsRun next rest no_more next)) (sym short) (refl, refl))
   where
@@ -47,7 +47,7 @@ pub as_told : (here : Served) (e : NodeEvent) (r : Result Did Refused) (next : S
 as_told here e (Ok did) next a = a
 as_told here e (Err why) next a = a
 
-pub short_told : (r : Result Did Refused) → is_short (outcome_told r) ≡ is_short r
+pub short_told : (r : Result Did Refused) → is_out_of_memory (outcome_told r) ≡ is_out_of_memory r
 short_told (Ok did) = refl
 short_told (Err (Fault why)) = refl
 short_told (Err OutOfMemory) = refl
@@ -60,12 +60,12 @@ next_event events i e within is = at_drop_more (map event_of) events i e within 
 one_answer : (answers more : List (Result Did Refused)) (r : Result Did Refused) → more ≡ answers ++ r ∷ [] → map outcome_told answers ++ outcome_told r ∷ [] ≡ map outcome_told more
 one_answer answers more r is = sym (ap (map outcome_told) is ∙ map_append outcome_told answers (r ∷ []))
 
-pub goes_one_on : (start here next : Served) (events : List code.NodeEvent) (i : ℕ) (e : code.NodeEvent) (answers more : List (Result Did Refused)) (r : Result Did Refused) → i < length events → e ≡ get_or events i e → more ≡ answers ++ r ∷ [] → IsBegun start (map event_of events) (map outcome_told answers) here (map event_of (drop i events)) → IsAnswered (refusal here (event_of e)) (λ did. Does here (event_of e) (did_of did) next) (next ≡ here) (result_in_code r) → is_short r ≡ false → IsBegun start (map event_of events) (map outcome_told more) next (map event_of (drop (i + 1) events))
+pub goes_one_on : (start here next : Served) (events : List code.NodeEvent) (i : ℕ) (e : code.NodeEvent) (answers more : List (Result Did Refused)) (r : Result Did Refused) → i < length events → e ≡ get_or events i e → more ≡ answers ++ r ∷ [] → IsBegun start (map event_of events) (map outcome_told answers) here (map event_of (drop i events)) → IsAnswered (refusal here (event_of e)) (λ did. Does here (event_of e) (did_of did) next) (next ≡ here) (result_in_code r) → is_out_of_memory r ≡ false → IsBegun start (map event_of events) (map outcome_told more) next (map event_of (drop (i + 1) events))
 goes_one_on start here next events i e answers more r within is put begun step long =
     subst (λ l. IsBegun start (map event_of events) l next (map event_of (drop (i + 1) events))) (one_answer answers more r put)
     (one_more start (map event_of events) (map outcome_told answers) here (event_of e) (map event_of (drop (i + 1) events)) (outcome_told r) next (subst (IsBegun start (map event_of events) (map outcome_told answers) here) (next_event events i e within is) begun) (as_told here (event_of e) r next step) (short_told r ∙ long))
 
-pub ends_here : (start here next : Served) (events : List code.NodeEvent) (i : ℕ) (e : code.NodeEvent) (answers more : List (Result Did Refused)) (r : Result Did Refused) → i < length events → e ≡ get_or events i e → more ≡ answers ++ r ∷ [] → IsBegun start (map event_of events) (map outcome_told answers) here (map event_of (drop i events)) → IsAnswered (refusal here (event_of e)) (λ did. Does here (event_of e) (did_of did) next) (next ≡ here) (result_in_code r) → is_short r ≡ true → IsRun start (map event_of events) (map outcome_told more) next
+pub ends_here : (start here next : Served) (events : List code.NodeEvent) (i : ℕ) (e : code.NodeEvent) (answers more : List (Result Did Refused)) (r : Result Did Refused) → i < length events → e ≡ get_or events i e → more ≡ answers ++ r ∷ [] → IsBegun start (map event_of events) (map outcome_told answers) here (map event_of (drop i events)) → IsAnswered (refusal here (event_of e)) (λ did. Does here (event_of e) (did_of did) next) (next ≡ here) (result_in_code r) → is_out_of_memory r ≡ true → IsRun start (map event_of events) (map outcome_told more) next
 ends_here start here next events i e answers more r within is put begun step short =
     subst (λ l. IsRun start (map event_of events) l next) (one_answer answers more r put)
     (the_last start (map event_of events) (map outcome_told answers) here (event_of e) (map event_of (drop (i + 1) events)) (outcome_told r) next (subst (IsBegun start (map event_of events) (map outcome_told answers) here) (next_event events i e within is) begun) (as_told here (event_of e) r next step) (short_told r ∙ short))
@@ -76,7 +76,7 @@ all_gone start here events i answers past begun = all_made start (map event_of e
 -- ---- what it did since its start
 
 -- these events led the server on, the newest first
-abbrev Came : List NodeEvent → List Done → Server → Served → Type 0
+abbrev Came : List NodeEvent → List Done → ServerIdentity → Served → Type 0
 Came events h server s = (more : List Done) × (map (λ (d : Done). d.event) more ≡ events) × Ran s.server (more ++ h) s.node × (s.server ≡ server)
 
 none_done : (es : List NodeEvent) → done_with es [] ≡ []

@@ -2,7 +2,7 @@
 use Rattle.std.proofs.Common.{◌≡◌, ℕ, true, cond, List, [], ◌∷◌, map, Option, Some, None, ap, ◌∙◌, refl}
 use Rattle.std.specs.Prelude.{option_to_list}
 use Rattle.std.specs.Option.{option_map}
-use Rattle.subj.specs.Servers.{Server, place, is_peer}
+use Rattle.subj.specs.Servers.{ServerIdentity, place, is_peer}
 use Rattle.hub_core.proofs.Steps.Rooms.{map_none}
 use Rattle.hub_core.specs.Peers.{snapshot_to}
 use Rattle.hub_core.specs.Publishing.{Publication}
@@ -49,7 +49,7 @@ accept_does old new session info d = alone_does old new (Own Accept) (OnSession 
 
 -- ---- a snapshot for whoever greets
 
-greeted : (server : Server) (name : List ℕ) (hub : _) (inc : ℕ) (snapshot : Option Frame) → is_peer server (place server name) ≡ true → snapshot ≡ option_map (λ q. snapshot_to server hub q inc) (peer_by_name server name)
+greeted : (server : ServerIdentity) (name : List ℕ) (hub : _) (inc : ℕ) (snapshot : Option Frame) → is_peer server (place server name) ≡ true → snapshot ≡ option_map (λ q. snapshot_to server hub q inc) (peer_by_name server name)
     → map route.Numbered (option_to_list snapshot) ≡ route.Numbered (snapshot_to server hub (place server name) inc) ∷ []
 greeted server name hub inc snapshot peer is = ap (λ o. map route.Numbered (option_to_list o)) (is ∙ ap (λ b. option_map (λ q. snapshot_to server hub q inc) (cond b (Some (place server name)) None)) peer)
 

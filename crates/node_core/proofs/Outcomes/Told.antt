@@ -10,7 +10,7 @@ use Rattle.subj.specs.declared.identities.SubId.{SubId}
 use Rattle.subj.specs.declared.jobs.Job.{Job}
 use Rattle.shard_core.specs.ShardEvents as of_shard
 use Rattle.subj.specs.declared.keys.Key.{Key}
-use Rattle.subj.specs.Servers.{Server}
+use Rattle.subj.specs.Servers.{ServerIdentity}
 use Rattle.sub_table.specs.declared.Subscription.{Subscription}
 use Rattle.route_values.specs.declared.frames.RouteFrame.{RouteFrame}
 use Rattle.shard_core.specs.Answers.{IsTold}
@@ -32,26 +32,26 @@ use Rattle.node_law.specs.declared.events.ShardWork.TheVariants.{Attach, Begin, 
 use Rattle.node_core.specs.declared.node.stepping.ReplyPuts.{ReplyPuts}
 use Rattle.node_core.specs.Outcome.{Answers, Does, Outcome, claim_outcome, ended_told, entries_told, put_at, reply_outcome, shut_at, ended_at}
 use Rattle.node_core.specs.Served.{Served, ConnStep, BeginStep, ClaimStep, IsToldAt, IsClaimTold, IsClaimToldAt, answer_at, work_answer, is_won}
-use Rattle.node_law.specs.State.{Line, Node}
+use Rattle.node_law.specs.State.{ShardWithJobs, Node}
 use Rattle.node_law.specs.Steps.{conn_line, conn_place, conn_event, shard_line, work_event, begin_of, drop_of, node_frames}
 use Rattle.node_core.proofs.Outcomes.Answered.{told_begin, told_claim_at}
 
 -- ---- connections
 
 -- the line that answered
-record Answering (event : of_shard.Event) (answer : of_shard.Answer) (o : Option Line) : Type 0 where
-  line : Line
+record Answering (event : of_shard.Event) (answer : of_shard.Answer) (o : Option ShardWithJobs) : Type 0 where
+  line : ShardWithJobs
   is : o ≡ Some line
   answered : answer ≡ shard_answer line.shard event
 
-answering : (event : of_shard.Event) (answer : of_shard.Answer) (o : Option Line) → Some answer ≡ answer_at (Some event) o → Answering event answer o
+answering : (event : of_shard.Event) (answer : of_shard.Answer) (o : Option ShardWithJobs) → Some answer ≡ answer_at (Some event) o → Answering event answer o
 answering event answer None e = absurd (none-some answer (sym e))
 answering event answer (Some line) e = record { line = line; is = refl; answered = same_Some answer (shard_answer line.shard event) e }
 
 -- what it put and shut is what its event does
 conn_does : (old new : Served) (conn : ℕ) (event : ConnEvent) (answer : of_shard.Answer) (entries : List Placed) (shut : List ℕ)
-    → ((line : Line) → answer ≡ shard_answer line.shard (conn_event conn event) → entries ≡ put_by line.shard (conn_event conn event))
-    → ((line : Line) → answer ≡ shard_answer line.shard (conn_event conn event) → shut ≡ shut_by line.shard (conn_event conn event))
+    → ((line : ShardWithJobs) → answer ≡ shard_answer line.shard (conn_event conn event) → entries ≡ put_by line.shard (conn_event conn event))
+    → ((line : ShardWithJobs) → answer ≡ shard_answer line.shard (conn_event conn event) → shut ≡ shut_by line.shard (conn_event conn event))
     → ConnStep old conn event answer new
     → Does old (Own (OfConn conn event)) (record { answer = told_of_shard answer; entries = entries; frames = []; shut = shut; ended = ended_of answer }) new
 conn_does old new conn event answer entries shut puts shuts d =
@@ -125,13 +125,13 @@ reply_does old new conn frame puts false ended answer last over d =
 
 -- ---- shards
 
-begin_put : (place : ℕ) (line : Line) (job : Job) (waits : Option Job) (begun : Begun) → waits ≡ Some job → IsTold true line.shard job begun → begun.put.items ≡ put_at (part_if place line (begin_of waits))
+begin_put : (place : ℕ) (line : ShardWithJobs) (job : Job) (waits : Option Job) (begun : Begun) → waits ≡ Some job → IsTold true line.shard job begun → begun.put.items ≡ put_at (part_if place line (begin_of waits))
 begin_put place line job waits begun is d = d.put ∙ sym (ap (λ o. put_at (part_if place line (begin_of o))) is)
 
-begin_shut : (place : ℕ) (line : Line) (job : Job) (waits : Option Job) (begun : Begun) → waits ≡ Some job → IsTold true line.shard job begun → begun.closed.items ≡ shut_at (part_if place line (begin_of waits))
+begin_shut : (place : ℕ) (line : ShardWithJobs) (job : Job) (waits : Option Job) (begun : Begun) → waits ≡ Some job → IsTold true line.shard job begun → begun.closed.items ≡ shut_at (part_if place line (begin_of waits))
 begin_shut place line job waits begun is d = d.closed ∙ sym (ap (λ o. shut_at (part_if place line (begin_of o))) is)
 
-begin_ended : (place : ℕ) (line : Line) (job : Job) (waits : Option Job) (begun : Begun) → waits ≡ Some job → IsTold true line.shard job begun → begun.ended.items ≡ ended_at (part_if place line (begin_of waits))
+begin_ended : (place : ℕ) (line : ShardWithJobs) (job : Job) (waits : Option Job) (begun : Begun) → waits ≡ Some job → IsTold true line.shard job begun → begun.ended.items ≡ ended_at (part_if place line (begin_of waits))
 begin_ended place line job waits begun is d = d.ended ∙ sym (ap (λ o. ended_at (part_if place line (begin_of o))) is)
 
 -- what it put and closed, of a line
@@ -140,7 +140,7 @@ record Putting (place : ℕ) (entries : List Placed) (shut : List ℕ) (ended : 
   closed : shut ≡ shut_at o
   over : ended ≡ ended_at o
 
-begin_at : (place : ℕ) (o : Option Line) (begun : Begun) → IsToldAt true o begun → Putting place begun.put.items begun.closed.items begun.ended.items (part_at place (work_event Begin false) o)
+begin_at : (place : ℕ) (o : Option ShardWithJobs) (begun : Begun) → IsToldAt true o begun → Putting place begun.put.items begun.closed.items begun.ended.items (part_at place (work_event Begin false) o)
 begin_at place None begun e = absurd e
 begin_at place (Some line) begun e = record {
   put = begin_put place line e.0 (first_of line.waiting) begun e.1 e.2;
@@ -190,7 +190,7 @@ claim_ended code.Nobody answer e = sym (ap ended_of e)
 claim_ended code.Lost answer e = sym (ap ended_of e)
 claim_ended (code.Won sub placed ended) answer e = sym (ap ended_of e.2)
 
-claim_at : (place index : ℕ) (o : Option Line) (claimed : Claimed) → IsClaimToldAt true claimed (work_answer (Claim index) (is_won claimed) o) → Putting place (entries_told claimed) [] (ended_told claimed) (part_at place (work_event (Claim index) (is_won claimed)) o)
+claim_at : (place index : ℕ) (o : Option ShardWithJobs) (claimed : Claimed) → IsClaimToldAt true claimed (work_answer (Claim index) (is_won claimed) o) → Putting place (entries_told claimed) [] (ended_told claimed) (part_at place (work_event (Claim index) (is_won claimed)) o)
 claim_at place index None claimed e = absurd e
 claim_at place index (Some line) claimed e =
     let answer = shard_answer line.shard (of_shard.Claim index (is_won claimed)) in
@@ -209,7 +209,7 @@ claim_does old new shard index claimed d =
 
 -- ---- where nothing is put and nothing closes
 
-pub record Quiet (server : Server) (a : Node) (event : NodeEvent) (won : Bool) : Type 0 where
+pub record Quiet (server : ServerIdentity) (a : Node) (event : NodeEvent) (won : Bool) : Type 0 where
   pub put : [] ≡ put_at (part_of server a event won)
   pub closed : [] ≡ shut_at (part_of server a event won)
   pub over : [] ≡ ended_at (part_of server a event won)
@@ -226,7 +226,7 @@ subscribe_ends : (s : State) (sub : Option Subscription) → [] ≡ ended_of (su
 subscribe_ends s None = refl
 subscribe_ends s (Some sub) = refl
 
-quiet_subscribe : (place conn : ℕ) (key : Key) (sid : List ℕ) (o : Option Line) → Putting place [] [] [] (part_at place (λ line. Some (of_shard.Subscribe conn key sid)) o)
+quiet_subscribe : (place conn : ℕ) (key : Key) (sid : List ℕ) (o : Option ShardWithJobs) → Putting place [] [] [] (part_at place (λ line. Some (of_shard.Subscribe conn key sid)) o)
 quiet_subscribe place conn key sid None = record { put = refl; closed = refl; over = refl }
 quiet_subscribe place conn key sid (Some line) = record { put = refl; closed = refl; over = subscribe_ends line.shard (sub_called conn sid line.shard.subs) }
 
@@ -235,7 +235,7 @@ subscribe_does old new conn key sid answer d =
     let q = quiet_subscribe (conn_place old.server conn) conn key sid (conn_line old.server old.node conn) in
     alone_does old new (Own (OfConn conn (Subscribe key sid))) answer [] (λ won. record { put = q.put; closed = q.closed; over = q.over }) refl d
 
-quiet_take : (place conn count : ℕ) (o : Option Line) → Putting place [] [] [] (part_at place (λ line. Some (of_shard.Take conn count)) o)
+quiet_take : (place conn count : ℕ) (o : Option ShardWithJobs) → Putting place [] [] [] (part_at place (λ line. Some (of_shard.Take conn count)) o)
 quiet_take place conn count None = record { put = refl; closed = refl; over = refl }
 quiet_take place conn count (Some line) = record { put = refl; closed = refl; over = refl }
 
@@ -244,26 +244,26 @@ take_does old new conn count answer d =
     let q = quiet_take (conn_place old.server conn) conn count (conn_line old.server old.node conn) in
     alone_does old new (Own (OfConn conn (Take count))) answer [] (λ won. record { put = q.put; closed = q.closed; over = q.over }) refl d
 
-quiet_attach : (place : ℕ) (won : Bool) (o : Option Line) → Putting place [] [] [] (part_at place (work_event Attach won) o)
+quiet_attach : (place : ℕ) (won : Bool) (o : Option ShardWithJobs) → Putting place [] [] [] (part_at place (work_event Attach won) o)
 quiet_attach place won None = record { put = refl; closed = refl; over = refl }
 quiet_attach place won (Some line) = record { put = refl; closed = refl; over = refl }
 
 pub attach_does : (old new : Served) (shard : ℕ) (answer : Answer) → Answers old (Own (AtShard shard Attach)) answer new → Does old (Own (AtShard shard Attach)) (record { answer = answer; entries = []; frames = []; shut = []; ended = [] }) new
 attach_does old new shard answer d = alone_does old new (Own (AtShard shard Attach)) answer [] (λ won. let q = quiet_attach (shard - 1) won (shard_line old.node shard) in record { put = q.put; closed = q.closed; over = q.over }) refl d
 
-quiet_end : (place : ℕ) (won : Bool) (o : Option Line) → Putting place [] [] [] (part_at place (work_event End won) o)
+quiet_end : (place : ℕ) (won : Bool) (o : Option ShardWithJobs) → Putting place [] [] [] (part_at place (work_event End won) o)
 quiet_end place won None = record { put = refl; closed = refl; over = refl }
 quiet_end place won (Some line) = record { put = refl; closed = refl; over = refl }
 
 pub end_does : (old new : Served) (shard : ℕ) (answer : Answer) → Answers old (Own (AtShard shard End)) answer new → Does old (Own (AtShard shard End)) (record { answer = answer; entries = []; frames = []; shut = []; ended = [] }) new
 end_does old new shard answer d = alone_does old new (Own (AtShard shard End)) answer [] (λ won. let q = quiet_end (shard - 1) won (shard_line old.node shard) in record { put = q.put; closed = q.closed; over = q.over }) refl d
 
-quiet_drop_of : (place : ℕ) (line : Line) (hand waits : Option Job) → Putting place [] [] [] (part_if place line (drop_of hand waits))
+quiet_drop_of : (place : ℕ) (line : ShardWithJobs) (hand waits : Option Job) → Putting place [] [] [] (part_if place line (drop_of hand waits))
 quiet_drop_of place line None None = record { put = refl; closed = refl; over = refl }
 quiet_drop_of place line None (Some job) = record { put = refl; closed = refl; over = refl }
 quiet_drop_of place line (Some hand) waits = record { put = refl; closed = refl; over = refl }
 
-quiet_drop : (place : ℕ) (won : Bool) (o : Option Line) → Putting place [] [] [] (part_at place (work_event DropJob won) o)
+quiet_drop : (place : ℕ) (won : Bool) (o : Option ShardWithJobs) → Putting place [] [] [] (part_at place (work_event DropJob won) o)
 quiet_drop place won None = record { put = refl; closed = refl; over = refl }
 quiet_drop place won (Some line) = quiet_drop_of place line line.shard.hand (first_of line.waiting)
 

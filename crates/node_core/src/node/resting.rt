@@ -2,7 +2,7 @@
 
 ghost use Rattle.std.specs.Prelude.{◌≡◌, ⊤};
 ghost use Rattle.subj.specs.Answers.{IsAnswered};
-ghost use Rattle.hub_core.specs.Chosen.{IsPlanOf, publication};
+ghost use Rattle.hub_core.specs.Chosen.{IsPlanOf, publication_by};
 ghost use Rattle.node_law.specs.Events.{Own, Publish};
 ghost use Rattle.node_core.specs.Served.{refusal};
 ghost use Rattle.std.specs.List.{list_all};
@@ -63,13 +63,13 @@ impl<T: SubTable, R: Race> Node<T, R> {
     pub fn plan_publish(
         &self,
         conn: ConnId,
-        said: &Pub,
+        publication: &Pub,
         word: u64,
     ) -> Result<PublishPlan, Failure<NodeFault>>
-        ensures { let p = publication conn said.now word in IsAnswered (refusal self.now (Own (Publish p))) (λ plan. IsPlanOf self.now.server self.now.node.hub p plan.job plan.frames.items) ⊤ result }
+        ensures { let p = publication_by conn publication.now word in IsAnswered (refusal self.now (Own (Publish p))) (λ plan. IsPlanOf self.now.server self.now.node.hub p plan.job plan.frames.items) ⊤ result }
     {
         let count = self.lines.len();
         let finished = finished_by(&self.race, count as u64);
-        of_hub(self.side.plan_publish(conn, said, word, &finished))
+        of_hub(self.side.plan_publish(conn, publication, word, &finished))
     }
 }

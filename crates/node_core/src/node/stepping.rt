@@ -13,7 +13,7 @@ ghost use Rattle.node_law.specs.declared.events.ShardWork.TheVariants.{Begin, Cl
 ghost use Rattle.node_core.specs.Outcome.{Does, did_of, Answers, claim_outcome, reply_outcome, told_of_claim};
 ghost use Rattle.node_core.specs.Served.{refusal};
 ghost use Rattle.node_core.specs.InCode.{answer_of, result_in_code, event_of, own_event_of};
-ghost use Rattle.hub_core.specs.Chosen.{publication};
+ghost use Rattle.hub_core.specs.Chosen.{publication_by};
 ghost use Rattle.node_law.specs.Steps.{node_frames, shard_line};
 ghost use Rattle.std.specs.Option.{option_copied};
 ghost use Rattle.hub_core.specs.Publishing.{next_id as id_of_next};
@@ -22,13 +22,13 @@ ghost use Rattle.node_law.specs.Sound.{SoundNode};
 
 use super::{Node, of_hub};
 use crate::answers::Answer;
-use crate::asked::{Asked, lend};
 use crate::did::Did;
+use crate::event_ref::{EventRef, lend};
 use crate::refused::{Refused, as_refused};
 use claim_race::Race;
 use client_frames::{ErrText, ReplyFrame, reply_line};
 use node_law::{ConnEvent, NodeEvent, NodeFault, OwnEvent, ShardWork};
-use node_parts::{Claimed, Line, Received, finished_by, place_of_shard};
+use node_parts::{Claimed, Received, ShardWithJobs, finished_by, place_of_shard};
 use outbox::Entry;
 use route_session::SessionId;
 use route_values::{Numbered, RouteConnect, RouteFrame, RouteInfo};
@@ -36,7 +36,7 @@ use shard_core::{Closed, Placed, Subscribed};
 use std::alloc::{AllocError, Global};
 use std::collections::VecDeque;
 use sub_table::SubTable;
-use subj::{ConnId, Failure, Key, Pub, PubId, Server, Sid, SubId};
+use subj::{ConnId, Failure, Key, Pub, PubId, ServerIdentity, Sid, SubId};
 
 /// A line for a connection, as the list of what is put.
 fn line_for(alloc: Global, conn: ConnId, line: &[u8]) -> Result<Vec<Placed>, AllocError>
@@ -407,8 +407,12 @@ impl<T: SubTable, R: Race> Node<T, R> {
         match event {
             OwnEvent::OfConn { conn, event } => self.answer_of_conn(*conn, event),
             OwnEvent::AtShard { shard, work } => self.answer_of_shard(*shard, *work),
-            OwnEvent::Publish { conn, said, word } => {
-                let issued = self.publish(*conn, said, *word)?;
+            OwnEvent::Publish {
+                conn,
+                publication,
+                word,
+            } => {
+                let issued = self.publish(*conn, publication, *word)?;
                 Ok(Answer::Issued {
                     turn: issued.turn,
                     frames: issued.frames,
@@ -530,14 +534,14 @@ impl<T: SubTable, R: Race> Node<T, R> {
     fn publish_frames(
         &self,
         conn: ConnId,
-        said: &Pub,
+        publication: &Pub,
         word: u64,
     ) -> Result<Vec<RouteFrame>, Failure<NodeFault>>
-        ensures { let e = Own (Publish (publication conn said.now word)) in IsAnswered (refusal self.now e) (λ frames. frames.items ≡ node_frames self.now.server self.now.node e) ⊤ result }
+        ensures { let e = Own (Publish (publication_by conn publication.now word)) in IsAnswered (refusal self.now e) (λ frames. frames.items ≡ node_frames self.now.server self.now.node e) ⊤ result }
     {
         let count = self.lines.len();
         let finished = finished_by(&self.race, count as u64);
-        let plan = match self.side.plan_publish(conn, said, word, &finished) {
+        let plan = match self.side.plan_publish(conn, publication, word, &finished) {
             Ok(plan) => plan,
             Err(fault) => return of_hub(Err(fault)),
         };
@@ -587,8 +591,12 @@ impl<T: SubTable, R: Race> Node<T, R> {
         match event {
             OwnEvent::OfConn { conn, event } => self.did_of_conn(*conn, event),
             OwnEvent::AtShard { shard, work } => self.did_of_shard(*shard, *work),
-            OwnEvent::Publish { conn, said, word } => {
-                let frames = self.publish_frames(*conn, said, *word)?;
+            OwnEvent::Publish {
+                conn,
+                publication,
+                word,
+            } => {
+                let frames = self.publish_frames(*conn, publication, *word)?;
                 let answer = self.own_answer(event)?;
                 Ok(Did::of_frames(self.alloc, answer, frames))
             }
@@ -659,7 +667,7 @@ impl<T: SubTable, R: Race> Node<T, R> {
 
 impl<T: SubTable, R: Race> Node<T, R> {
     /// Who it is.
-    pub fn server(&self) -> &Server
+    pub fn server(&self) -> &ServerIdentity
         ensures same { result.now ≡ self.now.server }
         ensures sound { SoundNode self.now.server self.now.node }
     {
@@ -667,7 +675,7 @@ impl<T: SubTable, R: Race> Node<T, R> {
     }
 
     /// The shard of this number with the jobs that wait for it, where there is such a shard.
-    pub fn line(&self, shard: u64) -> Option<&Line<T>>
+    pub fn line(&self, shard: u64) -> Option<&ShardWithJobs<T>>
         ensures { option_copied result ≡ shard_line self.now.node shard }
     {
         let place = place_of_shard(self.lines.len(), shard)?;
@@ -682,14 +690,14 @@ impl<T: SubTable, R: Race> Node<T, R> {
     }
 
     /// Why it refuses the event: [`Node::fault`], where the parts of the event are lent.
-    pub fn fault_of(&self, asked: &Asked<'_>) -> Option<NodeFault>
+    pub fn fault_of(&self, asked: &EventRef<'_>) -> Option<NodeFault>
         ensures { result ≡ refusal self.now (asked_of asked.now) }
     {
         match *asked {
-            Asked::Own(event) => self.own_fault(event),
-            Asked::Receive(frame) => self.receive_fault(frame),
-            Asked::OnInfo(session, info) => self.info_fault(session, info),
-            Asked::OnConnect(session, connect) => self.connect_fault(session, connect),
+            EventRef::Own(event) => self.own_fault(event),
+            EventRef::Receive(frame) => self.receive_fault(frame),
+            EventRef::OnInfo(session, info) => self.info_fault(session, info),
+            EventRef::OnConnect(session, connect) => self.connect_fault(session, connect),
         }
     }
 
@@ -706,19 +714,19 @@ impl<T: SubTable, R: Race> Node<T, R> {
     }
 
     /// The step of an event whose parts are lent.
-    fn did_asked(&mut self, asked: &Asked<'_>) -> Result<Did, Failure<NodeFault>>
+    fn did_asked(&mut self, asked: &EventRef<'_>) -> Result<Did, Failure<NodeFault>>
         ensures { IsAnswered (refusal self.old (asked_of asked.now)) (λ did. Does self.old (asked_of asked.now) (did_of did) self.new) (self.new ≡ self.old) result }
     {
         match *asked {
-            Asked::Own(event) => self.own_did(event),
-            Asked::Receive(frame) => self.did_receive(frame),
-            Asked::OnInfo(session, info) => self.did_info(session, info),
-            Asked::OnConnect(session, connect) => self.did_connect(session, connect),
+            EventRef::Own(event) => self.own_did(event),
+            EventRef::Receive(frame) => self.did_receive(frame),
+            EventRef::OnInfo(session, info) => self.did_info(session, info),
+            EventRef::OnConnect(session, connect) => self.did_connect(session, connect),
         }
     }
 
     /// Makes the step of an event: [`Node::step`], where the parts of the event are lent.
-    pub fn step_of(&mut self, asked: &Asked<'_>) -> Result<Did, Refused>
+    pub fn step_of(&mut self, asked: &EventRef<'_>) -> Result<Did, Refused>
         ensures { IsAnswered (refusal self.old (asked_of asked.now)) (λ did. Does self.old (asked_of asked.now) (did_of did) self.new) (self.new ≡ self.old) (result_in_code result) }
     {
         as_refused(self.did_asked(asked))

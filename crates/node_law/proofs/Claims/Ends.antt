@@ -7,7 +7,7 @@ use Rattle.std.proofs.lemmas.Bool.Decides.{nat_tests}
 use Rattle.list_laws.specs.Lists.{In}
 use Rattle.list_laws.proofs.Lists.{read_set, read_map}
 use Rattle.list_laws.proofs.Tests.{eq_true, eq_false, true_eq, false_eq, and_true, no_cause, no_end, lt_true, lt_false}
-use Rattle.subj.specs.Servers.{Server, IsListed}
+use Rattle.subj.specs.Servers.{ServerIdentity, IsListed}
 use Rattle.subj.specs.declared.jobs.Job.{Job}
 use Rattle.subj.specs.declared.limits.TheConstants.{WINDOW}
 use Rattle.sub_table.specs.declared.Subscription.{Subscription}
@@ -28,7 +28,7 @@ use Rattle.node_law.specs.Events.{ConnEvent, Subscribe, Unsubscribe, Reply, Shut
 use Rattle.node_law.specs.OneServer.{Claimed, is_of_pair, is_of_shard, claimed_at, claimed_with, work_claims, claims_by, claims_of, Ended, ended_with, ended_at, work_ends, ends_by, ends_of, EndedAll}
 use Rattle.node_law.specs.Runs.{Done, Ran}
 use Rattle.node_law.specs.Sound.{SoundNode}
-use Rattle.node_law.specs.State.{Line, Node, lines_from}
+use Rattle.node_law.specs.State.{ShardWithJobs, Node, lines_from}
 use Rattle.node_law.specs.Steps.{conn_place, conn_line, shard_line, conn_event, begin_of, drop_of, work_event, event_refusal, work_refusal, line_after, line_after_if, set_line, line_with_job, lines_after_body, node_refusal, node_after}
 use Rattle.node_law.proofs.Moves.LineEvents.{found}
 use Rattle.node_law.proofs.Claims.OneWinner.{line_sound}
@@ -43,23 +43,23 @@ record Counted (s finished : ℕ) (hand : Option Job) (next : ℕ) (claims : Lis
   now : (t i : ℕ) → finished < t → length (filter (is_of_shard s t i) claims) ≡ expected hand next t i
   past : (x : Ended) → In x ends → x.shard ≡ s → x.job.turn ≤ finished
 
-abbrev CountedLine : ℕ → Line → List Claimed → List Ended → Type 0
+abbrev CountedLine : ℕ → ShardWithJobs → List Claimed → List Ended → Type 0
 CountedLine s line claims ends = Counted s line.shard.finished line.shard.hand line.shard.next_index claims ends
 
-record Counts (lines : List Line) (claims : List Claimed) (ends : List Ended) : Type 0 where
-  each : (place : ℕ) (line : Line) → slice_get lines place ≡ Some line → CountedLine (suc place) line claims ends
+record Counts (lines : List ShardWithJobs) (claims : List Claimed) (ends : List Ended) : Type 0 where
+  each : (place : ℕ) (line : ShardWithJobs) → slice_get lines place ≡ Some line → CountedLine (suc place) line claims ends
   all : EndedAll claims ends
 
-set_counts : (lines : List Line) (place : ℕ) (after : Line) (claims : List Claimed) (ends : List Ended) → Counts lines claims ends → CountedLine (suc place) after claims ends → Counts (set lines place after) claims ends
+set_counts : (lines : List ShardWithJobs) (place : ℕ) (after : ShardWithJobs) (claims : List Claimed) (ends : List Ended) → Counts lines claims ends → CountedLine (suc place) after claims ends → Counts (set lines place after) claims ends
 set_counts lines place after claims ends k h = record { each = read_set (λ t l. CountedLine (suc t) l claims ends) lines place after (λ t l apart e. k.each t l e) h; all = k.all }
 
-line_case : (place : ℕ) (change : Line → Line) (lines : List Line) (o : Option Line) (claims : List Claimed) (ends : List Ended) → ((line : Line) → o ≡ Some line → slice_get lines place ≡ Some line) → ((line : Line) → o ≡ Some line → CountedLine (suc place) line claims ends → CountedLine (suc place) (change line) claims ends) → Counts lines claims ends → Counts (set_line lines place change o) claims ends
+line_case : (place : ℕ) (change : ShardWithJobs → ShardWithJobs) (lines : List ShardWithJobs) (o : Option ShardWithJobs) (claims : List Claimed) (ends : List Ended) → ((line : ShardWithJobs) → o ≡ Some line → slice_get lines place ≡ Some line) → ((line : ShardWithJobs) → o ≡ Some line → CountedLine (suc place) line claims ends → CountedLine (suc place) (change line) claims ends) → Counts lines claims ends → Counts (set_line lines place change o) claims ends
 line_case place change lines None claims ends at step k = k
 line_case place change lines (Some line) claims ends at step k = set_counts lines place (change line) claims ends k (step line refl (k.each place line (at line refl)))
 
-queue_counts : (job : Job) (lines : List Line) (claims : List Claimed) (ends : List Ended) → Counts lines claims ends → Counts (map (line_with_job job) lines) claims ends
+queue_counts : (job : Job) (lines : List ShardWithJobs) (claims : List Claimed) (ends : List Ended) → Counts lines claims ends → Counts (map (line_with_job job) lines) claims ends
 queue_counts job lines claims ends k = record {
-  each = λ s line e. let m = read_map (line_with_job job) lines s line e in subst (λ (l : Line). CountedLine (suc s) l claims ends) (sym m.2) (k.each s m.0 m.1);
+  each = λ s line e. let m = read_map (line_with_job job) lines s line e in subst (λ (l : ShardWithJobs). CountedLine (suc s) l claims ends) (sym m.2) (k.each s m.0 m.1);
   all = k.all;
 }
 
@@ -111,7 +111,7 @@ none_is None e = refl
 none_is (Some x) e = absurd (true≢false e)
 
 -- a line whose job is done
-done_counted : (issued s : ℕ) (line : Line) (claims : List Claimed) (ends : List Ended) → SoundLine WINDOW issued line.shard line.waiting → CountedLine s line claims ends → (job : Job) → job.turn ≡ suc line.shard.finished → Counted s job.turn None 0 claims ends
+done_counted : (issued s : ℕ) (line : ShardWithJobs) (claims : List Claimed) (ends : List Ended) → SoundLine WINDOW issued line.shard line.waiting → CountedLine s line claims ends → (job : Job) → job.turn ≡ suc line.shard.finished → Counted s job.turn None 0 claims ends
 done_counted issued s line claims ends so k job turn = record {
   now = λ t i lt. k.now t i (omega arith) ∙ go t i lt line.shard.hand refl;
   past = λ x i e. let h = k.past x i e in omega arith;
@@ -122,14 +122,14 @@ done_counted issued s line claims ends so k job turn = record {
     go t i lt (Some x) is = let e = so.hand x is in ap (λ b. cond (b && nat_lt i line.shard.next_index) 1 0) (false_eq x.turn t (λ f. absurd (omega arith)))
 
 -- the turn of the job that is dropped
-dropped_turn : (issued : ℕ) (line : Line) → SoundLine WINDOW issued line.shard line.waiting → line.shard.hand ≡ None → (job : Job) → first_of line.waiting ≡ Some job → job.turn ≡ suc line.shard.finished
+dropped_turn : (issued : ℕ) (line : ShardWithJobs) → SoundLine WINDOW issued line.shard line.waiting → line.shard.hand ≡ None → (job : Job) → first_of line.waiting ≡ Some job → job.turn ≡ suc line.shard.finished
 dropped_turn issued line so none job e = go line.waiting e (subst (λ h. Turns (begun_turn h line.shard.finished) line.waiting issued) none so.turns)
   where
     go : (waiting : List Job) → first_of waiting ≡ Some job → Turns line.shard.finished waiting issued → job.turn ≡ suc line.shard.finished
     go [] f t = absurd (none-some job f)
     go (x ∷ xs) f t = sym (ap (λ (j : Job). j.turn) (same_Some x job f)) ∙ t.0
 
-drop_counted : (issued s : ℕ) (line : Line) (claims : List Claimed) (ends : List Ended) → SoundLine WINDOW issued line.shard line.waiting → CountedLine s line claims ends → CountedLine s (line_after_if (drop_of line.shard.hand (first_of line.waiting)) line) claims ends
+drop_counted : (issued s : ℕ) (line : ShardWithJobs) (claims : List Claimed) (ends : List Ended) → SoundLine WINDOW issued line.shard line.waiting → CountedLine s line claims ends → CountedLine s (line_after_if (drop_of line.shard.hand (first_of line.waiting)) line) claims ends
 drop_counted issued s line claims ends so k = go line.shard.hand (first_of line.waiting) refl refl
   where
     done : (o : Option Job) (job : Job) → o ≡ Some job → job.turn ≡ suc line.shard.finished → Counted s (done_with line.shard o).finished (done_with line.shard o).hand (done_with line.shard o).next_index claims ends
@@ -141,7 +141,7 @@ drop_counted issued s line claims ends so k = go line.shard.hand (first_of line.
     go None (Some job) h f = done (option_or line.shard.hand (Some job)) job (ap (λ x. option_or x (Some job)) h) (dropped_turn issued line so h job f)
     go (Some job) o h f = done (option_or line.shard.hand None) job (ap (λ x. option_or x None) h) (so.hand job h)
 
-begin_counted : (s : ℕ) (line : Line) (claims : List Claimed) (ends : List Ended) → work_refusal Begin (Some line) ≡ None → CountedLine s line claims ends → CountedLine s (line_after_if (begin_of (first_of line.waiting)) line) claims ends
+begin_counted : (s : ℕ) (line : ShardWithJobs) (claims : List Claimed) (ends : List Ended) → work_refusal Begin (Some line) ≡ None → CountedLine s line claims ends → CountedLine s (line_after_if (begin_of (first_of line.waiting)) line) claims ends
 begin_counted s line claims ends cause k = go (first_of line.waiting) cause
   where
     go : (o : Option Job) → event_refusal line (begin_of o) ≡ None → CountedLine s (line_after_if (begin_of o) line) claims ends
@@ -153,14 +153,14 @@ begin_counted s line claims ends cause k = go (first_of line.waiting) cause
 more_ends : (s finished : ℕ) (hand : Option Job) (next : ℕ) (claims : List Claimed) (ends : List Ended) (x : Ended) → (x.shard ≡ s → x.job.turn ≤ finished) → Counted s finished hand next claims ends → Counted s finished hand next claims (x ∷ ends)
 more_ends s finished hand next claims ends x le k = record { now = k.now; past = λ y i e. ⊎_elim (λ (f : y ≡ x). subst (λ (z : Ended). z.job.turn ≤ finished) (sym f) (le (sym (ap (λ (z : Ended). z.shard) f) ∙ e))) (λ (j : In y ends). k.past y j e) i }
 
-one_up : (s : ℕ) (o : Option Line) (line : Line) → cond (nat_eq s 0) None o ≡ Some line → suc (s - 1) ≡ s
+one_up : (s : ℕ) (o : Option ShardWithJobs) (line : ShardWithJobs) → cond (nat_eq s 0) None o ≡ Some line → suc (s - 1) ≡ s
 one_up s o line at = go (nat_eq s 0) refl at
   where
     go : (b : Bool) → nat_eq s 0 ≡ b → cond b None o ≡ Some line → suc (s - 1) ≡ s
     go true e f = absurd (none-some line f)
     go false e f = let apart = eq_false s 0 e in omega arith
 
-end_case : (issued p : ℕ) (lines : List Line) (line : Line) (claims : List Claimed) (ends : List Ended) → slice_get lines p ≡ Some line → SoundLine WINDOW issued line.shard line.waiting → end_refusal line.shard line.shard.hand ≡ None → Counts lines claims ends
+end_case : (issued p : ℕ) (lines : List ShardWithJobs) (line : ShardWithJobs) (claims : List Claimed) (ends : List Ended) → slice_get lines p ≡ Some line → SoundLine WINDOW issued line.shard line.waiting → end_refusal line.shard line.shard.hand ≡ None → Counts lines claims ends
     → Counts (set lines p (line_after of_shard.End line)) claims (ended_with (suc p) line.shard.hand ++ ends)
 end_case issued p lines line claims ends at so cause k = go line.shard.hand refl cause
   where
@@ -239,7 +239,7 @@ claimed_next sh job None won = (refl, refl, add-one sh.next_index)
 claimed_next sh job (Some u) true = (refl, refl, add-one sh.next_index)
 claimed_next sh job (Some u) false = (refl, refl, add-one sh.next_index)
 
-claim_case : (issued p index : ℕ) (won : Bool) (lines : List Line) (line : Line) (claims : List Claimed) (ends : List Ended) → slice_get lines p ≡ Some line → SoundLine WINDOW issued line.shard line.waiting → claim_refusal line.shard index line.shard.hand ≡ None → Counts lines claims ends
+claim_case : (issued p index : ℕ) (won : Bool) (lines : List ShardWithJobs) (line : ShardWithJobs) (claims : List Claimed) (ends : List Ended) → slice_get lines p ≡ Some line → SoundLine WINDOW issued line.shard line.waiting → claim_refusal line.shard index line.shard.hand ≡ None → Counts lines claims ends
     → Counts (set lines p (line_after (of_shard.Claim index won) line)) (claimed_with (suc p) index won line.shard.hand (candidate_of line.shard line.shard.hand index) ++ claims) ends
 claim_case issued p index won lines line claims ends at so cause k = go line.shard.hand (candidate_of line.shard line.shard.hand index) refl refl cause
   where
@@ -277,7 +277,7 @@ claim_case issued p index won lines line claims ends at so cause k = go line.sha
         go_other y i index' true f = let q0 = (k.each p line at).past y i (sym (eq_true s y.shard f)) in let q = so.hand job is in other_turn y.shard y.job.turn index' x (λ g. absurd (omega arith))
         go_other y i index' false f = ap (λ b. b && is_of_pair y.job.turn index' x) f
 
-work_counts : (server : Server) (a : Node) (s : ℕ) (work : ShardWork) (won : Bool) (claims : List Claimed) (ends : List Ended) (o : Option Line) → SoundNode server a → shard_line a s ≡ o → work_refusal work o ≡ None → Counts a.lines claims ends
+work_counts : (server : ServerIdentity) (a : Node) (s : ℕ) (work : ShardWork) (won : Bool) (claims : List Claimed) (ends : List Ended) (o : Option ShardWithJobs) → SoundNode server a → shard_line a s ≡ o → work_refusal work o ≡ None → Counts a.lines claims ends
     → Counts (set_line a.lines (s - 1) (λ line. line_after_if (work_event work won line) line) o) (work_claims a s work won ++ claims) (work_ends a s work ++ ends)
 work_counts server a s work won claims ends None sound at cause k = absurd (none-some _ (sym cause))
 work_counts server a s Attach won claims ends (Some line) sound at cause k = let c = k.each (s - 1) line (found (nat_eq s 0) (slice_get a.lines (s - 1)) line at) in set_counts a.lines (s - 1) _ claims ends k (record { now = c.now; past = c.past })
@@ -298,7 +298,7 @@ body_counts a frame (Minus key) claims ends k = k
 body_counts a frame (Snapshot keys) claims ends k = k
 body_counts a frame (Msg content queues) claims ends k = queue_counts (routed_job a.hub frame content queues) a.lines claims ends k
 
-step_counts : (server : Server) (a : Node) (e : NodeEvent) (b : Bool) (r : RaceState) (claims : List Claimed) (ends : List Ended) → SoundNode server a → node_refusal server a e ≡ None → Counts a.lines claims ends → Counts (node_after server a e b r).lines (claims_by a e b ++ claims) (ends_by a e ++ ends)
+step_counts : (server : ServerIdentity) (a : Node) (e : NodeEvent) (b : Bool) (r : RaceState) (claims : List Claimed) (ends : List Ended) → SoundNode server a → node_refusal server a e ≡ None → Counts a.lines claims ends → Counts (node_after server a e b r).lines (claims_by a e b ++ claims) (ends_by a e ++ ends)
 step_counts server a (Own (OfConn conn event)) b r claims ends sound cause k =
     line_case (conn_place server conn) (line_after (conn_event conn event)) a.lines (conn_line server a conn) claims ends (λ line at. found (nat_eq conn 0) (slice_get a.lines (conn_place server conn)) line at) (λ line at c. stays_counted (suc (conn_place server conn)) line.shard _ claims ends (conn_stays line.shard conn event) c) k
 step_counts server a (Own (AtShard s work)) b r claims ends sound cause k = work_counts server a s work b claims ends (shard_line a s) sound refl cause k
@@ -313,16 +313,16 @@ step_counts server a (Receive frame) b r claims ends sound cause k = body_counts
 step_counts server a (OnInfo q info) b r claims ends sound cause k = k
 step_counts server a (OnConnect q connect) b r claims ends sound cause k = k
 
-new_counts : (n first count place : ℕ) (line : Line) → slice_get (lines_from n first count) place ≡ Some line → (s : ℕ) → CountedLine s line [] []
+new_counts : (n first count place : ℕ) (line : ShardWithJobs) → slice_get (lines_from n first count) place ≡ Some line → (s : ℕ) → CountedLine s line [] []
 new_counts n first zero place line e s = absurd (none-some line e)
-new_counts n first (suc count) zero line e s = subst (λ (l : Line). CountedLine s l [] []) (same_Some _ line e) (record { now = λ t i lt. refl; past = λ x i f. absurd i })
+new_counts n first (suc count) zero line e s = subst (λ (l : ShardWithJobs). CountedLine s l [] []) (same_Some _ line e) (record { now = λ t i lt. refl; past = λ x i f. absurd i })
 new_counts n first (suc count) (suc place) line e s = new_counts n (suc first) count place line e s
 
-run_counts : (server : Server) (h : List Done) (a : Node) → IsListed server → Ran server h a → Counts a.lines (claims_of h) (ends_of h)
+run_counts : (server : ServerIdentity) (h : List Done) (a : Node) → IsListed server → Ran server h a → Counts a.lines (claims_of h) (ends_of h)
 run_counts server [] a listed is = subst (λ (x : Node). Counts x.lines [] []) (sym is) (record { each = λ place line e. new_counts server.shards 1 server.shards place line e (suc place); all = λ x i. absurd i })
 run_counts server (d ∷ earlier) a listed ran =
     subst (λ (x : Node). Counts x.lines (claims_of (d ∷ earlier)) (ends_of (d ∷ earlier))) (sym ran.0.after)
     (step_counts server d.before d.event d.won d.race (claims_of earlier) (ends_of earlier) (run_sound server earlier d.before listed ran.1) ran.0.cause (run_counts server earlier d.before listed ran.1))
 
-pub ended_turns_have_each_claim_once : (server : Server) (h : List Done) (a : Node) → IsListed server → Ran server h a → EndedAll (claims_of h) (ends_of h)
+pub ended_turns_have_each_claim_once : (server : ServerIdentity) (h : List Done) (a : Node) → IsListed server → Ran server h a → EndedAll (claims_of h) (ends_of h)
 ended_turns_have_each_claim_once server h a listed ran = (run_counts server h a listed ran).all

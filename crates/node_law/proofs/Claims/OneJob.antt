@@ -5,7 +5,7 @@ use Rattle.std.specs.Option.{option_or}
 use Rattle.std.proofs.lemmas.Option.{none-some, same_Some}
 use Rattle.list_laws.specs.Lists.{In, Each, Pairs}
 use Rattle.list_laws.proofs.Lists.{read_set, read_map, in_append}
-use Rattle.subj.specs.Servers.{Server, IsListed}
+use Rattle.subj.specs.Servers.{ServerIdentity, IsListed}
 use Rattle.subj.specs.declared.jobs.Job.{Job}
 use Rattle.sub_table.specs.declared.Subscription.{Subscription}
 use Rattle.claim_race.specs.Race.{RaceState}
@@ -24,7 +24,7 @@ use Rattle.node_law.specs.Events.{ConnEvent, Subscribe, Unsubscribe, Reply, Shut
 use Rattle.node_law.specs.OneServer.{Claimed, claimed_at, claimed_with, work_claims, claims_by, claims_of, Ended, ended_with, ended_at, work_ends, ends_by, ends_of, jobs_of, HasOneJob}
 use Rattle.node_law.specs.Runs.{Done, Ran}
 use Rattle.node_law.specs.Sound.{SoundNode}
-use Rattle.node_law.specs.State.{Line, Node, lines_from}
+use Rattle.node_law.specs.State.{ShardWithJobs, Node, lines_from}
 use Rattle.node_law.specs.Steps.{conn_place, conn_line, shard_line, conn_event, begin_of, drop_of, work_event, BodyRace, NodeRace, line_after, line_after_if, set_line, line_with_job, lines_after_body, node_after}
 use Rattle.node_law.proofs.Moves.LineEvents.{found}
 use Rattle.node_law.proofs.Claims.OneWinner.{work_issued}
@@ -67,7 +67,7 @@ done_keeps s (Some x) job e = absurd (none-some job e)
 
 -- ---- the jobs of a line are among those issued
 
-pub record Known (jobs : List Job) (line : Line) : Type 0 where
+pub record Known (jobs : List Job) (line : ShardWithJobs) : Type 0 where
   pub hand : (job : Job) → line.shard.hand ≡ Some job → In job jobs
   pub waiting : Each (λ j. In j jobs) line.waiting
 
@@ -83,7 +83,7 @@ drop_in : (jobs waiting : List Job) (hand o : Option Job) → Each (λ j. In j j
 drop_in jobs waiting None o w = rest_in jobs waiting w
 drop_in jobs waiting (Some job) o w = w
 
-conn_known : (jobs : List Job) (conn : ℕ) (e : ConnEvent) (line : Line) → Known jobs line → Known jobs (line_after (conn_event conn e) line)
+conn_known : (jobs : List Job) (conn : ℕ) (e : ConnEvent) (line : ShardWithJobs) → Known jobs line → Known jobs (line_after (conn_event conn e) line)
 conn_known jobs conn e line k = record { hand = λ job f. k.hand job (sym (conn_keeps line.shard conn e) ∙ f); waiting = subst (λ w. Each (λ j. In j jobs) w) (sym (same e)) k.waiting }
   where
     same : (e : ConnEvent) → waiting_after line.shard.hand (conn_event conn e) line.waiting ≡ line.waiting
@@ -94,7 +94,7 @@ conn_known jobs conn e line k = record { hand = λ job f. k.hand job (sym (conn_
     same Detach = refl
     same (Take count) = refl
 
-work_known : (jobs : List Job) (work : ShardWork) (won : Bool) (line : Line) → Known jobs line → Known jobs (line_after_if (work_event work won line) line)
+work_known : (jobs : List Job) (work : ShardWork) (won : Bool) (line : ShardWithJobs) → Known jobs line → Known jobs (line_after_if (work_event work won line) line)
 work_known jobs Attach won line k = record { hand = k.hand; waiting = k.waiting }
 work_known jobs Begin won line k = go (first_of line.waiting) refl
   where
@@ -112,14 +112,14 @@ work_known jobs DropJob won line k = go line.shard.hand (first_of line.waiting)
 
 -- ---- of the whole server
 
-pub record Jobs (issued : ℕ) (lines : List Line) (jobs : List Job) (claims : List Claimed) (ends : List Ended) : Type 0 where
-  pub lines_known : (place : ℕ) (line : Line) → slice_get lines place ≡ Some line → Known jobs line
+pub record Jobs (issued : ℕ) (lines : List ShardWithJobs) (jobs : List Job) (claims : List Claimed) (ends : List Ended) : Type 0 where
+  pub lines_known : (place : ℕ) (line : ShardWithJobs) → slice_get lines place ≡ Some line → Known jobs line
   turns : Pairs (λ j k. j.turn ≢ k.turn) jobs
   below : Each (λ j. j.turn ≤ issued) jobs
   claims_known : Each (λ x. In x.job jobs) claims
   ends_known : Each (λ x. In x.job jobs) ends
 
-at_known : (issued place : ℕ) (change : Line → Line) (lines : List Line) (jobs : List Job) (claims : List Claimed) (ends : List Ended) (o : Option Line) → ((line : Line) → o ≡ Some line → slice_get lines place ≡ Some line) → ((line : Line) → Known jobs line → Known jobs (change line)) → Jobs issued lines jobs claims ends → Jobs issued (set_line lines place change o) jobs claims ends
+at_known : (issued place : ℕ) (change : ShardWithJobs → ShardWithJobs) (lines : List ShardWithJobs) (jobs : List Job) (claims : List Claimed) (ends : List Ended) (o : Option ShardWithJobs) → ((line : ShardWithJobs) → o ≡ Some line → slice_get lines place ≡ Some line) → ((line : ShardWithJobs) → Known jobs line → Known jobs (change line)) → Jobs issued lines jobs claims ends → Jobs issued (set_line lines place change o) jobs claims ends
 at_known issued place change lines jobs claims ends None at step k = k
 at_known issued place change lines jobs claims ends (Some line) at step k = record {
   lines_known = read_set (λ t l. Known jobs l) lines place (change line) (λ t l apart e. k.lines_known t l e) (step line (k.lines_known place line (at line refl)));
@@ -129,7 +129,7 @@ at_known issued place change lines jobs claims ends (Some line) at step k = reco
   ends_known = k.ends_known;
 }
 
-more_claims : (s index : ℕ) (won : Bool) (jobs : List Job) (claims : List Claimed) (o : Option Line) → ((line : Line) → o ≡ Some line → Known jobs line) → Each (λ x. In x.job jobs) claims → Each (λ x. In x.job jobs) (claimed_at s index won o ++ claims)
+more_claims : (s index : ℕ) (won : Bool) (jobs : List Job) (claims : List Claimed) (o : Option ShardWithJobs) → ((line : ShardWithJobs) → o ≡ Some line → Known jobs line) → Each (λ x. In x.job jobs) claims → Each (λ x. In x.job jobs) (claimed_at s index won o ++ claims)
 more_claims s index won jobs claims None known k = k
 more_claims s index won jobs claims (Some line) known k = go line.shard.hand (candidate_of line.shard line.shard.hand index) refl
   where
@@ -137,7 +137,7 @@ more_claims s index won jobs claims (Some line) known k = go line.shard.hand (ca
     go None u is = k
     go (Some job) u is = λ x i. ⊎_elim (λ (e : x ≡ record { shard = s; job = job; index = index; candidate = u; won = won }). subst (λ (y : Claimed). In y.job jobs) (sym e) ((known line refl).hand job is)) (λ (j : In x claims). k x j) i
 
-more_ended : (s : ℕ) (jobs : List Job) (ends : List Ended) (o : Option Line) → ((line : Line) → o ≡ Some line → Known jobs line) → Each (λ x. In x.job jobs) ends → Each (λ x. In x.job jobs) (ended_at s o ++ ends)
+more_ended : (s : ℕ) (jobs : List Job) (ends : List Ended) (o : Option ShardWithJobs) → ((line : ShardWithJobs) → o ≡ Some line → Known jobs line) → Each (λ x. In x.job jobs) ends → Each (λ x. In x.job jobs) (ended_at s o ++ ends)
 more_ended s jobs ends None known k = k
 more_ended s jobs ends (Some line) known k = go line.shard.hand refl
   where
@@ -145,14 +145,14 @@ more_ended s jobs ends (Some line) known k = go line.shard.hand refl
     go None is = k
     go (Some job) is = λ x i. ⊎_elim (λ (e : x ≡ record { shard = s; job = job }). subst (λ (y : Ended). In y.job jobs) (sym e) ((known line refl).hand job is)) (λ (j : In x ends). k x j) i
 
-work_claims_known : (a : Node) (s : ℕ) (work : ShardWork) (won : Bool) (jobs : List Job) (claims : List Claimed) → ((line : Line) → shard_line a s ≡ Some line → Known jobs line) → Each (λ x. In x.job jobs) claims → Each (λ x. In x.job jobs) (work_claims a s work won ++ claims)
+work_claims_known : (a : Node) (s : ℕ) (work : ShardWork) (won : Bool) (jobs : List Job) (claims : List Claimed) → ((line : ShardWithJobs) → shard_line a s ≡ Some line → Known jobs line) → Each (λ x. In x.job jobs) claims → Each (λ x. In x.job jobs) (work_claims a s work won ++ claims)
 work_claims_known a s Attach won jobs claims known k = k
 work_claims_known a s Begin won jobs claims known k = k
 work_claims_known a s (Claim index) won jobs claims known k = more_claims s index won jobs claims (shard_line a s) known k
 work_claims_known a s End won jobs claims known k = k
 work_claims_known a s DropJob won jobs claims known k = k
 
-work_ends_known : (a : Node) (s : ℕ) (work : ShardWork) (jobs : List Job) (ends : List Ended) → ((line : Line) → shard_line a s ≡ Some line → Known jobs line) → Each (λ x. In x.job jobs) ends → Each (λ x. In x.job jobs) (work_ends a s work ++ ends)
+work_ends_known : (a : Node) (s : ℕ) (work : ShardWork) (jobs : List Job) (ends : List Ended) → ((line : ShardWithJobs) → shard_line a s ≡ Some line → Known jobs line) → Each (λ x. In x.job jobs) ends → Each (λ x. In x.job jobs) (work_ends a s work ++ ends)
 work_ends_known a s Attach jobs ends known k = k
 work_ends_known a s Begin jobs ends known k = k
 work_ends_known a s (Claim index) jobs ends known k = k
@@ -160,7 +160,7 @@ work_ends_known a s End jobs ends known k = more_ended s jobs ends (shard_line a
 work_ends_known a s DropJob jobs ends known k = k
 
 -- a new job
-queue_known : (issued issued' : ℕ) (lines : List Line) (job : Job) (jobs : List Job) (claims : List Claimed) (ends : List Ended) → job.turn ≡ suc issued → issued' ≡ suc issued → Jobs issued lines jobs claims ends → Jobs issued' (map (line_with_job job) lines) (job ∷ jobs) claims ends
+queue_known : (issued issued' : ℕ) (lines : List ShardWithJobs) (job : Job) (jobs : List Job) (claims : List Claimed) (ends : List Ended) → job.turn ≡ suc issued → issued' ≡ suc issued → Jobs issued lines jobs claims ends → Jobs issued' (map (line_with_job job) lines) (job ∷ jobs) claims ends
 queue_known issued issued' lines job jobs claims ends turn is k = record {
   lines_known = λ s line e. let m = read_map (line_with_job job) lines s line e in let h = k.lines_known s m.0 m.1 in subst (Known (job ∷ jobs)) (sym m.2) (record {
     hand = λ j f. inr (h.hand j f);
@@ -172,7 +172,7 @@ queue_known issued issued' lines job jobs claims ends turn is k = record {
   ends_known = λ x i. inr (k.ends_known x i);
 }
 
-rise : (m n : ℕ) (lines : List Line) (jobs : List Job) (claims : List Claimed) (ends : List Ended) → m ≤ n → Jobs m lines jobs claims ends → Jobs n lines jobs claims ends
+rise : (m n : ℕ) (lines : List ShardWithJobs) (jobs : List Job) (claims : List Claimed) (ends : List Ended) → m ≤ n → Jobs m lines jobs claims ends → Jobs n lines jobs claims ends
 rise m n lines jobs claims ends le k = record { lines_known = k.lines_known; turns = k.turns; below = λ j i. let b = k.below j i in omega arith; claims_known = k.claims_known; ends_known = k.ends_known }
 
 next_is : (h r : ℕ) → h ≡ r → h + 1 ≡ suc r
@@ -181,18 +181,18 @@ next_is h r e = omega arith
 issued_is : (r n turn : ℕ) → turn ≡ r + 1 → n ≡ turn → n ≡ suc r
 issued_is r n turn e f = omega arith
 
-body_jobs_known : (server : Server) (a : Node) (frame : Frame) (body : Body) (r : RaceState) (jobs : List Job) (claims : List Claimed) (ends : List Ended) → SoundNode server a → BodyRace a body r → Jobs a.race.issued a.lines jobs claims ends → Jobs r.issued (lines_after_body a frame body) (body_jobs a frame body ++ jobs) claims ends
+body_jobs_known : (server : ServerIdentity) (a : Node) (frame : Frame) (body : Body) (r : RaceState) (jobs : List Job) (claims : List Claimed) (ends : List Ended) → SoundNode server a → BodyRace a body r → Jobs a.race.issued a.lines jobs claims ends → Jobs r.issued (lines_after_body a frame body) (body_jobs a frame body ++ jobs) claims ends
 body_jobs_known server a frame (Plus weighted) r jobs claims ends sound race k = subst (λ (x : RaceState). Jobs x.issued a.lines jobs claims ends) (sym race) k
 body_jobs_known server a frame (Minus key) r jobs claims ends sound race k = subst (λ (x : RaceState). Jobs x.issued a.lines jobs claims ends) (sym race) k
 body_jobs_known server a frame (Snapshot keys) r jobs claims ends sound race k = subst (λ (x : RaceState). Jobs x.issued a.lines jobs claims ends) (sym race) k
 body_jobs_known server a frame (Msg content queues) r jobs claims ends sound race k = queue_known a.race.issued r.issued a.lines (routed_job a.hub frame content queues) jobs claims ends (next_is a.hub.issued a.race.issued sound.issued) (issued_is a.race.issued r.issued (a.race.issued + 1) race.after race.issued) k
 
-step_jobs : (server : Server) (a : Node) (e : NodeEvent) (b : Bool) (r : RaceState) (jobs : List Job) (claims : List Claimed) (ends : List Ended) → SoundNode server a → NodeRace a e b r → Jobs a.race.issued a.lines jobs claims ends
+step_jobs : (server : ServerIdentity) (a : Node) (e : NodeEvent) (b : Bool) (r : RaceState) (jobs : List Job) (claims : List Claimed) (ends : List Ended) → SoundNode server a → NodeRace a e b r → Jobs a.race.issued a.lines jobs claims ends
     → Jobs (node_after server a e b r).race.issued (node_after server a e b r).lines (jobs_by server a e ++ jobs) (claims_by a e b ++ claims) (ends_by a e ++ ends)
 step_jobs server a (Own (OfConn conn event)) b r jobs claims ends sound race k =
     at_known a.race.issued (conn_place server conn) (line_after (conn_event conn event)) a.lines jobs claims ends (conn_line server a conn) (λ line at. found (nat_eq conn 0) (slice_get a.lines (conn_place server conn)) line at) (λ line h. conn_known jobs conn event line h) k
 step_jobs server a (Own (AtShard s work)) b r jobs claims ends sound race k =
-    let there : (line : Line) → shard_line a s ≡ Some line → slice_get a.lines (s - 1) ≡ Some line = λ line at. found (nat_eq s 0) (slice_get a.lines (s - 1)) line at in
+    let there : (line : ShardWithJobs) → shard_line a s ≡ Some line → slice_get a.lines (s - 1) ≡ Some line = λ line at. found (nat_eq s 0) (slice_get a.lines (s - 1)) line at in
     let x = at_known a.race.issued (s - 1) (λ line. line_after_if (work_event work b line) line) a.lines jobs claims ends (shard_line a s) there (λ line h. work_known jobs work b line h) k in
     rise a.race.issued r.issued _ jobs _ _ (work_issued a.race s work (shard_line a s) b r race)
     (record {
@@ -213,16 +213,16 @@ step_jobs server a (Receive frame) b r jobs claims ends sound race k = body_jobs
 step_jobs server a (OnInfo q info) b r jobs claims ends sound race k = k
 step_jobs server a (OnConnect q connect) b r jobs claims ends sound race k = k
 
-new_known : (shards first count place : ℕ) (line : Line) → slice_get (lines_from shards first count) place ≡ Some line → Known [] line
+new_known : (shards first count place : ℕ) (line : ShardWithJobs) → slice_get (lines_from shards first count) place ≡ Some line → Known [] line
 new_known shards first zero place line e = absurd (none-some line e)
 new_known shards first (suc count) zero line e = subst (Known []) (same_Some _ line e) (record { hand = λ job f. absurd (none-some job f); waiting = λ j i. absurd i })
 new_known shards first (suc count) (suc place) line e = new_known shards (suc first) count place line e
 
-pub run_known : (server : Server) (h : List Done) (a : Node) → IsListed server → Ran server h a → Jobs a.race.issued a.lines (jobs_of server h) (claims_of h) (ends_of h)
+pub run_known : (server : ServerIdentity) (h : List Done) (a : Node) → IsListed server → Ran server h a → Jobs a.race.issued a.lines (jobs_of server h) (claims_of h) (ends_of h)
 run_known server [] a listed is = subst (λ (x : Node). Jobs x.race.issued x.lines [] [] []) (sym is) (record { lines_known = new_known server.shards 1 server.shards; turns = tt; below = λ j i. absurd i; claims_known = λ x i. absurd i; ends_known = λ x i. absurd i })
 run_known server (d ∷ earlier) a listed ran =
     subst (λ (x : Node). Jobs x.race.issued x.lines (jobs_of server (d ∷ earlier)) (claims_of (d ∷ earlier)) (ends_of (d ∷ earlier))) (sym ran.0.after)
     (step_jobs server d.before d.event d.won d.race (jobs_of server earlier) (claims_of earlier) (ends_of earlier) (run_sound server earlier d.before listed ran.1) ran.0.moves (run_known server earlier d.before listed ran.1))
 
-pub turns_have_one_job : (server : Server) (h : List Done) (a : Node) → IsListed server → Ran server h a → HasOneJob server h
+pub turns_have_one_job : (server : ServerIdentity) (h : List Done) (a : Node) → IsListed server → Ran server h a → HasOneJob server h
 turns_have_one_job server h a listed ran = let k = run_known server h a listed ran in record { turns = k.turns; claims = k.claims_known; ends = k.ends_known }

@@ -5,7 +5,7 @@ use Rattle.std.specs.List.{list_any}
 use Rattle.list_laws.specs.Lists.{In}
 use Rattle.list_laws.proofs.Tests.{eq_true, true_eq, and_true}
 use Rattle.cluster_law.specs.Race.{Race, KeptOver, Keeps}
-use Rattle.subj.specs.Servers.{Server, IsListed}
+use Rattle.subj.specs.Servers.{ServerIdentity, IsListed}
 use Rattle.subj.specs.declared.jobs.Job.{Job}
 use Rattle.subj.specs.declared.limits.TheConstants.{WINDOW}
 use Rattle.sub_table.specs.declared.Subscription.{Subscription}
@@ -15,7 +15,7 @@ use Rattle.route_values.specs.declared.bodies.Body.TheVariants.{Plus, Minus, Sna
 use Rattle.shard_core.specs.Owed.{candidate_of}
 use Rattle.shard_core.specs.Lines.{SoundLine, Turns, begun_turn}
 use Rattle.node_law.specs.Race.{race_of, IssuesNext, Decides}
-use Rattle.node_law.specs.State.{Line, Node}
+use Rattle.node_law.specs.State.{ShardWithJobs, Node}
 use Rattle.node_law.specs.Events.{ShardWork, Attach, Begin, Claim, End, DropJob, OfConn, AtShard, Publish, Collect, Dial, Accept, CutSession, TakeFrames, NodeEvent, Own, Receive, OnInfo, OnConnect}
 use Rattle.node_law.specs.Steps.{shard_line, ClaimRace, WorkRace, BodyRace, NodeRace, node_after}
 use Rattle.node_law.specs.Sound.{SoundNode}
@@ -102,7 +102,7 @@ won old new s index job u claims near d w = record {
 
 -- ---- the step
 
-claim_case : (s index : ℕ) (b : Bool) (old new : RaceState) (claims : List Claimed) (o : Option Line) → ((line : Line) → o ≡ Some line → SoundLine WINDOW old.issued line.shard line.waiting) → WorkRace old s (Claim index) o b new → Winners (race_of old) claims → Winners (race_of new) (claimed_at s index b o ++ claims)
+claim_case : (s index : ℕ) (b : Bool) (old new : RaceState) (claims : List Claimed) (o : Option ShardWithJobs) → ((line : ShardWithJobs) → o ≡ Some line → SoundLine WINDOW old.issued line.shard line.waiting) → WorkRace old s (Claim index) o b new → Winners (race_of old) claims → Winners (race_of new) (claimed_at s index b o ++ claims)
 claim_case s index b old new claims None sound is w = same_says old new claims is w
 claim_case s index b old new claims (Some line) sound is w = go line.shard.hand (candidate_of line.shard line.shard.hand index) b (λ job e. near (sound line refl) job e) is
   where
@@ -115,10 +115,10 @@ claim_case s index b old new claims (Some line) sound is w = go line.shard.hand 
     go (Some job) (Some u) true lt k = won (race_of old) (race_of new) s index job u claims (lt job refl) (races_follow_the_law.claims old s job.turn index true new k) w
     go (Some job) (Some u) false lt k = lost (race_of old) (race_of new) s index job u claims (lt job refl) (races_follow_the_law.claims old s job.turn index false new k) w
 
-pub line_sound : (server : Server) (a : Node) → SoundNode server a → (shard : ℕ) (line : Line) → shard_line a shard ≡ Some line → SoundLine WINDOW a.race.issued line.shard line.waiting
+pub line_sound : (server : ServerIdentity) (a : Node) → SoundNode server a → (shard : ℕ) (line : ShardWithJobs) → shard_line a shard ≡ Some line → SoundLine WINDOW a.race.issued line.shard line.waiting
 line_sound server a sound shard line e = (sound.lines (shard - 1) line (found (nat_eq shard 0) (slice_get a.lines (shard - 1)) line e)).sound
 
-work_case : (s : ℕ) (work : ShardWork) (b : Bool) (a : Node) (new : RaceState) (claims : List Claimed) (o : Option Line) → shard_line a s ≡ o → ((line : Line) → shard_line a s ≡ Some line → SoundLine WINDOW a.race.issued line.shard line.waiting) → WorkRace a.race s work o b new → Winners (race_of a.race) claims → Winners (race_of new) (work_claims a s work b ++ claims)
+work_case : (s : ℕ) (work : ShardWork) (b : Bool) (a : Node) (new : RaceState) (claims : List Claimed) (o : Option ShardWithJobs) → shard_line a s ≡ o → ((line : ShardWithJobs) → shard_line a s ≡ Some line → SoundLine WINDOW a.race.issued line.shard line.waiting) → WorkRace a.race s work o b new → Winners (race_of a.race) claims → Winners (race_of new) (work_claims a s work b ++ claims)
 work_case s (Claim index) b a new claims o at sound is w = claim_case s index b a.race new claims (shard_line a s) sound (subst (λ x. WorkRace a.race s (Claim index) x b new) (sym at) is) w
 work_case s Attach b a new claims None at sound is w = same_says a.race new claims is w
 work_case s Begin b a new claims None at sound is w = same_says a.race new claims is w
@@ -135,7 +135,7 @@ body_case a (Minus key) r claims is w = same_says a.race r claims is w
 body_case a (Snapshot keys) r claims is w = same_says a.race r claims is w
 body_case a (Msg content queues) r claims is w = issues_says (race_of a.race) (race_of r) claims (races_follow_the_law.issues a.race (a.race.issued + 1) r is) w
 
-step_winners : (server : Server) (a : Node) (e : NodeEvent) (b : Bool) (r : RaceState) (claims : List Claimed) → SoundNode server a → NodeRace a e b r → Winners (race_of a.race) claims → Winners (race_of (node_after server a e b r).race) (claims_by a e b ++ claims)
+step_winners : (server : ServerIdentity) (a : Node) (e : NodeEvent) (b : Bool) (r : RaceState) (claims : List Claimed) → SoundNode server a → NodeRace a e b r → Winners (race_of a.race) claims → Winners (race_of (node_after server a e b r).race) (claims_by a e b ++ claims)
 step_winners server a (Own (OfConn conn event)) b r claims sound race w = w
 step_winners server a (Own (AtShard s work)) b r claims sound race w = work_case s work b a r claims (shard_line a s) refl (line_sound server a sound s) race w
 step_winners server a (Own (Publish p)) b r claims sound race w = issues_says (race_of a.race) (race_of r) claims (races_follow_the_law.issues a.race (a.race.issued + 1) r race) w
@@ -148,13 +148,13 @@ step_winners server a (Receive frame) b r claims sound race w = body_case a fram
 step_winners server a (OnInfo k info) b r claims sound race w = w
 step_winners server a (OnConnect k connect) b r claims sound race w = w
 
-run_winners : (server : Server) (h : List Done) (a : Node) → IsListed server → Ran server h a → Winners (race_of a.race) (claims_of h)
+run_winners : (server : ServerIdentity) (h : List Done) (a : Node) → IsListed server → Ran server h a → Winners (race_of a.race) (claims_of h)
 run_winners server [] a listed is = subst (λ (x : Node). Winners (race_of x.race) []) (sym is) (record { one = λ t i. refl; says = λ t i lt. ((λ x. absurd x), (λ x. absurd (true≢false (sym x)))) })
 run_winners server (d ∷ earlier) a listed ran =
     subst (λ (x : Node). Winners (race_of x.race) (claims_of (d ∷ earlier))) (sym ran.0.after)
     (step_winners server d.before d.event d.won d.race (claims_of earlier) (run_sound server earlier d.before listed ran.1) ran.0.moves (run_winners server earlier d.before listed ran.1))
 
-pub queue_names_have_one_winner : (server : Server) (h : List Done) (a : Node) → IsListed server → Ran server h a → HasOneWinner (claims_of h)
+pub queue_names_have_one_winner : (server : ServerIdentity) (h : List Done) (a : Node) → IsListed server → Ran server h a → HasOneWinner (claims_of h)
 queue_names_have_one_winner server h a listed ran = (run_winners server h a listed ran).one
 
 -- ---- no Claim is of a turn that was not issued
@@ -163,7 +163,7 @@ turns_le : (begun : ℕ) (jobs : List Job) (issued : ℕ) → Turns begun jobs i
 turns_le begun [] issued t = omega arith
 turns_le begun (job ∷ jobs) issued t = let h = turns_le (suc begun) jobs issued t.1 in omega arith
 
-hand_le : (issued : ℕ) (line : Line) → SoundLine WINDOW issued line.shard line.waiting → (job : Job) → line.shard.hand ≡ Some job → job.turn ≤ issued
+hand_le : (issued : ℕ) (line : ShardWithJobs) → SoundLine WINDOW issued line.shard line.waiting → (job : Job) → line.shard.hand ≡ Some job → job.turn ≤ issued
 hand_le issued line so job e =
     let h = so.hand job e in
     let t = turns_le (suc line.shard.finished) line.waiting issued (subst (λ x. Turns (begun_turn x line.shard.finished) line.waiting issued) e so.turns) in omega arith
@@ -174,7 +174,7 @@ Below issued claims = (t i : ℕ) → list_any (is_tried t i) claims ≡ true �
 below_more : (m n : ℕ) (claims : List Claimed) → m ≤ n → Below m claims → Below n claims
 below_more m n claims le b = λ t i e. let h = b t i e in omega arith
 
-claim_below : (s index : ℕ) (b : Bool) (issued : ℕ) (claims : List Claimed) (o : Option Line) → ((line : Line) → o ≡ Some line → SoundLine WINDOW issued line.shard line.waiting) → Below issued claims → Below issued (claimed_at s index b o ++ claims)
+claim_below : (s index : ℕ) (b : Bool) (issued : ℕ) (claims : List Claimed) (o : Option ShardWithJobs) → ((line : ShardWithJobs) → o ≡ Some line → SoundLine WINDOW issued line.shard line.waiting) → Below issued claims → Below issued (claimed_at s index b o ++ claims)
 claim_below s index b issued claims None sound below = below
 claim_below s index b issued claims (Some line) sound below = go line.shard.hand (candidate_of line.shard line.shard.hand index) (hand_le issued line (sound line refl))
   where
@@ -187,14 +187,14 @@ claim_below s index b issued claims (Some line) sound below = go line.shard.hand
         by t i true f g = subst (λ m. m ≤ issued) (eq_true job.turn t (and_true (nat_eq job.turn t) (nat_eq index i) f).0) (le job refl)
         by t i false f g = below t i g
 
-work_below : (server : Server) (a : Node) (s : ℕ) (work : ShardWork) (b : Bool) (claims : List Claimed) → SoundNode server a → Below a.race.issued claims → Below a.race.issued (work_claims a s work b ++ claims)
+work_below : (server : ServerIdentity) (a : Node) (s : ℕ) (work : ShardWork) (b : Bool) (claims : List Claimed) → SoundNode server a → Below a.race.issued claims → Below a.race.issued (work_claims a s work b ++ claims)
 work_below server a s Attach b claims sound below = below
 work_below server a s Begin b claims sound below = below
 work_below server a s (Claim index) b claims sound below = claim_below s index b a.race.issued claims (shard_line a s) (line_sound server a sound s) below
 work_below server a s End b claims sound below = below
 work_below server a s DropJob b claims sound below = below
 
-step_below : (server : Server) (a : Node) (e : NodeEvent) (b : Bool) (claims : List Claimed) → SoundNode server a → Below a.race.issued claims → Below a.race.issued (claims_by a e b ++ claims)
+step_below : (server : ServerIdentity) (a : Node) (e : NodeEvent) (b : Bool) (claims : List Claimed) → SoundNode server a → Below a.race.issued claims → Below a.race.issued (claims_by a e b ++ claims)
 step_below server a (Own (OfConn conn event)) b claims sound below = below
 step_below server a (Own (AtShard s work)) b claims sound below = work_below server a s work b claims sound below
 step_below server a (Own (Publish p)) b claims sound below = below
@@ -212,7 +212,7 @@ claim_issued old s index None u b new k = let h = ap (λ (x : RaceState). x.issu
 claim_issued old s index (Some job) None b new k = let h = ap (λ (x : RaceState). x.issued) k in omega arith
 claim_issued old s index (Some job) (Some u) b new k = let h = k.issued in omega arith
 
-pub work_issued : (old : RaceState) (s : ℕ) (work : ShardWork) (o : Option Line) (b : Bool) (new : RaceState) → WorkRace old s work o b new → old.issued ≤ new.issued
+pub work_issued : (old : RaceState) (s : ℕ) (work : ShardWork) (o : Option ShardWithJobs) (b : Bool) (new : RaceState) → WorkRace old s work o b new → old.issued ≤ new.issued
 work_issued old s work None b new k = let h = ap (λ (x : RaceState). x.issued) k in omega arith
 work_issued old s Attach (Some line) b new k = let h = ap (λ (x : RaceState). x.issued) k in omega arith
 work_issued old s Begin (Some line) b new k = let h = ap (λ (x : RaceState). x.issued) k in omega arith
@@ -226,7 +226,7 @@ body_issued a (Minus key) r k = let h = ap (λ (x : RaceState). x.issued) k in o
 body_issued a (Snapshot keys) r k = let h = ap (λ (x : RaceState). x.issued) k in omega arith
 body_issued a (Msg content queues) r k = let h = k.issued in let g = k.after in omega arith
 
-issued_after : (server : Server) (a : Node) (e : NodeEvent) (b : Bool) (r : RaceState) → NodeRace a e b r → a.race.issued ≤ (node_after server a e b r).race.issued
+issued_after : (server : ServerIdentity) (a : Node) (e : NodeEvent) (b : Bool) (r : RaceState) → NodeRace a e b r → a.race.issued ≤ (node_after server a e b r).race.issued
 issued_after server a (Own (OfConn conn event)) b r race = omega arith
 issued_after server a (Own (AtShard s work)) b r race = work_issued a.race s work (shard_line a s) b r race
 issued_after server a (Own (Publish p)) b r race = let h = race.issued in let g = race.after in omega arith
@@ -239,13 +239,13 @@ issued_after server a (Receive frame) b r race = body_issued a frame.body r race
 issued_after server a (OnInfo k info) b r race = omega arith
 issued_after server a (OnConnect k connect) b r race = omega arith
 
-run_below : (server : Server) (h : List Done) (a : Node) → IsListed server → Ran server h a → Below a.race.issued (claims_of h)
+run_below : (server : ServerIdentity) (h : List Done) (a : Node) → IsListed server → Ran server h a → Below a.race.issued (claims_of h)
 run_below server [] a listed is = λ t i e. absurd (true≢false (sym e))
 run_below server (d ∷ earlier) a listed ran =
     subst (λ (x : Node). Below x.race.issued (claims_of (d ∷ earlier))) (sym ran.0.after)
     (below_more d.before.race.issued _ (claims_of (d ∷ earlier)) (issued_after server d.before d.event d.won d.race ran.0.moves) (step_below server d.before d.event d.won (claims_of earlier) (run_sound server earlier d.before listed ran.1) (run_below server earlier d.before listed ran.1)))
 
-pub turns_are_fresh : (server : Server) (h : List Done) (a : Node) → IsListed server → Ran server h a → (turn index : ℕ) → a.race.issued < turn → In (turn, index) (race_of a.race).won → ⊥
+pub turns_are_fresh : (server : ServerIdentity) (h : List Done) (a : Node) → IsListed server → Ran server h a → (turn index : ℕ) → a.race.issued < turn → In (turn, index) (race_of a.race).won → ⊥
 turns_are_fresh server h a listed ran turn index lt i =
     let w = run_winners server h a listed ran in
     let b = run_below server h a listed ran turn index ((w.says turn index (omega arith)).0 i) in absurd (omega arith)

@@ -11,7 +11,7 @@ use Rattle.list_laws.proofs.Lists.{in_left, in_right}
 use Rattle.list_laws.proofs.Tests.{eq_true, true_eq, same_bytes}
 use Rattle.list_laws.proofs.Changes.{filter_append}
 use Rattle.subj.specs.QueueNames.{is_named}
-use Rattle.subj.specs.Servers.{Server}
+use Rattle.subj.specs.Servers.{ServerIdentity}
 use Rattle.subj.specs.declared.jobs.Job.{Job}
 use Rattle.sub_table.specs.declared.Subscription.{Subscription}
 use Rattle.shard_core.specs.declared.calls.Placed.{Placed}
@@ -28,7 +28,7 @@ use Rattle.node_law.specs.Events.{ConnEvent, ShardWork, NodeEvent, Own, Receive,
 use Rattle.node_law.specs.OneServer.{Claimed, claims_of, claims_by, work_claims, claimed_at, claimed_with, is_of_pair, is_tried, is_win, placed_with}
 use Rattle.node_law.specs.PlacedOnce.{placed_of, all_placed, PlacesOnce, mode_name, is_for, is_of_turn, put_for, entries_put, StandsAt, PutsOnce}
 use Rattle.node_law.specs.Runs.{Done}
-use Rattle.node_law.specs.State.{Line, Node}
+use Rattle.node_law.specs.State.{ShardWithJobs, Node}
 use Rattle.node_law.specs.Steps.{conn_place, conn_line, shard_line, conn_event, begin_of, drop_of, work_event}
 use Rattle.node_law.proofs.Claims.OneWinner.{queue_names_have_one_winner}
 use Rattle.node_law.proofs.Claims.OneJob.{turns_have_one_job}
@@ -147,7 +147,7 @@ not_claimed conn of_node.Detach = refl
 not_claimed conn (of_node.Take count) = refl
 
 module _ (turn index : ℕ) (name : List ℕ) where
-  if_less : (place : ℕ) (line : Line) (e : Option of_shard.Event) (n : ℕ) → ((x : of_shard.Event) → e ≡ Some x → is_claim x ≡ false) → length (put_for turn name (part_if place line e)) ≤ n
+  if_less : (place : ℕ) (line : ShardWithJobs) (e : Option of_shard.Event) (n : ℕ) → ((x : of_shard.Event) → e ≡ Some x → is_claim x ≡ false) → length (put_for turn name (part_if place line e)) ≤ n
   if_less place line None n other = omega arith
   if_less place line (Some e) n other = none_less _ n (none_else turn name line.shard e (other e refl))
 
@@ -163,7 +163,7 @@ module _ (turn index : ℕ) (name : List ℕ) where
       drops None (Some job) x e = ap is_claim (sym (same_Some (of_shard.DropJob (Some job)) x e))
       drops (Some job) f x e = ap is_claim (sym (same_Some (of_shard.DropJob None) x e))
 
-      go : (work : ShardWork) (o : Option Line) → shard_line a shard ≡ o → Each (Stands turn name index) (work_claims a shard work won) → length (put_for turn name (part_at (shard - 1) (work_event work won) o)) ≤ length (flat_map (placed_of turn index) (work_claims a shard work won))
+      go : (work : ShardWork) (o : Option ShardWithJobs) → shard_line a shard ≡ o → Each (Stands turn name index) (work_claims a shard work won) → length (put_for turn name (part_at (shard - 1) (work_event work won) o)) ≤ length (flat_map (placed_of turn index) (work_claims a shard work won))
       go work None at stands = omega arith
       go of_node.Attach (Some line) at stands = omega arith
       go of_node.Begin (Some line) at stands = if_less (shard - 1) line (begin_of (first_of line.waiting)) _ (begins (first_of line.waiting))
@@ -173,10 +173,10 @@ module _ (turn index : ℕ) (name : List ℕ) where
       go of_node.End (Some line) at stands = omega arith
       go of_node.DropJob (Some line) at stands = if_less (shard - 1) line (drop_of line.shard.hand (first_of line.waiting)) _ (drops line.shard.hand (first_of line.waiting))
 
-  step_less : (server : Server) (a : Node) (e : NodeEvent) (won : Bool) → Each (Stands turn name index) (claims_by a e won) → length (put_for turn name (part_of server a e won)) ≤ length (flat_map (placed_of turn index) (claims_by a e won))
+  step_less : (server : ServerIdentity) (a : Node) (e : NodeEvent) (won : Bool) → Each (Stands turn name index) (claims_by a e won) → length (put_for turn name (part_of server a e won)) ≤ length (flat_map (placed_of turn index) (claims_by a e won))
   step_less server a (Own (of_node.OfConn conn event)) won stands = go (conn_line server a conn)
     where
-      go : (o : Option Line) → length (put_for turn name (part_at (conn_place server conn) (λ line. Some (conn_event conn event)) o)) ≤ 0
+      go : (o : Option ShardWithJobs) → length (put_for turn name (part_at (conn_place server conn) (λ line. Some (conn_event conn event)) o)) ≤ 0
       go None = omega arith
       go (Some line) = none_less _ 0 (none_else turn name line.shard (conn_event conn event) (not_claimed conn event))
   step_less server a (Own (of_node.AtShard shard work)) won stands = work_less a shard work won stands
@@ -190,7 +190,7 @@ module _ (turn index : ℕ) (name : List ℕ) where
   step_less server a (OnInfo session info) won stands = omega arith
   step_less server a (OnConnect session connect) won stands = omega arith
 
-  run_less : (server : Server) (h : List Done) → Each (Stands turn name index) (claims_of h) → length (entries_put server turn name h) ≤ length (all_placed turn index h)
+  run_less : (server : ServerIdentity) (h : List Done) → Each (Stands turn name index) (claims_of h) → length (entries_put server turn name h) ≤ length (all_placed turn index h)
   run_less server [] stands = omega arith
   run_less server (d ∷ earlier) stands =
       let here = step_less server d.before d.event d.won (λ x i. stands x (in_left x (claims_by d.before d.event d.won) (claims_of earlier) i)) in

@@ -5,7 +5,7 @@ use Rattle.std.proofs.lemmas.Option.{none-some}
 use Rattle.list_laws.specs.Lists.{Each}
 use Rattle.list_laws.proofs.Tests.{eq_true, eq_false}
 use Rattle.list_laws.proofs.Changes.{append_nil, get_set_here, get_set_there}
-use Rattle.subj.specs.Servers.{Server}
+use Rattle.subj.specs.Servers.{ServerIdentity}
 use Rattle.subj.specs.declared.jobs.Job.{Job}
 use Rattle.sub_table.specs.declared.Subscription.{Subscription}
 use Rattle.claim_race.specs.Race.{RaceState}
@@ -19,7 +19,7 @@ use Rattle.shard_core.specs.ShardSteps.{shard_refusal}
 use Rattle.shard_core.proofs.Clients.Outboxes.{are_put}
 use Rattle.node_law.specs.declared.faults.NodeFault.TheVariants.{Shard}
 use Rattle.node_law.specs.AsLaw.{waits_in, waits_at}
-use Rattle.node_law.specs.State.{Line, Node}
+use Rattle.node_law.specs.State.{ShardWithJobs, Node}
 use Rattle.node_law.specs.Events.{Attach, Begin, Claim, End, DropJob, OfConn, AtShard, Publish, Collect, Dial, Accept, CutSession, TakeFrames, NodeEvent, Own, Receive, OnInfo, OnConnect}
 use Rattle.node_law.specs.Steps.{shard_line, work_refusal, line_after, set_line, node_refusal, node_after}
 use Rattle.node_law.specs.Sound.{SoundNode}
@@ -30,7 +30,7 @@ claim_placed : (s : shards.State) (job : Job) (u : Option Subscription) (won : B
 claim_placed s job None won = refl
 claim_placed s job (Some u) won = refl
 
-numbered : (shard n : ℕ) (o : Option Line) (line : Line) → cond (nat_eq shard 0) None o ≡ Some line → n ≡ suc (shard - 1) → n ≡ shard
+numbered : (shard n : ℕ) (o : Option ShardWithJobs) (line : ShardWithJobs) → cond (nat_eq shard 0) None o ≡ Some line → n ≡ suc (shard - 1) → n ≡ shard
 numbered shard n o line at is = go (nat_eq shard 0) refl at
   where
     go : (b : Bool) → nat_eq shard 0 ≡ b → cond b None o ≡ Some line → n ≡ shard
@@ -38,14 +38,14 @@ numbered shard n o line at is = go (nat_eq shard 0) refl at
     go false e f = let apart = eq_false shard 0 e in omega arith
 
 -- a claim changes no outbox of another shard, and of its own as the shard says
-abbrev Placed : ℕ → List Line → List Line → Claimed → Type 0
+abbrev Placed : ℕ → List ShardWithJobs → List ShardWithJobs → Claimed → Type 0
 Placed s old new x = (place conn : ℕ) → waits_in conn (slice_get new place) ≡ waits_in conn (slice_get old place) ++ placed_by x place conn
 
-claim_puts : (s index : ℕ) (won : Bool) (lines : List Line) (line : Line) → slice_get lines (s - 1) ≡ Some line → line.shard.shard ≡ s → shard_refusal line.shard (of_shard.Claim index won) ≡ None
+claim_puts : (s index : ℕ) (won : Bool) (lines : List ShardWithJobs) (line : ShardWithJobs) → slice_get lines (s - 1) ≡ Some line → line.shard.shard ≡ s → shard_refusal line.shard (of_shard.Claim index won) ≡ None
     → Each (Placed s lines (set lines (s - 1) (line_after (of_shard.Claim index won) line))) (claimed_with s index won line.shard.hand (candidate_of line.shard line.shard.hand index))
 claim_puts s index won lines line at number cause = go line.shard.hand (candidate_of line.shard line.shard.hand index) refl refl
   where
-    new : List Line
+    new : List ShardWithJobs
     new = set lines (s - 1) (line_after (of_shard.Claim index won) line)
 
     go : (hand : Option Job) (u : Option Subscription) → line.shard.hand ≡ hand → candidate_of line.shard line.shard.hand index ≡ u → Each (Placed s lines new) (claimed_with s index won hand u)
@@ -66,14 +66,14 @@ claim_puts s index won lines line at number cause = go line.shard.hand (candidat
             ap (waits_in conn) (get_set_there lines (s - 1) place (line_after (of_shard.Claim index won) line) (λ g. eq_false (s - 1) place f (sym g)))
             ∙ sym (append_nil (waits_in conn (slice_get lines place)))
 
-claim_case : (server : Server) (a : Node) (s index : ℕ) (won : Bool) (o : Option Line) → SoundNode server a → shard_line a s ≡ o → work_refusal (Claim index) o ≡ None
+claim_case : (server : ServerIdentity) (a : Node) (s index : ℕ) (won : Bool) (o : Option ShardWithJobs) → SoundNode server a → shard_line a s ≡ o → work_refusal (Claim index) o ≡ None
     → Each (Placed s a.lines (set_line a.lines (s - 1) (line_after (of_shard.Claim index won)) o)) (claimed_at s index won o)
 claim_case server a s index won None sound at cause = λ x i. absurd i
 claim_case server a s index won (Some line) sound at cause =
     let there = found (nat_eq s 0) (slice_get a.lines (s - 1)) line at in
     claim_puts s index won a.lines line there (numbered s line.shard.shard (slice_get a.lines (s - 1)) line at (sound.lines (s - 1) line there).number) (map_none Shard (shard_refusal line.shard (of_shard.Claim index won)) cause)
 
-claims_put : (server : Server) (a : Node) (e : NodeEvent) (won : Bool) (race : RaceState) → SoundNode server a → node_refusal server a e ≡ None
+claims_put : (server : ServerIdentity) (a : Node) (e : NodeEvent) (won : Bool) (race : RaceState) → SoundNode server a → node_refusal server a e ≡ None
     → Each (λ x. (place conn : ℕ) → waits_at (node_after server a e won race) place conn ≡ waits_at a place conn ++ placed_by x place conn) (claims_by a e won)
 claims_put server a (Own (OfConn conn event)) won race sound cause = λ x i. absurd i
 claims_put server a (Own (AtShard s Attach)) won race sound cause = λ x i. absurd i

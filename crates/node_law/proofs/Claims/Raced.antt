@@ -6,7 +6,7 @@ use Rattle.std.proofs.lemmas.Option.{none-some, same_Some}
 use Rattle.list_laws.proofs.Lists.{read_set}
 use Rattle.list_laws.proofs.Changes.{map_set, map_set_same, map_map}
 use Rattle.list_laws.proofs.Tests.{eq_true}
-use Rattle.subj.specs.Servers.{Server}
+use Rattle.subj.specs.Servers.{ServerIdentity}
 use Rattle.subj.specs.declared.jobs.Job.{Job}
 use Rattle.subj.specs.declared.limits.TheConstants.{WINDOW}
 use Rattle.sub_table.specs.declared.Subscription.{Subscription}
@@ -24,7 +24,7 @@ use Rattle.shard_core.specs.ShardEvents as of_shard
 use Rattle.shard_core.specs.ShardSteps.{sub_called, new_sub, after_subscribe, ended_now, after_unsubscribe, answer_fits, claim_refusal, end_refusal, begin_refusal, done_with, shard_after}
 use Rattle.shard_core.specs.declared.faults.ShardFault.TheVariants.{JobInHand, WrongTurn, BadIndex}
 use Rattle.node_law.specs.declared.faults.NodeFault.TheVariants.{Shard}
-use Rattle.node_law.specs.State.{Line, Node}
+use Rattle.node_law.specs.State.{ShardWithJobs, Node}
 use Rattle.node_law.specs.Events.{ConnEvent, Subscribe, Unsubscribe, Reply, Shut, Detach, Take, ShardWork, Attach, Begin, Claim, End, DropJob, OfConn, AtShard, Publish, Collect, Dial, Accept, CutSession, TakeFrames, NodeEvent, Own, Receive, OnInfo, OnConnect}
 use Rattle.node_law.specs.Steps.{conn_place, conn_line, shard_line, conn_event, begin_of, drop_of, work_event, conn_refusal, event_refusal, work_refusal, collect_refusal_at, ClaimRace, WorkRace, NodeRace, node_refusal, node_after, line_after, line_after_if, set_line, line_with_job, lines_after_body, BodyRace}
 use Rattle.node_law.specs.Sound.{SoundNode, IsRaced, tried_of}
@@ -58,23 +58,23 @@ conn_tracks conn (Take count) s = record { finished = refl; hand = refl; next = 
 
 -- ---- one line is written
 
-moved : (race new : RaceState) (lines : List Line) (place : ℕ) (after : Line) → IsRaced race lines
+moved : (race new : RaceState) (lines : List ShardWithJobs) (place : ℕ) (after : ShardWithJobs) → IsRaced race lines
     → new.finished ≡ set race.finished place after.shard.finished → ((p : ℕ) → p ≢ place → slice_index new.next p ≡ slice_index race.next p) → slice_index new.next place ≤ tried_of after.shard.hand after.shard.next_index
     → IsRaced new (set lines place after)
 moved race new lines place after raced done there here = record {
-  finished = done ∙ ap (λ t. set t place after.shard.finished) raced.finished ∙ sym (map_set (λ (line : Line). line.shard.finished) lines place after);
+  finished = done ∙ ap (λ t. set t place after.shard.finished) raced.finished ∙ sym (map_set (λ (line : ShardWithJobs). line.shard.finished) lines place after);
   next = read_set (λ p l. slice_index new.next p ≤ tried_of l.shard.hand l.shard.next_index) lines place after (λ p l apart e. subst (λ k. k ≤ tried_of l.shard.hand l.shard.next_index) (sym (there p apart)) (raced.next p l e)) here;
 }
 
 -- no turn is finished
-stayed : (race new : RaceState) (lines : List Line) (place : ℕ) (line after : Line) → slice_get lines place ≡ Some line → IsRaced race lines → new.finished ≡ race.finished → after.shard.finished ≡ line.shard.finished
+stayed : (race new : RaceState) (lines : List ShardWithJobs) (place : ℕ) (line after : ShardWithJobs) → slice_get lines place ≡ Some line → IsRaced race lines → new.finished ≡ race.finished → after.shard.finished ≡ line.shard.finished
     → ((p : ℕ) → p ≢ place → slice_index new.next p ≡ slice_index race.next p) → slice_index new.next place ≤ tried_of after.shard.hand after.shard.next_index → IsRaced new (set lines place after)
 stayed race new lines place line after at raced done same there here = record {
-  finished = done ∙ raced.finished ∙ sym (map_set_same (λ (line : Line). line.shard.finished) lines place line after at same);
+  finished = done ∙ raced.finished ∙ sym (map_set_same (λ (line : ShardWithJobs). line.shard.finished) lines place line after at same);
   next = read_set (λ p l. slice_index new.next p ≤ tried_of l.shard.hand l.shard.next_index) lines place after (λ p l apart e. subst (λ k. k ≤ tried_of l.shard.hand l.shard.next_index) (sym (there p apart)) (raced.next p l e)) here;
 }
 
-tracked : (race : RaceState) (lines : List Line) (place : ℕ) (line after : Line) → slice_get lines place ≡ Some line → IsRaced race lines → Tracks line.shard after.shard → IsRaced race (set lines place after)
+tracked : (race : RaceState) (lines : List ShardWithJobs) (place : ℕ) (line after : ShardWithJobs) → slice_get lines place ≡ Some line → IsRaced race lines → Tracks line.shard after.shard → IsRaced race (set lines place after)
 tracked race lines place line after at raced t = stayed race race lines place line after at raced refl t.finished (λ p apart. refl) (subst (λ k. slice_index race.next place ≤ k) (λ i. tried_of (sym t.hand i) (sym t.next i)) (raced.next place line at))
 
 -- what is read of a list of numbers that was written
@@ -97,12 +97,12 @@ got_map f [] n b e = absurd (none-some b e)
 got_map f (x ∷ xs) zero b e = (x, refl, sym (same_Some (f x) b e))
 got_map f (x ∷ xs) (suc n) b e = got_map f xs n b e
 
-issued : (race new : RaceState) (turn : ℕ) (job : Job) (lines : List Line) → IsRaced race lines → IsIssued race turn new → IsRaced new (map (line_with_job job) lines)
+issued : (race new : RaceState) (turn : ℕ) (job : Job) (lines : List ShardWithJobs) → IsRaced race lines → IsIssued race turn new → IsRaced new (map (line_with_job job) lines)
 issued race new turn job lines raced is = record {
-  finished = is.finished ∙ raced.finished ∙ sym (map_map (line_with_job job) (λ (line : Line). line.shard.finished) lines);
+  finished = is.finished ∙ raced.finished ∙ sym (map_map (line_with_job job) (λ (line : ShardWithJobs). line.shard.finished) lines);
   next = λ p l e.
       let g = got_map (line_with_job job) lines p l e in
-      subst (λ (t : Line). slice_index new.next p ≤ tried_of t.shard.hand t.shard.next_index) (sym g.2) (subst (λ t. slice_index t p ≤ tried_of g.0.shard.hand g.0.shard.next_index) (sym is.next) (raced.next p g.0 g.1));
+      subst (λ (t : ShardWithJobs). slice_index new.next p ≤ tried_of t.shard.hand t.shard.next_index) (sym g.2) (subst (λ t. slice_index t p ≤ tried_of g.0.shard.hand g.0.shard.next_index) (sym is.next) (raced.next p g.0 g.1));
 }
 
 -- ---- work of a shard
@@ -127,7 +127,7 @@ record IsOver (s after : State) (job : Job) : Type 0 where
   finished : after.finished ≡ job.turn
   hand : after.hand ≡ None
 
-over_turn : (race new : RaceState) (lines : List Line) (shard : ℕ) (line after : Line) (job : Job)
+over_turn : (race new : RaceState) (lines : List ShardWithJobs) (shard : ℕ) (line after : ShardWithJobs) (job : Job)
     → IsRaced race lines → IsFinished race shard (line.shard.finished + 1) new → job.turn ≡ suc line.shard.finished → IsOver line.shard after.shard job → IsRaced new (set lines (shard - 1) after)
 over_turn race new lines shard line after job raced h turn over = moved race new lines (shard - 1) after raced (h.finished ∙ ap (set race.finished (shard - 1)) (add-one line.shard.finished ∙ sym turn ∙ sym over.finished)) (λ p apart. ap (λ t. slice_index t p) h.next ∙ set_off race.next (shard - 1) 0 p apart)
     (let z = subst (λ t. slice_index t (shard - 1) ≤ 0) (sym h.next) (set_at race.next (shard - 1) 0) in omega arith)
@@ -142,7 +142,7 @@ dropped_free s job free = subst (λ t. IsOver s (done_with s (option_or t (Some 
 dropped_held : (s : State) (job : Job) → s.hand ≡ Some job → IsOver s (shard_after s (of_shard.DropJob None)) job
 dropped_held s job held = subst (λ t. IsOver s (done_with s (option_or t None)) job) (sym held) (record { finished = refl; hand = refl })
 
-work_raced : (race new : RaceState) (lines : List Line) (shard issued_turn : ℕ) (work : ShardWork) (won : Bool) (line : Line)
+work_raced : (race new : RaceState) (lines : List ShardWithJobs) (shard issued_turn : ℕ) (work : ShardWork) (won : Bool) (line : ShardWithJobs)
     → slice_get lines (shard - 1) ≡ Some line → IsRaced race lines → SoundLine WINDOW issued_turn line.shard line.waiting → event_refusal line (work_event work won line) ≡ None → WorkRace race shard work (Some line) won new
     → IsRaced new (set lines (shard - 1) (line_after_if (work_event work won line) line))
 work_raced race new lines shard k Attach won line at raced sound cause h = subst (λ r. IsRaced r (set lines (shard - 1) (line_after of_shard.Attach line))) (sym h) (tracked race lines (shard - 1) line (line_after of_shard.Attach line) at raced (record { finished = refl; hand = refl; next = refl }))
@@ -190,22 +190,22 @@ body_raced a frame (Minus key) race raced h = subst (λ r. IsRaced r a.lines) (s
 body_raced a frame (Snapshot keys) race raced h = subst (λ r. IsRaced r a.lines) (sym h) raced
 body_raced a frame (Msg content queues) race raced h = issued a.race race (a.race.issued + 1) (routed_job a.hub frame content queues) a.lines raced h
 
-conn_raced : (server : Server) (a : Node) (conn : ℕ) (event : ConnEvent) (o : Option Line) → conn_line server a conn ≡ o → IsRaced a.race a.lines → conn_refusal event conn o ≡ None → IsRaced a.race (set_line a.lines (conn_place server conn) (line_after (conn_event conn event)) o)
+conn_raced : (server : ServerIdentity) (a : Node) (conn : ℕ) (event : ConnEvent) (o : Option ShardWithJobs) → conn_line server a conn ≡ o → IsRaced a.race a.lines → conn_refusal event conn o ≡ None → IsRaced a.race (set_line a.lines (conn_place server conn) (line_after (conn_event conn event)) o)
 conn_raced server a conn event None at raced cause = absurd (none-some _ (sym cause))
 conn_raced server a conn event (Some line) at raced cause = tracked a.race a.lines (conn_place server conn) line (line_after (conn_event conn event) line) (found (nat_eq conn 0) (slice_get a.lines (conn_place server conn)) line at) raced (conn_tracks conn event line.shard)
 
-shard_raced : (server : Server) (a : Node) (shard : ℕ) (work : ShardWork) (won : Bool) (race : RaceState) (o : Option Line) → SoundNode server a → shard_line a shard ≡ o → IsRaced a.race a.lines → work_refusal work o ≡ None → WorkRace a.race shard work o won race
+shard_raced : (server : ServerIdentity) (a : Node) (shard : ℕ) (work : ShardWork) (won : Bool) (race : RaceState) (o : Option ShardWithJobs) → SoundNode server a → shard_line a shard ≡ o → IsRaced a.race a.lines → work_refusal work o ≡ None → WorkRace a.race shard work o won race
     → IsRaced race (set_line a.lines (shard - 1) (λ line. line_after_if (work_event work won line) line) o)
 shard_raced server a shard work won race None sound at raced cause h = absurd (none-some _ (sym cause))
 shard_raced server a shard work won race (Some line) sound at raced cause h =
     let here = found (nat_eq shard 0) (slice_get a.lines (shard - 1)) line at in
     work_raced a.race race a.lines shard a.race.issued work won line here raced (sound.lines (shard - 1) line here).sound (sym (same_refusal work line won) ∙ cause) h
 
-told_raced : (a : Node) (shard : ℕ) (o : Option Line) → shard_line a shard ≡ o → IsRaced a.race a.lines → collect_refusal_at a.hub o ≡ None → IsRaced a.race (set_line a.lines (shard - 1) (line_after of_shard.Collect) o)
+told_raced : (a : Node) (shard : ℕ) (o : Option ShardWithJobs) → shard_line a shard ≡ o → IsRaced a.race a.lines → collect_refusal_at a.hub o ≡ None → IsRaced a.race (set_line a.lines (shard - 1) (line_after of_shard.Collect) o)
 told_raced a shard None at raced cause = absurd (none-some _ (sym cause))
 told_raced a shard (Some line) at raced cause = tracked a.race a.lines (shard - 1) line (line_after of_shard.Collect line) (found (nat_eq shard 0) (slice_get a.lines (shard - 1)) line at) raced (record { finished = refl; hand = refl; next = refl })
 
-pub raced_after : (server : Server) (a : Node) (e : NodeEvent) (won : Bool) (race : RaceState) → SoundNode server a → IsRaced a.race a.lines → node_refusal server a e ≡ None → NodeRace a e won race
+pub raced_after : (server : ServerIdentity) (a : Node) (e : NodeEvent) (won : Bool) (race : RaceState) → SoundNode server a → IsRaced a.race a.lines → node_refusal server a e ≡ None → NodeRace a e won race
     → IsRaced (node_after server a e won race).race (node_after server a e won race).lines
 raced_after server a (Own (OfConn conn event)) won race sound raced cause h = conn_raced server a conn event (conn_line server a conn) refl raced cause
 raced_after server a (Own (AtShard shard work)) won race sound raced cause h = shard_raced server a shard work won race (shard_line a shard) sound refl raced cause h

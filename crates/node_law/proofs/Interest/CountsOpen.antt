@@ -11,7 +11,7 @@ use Rattle.std.proofs.lemmas.List.Sums.{sum_by-cons, sum_by-append}
 use Rattle.list_laws.specs.Lists.{Along}
 use Rattle.list_laws.proofs.Tests.{no_cause, not_false, or_false, le_false, le_true}
 use Rattle.list_laws.proofs.Changes.{map_map, map_same, map_append}
-use Rattle.subj.specs.Servers.{Server, IsListed}
+use Rattle.subj.specs.Servers.{ServerIdentity, IsListed}
 use Rattle.subj.specs.Keys.{cost_of, key_cmp, opening, closing}
 use Rattle.subj.specs.declared.jobs.Job.{Job}
 use Rattle.subj.specs.declared.keys.Key.{Key}
@@ -44,7 +44,7 @@ use Rattle.hub_core.proofs.Neighbours.Known.{set_length}
 use Rattle.hub_core.proofs.Steps.Rooms.{map_none}
 use Rattle.node_law.specs.declared.faults.NodeFault.{NodeFault}
 use Rattle.node_law.specs.declared.faults.NodeFault.TheVariants.{Hub, Shard}
-use Rattle.node_law.specs.State.{Line, Node, new_node, lines_from}
+use Rattle.node_law.specs.State.{ShardWithJobs, Node, new_node, lines_from}
 use Rattle.node_law.specs.Events as of_node
 use Rattle.node_law.specs.Events.{ConnEvent, ShardWork, NodeEvent, Own, Receive, OnInfo, OnConnect}
 use Rattle.node_law.specs.Steps.{conn_place, conn_line, shard_line, conn_event, begin_of, drop_of, work_event, conn_refusal, event_refusal, work_refusal, collect_refusal_at, line_after, line_after_if, set_line, line_with_job, deltas_at, cut_if, lines_after_body, node_refusal, node_after}
@@ -214,25 +214,25 @@ along_sets R (w ∷ xs) [] a s x y r = absurd a
 along_sets R (w ∷ xs) (z ∷ ys) a zero x y r = (r, a.1)
 along_sets R (w ∷ xs) (z ∷ ys) a (suc s) x y r = (a.0, along_sets R xs ys a.1 s x y r)
 
-abbrev LineTold : ℕ → ℕ → List Key → Line → Type 0
+abbrev LineTold : ℕ → ℕ → List Key → ShardWithJobs → Type 0
 LineTold few small ks line = ShardTold few small ks line.shard
 
-record Told (shards few small : ℕ) (counts : Counts) (lines : List Line) : Type 0 where
+record Told (shards few small : ℕ) (counts : Counts) (lines : List ShardWithJobs) : Type 0 where
   bases : List (List Key)
   size : length bases ≡ shards
   each : Along (LineTold few small) bases lines
   within : IsInterest counts
   weights : (key : Key) → count_of counts key ≡ total (one_if_same key) (flat bases)
 
-at_told : (shards few small : ℕ) (counts : Counts) (lines : List Line) (place : ℕ) (line after : Line) → slice_get lines place ≡ Some line → ((ks : List Key) → LineTold few small ks line → LineTold few small ks after) → Told shards few small counts lines → Told shards few small counts (set lines place after)
+at_told : (shards few small : ℕ) (counts : Counts) (lines : List ShardWithJobs) (place : ℕ) (line after : ShardWithJobs) → slice_get lines place ≡ Some line → ((ks : List Key) → LineTold few small ks line → LineTold few small ks after) → Told shards few small counts lines → Told shards few small counts (set lines place after)
 at_told shards few small counts lines place line after at step t =
     let b = along_read (LineTold few small) t.bases lines t.each place line at in
     record { bases = t.bases; size = t.size; each = along_set (LineTold few small) t.bases lines t.each place b.0 after b.1 (step b.0 b.2); within = t.within; weights = t.weights }
 
-queue_told : (shards few small : ℕ) (counts : Counts) (job : Job) (lines : List Line) → Told shards few small counts lines → Told shards few small counts (map (line_with_job job) lines)
+queue_told : (shards few small : ℕ) (counts : Counts) (job : Job) (lines : List ShardWithJobs) → Told shards few small counts lines → Told shards few small counts (map (line_with_job job) lines)
 queue_told shards few small counts job lines t = record { bases = t.bases; size = t.size; each = go t.bases lines t.each; within = t.within; weights = t.weights }
   where
-    go : (bs : List (List Key)) (ls : List Line) → Along (LineTold few small) bs ls → Along (LineTold few small) bs (map (line_with_job job) ls)
+    go : (bs : List (List Key)) (ls : List ShardWithJobs) → Along (LineTold few small) bs ls → Along (LineTold few small) bs (map (line_with_job job) ls)
     go [] [] a = tt
     go [] (l ∷ ls) a = absurd a
     go (b ∷ bs) [] a = absurd a
@@ -266,7 +266,7 @@ abbrev AllFit : ℕ → ℕ → List (List Key) → Type 0
 AllFit few small [] = Unit {0}
 AllFit few small (b ∷ bs) = Fits few small b × AllFit few small bs
 
-all_fit : (few small : ℕ) (bs : List (List Key)) (lines : List Line) → Along (LineTold few small) bs lines → AllFit few small bs
+all_fit : (few small : ℕ) (bs : List (List Key)) (lines : List ShardWithJobs) → Along (LineTold few small) bs lines → AllFit few small bs
 all_fit few small [] lines a = tt
 all_fit few small (b ∷ bs) [] a = absurd a
 all_fit few small (b ∷ bs) (l ∷ lines) a = (a.0.base, all_fit few small bs lines a.1)
@@ -366,7 +366,7 @@ all_counted law stays few small counts ks (d ∷ ds) us others within c r =
     let g = all_counted law stays few small (counts_after counts d) r.0 ds us others within h.1 r.3 in
     (ap (λ o. is_some o || are_refused (counts_after counts d) ds) h.0 ∙ g.0, g.1)
 
-collects : IsCounting → StaysWithin → (shards few small : ℕ) (counts : Counts) (lines : List Line) (place : ℕ) (line : Line) → shards * few ≤ SUBSCRIPTIONS → shards * small ≤ SUBSCRIPTION_BYTES → slice_get lines place ≡ Some line → Told shards few small counts lines
+collects : IsCounting → StaysWithin → (shards few small : ℕ) (counts : Counts) (lines : List ShardWithJobs) (place : ℕ) (line : ShardWithJobs) → shards * few ≤ SUBSCRIPTIONS → shards * small ≤ SUBSCRIPTION_BYTES → slice_get lines place ≡ Some line → Told shards few small counts lines
     → (are_refused counts line.shard.deltas ≡ false) × Told shards few small (counts_told counts line.shard.deltas) (set lines place (line_after Collect line))
 collects law stays shards few small counts lines place line all_few all_small at t =
     let b = along_read (LineTold few small) t.bases lines t.each place line at in
@@ -385,10 +385,10 @@ collects law stays shards few small counts lines place line all_few all_small at
 
 -- ---- each event
 
-abbrev NodeTold : Server → Node → Type 0
+abbrev NodeTold : ServerIdentity → Node → Type 0
 NodeTold server a = Told server.shards (SUBSCRIPTIONS / server.shards) (SUBSCRIPTION_BYTES / server.shards) a.hub.counts a.lines
 
-line_told : (server : Server) (a : Node) (place : ℕ) (line : Line) (e : Event) → SoundNode server a → slice_get a.lines place ≡ Some line → shard_refusal line.shard e ≡ None → is_collect e ≡ false → NodeTold server a → Told server.shards (SUBSCRIPTIONS / server.shards) (SUBSCRIPTION_BYTES / server.shards) a.hub.counts (set a.lines place (line_after e line))
+line_told : (server : ServerIdentity) (a : Node) (place : ℕ) (line : ShardWithJobs) (e : Event) → SoundNode server a → slice_get a.lines place ≡ Some line → shard_refusal line.shard e ≡ None → is_collect e ≡ false → NodeTold server a → Told server.shards (SUBSCRIPTIONS / server.shards) (SUBSCRIPTION_BYTES / server.shards) a.hub.counts (set a.lines place (line_after e line))
 line_told server a place line e sound at cause told_not t = at_told server.shards (SUBSCRIPTIONS / server.shards) (SUBSCRIPTION_BYTES / server.shards) a.hub.counts a.lines place line (line_after e line) at step t
   where
     same : line.shard.shards ≡ server.shards
@@ -406,7 +406,7 @@ conn_tells_not conn (of_node.Shut text) = refl
 conn_tells_not conn of_node.Detach = refl
 conn_tells_not conn (of_node.Take count) = refl
 
-work_tells_not : (work : ShardWork) (won : Bool) (line : Line) (e : Event) → work_event work won line ≡ Some e → is_collect e ≡ false
+work_tells_not : (work : ShardWork) (won : Bool) (line : ShardWithJobs) (e : Event) → work_event work won line ≡ Some e → is_collect e ≡ false
 work_tells_not of_node.Attach won line e is = ap is_collect (sym (same_Some Attach e is))
 work_tells_not of_node.Begin won line e is = go (first_of line.waiting) is
   where
@@ -430,7 +430,7 @@ empty_bases few small shards first (suc count) =
     let h = empty_bases few small shards (suc first) count in
     ([] ∷ h.0, ap suc h.1, h.2, (record { base = record { size = omega arith; cost = omega arith }; fits = record { size = omega arith; cost = omega arith }; replays = λ f. refl }, h.3))
 
-starts_told : (server : Server) → NodeTold server (new_node server)
+starts_told : (server : ServerIdentity) → NodeTold server (new_node server)
 starts_told server =
     let h = empty_bases (SUBSCRIPTIONS / server.shards) (SUBSCRIPTION_BYTES / server.shards) server.shards 1 server.shards in
     record { bases = h.0; size = h.1; each = h.3; within = (starts_sound server).counts; weights = λ key. sym (h.2 (one_if_same key)) }
@@ -466,7 +466,7 @@ line_pending few small key ks (d ∷ ds) us r =
     go true k m h = let e = m (one_if_same key) in omega arith
     go false k m h = let e = m (one_if_same key) in omega arith
 
-lines_pending : (few small : ℕ) (key : Key) (bs : List (List Key)) (lines : List Line) → Along (LineTold few small) bs lines → total (one_if_same key) (flat bs) + count_by (is_opening key) (pending lines) ≡ times key (open_keys lines) + count_by (is_closing key) (pending lines)
+lines_pending : (few small : ℕ) (key : Key) (bs : List (List Key)) (lines : List ShardWithJobs) → Along (LineTold few small) bs lines → total (one_if_same key) (flat bs) + count_by (is_opening key) (pending lines) ≡ times key (open_keys lines) + count_by (is_closing key) (pending lines)
 lines_pending few small key [] [] a = refl
 lines_pending few small key [] (l ∷ lines) a = absurd a
 lines_pending few small key (b ∷ bs) [] a = absurd a
@@ -481,30 +481,30 @@ lines_pending few small key (b ∷ bs) (l ∷ lines) a =
     let t = total_is (one_if_same key) (open_keys lines) in
     omega arith
 
-module _ (law : IsCounting) (stays : StaysWithin) (server : Server) where
-  collected_told : (a : Node) (place : ℕ) (line : Line) → slice_get a.lines place ≡ Some line → NodeTold server a
+module _ (law : IsCounting) (stays : StaysWithin) (server : ServerIdentity) where
+  collected_told : (a : Node) (place : ℕ) (line : ShardWithJobs) → slice_get a.lines place ≡ Some line → NodeTold server a
       → (are_refused a.hub.counts line.shard.deltas ≡ false) × Told server.shards (SUBSCRIPTIONS / server.shards) (SUBSCRIPTION_BYTES / server.shards) (counts_told a.hub.counts line.shard.deltas) (set a.lines place (line_after Collect line))
   collected_told a place line at t = collects law stays server.shards (SUBSCRIPTIONS / server.shards) (SUBSCRIPTION_BYTES / server.shards) a.hub.counts a.lines place line (mul-div-le SUBSCRIPTIONS server.shards) (mul-div-le SUBSCRIPTION_BYTES server.shards) at t
 
   step_told : (a : Node) (e : NodeEvent) (won : Bool) (race : RaceState) → SoundNode server a → node_refusal server a e ≡ None → NodeTold server a → NodeTold server (node_after server a e won race)
   step_told a (Own (of_node.OfConn conn event)) won race sound cause t = go (conn_line server a conn) refl cause
     where
-      go : (o : Option Line) → conn_line server a conn ≡ o → conn_refusal event conn o ≡ None → Told server.shards (SUBSCRIPTIONS / server.shards) (SUBSCRIPTION_BYTES / server.shards) a.hub.counts (set_line a.lines (conn_place server conn) (line_after (conn_event conn event)) o)
+      go : (o : Option ShardWithJobs) → conn_line server a conn ≡ o → conn_refusal event conn o ≡ None → Told server.shards (SUBSCRIPTIONS / server.shards) (SUBSCRIPTION_BYTES / server.shards) a.hub.counts (set_line a.lines (conn_place server conn) (line_after (conn_event conn event)) o)
       go None at f = t
       go (Some line) at f = line_told server a (conn_place server conn) line (conn_event conn event) sound (found (nat_eq conn 0) (slice_get a.lines (conn_place server conn)) line at) (map_none Shard (shard_refusal line.shard (conn_event conn event)) f) (conn_tells_not conn event) t
   step_told a (Own (of_node.AtShard shard work)) won race sound cause t = go (shard_line a shard) refl cause
     where
-      by : (line : Line) → shard_line a shard ≡ Some line → (e : Option Event) → work_event work won line ≡ e → event_refusal line e ≡ None → Told server.shards (SUBSCRIPTIONS / server.shards) (SUBSCRIPTION_BYTES / server.shards) a.hub.counts (set a.lines (shard - 1) (line_after_if e line))
+      by : (line : ShardWithJobs) → shard_line a shard ≡ Some line → (e : Option Event) → work_event work won line ≡ e → event_refusal line e ≡ None → Told server.shards (SUBSCRIPTIONS / server.shards) (SUBSCRIPTION_BYTES / server.shards) a.hub.counts (set a.lines (shard - 1) (line_after_if e line))
       by line at None is f = absurd (none-some _ (sym f))
       by line at (Some e) is f = line_told server a (shard - 1) line e sound (found (nat_eq shard 0) (slice_get a.lines (shard - 1)) line at) (map_none Shard (shard_refusal line.shard e) f) (work_tells_not work won line e is) t
 
-      go : (o : Option Line) → shard_line a shard ≡ o → work_refusal work o ≡ None → Told server.shards (SUBSCRIPTIONS / server.shards) (SUBSCRIPTION_BYTES / server.shards) a.hub.counts (set_line a.lines (shard - 1) (λ line. line_after_if (work_event work won line) line) o)
+      go : (o : Option ShardWithJobs) → shard_line a shard ≡ o → work_refusal work o ≡ None → Told server.shards (SUBSCRIPTIONS / server.shards) (SUBSCRIPTION_BYTES / server.shards) a.hub.counts (set_line a.lines (shard - 1) (λ line. line_after_if (work_event work won line) line) o)
       go None at f = t
       go (Some line) at f = by line at (work_event work won line) refl (sym (same_refusal work line won) ∙ f)
   step_told a (Own (of_node.Publish p)) won race sound cause t = queue_told _ _ _ a.hub.counts _ a.lines t
   step_told a (Own (of_node.Collect shard)) won race sound cause t = go (shard_line a shard) refl
     where
-      go : (o : Option Line) → shard_line a shard ≡ o → Told server.shards (SUBSCRIPTIONS / server.shards) (SUBSCRIPTION_BYTES / server.shards) (counts_told a.hub.counts (deltas_at o)) (set_line a.lines (shard - 1) (line_after Collect) o)
+      go : (o : Option ShardWithJobs) → shard_line a shard ≡ o → Told server.shards (SUBSCRIPTIONS / server.shards) (SUBSCRIPTION_BYTES / server.shards) (counts_told a.hub.counts (deltas_at o)) (set_line a.lines (shard - 1) (line_after Collect) o)
       go None at = t
       go (Some line) at = (collected_told a (shard - 1) line (found (nat_eq shard 0) (slice_get a.lines (shard - 1)) line at) t).1
   step_told a (Own (of_node.Dial q)) won race sound cause t = t
@@ -539,7 +539,7 @@ module _ (law : IsCounting) (stays : StaysWithin) (server : Server) where
         taken = λ shard. go t shard (shard_line a shard) refl;
       }
     where
-      go : NodeTold server a → (shard : ℕ) (o : Option Line) → shard_line a shard ≡ o → collect_refusal_at a.hub o ≡ Some (Hub BadInterest) → ⊥
+      go : NodeTold server a → (shard : ℕ) (o : Option ShardWithJobs) → shard_line a shard ≡ o → collect_refusal_at a.hub o ≡ Some (Hub BadInterest) → ⊥
       go t shard None at e = true≢false (sym (ap is_bad_interest e))
       go t shard (Some line) at e = not_bad a.hub line.shard.deltas (collected_told a (shard - 1) line (found (nat_eq shard 0) (slice_get a.lines (shard - 1)) line at) t).0 e
 

@@ -3,7 +3,7 @@ use Rattle.std.proofs.Common.{◌≡◌, ◌≢◌, ℕ, ◌-◌, Bool, true, fa
 use Rattle.std.specs.Prelude.{filter, slice_get}
 use Rattle.list_laws.specs.Lists.{Pairs}
 use Rattle.list_laws.proofs.Changes.{pairs_filter, pairs_map_back, pairs_sub}
-use Rattle.subj.specs.Servers.{Server}
+use Rattle.subj.specs.Servers.{ServerIdentity}
 use Rattle.subj.specs.declared.jobs.Job.{Job}
 use Rattle.sub_table.specs.Subscriptions.{serial_of}
 use Rattle.sub_table.specs.declared.Subscription.{Subscription}
@@ -13,7 +13,7 @@ use Rattle.shard_core.specs.Owed.{first_step, is_due, candidate_of}
 use Rattle.shard_core.specs.ShardEvents.{Event, Attach, Subscribe, Unsubscribe, Reply, Shut, Detach, Take, Begin, Claim, End, DropJob, Collect}
 use Rattle.shard_core.specs.AsLaw.{given_by, given_by_claim}
 use Rattle.shard_core.proofs.Steps.LawEvents.{walk_gives}
-use Rattle.node_law.specs.State.{Line, Node}
+use Rattle.node_law.specs.State.{ShardWithJobs, Node}
 use Rattle.node_law.specs.Events as of_node
 use Rattle.node_law.specs.Events.{NodeEvent, Own, Receive, OnInfo, OnConnect}
 use Rattle.node_law.specs.Steps.{conn_place, conn_line, shard_line, conn_event, work_event}
@@ -46,7 +46,7 @@ given_apart s End apart = tt
 given_apart s (DropJob waiting) apart = tt
 given_apart s Collect apart = tt
 
-at_apart : (server : Server) (a : Node) (place : ℕ) (event : Line → Option Event) (o : Option Line) → SoundNode server a → ((line : Line) → o ≡ Some line → slice_get a.lines place ≡ Some line) → Apart (given_at (part_at place event o))
+at_apart : (server : ServerIdentity) (a : Node) (place : ℕ) (event : ShardWithJobs → Option Event) (o : Option ShardWithJobs) → SoundNode server a → ((line : ShardWithJobs) → o ≡ Some line → slice_get a.lines place ≡ Some line) → Apart (given_at (part_at place event o))
 at_apart server a place event None sound is = tt
 at_apart server a place event (Some line) sound is = go (event line)
   where
@@ -54,7 +54,7 @@ at_apart server a place event (Some line) sound is = go (event line)
     go None = tt
     go (Some e) = given_apart line.shard e (sound.lines place line (is line refl)).sound.apart
 
-pub part_apart : (server : Server) (a : Node) (e : NodeEvent) (won : Bool) → SoundNode server a → Apart (given_at (part_of server a e won))
+pub part_apart : (server : ServerIdentity) (a : Node) (e : NodeEvent) (won : Bool) → SoundNode server a → Apart (given_at (part_of server a e won))
 part_apart server a (Own (of_node.OfConn conn event)) won sound = at_apart server a (conn_place server conn) (λ line. Some (conn_event conn event)) (conn_line server a conn) sound (λ line e. found (nat_eq conn 0) (slice_get a.lines (conn_place server conn)) line e)
 part_apart server a (Own (of_node.AtShard shard work)) won sound = at_apart server a (shard - 1) (work_event work won) (shard_line a shard) sound (λ line e. found (nat_eq shard 0) (slice_get a.lines (shard - 1)) line e)
 part_apart server a (Own (of_node.Publish p)) won sound = tt

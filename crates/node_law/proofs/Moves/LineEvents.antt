@@ -5,7 +5,7 @@ use Rattle.std.proofs.lemmas.Option.{none-some, same_Some}
 use Rattle.cluster_law.specs.Race.{Keeps}
 use Rattle.cluster_law.specs.Node as law
 use Rattle.cluster_law.specs.Cluster.{IsOwn}
-use Rattle.subj.specs.Servers.{Server}
+use Rattle.subj.specs.Servers.{ServerIdentity}
 use Rattle.subj.specs.declared.jobs.Job.{Job}
 use Rattle.subj.specs.declared.limits.TheConstants.{WINDOW}
 use Rattle.sub_table.specs.declared.Subscription.{Subscription}
@@ -20,7 +20,7 @@ use Rattle.shard_core.specs.AsLaw.{RaceMoves, ClaimMoves, AreThese, lives_by}
 use Rattle.shard_core.proofs.Steps.LawEvents.{shards_follow_the_law}
 use Rattle.node_law.specs.declared.faults.NodeFault.TheVariants.{Shard}
 use Rattle.node_law.specs.Race.{race_of}
-use Rattle.node_law.specs.State.{Line, Node}
+use Rattle.node_law.specs.State.{ShardWithJobs, Node}
 use Rattle.node_law.specs.Events.{ConnEvent, Subscribe, Unsubscribe, Reply, Shut, Detach, Take, ShardWork, Attach, Begin, Claim, End, DropJob}
 use Rattle.node_law.specs.Steps.{conn_place, conn_line, shard_line, conn_event, begin_of, drop_of, work_event, conn_refusal, event_refusal, work_refusal, ClaimRace, WorkRace, line_after, line_after_if, set_line}
 use Rattle.node_law.specs.Sound.{SoundNode}
@@ -33,12 +33,12 @@ same_race : (race : RaceState) → Keeps WINDOW (race_of race) (race_of race)
 same_race race = record { issued = refl; kept = λ t i lt. ((λ x. x), (λ x. x)) }
 
 -- what an event of a shard needs of its line and of the race
-pub record Ready (line : Line) (e : of_shard.Event) (old new : RaceState) : Type 0 where
+pub record Ready (line : ShardWithJobs) (e : of_shard.Event) (old new : RaceState) : Type 0 where
   pub has : HasJob line.shard.hand e line.waiting
   pub moves : RaceMoves WINDOW line.shard e (race_of old) (race_of new)
   pub issued : new.issued ≡ old.issued
 
-pub event_steps : (server : Server) (now place : ℕ) (a : Node) (line : Line) (e : of_shard.Event) (race : RaceState) (subs : List Subscription)
+pub event_steps : (server : ServerIdentity) (now place : ℕ) (a : Node) (line : ShardWithJobs) (e : of_shard.Event) (race : RaceState) (subs : List Subscription)
     → SoundNode server a → slice_get a.lines place ≡ Some line → shard_refusal line.shard e ≡ None → Ready line e a.race race → AreThese (given_at (Some (record { place = place; line = line; event = e }))) subs
     → (x : law.NodeEvent) × IsOwn x × Steps server now a (record a { lines = set a.lines place (line_after e line); race = race }) x [] [] [] [] (lives_by server.me server.inc now place line.shard e) (placements_at server now (Some (record { place = place; line = line; event = e })) subs)
 event_steps server now place a line e race subs sound at cause ready these =
@@ -47,7 +47,7 @@ event_steps server now place a line e race subs sound at cause ready these =
 
 -- ---- connections
 
-conn_ready : (conn : ℕ) (event : ConnEvent) (line : Line) (race : RaceState) → Ready line (conn_event conn event) race race
+conn_ready : (conn : ℕ) (event : ConnEvent) (line : ShardWithJobs) (race : RaceState) → Ready line (conn_event conn event) race race
 conn_ready conn (Subscribe key sid) line race = record { has = tt; moves = same_race race; issued = refl }
 conn_ready conn (Unsubscribe sid max) line race = record { has = tt; moves = same_race race; issued = refl }
 conn_ready conn (Reply frame) line race = record { has = tt; moves = same_race race; issued = refl }
@@ -56,11 +56,11 @@ conn_ready conn Detach line race = record { has = tt; moves = same_race race; is
 conn_ready conn (Take count) line race = record { has = tt; moves = same_race race; issued = refl }
 
 -- a look-up that may be refused beforehand
-pub found : (b : Bool) (o : Option Line) (line : Line) → cond b None o ≡ Some line → o ≡ Some line
+pub found : (b : Bool) (o : Option ShardWithJobs) (line : ShardWithJobs) → cond b None o ≡ Some line → o ≡ Some line
 found true o line e = absurd (none-some line e)
 found false o line e = e
 
-pub conn_steps : (server : Server) (now conn : ℕ) (a : Node) (event : ConnEvent) (o : Option Line) (race : RaceState) (subs : List Subscription)
+pub conn_steps : (server : ServerIdentity) (now conn : ℕ) (a : Node) (event : ConnEvent) (o : Option ShardWithJobs) (race : RaceState) (subs : List Subscription)
     → SoundNode server a → conn_line server a conn ≡ o → conn_refusal event conn o ≡ None → race ≡ a.race → AreThese (given_at (part_at (conn_place server conn) (λ line. Some (conn_event conn event)) o)) subs
     → (x : law.NodeEvent) × IsOwn x × Steps server now a (record a { lines = set_line a.lines (conn_place server conn) (line_after (conn_event conn event)) o }) x [] [] [] [] (conn_lives server now conn event o) (placements_at server now (part_at (conn_place server conn) (λ line. Some (conn_event conn event)) o) subs)
 conn_steps server now conn a event None race subs sound at cause same these = absurd (none-some _ (sym cause))
@@ -69,14 +69,14 @@ conn_steps server now conn a event (Some line) race subs sound at cause same the
 
 -- ---- shards
 
-claim_ready : (line : Line) (shard index : ℕ) (hand : Option Job) (u : Option Subscription) (won : Bool) (old new : RaceState) → ClaimRace old shard index hand u won new → ClaimMoves WINDOW index hand u won (race_of old) (race_of new) × (new.issued ≡ old.issued)
+claim_ready : (line : ShardWithJobs) (shard index : ℕ) (hand : Option Job) (u : Option Subscription) (won : Bool) (old new : RaceState) → ClaimRace old shard index hand u won new → ClaimMoves WINDOW index hand u won (race_of old) (race_of new) × (new.issued ≡ old.issued)
 claim_ready line shard index None u won old new h = (subst (λ r. Keeps WINDOW (race_of old) (race_of r)) (sym h) (same_race old), ap (λ (r : RaceState). r.issued) h)
 claim_ready line shard index (Some job) None won old new h = (subst (λ r. Keeps WINDOW (race_of old) (race_of r)) (sym h) (same_race old), ap (λ (r : RaceState). r.issued) h)
 claim_ready line shard index (Some job) (Some u) true old new h = (races_follow_the_law.claims old shard job.turn index true new h, h.issued)
 claim_ready line shard index (Some job) (Some u) false old new h = ((races_follow_the_law.claims old shard job.turn index false new h).1, h.issued)
 
 -- the events that a shard's work may be, each ready
-work_ready : (shard : ℕ) (work : ShardWork) (line : Line) (won : Bool) (old new : RaceState) → WorkRace old shard work (Some line) won new → (e : of_shard.Event) → work_event work won line ≡ Some e → Ready line e old new
+work_ready : (shard : ℕ) (work : ShardWork) (line : ShardWithJobs) (won : Bool) (old new : RaceState) → WorkRace old shard work (Some line) won new → (e : of_shard.Event) → work_event work won line ≡ Some e → Ready line e old new
 work_ready shard Attach line won old new h e is = subst (λ x. Ready line x old new) (same_Some of_shard.Attach e is) (record { has = tt; moves = subst (λ r. Keeps WINDOW (race_of old) (race_of r)) (sym h) (same_race old); issued = ap (λ (r : RaceState). r.issued) h })
 work_ready shard Begin line won old new h e is = go (first_of line.waiting) refl is
   where
@@ -94,7 +94,7 @@ work_ready shard DropJob line won old new h e is = go line.shard.hand refl (firs
     go None in_hand (Some job) at g = subst (λ x. Ready line x old new) (same_Some (of_shard.DropJob (Some job)) e g) (record { has = subst (λ m. HasJob m (of_shard.DropJob (Some job)) line.waiting) (sym in_hand) (job, refl, at); moves = races_follow_the_law.finishes old shard (line.shard.finished + 1) new h; issued = h.issued })
     go (Some job) in_hand f at g = subst (λ x. Ready line x old new) (same_Some (of_shard.DropJob None) e g) (record { has = subst (λ m. HasJob m (of_shard.DropJob None) line.waiting) (sym in_hand) refl; moves = races_follow_the_law.finishes old shard (line.shard.finished + 1) new h; issued = h.issued })
 
-no_lives : (work : ShardWork) (line : Line) (won : Bool) (e : of_shard.Event) → work_event work won line ≡ Some e → (n inc now place : ℕ) → lives_by n inc now place line.shard e ≡ []
+no_lives : (work : ShardWork) (line : ShardWithJobs) (won : Bool) (e : of_shard.Event) → work_event work won line ≡ Some e → (n inc now place : ℕ) → lives_by n inc now place line.shard e ≡ []
 no_lives Attach line won e is n inc now place = subst (λ x. lives_by n inc now place line.shard x ≡ []) (same_Some of_shard.Attach e is) refl
 no_lives Begin line won e is n inc now place = go (first_of line.waiting) is
   where
@@ -111,14 +111,14 @@ no_lives DropJob line won e is n inc now place = go line.shard.hand (first_of li
     go (Some job) f g = subst (λ x. lives_by n inc now place line.shard x ≡ []) (same_Some (of_shard.DropJob None) e g) refl
 
 -- whether a claim is won does not decide whether it is refused
-pub same_refusal : (work : ShardWork) (line : Line) (won : Bool) → event_refusal line (work_event work false line) ≡ event_refusal line (work_event work won line)
+pub same_refusal : (work : ShardWork) (line : ShardWithJobs) (won : Bool) → event_refusal line (work_event work false line) ≡ event_refusal line (work_event work won line)
 same_refusal Attach line won = refl
 same_refusal Begin line won = refl
 same_refusal (Claim index) line won = refl
 same_refusal End line won = refl
 same_refusal DropJob line won = refl
 
-pub work_steps : (server : Server) (now shard : ℕ) (a : Node) (work : ShardWork) (won : Bool) (o : Option Line) (race : RaceState) (subs : List Subscription)
+pub work_steps : (server : ServerIdentity) (now shard : ℕ) (a : Node) (work : ShardWork) (won : Bool) (o : Option ShardWithJobs) (race : RaceState) (subs : List Subscription)
     → SoundNode server a → shard_line a shard ≡ o → work_refusal work o ≡ None → WorkRace a.race shard work o won race → AreThese (given_at (part_at (shard - 1) (work_event work won) o)) subs
     → (x : law.NodeEvent) × IsOwn x × Steps server now a (record a { lines = set_line a.lines (shard - 1) (λ line. line_after_if (work_event work won line) line) o; race = race }) x [] [] [] [] [] (placements_at server now (part_at (shard - 1) (work_event work won) o) subs)
 work_steps server now shard a work won None race subs sound at cause h these = absurd (none-some _ (sym cause))

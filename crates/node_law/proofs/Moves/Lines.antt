@@ -9,7 +9,7 @@ use Rattle.cluster_law.specs.History as history
 use Rattle.cluster_law.specs.Messages as messages
 use Rattle.cluster_law.specs.Node as law
 use Rattle.cluster_law.specs.Shard as law_shard
-use Rattle.subj.specs.Servers.{Server}
+use Rattle.subj.specs.Servers.{ServerIdentity}
 use Rattle.subj.specs.declared.jobs.Job.{Job}
 use Rattle.claim_race.specs.Race.{RaceState}
 use Rattle.interest.specs.declared.changes.Change.{Change}
@@ -18,25 +18,25 @@ use Rattle.hub_core.specs.AsLaw.{id_of, HasPeers}
 use Rattle.hub_core.proofs.Neighbours.Known.{set_length}
 use Rattle.shard_core.specs.AsLaw.{LawStep}
 use Rattle.node_law.specs.Race.{race_of}
-use Rattle.node_law.specs.State.{Line, Node}
+use Rattle.node_law.specs.State.{ShardWithJobs, Node}
 use Rattle.node_law.specs.Sound.{LineAt, SoundNode}
 use Rattle.node_law.specs.AsLaw.{law_at, line_of, node_of, is_open_in, Moves}
 use Rattle.node_law.proofs.Moves.ShardKeeps.{Same, OpenHere}
 
 -- a sound server, but for its race
-pub record InOrder (server : Server) (a : Node) : Type 0 where
+pub record InOrder (server : ServerIdentity) (a : Node) : Type 0 where
   pub issued : a.hub.issued ≡ a.race.issued
   pub size : length a.lines ≡ server.shards
-  pub lines : (place : ℕ) (line : Line) → slice_get a.lines place ≡ Some line → LineAt server a.race.issued place line
+  pub lines : (place : ℕ) (line : ShardWithJobs) → slice_get a.lines place ≡ Some line → LineAt server a.race.issued place line
   pub peers : HasPeers server a.hub
   pub counts : IsInterest a.hub.counts
 
 -- what a step shows, and that all stays in order
-pub record Steps (server : Server) (now : ℕ) (a b : Node) (x : law.NodeEvent) (publications : List messages.Publication) (frames : List messages.Frame) (changes : List Change) (jobs : List Job) (lives : List history.Life) (placements : List history.Placement) : Type 0 where
+pub record Steps (server : ServerIdentity) (now : ℕ) (a b : Node) (x : law.NodeEvent) (publications : List messages.Publication) (frames : List messages.Frame) (changes : List Change) (jobs : List Job) (lives : List history.Life) (placements : List history.Placement) : Type 0 where
   pub moves : Moves server now a b x publications frames changes jobs lives placements
   pub sound : InOrder server b
 
-pub line_steps : (server : Server) (now place : ℕ) (a : Node) (line after : Line) (race : RaceState) (lives : List history.Life) (placements : List history.Placement)
+pub line_steps : (server : ServerIdentity) (now place : ℕ) (a : Node) (line after : ShardWithJobs) (race : RaceState) (lives : List history.Life) (placements : List history.Placement)
     → SoundNode server a → slice_get a.lines place ≡ Some line → race.issued ≡ a.race.issued → Same line.shard after.shard
     → (m : LawStep (law_at server) (id_of server) server.me server.inc now place a.race.issued (race_of a.race) (race_of race) line.shard line.waiting after.shard after.waiting lives placements)
     → Each (OpenHere server.me server.inc place after.shard) lives
@@ -66,7 +66,7 @@ line_steps server now place a line after race lives placements sound at issued s
   sound = record {
     issued = sound.issued ∙ sym issued;
     size = set_length a.lines place after ∙ sound.size;
-    lines = subst (λ x. (t : ℕ) (l : Line) → slice_get (set a.lines place after) t ≡ Some l → LineAt server x t l) (sym issued)
+    lines = subst (λ x. (t : ℕ) (l : ShardWithJobs) → slice_get (set a.lines place after) t ≡ Some l → LineAt server x t l) (sym issued)
         (read_set (λ t l. LineAt server a.race.issued t l) a.lines place after (λ t l apart e. sound.lines t l e) (let old = sound.lines place line at in record { sound = m.sound; number = same.shard ∙ old.number; shards = same.shards ∙ old.shards }));
     peers = sound.peers;
     counts = sound.counts;

@@ -3,7 +3,7 @@ use Rattle.std.proofs.Common.{◌≡◌, ℕ, Bool, List, [], ◌∷◌, map, Op
 use Rattle.list_laws.proofs.Lists.{each_cons, each_one}
 use Rattle.cluster_law.specs.Node as law
 use Rattle.cluster_law.specs.Values.{content_of}
-use Rattle.subj.specs.Servers.{Server, IsListed, place}
+use Rattle.subj.specs.Servers.{ServerIdentity, IsListed, place}
 use Rattle.sub_table.specs.declared.Subscription.{Subscription}
 use Rattle.claim_race.specs.Race.{RaceState}
 use Rattle.hub_core.specs.State as hub
@@ -29,26 +29,26 @@ use Rattle.node_law.proofs.Moves.GivenApart.{part_apart}
 use Rattle.node_law.proofs.Claims.Raced.{raced_after}
 use Rattle.node_law.proofs.Moves.HubEvents.{publish_steps, receive_steps, collect_steps, info_greets, connect_greets, up_steps, greeted, snapshot_told}
 
-abbrev NodeSteps : Server → ℕ → Node → NodeEvent → Bool → Node → List Subscription → Type 0
+abbrev NodeSteps : ServerIdentity → ℕ → Node → NodeEvent → Bool → Node → List Subscription → Type 0
 NodeSteps server now a e won b subs =
     (x : law.NodeEvent) × Shown server e x × Steps server now a b x (publications_by server now a e) (map (sent_of server) (node_frames server a e)) (changes_by a e) (jobs_by server a e) (lives_at server now a e) (placements_at server now (part_of server a e won) subs)
 
 -- a kept session that is cut is not seen
-record Unseen (server : Server) (old new : hub.State) : Type 0 where
+record Unseen (server : ServerIdentity) (old new : hub.State) : Type 0 where
   hub_is : hub_of new ≡ hub_of old
   issued : new.issued ≡ old.issued
   peers : HasPeers server new
   counts : new.counts ≡ old.counts
 
-cut_unseen : (server : Server) (hub : hub.State) (q : Option ℕ) → HasPeers server hub → Unseen server hub (cut_if hub q)
+cut_unseen : (server : ServerIdentity) (hub : hub.State) (q : Option ℕ) → HasPeers server hub → Unseen server hub (cut_if hub q)
 cut_unseen server hub None size = record { hub_is = refl; issued = refl; peers = size; counts = refl }
 cut_unseen server hub (Some q) size = let u = cuts_unseen server hub q size in record { hub_is = u.hub_is; issued = refl; peers = u.peers; counts = refl }
 
-node_steps : (server : Server) (now : ℕ) (a : Node) (e : NodeEvent) (won : Bool) (race : RaceState) (subs : List Subscription)
+node_steps : (server : ServerIdentity) (now : ℕ) (a : Node) (e : NodeEvent) (won : Bool) (race : RaceState) (subs : List Subscription)
     → IsListed server → SoundNode server a → node_refusal server a e ≡ None → NodeRace a e won race → AreThese (given_at (part_of server a e won)) subs → NodeSteps server now a e won (node_after server a e won race) subs
 node_steps server now a (Own (OfConn conn event)) won race subs is sound cause moves these = conn_steps server now conn a event (conn_line server a conn) race subs sound refl cause moves these
 node_steps server now a (Own (AtShard shard work)) won race subs is sound cause moves these = work_steps server now shard a work won (shard_line a shard) race subs sound refl cause moves these
-node_steps server now a (Own (Publish p)) won race subs is sound cause moves these = (law.Publish (content_of p.said.message), tt, publish_steps server now a p race is sound (map_none Hub (publish_refusal server a.hub p (finished_turns a.lines)) cause) moves)
+node_steps server now a (Own (Publish p)) won race subs is sound cause moves these = (law.Publish (content_of p.publication.message), tt, publish_steps server now a p race is sound (map_none Hub (publish_refusal server a.hub p (finished_turns a.lines)) cause) moves)
 node_steps server now a (Own (Collect shard)) won race subs is sound cause moves these = collect_steps server now shard a (shard_line a shard) _ is sound refl cause
 node_steps server now a (Own (Dial q)) won race subs is sound cause moves these = (law.Announce [], tt, told_steps server now a a.hub _ a.race [] sound refl refl refl sound.peers refl (λ f i. absurd i))
 node_steps server now a (Own Accept) won race subs is sound cause moves these = (law.Announce [], tt, told_steps server now a a.hub _ a.race _ sound refl refl refl sound.peers refl (each_one _ _ (greeted server is (hub_of a.hub) (hub_of a.hub))))
@@ -80,7 +80,7 @@ node_follows server now a e won race b subs is sound step these =
     (s.0, s.1, s.2.moves)
 
 -- those to whom a step gives, in their own order
-these_given : (server : Server) (a : Node) (e : NodeEvent) (won : Bool) → SoundNode server a → AreThese (given_at (part_of server a e won)) (given_at (part_of server a e won))
+these_given : (server : ServerIdentity) (a : Node) (e : NodeEvent) (won : Bool) → SoundNode server a → AreThese (given_at (part_of server a e won)) (given_at (part_of server a e won))
 these_given server a e won sound = record { some = λ u i. i; all = λ u i. i; once = part_apart server a e won sound }
 
 pub stays_sound : StaysSound

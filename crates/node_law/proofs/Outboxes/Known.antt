@@ -4,7 +4,7 @@ use Rattle.std.specs.Prelude.{slice_get}
 use Rattle.std.proofs.lemmas.Option.{none-some}
 use Rattle.list_laws.proofs.Tests.{eq_true, eq_false}
 use Rattle.list_laws.proofs.Changes.{get_set_here, get_set_there}
-use Rattle.subj.specs.Servers.{Server}
+use Rattle.subj.specs.Servers.{ServerIdentity}
 use Rattle.subj.specs.declared.jobs.Job.{Job}
 use Rattle.claim_race.specs.Race.{RaceState}
 use Rattle.route_values.specs.Frames.{Frame}
@@ -18,21 +18,21 @@ use Rattle.shard_core.specs.ShardSteps.{shard_refusal}
 use Rattle.node_law.specs.declared.faults.NodeFault.TheVariants.{NoShard, Shard}
 use Rattle.node_law.specs.AsLaw.{part_if, part_at, part_of, waits_in, waits_at}
 use Rattle.node_law.specs.Events.{ConnEvent, ShardWork, OfConn, AtShard, Publish, Collect, Dial, Accept, CutSession, TakeFrames, NodeEvent, Own, Receive, OnInfo, OnConnect}
-use Rattle.node_law.specs.State.{Line, Node, lines_from}
+use Rattle.node_law.specs.State.{ShardWithJobs, Node, lines_from}
 use Rattle.node_law.specs.Steps.{conn_place, conn_line, shard_line, conn_event, work_event, conn_refusal, no_job, event_refusal, work_refusal, line_after, line_after_if, set_line, line_with_job, lines_after_body, node_refusal, node_after}
 use Rattle.node_law.specs.Outboxes.{History, no_history, after_event, after_part, history_of, shut_in, is_shut_at, IsKnown, OutboxesAreKnown}
 use Rattle.node_law.proofs.Moves.LineEvents.{found, same_refusal}
 use Rattle.node_law.proofs.Outboxes.LastLines.{event_known}
 
 -- of the shard at this place
-abbrev KnownIn : History → ℕ → Option Line → Type 0
+abbrev KnownIn : History → ℕ → Option ShardWithJobs → Type 0
 KnownIn x conn line = IsKnown x (waits_in conn line) (shut_in conn line)
 
 module _ (place conn : ℕ) (x : History) where
-  same_known : (lines after : List Line) → waits_in conn (slice_get after place) ≡ waits_in conn (slice_get lines place) → shut_in conn (slice_get after place) ≡ shut_in conn (slice_get lines place) → KnownIn x conn (slice_get lines place) → KnownIn x conn (slice_get after place)
+  same_known : (lines after : List ShardWithJobs) → waits_in conn (slice_get after place) ≡ waits_in conn (slice_get lines place) → shut_in conn (slice_get after place) ≡ shut_in conn (slice_get lines place) → KnownIn x conn (slice_get lines place) → KnownIn x conn (slice_get after place)
   same_known lines after same shut known = record { all = ap (λ t. x.taken ++ t) same ∙ known.all; last = known.last ∙ sym (ap (λ b. cond b 1 0) shut) }
 
-  line_known : (lines : List Line) (p : ℕ) (line : Line) (e : of_shard.Event) → slice_get lines p ≡ Some line → shard_refusal line.shard e ≡ None → KnownIn x conn (slice_get lines place)
+  line_known : (lines : List ShardWithJobs) (p : ℕ) (line : ShardWithJobs) (e : of_shard.Event) → slice_get lines p ≡ Some line → shard_refusal line.shard e ≡ None → KnownIn x conn (slice_get lines place)
       → KnownIn (after_part (Some (record { place = p; line = line; event = e })) place conn x) conn (slice_get (set lines p (line_after e line)) place)
   line_known lines p line e at cause known = go (nat_eq p place) refl
     where
@@ -46,12 +46,12 @@ module _ (place conn : ℕ) (x : History) where
       go true is = here (eq_true p place is)
       go false is = subst (KnownIn x conn) (sym (get_set_there lines p place (line_after e line) (λ f. eq_false p place is (sym f)))) known
 
-  conn_known : (server : Server) (a : Node) (j : ℕ) (event : ConnEvent) (o : Option Line) → conn_line server a j ≡ o → conn_refusal event j o ≡ None → KnownIn x conn (slice_get a.lines place)
+  conn_known : (server : ServerIdentity) (a : Node) (j : ℕ) (event : ConnEvent) (o : Option ShardWithJobs) → conn_line server a j ≡ o → conn_refusal event j o ≡ None → KnownIn x conn (slice_get a.lines place)
       → KnownIn (after_part (part_at (conn_place server j) (λ line. Some (conn_event j event)) o) place conn x) conn (slice_get (set_line a.lines (conn_place server j) (line_after (conn_event j event)) o) place)
   conn_known server a j event None at cause known = known
   conn_known server a j event (Some line) at cause known = line_known a.lines (conn_place server j) line (conn_event j event) (found (nat_eq j 0) (slice_get a.lines (conn_place server j)) line at) (map_none Shard (shard_refusal line.shard (conn_event j event)) cause) known
 
-  work_known : (a : Node) (shard : ℕ) (work : ShardWork) (won : Bool) (o : Option Line) → shard_line a shard ≡ o → work_refusal work o ≡ None → KnownIn x conn (slice_get a.lines place)
+  work_known : (a : Node) (shard : ℕ) (work : ShardWork) (won : Bool) (o : Option ShardWithJobs) → shard_line a shard ≡ o → work_refusal work o ≡ None → KnownIn x conn (slice_get a.lines place)
       → KnownIn (after_part (part_at (shard - 1) (work_event work won) o) place conn x) conn (slice_get (set_line a.lines (shard - 1) (λ line. line_after_if (work_event work won line) line) o) place)
   work_known a shard work won None at cause known = absurd (none-some NoShard (sym cause))
   work_known a shard work won (Some line) at cause known = go (work_event work won line) (sym (same_refusal work line won) ∙ cause)
@@ -60,20 +60,20 @@ module _ (place conn : ℕ) (x : History) where
       go None f = absurd (none-some (no_job line.shard.hand) (sym f))
       go (Some e) f = line_known a.lines (shard - 1) line e (found (nat_eq shard 0) (slice_get a.lines (shard - 1)) line at) (map_none Shard (shard_refusal line.shard e) f) known
 
-  queued_known : (job : Job) (lines : List Line) → KnownIn x conn (slice_get lines place) → KnownIn x conn (slice_get (map (line_with_job job) lines) place)
+  queued_known : (job : Job) (lines : List ShardWithJobs) → KnownIn x conn (slice_get lines place) → KnownIn x conn (slice_get (map (line_with_job job) lines) place)
   queued_known job lines known = same_known lines (map (line_with_job job) lines) (waits lines place) (shuts lines place) known
     where
-      waits : (lines : List Line) (place : ℕ) → waits_in conn (slice_get (map (line_with_job job) lines) place) ≡ waits_in conn (slice_get lines place)
+      waits : (lines : List ShardWithJobs) (place : ℕ) → waits_in conn (slice_get (map (line_with_job job) lines) place) ≡ waits_in conn (slice_get lines place)
       waits [] place = refl
       waits (line ∷ lines) zero = refl
       waits (line ∷ lines) (suc place) = waits lines place
 
-      shuts : (lines : List Line) (place : ℕ) → shut_in conn (slice_get (map (line_with_job job) lines) place) ≡ shut_in conn (slice_get lines place)
+      shuts : (lines : List ShardWithJobs) (place : ℕ) → shut_in conn (slice_get (map (line_with_job job) lines) place) ≡ shut_in conn (slice_get lines place)
       shuts [] place = refl
       shuts (line ∷ lines) zero = refl
       shuts (line ∷ lines) (suc place) = shuts lines place
 
-  collected_known : (lines : List Line) (p : ℕ) (o : Option Line) → ((line : Line) → o ≡ Some line → slice_get lines p ≡ Some line) → KnownIn x conn (slice_get lines place) → KnownIn x conn (slice_get (set_line lines p (line_after of_shard.Collect) o) place)
+  collected_known : (lines : List ShardWithJobs) (p : ℕ) (o : Option ShardWithJobs) → ((line : ShardWithJobs) → o ≡ Some line → slice_get lines p ≡ Some line) → KnownIn x conn (slice_get lines place) → KnownIn x conn (slice_get (set_line lines p (line_after of_shard.Collect) o) place)
   collected_known lines p None h known = known
   collected_known lines p (Some line) h known = go (nat_eq p place) refl
     where
@@ -90,7 +90,7 @@ module _ (place conn : ℕ) (x : History) where
   body_known a frame (Snapshot keys) known = known
   body_known a frame (Msg content queues) known = queued_known (routed_job a.hub frame content queues) a.lines known
 
-  step_known : (server : Server) (a : Node) (e : NodeEvent) (won : Bool) (race : RaceState) → node_refusal server a e ≡ None → KnownIn x conn (slice_get a.lines place) → KnownIn (after_part (part_of server a e won) place conn x) conn (slice_get (node_after server a e won race).lines place)
+  step_known : (server : ServerIdentity) (a : Node) (e : NodeEvent) (won : Bool) (race : RaceState) → node_refusal server a e ≡ None → KnownIn x conn (slice_get a.lines place) → KnownIn (after_part (part_of server a e won) place conn x) conn (slice_get (node_after server a e won race).lines place)
   step_known server a (Own (OfConn j event)) won race cause known = conn_known server a j event (conn_line server a j) refl cause known
   step_known server a (Own (AtShard shard work)) won race cause known = work_known a shard work won (shard_line a shard) refl cause known
   step_known server a (Own (Publish p)) won race cause known = queued_known (own_job server a.hub p) a.lines known

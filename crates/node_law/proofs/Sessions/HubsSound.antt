@@ -6,7 +6,7 @@ use Rattle.std.proofs.lemmas.Option.{none-some, same_Some}
 use Rattle.list_laws.specs.Lists.{In, Each}
 use Rattle.list_laws.proofs.Lists.{in_map, in_append}
 use Rattle.list_laws.proofs.Changes.{in_filter}
-use Rattle.subj.specs.Servers.{Server, IsListed, place, is_peer}
+use Rattle.subj.specs.Servers.{ServerIdentity, IsListed, place, is_peer}
 use Rattle.claim_race.specs.Race.{RaceState}
 use Rattle.hub_core.specs.State as hub
 use Rattle.hub_core.specs.State.{IsSound, seen_of}
@@ -22,7 +22,7 @@ use Rattle.route_session.specs.State as sessions
 use Rattle.route_session.specs.State.{Session, session_at, peer_of_session}
 use Rattle.route_session.specs.Steps.{info_offer, connect_offer, info_refusal, connect_refusal, is_not_of_peer, is_another, without_peer, without_peers, kept_at, after_completion, after_info}
 use Rattle.node_law.specs.declared.faults.NodeFault.TheVariants.{Hub, Session as OfSession, NoShard}
-use Rattle.node_law.specs.State.{Line, Node, finished_turns}
+use Rattle.node_law.specs.State.{ShardWithJobs, Node, finished_turns}
 use Rattle.node_law.specs.Events.{OfConn, AtShard, Publish, Collect, Dial, Accept, CutSession, TakeFrames, NodeEvent, Own, Receive, OnInfo, OnConnect}
 use Rattle.node_law.specs.Steps.{shard_line, deltas_at, collect_refusal_at, cut_if, seen_name, node_refusal, node_after}
 use Rattle.node_law.specs.Runs.{Done, Ran}
@@ -33,19 +33,19 @@ use Rattle.node_law.proofs.Sessions.Kept.{session_in}
 -- ---- sessions
 
 -- what is kept is with another server
-abbrev OfOther : Server → Option Offer → Type 0
+abbrev OfOther : ServerIdentity → Option Offer → Type 0
 OfOther server kept = (offer : Offer) → kept ≡ Some offer → is_peer server offer.peer ≡ true
 
-abbrev OfOthers : Server → List Session → Type 0
+abbrev OfOthers : ServerIdentity → List Session → Type 0
 OfOthers server standing = Each (λ x. OfOther server x.kept) standing
 
-filter_others : (server : Server) (test : Session → Bool) (standing : List Session) → OfOthers server standing → OfOthers server (filter test standing)
+filter_others : (server : ServerIdentity) (test : Session → Bool) (standing : List Session) → OfOthers server standing → OfOthers server (filter test standing)
 filter_others server test standing h x i = h x (in_filter test standing x i).0
 
-more_others : (server : Server) (standing : List Session) (y : Session) → y.kept ≡ None → OfOthers server standing → OfOthers server (standing ++ y ∷ [])
+more_others : (server : ServerIdentity) (standing : List Session) (y : Session) → y.kept ≡ None → OfOthers server standing → OfOthers server (standing ++ y ∷ [])
 more_others server standing y none h x i = ⊎_elim (h x) (λ (j : In x (y ∷ [])). ⊎_elim (λ (e : x ≡ y). λ offer f. absurd (none-some offer (sym none ∙ ap (λ (z : Session). z.kept) (sym e) ∙ f))) (λ (z : ⊥). absurd z) j) (in_append x standing (y ∷ []) i)
 
-completed_others : (server : Server) (k : ℕ) (offer : Offer) (s : sessions.State) → is_peer server offer.peer ≡ true → OfOthers server s.standing → OfOthers server (after_completion k offer s).standing
+completed_others : (server : ServerIdentity) (k : ℕ) (offer : Offer) (s : sessions.State) → is_peer server offer.peer ≡ true → OfOthers server s.standing → OfOthers server (after_completion k offer s).standing
 completed_others server k offer s other h x i =
     let m = in_map (kept_at k offer) (filter (is_not_of_peer offer.peer) s.standing) x i in
     λ o e. go m.0 (h m.0 (in_filter (is_not_of_peer offer.peer) s.standing m.0 m.1).0) (nat_eq m.0.number k) o (sym (ap (λ (z : Session). z.kept) m.2) ∙ e)
@@ -54,12 +54,12 @@ completed_others server k offer s other h x i =
     go y was true o e = ap (λ (z : Offer). is_peer server z.peer) (sym (same_Some offer o e)) ∙ other
     go y was false o e = was o e
 
-all_others : (server : Server) (qs : List ℕ) (s : sessions.State) → OfOthers server s.standing → OfOthers server (without_peers qs s).standing
+all_others : (server : ServerIdentity) (qs : List ℕ) (s : sessions.State) → OfOthers server s.standing → OfOthers server (without_peers qs s).standing
 all_others server [] s h = h
 all_others server (q ∷ qs) s h = all_others server qs (without_peer q s) (filter_others server (is_not_of_peer q) s.standing h)
 
 -- the peer that is cut with a session
-cut_other : (server : Server) (k : ℕ) (standing : List Session) → OfOthers server standing → (q : ℕ) → peer_of_session k standing ≡ Some q → is_peer server q ≡ true
+cut_other : (server : ServerIdentity) (k : ℕ) (standing : List Session) → OfOthers server standing → (q : ℕ) → peer_of_session k standing ≡ Some q → is_peer server q ≡ true
 cut_other server k standing h q e = go (session_at k standing) refl e
   where
     by : (o : Option Offer) → OfOther server o → option_map (λ (x : Offer). x.peer) o ≡ Some q → is_peer server q ≡ true
@@ -72,14 +72,14 @@ cut_other server k standing h q e = go (session_at k standing) refl e
 
 -- ---- each event
 
-record Sound (server : Server) (hub : hub.State) (s : sessions.State) : Type 0 where
+record Sound (server : ServerIdentity) (hub : hub.State) (s : sessions.State) : Type 0 where
   sound : IsSound server hub
   others : OfOthers server s.standing
 
-abbrev SoundAt : Server → Node → Type 0
+abbrev SoundAt : ServerIdentity → Node → Type 0
 SoundAt server a = Sound server a.hub a.sessions
 
-module _ (law : hub_steps.StaysSound) (server : Server) (listed : IsListed server) where
+module _ (law : hub_steps.StaysSound) (server : ServerIdentity) (listed : IsListed server) where
   done : (hub : hub.State) (event : of_hub.Event) → hub_steps.IsAsked server hub event → hub_steps.hub_refusal server hub event ≡ None → IsSound server hub → IsSound server (hub_steps.hub_after server hub event)
   done hub event asked cause sound = law.step server hub event (Ok (hub_steps.hub_answer server hub event)) (hub_steps.hub_after server hub event) listed sound (record { asked = asked; decided = (cause, (refl, refl)) })
 
@@ -92,7 +92,7 @@ module _ (law : hub_steps.StaysSound) (server : Server) (listed : IsListed serve
   step_sound a (Own (Publish p)) won race spelt cause s = record { sound = done a.hub (of_hub.Publish p (finished_turns a.lines)) tt (map_none Hub (publish_refusal server a.hub p (finished_turns a.lines)) cause) s.sound; others = s.others }
   step_sound a (Own (Collect shard)) won race spelt cause s = record { sound = go (shard_line a shard) cause; others = all_others server (slow_peers a.hub (deltas_at (shard_line a shard))) a.sessions s.others }
     where
-      go : (o : Option Line) → collect_refusal_at a.hub o ≡ None → IsSound server (after_collect server a.hub (deltas_at o))
+      go : (o : Option ShardWithJobs) → collect_refusal_at a.hub o ≡ None → IsSound server (after_collect server a.hub (deltas_at o))
       go None f = absurd (none-some NoShard (sym f))
       go (Some line) f = done a.hub (of_hub.Collect shard line.shard.deltas) tt (map_none Hub (collect_refusal a.hub line.shard.deltas) f) s.sound
   step_sound a (Own (Dial q)) won race spelt cause s = record { sound = s.sound; others = more_others server a.sessions.standing (record { number = a.sessions.numbers + 1; dialed = Some q; serial = a.sessions.dials + 1; kept = None }) refl s.others }

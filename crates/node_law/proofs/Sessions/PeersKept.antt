@@ -7,7 +7,7 @@ use Rattle.list_laws.specs.Lists.{In}
 use Rattle.list_laws.proofs.Lists.{get_some, read_map, read_replicate, in_append, in_left, in_right, pairs_weaker}
 use Rattle.list_laws.proofs.Tests.{lt_false, no_cause, not_true, and_true}
 use Rattle.list_laws.proofs.Changes.{get_map}
-use Rattle.subj.specs.Servers.{Server, IsListed, own_name, place, is_peer}
+use Rattle.subj.specs.Servers.{ServerIdentity, IsListed, own_name, place, is_peer}
 use Rattle.claim_race.specs.Race.{RaceState}
 use Rattle.subj.specs.declared.keys.Delta.{Delta}
 use Rattle.route_values.specs.Frames.{Frame}
@@ -39,7 +39,7 @@ use Rattle.node_law.proofs.Runs.Sound.{run_sound}
 
 -- ---- frames are put
 
-frames_same : (server : Server) (frames : List Frame) (k : ℕ) (peers : List Peer) → SameUps peers (with_frames server frames k peers)
+frames_same : (server : ServerIdentity) (frames : List Frame) (k : ℕ) (peers : List Peer) → SameUps peers (with_frames server frames k peers)
 frames_same server frames k peers = record { back = back k peers; on = on k peers }
   where
     back : (k : ℕ) (ps : List Peer) (q : ℕ) (p : Peer) → slice_get (with_frames server frames k ps) q ≡ Some p → Stays ps q p
@@ -133,13 +133,13 @@ slow_kept count peers s seen k = record {
 -- ---- frames, INFOs and CONNECTs that are not refused
 
 -- the place is of a peer, at no incarnation below the one seen
-record Fresh (server : Server) (hub : hub.State) (name : List ℕ) (inc : ℕ) : Type 0 where
+record Fresh (server : ServerIdentity) (hub : hub.State) (name : List ℕ) (inc : ℕ) : Type 0 where
   peer : Peer
   at : slice_get hub.peers (place server name) ≡ Some peer
   seen : seen_of (peer_of server hub name) ≡ peer.seen
   fresh : peer.seen ≤ inc
 
-frame_fresh : (server : Server) (hub : hub.State) (finished : List ℕ) (frame : Frame) → receive_refusal server hub finished frame ≡ None → Fresh server hub frame.from frame.inc
+frame_fresh : (server : ServerIdentity) (hub : hub.State) (finished : List ℕ) (frame : Frame) → receive_refusal server hub finished frame ≡ None → Fresh server hub frame.from frame.inc
 frame_fresh server hub finished frame e =
     let a = no_cause (not (bytes_eq frame.to (own_name server))) NotMe (if not (nat_eq frame.to_inc server.inc) then Some OtherMe else origin_fault server hub finished frame (peer_of server hub frame.from)) e in
     let b = no_cause (not (nat_eq frame.to_inc server.inc)) OtherMe (origin_fault server hub finished frame (peer_of server hub frame.from)) a.1 in
@@ -153,7 +153,7 @@ frame_fresh server hub finished frame e =
     go true is f = by (slice_get hub.peers (place server frame.from)) refl (ap (λ b. seen_of (cond b (slice_get hub.peers (place server frame.from)) None)) is) f
     go false is f = absurd (none-some NotInCluster (sym f))
 
-greeting_fresh : (server : Server) (a : Node) (name : List ℕ) (inc : ℕ) → SoundNode server a → Greets server name inc (seen_name server a name) → Fresh server a.hub name inc
+greeting_fresh : (server : ServerIdentity) (a : Node) (name : List ℕ) (inc : ℕ) → SoundNode server a → Greets server name inc (seen_name server a name) → Fresh server a.hub name inc
 greeting_fresh server a name inc sound greets =
     let p = get_some a.hub.peers (place server name) (let x = sound.peers in let y = greets.listed in omega arith) in
     let same : seen_name server a name ≡ p.0.seen = ap (λ b. seen_of (cond b (slice_get a.hub.peers (place server name)) None)) greets.peer ∙ ap seen_of p.1 in
@@ -165,11 +165,11 @@ record Completes (o : Option Session) : Type 0 where
   is : o ≡ Some session
   new : is_some session.kept ≡ false
 
-info_completes : (server : Server) (s : sessions.State) (o : Option Session) (info : Info) (least : ℕ) → info_refusal server s o info least ≡ None → Completes o
+info_completes : (server : ServerIdentity) (s : sessions.State) (o : Option Session) (info : Info) (least : ℕ) → info_refusal server s o info least ≡ None → Completes o
 info_completes server s None info least e = absurd (none-some UnknownSession (sym e))
 info_completes server s (Some x) info least e = record { session = x; is = refl; new = (no_cause (is_some x.kept) UnknownSession (info_fault server s x info least x.dialed) e).0 }
 
-connect_completes : (server : Server) (s : sessions.State) (o : Option Session) (connect : Connect) (least : ℕ) → connect_refusal server s o connect least ≡ None → Completes o
+connect_completes : (server : ServerIdentity) (s : sessions.State) (o : Option Session) (connect : Connect) (least : ℕ) → connect_refusal server s o connect least ≡ None → Completes o
 connect_completes server s None connect least e = absurd (none-some UnknownSession (sym e))
 connect_completes server s (Some x) connect least e = record { session = x; is = refl; new = (no_cause (is_some x.kept) UnknownSession (connect_fault server s connect least x.dialed) e).0 }
 
@@ -190,7 +190,7 @@ told_seen (Msg content queues) number x = refl
 abbrev KeptBy : Node → List (ℕ × ℕ) → Type 0
 KeptBy a seen = Kept a.hub.peers a.sessions seen
 
-step_kept : (server : Server) (a : Node) (e : NodeEvent) (won : Bool) (race : RaceState) (seen : List (ℕ × ℕ)) → SoundNode server a → node_refusal server a e ≡ None → KeptBy a seen → KeptBy (node_after server a e won race) (seen_in server e ++ seen)
+step_kept : (server : ServerIdentity) (a : Node) (e : NodeEvent) (won : Bool) (race : RaceState) (seen : List (ℕ × ℕ)) → SoundNode server a → node_refusal server a e ≡ None → KeptBy a seen → KeptBy (node_after server a e won race) (seen_in server e ++ seen)
 step_kept server a (Own (OfConn conn event)) won race seen sound cause k = k
 step_kept server a (Own (AtShard shard work)) won race seen sound cause k = k
 step_kept server a (Own (Publish p)) won race seen sound cause k = same_all a.hub.peers _ a.sessions seen (frames_same server (frames_of server a.hub p) 0 a.hub.peers) k
@@ -240,14 +240,14 @@ step_kept server a (OnConnect session connect) won race seen sound cause k =
 
 -- ---- runs
 
-new_kept : (server : Server) → KeptBy (new_node server) []
+new_kept : (server : ServerIdentity) → KeptBy (new_node server) []
 new_kept server = record {
   ups = record { has = λ q p at up. absurd (true≢false (sym up ∙ ap (λ (x : Peer). x.up) (read_replicate (length server.names) unknown_peer p q at))); is = λ q i h. absurd h.stands };
   apart = record { differ = tt; below = λ x i. absurd i };
   greatest = λ q p at. record { all = λ x i. absurd i; one = inl (ap (λ (x : Peer). x.seen) (read_replicate (length server.names) unknown_peer p q at)) };
 }
 
-run_kept : (server : Server) → IsListed server → (h : List Done) (a : Node) → Ran server h a → KeptBy a (seen_of_run server h)
+run_kept : (server : ServerIdentity) → IsListed server → (h : List Done) (a : Node) → Ran server h a → KeptBy a (seen_of_run server h)
 run_kept server listed [] a is = subst (λ (x : Node). KeptBy x []) (sym is) (new_kept server)
 run_kept server listed (d ∷ earlier) a ran =
     subst (λ (x : Node). KeptBy x (seen_of_run server (d ∷ earlier))) (sym ran.0.after)

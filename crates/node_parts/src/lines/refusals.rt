@@ -5,13 +5,13 @@ ghost use Rattle.shard_core.specs.Lines.{first_of};
 ghost use Rattle.shard_core.specs.ShardEvents.{Subscribe};
 ghost use Rattle.node_law.specs.Steps.{begin_of, conn_event, drop_of, event_refusal, work_event};
 
-use super::{Line, no_job};
+use super::{ShardWithJobs, no_job};
 use node_law::{ConnEvent, NodeFault, ShardWork};
 use shard_core::ShardFault;
 use sub_table::SubTable;
 use subj::{ConnId, Key, Sid};
 
-impl<T: SubTable> Line<T> {
+impl<T: SubTable> ShardWithJobs<T> {
     /// Why it refuses a subscribe.
     pub fn subscribe_fault(&self, conn: ConnId, key: &Key, sid: &Sid) -> Option<NodeFault>
         ensures { result ≡ event_refusal self.now (Some (Subscribe conn key.now sid.now)) }

@@ -7,12 +7,12 @@ ghost use Rattle.shard_core.specs.Shards.{waits_for};
 ghost use Rattle.node_law.specs.Steps.{event_refusal};
 ghost use Rattle.node_parts.specs.Lines.{LineTakesBytes};
 
-use super::{Line, shard_answer};
+use super::{ShardWithJobs, shard_answer};
 use node_law::NodeFault;
 use sub_table::SubTable;
 use subj::{ConnId, Failure};
 
-impl<T: SubTable> Line<T> {
+impl<T: SubTable> ShardWithJobs<T> {
     /// [`Shard::has_nothing_for`](shard_core::Shard::has_nothing_for).
     pub fn has_nothing_for(&self, conn: ConnId) -> bool
         ensures { result ≡ (length (waits_for conn self.now.shard.clients) == 0) }

@@ -6,11 +6,11 @@ use Rattle.hub_core.specs.State as hub
 use Rattle.hub_core.proofs.Steps.Rooms.{map_none}
 use Rattle.node_law.specs.declared.faults.NodeFault.TheVariants.{NoShard, Hub, Session}
 use Rattle.node_law.specs.Events.{Own, OfConn, AtShard, Publish, Collect, Dial, Accept, CutSession, TakeFrames, Receive, OnInfo, OnConnect}
-use Rattle.node_law.specs.State.{Line}
+use Rattle.node_law.specs.State.{ShardWithJobs}
 use Rattle.node_law.specs.Steps.{collect_refusal_at, shard_line, deltas_at}
 use Rattle.node_threads.specs.Parts.{side_at, SidesAreParts}
 
-of_line : (h : hub.State) (o : Option Line) → collect_refusal_at h o ≡ None → collect_refusal h (deltas_at o) ≡ None
+of_line : (h : hub.State) (o : Option ShardWithJobs) → collect_refusal_at h o ≡ None → collect_refusal h (deltas_at o) ≡ None
 of_line h None e = absurd (none-some NoShard (sym e))
 of_line h (Some line) e = map_none Hub (collect_refusal h line.shard.deltas) e
 

@@ -21,7 +21,7 @@ use Rattle.hub_core.specs.Publishing.{Publication, busy_fault, names_of, publish
 use Rattle.hub_core.specs.declared.faults.HubFault.TheVariants.{Spent, TooManyQueues}
 use Rattle.hub_core.proofs.Steps.Rooms.{or_none, has_room}
 use Rattle.route_values.specs.Frames.{Frame}
-use Rattle.node_parts.specs.Sides.{Side, Event, ByHub, Answer, OfHub, IsDone, job_in}
+use Rattle.node_parts.specs.Sides.{HubWithSessions, Event, ByHub, Answer, OfHub, IsDone, job_in}
 use Rattle.node_threads.specs.AtHub.{AtHub, hub_at, Issues, IsAtHub}
 use Rattle.node_threads.proofs.Hubs.HubCalls.{done_more, same_server}
 
@@ -86,7 +86,7 @@ pub has_issued : (shards : ℕ) (old new : HubPart) (turn : ℕ) → IsIssuedOrB
 has_issued shards old new turn t = record { more = loads_from 1 t.0; is = t.2.1.1 }
 
 -- what is given to the shards with it
-pub issues : (shards : ℕ) (w : AtHub) (side : Side) (part : HubPart) (e : Event) (answer : Answer) (job : Job) → IsAtHub shards w → IsDone w.side e answer side → HasIssued w.part part
+pub issues : (shards : ℕ) (w : AtHub) (side : HubWithSessions) (part : HubPart) (e : Event) (answer : Answer) (job : Job) → IsAtHub shards w → IsDone w.side e answer side → HasIssued w.part part
     → side.hub.issued ≡ w.side.hub.issued + 1 → job_in answer ≡ job ∷ [] → job.turn ≡ w.side.hub.issued + 1 → are_queue_names job.queues ≡ true
     → IsAtHub shards (hub_at side part w.finished (w.issued ++ job ∷ [])) × Issues w e answer job (hub_at side part w.finished (w.issued ++ job ∷ []))
 issues shards w side part e answer job i d h issued gives turn names =
@@ -115,7 +115,7 @@ issues shards w side part e answer job i d h issued gives turn names =
     )
 
 -- a publication is issued
-pub published_done : (w : AtHub) (p : Publication) (job : Job) (sent : List Frame) (side : Side) → publish_refusal w.side.server w.side.hub p w.finished ≡ None → IsPlanOf w.side.server w.side.hub p job sent
+pub published_done : (w : AtHub) (p : Publication) (job : Job) (sent : List Frame) (side : HubWithSessions) → publish_refusal w.side.server w.side.hub p w.finished ≡ None → IsPlanOf w.side.server w.side.hub p job sent
     → side ≡ record w.side { hub = after_frames w.side.server w.side.hub sent }
     → IsDone w.side (ByHub (of_hub.Publish p w.finished)) (OfHub (of_hub.Issued (own_job w.side.server w.side.hub p) (frames_of w.side.server w.side.hub p))) side
 published_done w p job sent side free plan is = record {

@@ -4,7 +4,7 @@ use Rattle.std.specs.Prelude.{if◌then◌else◌}
 use Rattle.std.specs.Option.{option_or}
 use Rattle.std.proofs.lemmas.Option.{none-some, same_Some}
 use Rattle.list_laws.proofs.Tests.{no_cause, le_false}
-use Rattle.subj.specs.Servers.{Server, IsListed}
+use Rattle.subj.specs.Servers.{ServerIdentity, IsListed}
 use Rattle.subj.specs.declared.jobs.Job.{Job}
 use Rattle.subj.specs.declared.limits.TheConstants.{MAX_COUNTER}
 use Rattle.route_values.specs.Frames.{Frame}
@@ -20,7 +20,7 @@ use Rattle.hub_core.specs.Calls.{job_of}
 use Rattle.hub_core.specs.Receiving.{has_message, body_fault, receive_refusal, after_receive, routed_job}
 use Rattle.hub_core.proofs.Steps.Receives.{from_peer}
 use Rattle.hub_core.proofs.Steps.Rooms.{or_none}
-use Rattle.node_parts.specs.Sides.{Side, ByHub, OfHub, job_in}
+use Rattle.node_parts.specs.Sides.{HubWithSessions, ByHub, OfHub, job_in}
 use Rattle.node_threads.specs.AtHub.{AtHub, IsAtHub}
 use Rattle.node_threads.proofs.Hubs.HubCalls.{Quiet}
 use Rattle.node_threads.proofs.Hubs.Publishing.{MayIssue, shows_room}
@@ -66,8 +66,8 @@ may_route shards w frame listed i free message = go frame.body message refl
         let same = i.turns in
         record { limit = omega arith; room = shows_room shards w i o.0 }
 
-pub issued_more : (server : Server) (h : hub.State) (frame : Frame) → has_message frame.body ≡ true → (after_receive server h frame).issued ≡ h.issued + 1
+pub issued_more : (server : ServerIdentity) (h : hub.State) (frame : Frame) → has_message frame.body ≡ true → (after_receive server h frame).issued ≡ h.issued + 1
 issued_more server h frame e = ap (λ b. if b then h.issued + 1 else h.issued) e
 
-pub quiet_news : (s : Side) (frame : Frame) (finished : List ℕ) → has_message frame.body ≡ false → Quiet s (ByHub (of_hub.Receive frame finished))
+pub quiet_news : (s : HubWithSessions) (frame : Frame) (finished : List ℕ) → has_message frame.body ≡ false → Quiet s (ByHub (of_hub.Receive frame finished))
 quiet_news s frame finished e = record { jobs = ap (λ a. job_in (OfHub a)) (sym (heard_answer s.hub frame frame.body e)); issued = ap (λ b. if b then s.hub.issued + 1 else s.hub.issued) e }

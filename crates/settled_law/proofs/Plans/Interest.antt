@@ -22,7 +22,7 @@ use Rattle.interest.specs.Told.{is_opening, is_closing}
 use Rattle.subj.specs.declared.keys.Delta.{Delta}
 use Rattle.interest.proofs.Counting.Ties.{same_key}
 use Rattle.node_law.specs.CountsOpen.{keys_of, open_keys, pending}
-use Rattle.node_law.specs.State.{Line}
+use Rattle.node_law.specs.State.{ShardWithJobs}
 
 -- ---- keys
 
@@ -68,24 +68,24 @@ in_times key (k ∷ keys) i =
 
 -- ---- open subscriptions
 
-pub record OpenSub (lines : List Line) (key : Key) : Type 0 where
+pub record OpenSub (lines : List ShardWithJobs) (key : Key) : Type 0 where
   pub place : ℕ
-  pub line : Line
+  pub line : ShardWithJobs
   pub at : slice_get lines place ≡ Some line
   pub sub : Subscription
   pub there : In sub line.shard.subs
   pub is : sub.key ≡ key
 
-pub open_in : (lines : List Line) (key : Key) → In key (open_keys lines) → OpenSub lines key
+pub open_in : (lines : List ShardWithJobs) (key : Key) → In key (open_keys lines) → OpenSub lines key
 open_in [] key i = absurd i
 open_in (line ∷ lines) key i = ⊎_elim
     (λ (j : In key (keys_of line.shard.subs)). let h = in_map (λ (sub : Subscription). sub.key) line.shard.subs key j in record { place = 0; line = line; at = refl; sub = h.0; there = h.1; is = sym h.2 })
     (λ (j : In key (open_keys lines)). let h = open_in lines key j in record { place = suc h.place; line = h.line; at = h.at; sub = h.sub; there = h.there; is = h.is })
     (in_append key (keys_of line.shard.subs) (open_keys lines) i)
 
-pub in_open : (lines : List Line) (place : ℕ) (line : Line) (sub : Subscription) → slice_get lines place ≡ Some line → In sub line.shard.subs → In sub.key (open_keys lines)
+pub in_open : (lines : List ShardWithJobs) (place : ℕ) (line : ShardWithJobs) (sub : Subscription) → slice_get lines place ≡ Some line → In sub line.shard.subs → In sub.key (open_keys lines)
 in_open [] place line sub at i = absurd (none-some line at)
-in_open (x ∷ lines) zero line sub at i = in_left sub.key (keys_of x.shard.subs) (open_keys lines) (in_mapped (λ (u : Subscription). u.key) x.shard.subs sub (subst (λ (l : Line). In sub l.shard.subs) (sym (same_Some x line at)) i))
+in_open (x ∷ lines) zero line sub at i = in_left sub.key (keys_of x.shard.subs) (open_keys lines) (in_mapped (λ (u : Subscription). u.key) x.shard.subs sub (subst (λ (l : ShardWithJobs). In sub l.shard.subs) (sym (same_Some x line at)) i))
 in_open (x ∷ lines) (suc place) line sub at i = in_right sub.key (keys_of x.shard.subs) (open_keys lines) (in_open lines place line sub at i)
 
 -- ---- counts
@@ -116,12 +116,12 @@ in_counted (e ∷ counts) key n all i = go (is_eq (key_cmp key e.0)) refl (in_co
         (λ (j : In (key, n) counts). let h = later j in omega (arith, g, h)) i
 
 -- where all was told, the counts are those of the open
-none_pending : (test : Delta → Bool) (lines : List Line) → Each (λ (line : Line). line.shard.deltas ≡ []) lines → count_by test (pending lines) ≡ 0
+none_pending : (test : Delta → Bool) (lines : List ShardWithJobs) → Each (λ (line : ShardWithJobs). line.shard.deltas ≡ []) lines → count_by test (pending lines) ≡ 0
 none_pending test lines none = ap (count_by test) (empty lines none)
   where
-    empty : (lines : List Line) → Each (λ (line : Line). line.shard.deltas ≡ []) lines → pending lines ≡ []
+    empty : (lines : List ShardWithJobs) → Each (λ (line : ShardWithJobs). line.shard.deltas ≡ []) lines → pending lines ≡ []
     empty [] none = refl
     empty (line ∷ lines) none = λ i. none line (inl refl) i ++ empty lines (λ l j. none l (inr j)) i
 
-pub counts_of_open : (counts : Counts) (lines : List Line) (key : Key) → Each (λ (line : Line). line.shard.deltas ≡ []) lines → count_of counts key + count_by (is_opening key) (pending lines) ≡ times key (open_keys lines) + count_by (is_closing key) (pending lines) → count_of counts key ≡ times key (open_keys lines)
+pub counts_of_open : (counts : Counts) (lines : List ShardWithJobs) (key : Key) → Each (λ (line : ShardWithJobs). line.shard.deltas ≡ []) lines → count_of counts key + count_by (is_opening key) (pending lines) ≡ times key (open_keys lines) + count_by (is_closing key) (pending lines) → count_of counts key ≡ times key (open_keys lines)
 counts_of_open counts lines key none e = let a = none_pending (is_opening key) lines none in let b = none_pending (is_closing key) lines none in omega (arith, e, a, b)

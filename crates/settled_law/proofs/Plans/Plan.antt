@@ -15,7 +15,7 @@ use Rattle.list_laws.proofs.Tests.{true_eq, false_eq, eq_true, eq_false, and_tru
 use Rattle.sub_table.specs.declared.Subscription.{Subscription}
 use Rattle.subj.specs.Matching.{subject_matches}
 use Rattle.subj.specs.QueueNames.{is_named}
-use Rattle.subj.specs.Servers.{Server, IsListed, name_of, name_at, own_name, place, is_peer}
+use Rattle.subj.specs.Servers.{ServerIdentity, IsListed, name_of, name_at, own_name, place, is_peer}
 use Rattle.subj.specs.declared.keys.Key.{Key}
 use Rattle.subj.specs.declared.jobs.Job.{Job}
 use Rattle.subj.specs.declared.limits.TheConstants.{WINDOW, MAX_COUNTER, MAX_QUEUE_NAMES, ROUTE_FRAMES}
@@ -39,7 +39,7 @@ use Rattle.shard_core.specs.Lines.{Turns, begun_turn}
 use Rattle.node_law.specs.CountsOpen.{CountsAreOpen, open_keys}
 use Rattle.node_law.specs.EachShard.{ShardsAreHeld}
 use Rattle.node_law.specs.Sound.{SoundNode}
-use Rattle.node_law.specs.State.{Line, Node, finished_turns}
+use Rattle.node_law.specs.State.{ShardWithJobs, Node, finished_turns}
 use Rattle.world_law.specs.Headline.{IsCluster, EachUp}
 use Rattle.world_law.specs.State.{Cluster, World, Running, server_at}
 use Rattle.settled_law.specs.Marks.{MarksAreReached}
@@ -66,8 +66,8 @@ in_take (suc k) (y ∷ xs) x i = ⊎_elim (λ (e : x ≡ y). inl e) (λ (j : In 
 
 -- ---- a settled server is not behind
 
-module _ (server : Server) (a : Node) (sound : SoundNode server a) (lines : (place : ℕ) (line : Line) → slice_get a.lines place ≡ Some line → LineIsSettled line) where
-  pub finished_is : (place : ℕ) (line : Line) → slice_get a.lines place ≡ Some line → line.shard.finished ≡ a.hub.issued
+module _ (server : ServerIdentity) (a : Node) (sound : SoundNode server a) (lines : (place : ℕ) (line : ShardWithJobs) → slice_get a.lines place ≡ Some line → LineIsSettled line) where
+  pub finished_is : (place : ℕ) (line : ShardWithJobs) → slice_get a.lines place ≡ Some line → line.shard.finished ≡ a.hub.issued
   finished_is place line at =
       let s = lines place line at in
       let t : Turns (begun_turn line.shard.hand line.shard.finished) line.waiting a.race.issued = (sound.lines place line at).sound.turns in
@@ -76,7 +76,7 @@ module _ (server : Server) (a : Node) (sound : SoundNode server a) (lines : (pla
 
   pub not_busy : (k : ℕ) → busy_of a.hub.issued (take k (finished_turns a.lines)) ≡ None
   not_busy k = no_busy a.hub.issued (take k (finished_turns a.lines)) (none_passes (is_behind a.hub.issued) (take k (finished_turns a.lines)) (λ x i.
-      let h = in_map (λ (line : Line). line.shard.finished) a.lines x (in_take k (finished_turns a.lines) x i) in
+      let h = in_map (λ (line : ShardWithJobs). line.shard.finished) a.lines x (in_take k (finished_turns a.lines) x i) in
       let at = in_at a.lines h.0 h.1 in
       let f = finished_is at.0 h.0 at.1 in
       let e : x ≡ h.0.shard.finished = h.2 in
@@ -86,7 +86,7 @@ module _ (server : Server) (a : Node) (sound : SoundNode server a) (lines : (pla
 
 module _ (c : Cluster) (cluster : IsCluster c) (w : World) (n : ℕ) (a : Running) (p : Publication) (below : n < length c.names) (up : slice_get w.nodes n ≡ Some (Some a))
     (sound : EachUp (λ n a. SoundNode (server_at c n a.inc) a.node) w) (counted : EachUp (λ n a. CountsAreOpen (server_at c n a.inc) a.node) w) (quiet : IsQuiet c w) where
-  abbrev server : Server
+  abbrev server : ServerIdentity
   server = server_at c n a.inc
 
   abbrev names : List (List ℕ)
@@ -98,7 +98,7 @@ module _ (c : Cluster) (cluster : IsCluster c) (w : World) (n : ℕ) (a : Runnin
   listed : IsListed (server_at c n a.inc)
   listed = record { apart = cluster.apart; listed = below }
 
-  all_told : (m : ℕ) (b : Running) → slice_get w.nodes m ≡ Some (Some b) → Each (λ (line : Line). line.shard.deltas ≡ []) b.node.lines
+  all_told : (m : ℕ) (b : Running) → slice_get w.nodes m ≡ Some (Some b) → Each (λ (line : ShardWithJobs). line.shard.deltas ≡ []) b.node.lines
   all_told m b at line i = let k = in_at b.node.lines line i in ((quiet.nodes m b at).lines k.0 line k.1).told
 
   own_counts : (key : Key) → count_of a.node.hub.counts key ≡ times key (open_keys a.node.lines)
@@ -141,7 +141,7 @@ module _ (c : Cluster) (cluster : IsCluster c) (w : World) (n : ℕ) (a : Runnin
 
   -- ---- the names are those of open members
 
-  own_key : (u : Subscription) (place : ℕ) (line : Line) → slice_get a.node.lines place ≡ Some line → In u line.shard.subs → (k : ℕ) × In (u.key, k) a.node.hub.counts
+  own_key : (u : Subscription) (place : ℕ) (line : ShardWithJobs) → slice_get a.node.lines place ≡ Some line → In u line.shard.subs → (k : ℕ) × In (u.key, k) a.node.hub.counts
   own_key u place line at i =
       let t = in_times u.key (open_keys a.node.lines) (in_open a.node.lines place line u at i) in
       let e = own_counts u.key in
@@ -153,7 +153,7 @@ module _ (c : Cluster) (cluster : IsCluster c) (w : World) (n : ℕ) (a : Runnin
       let e = own_counts key in
       open_in a.node.lines key (times_in key (open_keys a.node.lines) (omega (arith, t, e)))
 
-  peer_key : (q : ℕ) (b : Running) (far : n ≢ q) (at : slice_get w.nodes q ≡ Some (Some b)) (u : Subscription) (place : ℕ) (line : Line) → slice_get b.node.lines place ≡ Some line → In u line.shard.subs → In (u.key, told_weight u.key (times u.key (open_keys b.node.lines))) (quiet.peers n q a b far up at).peer.heard.keys
+  peer_key : (q : ℕ) (b : Running) (far : n ≢ q) (at : slice_get w.nodes q ≡ Some (Some b)) (u : Subscription) (place : ℕ) (line : ShardWithJobs) → slice_get b.node.lines place ≡ Some line → In u line.shard.subs → In (u.key, told_weight u.key (times u.key (open_keys b.node.lines))) (quiet.peers n q a b far up at).peer.heard.keys
   peer_key q b far at u place line here i = (quiet.peers n q a b far up at).view.all u.key (in_times u.key (open_keys b.node.lines) (in_open b.node.lines place line u here i))
 
   peer_open : (q : ℕ) (b : Running) (far : n ≢ q) (at : slice_get w.nodes q ≡ Some (Some b)) (key : Key) (k : ℕ) → In (key, k) (quiet.peers n q a b far up at).peer.heard.keys → OpenSub b.node.lines key
@@ -293,7 +293,7 @@ module _ (c : Cluster) (cluster : IsCluster c) (w : World) (n : ℕ) (a : Runnin
   -- ---- the frames
 
   abbrev pub frame_for : ℕ → Peer → Frame
-  frame_for q peer = frame_to (server_at c n a.inc) (a.node.hub.published + 1) p.said.message (names_for (choice_of (server_at c n a.inc) a.node.hub p) (name_of (server_at c n a.inc) q) (names_of (server_at c n a.inc) a.node.hub p)) q peer
+  frame_for q peer = frame_to (server_at c n a.inc) (a.node.hub.published + 1) p.publication.message (names_for (choice_of (server_at c n a.inc) a.node.hub p) (name_of (server_at c n a.inc) q) (names_of (server_at c n a.inc) a.node.hub p)) q peer
 
   pub record Sent (frame : Frame) : Type 0 where
     pub q : ℕ
@@ -303,14 +303,14 @@ module _ (c : Cluster) (cluster : IsCluster c) (w : World) (n : ℕ) (a : Runnin
 
   pub sent_is : (frame : Frame) → In frame (frames_of (server_at c n a.inc) a.node.hub p) → Sent frame
   sent_is frame i =
-      let h = frame_is (server_at c n a.inc) (a.node.hub.published + 1) p.said.message (choice_of (server_at c n a.inc) a.node.hub p) (names_of (server_at c n a.inc) a.node.hub p) 0 a.node.hub.peers frame i in
+      let h = frame_is (server_at c n a.inc) (a.node.hub.published + 1) p.publication.message (choice_of (server_at c n a.inc) a.node.hub p) (names_of (server_at c n a.inc) a.node.hub p) 0 a.node.hub.peers frame i in
       let s = h.sum in
       record { q = h.k; peer = h.peer; at = ap (slice_get a.node.hub.peers) (omega (arith, s)) ∙ h.at; is = h.is }
 
   -- a frame goes to a peer that is owed one
   pub sent_to : (q : ℕ) (b : Running) (far : n ≢ q) (at : slice_get w.nodes q ≡ Some (Some b)) → is_owed (subject_of p) (names_for (choice_of (server_at c n a.inc) a.node.hub p) (name_of (server_at c n a.inc) q) (names_of (server_at c n a.inc) a.node.hub p)) (quiet.peers n q a b far up at).peer ≡ true
       → In (frame_for q (quiet.peers n q a b far up at).peer) (frames_of (server_at c n a.inc) a.node.hub p)
-  sent_to q b far at owed = frame_there (server_at c n a.inc) (a.node.hub.published + 1) p.said.message (choice_of (server_at c n a.inc) a.node.hub p) (names_of (server_at c n a.inc) a.node.hub p) 0 q q a.node.hub.peers (quiet.peers n q a b far up at).peer (omega arith) (quiet.peers n q a b far up at).at (eligible q b far at) owed
+  sent_to q b far at owed = frame_there (server_at c n a.inc) (a.node.hub.published + 1) p.publication.message (choice_of (server_at c n a.inc) a.node.hub p) (names_of (server_at c n a.inc) a.node.hub p) 0 q q a.node.hub.peers (quiet.peers n q a b far up at).peer (omega arith) (quiet.peers n q a b far up at).at (eligible q b far at) owed
 
   owed_plain : (subject : List ℕ) (names : List (List ℕ)) (peer : Peer) → has_plain_match subject peer.heard.keys ≡ true → is_owed subject names peer ≡ true
   owed_plain subject names peer e = ap (λ b. b || not (is_empty names)) e
@@ -324,7 +324,7 @@ module _ (c : Cluster) (cluster : IsCluster c) (w : World) (n : ℕ) (a : Runnin
       by false = refl
 
   -- an open plain subscription elsewhere
-  pub sent_for_plain : (q : ℕ) (b : Running) (far : n ≢ q) (at : slice_get w.nodes q ≡ Some (Some b)) (u : Subscription) (place : ℕ) (line : Line) → slice_get b.node.lines place ≡ Some line → In u line.shard.subs → is_plain u.key ≡ true → subject_matches u.key.pattern (subject_of p) ≡ true
+  pub sent_for_plain : (q : ℕ) (b : Running) (far : n ≢ q) (at : slice_get w.nodes q ≡ Some (Some b)) (u : Subscription) (place : ℕ) (line : ShardWithJobs) → slice_get b.node.lines place ≡ Some line → In u line.shard.subs → is_plain u.key ≡ true → subject_matches u.key.pattern (subject_of p) ≡ true
       → In (frame_for q (quiet.peers n q a b far up at).peer) (frames_of (server_at c n a.inc) a.node.hub p)
   sent_for_plain q b far at u place line here i plain matches = sent_to q b far at
       (owed_plain (subject_of p) (names_for (choice_of (server_at c n a.inc) a.node.hub p) (name_of (server_at c n a.inc) q) (names_of (server_at c n a.inc) a.node.hub p)) (quiet.peers n q a b far up at).peer
@@ -344,7 +344,7 @@ module _ (c : Cluster) (cluster : IsCluster c) (w : World) (n : ℕ) (a : Runnin
 module _ (c : Cluster) (cluster : IsCluster c) (w : World) (n : ℕ) (a : Running) (p : Publication) (below : n < length c.names) (up : slice_get w.nodes n ≡ Some (Some a))
     (sound : EachUp (λ n a. SoundNode (server_at c n a.inc) a.node) w) (counted : EachUp (λ n a. CountsAreOpen (server_at c n a.inc) a.node) w) (quiet : IsQuiet c w)
     (few : (names : List (List ℕ)) → Pairs (λ x y. x ≢ y) names → Each (IsWantedName w (subject_of p)) names → length names ≤ MAX_QUEUE_NAMES)
-    (held : EachUp (λ n a. ShardsAreHeld (server_at c n a.inc) a.node) w) (roomy : IsRoomy w p.said.message) (marks : MarksAreReached w) (echo : p.said.echo ≡ true) where
+    (held : EachUp (λ n a. ShardsAreHeld (server_at c n a.inc) a.node) w) (roomy : IsRoomy w p.publication.message) (marks : MarksAreReached w) (echo : p.publication.echo ≡ true) where
   -- ---- the publish is taken
 
   pub is_taken : publish_refusal (server_at c n a.inc) a.node.hub p (finished_turns a.node.lines) ≡ None
@@ -381,7 +381,7 @@ module _ (c : Cluster) (cluster : IsCluster c) (w : World) (n : ℕ) (a : Runnin
 
   -- ---- the errands
 
-  rests : (m : ℕ) (b : Running) → slice_get w.nodes m ≡ Some (Some b) → (job : Job) → job.message ≡ p.said.message → job.turn ≡ b.node.hub.issued + 1 → (place : ℕ) (start : Line) → slice_get b.node.lines place ≡ Some start → Rests job start
+  rests : (m : ℕ) (b : Running) → slice_get w.nodes m ≡ Some (Some b) → (job : Job) → job.message ≡ p.publication.message → job.turn ≡ b.node.hub.issued + 1 → (place : ℕ) (start : ShardWithJobs) → slice_get b.node.lines place ≡ Some start → Rests job start
   rests m b at job content turn place start here =
       let s = (quiet.nodes m b at).lines place start here in
       record {
@@ -400,10 +400,10 @@ module _ (c : Cluster) (cluster : IsCluster c) (w : World) (n : ℕ) (a : Runnin
     rest = rests n a up (own_job (server_at c n a.inc) a.node.hub p) refl refl;
   }
 
-  pub routed_errand : (m : ℕ) (b : Running) → slice_get w.nodes m ≡ Some (Some b) → (q : ℕ) (peer : Peer) → Errand c (routed_job b.node.hub (frame_for c cluster w n a p below up sound counted quiet q peer) p.said.message (names_for (choice_of (server_at c n a.inc) a.node.hub p) (name_of (server_at c n a.inc) q) (names_of (server_at c n a.inc) a.node.hub p))) b.node.lines
+  pub routed_errand : (m : ℕ) (b : Running) → slice_get w.nodes m ≡ Some (Some b) → (q : ℕ) (peer : Peer) → Errand c (routed_job b.node.hub (frame_for c cluster w n a p below up sound counted quiet q peer) p.publication.message (names_for (choice_of (server_at c n a.inc) a.node.hub p) (name_of (server_at c n a.inc) q) (names_of (server_at c n a.inc) a.node.hub p))) b.node.lines
   routed_errand m b at q peer = record {
     echo = refl;
     names = pairs_filter (λ x y. x ≢ y) (λ name. is_named (name_of (server_at c n a.inc) q) (choice_of (server_at c n a.inc) a.node.hub p name)) (names_of (server_at c n a.inc) a.node.hub p) (names_distinct (server_at c n a.inc) a.node.hub (subject_of p));
     size = (sound m b at).size;
-    rest = rests m b at (routed_job b.node.hub (frame_for c cluster w n a p below up sound counted quiet q peer) p.said.message (names_for (choice_of (server_at c n a.inc) a.node.hub p) (name_of (server_at c n a.inc) q) (names_of (server_at c n a.inc) a.node.hub p))) refl refl;
+    rest = rests m b at (routed_job b.node.hub (frame_for c cluster w n a p below up sound counted quiet q peer) p.publication.message (names_for (choice_of (server_at c n a.inc) a.node.hub p) (name_of (server_at c n a.inc) q) (names_of (server_at c n a.inc) a.node.hub p))) refl refl;
   }

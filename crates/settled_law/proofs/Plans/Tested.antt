@@ -33,7 +33,7 @@ use Rattle.shard_core.specs.Shards.{Client}
 use Rattle.node_law.specs.CountsOpen.{CountsAreOpen, open_keys}
 use Rattle.node_law.specs.PeersKept.{KeptAt}
 use Rattle.node_law.specs.Sound.{SoundNode}
-use Rattle.node_law.specs.State.{Line}
+use Rattle.node_law.specs.State.{ShardWithJobs}
 use Rattle.sub_table.specs.Subscriptions.{matching_of}
 use Rattle.shard_core.specs.Room.{due_length, takes_all}
 use Rattle.node_law.specs.Settled.{is_peer_settled, is_line_settled, is_node_settled, has_room_in}
@@ -135,7 +135,7 @@ entry_counts (e ∷ counts) key n sorted i = go (is_eq (key_cmp key e.0)) refl (
         (λ (s : ◌≡◌ {A = Key × ℕ} (key, n) e). absurd (true≢false (sym (subst (λ x. is_eq (key_cmp key x) ≡ true) (ap (λ (v : Key × ℕ). v.0) s) (is_self key)) ∙ f)))
         (λ (k : In (key, n) counts). g ∙ later k) j
 
-pub tells : (counts : Counts) (lines : List Line) → IsStrictlySortedBy key_cmp (keys_of counts) → All (λ count. 1 ≤ count) (values_of counts) → ((key : Key) → count_of counts key ≡ times key (open_keys lines)) → Tells (told_view counts) lines
+pub tells : (counts : Counts) (lines : List ShardWithJobs) → IsStrictlySortedBy key_cmp (keys_of counts) → All (λ count. 1 ≤ count) (values_of counts) → ((key : Key) → count_of counts key ≡ times key (open_keys lines)) → Tells (told_view counts) lines
 tells counts lines sorted some are = record {
   told = λ key weight i. let h = in_map (λ (e : Key × ℕ). (e.0, told_weight e.0 e.1)) counts (key, weight) i in told key weight h.0 h.1 (ap (λ (v : Key × ℕ). v.0) h.2) (ap (λ (v : Key × ℕ). v.1) h.2);
   all = λ key lt.
@@ -157,7 +157,7 @@ tells counts lines sorted some are = record {
 
 module _ (c : Cluster) (cluster : IsCluster c) (w : World) (size : length w.nodes ≡ length c.names)
     (sound : EachUp (λ n a. SoundNode (server_at c n a.inc) a.node) w) (counted : EachUp (λ n a. CountsAreOpen (server_at c n a.inc) a.node) w) where
-  line_settled : (line : Line) → is_line_settled line ≡ true → LineIsSettled line
+  line_settled : (line : ShardWithJobs) → is_line_settled line ≡ true → LineIsSettled line
   line_settled line e =
       let h = and_true (is_empty line.waiting) (is_none line.shard.hand && is_empty line.shard.deltas) e in
       let g = and_true (is_none line.shard.hand) (is_empty line.shard.deltas) h.1 in
@@ -250,15 +250,15 @@ module _ (c : Cluster) (cluster : IsCluster c) (w : World) (size : length w.node
       peers = λ m q a b apart at at2. peer_settled a b q at2 (node_settled b (here q b at2).node) (slice_get a.node.hub.peers q) refl (peers_settled m a 0 w.nodes (here m a at).peers q q b (omega arith) apart at2);
     }
 
-    said : Publication
-    said = record { conn = 0; said = record { message = record { subject = subject; reply = None; payload = [] }; echo = true }; word = 0 }
+    publication : Publication
+    publication = record { conn = 0; publication = record { message = record { subject = subject; reply = None; payload = [] }; echo = true }; word = 0 }
 
     is_few : (names : List (List ℕ)) → Pairs (λ x y. x ≢ y) names → Each (IsWantedName w subject) names → length names ≤ MAX_QUEUE_NAMES
     is_few [] apart wanted = omega arith
     is_few (name ∷ names) apart wanted =
         let x = wanted name (inl refl) in
         let lt : x.node < length c.names = (let s = size in let l = slice_get_within w.nodes x.node (Some x.a) x.up in omega (arith, s, l)) in
-        let f = fewer (name ∷ names) (queue_names (server_at c x.node x.a.inc) x.a.node.hub subject) apart (λ y i. wanted_is_named c cluster w x.node x.a (record { conn = 0; said = record { message = record { subject = subject; reply = None; payload = [] }; echo = true }; word = 0 }) lt x.up sound counted is_quiet y (wanted y i)) in
+        let f = fewer (name ∷ names) (queue_names (server_at c x.node x.a.inc) x.a.node.hub subject) apart (λ y i. wanted_is_named c cluster w x.node x.a (record { conn = 0; publication = record { message = record { subject = subject; reply = None; payload = [] }; echo = true }; word = 0 }) lt x.up sound counted is_quiet y (wanted y i)) in
         let g = le_true (length (queue_names (server_at c x.node x.a.inc) x.a.node.hub subject)) MAX_QUEUE_NAMES (here x.node x.a x.up).few in
         omega (arith, f, g)
 

@@ -28,7 +28,7 @@ use Rattle.shard_core.specs.Shards.{Client}
 use Rattle.sub_table.specs.declared.Subscription.{Subscription}
 use Rattle.node_law.specs.CountsOpen.{CountsAreOpen}
 use Rattle.node_law.specs.Sound.{SoundNode}
-use Rattle.node_law.specs.State.{Line}
+use Rattle.node_law.specs.State.{ShardWithJobs}
 use Rattle.sub_table.specs.Subscriptions.{matching_of}
 use Rattle.node_law.specs.Settled.{is_peer_settled, is_line_settled, is_node_settled, has_room_in}
 use Rattle.hub_core.specs.Settled.{has_few_names, knows_at}
@@ -108,7 +108,7 @@ told_rises : (counts : Counts) → IsStrictlySortedBy key_cmp (keys_of counts) �
 told_rises counts r = subst (IsStrictlySortedBy key_cmp) (sym (map_map (λ (e : Key × ℕ). (e.0, told_weight e.0 e.1)) (λ (e : Key × ℕ). e.0) counts)) r
 
 -- two views that tell of the same open subscriptions
-same_told : (xs ys : View) (lines : List Line) → Tells xs lines → Tells ys lines → (e : Key × ℕ) → In e xs → In e ys
+same_told : (xs ys : View) (lines : List ShardWithJobs) → Tells xs lines → Tells ys lines → (e : Key × ℕ) → In e xs → In e ys
 same_told xs ys lines f g e i =
     let h = f.told e.0 e.1 i in
     subst (λ k. In (e.0, k) ys) (sym h.1) (g.all e.0 h.0)
@@ -119,7 +119,7 @@ module _ (c : Cluster) (cluster : IsCluster c) (w : World) (size : length w.node
     (sound : EachUp (λ n a. SoundNode (server_at c n a.inc) a.node) w) (counted : EachUp (λ n a. CountsAreOpen (server_at c n a.inc) a.node) w)
     (rising : EachUp (λ n a. (q : ℕ) (peer : Peer) → slice_get a.node.hub.peers q ≡ Some peer → Rises peer.heard.keys) w)
     (subject : List ℕ) (settled : IsSettled c w subject) where
-  line_told : (line : Line) → LineIsSettled line → is_line_settled line ≡ true
+  line_told : (line : ShardWithJobs) → LineIsSettled line → is_line_settled line ≡ true
   line_told line s = λ i. is_empty (s.waiting i) && (is_none (s.hand i) && is_empty (s.told i))
 
   node_told : (n : ℕ) (a : Running) → slice_get w.nodes n ≡ Some (Some a) → is_node_settled a.node ≡ true
@@ -159,7 +159,7 @@ module _ (c : Cluster) (cluster : IsCluster c) (w : World) (size : length w.node
   few_told : (n : ℕ) (a : Running) → n < length c.names → slice_get w.nodes n ≡ Some (Some a) → has_few_names (server_at c n a.inc) a.node.hub subject ≡ true
   few_told n a lt at = is_at_most (length (queue_names (server_at c n a.inc) a.node.hub subject)) MAX_QUEUE_NAMES
       (settled.few (queue_names (server_at c n a.inc) a.node.hub subject) (names_distinct (server_at c n a.inc) a.node.hub subject)
-      (λ name i. name_is_wanted c cluster w n a (record { conn = 0; said = record { message = record { subject = subject; reply = None; payload = [] }; echo = true }; word = 0 }) lt at sound counted settled.quiet name i))
+      (λ name i. name_is_wanted c cluster w n a (record { conn = 0; publication = record { message = record { subject = subject; reply = None; payload = [] }; echo = true }; word = 0 }) lt at sound counted settled.quiet name i))
 
   all_told : (q : ℕ) (nodes : List (Option Running)) → ((k j : ℕ) → k ≡ q + j → j < length nodes → (k < length c.names) × ((b : Running) × (slice_get nodes j ≡ Some (Some b)) × (slice_get w.nodes k ≡ Some (Some b)))) → are_settled c subject w.nodes q nodes ≡ true
   all_told q [] each = refl
@@ -186,7 +186,7 @@ module _ (c : Cluster) (cluster : IsCluster c) (w : World) (size : length w.node
 -- ---- room
 
 module _ (w : World) (message : Content) (roomy : IsRoomy w message) where
-  line_roomy : (n : ℕ) (a : Running) (place : ℕ) (line : Line) → slice_get w.nodes n ≡ Some (Some a) → slice_get a.node.lines place ≡ Some line → has_room_in message line ≡ true
+  line_roomy : (n : ℕ) (a : Running) (place : ℕ) (line : ShardWithJobs) → slice_get w.nodes n ≡ Some (Some a) → slice_get a.node.lines place ≡ Some line → has_room_in message line ≡ true
   line_roomy n a place line at here = all_so (λ (client : Client). takes_all message (matching_of client.number message.subject line.shard.subs) client) line.shard.clients (λ client i.
       takes (matching_of client.number message.subject line.shard.subs) client (roomy.room n a at place line here client i))
     where

@@ -24,7 +24,7 @@ use Rattle.node_law.specs.CountsOpen.{CountsAreOpen}
 use Rattle.node_law.specs.EachShard.{ShardsAreHeld}
 use Rattle.node_law.specs.Events.{Publish}
 use Rattle.node_law.specs.Sound.{SoundNode}
-use Rattle.node_law.specs.State.{Line, finished_turns}
+use Rattle.node_law.specs.State.{ShardWithJobs, finished_turns}
 use Rattle.world_law.specs.Changes.{PlacementsAreOne}
 use Rattle.world_law.specs.Events.{Event, At, Receive, frame_at}
 use Rattle.world_law.specs.Headline.{IsCluster, Headline, EachUp}
@@ -54,8 +54,8 @@ module _ (headline : (c : Cluster) → IsCluster c → (events : List Event) (w 
     (are_sound : (c : Cluster) → IsCluster c → (events : List Event) (w : World) → Run c (new_world c) events w → EachUp (λ n a. SoundNode (server_at c n a.inc) a.node) w)
     (keeps : EachKeepsItsLaws) (one : PlacementsAreOne) (placed : PutsArePlaced) (lives : LivesAreOpen)
     (c : Cluster) (cluster : IsCluster c) (events : List Event) (w : World) (run : Run c (new_world c) events w)
-    (n : ℕ) (a : Running) (p : Publication) (up : slice_get w.nodes n ≡ Some (Some a)) (echo : p.said.echo ≡ true)
-    (settled : IsSettled c w (subject_of p)) (roomy : IsRoomy w p.said.message) (marks : MarksAreReached w)
+    (n : ℕ) (a : Running) (p : Publication) (up : slice_get w.nodes n ≡ Some (Some a)) (echo : p.publication.echo ≡ true)
+    (settled : IsSettled c w (subject_of p)) (roomy : IsRoomy w p.publication.message) (marks : MarksAreReached w)
     (order : List Event) (is_order : IsOrder c w n a p order) where
   below : n < length c.names
   below = up_is_listed c events w run n (Some a) up
@@ -82,7 +82,7 @@ module _ (headline : (c : Cluster) → IsCluster c → (events : List Event) (w 
   tasks m = task_if (nat_eq m n) m
 
   abbrev routed_task : Running → ℕ → Peer → Task
-  routed_task b q peer = record { inc = b.inc; job = routed_job b.node.hub (frame_for c cluster w n a p below up sound counted settled.quiet q peer) p.said.message (names_for (choice_of (server_at c n a.inc) a.node.hub p) (name_of (server_at c n a.inc) q) (names_of (server_at c n a.inc) a.node.hub p)); starts = b.node.lines }
+  routed_task b q peer = record { inc = b.inc; job = routed_job b.node.hub (frame_for c cluster w n a p below up sound counted settled.quiet q peer) p.publication.message (names_for (choice_of (server_at c n a.inc) a.node.hub p) (name_of (server_at c n a.inc) q) (names_of (server_at c n a.inc) a.node.hub p)); starts = b.node.lines }
 
   -- the frame that is found is the server's
   found_frame : (m : ℕ) (h : Found c.names m (suc (length w.sent)) (slice_get w.nodes m) (frames_of (server_at c n a.inc) a.node.hub p)) → Sent c cluster w n a p below up sound counted settled.quiet h.frame
@@ -150,15 +150,15 @@ module _ (headline : (c : Cluster) → IsCluster c → (events : List Event) (w 
                 let u = settled.quiet.up m lt in
                 let b : Running = u.0 in
                 let is : h.frame ≡ frame_for c cluster w n a p below up sound counted settled.quiet m (settled.quiet.peers n m a u.0 far up u.1).peer = found_is m lt h u.0 far u.1 in
-                let body : h.frame.body ≡ Msg p.said.message (names_for (choice_of (server_at c n a.inc) a.node.hub p) (name_of (server_at c n a.inc) m) (names_of (server_at c n a.inc) a.node.hub p)) = ap (λ (f : Frame). f.body) is in
-                let t : Task = record { inc = u.0.inc; job = routed_job u.0.node.hub h.frame p.said.message (names_for (choice_of (server_at c n a.inc) a.node.hub p) (name_of (server_at c n a.inc) m) (names_of (server_at c n a.inc) a.node.hub p)); starts = u.0.node.lines } in
+                let body : h.frame.body ≡ Msg p.publication.message (names_for (choice_of (server_at c n a.inc) a.node.hub p) (name_of (server_at c n a.inc) m) (names_of (server_at c n a.inc) a.node.hub p)) = ap (λ (f : Frame). f.body) is in
+                let t : Task = record { inc = u.0.inc; job = routed_job u.0.node.hub h.frame p.publication.message (names_for (choice_of (server_at c n a.inc) a.node.hub p) (name_of (server_at c n a.inc) m) (names_of (server_at c n a.inc) a.node.hub p)); starts = u.0.node.lines } in
                 let task : task_in c.names m (slice_get w.nodes m) (frames_of (server_at c n a.inc) a.node.hub p) ≡ Some t = h.task ∙ ap (λ s. task_of s h.frame) u.1 ∙ ap (task_of_body u.0 h.frame) body in
                 subst (NodeStage c w1 m order) (sym task) (inl (record {
                   a = u.0;
                   up = j.others m (λ f. far (sym f)) ∙ u.1;
                   k = h.k;
                   frame = h.frame;
-                  content = p.said.message;
+                  content = p.publication.message;
                   queues = (names_for (choice_of (server_at c n a.inc) a.node.hub p) (name_of (server_at c n a.inc) m) (names_of (server_at c n a.inc) a.node.hub p));
                   at = ap (frame_at h.k) sent ∙ sent_at w.sent (frames_of (server_at c n a.inc) a.node.hub p) h.j h.k h.frame h.at h.sum;
                   body = body;
@@ -178,7 +178,7 @@ module _ (headline : (c : Cluster) → IsCluster c → (events : List Event) (w 
     inc : t.inc ≡ b.inc
     starts : t.starts ≡ b.node.lines
     id : t.job.id ≡ next_id (server_at c n a.inc) a.node.hub
-    message : t.job.message ≡ p.said.message
+    message : t.job.message ≡ p.publication.message
     echoed : t.job.echo ≡ true
     queues : t.job.queues ≡ (names_for (choice_of (server_at c n a.inc) a.node.hub p) (name_of (server_at c n a.inc) m) (names_of (server_at c n a.inc) a.node.hub p))
 
@@ -194,14 +194,14 @@ module _ (headline : (c : Cluster) → IsCluster c → (events : List Event) (w 
       found : Found c.names m (suc (length w.sent)) (slice_get w.nodes m) (frames_of (server_at c n a.inc) a.node.hub p) → HasTask m b
       found h =
           let is : h.frame ≡ frame_for c cluster w n a p below up sound counted settled.quiet m (settled.quiet.peers n m a b far up at).peer = found_is m lt h b far at in
-          let body : h.frame.body ≡ Msg p.said.message (names_for (choice_of (server_at c n a.inc) a.node.hub p) (name_of (server_at c n a.inc) m) (names_of (server_at c n a.inc) a.node.hub p)) = ap (λ (f : Frame). f.body) is in
-          let t : Task = record { inc = b.inc; job = routed_job b.node.hub h.frame p.said.message (names_for (choice_of (server_at c n a.inc) a.node.hub p) (name_of (server_at c n a.inc) m) (names_of (server_at c n a.inc) a.node.hub p)); starts = b.node.lines } in
+          let body : h.frame.body ≡ Msg p.publication.message (names_for (choice_of (server_at c n a.inc) a.node.hub p) (name_of (server_at c n a.inc) m) (names_of (server_at c n a.inc) a.node.hub p)) = ap (λ (f : Frame). f.body) is in
+          let t : Task = record { inc = b.inc; job = routed_job b.node.hub h.frame p.publication.message (names_for (choice_of (server_at c n a.inc) a.node.hub p) (name_of (server_at c n a.inc) m) (names_of (server_at c n a.inc) a.node.hub p)); starts = b.node.lines } in
           record {
             t = t;
             is = ap (λ b. task_if b m) (false_eq m n (λ f. far (sym f))) ∙ h.task ∙ ap (λ s. task_of s h.frame) at ∙ ap (task_of_body b h.frame) body;
             inc = refl;
             starts = refl;
-            id = ap (λ (f : Frame). (routed_job b.node.hub f p.said.message (names_for (choice_of (server_at c n a.inc) a.node.hub p) (name_of (server_at c n a.inc) m) (names_of (server_at c n a.inc) a.node.hub p))).id) is;
+            id = ap (λ (f : Frame). (routed_job b.node.hub f p.publication.message (names_for (choice_of (server_at c n a.inc) a.node.hub p) (name_of (server_at c n a.inc) m) (names_of (server_at c n a.inc) a.node.hub p))).id) is;
             message = refl;
             echoed = refl;
             queues = refl;
@@ -227,12 +227,12 @@ module _ (headline : (c : Cluster) → IsCluster c → (events : List Event) (w 
     holds : Headline w'
     holds = headline c cluster worked.1.1.events w' worked.1.1.run
 
-    goals : (m : ℕ) (b : Running) → slice_get w.nodes m ≡ Some (Some b) → (h : HasTask m b) (place : ℕ) (start : Line) → slice_get b.node.lines place ≡ Some start → Goals w' m h.t.inc h.t.job start (length h.t.job.queues)
+    goals : (m : ℕ) (b : Running) → slice_get w.nodes m ≡ Some (Some b) → (h : HasTask m b) (place : ℕ) (start : ShardWithJobs) → slice_get b.node.lines place ≡ Some start → Goals w' m h.t.inc h.t.job start (length h.t.job.queues)
     goals m b at h place start here = all_placed one placed c (are_sound c cluster) held_law tasks errands w' worked.1.1 worked.1.0 m (up_is_listed c events w run m (Some b) at) h.t h.is place start (ap (λ ls. slice_get ls place) h.starts ∙ here)
 
     -- ---- plain subscriptions
 
-    plain_at : (m : ℕ) (b : Running) → slice_get w.nodes m ≡ Some (Some b) → HasTask m b → (place : ℕ) (line : Line) → slice_get b.node.lines place ≡ Some line → (u : Subscription) → In u line.shard.subs → u.key.queue ≡ None → subject_matches u.key.pattern (subject_of p) ≡ true
+    plain_at : (m : ℕ) (b : Running) → slice_get w.nodes m ≡ Some (Some b) → HasTask m b → (place : ℕ) (line : ShardWithJobs) → slice_get b.node.lines place ≡ Some line → (u : Subscription) → In u line.shard.subs → u.key.queue ≡ None → subject_matches u.key.pattern (subject_of p) ≡ true
         → IsPlaced w' (next_id (server_at c n a.inc) a.node.hub) (record { node = m; inc = b.inc; sub = id_of line.shard.shard u.serial })
     plain_at m b at h place line here u i plain matches =
         let g = goals m b at h place line here in

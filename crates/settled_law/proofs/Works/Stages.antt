@@ -9,7 +9,7 @@ use Rattle.list_laws.proofs.Changes.{get_set_here, get_set_there, in_mapped, fil
 use Rattle.list_laws.proofs.Tests.{true_eq, false_eq, eq_true, eq_false}
 use Rattle.outbox.specs.declared.entries.Mode.TheVariants.{Plain}
 use Rattle.sub_table.specs.declared.Subscription.{Subscription}
-use Rattle.subj.specs.Servers.{Server}
+use Rattle.subj.specs.Servers.{ServerIdentity}
 use Rattle.subj.specs.declared.jobs.Job.{Job}
 use Rattle.subj.specs.declared.limits.TheConstants.{WINDOW}
 use Rattle.claim_race.specs.Race.{RaceState, winner, winner_after, IsClaimed, IsFinished}
@@ -28,7 +28,7 @@ use Rattle.node_law.specs.declared.faults.NodeFault.TheVariants as fault
 use Rattle.node_law.specs.Events.{AtShard}
 use Rattle.shard_core.specs.declared.faults.ShardFault.TheVariants.{JobInHand, WrongTurn, BadIndex, NotAllTried}
 use Rattle.node_law.specs.Sound.{SoundNode}
-use Rattle.node_law.specs.State.{Line}
+use Rattle.node_law.specs.State.{ShardWithJobs}
 use Rattle.node_law.specs.Steps.{ClaimRace, line_after_if, work_event, begin_of, work_refusal, event_refusal}
 use Rattle.world_law.specs.Changes.{PlacementsAreOne, placement_of}
 use Rattle.world_law.specs.Events.{Event, At}
@@ -45,18 +45,18 @@ use Rattle.settled_law.proofs.Works.Steps.{WorksAt, works_at, more_placed, more_
 
 -- ---- what was placed so far: for plain subscriptions, and for the queue names before an index
 
-pub record Goals (w : World) (m inc : ℕ) (job : Job) (start : Line) (i : ℕ) : Type 0 where
+pub record Goals (w : World) (m inc : ℕ) (job : Job) (start : ShardWithJobs) (i : ℕ) : Type 0 where
   pub plain : (u : Subscription) → In u start.shard.subs → is_due job u ≡ true → IsPlaced w job.id (record { node = m; inc = inc; sub = id_of start.shard.shard u.serial })
   pub groups : (j : ℕ) (name : List ℕ) → j < i → slice_get job.queues j ≡ Some name → (u : Subscription) → In u start.shard.subs → IsMember job.message.subject name u → IsServed w job.id name
 
 -- ---- a line waits, works, or is over
 
-pub record Waits (m place : ℕ) (job : Job) (start line : Line) (left : List Event) : Type 0 where
+pub record Waits (m place : ℕ) (job : Job) (start line : ShardWithJobs) (left : List Event) : Type 0 where
   pub left_is : left ≡ work_events m (suc place) (length job.queues)
   pub shard : line.shard ≡ start.shard
   pub waiting : line.waiting ≡ job ∷ []
 
-pub record Working (w : World) (m inc place : ℕ) (job : Job) (start line : Line) (left : List Event) : Type 0 where
+pub record Working (w : World) (m inc place : ℕ) (job : Job) (start line : ShardWithJobs) (left : List Event) : Type 0 where
   pub i : ℕ
   pub count : ℕ
   pub left_is : left ≡ claims_from m (suc place) i count
@@ -64,52 +64,52 @@ pub record Working (w : World) (m inc place : ℕ) (job : Job) (start line : Lin
   pub works : Works start.shard job i line.shard
   pub goals : Goals w m inc job start i
 
-pub record Over (w : World) (m inc place : ℕ) (job : Job) (start line : Line) (left : List Event) : Type 0 where
+pub record Over (w : World) (m inc place : ℕ) (job : Job) (start line : ShardWithJobs) (left : List Event) : Type 0 where
   pub left_is : left ≡ []
   pub goals : Goals w m inc job start (length job.queues)
 
-abbrev pub Stage : World → ℕ → ℕ → ℕ → Job → Line → Line → List Event → Type 0
+abbrev pub Stage : World → ℕ → ℕ → ℕ → Job → ShardWithJobs → ShardWithJobs → List Event → Type 0
 Stage w m inc place job start line left = Waits m place job start line left ⊎ (Working w m inc place job start line left ⊎ Over w m inc place job start line left)
 
 -- where it all began
-pub record Rests (job : Job) (start : Line) : Type 0 where
+pub record Rests (job : Job) (start : ShardWithJobs) : Type 0 where
   pub held : AreHeld start.shard
   pub room : HasRoom job.message start.shard
   pub hand : start.shard.hand ≡ None
   pub waiting : start.waiting ≡ []
   pub turn : job.turn ≡ start.shard.finished + 1
 
-pub record Errand (c : Cluster) (job : Job) (starts : List Line) : Type 0 where
+pub record Errand (c : Cluster) (job : Job) (starts : List ShardWithJobs) : Type 0 where
   pub echo : job.echo ≡ true
   pub names : Pairs (λ a b. a ≢ b) job.queues
   pub size : length starts ≡ c.shards
-  pub rest : (place : ℕ) (start : Line) → slice_get starts place ≡ Some start → Rests job start
+  pub rest : (place : ℕ) (start : ShardWithJobs) → slice_get starts place ≡ Some start → Rests job start
 
-pub record Busy (w : World) (m inc : ℕ) (job : Job) (starts : List Line) (left : List Event) : Type 0 where
+pub record Busy (w : World) (m inc : ℕ) (job : Job) (starts : List ShardWithJobs) (left : List Event) : Type 0 where
   pub a : Running
   pub up : slice_get w.nodes m ≡ Some (Some a)
   pub inc_is : a.inc ≡ inc
   pub issued : a.node.race.issued ≡ job.turn
-  pub lines : (place : ℕ) (start line : Line) → slice_get starts place ≡ Some start → slice_get a.node.lines place ≡ Some line → Stage w m inc place job start line (filter (is_for m (suc place)) left)
+  pub lines : (place : ℕ) (start line : ShardWithJobs) → slice_get starts place ≡ Some start → slice_get a.node.lines place ≡ Some line → Stage w m inc place job start line (filter (is_for m (suc place)) left)
   pub won : (i : ℕ) (name : List ℕ) → is_some (winner a.node.race job.turn i) ≡ true → slice_get job.queues i ≡ Some name → IsServed w job.id name
 
 -- ---- what was placed stays so
 
 module _ (w w' : World) (gained : List Placement) (more : w'.placements ≡ w.placements ++ gained) where
-  pub goals_more : (m inc : ℕ) (job : Job) (start : Line) (i : ℕ) → Goals w m inc job start i → Goals w' m inc job start i
+  pub goals_more : (m inc : ℕ) (job : Job) (start : ShardWithJobs) (i : ℕ) → Goals w m inc job start i → Goals w' m inc job start i
   goals_more m inc job start i g = record {
     plain = λ u j due. more_placed w w' gained more job.id (record { node = m; inc = inc; sub = id_of start.shard.shard u.serial }) (g.plain u j due);
     groups = λ j name lt at u k is. more_served w w' gained more job.id name (g.groups j name lt at u k is);
   }
 
-  pub stage_more : (m inc place : ℕ) (job : Job) (start line : Line) (left : List Event) → Stage w m inc place job start line left → Stage w' m inc place job start line left
+  pub stage_more : (m inc place : ℕ) (job : Job) (start line : ShardWithJobs) (left : List Event) → Stage w m inc place job start line left → Stage w' m inc place job start line left
   stage_more m inc place job start line left s = ⊎_elim (λ (x : Waits m place job start line left). inl x)
       (λ s. ⊎_elim
       (λ (x : Working w m inc place job start line left). inr (inl (record { i = x.i; count = x.count; left_is = x.left_is; sum = x.sum; works = x.works; goals = goals_more m inc job start x.i x.goals })))
       (λ (x : Over w m inc place job start line left). inr (inr (record { left_is = x.left_is; goals = goals_more m inc job start (length job.queues) x.goals }))) s) s
 
 -- a put message is placed
-pub put_is_placed : (server : Server) (now : ℕ) (put : Placed) (puts : List Placed) (x : Placement) → In put puts → In x (placement_of server now put.conn put.entry.bytes put.entry.tag) → In x (placements_put server now puts)
+pub put_is_placed : (server : ServerIdentity) (now : ℕ) (put : Placed) (puts : List Placed) (x : Placement) → In put puts → In x (placement_of server now put.conn put.entry.bytes put.entry.tag) → In x (placements_put server now puts)
 put_is_placed server now put [] x i j = absurd i
 put_is_placed server now put (other ∷ puts) x i j = ⊎_elim
     (λ (e : put ≡ other). in_left x (placement_of server now other.conn other.entry.bytes other.entry.tag) (placements_put server now puts) (subst (λ (p : Placed). In x (placement_of server now p.conn p.entry.bytes p.entry.tag)) e j))
@@ -141,7 +141,7 @@ in_window_of turn race is = omega (arith, is)
 
 -- ---- a step of work
 
-module _ (one : PlacementsAreOne) (placed : PutsArePlaced) (c : Cluster) (w : World) (m inc : ℕ) (job : Job) (starts : List Line) (errand : Errand c job starts) (place : ℕ) (start line : Line) (a : Running) (at_start : slice_get starts place ≡ Some start)
+module _ (one : PlacementsAreOne) (placed : PutsArePlaced) (c : Cluster) (w : World) (m inc : ℕ) (job : Job) (starts : List ShardWithJobs) (errand : Errand c job starts) (place : ℕ) (start line : ShardWithJobs) (a : Running) (at_start : slice_get starts place ≡ Some start)
     (up : slice_get w.nodes m ≡ Some (Some a)) (at : slice_get a.node.lines place ≡ Some line) (inc_is : a.inc ≡ inc) (issued : a.node.race.issued ≡ job.turn) (sound : SoundNode (server_at c m a.inc) a.node) (held : AreHeld line.shard) where
   rest : Rests job start
   rest = errand.rest place start at_start
@@ -151,7 +151,7 @@ module _ (one : PlacementsAreOne) (placed : PutsArePlaced) (c : Cluster) (w : Wo
       → t.race.issued ≡ job.turn
       → Stage w' m inc place job start (line_after_if (work_event work won line) line) (filter (is_for m (suc place)) es)
       → ((i : ℕ) (name : List ℕ) → is_some (winner t.race job.turn i) ≡ true → slice_get job.queues i ≡ Some name → IsServed w' job.id name)
-      → ((p : ℕ) (start line : Line) → slice_get starts p ≡ Some start → slice_get a.node.lines p ≡ Some line → Stage w m inc p job start line (filter (is_for m (suc p)) (e ∷ es)))
+      → ((p : ℕ) (start line : ShardWithJobs) → slice_get starts p ≡ Some start → slice_get a.node.lines p ≡ Some line → Stage w m inc p job start line (filter (is_for m (suc p)) (e ∷ es)))
       → Busy w' m inc job starts es
   next e es work won w' is t race_issued stage winners before = record {
     a = record { inc = a.inc; node = record a.node { lines = set a.node.lines place (line_after_if (work_event work won line) line); race = t.race } };
@@ -162,14 +162,14 @@ module _ (one : PlacementsAreOne) (placed : PutsArePlaced) (c : Cluster) (w : Wo
     won = winners;
   }
     where
-      by : (p : ℕ) (start2 line2 : Line) → slice_get starts p ≡ Some start2 → slice_get (set a.node.lines place (line_after_if (work_event work won line) line)) p ≡ Some line2 → (b : Bool) → nat_eq p place ≡ b → Stage w' m inc p job start2 line2 (filter (is_for m (suc p)) es)
+      by : (p : ℕ) (start2 line2 : ShardWithJobs) → slice_get starts p ≡ Some start2 → slice_get (set a.node.lines place (line_after_if (work_event work won line) line)) p ≡ Some line2 → (b : Bool) → nat_eq p place ≡ b → Stage w' m inc p job start2 line2 (filter (is_for m (suc p)) es)
       by p start2 line2 s l true here =
           let q : p ≡ place = eq_true p place here in
           let s2 : start ≡ start2 = same_Some start start2 (sym at_start ∙ sym (ap (slice_get starts) q) ∙ s) in
           let l2 : line_after_if (work_event work won line) line ≡ line2 = same_Some (line_after_if (work_event work won line) line) line2 (sym (get_set_here a.node.lines place line (line_after_if (work_event work won line) line) at) ∙ sym (ap (slice_get (set a.node.lines place (line_after_if (work_event work won line) line))) q) ∙ l) in
           subst (λ n. Stage w' m inc n job start2 line2 (filter (is_for m (suc n)) es)) (sym q)
-          (subst (λ (x : Line). Stage w' m inc place job start2 x (filter (is_for m (suc place)) es)) l2
-          (subst (λ (x : Line). Stage w' m inc place job x (line_after_if (work_event work won line) line) (filter (is_for m (suc place)) es)) s2 stage))
+          (subst (λ (x : ShardWithJobs). Stage w' m inc place job start2 x (filter (is_for m (suc place)) es)) l2
+          (subst (λ (x : ShardWithJobs). Stage w' m inc place job x (line_after_if (work_event work won line) line) (filter (is_for m (suc place)) es)) s2 stage))
       by p start2 line2 s l false there =
           let apart : p ≢ place = eq_false p place there in
           let old : slice_get a.node.lines p ≡ Some line2 = sym (get_set_there a.node.lines place p (line_after_if (work_event work won line) line) apart) ∙ l in
@@ -182,7 +182,7 @@ module _ (one : PlacementsAreOne) (placed : PutsArePlaced) (c : Cluster) (w : Wo
   Done_so e es outcome w' = ((told : _) × (outcome ≡ Done told)) × (Busy w' m inc job starts es × (((o : ℕ) → o ≢ m → slice_get w'.nodes o ≡ slice_get w.nodes o) × ((w'.sent ≡ w.sent) × ((gained : List Placement) × (w'.placements ≡ w.placements ++ gained)))))
 
   module _ (e : Event) (es : List Event) (passes : is_for m (suc place) e ≡ true) (outcome : Outcome) (w' : World) (step : WorldStep c w e outcome w')
-      (stages : (p : ℕ) (start line : Line) → slice_get starts p ≡ Some start → slice_get a.node.lines p ≡ Some line → Stage w m inc p job start line (filter (is_for m (suc p)) (e ∷ es)))
+      (stages : (p : ℕ) (start line : ShardWithJobs) → slice_get starts p ≡ Some start → slice_get a.node.lines p ≡ Some line → Stage w m inc p job start line (filter (is_for m (suc p)) (e ∷ es)))
       (won_before : (i : ℕ) (name : List ℕ) → is_some (winner a.node.race job.turn i) ≡ true → slice_get job.queues i ≡ Some name → IsServed w job.id name) where
     -- ---- Begin
 

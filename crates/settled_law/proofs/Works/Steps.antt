@@ -22,7 +22,7 @@ use Rattle.subj.specs.Messages.{Content}
 use Rattle.world_law.specs.declared.faults.WorldFault.TheVariants as fault
 use Rattle.world_law.specs.Events as of_world
 use Rattle.node_law.specs.Sound.{SoundNode}
-use Rattle.node_law.specs.State.{Line, Node, finished_turns}
+use Rattle.node_law.specs.State.{ShardWithJobs, Node, finished_turns}
 use Rattle.node_law.specs.Steps.{NodeStep, NodeRace, WorkRace, shard_line, set_line, line_after_if, work_event, own_after, node_after, work_refusal, line_with_job, lines_after_body, node_frames, BodyRace}
 use Rattle.world_law.specs.Changes.{AreGained, PlacementsAreOne}
 use Rattle.world_law.specs.Events.{At, frame_at, numbered_event}
@@ -51,7 +51,7 @@ more_served w w' gained e id name p = record { placement = p.placement; there = 
 
 -- ---- what a step of work does
 
-pub record WorksAt (c : Cluster) (w : World) (m place : ℕ) (work : ShardWork) (a : Running) (line : Line) (won : Bool) (w' : World) : Type 0 where
+pub record WorksAt (c : Cluster) (w : World) (m place : ℕ) (work : ShardWork) (a : Running) (line : ShardWithJobs) (won : Bool) (w' : World) : Type 0 where
   pub race : RaceState
   pub moves : WorkRace a.node.race (suc place) work (Some line) won race
   pub nodes : slice_get w'.nodes m ≡ Some (Some (record { inc = a.inc; node = record a.node { lines = set a.node.lines place (line_after_if (work_event work won line) line); race = race } }))
@@ -59,7 +59,7 @@ pub record WorksAt (c : Cluster) (w : World) (m place : ℕ) (work : ShardWork) 
   pub sent : w'.sent ≡ w.sent
   pub placements : w'.placements ≡ w.placements ++ placements_put (server_at c m a.inc) (suc w.step) (put_if line (work_event work won line))
 
-module _ (one : PlacementsAreOne) (placed : PutsArePlaced) (c : Cluster) (w : World) (m place : ℕ) (work : ShardWork) (a : Running) (line : Line) (up : slice_get w.nodes m ≡ Some (Some a)) (at : slice_get a.node.lines place ≡ Some line) (sound : SoundNode (server_at c m a.inc) a.node) where
+module _ (one : PlacementsAreOne) (placed : PutsArePlaced) (c : Cluster) (w : World) (m place : ℕ) (work : ShardWork) (a : Running) (line : ShardWithJobs) (up : slice_get w.nodes m ≡ Some (Some a)) (at : slice_get a.node.lines place ≡ Some line) (sound : SoundNode (server_at c m a.inc) a.node) where
   not_refused : work_refusal work (Some line) ≡ None → world_refusal c w (At m (AtShard (suc place) work)) ≡ None
   not_refused none =
       ap (refusal_at c m (Some (Own (AtShard (suc place) work)))) up

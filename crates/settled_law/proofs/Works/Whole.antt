@@ -14,7 +14,7 @@ use Rattle.route_values.specs.declared.frames.RouteFrame.TheVariants as route
 use Rattle.hub_core.specs.Receiving.{receive_refusal, routed_job}
 use Rattle.node_law.specs.EachShard.{ShardsAreHeld}
 use Rattle.node_law.specs.Sound.{SoundNode}
-use Rattle.node_law.specs.State.{Line, finished_turns}
+use Rattle.node_law.specs.State.{ShardWithJobs, finished_turns}
 use Rattle.node_law.specs.Steps.{line_with_job}
 use Rattle.world_law.specs.Changes.{PlacementsAreOne}
 use Rattle.world_law.specs.Events.{Event, Start, Stop, Receive, OnInfo, OnConnect, At, frame_at}
@@ -53,7 +53,7 @@ pub record Reached (c : Cluster) (w : World) : Type 0 where
 pub record Task : Type 0 where
   pub inc : ℕ
   pub job : Job
-  pub starts : List Line
+  pub starts : List ShardWithJobs
 
 pub record Comes (c : Cluster) (w : World) (m : ℕ) (t : Task) (left : List Event) : Type 0 where
   pub a : Running
@@ -87,8 +87,8 @@ comes c w m a job w' es sound turn errand j left = record {
       let g : line ≡ line_with_job job start = e.2 ∙ ap (line_with_job job) (sym f) in
       inl (record {
         left_is = left place (below place start s);
-        shard = ap (λ (x : Line). x.shard) g;
-        waiting = ap (λ (x : Line). x.waiting) g ∙ ap (λ l. l ++ job ∷ []) (errand.rest place start s).waiting;
+        shard = ap (λ (x : ShardWithJobs). x.shard) g;
+        waiting = ap (λ (x : ShardWithJobs). x.waiting) g ∙ ap (λ l. l ++ job ∷ []) (errand.rest place start s).waiting;
       });
   won = λ i name some q. absurd (true≢false (sym some ∙ ap is_some (ap (λ t. winner j.b.node.race t i) (sym now) ∙ j.moves.fresh i)));
 }
@@ -96,7 +96,7 @@ comes c w m a job w' es sound turn errand j left = record {
     now : a.node.race.issued + 1 ≡ job.turn
     now = let e = sound.issued in omega (arith, turn, e)
 
-    below : (place : ℕ) (start : Line) → slice_get a.node.lines place ≡ Some start → place < c.shards
+    below : (place : ℕ) (start : ShardWithJobs) → slice_get a.node.lines place ≡ Some start → place < c.shards
     below place start s = let size = errand.size in let lt = slice_get_within a.node.lines place start s in omega (arith, size, lt)
 
 -- ---- a step of an order, and a whole order
@@ -200,7 +200,7 @@ module _ (one : PlacementsAreOne) (placed : PutsArePlaced) (c : Cluster)
       by o below s x false apart = others_stay w run.0 (only e (inl refl)).node o (only e (inl refl)).place e es s.gained (eq_false o (only e (inl refl)).node apart) (only e (inl refl)).is (s.others o (eq_false o (only e (inl refl)).node apart)) s.sent s.placements (tasks o) x
 
   -- at the end all is placed
-  pub all_placed : (w : World) → Reached c w → Inv w [] → (m : ℕ) → m < length c.names → (t : Task) → tasks m ≡ Some t → (place : ℕ) (start : Line) → slice_get t.starts place ≡ Some start → Goals w m t.inc t.job start (length t.job.queues)
+  pub all_placed : (w : World) → Reached c w → Inv w [] → (m : ℕ) → m < length c.names → (t : Task) → tasks m ≡ Some t → (place : ℕ) (start : ShardWithJobs) → slice_get t.starts place ≡ Some start → Goals w m t.inc t.job start (length t.job.queues)
   all_placed w reached inv m below t is place start at = ⊎_elim never busy (subst (NodeStage c w m []) is (inv m below))
     where
       lt : place < c.shards

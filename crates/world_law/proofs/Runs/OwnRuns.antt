@@ -15,7 +15,7 @@ use Rattle.hub_core.specs.Publishing.{frames_of}
 use Rattle.route_values.specs.Frames.{Frame}
 use Rattle.route_values.specs.declared.frames.RouteFrame.{RouteFrame}
 use Rattle.route_values.specs.declared.frames.RouteFrame.TheVariants as route
-use Rattle.subj.specs.Servers.{Server}
+use Rattle.subj.specs.Servers.{ServerIdentity}
 use Rattle.list_laws.specs.Lists.{In, Each}
 use Rattle.list_laws.proofs.Lists.{in_map, in_read, each_append}
 use Rattle.node_law.specs.Runs.{Done, Ran}
@@ -50,7 +50,7 @@ all_numbered frames f i = let m = in_map route.Numbered frames f i in subst IsTo
 one_told : (f x : RouteFrame) → IsToldOf f → x ≡ f → IsToldOf x
 one_told f x told e = subst IsToldOf (sym e) told
 
-frames_told : (server : Server) (a : Node) (e : NodeEvent) → 1 ≤ server.inc → Each IsToldOf (node_frames server a e)
+frames_told : (server : ServerIdentity) (a : Node) (e : NodeEvent) → 1 ≤ server.inc → Each IsToldOf (node_frames server a e)
 frames_told server a (of_node.Own (of_node.OfConn conn event)) some f i = absurd i
 frames_told server a (of_node.Own (of_node.AtShard shard work)) some f i = absurd i
 frames_told server a (of_node.Own (of_node.Publish p)) some f i = all_numbered (frames_of server a.hub p) f i

@@ -13,7 +13,7 @@ use Rattle.subj.specs.declared.identities.PubId.{PubId}
 use Rattle.subj.specs.declared.identities.SubId.{SubId}
 use Rattle.sub_table.specs.declared.Subscription.{Subscription}
 use Rattle.subj.specs.declared.jobs.Job.{Job}
-use Rattle.subj.specs.Servers.{Server}
+use Rattle.subj.specs.Servers.{ServerIdentity}
 use Rattle.route_values.specs.declared.bodies.Body.{Body}
 use Rattle.route_values.specs.declared.bodies.Body.TheVariants.{Plus, Minus, Snapshot, Msg}
 use Rattle.shard_core.specs.declared.calls.Placed.{Placed}
@@ -27,7 +27,7 @@ use Rattle.node_law.specs.Answers.{Nothing}
 use Rattle.node_law.specs.declared.events.ShardWork.{ShardWork}
 use Rattle.node_law.specs.declared.events.ShardWork.TheVariants.{Attach, Begin, Claim, End, DropJob}
 use Rattle.node_law.specs.Events.{OfConn, AtShard, Publish, Collect, Dial, Accept, CutSession, TakeFrames, NodeEvent, Own, Receive, OnInfo, OnConnect}
-use Rattle.node_law.specs.State.{Line, Node}
+use Rattle.node_law.specs.State.{ShardWithJobs, Node}
 use Rattle.node_law.specs.Steps.{NodeStep, NodeRace, WorkRace, ClaimRace, BodyRace, conn_line, conn_place, shard_line, conn_event, work_event, node_refusal}
 use Rattle.world_law.specs.declared.faults.WorldFault.{WorldFault}
 use Rattle.world_law.specs.declared.faults.WorldFault.TheVariants as fault
@@ -95,7 +95,7 @@ claim_moves race shard index None (Some u) = refl
 claim_moves race shard index (Some job) None = refl
 claim_moves race shard index (Some job) (Some u) = claims race shard job.turn index
 
-work_moves : (race : RaceState) (shard : ℕ) (work : ShardWork) (o : Option Line) → WorkRace race shard work o (work_wins race work o) (race_after_work race shard work o)
+work_moves : (race : RaceState) (shard : ℕ) (work : ShardWork) (o : Option ShardWithJobs) → WorkRace race shard work o (work_wins race work o) (race_after_work race shard work o)
 work_moves race shard work None = refl
 work_moves race shard Attach (Some line) = refl
 work_moves race shard Begin (Some line) = refl
@@ -125,7 +125,7 @@ node_moves a (OnConnect session connect) ahead = refl
 -- ---- what the step puts is what the outboxes gain
 
 -- of what is put, the entries of one connection are its placements
-placed_for_conn : (server : Server) (now conn : ℕ) (ps : List Placed) → filter (is_on conn) (placements_put server now ps) ≡ placements_of server now conn (entries_for conn ps)
+placed_for_conn : (server : ServerIdentity) (now conn : ℕ) (ps : List Placed) → filter (is_on conn) (placements_put server now ps) ≡ placements_of server now conn (entries_for conn ps)
 placed_for_conn server now conn [] = refl
 placed_for_conn server now conn (p ∷ ps) = go p.entry.tag (nat_eq p.conn conn) refl (placed_for_conn server now conn ps)
   where
@@ -143,7 +143,7 @@ abbrev pub put_of : Option Part → List Placed
 put_of None = []
 put_of (Some part) = put_by part.line.shard part.event
 
-put_in : (place : ℕ) (event : Line → Option of_shard.Event) (o : Option Line) → put_at o event ≡ put_of (part_at place event o)
+put_in : (place : ℕ) (event : ShardWithJobs → Option of_shard.Event) (o : Option ShardWithJobs) → put_at o event ≡ put_of (part_at place event o)
 put_in place event None = refl
 put_in place event (Some line) = go (event line)
   where
@@ -151,7 +151,7 @@ put_in place event (Some line) = go (event line)
     go None = refl
     go (Some e) = refl
 
-pub puts_are : (server : Server) (a : Node) (e : NodeEvent) (won : Bool) → puts server a e won ≡ put_of (part_of server a e won)
+pub puts_are : (server : ServerIdentity) (a : Node) (e : NodeEvent) (won : Bool) → puts server a e won ≡ put_of (part_of server a e won)
 puts_are server a (Own (OfConn conn event)) won = put_in (conn_place server conn) (λ line. Some (conn_event conn event)) (conn_line server a conn)
 puts_are server a (Own (AtShard shard work)) won = put_in (shard - 1) (work_event work won) (shard_line a shard)
 puts_are server a (Own (Publish p)) won = refl
@@ -167,7 +167,7 @@ puts_are server a (OnConnect session connect) won = refl
 abbrev pub Puts : Type 0
 Puts = (s : State) (e : of_shard.Event) (conn : ℕ) → ArePut s e conn
 
-puts_gained : Puts → (server : Server) (now : ℕ) (a b : Node) (e : NodeEvent) (won : Bool) (race : RaceState) (conn : ℕ) → NodeStep server a e won race b → filter (is_on conn) (placements_put server now (puts server a e won)) ≡ placements_of server now conn (new_entries a.lines b.lines conn)
+puts_gained : Puts → (server : ServerIdentity) (now : ℕ) (a b : Node) (e : NodeEvent) (won : Bool) (race : RaceState) (conn : ℕ) → NodeStep server a e won race b → filter (is_on conn) (placements_put server now (puts server a e won)) ≡ placements_of server now conn (new_entries a.lines b.lines conn)
 puts_gained h server now a b e won race conn step = placed_for_conn server now conn (puts server a e won) ∙ ap (λ t. placements_of server now conn (entries_for conn t)) (puts_are server a e won) ∙ sym (go (part_of server a e won) refl)
   where
     news_are : (q : ℕ) → news a.lines b.lines q conn ≡ entries_at (part_of server a e won) q conn

@@ -8,7 +8,7 @@ use Rattle.list_laws.proofs.Tests.{false_eq}
 use Rattle.claim_race.specs.Race.{RaceState, winner, winner_after, IsIssued, IsClaimed, IsFinished}
 use Rattle.sub_table.specs.declared.Subscription.{Subscription}
 use Rattle.subj.specs.declared.jobs.Job.{Job}
-use Rattle.subj.specs.Servers.{Server}
+use Rattle.subj.specs.Servers.{ServerIdentity}
 use Rattle.route_values.specs.declared.bodies.Body.{Body}
 use Rattle.route_values.specs.declared.bodies.Body.TheVariants.{Plus, Minus, Snapshot, Msg}
 use Rattle.shard_core.specs.Lines.{Turns, begun_turn}
@@ -18,7 +18,7 @@ use Rattle.node_law.specs.declared.events.ShardWork.TheVariants.{Attach, Begin, 
 use Rattle.node_law.specs.Events.{OfConn, AtShard, Publish, Collect, Dial, Accept, CutSession, TakeFrames, NodeEvent, Own, Receive, OnInfo, OnConnect}
 use Rattle.node_law.specs.Sound.{SoundNode}
 use Rattle.node_law.proofs.Moves.LineEvents.{found}
-use Rattle.node_law.specs.State.{Line, Node, new_race}
+use Rattle.node_law.specs.State.{ShardWithJobs, Node, new_race}
 use Rattle.node_law.specs.Steps.{NodeRace, WorkRace, ClaimRace, BodyRace, shard_line, node_after}
 use Rattle.world_law.specs.declared.faults.WorldFault.{WorldFault}
 use Rattle.world_law.specs.State.{Cluster, Running, World, new_world, server_at}
@@ -61,7 +61,7 @@ issued_turn : (begun : ℕ) (jobs : List Job) (issued : ℕ) → Turns begun job
 issued_turn begun [] issued h = omega arith
 issued_turn begun (job ∷ jobs) issued h = let le = issued_turn (suc begun) jobs issued h.1 in omega arith
 
-hand_issued : (server : Server) (a : Node) → SoundNode server a → (shard : ℕ) (line : Line) → shard_line a shard ≡ Some line → (job : Job) → line.shard.hand ≡ Some job → job.turn ≤ a.race.issued
+hand_issued : (server : ServerIdentity) (a : Node) → SoundNode server a → (shard : ℕ) (line : ShardWithJobs) → shard_line a shard ≡ Some line → (job : Job) → line.shard.hand ≡ Some job → job.turn ≤ a.race.issued
 hand_issued server a sound shard line at job hand =
     let l = (sound.lines (shard - 1) line (found (nat_eq shard 0) (slice_get a.lines (shard - 1)) line at)).sound in
     let is = l.hand job hand in
@@ -74,7 +74,7 @@ claim_ahead race after shard index None (Some u) won le r ahead = subst NoneAhea
 claim_ahead race after shard index (Some job) None won le r ahead = subst NoneAhead (sym r) ahead
 claim_ahead race after shard index (Some job) (Some u) won le r ahead = ahead_claimed race after shard job.turn index won (le job refl) r ahead
 
-work_ahead : (race after : RaceState) (shard : ℕ) (work : ShardWork) (o : Option Line) (won : Bool) → ((line : Line) → o ≡ Some line → (job : Job) → line.shard.hand ≡ Some job → job.turn ≤ race.issued) → WorkRace race shard work o won after → NoneAhead race → NoneAhead after
+work_ahead : (race after : RaceState) (shard : ℕ) (work : ShardWork) (o : Option ShardWithJobs) (won : Bool) → ((line : ShardWithJobs) → o ≡ Some line → (job : Job) → line.shard.hand ≡ Some job → job.turn ≤ race.issued) → WorkRace race shard work o won after → NoneAhead race → NoneAhead after
 work_ahead race after shard work None won le r ahead = subst NoneAhead (sym r) ahead
 work_ahead race after shard Attach (Some line) won le r ahead = subst NoneAhead (sym r) ahead
 work_ahead race after shard Begin (Some line) won le r ahead = subst NoneAhead (sym r) ahead
@@ -88,7 +88,7 @@ body_ahead a after (Minus key) r ahead = subst NoneAhead (sym r) ahead
 body_ahead a after (Snapshot keys) r ahead = subst NoneAhead (sym r) ahead
 body_ahead a after (Msg content queues) r ahead = ahead_issued a.race after r ahead
 
-after_ahead : (server : Server) (a : Node) (e : NodeEvent) (won : Bool) (race : RaceState) → SoundNode server a → NodeRace a e won race → NoneAhead a.race → NoneAhead (node_after server a e won race).race
+after_ahead : (server : ServerIdentity) (a : Node) (e : NodeEvent) (won : Bool) (race : RaceState) → SoundNode server a → NodeRace a e won race → NoneAhead a.race → NoneAhead (node_after server a e won race).race
 after_ahead server a (Own (OfConn conn event)) won race sound r ahead = ahead
 after_ahead server a (Own (AtShard shard work)) won race sound r ahead = work_ahead a.race race shard work (shard_line a shard) won (hand_issued server a sound shard) r ahead
 after_ahead server a (Own (Publish p)) won race sound r ahead = ahead_issued a.race race r ahead

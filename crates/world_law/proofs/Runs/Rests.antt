@@ -26,7 +26,7 @@ use Rattle.hub_core.specs.State.{Peer}
 use Rattle.hub_core.proofs.Neighbours.Views.{view_back, follows}
 use Rattle.shard_core.specs.Lines.{SoundLine, Turns, begun_turn}
 use Rattle.node_law.specs.AsLaw.{node_of, line_of}
-use Rattle.node_law.specs.State.{Line}
+use Rattle.node_law.specs.State.{ShardWithJobs}
 use Rattle.world_law.specs.Made.{Passed, passed_events, MadeChange, is_change_of, changes_in_life, jobs_made, changes_made}
 use Rattle.world_law.specs.RestsOn.{Message, message_in, messages_in, OneMessage, TakenOnce, IsViewOf, in_line, IsLine, RestsOn, FinishedStays}
 use Rattle.world_law.specs.State.{Cluster, World, new_world, server_at}
@@ -88,10 +88,10 @@ turns_rise : (begun : ℕ) (jobs : List Job) (issued : ℕ) → Turns begun jobs
 turns_rise begun [] issued h = tt
 turns_rise begun (job ∷ jobs) issued h = (λ x i. let lt = turns_above (suc begun) jobs issued h.1 x i in let first = h.0 in omega arith, turns_rise (suc begun) jobs issued h.1)
 
-abbrev Ordered : Line → Option Job → Type 0
+abbrev Ordered : ShardWithJobs → Option Job → Type 0
 Ordered line hand = Pairs (λ i j. i.turn < j.turn) (in_line hand line.waiting) × Each (λ j. line.shard.finished < j.turn) (in_line hand line.waiting)
 
-pub line_is : (line : Line) (issued : ℕ) → SoundLine WINDOW issued line.shard line.waiting → IsLine line
+pub line_is : (line : ShardWithJobs) (issued : ℕ) → SoundLine WINDOW issued line.shard line.waiting → IsLine line
 line_is line issued s = let o = by line.shard.hand refl s.turns in record { rising = o.0; unfinished = o.1 }
   where
     by : (hand : Option Job) → line.shard.hand ≡ hand → Turns (begun_turn hand line.shard.finished) line.waiting issued → Ordered line hand

@@ -6,7 +6,7 @@ use Rattle.list_laws.specs.Lists.{In, Each}
 use Rattle.list_laws.proofs.Lists.{read_set, read_replicate, in_append, in_left, in_right, in_map, in_read}
 use Rattle.list_laws.proofs.Changes.{in_filter, in_mapped}
 use Rattle.claim_race.specs.Race.{RaceState}
-use Rattle.subj.specs.Servers.{Server, place}
+use Rattle.subj.specs.Servers.{ServerIdentity, place}
 use Rattle.route_values.specs.Frames.{Frame}
 use Rattle.route_values.specs.declared.bodies.Body.{Body}
 use Rattle.route_values.specs.declared.bodies.Body.TheVariants.{Plus, Minus, Snapshot, Msg}
@@ -54,7 +54,7 @@ changed_waits sent change q peers keeps h = go (slice_get peers q) refl
     go (Some peer) at x i = ⊎_elim (λ j. h x j) (λ e. subst (Out sent) (sym e) (keeps peer (h peer (in_read peers q peer at)))) (in_set peers q (change peer) x i)
 
 -- frames go to their peers
-framed_waits : (sent : List RouteFrame) (server : Server) (frames : List Frame) → Each (λ f. In (route.Numbered f) sent) frames → (q : ℕ) (peers : List Peer) → Waits sent peers → Waits sent (with_frames server frames q peers)
+framed_waits : (sent : List RouteFrame) (server : ServerIdentity) (frames : List Frame) → Each (λ f. In (route.Numbered f) sent) frames → (q : ℕ) (peers : List Peer) → Waits sent peers → Waits sent (with_frames server frames q peers)
 framed_waits sent server frames are q [] h x i = absurd i
 framed_waits sent server frames are q (p ∷ peers) h x i = ⊎_elim
     (λ e. subst (Out sent) (sym e) (λ f j. ⊎_elim (λ k. h p (inl refl) f k) (λ k. are f (in_filter (is_to server q) frames f k).0) (in_append f p.outbox (filter (is_to server q) frames) j)))
@@ -91,7 +91,7 @@ cut_waits : (sent : List RouteFrame) (hub : hub.State) (o : Option ℕ) → Wait
 cut_waits sent hub None h = h
 cut_waits sent hub (Some q) h = changed_waits sent (λ peer. record peer { up = false }) q hub.peers (λ peer k. k) h
 
-after_waits : (sent : List RouteFrame) (server : Server) (a : Node) (e : NodeEvent) (won : Bool) (race : RaceState) → Waits sent a.hub.peers → Waits (sent ++ node_frames server a e) (node_after server a e won race).hub.peers
+after_waits : (sent : List RouteFrame) (server : ServerIdentity) (a : Node) (e : NodeEvent) (won : Bool) (race : RaceState) → Waits sent a.hub.peers → Waits (sent ++ node_frames server a e) (node_after server a e won race).hub.peers
 after_waits sent server a (Own (OfConn conn event)) won race h = more_sent sent [] a.hub.peers h
 after_waits sent server a (Own (AtShard shard work)) won race h = more_sent sent [] a.hub.peers h
 after_waits sent server a (Own (Publish p)) won race h = framed_waits (sent ++ map route.Numbered (frames_of server a.hub p)) server (frames_of server a.hub p) (all_new sent (frames_of server a.hub p)) 0 a.hub.peers (more_sent sent (map route.Numbered (frames_of server a.hub p)) a.hub.peers h)

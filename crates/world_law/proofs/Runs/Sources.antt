@@ -5,7 +5,7 @@ use Rattle.list_laws.specs.Lists.{In, Each}
 use Rattle.list_laws.proofs.Lists.{in_left, in_right, in_read}
 use Rattle.list_laws.proofs.Changes.{map_append, append_assoc}
 use Rattle.subj.specs.Messages.{Content}
-use Rattle.subj.specs.Servers.{Server, IsListed, own_name, name_of, place}
+use Rattle.subj.specs.Servers.{ServerIdentity, IsListed, own_name, name_of, place}
 use Rattle.subj.specs.declared.identities.PubId.{PubId}
 use Rattle.subj.specs.declared.jobs.Job.{Job}
 use Rattle.interest.specs.declared.changes.Change.{Change}
@@ -68,13 +68,13 @@ in_messages (route.Connect connect ∷ sent) frame m (inr i) j = in_messages sen
 in_messages (route.Numbered other ∷ sent) frame m (inr i) j = in_right m (message_in other other.body) (messages_in sent) (in_messages sent frame m i j)
 
 -- those of a publish
-published_made : (server : Server) (hub : State) (p : publishing.Publication) (P : Message → Type 0)
-    → ((q to_inc : ℕ) → P (record { id = next_id server hub; to = name_of server q; to_inc = to_inc; content = p.said.message; queues = names_for (choice_of server hub p) (name_of server q) (names_of server hub p) }))
-    → (q : ℕ) (peers : List Peer) → Each P (messages_in (map route.Numbered (frames_from server (hub.published + 1) p.said.message (choice_of server hub p) (names_of server hub p) q peers)))
+published_made : (server : ServerIdentity) (hub : State) (p : publishing.Publication) (P : Message → Type 0)
+    → ((q to_inc : ℕ) → P (record { id = next_id server hub; to = name_of server q; to_inc = to_inc; content = p.publication.message; queues = names_for (choice_of server hub p) (name_of server q) (names_of server hub p) }))
+    → (q : ℕ) (peers : List Peer) → Each P (messages_in (map route.Numbered (frames_from server (hub.published + 1) p.publication.message (choice_of server hub p) (names_of server hub p) q peers)))
 published_made server hub p P made q [] m i = absurd i
-published_made server hub p P made q (peer ∷ peers) m i = go (published_made server hub p P made (suc q) peers) (is_eligible server q peer && is_owed p.said.message.subject (names_for (choice_of server hub p) (name_of server q) (names_of server hub p)) peer) m i
+published_made server hub p P made q (peer ∷ peers) m i = go (published_made server hub p P made (suc q) peers) (is_eligible server q peer && is_owed p.publication.message.subject (names_for (choice_of server hub p) (name_of server q) (names_of server hub p)) peer) m i
   where
-    go : Each P (messages_in (map route.Numbered (frames_from server (hub.published + 1) p.said.message (choice_of server hub p) (names_of server hub p) (suc q) peers))) → (b : Bool) → Each P (messages_in (map route.Numbered (cond b (record { from = own_name server; inc = server.inc; to = name_of server q; to_inc = peer.seen; number = hub.published + 1; body = Msg p.said.message (names_for (choice_of server hub p) (name_of server q) (names_of server hub p)) } ∷ []) [] ++ frames_from server (hub.published + 1) p.said.message (choice_of server hub p) (names_of server hub p) (suc q) peers)))
+    go : Each P (messages_in (map route.Numbered (frames_from server (hub.published + 1) p.publication.message (choice_of server hub p) (names_of server hub p) (suc q) peers))) → (b : Bool) → Each P (messages_in (map route.Numbered (cond b (record { from = own_name server; inc = server.inc; to = name_of server q; to_inc = peer.seen; number = hub.published + 1; body = Msg p.publication.message (names_for (choice_of server hub p) (name_of server q) (names_of server hub p)) } ∷ []) [] ++ frames_from server (hub.published + 1) p.publication.message (choice_of server hub p) (names_of server hub p) (suc q) peers)))
     go rest true m (inl e) = subst P (sym e) (made q peer.seen)
     go rest true m (inr i) = rest m i
     go rest false m i = rest m i
@@ -85,7 +85,7 @@ no_message_of : (frame : Frame) (change : Change) → message_in frame (body_of 
 no_message_of frame (Up weighted) = refl
 no_message_of frame (Gone key) = refl
 
-change_messages : (server : Server) (count number : ℕ) (change : Change) (q : ℕ) (peers : List Peer) → messages_in (map route.Numbered (frames_of_change server count number change q peers)) ≡ []
+change_messages : (server : ServerIdentity) (count number : ℕ) (change : Change) (q : ℕ) (peers : List Peer) → messages_in (map route.Numbered (frames_of_change server count number change q peers)) ≡ []
 change_messages server count number change q [] = refl
 change_messages server count number change q (peer ∷ peers) = go (change_messages server count number change (suc q) peers) (is_told count peer)
   where
@@ -96,19 +96,19 @@ change_messages server count number change q (peer ∷ peers) = go (change_messa
     go rest true = ap (λ t. t ++ messages_in (map route.Numbered (frames_of_change server count number change (suc q) peers))) (no_message_of frame change) ∙ rest
     go rest false = rest
 
-behind_messages : (server : Server) (count number : ℕ) (changes : List Change) (peers : List Peer) → messages_in (map route.Numbered (frames_behind server count number changes peers)) ≡ []
+behind_messages : (server : ServerIdentity) (count number : ℕ) (changes : List Change) (peers : List Peer) → messages_in (map route.Numbered (frames_behind server count number changes peers)) ≡ []
 behind_messages server count number [] peers = refl
 behind_messages server count number (change ∷ changes) peers =
     ap messages_in (map_append route.Numbered (frames_of_change server count (number + 1) change 0 peers) (frames_behind server count (number + 1) changes peers))
     ∙ messages_more (map route.Numbered (frames_of_change server count (number + 1) change 0 peers)) (map route.Numbered (frames_behind server count (number + 1) changes peers))
     ∙ (λ i. change_messages server count (number + 1) change 0 peers i ++ behind_messages server count (number + 1) changes peers i)
 
-pub node_messages : (server : Server) (now : ℕ) (a : Node) (e : NodeEvent) (ps : List Publication) → Each (IsMessageOf (ps ++ publications_of server now a e)) (messages_in (node_frames server a e))
+pub node_messages : (server : ServerIdentity) (now : ℕ) (a : Node) (e : NodeEvent) (ps : List Publication) → Each (IsMessageOf (ps ++ publications_of server now a e)) (messages_in (node_frames server a e))
 node_messages server now a (of_node.Own (of_node.OfConn conn event)) ps m i = absurd i
 node_messages server now a (of_node.Own (of_node.AtShard shard work)) ps m i = absurd i
 node_messages server now a (of_node.Own (of_node.Publish p)) ps m i =
     published_made server a.hub p (IsMessageOf (ps ++ publication server now a p ∷ []))
-    (λ q to_inc. record { source = publication server now a p; source_in = in_right (publication server now a p) ps (publication server now a p ∷ []) (inl refl); id_is = refl; content_is = refl; apart = for_distinct (choice_of server a.hub p) (name_of server q) (names_of server a.hub p) (names_distinct server a.hub p.said.message.subject) })
+    (λ q to_inc. record { source = publication server now a p; source_in = in_right (publication server now a p) ps (publication server now a p ∷ []) (inl refl); id_is = refl; content_is = refl; apart = for_distinct (choice_of server a.hub p) (name_of server q) (names_of server a.hub p) (names_distinct server a.hub p.publication.message.subject) })
     0 a.hub.peers m i
 node_messages server now a (of_node.Own (of_node.Collect shard)) ps m i =
     let deltas = deltas_at (shard_line a shard) in
@@ -146,7 +146,7 @@ node_jobs c w n inc now listed a (of_node.Own (of_node.Publish p)) known given c
 node_jobs c w n inc now listed a (of_node.Own (of_node.Publish p)) known given cause job (inl e) =
     let server = server_at c n inc in
     subst (IsOwnOf c (w.publications ++ publication server now a p ∷ []) n) (sym e) (record {
-      made = record { source = publication server now a p; source_in = in_right (publication server now a p) w.publications (publication server now a p ∷ []) (inl refl); id_is = refl; content_is = refl; apart = for_distinct (choice_of server a.hub p) (own_name server) (names_of server a.hub p) (names_distinct server a.hub p.said.message.subject) };
+      made = record { source = publication server now a p; source_in = in_right (publication server now a p) w.publications (publication server now a p ∷ []) (inl refl); id_is = refl; content_is = refl; apart = for_distinct (choice_of server a.hub p) (own_name server) (names_of server a.hub p) (names_distinct server a.hub p.publication.message.subject) };
       own = λ at. (refl, refl);
     })
 node_jobs c w n inc now listed a (of_node.Own (of_node.Collect shard)) known given cause job i = absurd i

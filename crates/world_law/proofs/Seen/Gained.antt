@@ -15,7 +15,7 @@ use Rattle.cluster_law.specs.Shard as law_shard
 use Rattle.sub_table.specs.Subscriptions.{is_of, serial_of}
 use Rattle.sub_table.specs.declared.Subscription.{Subscription}
 use Rattle.subj.specs.declared.jobs.Job.{Job}
-use Rattle.subj.specs.Servers.{Server}
+use Rattle.subj.specs.Servers.{ServerIdentity}
 use Rattle.claim_race.specs.Race.{RaceState}
 use Rattle.hub_core.specs.AsLaw.{id_of}
 use Rattle.shard_core.specs.AsLaw.{job_of, sub_of, given_by, job_by, given_by_claim, placements_for, AreThese}
@@ -28,7 +28,7 @@ use Rattle.shard_core.proofs.Steps.LawEvents.{walk_gives}
 use Rattle.node_law.specs.AsLaw.{Part, part_at, part_if, part_of, given_at, placements_at, entries_for_job, messages_at, waits_in, is_message_tag, is_message, MessagesAreGiven}
 use Rattle.node_law.specs.Events.{OfConn, AtShard, Publish, Collect, Dial, Accept, CutSession, TakeFrames, NodeEvent, Own, Receive, OnInfo, OnConnect}
 use Rattle.node_law.specs.Sound.{SoundNode}
-use Rattle.node_law.specs.State.{Line, Node}
+use Rattle.node_law.specs.State.{ShardWithJobs, Node}
 use Rattle.node_law.specs.Steps.{NodeStep, conn_place, conn_event, work_event}
 use Rattle.world_law.specs.Changes.{new_entries, placement_of, placements_of, is_on, AreGained}
 use Rattle.world_law.specs.State.{Cluster, Placement, server_at}
@@ -36,7 +36,7 @@ use Rattle.world_law.proofs.Seen.Machine.{SeesPlacement}
 
 -- ---- the new entries of a connection, shard by shard
 
-abbrev pub news : List Line → List Line → ℕ → ℕ → List Written
+abbrev pub news : List ShardWithJobs → List ShardWithJobs → ℕ → ℕ → List Written
 news old new place conn = drop (length (waits_in conn (slice_get old place))) (waits_in conn (slice_get new place))
 
 abbrev nothing : List Written
@@ -46,7 +46,7 @@ nothing_dropped : (n : ℕ) → drop n nothing ≡ nothing
 nothing_dropped zero = refl
 nothing_dropped (suc n) = refl
 
-module _ (server : Server) (now conn : ℕ) where
+module _ (server : ServerIdentity) (now conn : ℕ) where
   pub append_placements : (xs ys : List Written) → placements_of server now conn (xs ++ ys) ≡ placements_of server now conn xs ++ placements_of server now conn ys
   append_placements [] ys = refl
   append_placements (x ∷ xs) ys = ap (λ t. placement_of server now conn x.bytes x.tag ++ t) (append_placements xs ys) ∙ sym (append_assoc (placement_of server now conn x.bytes x.tag) (placements_of server now conn xs) (placements_of server now conn ys))
@@ -60,13 +60,13 @@ module _ (server : Server) (now conn : ℕ) where
       go tag.Reply below = below
       go (tag.Msg id sub mode) below = ap (λ t. placement_of server now conn x.bytes (tag.Msg id sub mode) ++ t) below
 
-  pub nothing_new : (old new : List Line) → ((q : ℕ) → placements_of server now conn (news old new q conn) ≡ []) → placements_of server now conn (new_entries old new conn) ≡ []
+  pub nothing_new : (old new : List ShardWithJobs) → ((q : ℕ) → placements_of server now conn (news old new q conn) ≡ []) → placements_of server now conn (new_entries old new conn) ≡ []
   nothing_new [] new h = refl
   nothing_new (x ∷ old) [] h = refl
   nothing_new (x ∷ old) (y ∷ new) h = append_placements (news (x ∷ old) (y ∷ new) zero conn) (new_entries old new conn) ∙ (λ i. h zero i ++ nothing_new old new (λ q. h (suc q)) i)
 
   -- at one place alone
-  pub new_at : (p : ℕ) (old new : List Line) (line : Line) → slice_get old p ≡ Some line → ((q : ℕ) → q ≢ p → placements_of server now conn (news old new q conn) ≡ []) → placements_of server now conn (new_entries old new conn) ≡ placements_of server now conn (news old new p conn)
+  pub new_at : (p : ℕ) (old new : List ShardWithJobs) (line : ShardWithJobs) → slice_get old p ≡ Some line → ((q : ℕ) → q ≢ p → placements_of server now conn (news old new q conn) ≡ []) → placements_of server now conn (new_entries old new conn) ≡ placements_of server now conn (news old new p conn)
   new_at p [] new line e h = absurd (none-some line e)
   new_at zero (x ∷ old) [] line e h = sym (ap (placements_of server now conn) (nothing_dropped (length (waits_in conn (Some x)))))
   new_at (suc p) (x ∷ old) [] line e h = sym (ap (placements_of server now conn) (nothing_dropped (length (waits_in conn (slice_get old p)))))
@@ -77,7 +77,7 @@ module _ (server : Server) (now conn : ℕ) where
 
 -- ---- the placement that an entry stands for
 
-abbrev pub placed : Server → ℕ → ℕ → Job → Subscription → Placement
+abbrev pub placed : ServerIdentity → ℕ → ℕ → Job → Subscription → Placement
 placed server now shard job u = record {
   step = now;
   life = record { node = server.me; inc = server.inc; sub = closings.id_of shard u.serial };
@@ -87,7 +87,7 @@ placed server now shard job u = record {
   bytes = bytes_of (due_line job.message u.sid no_headers) (Some job.message.payload);
 }
 
-entries_placed : (server : Server) (now shard conn : ℕ) (job : Job) (us : List Subscription) → placements_of server now conn (entries_for_job shard (Some job) (filter (is_of conn) us)) ≡ map (placed server now shard job) (filter (is_of conn) us)
+entries_placed : (server : ServerIdentity) (now shard conn : ℕ) (job : Job) (us : List Subscription) → placements_of server now conn (entries_for_job shard (Some job) (filter (is_of conn) us)) ≡ map (placed server now shard job) (filter (is_of conn) us)
 entries_placed server now shard conn job [] = refl
 entries_placed server now shard conn job (u ∷ us) = go (nat_eq u.conn conn) refl (entries_placed server now shard conn job us)
   where
@@ -157,7 +157,7 @@ pub record Chosen (f : Subscription → Placement) (given : List Subscription) (
   pub are : gained ≡ map f subs
   pub these : AreThese given subs
 
-module _ (server : Server) (now shard : ℕ) (job : Job) (given : List Subscription) (gained : List Placement) (h : (k : ℕ) → filter (is_on k) gained ≡ map (placed server now shard job) (filter (is_of k) given)) (distinct : Apart given) where
+module _ (server : ServerIdentity) (now shard : ℕ) (job : Job) (given : List Subscription) (gained : List Placement) (h : (k : ℕ) → filter (is_on k) gained ≡ map (placed server now shard job) (filter (is_of k) given)) (distinct : Apart given) where
   abbrev f : Subscription → Placement
   f = placed server now shard job
 
@@ -209,11 +209,11 @@ seen_placed c n inc now shard place job e (u ∷ us) = (
 
 -- ---- a step of a server
 
-part_line_at : (lines : List Line) (place : ℕ) (event : Line → Option of_shard.Event) (b : Bool) (p : Part) → part_at place event (cond b None (slice_get lines place)) ≡ Some p → slice_get lines p.place ≡ Some p.line
+part_line_at : (lines : List ShardWithJobs) (place : ℕ) (event : ShardWithJobs → Option of_shard.Event) (b : Bool) (p : Part) → part_at place event (cond b None (slice_get lines place)) ≡ Some p → slice_get lines p.place ≡ Some p.line
 part_line_at lines place event true p e = absurd (none-some p e)
 part_line_at lines place event false p e = go (slice_get lines place) refl e
   where
-    go : (o : Option Line) → slice_get lines place ≡ o → part_at place event o ≡ Some p → slice_get lines p.place ≡ Some p.line
+    go : (o : Option ShardWithJobs) → slice_get lines place ≡ o → part_at place event o ≡ Some p → slice_get lines p.place ≡ Some p.line
     go None at f = absurd (none-some p f)
     go (Some line) at f = by (event line) refl f
       where
@@ -221,7 +221,7 @@ part_line_at lines place event false p e = go (slice_get lines place) refl e
         by None is g = absurd (none-some p (sym (ap (λ t. part_if place line t) is) ∙ g))
         by (Some x) is g = subst (λ (q : Part). slice_get lines q.place ≡ Some q.line) (same_Some (record { place = place; line = line; event = x }) p (sym (ap (λ t. part_if place line t) is) ∙ g)) at
 
-pub part_line : (server : Server) (a : Node) (e : NodeEvent) (won : Bool) (p : Part) → part_of server a e won ≡ Some p → slice_get a.lines p.place ≡ Some p.line
+pub part_line : (server : ServerIdentity) (a : Node) (e : NodeEvent) (won : Bool) (p : Part) → part_of server a e won ≡ Some p → slice_get a.lines p.place ≡ Some p.line
 part_line server a (Own (OfConn conn event)) won p e = part_line_at a.lines (conn_place server conn) (λ line. Some (conn_event conn event)) (nat_eq conn 0) p e
 part_line server a (Own (AtShard shard work)) won p e = part_line_at a.lines (shard - 1) (work_event work won) (nat_eq shard 0) p e
 part_line server a (Own (Publish q)) won p e = absurd (none-some p e)

@@ -12,7 +12,7 @@ use Rattle.outbox.specs.Views.{Written}
 use Rattle.sub_table.specs.Subscriptions.{is_of}
 use Rattle.sub_table.specs.declared.Subscription.{Subscription}
 use Rattle.subj.specs.declared.jobs.Job.{Job}
-use Rattle.subj.specs.Servers.{Server}
+use Rattle.subj.specs.Servers.{ServerIdentity}
 use Rattle.route_values.specs.Frames.{Frame}
 use Rattle.route_values.specs.declared.bodies.Body.{Body}
 use Rattle.route_values.specs.declared.bodies.Body.TheVariants.{Plus, Minus, Snapshot, Msg}
@@ -31,7 +31,7 @@ use Rattle.world_law.specs.Changes.{entries_at}
 use Rattle.node_law.specs.declared.events.ConnEvent.{ConnEvent}
 use Rattle.node_law.specs.declared.events.ShardWork.{ShardWork}
 use Rattle.node_law.specs.Events.{OfConn, AtShard, Publish, Collect, Dial, Accept, CutSession, TakeFrames, NodeEvent, Own, Receive, OnInfo, OnConnect}
-use Rattle.node_law.specs.State.{Line, Node}
+use Rattle.node_law.specs.State.{ShardWithJobs, Node}
 use Rattle.node_law.specs.Steps.{NodeStep, conn_place, conn_line, shard_line, conn_event, work_event, conn_refusal, no_job, event_refusal, work_refusal, line_after, line_after_if, set_line, line_with_job, node_after, lines_after_body}
 use Rattle.hub_core.specs.Publishing.{own_job}
 use Rattle.hub_core.proofs.Steps.Rooms.{map_none}
@@ -170,7 +170,7 @@ module _ (puts : (s : State) (e : of_shard.Event) (conn : ℕ) → ArePut s e co
 
   -- ---- an event of a line
 
-  line_entries : (lines : List Line) (p : ℕ) (line new : Line) (e : of_shard.Event) (place conn : ℕ) → slice_get lines p ≡ Some line → shard_refusal line.shard e ≡ None → new.shard ≡ shard_after line.shard e
+  line_entries : (lines : List ShardWithJobs) (p : ℕ) (line new : ShardWithJobs) (e : of_shard.Event) (place conn : ℕ) → slice_get lines p ≡ Some line → shard_refusal line.shard e ≡ None → new.shard ≡ shard_after line.shard e
       → drop (length (waits_in conn (slice_get lines place))) (waits_in conn (slice_get (set lines p new) place)) ≡ entries_at (Some (record { place = p; line = line; event = e })) place conn
   line_entries lines p line new e place conn at cause same = go (nat_eq p place) refl
     where
@@ -182,17 +182,17 @@ module _ (puts : (s : State) (e : of_shard.Event) (conn : ℕ) → ArePut s e co
       go false is = ap (λ o. drop (length (waits_in conn (slice_get lines place))) (waits_in conn o)) (get_set_there lines p place new (λ f. eq_false p place is (sym f))) ∙ drop_all (waits_in conn (slice_get lines place))
 
   -- with no event there is nothing new
-  same_entries : (lines after : List Line) (place conn : ℕ) → waits_in conn (slice_get after place) ≡ waits_in conn (slice_get lines place) → drop (length (waits_in conn (slice_get lines place))) (waits_in conn (slice_get after place)) ≡ []
+  same_entries : (lines after : List ShardWithJobs) (place conn : ℕ) → waits_in conn (slice_get after place) ≡ waits_in conn (slice_get lines place) → drop (length (waits_in conn (slice_get lines place))) (waits_in conn (slice_get after place)) ≡ []
   same_entries lines after place conn same = ap (drop (length (waits_in conn (slice_get lines place)))) same ∙ drop_all (waits_in conn (slice_get lines place))
 
   -- ---- events of a server
 
-  conn_entries : (server : Server) (a : Node) (conn : ℕ) (event : ConnEvent) (o : Option Line) → conn_line server a conn ≡ o → conn_refusal event conn o ≡ None → (place j : ℕ)
+  conn_entries : (server : ServerIdentity) (a : Node) (conn : ℕ) (event : ConnEvent) (o : Option ShardWithJobs) → conn_line server a conn ≡ o → conn_refusal event conn o ≡ None → (place j : ℕ)
       → drop (length (waits_in j (slice_get a.lines place))) (waits_in j (slice_get (set_line a.lines (conn_place server conn) (line_after (conn_event conn event)) o) place)) ≡ entries_at (part_at (conn_place server conn) (λ line. Some (conn_event conn event)) o) place j
   conn_entries server a conn event None at cause place j = same_entries a.lines a.lines place j refl
   conn_entries server a conn event (Some line) at cause place j = line_entries a.lines (conn_place server conn) line (line_after (conn_event conn event) line) (conn_event conn event) place j (found (nat_eq conn 0) (slice_get a.lines (conn_place server conn)) line at) (map_none Shard (shard_refusal line.shard (conn_event conn event)) cause) refl
 
-  work_entries : (a : Node) (shard : ℕ) (work : ShardWork) (won : Bool) (o : Option Line) → shard_line a shard ≡ o → work_refusal work o ≡ None → (place j : ℕ)
+  work_entries : (a : Node) (shard : ℕ) (work : ShardWork) (won : Bool) (o : Option ShardWithJobs) → shard_line a shard ≡ o → work_refusal work o ≡ None → (place j : ℕ)
       → drop (length (waits_in j (slice_get a.lines place))) (waits_in j (slice_get (set_line a.lines (shard - 1) (λ line. line_after_if (work_event work won line) line) o) place)) ≡ entries_at (part_at (shard - 1) (work_event work won) o) place j
   work_entries a shard work won None at cause place j = absurd (none-some NoShard (sym cause))
   work_entries a shard work won (Some line) at cause place j = go (work_event work won line) (sym (same_refusal work line won) ∙ cause)
@@ -201,12 +201,12 @@ module _ (puts : (s : State) (e : of_shard.Event) (conn : ℕ) → ArePut s e co
       go None f = absurd (none-some (no_job line.shard.hand) (sym f))
       go (Some e) f = line_entries a.lines (shard - 1) line (line_after e line) e place j (found (nat_eq shard 0) (slice_get a.lines (shard - 1)) line at) (map_none Shard (shard_refusal line.shard e) f) refl
 
-  queued_waits : (job : Job) (lines : List Line) (place j : ℕ) → waits_in j (slice_get (map (line_with_job job) lines) place) ≡ waits_in j (slice_get lines place)
+  queued_waits : (job : Job) (lines : List ShardWithJobs) (place j : ℕ) → waits_in j (slice_get (map (line_with_job job) lines) place) ≡ waits_in j (slice_get lines place)
   queued_waits job [] place j = refl
   queued_waits job (line ∷ lines) zero j = refl
   queued_waits job (line ∷ lines) (suc place) j = queued_waits job lines place j
 
-  collected_waits : (lines : List Line) (p : ℕ) (o : Option Line) → ((line : Line) → o ≡ Some line → slice_get lines p ≡ Some line) → (place j : ℕ) → waits_in j (slice_get (set_line lines p (line_after of_shard.Collect) o) place) ≡ waits_in j (slice_get lines place)
+  collected_waits : (lines : List ShardWithJobs) (p : ℕ) (o : Option ShardWithJobs) → ((line : ShardWithJobs) → o ≡ Some line → slice_get lines p ≡ Some line) → (place j : ℕ) → waits_in j (slice_get (set_line lines p (line_after of_shard.Collect) o) place) ≡ waits_in j (slice_get lines place)
   collected_waits lines p None h place j = refl
   collected_waits lines p (Some line) h place j = go (nat_eq p place) refl
     where
@@ -223,7 +223,7 @@ module _ (puts : (s : State) (e : of_shard.Event) (conn : ℕ) → ArePut s e co
   body_waits a frame (Snapshot keys) place j = refl
   body_waits a frame (Msg content queues) place j = queued_waits (routed_job a.hub frame content queues) a.lines place j
 
-  after_entries : (server : Server) (a : Node) (e : NodeEvent) (won : Bool) (race : RaceState) (place j : ℕ) → NodeStep server a e won race (node_after server a e won race)
+  after_entries : (server : ServerIdentity) (a : Node) (e : NodeEvent) (won : Bool) (race : RaceState) (place j : ℕ) → NodeStep server a e won race (node_after server a e won race)
       → drop (length (waits_in j (slice_get a.lines place))) (waits_in j (slice_get (node_after server a e won race).lines place)) ≡ entries_at (part_of server a e won) place j
   after_entries server a (Own (OfConn conn event)) won race place j step = conn_entries server a conn event (conn_line server a conn) refl step.cause place j
   after_entries server a (Own (AtShard shard work)) won race place j step = work_entries a shard work won (shard_line a shard) refl step.cause place j
@@ -237,7 +237,7 @@ module _ (puts : (s : State) (e : of_shard.Event) (conn : ℕ) → ArePut s e co
   after_entries server a (OnInfo session info) won race place j step = same_entries a.lines a.lines place j refl
   after_entries server a (OnConnect session connect) won race place j step = same_entries a.lines a.lines place j refl
 
-  pub entries_of_step : (server : Server) (a : Node) (e : NodeEvent) (won : Bool) (race : RaceState) (b : Node) (place j : ℕ) → NodeStep server a e won race b → drop (length (waits_in j (slice_get a.lines place))) (waits_in j (slice_get b.lines place)) ≡ entries_at (part_of server a e won) place j
+  pub entries_of_step : (server : ServerIdentity) (a : Node) (e : NodeEvent) (won : Bool) (race : RaceState) (b : Node) (place j : ℕ) → NodeStep server a e won race b → drop (length (waits_in j (slice_get a.lines place))) (waits_in j (slice_get b.lines place)) ≡ entries_at (part_of server a e won) place j
   entries_of_step server a e won race b place j step =
       ap (λ (x : Node). drop (length (waits_in j (slice_get a.lines place))) (waits_in j (slice_get x.lines place))) step.after
       ∙ after_entries server a e won race place j (record { cause = step.cause; moves = step.moves; after = refl })

@@ -12,7 +12,7 @@ use Rattle.sub_table.specs.Subscriptions.{serial_of}
 use Rattle.sub_table.specs.declared.Subscription.{Subscription}
 use Rattle.subj.specs.declared.identities.SubId.{SubId}
 use Rattle.subj.specs.declared.jobs.Job.{Job}
-use Rattle.subj.specs.Servers.{Server}
+use Rattle.subj.specs.Servers.{ServerIdentity}
 use Rattle.shard_core.specs.declared.calls.Placed.{Placed}
 use Rattle.shard_core.specs.Closings.{id_of, serials_of}
 use Rattle.shard_core.specs.Owed.{placed_for, whole_walk, first_step, is_due, candidate_of, candidate_named, is_candidate, slow_consumer}
@@ -21,7 +21,7 @@ use Rattle.shard_core.specs.ShardEvents as of_shard
 use Rattle.shard_core.specs.ShardSteps.{answer_fits}
 use Rattle.shard_core.specs.Shards.{State}
 use Rattle.shard_core.proofs.Steps.LawEvents.{walk_gives}
-use Rattle.node_law.specs.State.{Line}
+use Rattle.node_law.specs.State.{ShardWithJobs}
 use Rattle.world_law.specs.Changes.{placement_of, is_on, open_subs, AreGained, PlacementsAreOne}
 use Rattle.world_law.specs.Play.{placements_put}
 use Rattle.world_law.specs.State.{Placement}
@@ -69,7 +69,7 @@ sub_one x (y ∷ ys) i = ⊎_elim (λ e. inl (e, tt)) (λ j. inr (sub_one x ys j
 
 -- ---- what an event of a shard places
 
-module _ (server : Server) (now : ℕ) where
+module _ (server : ServerIdentity) (now : ℕ) where
   abbrev ids : List Placed → List SubId
   ids puts = map sub_of_placement (placements_put server now puts)
 
@@ -131,9 +131,9 @@ module _ (server : Server) (now : ℕ) where
   event_order s (of_shard.DropJob waiting) = tt
   event_order s of_shard.Collect = tt
 
-pub in_lines : (lines : List Line) (place : ℕ) (line : Line) (xs : List SubId) → slice_get lines place ≡ Some line → SubList xs (map (id_of line.shard.shard) (serials_of line.shard.subs)) → SubList xs (open_subs lines)
+pub in_lines : (lines : List ShardWithJobs) (place : ℕ) (line : ShardWithJobs) (xs : List SubId) → slice_get lines place ≡ Some line → SubList xs (map (id_of line.shard.shard) (serials_of line.shard.subs)) → SubList xs (open_subs lines)
 in_lines [] place line xs at h = absurd (none-some line at)
-in_lines (first ∷ lines) zero line xs at h = sub_left xs (map (id_of first.shard.shard) (serials_of first.shard.subs)) (open_subs lines) (subst (λ (l : Line). SubList xs (map (id_of l.shard.shard) (serials_of l.shard.subs))) (sym (same_Some first line at)) h)
+in_lines (first ∷ lines) zero line xs at h = sub_left xs (map (id_of first.shard.shard) (serials_of first.shard.subs)) (open_subs lines) (subst (λ (l : ShardWithJobs). SubList xs (map (id_of l.shard.shard) (serials_of l.shard.subs))) (sym (same_Some first line at)) h)
 in_lines (first ∷ lines) (suc place) line xs at h = sub_right xs (map (id_of first.shard.shard) (serials_of first.shard.subs)) (open_subs lines) (in_lines lines place line xs at h)
 
 -- ---- one list
@@ -169,7 +169,7 @@ module _ {A B : Type 0} (f : A → B) where
       h
 
 -- no two open subscriptions of a sound server have one name
-subs_apart : (lines : List Line) (first : ℕ) → ((place : ℕ) (line : Line) → slice_get lines place ≡ Some line → (line.shard.shard ≡ suc (first + place)) × Pairs (λ j k. j ≢ k) (serials_of line.shard.subs)) → Pairs (λ a b. a ≢ b) (open_subs lines)
+subs_apart : (lines : List ShardWithJobs) (first : ℕ) → ((place : ℕ) (line : ShardWithJobs) → slice_get lines place ≡ Some line → (line.shard.shard ≡ suc (first + place)) × Pairs (λ j k. j ≢ k) (serials_of line.shard.subs)) → Pairs (λ a b. a ≢ b) (open_subs lines)
 subs_apart [] first h = tt
 subs_apart (line ∷ lines) first h =
     pairs_append (λ a b. a ≢ b) (map (id_of line.shard.shard) (serials_of line.shard.subs)) (open_subs lines)
@@ -181,7 +181,7 @@ subs_apart (line ∷ lines) first h =
     shift m j = omega arith
 
     -- those of later lines are of shards behind
-    later : (ls : List Line) (from : ℕ) (b : SubId) → ((place : ℕ) (l : Line) → slice_get ls place ≡ Some l → l.shard.shard ≡ suc (from + place)) → In b (open_subs ls) → (more : ℕ) × (b.shard ≡ suc (from + more))
+    later : (ls : List ShardWithJobs) (from : ℕ) (b : SubId) → ((place : ℕ) (l : ShardWithJobs) → slice_get ls place ≡ Some l → l.shard.shard ≡ suc (from + place)) → In b (open_subs ls) → (more : ℕ) × (b.shard ≡ suc (from + more))
     later [] from b k i = absurd i
     later (l ∷ ls) from b k i =
         ⊎_elim

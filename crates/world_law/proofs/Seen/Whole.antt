@@ -21,7 +21,7 @@ use Rattle.outbox.specs.declared.entries.Mode.{Mode}
 use Rattle.outbox.specs.declared.entries.Mode.TheVariants.{Plain, Queue}
 use Rattle.sub_table.specs.declared.Subscription.{Subscription}
 use Rattle.subj.specs.Matching.{subject_matches}
-use Rattle.subj.specs.Servers.{Server, name_at, place_in}
+use Rattle.subj.specs.Servers.{ServerIdentity, name_at, place_in}
 use Rattle.subj.specs.declared.identities.PubId.{PubId}
 use Rattle.hub_core.proofs.Choices.Places.{name_there}
 use Rattle.shard_core.specs.AsLaw.{sub_of}
@@ -33,7 +33,7 @@ use Rattle.shard_core.specs.Shards.{State}
 use Rattle.node_law.specs.AsLaw.{NodeFollows, StaysSound, node_of, line_of}
 use Rattle.node_law.specs.Events.{NodeEvent, Own}
 use Rattle.node_law.specs.Sound.{SoundNode}
-use Rattle.node_law.specs.State.{Line, new_node}
+use Rattle.node_law.specs.State.{ShardWithJobs, new_node}
 use Rattle.node_law.specs.AsLaw.{is_open_in}
 use Rattle.world_law.specs.declared.faults.WorldFault.{WorldFault}
 use Rattle.world_law.specs.declared.faults.WorldFault.TheVariants as fault
@@ -107,7 +107,7 @@ start_next laws c set_up w v n inc outcome w' cause s h =
 
 -- ---- a server that stops
 
-in_all : (server : Server) (now q : ℕ) (lines : List Line) (t k : ℕ) → is_open_in k (slice_get lines t) ≡ true → In (record { life = life_id server.me server.inc (q + t) k; step = now }) (all_closings server.me server.inc now q (map (line_of server) lines))
+in_all : (server : ServerIdentity) (now q : ℕ) (lines : List ShardWithJobs) (t k : ℕ) → is_open_in k (slice_get lines t) ≡ true → In (record { life = life_id server.me server.inc (q + t) k; step = now }) (all_closings server.me server.inc now q (map (line_of server) lines))
 in_all server now q [] t k e = absurd (true≢false (sym e))
 in_all server now q (line ∷ lines) zero k e =
     in_left _ (closings_of server.me server.inc q now (map (λ (u : law_shard.Subscription). u.serial) (map sub_of line.shard.subs))) (all_closings server.me server.inc now (suc q) (map (line_of server) lines))

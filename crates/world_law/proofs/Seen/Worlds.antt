@@ -12,7 +12,7 @@ use Rattle.cluster_law.specs.Config.{every_rule}
 use Rattle.cluster_law.specs.History.{Closing}
 use Rattle.cluster_law.specs.Names as names
 use Rattle.cluster_law.specs.Node as law
-use Rattle.subj.specs.Servers.{Server, place_in}
+use Rattle.subj.specs.Servers.{ServerIdentity, place_in}
 use Rattle.sub_table.specs.declared.Subscription.{Subscription}
 use Rattle.route_values.specs.declared.frames.RouteFrame.{RouteFrame}
 use Rattle.route_values.specs.declared.frames.RouteFrame.TheVariants as route
@@ -28,7 +28,7 @@ use Rattle.node_law.specs.declared.events.ConnEvent.{ConnEvent}
 use Rattle.node_law.specs.declared.events.ConnEvent.TheVariants.{Subscribe, Unsubscribe, Reply, Shut, Detach, Take}
 use Rattle.node_law.specs.Events.{OfConn, AtShard, Publish, Collect, Dial, Accept, CutSession, TakeFrames, NodeEvent, Own, Receive, OnInfo, OnConnect}
 use Rattle.node_law.specs.Sound.{SoundNode}
-use Rattle.node_law.specs.State.{Line, Node}
+use Rattle.node_law.specs.State.{ShardWithJobs, Node}
 use Rattle.node_law.specs.Steps.{node_frames, conn_line, conn_place, shard_line}
 use Rattle.node_law.specs.AsLaw.{is_open_in}
 use Rattle.world_law.specs.Changes.{publication, publications_of, lives_of, conn_lives, new_life, looked_at, is_open, is_open_at}
@@ -45,7 +45,7 @@ use Rattle.world_law.proofs.Seen.Machine.{law_for, frame_of, publication_of, law
 pub record NodeLaws : Type 0 where
   pub follows : NodeFollows
   pub stays : StaysSound
-  pub started : (server : Server) → IsListed server → IsStarted server
+  pub started : (server : ServerIdentity) → IsListed server → IsStarted server
   pub given : MessagesAreGiven
 
 -- the next world of the machine, by a step that makes just these jobs and changes
@@ -200,7 +200,7 @@ step_of c w v v' n inc (OnConnect session connect) x sent given shown acts = han
 -- ---- what a step opens
 
 -- it hasn't closed, and its shard has the number of its place
-new_at : (c : Cluster) (n inc now conn : ℕ) (event : ConnEvent) (a : Node) (place : ℕ) (o : Option Line) → ((line : Line) → o ≡ Some line → line.shard.shard ≡ suc place)
+new_at : (c : Cluster) (n inc now conn : ℕ) (event : ConnEvent) (a : Node) (place : ℕ) (o : Option ShardWithJobs) → ((line : ShardWithJobs) → o ≡ Some line → line.shard.shard ≡ suc place)
     → Each (λ l. (l.closed ≡ None) × (l.id.sub.shard ≡ suc place) × (l.id.node ≡ n) × (l.id.inc ≡ inc)) (conn_lives (server_at c n inc) now conn event o)
 new_at c n inc now conn event a place None h l i = absurd i
 new_at c n inc now conn (Subscribe key sid) a place (Some line) h l i = go (sub_called conn sid line.shard.subs) i
@@ -214,7 +214,7 @@ new_at c n inc now conn (Shut text) a place (Some line) h l i = absurd i
 new_at c n inc now conn Detach a place (Some line) h l i = absurd i
 new_at c n inc now conn (Take count) a place (Some line) h l i = absurd i
 
-pub conn_line_at : (server : Server) (a : Node) (conn : ℕ) (line : Line) → conn_line server a conn ≡ Some line → slice_get a.lines (conn_place server conn) ≡ Some line
+pub conn_line_at : (server : ServerIdentity) (a : Node) (conn : ℕ) (line : ShardWithJobs) → conn_line server a conn ≡ Some line → slice_get a.lines (conn_place server conn) ≡ Some line
 conn_line_at server a conn line e = go (nat_eq conn 0) e
   where
     go : (b : Bool) → cond b None (slice_get a.lines (conn_place server conn)) ≡ Some line → slice_get a.lines (conn_place server conn) ≡ Some line
@@ -243,7 +243,7 @@ new_lives c n inc now a (OnInfo session info) sound l i = absurd i
 new_lives c n inc now a (OnConnect session connect) sound l i = absurd i
 
 -- they are the law's
-lives_are_at : (c : Cluster) (n inc now conn : ℕ) (event : ConnEvent) (place : ℕ) (o : Option Line) → place ≡ conn_place (server_at c n inc) conn → ((line : Line) → o ≡ Some line → line.shard.shard ≡ suc place)
+lives_are_at : (c : Cluster) (n inc now conn : ℕ) (event : ConnEvent) (place : ℕ) (o : Option ShardWithJobs) → place ≡ conn_place (server_at c n inc) conn → ((line : ShardWithJobs) → o ≡ Some line → line.shard.shard ≡ suc place)
     → node.conn_lives (server_at c n inc) now conn event o ≡ map life_of (conn_lives (server_at c n inc) now conn event o)
 lives_are_at c n inc now conn event place None same h = refl
 lives_are_at c n inc now conn (Subscribe key sid) place (Some line) same h = go (sub_called conn sid line.shard.subs)

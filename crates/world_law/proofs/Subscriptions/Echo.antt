@@ -9,7 +9,7 @@ use Rattle.list_laws.proofs.Tests.{and_true, true_eq}
 use Rattle.sub_table.specs.Subscriptions.{gets}
 use Rattle.sub_table.specs.declared.Subscription.{Subscription}
 use Rattle.subj.specs.QueueNames.{is_named}
-use Rattle.subj.specs.Servers.{Server, IsListed}
+use Rattle.subj.specs.Servers.{ServerIdentity, IsListed}
 use Rattle.subj.specs.declared.jobs.Job.{Job}
 use Rattle.shard_core.specs.declared.calls.Placed.{Placed}
 use Rattle.shard_core.specs.Lines.{first_of}
@@ -26,7 +26,7 @@ use Rattle.node_law.specs.declared.events.ShardWork.TheVariants.{Attach, Begin, 
 use Rattle.node_law.specs.Events as of_node
 use Rattle.node_law.specs.Events.{NodeEvent, Own, OfConn, AtShard}
 use Rattle.node_law.specs.OneServer.{jobs_of}
-use Rattle.node_law.specs.State.{Line, Node}
+use Rattle.node_law.specs.State.{ShardWithJobs, Node}
 use Rattle.node_law.specs.Steps.{conn_line, shard_line, conn_event, begin_of, drop_of, work_event}
 use Rattle.node_law.proofs.Moves.LineEvents.{found}
 use Rattle.node_law.proofs.Claims.OneJob.{Known, run_known}
@@ -48,21 +48,21 @@ use Rattle.world_law.proofs.Runs.Sources.{IsOwnOf}
 -- ---- who is given a message is permitted
 
 -- it is one of this job, for a connection that may get it
-record IsOf (server : Server) (job : Job) (p : Placement) : Type 0 where
+record IsOf (server : ServerIdentity) (job : Job) (p : Placement) : Type 0 where
   id : p.id ≡ job.id
   here : p.life.node ≡ server.me
   permitted : (job.echo || not (is_publisher job.publisher p.conn)) ≡ true
 
-placed_of : (server : Server) (now shard : ℕ) (job : Job) (queue : Option (List ℕ)) (us : List Subscription) → Each (λ u. is_permitted job u ≡ true) us → Each (IsOf server job) (placements_put server now (map (placed_for shard job queue) us))
+placed_of : (server : ServerIdentity) (now shard : ℕ) (job : Job) (queue : Option (List ℕ)) (us : List Subscription) → Each (λ u. is_permitted job u ≡ true) us → Each (IsOf server job) (placements_put server now (map (placed_for shard job queue) us))
 placed_of server now shard job queue [] h p i = absurd i
 placed_of server now shard job queue (u ∷ us) h p (inl e) = subst (IsOf server job) (sym e) (record { id = refl; here = refl; permitted = h u (inl refl) })
 placed_of server now shard job queue (u ∷ us) h p (inr i) = placed_of server now shard job queue us (λ v j. h v (inr j)) p i
 
-no_lines : (server : Server) (now : ℕ) (line conns : List ℕ) → placements_put server now (map (put_line line) conns) ≡ []
+no_lines : (server : ServerIdentity) (now : ℕ) (line conns : List ℕ) → placements_put server now (map (put_line line) conns) ≡ []
 no_lines server now line [] = refl
 no_lines server now line (conn ∷ conns) = no_lines server now line conns
 
-put_more : (server : Server) (now : ℕ) (xs ys : List Placed) → placements_put server now (xs ++ ys) ≡ placements_put server now xs ++ placements_put server now ys
+put_more : (server : ServerIdentity) (now : ℕ) (xs ys : List Placed) → placements_put server now (xs ++ ys) ≡ placements_put server now xs ++ placements_put server now ys
 put_more server now [] ys = refl
 put_more server now (x ∷ xs) ys = ap (λ t. placement_of server now x.conn x.entry.bytes x.entry.tag ++ t) (put_more server now xs ys) ∙ sym (append_assoc (placement_of server now x.conn x.entry.bytes x.entry.tag) (placements_put server now xs) (placements_put server now ys))
 
@@ -72,7 +72,7 @@ given_permitted s job u i =
     let at = in_filter (is_due job) s.subs u (in_sub g.new (filter (is_due job) s.subs) g.some u (subst (In u) g.given i)) in
     (and_true (gets job.message.subject u) (is_permitted job u) (and_true (is_plain u) (is_wanted job u) at.1).1).1
 
-begin_gives : (server : Server) (now : ℕ) (s : State) (job : Job) → Each (IsOf server job) (placements_put server now (put_by_walk s job (whole_walk s job)))
+begin_gives : (server : ServerIdentity) (now : ℕ) (s : State) (job : Job) → Each (IsOf server job) (placements_put server now (put_by_walk s job (whole_walk s job)))
 begin_gives server now s job p i =
     ⊎_elim (λ j. placed_of server now s.shard job None (whole_walk s job).given (given_permitted s job) p j) (λ j. absurd (subst (In p) (no_lines server now slow_consumer (whole_walk s job).shut) j))
     (in_append p (placements_put server now (map (placed_for s.shard job None) (whole_walk s job).given)) (placements_put server now (map (put_line slow_consumer) (whole_walk s job).shut)) (subst (In p) (put_more server now (map (placed_for s.shard job None) (whole_walk s job).given) (map (put_line slow_consumer) (whole_walk s job).shut)) i))
@@ -84,12 +84,12 @@ candidate_permitted s job (Some name) u e =
     let wanted = and_true (is_wanted job u) (fits (client_at u.conn s.clients) (due_entry s.shard job (Some name) u)) (and_true (is_named name u.key.queue) (is_wanted job u && fits (client_at u.conn s.clients) (due_entry s.shard job (Some name) u)) f.1).1 in
     (and_true (gets job.message.subject u) (is_permitted job u) wanted.0).1
 
-claim_gives : (server : Server) (now : ℕ) (s : State) (job : Job) (u : Option Subscription) (won : Bool) → ((v : Subscription) → u ≡ Some v → is_permitted job v ≡ true) → Each (IsOf server job) (placements_put server now (put_by_claim s (Some job) u won))
+claim_gives : (server : ServerIdentity) (now : ℕ) (s : State) (job : Job) (u : Option Subscription) (won : Bool) → ((v : Subscription) → u ≡ Some v → is_permitted job v ≡ true) → Each (IsOf server job) (placements_put server now (put_by_claim s (Some job) u won))
 claim_gives server now s job None won h p i = absurd i
 claim_gives server now s job (Some v) false h p i = absurd i
 claim_gives server now s job (Some v) true h p i = placed_of server now s.shard job v.key.queue (v ∷ []) (λ x j. ⊎_elim (λ (e : x ≡ v). subst (λ (y : Subscription). is_permitted job y ≡ true) (sym e) (h v refl)) (λ (z : ⊥). absurd z) j) p i
 
-conn_gives : (server : Server) (now : ℕ) (s : State) (conn : ℕ) (event : ConnEvent) → placements_put server now (put_by s (conn_event conn event)) ≡ []
+conn_gives : (server : ServerIdentity) (now : ℕ) (s : State) (conn : ℕ) (event : ConnEvent) → placements_put server now (put_by s (conn_event conn event)) ≡ []
 conn_gives server now s conn (Subscribe key sid) = refl
 conn_gives server now s conn (Unsubscribe sid max) = refl
 conn_gives server now s conn (Reply frame) = go (answer_fits s conn (reply_line frame))
@@ -103,14 +103,14 @@ conn_gives server now s conn (Take count) = refl
 
 -- ---- each message that a step puts is of a job of its line
 
-abbrev OfSome : Server → List Job → Placement → Type 0
+abbrev OfSome : ServerIdentity → List Job → Placement → Type 0
 OfSome server jobs p = (job : Job) × In job jobs × IsOf server job p
 
 first_in : (jobs waiting : List Job) → Each (λ j. In j jobs) waiting → (job : Job) → first_of waiting ≡ Some job → In job jobs
 first_in jobs [] w job e = absurd (none-some job e)
 first_in jobs (x ∷ waiting) w job e = w job (inl (sym (same_Some x job e)))
 
-work_gives : (server : Server) (now : ℕ) (jobs : List Job) (line : Line) (work : ShardWork) (won : Bool) → Known jobs line → Each (OfSome server jobs) (placements_put server now (put_if line (work_event work won line)))
+work_gives : (server : ServerIdentity) (now : ℕ) (jobs : List Job) (line : ShardWithJobs) (work : ShardWork) (won : Bool) → Known jobs line → Each (OfSome server jobs) (placements_put server now (put_if line (work_event work won line)))
 work_gives server now jobs line Attach won k p i = absurd i
 work_gives server now jobs line Begin won k p i = go (first_of line.waiting) refl i
   where
@@ -130,15 +130,15 @@ work_gives server now jobs line DropJob won k p i = go line.shard.hand (first_of
     go None (Some job) j = absurd j
     go (Some busy) o j = absurd j
 
-step_gives : (server : Server) (now : ℕ) (a : Node) (e : NodeEvent) (won : Bool) (jobs : List Job) → ((place : ℕ) (line : Line) → slice_get a.lines place ≡ Some line → Known jobs line) → Each (OfSome server jobs) (placements_put server now (puts server a e won))
+step_gives : (server : ServerIdentity) (now : ℕ) (a : Node) (e : NodeEvent) (won : Bool) (jobs : List Job) → ((place : ℕ) (line : ShardWithJobs) → slice_get a.lines place ≡ Some line → Known jobs line) → Each (OfSome server jobs) (placements_put server now (puts server a e won))
 step_gives server now a (Own (OfConn conn event)) won jobs known p i = go (conn_line server a conn) i
   where
-    go : (o : Option Line) → In p (placements_put server now (put_at o (λ line. Some (conn_event conn event)))) → OfSome server jobs p
+    go : (o : Option ShardWithJobs) → In p (placements_put server now (put_at o (λ line. Some (conn_event conn event)))) → OfSome server jobs p
     go None j = absurd j
     go (Some line) j = absurd (subst (In p) (conn_gives server now line.shard conn event) j)
 step_gives server now a (Own (AtShard shard work)) won jobs known p i = go (shard_line a shard) refl i
   where
-    go : (o : Option Line) → shard_line a shard ≡ o → In p (placements_put server now (put_at o (work_event work won))) → OfSome server jobs p
+    go : (o : Option ShardWithJobs) → shard_line a shard ≡ o → In p (placements_put server now (put_at o (work_event work won))) → OfSome server jobs p
     go None at j = absurd j
     go (Some line) at j = work_gives server now jobs line work won (known (shard - 1) line (found (nat_eq shard 0) (slice_get a.lines (shard - 1)) line at)) p j
 step_gives server now a (Own (of_node.Publish q)) won jobs known p i = absurd i
@@ -178,7 +178,7 @@ Echoes c w = Each (Echoed c w.publications) w.placements
 acts_echo : PutsArePlaced → (c : Cluster) → IsCluster c → (w w' : World) (n : ℕ) (event : Option NodeEvent) (told : Outcome) → Acts c w n event told w' → Rans c w → Echoes c w → Echoes c w'
 acts_echo placed c set_up w w' n event told s r h = subst (Echoes c) (sym s.after) (λ p i. more_echoed c w.publications (publications_of server (suc w.step) s.a.node s.e) p (⊎_elim (λ j. h p j) (λ j. here p j) (in_append p w.placements s.gained i)))
   where
-    server : Server
+    server : ServerIdentity
     server = server_at c n s.a.inc
 
     listed : IsListed server

@@ -8,7 +8,7 @@ use Rattle.list_laws.proofs.Tests.{eq_true, eq_false, true_eq, has_in, in_has}
 use Rattle.list_laws.proofs.Changes.{get_set_here, get_set_there, in_mapped}
 use Rattle.sub_table.specs.Subscriptions.{serial_of}
 use Rattle.sub_table.specs.declared.Subscription.{Subscription}
-use Rattle.subj.specs.Servers.{Server, IsListed}
+use Rattle.subj.specs.Servers.{ServerIdentity, IsListed}
 use Rattle.subj.specs.declared.keys.Key.{Key}
 use Rattle.shard_core.specs.AsLaw.{is_open_serial}
 use Rattle.shard_core.specs.Causes.{AreHeld, sub_after, IsOpening}
@@ -24,7 +24,7 @@ use Rattle.node_law.specs.declared.events.ConnEvent.TheVariants.{Subscribe, Unsu
 use Rattle.node_law.specs.Events as of_node
 use Rattle.node_law.specs.Events.{NodeEvent}
 use Rattle.node_law.specs.Sound.{SoundNode}
-use Rattle.node_law.specs.State.{Line, new_node}
+use Rattle.node_law.specs.State.{ShardWithJobs, new_node}
 use Rattle.node_law.specs.Steps.{conn_place, conn_line}
 use Rattle.node_law.proofs.Runs.EachShard.{Goes, step_goes}
 use Rattle.node_law.proofs.Runs.Sound.{run_sound}
@@ -47,7 +47,7 @@ use Rattle.world_law.proofs.Seen.Worlds.{after_act, shard_line_at, conn_line_at,
 abbrev id_at : ℕ → ℕ → ℕ → ℕ → LifeId
 id_at n inc place serial = record { node = n; inc = inc; sub = record { shard = suc place; serial = serial } }
 
-open_here : (nodes : List (Option Running)) (n : ℕ) (b : Running) (place serial : ℕ) (y : Line) → slice_get nodes n ≡ Some (Some b) → slice_get b.node.lines place ≡ Some y → is_open nodes (id_at n b.inc place serial) ≡ is_open_serial serial y.shard.subs
+open_here : (nodes : List (Option Running)) (n : ℕ) (b : Running) (place serial : ℕ) (y : ShardWithJobs) → slice_get nodes n ≡ Some (Some b) → slice_get b.node.lines place ≡ Some y → is_open nodes (id_at n b.inc place serial) ≡ is_open_serial serial y.shard.subs
 open_here nodes n b place serial y up at =
     ap (is_open_at b.inc (record { shard = suc place; serial = serial })) up
     ∙ ap (λ o. nat_eq b.inc b.inc && is_open_in serial o) (shard_line_at b.node (suc place) place refl ∙ at)
@@ -56,7 +56,7 @@ open_here nodes n b place serial y up at =
 -- a server that is up is sound, and its shards keep what they keep
 record Keeps (c : Cluster) (n : ℕ) (a : Running) : Type 0 where
   sound : SoundNode (server_at c n a.inc) a.node
-  held : (place : ℕ) (line : Line) → slice_get a.node.lines place ≡ Some line → AreHeld line.shard
+  held : (place : ℕ) (line : ShardWithJobs) → slice_get a.node.lines place ≡ Some line → AreHeld line.shard
 
 keeps_at : ShardsStayHeld → (c : Cluster) → IsCluster c → (w : World) → Rans c w → (n : ℕ) (a : Running) → slice_get w.nodes n ≡ Some (Some a) → Keeps c n a
 keeps_at held c set_up w r n a at =
@@ -95,7 +95,7 @@ acts_close c w keeps l x n event told w' s = go (nat_eq l.id.node n) refl
         at : slice_get s.a.node.lines x.place ≡ Some x.line
         at = ap (λ (a : Running). slice_get a.node.lines x.place) (sym same) ∙ x.at
 
-        y : (new : Line) × (slice_get s.b.lines x.place ≡ Some new)
+        y : (new : ShardWithJobs) × (slice_get s.b.lines x.place ≡ Some new)
         y = at_both s.a.node.lines s.b.lines x.place x.line (same_size (server_at c n s.a.inc) s.a.node s.e s.won s.race s.b s.steps) at
 
         looked : is_open (after_act w n s.a.inc s.b) l.id ≡ is_open_serial x.sub.serial y.0.shard.subs
@@ -179,7 +179,7 @@ is_subscribe Detach = false
 is_subscribe (Take count) = false
 
 -- the shard's part of a subscribe
-abbrev opened_part : Server → ℕ → Key → List ℕ → Option Line → Option Part
+abbrev opened_part : ServerIdentity → ℕ → Key → List ℕ → Option ShardWithJobs → Option Part
 opened_part server conn key sid o = part_at (conn_place server conn) (λ line. Some (of_shard.Subscribe conn key sid)) o
 
 module _ (c : Cluster) (w : World) (n : ℕ) (event : Option NodeEvent) (told : Outcome) (w' : World) (s : Acts c w n event told w') (keeps : (k : ℕ) (a : Running) → slice_get w.nodes k ≡ Some (Some a) → Keeps c k a) where
@@ -187,7 +187,7 @@ module _ (c : Cluster) (w : World) (n : ℕ) (event : Option NodeEvent) (told : 
   now_up = ap (λ (x : World). slice_get x.nodes n) s.after ∙ get_set_here w.nodes n (Some s.a) (Some (record { inc = s.a.inc; node = s.b })) s.a_is
 
   -- what is open afterwards under the serial of one that was open is that one
-  same_sub : (place : ℕ) (x y : Line) (held : AreHeld x.shard) → Goes (part_of (server_at c n s.a.inc) s.a.node s.e s.won) place x y → (u v : Subscription) → In u x.shard.subs → In v y.shard.subs → v.serial ≡ u.serial → (v.conn ≡ u.conn) × (v.key ≡ u.key) × (v.sid ≡ u.sid)
+  same_sub : (place : ℕ) (x y : ShardWithJobs) (held : AreHeld x.shard) → Goes (part_of (server_at c n s.a.inc) s.a.node s.e s.won) place x y → (u v : Subscription) → In u x.shard.subs → In v y.shard.subs → v.serial ≡ u.serial → (v.conn ≡ u.conn) × (v.key ≡ u.key) × (v.sid ≡ u.sid)
   same_sub place x y held (inl (e, is, cause, after)) u v i j same = ⊎_elim
       (λ (f : (old : Subscription) × In old x.shard.subs × (v ≡ sub_after x.shard e old)).
       let it : f.0 ≡ u = one x.shard.subs held.rising f.0 u f.1 i (sym (ap (λ (z : Subscription). z.serial) f.2) ∙ same) in
@@ -243,7 +243,7 @@ module _ (c : Cluster) (w : World) (n : ℕ) (event : Option NodeEvent) (told : 
           at : slice_get s.a.node.lines x.place ≡ Some x.line
           at = ap (λ (a : Running). slice_get a.node.lines x.place) (sym same) ∙ x.at
 
-          y : (new : Line) × (slice_get s.b.lines x.place ≡ Some new)
+          y : (new : ShardWithJobs) × (slice_get s.b.lines x.place ≡ Some new)
           y = at_both s.a.node.lines s.b.lines x.place x.line (same_size (server_at c n s.a.inc) s.a.node s.e s.won s.race s.b s.steps) at
 
           goes : Goes (part_of (server_at c n s.a.inc) s.a.node s.e s.won) x.place x.line y.0
@@ -269,14 +269,14 @@ module _ (c : Cluster) (w : World) (n : ℕ) (event : Option NodeEvent) (told : 
       go false e = moved w w' l x (ap (λ (x : World). slice_get x.nodes l.id.node) s.after ∙ get_set_there w.nodes n l.id.node (Some (record { inc = s.a.inc; node = s.b })) (eq_false l.id.node n e))
 
   -- what opens is open
-  opens_at : (conn : ℕ) (key : Key) (sid : List ℕ) (o : Option Line) → conn_line (server_at c n s.a.inc) s.a.node conn ≡ o → part_of (server_at c n s.a.inc) s.a.node s.e s.won ≡ opened_part (server_at c n s.a.inc) conn key sid o → (l : Life) → In l (conn_lives (server_at c n s.a.inc) (suc w.step) conn (Subscribe key sid) o) → IsOpenLife w' l
+  opens_at : (conn : ℕ) (key : Key) (sid : List ℕ) (o : Option ShardWithJobs) → conn_line (server_at c n s.a.inc) s.a.node conn ≡ o → part_of (server_at c n s.a.inc) s.a.node s.e s.won ≡ opened_part (server_at c n s.a.inc) conn key sid o → (l : Life) → In l (conn_lives (server_at c n s.a.inc) (suc w.step) conn (Subscribe key sid) o) → IsOpenLife w' l
   opens_at conn key sid None is part l i = absurd i
   opens_at conn key sid (Some line) is part l i = go (sub_called conn sid line.shard.subs) refl i
     where
       at : slice_get s.a.node.lines (conn_place (server_at c n s.a.inc) conn) ≡ Some line
       at = conn_line_at (server_at c n s.a.inc) s.a.node conn line is
 
-      y : (new : Line) × (slice_get s.b.lines (conn_place (server_at c n s.a.inc) conn) ≡ Some new)
+      y : (new : ShardWithJobs) × (slice_get s.b.lines (conn_place (server_at c n s.a.inc) conn) ≡ Some new)
       y = at_both s.a.node.lines s.b.lines (conn_place (server_at c n s.a.inc) conn) line (same_size (server_at c n s.a.inc) s.a.node s.e s.won s.race s.b s.steps) at
 
       after_is : Goes (part_of (server_at c n s.a.inc) s.a.node s.e s.won) (conn_place (server_at c n s.a.inc) conn) line y.0 → y.0.shard ≡ shard_after line.shard (of_shard.Subscribe conn key sid)
@@ -302,7 +302,7 @@ module _ (c : Cluster) (w : World) (n : ℕ) (event : Option NodeEvent) (told : 
             is = record { id = λ i. record { node = n; inc = s.a.inc; sub = record { shard = (sym (ap (λ (t : State). t.shard) after)) i; serial = line.shard.opened + 1 } }; conn = refl; key = refl; sid = refl };
           }
 
-  quiet_event : (conn : ℕ) (e : ConnEvent) (o : Option Line) → is_subscribe e ≡ false → conn_lives (server_at c n s.a.inc) (suc w.step) conn e o ≡ []
+  quiet_event : (conn : ℕ) (e : ConnEvent) (o : Option ShardWithJobs) → is_subscribe e ≡ false → conn_lives (server_at c n s.a.inc) (suc w.step) conn e o ≡ []
   quiet_event conn e None not = refl
   quiet_event conn (Subscribe key sid) (Some line) not = absurd (true≢false not)
   quiet_event conn (Unsubscribe sid max) (Some line) not = refl

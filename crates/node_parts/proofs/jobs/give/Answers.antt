@@ -1,16 +1,16 @@
 use Rattle.std.proofs.Common.{◌≡◌, suc, List, [], ◌∷◌, length, map, replicate, sym, ap, ◌∙◌, arith, length-append}
 use Rattle.std.specs.Prelude.{slice_get}
 use Rattle.subj.specs.declared.jobs.Job.{Job}
-use Rattle.node_law.specs.State.{Line}
+use Rattle.node_law.specs.State.{ShardWithJobs}
 use Rattle.node_law.specs.Steps.{line_with_job}
 use Rattle.node_parts.proofs.Handing.{popped}
 use Rattle.node_parts.proofs.jobs.give.Goals as goal
 
 pub hand_over-requires : goal.hand_over-requires
-hand_over-requires g c = c.requires.room 0 c.in-Some.first.now (ap (λ (lines : List Line). slice_get lines 0) c.in-Some.ensures.cases.0)
+hand_over-requires g c = c.requires.room 0 c.in-Some.first.now (ap (λ (lines : List ShardWithJobs). slice_get lines 0) c.in-Some.ensures.cases.0)
 
 pub hand_out-requires-clause-room : goal.hand_out-requires-clause-room
-hand_out-requires-clause-room g c = λ place line at. c.requires.room (suc place) line (ap (λ (lines : List Line). slice_get lines (suc place)) c.in-Some.ensures.cases.0 ∙ at)
+hand_out-requires-clause-room g c = λ place line at. c.requires.room (suc place) line (ap (λ (lines : List ShardWithJobs). slice_get lines (suc place)) c.in-Some.ensures.cases.0 ∙ at)
 
 pub returns : goal.returns
 returns g c = λ same alike.

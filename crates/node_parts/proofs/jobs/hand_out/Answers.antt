@@ -3,7 +3,7 @@ use Rattle.std.specs.Prelude.{slice_get}
 use Rattle.std.proofs.lemmas.Option.{slice_get-get_or}
 use Rattle.subj.specs.declared.jobs.Job.{Job}
 use Rattle.subj.specs.declared.limits.TheConstants.{WINDOW}
-use Rattle.node_law.specs.State.{Line}
+use Rattle.node_law.specs.State.{ShardWithJobs}
 use Rattle.node_law.specs.Steps.{line_with_job}
 use Rattle.node_parts.proofs.Handing.{mapped_more, rest_same, first_of_rest, popped, rest_next}
 use Rattle.hub_core.proofs.Neighbours.Known.{set_length}
@@ -16,7 +16,7 @@ hand_over-requires g c =
     let x = c.line-item.result in
     let here : slice_get items k ≡ Some x = slice_get-get_or items k x (let size = c.loop-line.invariant.size in let test = c.loop-line-test.true in omega arith) ∙ ap Some (sym c.line-item.is) in
     let room : length x.waiting < WINDOW = c.requires.room k x (first_of_rest items c.args.lines.now k x c.loop-line.invariant.rest here) in
-    subst (λ (line : Line). length line.waiting < WINDOW) c.line-item.is room
+    subst (λ (line : ShardWithJobs). length line.waiting < WINDOW) c.line-item.is room
 
 pub loop-line-preserved : goal.loop-line-preserved
 loop-line-preserved g c =
@@ -38,8 +38,8 @@ loop-line-preserved g c =
       rest = ap (λ n. drop n (set items k c.hand_over.new.self)) (sym next) ∙ rest_same items k c.hand_over.new.self ∙ rest_next items lines k invariant.rest ∙ ap (λ n. drop n lines) next;
       alike = λ j same. (one j same).1;
       given = λ j same.
-          ap (λ (l : Line). set items k l) (after ∙ ap (λ (t : Job). line_with_job t x) (one j same).0)
-          ∙ ap (λ (ls : List Line). set ls k (line_with_job j x)) (invariant.given j same)
+          ap (λ (l : ShardWithJobs). set items k l) (after ∙ ap (λ (t : Job). line_with_job t x) (one j same).0)
+          ∙ ap (λ (ls : List ShardWithJobs). set ls k (line_with_job j x)) (invariant.given j same)
           ∙ mapped_more (line_with_job j) lines k x there
           ∙ ap (λ n. map (line_with_job j) (take n lines) ++ drop n lines) next;
     }

@@ -1,6 +1,6 @@
 use Rattle.std.proofs.Common.{[], cond, map, sym, ap, ◌∙◌}
 use Rattle.std.proofs.lemmas.Result.{IfOk-weaker}
-use Rattle.hub_core.specs.Chosen.{publication}
+use Rattle.hub_core.specs.Chosen.{publication_by}
 use Rattle.cluster_world.specs.InCode.{event_of}
 use Rattle.settled_order.specs.Owed.{work_owed}
 use Rattle.settled_order.proofs.deliveries.ready_work.Goals as goal
@@ -8,11 +8,11 @@ use Rattle.settled_order.proofs.deliveries.ready_work.Goals as goal
 pub returns-then-not-is_ready : goal.returns-then-not-is_ready
 returns-then-not-is_ready g c =
     let v = c.args.world.now in
-    let p = publication c.args.conn c.args.said.now c.args.word in
+    let p = publication_by c.args.conn c.args.publication.now c.args.word in
     ap (map event_of) c.new.ensures.items ∙ ap (λ b. cond b (work_owed v.cluster v.world c.args.node p) []) (sym c.if-not-is_ready.true ∙ c.is_ready.ensures)
 
 pub returns : goal.returns
 returns g c =
     let v = c.args.world.now in
-    let p = publication c.args.conn c.args.said.now c.args.word in
+    let p = publication_by c.args.conn c.args.publication.now c.args.word in
     IfOk-weaker c.work_of.result _ _ (λ order is. is ∙ ap (λ b. cond b (work_owed v.cluster v.world c.args.node p) []) (sym c.if-not-is_ready.false ∙ c.is_ready.ensures)) c.work_of.ensures

@@ -1,6 +1,6 @@
 use Rattle.std.proofs.Common.{[], ◌∷◌, ap, ◌∙◌}
 use Rattle.client_frames.specs.declared.server_frames.ReplyFrame.TheVariants as reply
-use Rattle.client_conn.specs.declared.ask.Ask.TheVariants.{Reply}
+use Rattle.client_conn.specs.declared.ask.ClientAction.TheVariants.{Reply}
 use Rattle.client_conn.specs.Items.{first_options}
 use Rattle.client_conn.specs.Streams.{asking_at, end_of}
 use Rattle.client_conn.proofs.Answering.{new_asks}

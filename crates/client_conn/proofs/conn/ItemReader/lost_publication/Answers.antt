@@ -15,4 +15,4 @@ returns-clause-looked c =
     let cut = rw (c.in-Ok-Some-Payload.field-0-is, c.in-Ok-Some-Payload.field-0-0-is) at c.in-Ok-Some-Payload.ensures.answer in
     moved looks.Told c.args.open_asks.now c.refuse.new.self c.args.self.now (payload c.in-Ok-Some-Payload.payload.now) _ c.requires.step c.requires.reads (sym cut)
     (lost_found c.args.open_asks.now c.refuse.new.self c.requires.due.0 c.args.self.now.awaited c.in-Ok-Some-Payload.payload.now _ c.of_line.result _ c.requires.due.1 c.of_line.ensures c.refuse.ensures
-    (line_due c.args.self.now.cutter c.use_up.new.self c.args.self.now.ended c.requires.reads c.use_up.ensures))
+    (line_due c.args.self.now.cutter c.consume.new.self c.args.self.now.ended c.requires.reads c.consume.ensures))

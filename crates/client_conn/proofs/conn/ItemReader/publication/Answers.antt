@@ -18,4 +18,4 @@ returns-clause-ok c =
     let message = made.0.2 ∙ ap (message_of made.0.0) c.in_ok-copy-in-Ok-Some-Payload.ensures in
     moved looks.Told c.args.open_asks.now c.ask_publication.new.self c.args.self.now (payload c.in-Ok-Some-Payload.payload.now) _ c.requires.step c.requires.reads (sym cut)
     (published_found c.args.open_asks.now c.ask_publication.new.self made.0.0 c.args.self.now.awaited c.in-Ok-Some-Payload.payload.now _ c.in_ok-message.message _ made.0.1 message c.ask_publication.ensures
-    (line_due_behind c.args.self.now.cutter c.use_up.new.self c.args.self.now.ended _ c.requires.reads made.1 c.use_up.ensures))
+    (line_due_behind c.args.self.now.cutter c.consume.new.self c.args.self.now.ended _ c.requires.reads made.1 c.consume.ensures))

@@ -4,16 +4,16 @@ use Rattle.subj.specs.Answers.{IsAnswered}
 use Rattle.hub_core.specs.declared.faults.HubFault.{HubFault}
 use Rattle.hub_core.specs.declared.faults.HubFault.TheVariants.{TooManyQueues}
 use Rattle.hub_core.specs.declared.publishing.PublishPlan.{PublishPlan}
-use Rattle.hub_core.specs.Chosen.{publication, IsPlanOf}
+use Rattle.hub_core.specs.Chosen.{publication_by, IsPlanOf}
 use Rattle.hub_core.specs.Serving.{ServesAlone}
 use Rattle.hub_core.proofs.Choices.Alone.{few_alone}
 use Rattle.hub_core.proofs.hub.Hub.plan_at.Goals as goal
 
 pub returns-in-Some : goal.returns-in-Some
 returns-in-Some c =
-    let hub = c.args.self.now in let said = c.args.said.now in
-    let p = publication c.args.conn said c.args.word in
+    let hub = c.args.self.now in let publication = c.args.publication.now in
+    let p = publication_by c.args.conn publication c.args.word in
     let serves = subst (λ (subject : List ℕ). ServesAlone hub.server hub.state subject c.in-Some.names.now) c.subject-subject.ensures c.in-Some.ensures in
-    let few = few_alone hub.server hub.state said.message.subject c.in-Some.names.now serves in
+    let few = few_alone hub.server hub.state publication.message.subject c.in-Some.names.now serves in
     subst (λ (cause : Option HubFault). IsAnswered {T = PublishPlan} cause (λ plan. IsPlanOf hub.server hub.state p plan.job plan.frames.items) ⊤ c.plan_alone.result)
     (sym (ap (λ b. let o : Option HubFault = if b then Some TooManyQueues else None in o) few)) (c.plan_alone.ensures c.args.word)

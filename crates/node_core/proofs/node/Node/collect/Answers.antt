@@ -4,12 +4,12 @@ use Rattle.std.specs.Option.{option_map}
 use Rattle.std.specs.List.{count_by}
 use Rattle.std.proofs.lemmas.Option.{slice_get-get_or}
 use Rattle.subj.specs.Answers.{IsAnswered}
-use Rattle.subj.specs.Servers.{Server}
+use Rattle.subj.specs.Servers.{ServerIdentity}
 use Rattle.subj.specs.declared.limits.TheConstants.{MAX_NODES, ROUTE_FRAMES}
 use Rattle.hub_core.specs.State as hub
 use Rattle.hub_core.specs.Telling.{collect_refusal}
 use Rattle.node_law.specs.declared.faults.NodeFault.TheVariants as node_fault
-use Rattle.node_parts.specs.declared.told.Told.{Told}
+use Rattle.node_parts.specs.declared.told.CollectResult.{CollectResult}
 use Rattle.node_law.specs.declared.faults.NodeFault.TheVariants.{NoShard}
 use Rattle.node_law.specs.Events.{Own, Collect}
 use Rattle.node_law.specs.Steps.{collect_refusal_at}
@@ -45,8 +45,8 @@ returns-in-Err g c =
     let p = shard_found before.node c.args.shard c.len.result c.in-Some.place c.place_of_shard.result x count c.place_of_shard.ensures.place c.in-Some.is here in
     let cause = collect_refusal old.side.hub c.deltas.result.now in
     let causes : option_map node_fault.Hub cause ≡ refusal before (Own (Collect c.args.shard)) = ap (λ d. option_map node_fault.Hub (collect_refusal old.side.hub d)) c.deltas.ensures ∙ sym (ap (collect_refusal_at old.side.hub) p.is) in
-    let told = λ (t : Told). CollectStep before c.args.shard t.changes t.frames t.cut.items after in
-    subst (λ (s : Served). IsAnswered (refusal s (Own (Collect c.args.shard))) (λ (t : Told). CollectStep s c.args.shard t.changes t.frames t.cut.items after) (after ≡ s) c.of_hub.result) c.self.view_is
+    let told = λ (t : CollectResult). CollectStep before c.args.shard t.changes t.frames t.cut.items after in
+    subst (λ (s : Served). IsAnswered (refusal s (Own (Collect c.args.shard))) (λ (t : CollectResult). CollectStep s c.args.shard t.changes t.frames t.cut.items after) (after ≡ s) c.of_hub.result) c.self.view_is
     (subst (λ o. IsAnswered o told (after ≡ before) c.of_hub.result) causes (hub_refuses cause told (after ≡ before) c.in-Err.fault c.of_hub.result c.of_hub.ensures (refused_as cause cause (c.collect.new.self ≡ old.side) (after ≡ before) c.in-Err.fault refl (λ left. collect_left old.side c.collect.new.self race lines c.in-Some.place x left here) c.in-Err.ensures)))
 
 pub overflow_mul-frames : goal.overflow_mul-frames
@@ -56,7 +56,7 @@ overflow_mul-frames g c =
     let ups = c.up_count.ensures ∙ ap (λ (h : hub.State). count_by is_up h.peers) c.hub-2.ensures.state in
     let told = told_of old.side c.collect.new.self c.args.shard x c.take_deltas.new.self c.deltas.result.now c.in-Ok.told.changes.items c.up_count.result c.in-Ok.told.cut.items c.deltas.ensures c.in-Ok.ensures.1 ups c.take_deltas.ensures.after in
     let count = c.len-changes.ensures ∙ c.in-Ok.told.changes.ok.0 ∙ ap length (changes_told old.side c.collect.new.self c.args.shard x c.take_deltas.new.self c.in-Ok.told.changes.items c.up_count.result c.in-Ok.told.cut.items told) in
-    let few : length old.side.server.names ≤ MAX_NODES = subst (λ (s : Server). length s.names ≤ MAX_NODES) (c.server.ensures ∙ c.hub.ensures.server) c.me-me.ensures.server.few in
+    let few : length old.side.server.names ≤ MAX_NODES = subst (λ (s : ServerIdentity). length s.names ≤ MAX_NODES) (c.server.ensures ∙ c.hub.ensures.server) c.me-me.ensures.server.few in
     let bound : c.len-changes.result * c.up_count.result ≤ ROUTE_FRAMES * MAX_NODES = frames_within old.side.server old.side.hub x.shard.deltas c.len-changes.result c.up_count.result c.self.invariant.sound.peers few count (ups_told old.side c.collect.new.self c.args.shard x c.take_deltas.new.self c.in-Ok.told.changes.items c.up_count.result c.in-Ok.told.cut.items told) in
     omega (arith, bound)
 

@@ -2,7 +2,7 @@ use Rattle.std.proofs.Common.{◌≡◌, ap, ◌∙◌, subst}
 use Rattle.std.specs.Prelude.{⊤}
 use Rattle.std.specs.Option.{option_map}
 use Rattle.subj.specs.Answers.{IsAnswered}
-use Rattle.hub_core.specs.Chosen.{publication, IsPlanOf}
+use Rattle.hub_core.specs.Chosen.{publication_by, IsPlanOf}
 use Rattle.hub_core.specs.Publishing.{publish_refusal}
 use Rattle.hub_core.specs.declared.publishing.PublishPlan.{PublishPlan}
 use Rattle.node_law.specs.declared.faults.NodeFault.TheVariants as node_fault
@@ -25,7 +25,7 @@ pub returns : goal.returns
 returns g c =
     let old = c.self.inside in
     let before = served_of_parts old.side (g.R.Race.contents old.race) old.lines.items in
-    let p = publication c.args.conn c.args.said.now c.args.word in
+    let p = publication_by c.args.conn c.args.publication.now c.args.word in
     let planned = λ (s : Served) (plan : PublishPlan). IsPlanOf s.server s.node.hub p plan.job plan.frames.items in
     let cause = publish_refusal old.side.server old.side.hub p c.finished_by-finished.result in
     let causes : option_map node_fault.Hub cause ≡ refusal before (Own (Publish p)) = ap (option_map node_fault.Hub) (publish_heard before p c.len-count.result c.finished_by-finished.result c.self.invariant (c.len-count.ensures ∙ old.lines.ok.0) c.finished_by-finished.ensures) in

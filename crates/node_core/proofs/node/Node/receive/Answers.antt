@@ -5,7 +5,7 @@ use Rattle.hub_core.specs.Receiving.{has_message, receive_refusal}
 use Rattle.node_law.specs.declared.faults.NodeFault.TheVariants as node_fault
 use Rattle.node_parts.specs.declared.told.Received.{Received}
 use Rattle.node_law.specs.Events.{Receive}
-use Rattle.node_law.specs.State.{Line}
+use Rattle.node_law.specs.State.{ShardWithJobs}
 use Rattle.node_core.specs.Served.{Served, IsKept, MayRoute, AreRouted, ReceiveStep, IsReceived, served_of_parts, refusal}
 use Rattle.node_core.proofs.Calls.Composed.{step_keeps, same_keeps}
 use Rattle.node_core.proofs.Calls.GivenJobs.{are_counted, hub_refuses, refused_same, refused_as}
@@ -35,7 +35,7 @@ route-requires g c =
     let before = served_of_parts old.side (g.R.Race.contents old.race) old.lines.items in
     let count = c.len-count.ensures ∙ old.lines.ok.0 in
     let free = sym (receive_heard before frame c.len-count.result c.finished_by-finished.result c.self.invariant count c.finished_by-finished.ensures) ∙ c.in-Ok.ensures.0 in
-    subst (λ (ls : List Line). MayRoute (has_message frame.body) (g.R.Race.contents old.race) ls c.take_in.new.copies.items) (sym c.as_mut_slice-lines.ensures.value) (may_route before frame c.in-Ok.received c.take_in.new.copies.items c.self.invariant free (subst (λ n. IsReceived old.side.hub frame frame.body n c.in-Ok.received c.take_in.new.copies.items) count c.in-Ok.ensures.1.1))
+    subst (λ (ls : List ShardWithJobs). MayRoute (has_message frame.body) (g.R.Race.contents old.race) ls c.take_in.new.copies.items) (sym c.as_mut_slice-lines.ensures.value) (may_route before frame c.in-Ok.received c.take_in.new.copies.items c.self.invariant free (subst (λ n. IsReceived old.side.hub frame frame.body n c.in-Ok.received c.take_in.new.copies.items) count c.in-Ok.ensures.1.1))
 
 pub invariant_of-self : goal.invariant_of-self
 invariant_of-self g c =
@@ -70,11 +70,11 @@ invariant_of-self-2 g c =
       finished = c.finished_by-finished.result;
       side = c.in-Ok.ensures.1.0;
       received_is = subst (λ n. IsReceived old.side.hub frame frame.body n c.in-Ok.received c.take_in.new.copies.items) count c.in-Ok.ensures.1.1;
-      routed = subst (λ (ls : List Line). AreRouted (has_message frame.body) race ls c.take_in.new.copies.items new_race c.route.new.lines) c.as_mut_slice-lines.ensures.value c.route.ensures;
+      routed = subst (λ (ls : List ShardWithJobs). AreRouted (has_message frame.body) race ls c.take_in.new.copies.items new_race c.route.new.lines) c.as_mut_slice-lines.ensures.value c.route.ensures;
     } in
     let does = receive_done old.side c.take_in.new.side race new_race old.lines.items c.route.new.lines frame c.in-Ok.received c.take_in.new.copies.items free done in
     let whole = written old.lines.len c.route.new.lines old.lines.items (routed_length old.side.hub race new_race old.lines.items c.route.new.lines frame c.in-Ok.received c.take_in.new.copies.items done.received_is done.routed) old.lines.ok.0 in
-    subst (λ (ls : List Line). IsKept (served_of_parts c.take_in.new.side new_race ls)) (sym whole) (step_keeps before (Receive frame) false (served_of_parts c.take_in.new.side new_race c.route.new.lines) c.self.invariant does.step)
+    subst (λ (ls : List ShardWithJobs). IsKept (served_of_parts c.take_in.new.side new_race ls)) (sym whole) (step_keeps before (Receive frame) false (served_of_parts c.take_in.new.side new_race c.route.new.lines) c.self.invariant does.step)
 
 pub returns : goal.returns
 returns g c =
@@ -89,10 +89,10 @@ returns g c =
       finished = c.finished_by-finished.result;
       side = c.in-Ok.ensures.1.0;
       received_is = subst (λ n. IsReceived old.side.hub frame frame.body n c.in-Ok.received c.take_in.new.copies.items) count c.in-Ok.ensures.1.1;
-      routed = subst (λ (ls : List Line). AreRouted (has_message frame.body) race ls c.take_in.new.copies.items new_race c.route.new.lines) c.as_mut_slice-lines.ensures.value c.route.ensures;
+      routed = subst (λ (ls : List ShardWithJobs). AreRouted (has_message frame.body) race ls c.take_in.new.copies.items new_race c.route.new.lines) c.as_mut_slice-lines.ensures.value c.route.ensures;
     } in
     let does = receive_done old.side c.take_in.new.side race new_race old.lines.items c.route.new.lines frame c.in-Ok.received c.take_in.new.copies.items free done in
     let whole = written old.lines.len c.route.new.lines old.lines.items (routed_length old.side.hub race new_race old.lines.items c.route.new.lines frame c.in-Ok.received c.take_in.new.copies.items done.received_is done.routed) old.lines.ok.0 in
     let after = served_of_parts c.take_in.new.side new_race (take old.lines.len (c.route.new.lines ++ drop (length c.route.new.lines) old.lines.items)) in
     subst (λ (s : Served). (refusal s (Receive frame) ≡ None) × ReceiveStep s frame c.in-Ok.received after) c.self.view_is
-    (does.step.step.cause, subst (λ (ls : List Line). ReceiveStep before frame c.in-Ok.received (served_of_parts c.take_in.new.side new_race ls)) (sym whole) does)
+    (does.step.step.cause, subst (λ (ls : List ShardWithJobs). ReceiveStep before frame c.in-Ok.received (served_of_parts c.take_in.new.side new_race ls)) (sym whole) does)

@@ -6,7 +6,7 @@ use Rattle.hub_core.specs.Calls.{job_of}
 use Rattle.hub_core.specs.Events as of_hub
 use Rattle.hub_core.specs.Receiving.{receive_refusal}
 use Rattle.node_threads.specs.AtHub.{AtHub, hub_at, IsAtHub, Issues, Looks}
-use Rattle.node_parts.specs.Sides.{Side, ByHub, OfHub, IsDone}
+use Rattle.node_parts.specs.Sides.{HubWithSessions, ByHub, OfHub, IsDone}
 use Rattle.node_threads.proofs.Hubs.Publishing.{has_issued, issues}
 use Rattle.node_threads.proofs.Hubs.Receiving.{has_job, routed_answer, may_route, issued_more}
 use Rattle.node_threads.proofs.hub_state.HubState.route.Goals as goal
@@ -42,7 +42,7 @@ invariant_of-self-2 g c =
     let done : IsDone s.side (ByHub (of_hub.Receive frame s.finished)) (OfHub (of_hub.Routed job)) side = record { free = planned.0; asked = tt; answered = ap OfHub a.answers; after = c.take_message.ensures } in
     let h = has_issued c.args.cells.now.shards s.seat.part c.issue.new.seat.part c.in-Ok-issue.field-0 (c.in-Ok-issue.ensures).told in
     let jobs_are : c.add.new.self.jobs ≡ s.outlet.jobs ++ job ∷ [] = c.add.ensures ∙ ap (λ js. js ++ job ∷ []) c.reserve.ensures.same in
-    let new = issues g.N.NodeName.race.shards w side c.issue.new.seat.part (ByHub (of_hub.Receive frame s.finished)) (OfHub (of_hub.Routed job)) job c.self.invariant.0 done h (ap (λ (t : Side). t.hub.issued) c.take_message.ensures ∙ issued_more s.side.server s.side.hub frame c.requires.message) refl a.turn c.as_slice-in_order.ensures.valid in
+    let new = issues g.N.NodeName.race.shards w side c.issue.new.seat.part (ByHub (of_hub.Receive frame s.finished)) (OfHub (of_hub.Routed job)) job c.self.invariant.0 done h (ap (λ (t : HubWithSessions). t.hub.issued) c.take_message.ensures ∙ issued_more s.side.server s.side.hub frame c.requires.message) refl a.turn c.as_slice-in_order.ensures.valid in
     (subst (λ js. IsAtHub g.N.NodeName.race.shards (hub_at side c.issue.new.seat.part s.finished js)) (sym {A = List Job} jobs_are) new.0, c.issue.ensures.race ∙ c.self.invariant.1)
 
 pub returns : goal.returns
@@ -57,7 +57,7 @@ returns g c =
     let done : IsDone s.side (ByHub (of_hub.Receive frame s.finished)) (OfHub (of_hub.Routed job)) side = record { free = planned.0; asked = tt; answered = ap OfHub a.answers; after = c.take_message.ensures } in
     let h = has_issued c.args.cells.now.shards s.seat.part c.issue.new.seat.part c.in-Ok-issue.field-0 (c.in-Ok-issue.ensures).told in
     let jobs_are : c.add.new.self.jobs ≡ s.outlet.jobs ++ job ∷ [] = c.add.ensures ∙ ap (λ js. js ++ job ∷ []) c.reserve.ensures.same in
-    let new = issues g.N.NodeName.race.shards w side c.issue.new.seat.part (ByHub (of_hub.Receive frame s.finished)) (OfHub (of_hub.Routed job)) job c.self.invariant.0 done h (ap (λ (t : Side). t.hub.issued) c.take_message.ensures ∙ issued_more s.side.server s.side.hub frame c.requires.message) refl a.turn c.as_slice-in_order.ensures.valid in
+    let new = issues g.N.NodeName.race.shards w side c.issue.new.seat.part (ByHub (of_hub.Receive frame s.finished)) (OfHub (of_hub.Routed job)) job c.self.invariant.0 done h (ap (λ (t : HubWithSessions). t.hub.issued) c.take_message.ensures ∙ issued_more s.side.server s.side.hub frame c.requires.message) refl a.turn c.as_slice-in_order.ensures.valid in
     record {
       seen = w;
       looks = subst (λ (o : AtHub). Looks g.N.NodeName.race.shards c.args.self.now o) (sym c.self.view_is) (c.in_ok-planned.ensures).looks;

@@ -1,5 +1,5 @@
 use Rattle.std.proofs.Common.{◌≡◌, All, true, Some, None, sym, ap, ◌∙◌, subst}
-use Rattle.node_threads.specs.Outlets.{Line, Outlet, IsOutlet, jobs_handed}
+use Rattle.node_threads.specs.Outlets.{LaneSender, Outlet, IsOutlet, jobs_handed}
 use Rattle.node_threads.proofs.Lanes.Outlets.{owed_numbered, with_unsent, all_took, alike}
 use Rattle.node_threads.proofs.hub_state.Outlet.offer.Goals as goal
 
@@ -30,7 +30,7 @@ invariant_of-self-2 g c =
     let i = subst (λ r. IsOutlet r s.unsent.items s.lines.items) c.in-Some.is c.self.invariant in
     let lines = c.offer_all.new.lines.items in
     let e = with_unsent (Some c.in-Some.run') s.unsent.items s.lines.items lines c.offer_all.ensures in
-    let took = all_took c.in-Some.run' s.unsent.items lines (subst (All (λ (line : Line). line.taken ≡ true)) c.as_slice.ensures.value (c.all_have.ensures c.if-not-all_have.false)) in
+    let took = all_took c.in-Some.run' s.unsent.items lines (subst (All (λ (line : LaneSender). line.taken ≡ true)) c.as_slice.ensures.value (c.all_have.ensures c.if-not-all_have.false)) in
     (alike (Some c.in-Some.run') None s.unsent.items s.unsent.items s.lines.items lines (took ∙ e) i).0
 
 pub returns : goal.returns
@@ -39,6 +39,6 @@ returns g c =
     let i = subst (λ r. IsOutlet r s.unsent.items s.lines.items) c.in-Some.is c.self.invariant in
     let lines = c.offer_all.new.lines.items in
     let e = with_unsent (Some c.in-Some.run') s.unsent.items s.lines.items lines c.offer_all.ensures in
-    let took = all_took c.in-Some.run' s.unsent.items lines (subst (All (λ (line : Line). line.taken ≡ true)) c.as_slice.ensures.value (c.all_have.ensures c.if-not-all_have.false)) in
+    let took = all_took c.in-Some.run' s.unsent.items lines (subst (All (λ (line : LaneSender). line.taken ≡ true)) c.as_slice.ensures.value (c.all_have.ensures c.if-not-all_have.false)) in
     (alike (Some c.in-Some.run') None s.unsent.items s.unsent.items s.lines.items lines (took ∙ e) i).1
     ∙ ap (λ r. jobs_handed r s.unsent.items s.lines.items) (sym c.in-Some.is) ∙ ap (λ (o : Outlet). o.jobs) c.self.view_is

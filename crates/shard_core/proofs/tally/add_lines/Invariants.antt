@@ -1,7 +1,0 @@
-use Rattle.std.proofs.Common.{◌≡◌, ◌++◌, map, take}
-use Rattle.shard_core.specs.Owed.{slow_consumer}
-use Rattle.shard_core.specs.Puts.{put_line}
-use Rattle.shard_core.proofs.tally.add_lines.Given as goal
-
-abbrev pub invariant-loop-conn : goal.invariant-loop-conn
-invariant-loop-conn l = l.put.items ≡ l.fn.put.items ++ map (put_line slow_consumer) (take l.conn-index l.shut)
