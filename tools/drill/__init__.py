@@ -12,7 +12,7 @@ what the program wrote of each list, in each of several named ways, and sees tha
 `tools/dev drill 1 --seed 17 --show script | ./nats_mesh script`. Status 0: nothing differs, and each plant was found.
 
 The model is written from the pages docs/SCRIPTS.md, docs/PROTOCOL.md and docs/PROMISES.md, and from nothing of the router's code. A cluster has 1 to
-5 servers of 1 to 4 shards (8 where their share of subscriptions is filled). Judged of a script: each line; and of the placements as they are written,
+5 servers of 1 to 4 shards (16 where their share of subscriptions is filled). Judged of a script: each line; and of the placements as they are written,
 by the words of the headline, with no more of the model than which publications were made and when which subscription was open: each publication at
 most once for a plain subscription, and at most once for a queue name in the whole cluster; each for a subscription that was open at that step and
 matched, of a publication of an earlier step; those of an incarnation in rising number; without echo none for its publisher. Of a cluster at rest: it is

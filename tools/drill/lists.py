@@ -151,7 +151,7 @@ def fill_share(moves):
 
 # Each with how many of a thousand lists begin so, and how many shards the servers have at most.
 BEGINNINGS = [(open_servers, 640, 4), (blind, 120, 4), (fill_outbox, 80, 4), (fill_window, 60, 4), (fill_sessions, 30, 2), (fill_names, 30, 2),
-              (fill_bytes, 16, 4), (fill_share, 12, 8), (fill_route, 12, 1)]
+              (fill_bytes, 16, 4), (fill_share, 12, 16), (fill_route, 12, 1)]
 
 
 def beginning_of(draw):
@@ -169,7 +169,7 @@ def drawn(seed, events=EVENTS, beginning=None):
     begin, most = beginning_of(draw)
     if beginning is not None:
         begin, most = beginning, 4
-    shards = 8 if begin is fill_share else draw.up_to(most)
+    shards = 16 if begin is fill_share else draw.up_to(most)
     moves = Moves(draw, draw.one_of(NAMES)[:draw.up_to(5)], shards)
     begin(moves)
     least = max(events, moves.cluster.step + 50)

@@ -2,7 +2,7 @@
 from dataclasses import dataclass, field
 
 # How many turns a shard may be behind, and how many queue names a publication may have.
-WINDOW = 32
+WINDOW = 128
 QUEUE_NAMES = 64
 
 # What may wait for a connection, and for a peer.

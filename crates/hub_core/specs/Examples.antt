@@ -1,10 +1,11 @@
 -- Closed examples: what a hub answers, by hand.
-use Rattle.std.specs.Prelude.{◌≡◌, ℕ, ◌+◌, ◌/◌, ◌%◌, true, codes, List, [], ◌∷◌, map, replicate, Some, None, Err}
+use Rattle.std.specs.Prelude.{◌≡◌, ℕ, ◌+◌, ◌-◌, ◌/◌, ◌%◌, true, codes, List, [], ◌∷◌, map, replicate, Some, None, Err}
 use Rattle.std.specs.List.{range_with_len}
 use Rattle.subj.specs.declared.jobs.Job.{Job}
 use Rattle.subj.specs.declared.keys.Key.{Key}
-use Rattle.subj.specs.declared.limits.TheConstants.{ROUTE_FRAMES}
+use Rattle.subj.specs.declared.limits.TheConstants.{MAX_SHARDS, ROUTE_FRAMES, WINDOW}
 use Rattle.subj.specs.Messages.{Content}
+use Rattle.subj.specs.Numbers.{no_turn_finished}
 use Rattle.subj.specs.Servers.{ServerIdentity}
 use Rattle.interest.specs.declared.changes.Change.TheVariants as change
 use Rattle.subj.specs.declared.keys.Delta.{Delta}
@@ -65,7 +66,7 @@ hello = hello_on foo
 
 -- connection 9 publishes, where the first two shards have finished these turns and no other has finished any
 abbrev pub publish_after : ℕ → ℕ → List ℕ → ℕ → Event
-publish_after first second subject word = Publish (record { conn = 9; publication = record { message = hello_on subject; echo = true }; word = word }) (first ∷ second ∷ 0 ∷ 0 ∷ 0 ∷ 0 ∷ 0 ∷ 0 ∷ [])
+publish_after first second subject word = Publish (record { conn = 9; publication = record { message = hello_on subject; echo = true }; word = word }) (first ∷ second ∷ replicate (MAX_SHARDS - 2) 0)
 
 abbrev pub publish : ℕ → Event
 publish word = publish_after 0 0 foo word
@@ -154,12 +155,12 @@ abbrev pub at_turn : ℕ → State
 at_turn turn = record nobody { issued = turn; published = turn }
 
 pub record KeepsTheWindow : Type 0 where
-  -- the second shard works nothing: 32 are issued, and the 33rd is not
-  pub last : Gives (n1 2) (at_turn 31) (publish_after 31 0 foo 0) (Issued (job 32 []) [])
-  pub busy : Refuses (n1 2) (at_turn 32) (publish_after 32 0 foo 0) (Busy (record { shard = 2; finished = 0 }))
-  pub later : Gives (n1 2) (at_turn 32) (publish_after 32 1 foo 0) (Issued (job 33 []) [])
+  -- the second shard works nothing: a window of turns is issued, and no more
+  pub last : Gives (n1 2) (at_turn (WINDOW - 1)) (publish_after (WINDOW - 1) 0 foo 0) (Issued (job WINDOW []) [])
+  pub busy : Refuses (n1 2) (at_turn WINDOW) (publish_after WINDOW 0 foo 0) (Busy (record { shard = 2; finished = 0 }))
+  pub later : Gives (n1 2) (at_turn WINDOW) (publish_after WINDOW 1 foo 0) (Issued (job (WINDOW + 1) []) [])
   -- a server with one shard waits for no other
-  pub alone : Gives (n1 1) (at_turn 32) (publish_after 32 0 foo 0) (Issued (job 33 []) [])
+  pub alone : Gives (n1 1) (at_turn WINDOW) (publish_after WINDOW 0 foo 0) (Issued (job (WINDOW + 1) []) [])
 
 -- ---- queue names
 
@@ -182,7 +183,7 @@ pub record CountsQueueNames : Type 0 where
 -- ---- frames of n2
 
 abbrev pub from_n2 : ℕ → ℕ → ℕ → Body → Event
-from_n2 inc to_inc number body = Receive (record { from = codes "n2"; inc = inc; to = codes "n1"; to_inc = to_inc; number = number; body = body }) (0 ∷ 0 ∷ 0 ∷ 0 ∷ 0 ∷ 0 ∷ 0 ∷ 0 ∷ [])
+from_n2 inc to_inc number body = Receive (record { from = codes "n2"; inc = inc; to = codes "n1"; to_inc = to_inc; number = number; body = body }) no_turn_finished
 
 abbrev pub routed_message : ℕ → ℕ → Job
 routed_message inc number = record { turn = 1; id = record { origin = codes "n2"; inc = inc; number = number }; message = hello; publisher = None; echo = true; queues = queue_q ∷ [] }

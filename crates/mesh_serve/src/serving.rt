@@ -19,7 +19,7 @@ use std::sync::{OnceLock, Wait};
 use std::thread::Threads;
 use std::{io, thread};
 use sub_trie::TrieTable;
-use subj::{MAX_NODES, NodeId, ServerIdentity};
+use subj::{MAX_NODES, NameFault, NodeId, ServerIdentity};
 use thread_node::{NodeName, Parts, ThreadNode};
 
 /// A server before it runs.
@@ -72,12 +72,22 @@ fn sockets<R: Net>(rt: &R, options: &Options, place: u16) -> Result<Sockets, Ser
     })
 }
 
-/// The name of the server at this place, `n1` at the first: its number is one digit.
+/// The name of the server of this number below 100: `n` and its digits.
+fn numbered(number: u8) -> Result<NodeId, NameFault>
+    requires { number < 100 }
+{
+    if number < 10 {
+        return NodeId::read(&[b'n', b'0' + number]);
+    }
+    NodeId::read(&[b'n', b'0' + number / 10, b'0' + number % 10])
+}
+
+/// The name of the server at this place, `n1` at the first.
 fn name_of(place: u16) -> Result<NodeId, ServeFault> {
     if place as u64 >= MAX_NODES {
         return Err(ServeFault::NoCluster);
     }
-    match NodeId::read(&[b'n', b'1' + place as u8]) {
+    match numbered(place as u8 + 1) {
         Ok(name) => Ok(name),
         Err(_) => Err(ServeFault::NoCluster),
     }

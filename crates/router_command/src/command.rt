@@ -53,14 +53,14 @@ fn log_level<'a>(alloc: Global) -> Arg<'a>
 fn serve_line<'a>(alloc: Global) -> Result<clap::Command<'a>, AllocError>
     ensures { IfOk result (λ command. IsLine command serve_command) }
 {
-    let nodes = number(alloc, "nodes", "How many servers: n1 to n8 at most").required(true);
+    let nodes = number(alloc, "nodes", "How many servers: n1 to n16 at most").required(true);
     let port = number(
         alloc,
         "port",
         "Clients of server i come to this port + i - 1, other servers to this port + nodes + i - 1",
     )
     .required(true);
-    let shards = number(alloc, "shards", "How many shards each server has, 1 to 8").default_value(
+    let shards = number(alloc, "shards", "How many shards each server has, 1 to 16").default_value(
         "2",
     );
     let inc = number(

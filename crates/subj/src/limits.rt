@@ -1,11 +1,11 @@
 //! The limits of this edition, each by its name. All of them are this project's profile.
 
 /// The most servers of a cluster.
-pub const MAX_NODES: u64 = 8;
+pub const MAX_NODES: u64 = 16;
 /// The most shards of a server.
-pub const MAX_SHARDS: u64 = 8;
+pub const MAX_SHARDS: u64 = 16;
 /// How many turns may be issued beyond the last one that every shard finished.
-pub const WINDOW: u64 = 32;
+pub const WINDOW: u64 = 128;
 /// The most queue names that one publication may reach.
 pub const MAX_QUEUE_NAMES: u64 = 64;
 

@@ -79,7 +79,7 @@ fn run_behind(rt: &impl Abort, alloc: Global, last: Turn, count: u64) -> Run
 /// How many jobs go from one thread to another, by runs of so many, and how many the second thread pops.
 const JOBS: u64 = 10_000;
 
-const LENGTHS: [u64; 4] = [1, 5, 2, 32];
+const LENGTHS: [u64; 4] = [1, 5, 2, LANE_CAPACITY as u64];
 
 const POPPED: u64 = JOBS - 7;
 

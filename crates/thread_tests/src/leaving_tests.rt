@@ -195,7 +195,7 @@ fn leaves_and_reports<N: NodeName + Send + Sync, R: Abort + Threads + Wait + Syn
 
 /// The parts of a server that writes down what it does.
 fn parts<R: Abort>(rt: &R, alloc: Global) -> Parts {
-    let made = Parts::new(alloc, server(rt, alloc), true).ok();
+    let made = Parts::new(alloc, server(rt, alloc, 2), true).ok();
     let (parts, _parkers) = made.expect(rt, "memory");
     parts
 }

@@ -10,7 +10,7 @@ use std::sync::Wait;
 use std::test::Fail;
 use std::thread::Threads;
 use sub_table::ListTable;
-use subj::{ConnId, Turn};
+use subj::{ConnId, MAX_SHARDS, Turn};
 use thread_node::{HubEntry, HubTold, NodeName, Open, Parts, ShardEntry, ShardEvent, ThreadNode};
 use thread_report::{Pass, Report, finish};
 
@@ -45,7 +45,7 @@ fn take_count<N: NodeName, R: Abort + Wait>(
     entries.expect(rt, "entries").len() as u64
 }
 
-/// So many publications to a member in each of two shards, worked by a thread each; then all is taken.
+/// So many publications to a member in the first and one in the last shard, worked by a thread each; then all is taken.
 fn serve<N: NodeName + Send + Sync, R: Abort + Threads + Wait + Sync>(
     rt: &R,
     alloc: Global,
@@ -55,12 +55,12 @@ fn serve<N: NodeName + Send + Sync, R: Abort + Threads + Wait + Sync>(
     count: u64,
 ) {
     let first = told_member(rt, alloc, node, clients, 1);
-    let second = told_member(rt, alloc, node, clients, 2);
+    let last = told_member(rt, alloc, node, clients, node.shards());
     publish_all(rt, alloc, node, publisher, first, count);
     node.workers(rt, &Open, Turn::new(count).expect(rt, "a turn"), TRIES);
     let of_first = take_count(rt, node, clients, 1, first);
-    let of_second = take_count(rt, node, clients, 2, second);
-    assert_eq!(rt; of_first.saturating_add(of_second), count);
+    let of_last = take_count(rt, node, clients, node.shards(), last);
+    assert_eq!(rt; of_first.saturating_add(of_last), count);
 }
 
 /// How many publications of this turn the hub tells.
@@ -93,17 +93,26 @@ fn has_won(tape: &[ShardEntry], number: u64) -> bool {
     false
 }
 
-/// The report has so many jobs, each shard worked all of them, and each was won by one of the two.
-fn is_whole<R: Abort>(rt: &R, report: &Report, count: u64) {
+/// How many shards won the first queue name of the job of this turn.
+fn win_count(report: &Report, number: u64) -> usize {
+    report
+        .worked
+        .iter()
+        .filter(|tape| has_won(tape.as_slice(), number))
+        .count()
+}
+
+/// The report has so many jobs, each of so many shards worked all of them, and each was won by one.
+fn is_whole<R: Abort>(rt: &R, report: &Report, shards: u64, count: u64) {
     assert!(rt; report.kept);
-    assert_eq!(rt; report.worked.len(), 2);
-    let (first, second) = (report.worked[0].as_slice(), report.worked[1].as_slice());
-    assert_eq!(rt; end_count(first) as u64, count);
-    assert_eq!(rt; end_count(second) as u64, count);
+    assert_eq!(rt; report.worked.len() as u64, shards);
+    for tape in &report.worked {
+        assert_eq!(rt; end_count(tape.as_slice()) as u64, count);
+    }
     for before in 0..count {
         let turn = before + 1;
         assert_eq!(rt; issue_count(report.hub.as_slice(), turn), 1);
-        assert!(rt; has_won(first, turn) != has_won(second, turn));
+        assert_eq!(rt; win_count(report, turn), 1);
     }
 }
 
@@ -143,27 +152,29 @@ fn reports<N: NodeName + Send + Sync, R: Abort + Threads + Wait + Sync>(
     requires { (parts.race ≡ N.race) × (parts.lanes ≡ N.lanes) × (parts.keep ≡ N.keep) }
 {
     let node: ThreadNode<ListTable, N> = ThreadNode::start(alloc, parts).ok().expect(rt, "memory");
+    let shards = node.shards();
     let passes = served(rt, alloc, &node, count);
     let report = finish(rt, alloc, node, passes).ok().expect(rt, "a report");
-    is_whole(rt, &report, count);
+    is_whole(rt, &report, shards, count);
 }
 
-/// The parts of a server that writes down what it does.
-fn parts<R: Abort>(rt: &R, alloc: Global) -> Parts {
-    let made = Parts::new(alloc, server(rt, alloc), true).ok();
+/// The parts of a server of so many shards that writes down what it does.
+fn parts<R: Abort>(rt: &R, alloc: Global, shards: u64) -> Parts {
+    let made = Parts::new(alloc, server(rt, alloc, shards), true).ok();
     let (parts, _parkers) = made.expect(rt, "memory");
     parts
 }
 
 /// The report of a server of its own.
-fn act<R: Abort + Threads + Wait + Sync>(rt: &R, alloc: Global, count: u64) {
-    let parts = parts(rt, alloc);
+fn act<R: Abort + Threads + Wait + Sync>(rt: &R, alloc: Global, shards: u64, count: u64) {
+    let parts = parts(rt, alloc, shards);
     reports::<Brand, _>(rt, alloc, parts, count);
 }
 
 #[test]
 fn each_job_is_won_once(rt: HostRuntime) -> Result<(), Fail> {
-    act(&rt, rt.alloc(), 3);
-    act(&rt, rt.alloc(), 10);
+    act(&rt, rt.alloc(), 2, 3);
+    act(&rt, rt.alloc(), 2, 10);
+    act(&rt, rt.alloc(), MAX_SHARDS, 10);
     Ok(())
 }

@@ -14,12 +14,12 @@ use subj::{
 use thread_node::{NodeName, ThreadNode};
 use thread_report::{Pass, finish};
 
-/// The server n1, alone, of two shards.
-pub fn server(rt: &impl Abort, alloc: Global) -> ServerIdentity {
+/// The server n1, alone, of so many shards.
+pub fn server(rt: &impl Abort, alloc: Global, shards: u64) -> ServerIdentity {
     let name = NodeId::read(b"n1").ok().expect(rt, "a name");
     let names = Vec::from_array(alloc, [name]).ok().expect(rt, "memory");
     let inc = Incarnation::new(1).expect(rt, "an incarnation");
-    ServerIdentity::new(names, 0, inc, 2).expect(rt, "a server")
+    ServerIdentity::new(names, 0, inc, shards).expect(rt, "a server")
 }
 
 /// `hello` on `foo`, as a client says it.
@@ -151,26 +151,27 @@ pub fn take_count<N: NodeName, R: Wait>(
         .map_or(0, |entries| entries.len() as u64)
 }
 
-/// All that waits for the members of the two shards: how many entries.
+/// All that waits for the members of the first and the last shard: how many entries.
 pub fn all_taken<N: NodeName, R: Wait>(
     rt: &R,
     node: &ThreadNode<ListTable, N>,
     first: ConnId,
-    second: ConnId,
+    last: ConnId,
 ) -> u64 {
     let of_first = take_count(rt, node, 1, first);
-    of_first.saturating_add(take_count(rt, node, 2, second))
+    of_first.saturating_add(take_count(rt, node, node.shards(), last))
 }
 
-/// Ends a server of two shards: the last turn that it issued, and the last ones that the shards finished.
+/// Ends a server: the last turn that it issued, and the last ones that its first and its last shard finished.
 pub fn last_turns<N: NodeName, R: Abort + Wait>(
     rt: &R,
     alloc: Global,
     node: ThreadNode<ListTable, N>,
 ) -> [u64; 3] {
+    let shards = node.shards();
     let report = finish(rt, alloc, node, Vec::new(alloc)).ok();
     let report = report.expect(rt, "a report");
     let first = report.finished.of(1).get();
-    let second = report.finished.of(2).get();
-    [report.issued.get(), first, second]
+    let last = report.finished.of(shards).get();
+    [report.issued.get(), first, last]
 }

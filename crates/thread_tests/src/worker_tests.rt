@@ -15,13 +15,13 @@ use std::test::Fail;
 use std::thread;
 use std::thread::Threads;
 use sub_table::ListTable;
-use subj::{Pub, Turn};
+use subj::{MAX_SHARDS, Pub, Turn};
 use thread_node::{Gate, NodeName, Open, Parts, ThreadNode};
 
-/// Holds each of two shards in its turn until the other one is in its own, for so many looks at most.
+/// Holds the first and the last shard in their turn until the other one is in its own, for so many looks at most.
 #[derive(Drop)]
 struct Meeting {
-    /// Which shards were ever in their turn: shard 1 counts 1, shard 2 counts 2.
+    /// Which of them were ever in their turn: shard 1 counts 1, the other one 2.
     came: AtomicU64,
     /// The same of those that have seen both there.
     met: AtomicU64,
@@ -31,10 +31,11 @@ const LOOKS: u64 = 1_000_000;
 
 impl Gate for Meeting {
     fn hold(&self, shard: u64, _turn: Turn, _index: u64) {
-        self.came.fetch_or(shard, Ordering::SeqCst);
+        let sign = u64::min(shard, 2);
+        self.came.fetch_or(sign, Ordering::SeqCst);
         for _look in 0..LOOKS {
             if self.came.load(Ordering::SeqCst) == 3 {
-                self.met.fetch_or(shard, Ordering::SeqCst);
+                self.met.fetch_or(sign, Ordering::SeqCst);
                 return;
             }
             thread::yield_now();
@@ -42,7 +43,7 @@ impl Gate for Meeting {
     }
 }
 
-/// Both shards have a candidate in turn 1, and are in it at once; one member is served.
+/// The first and the last shard have a candidate in turn 1, and are in it at once; one member is served.
 fn meets_in_turn<N: NodeName + Send + Sync, R: Abort + Threads + Wait + Sync>(
     rt: &R,
     alloc: Global,
@@ -53,12 +54,12 @@ fn meets_in_turn<N: NodeName + Send + Sync, R: Abort + Threads + Wait + Sync>(
         met: AtomicU64::new(0),
     };
     let first = member(rt, alloc, node, 1);
-    let second = member(rt, alloc, node, 2);
+    let last = member(rt, alloc, node, node.shards());
     let until = Turn::new(1).expect(rt, "a turn");
     assert!(rt; publish(rt, node, first, &hello(rt, alloc)) == Published::Turn(1));
     node.workers(rt, &gate, until, LOOKS);
     assert_eq!(rt; gate.met.load(Ordering::SeqCst), 3);
-    assert_eq!(rt; all_taken(rt, node, first, second), 1);
+    assert_eq!(rt; all_taken(rt, node, first, last), 1);
 }
 
 /// How many publications each of two threads makes.
@@ -175,7 +176,7 @@ fn perform<N: NodeName + Send + Sync, R: Abort + Threads + Wait + Sync>(
     }
 }
 
-/// Plays at the server of these parts, which then has this last turn, and so has each of its shards.
+/// Plays at the server of these parts, which then has this last turn, and so have its first and its last shard.
 fn stage<N: NodeName + Send + Sync, R: Abort + Threads + Wait + Sync>(
     rt: &R,
     alloc: Global,
@@ -190,36 +191,43 @@ fn stage<N: NodeName + Send + Sync, R: Abort + Threads + Wait + Sync>(
     assert_eq!(rt; last_turns(rt, alloc, node), [last, last, last]);
 }
 
-/// The parts of a server, and the parkers of its two workers.
-fn parts<R: Abort>(rt: &R, alloc: Global) -> (Parts, (Parker, Parker)) {
-    let made = Parts::new(alloc, server(rt, alloc), false).ok();
+/// The parts of a server of so many shards, and the parkers of the last two of its workers.
+fn parts<R: Abort>(rt: &R, alloc: Global, shards: u64) -> (Parts, (Parker, Parker)) {
+    let made = Parts::new(alloc, server(rt, alloc, shards), false).ok();
     let (parts, mut parkers) = made.expect(rt, "memory");
     let second = parkers.pop().expect(rt, "a parker");
     let first = parkers.pop().expect(rt, "a parker");
     (parts, (first, second))
 }
 
-/// Plays at a server of its own.
-fn act<R: Abort + Threads + Wait + Sync>(rt: &R, alloc: Global, what: Play, last: u64) {
-    let (parts, _parkers) = parts(rt, alloc);
+/// Plays at a server of its own, of so many shards.
+fn act<R: Abort + Threads + Wait + Sync>(
+    rt: &R,
+    alloc: Global,
+    shards: u64,
+    what: Play,
+    last: u64,
+) {
+    let (parts, _parkers) = parts(rt, alloc, shards);
     stage::<Brand, _>(rt, alloc, parts, what, last);
 }
 
 #[test]
 fn two_shards_in_mid_turn(rt: HostRuntime) -> Result<(), Fail> {
-    act(&rt, rt.alloc(), Play::Meets, 1);
+    act(&rt, rt.alloc(), 2, Play::Meets, 1);
+    act(&rt, rt.alloc(), MAX_SHARDS, Play::Meets, 1);
     Ok(())
 }
 
 #[test]
 fn two_publish_and_two_work(rt: HostRuntime) -> Result<(), Fail> {
-    act(&rt, rt.alloc(), Play::ServesFromFour, 2 * EACH);
+    act(&rt, rt.alloc(), 2, Play::ServesFromFour, 2 * EACH);
     Ok(())
 }
 
 #[test]
 fn workers_sleep_and_stop(rt: HostRuntime) -> Result<(), Fail> {
-    let (parts, parkers) = parts(&rt, rt.alloc());
+    let (parts, parkers) = parts(&rt, rt.alloc(), 2);
     let what = Play::WorksUntilStopped(parkers);
     stage::<Brand, _>(&rt, rt.alloc(), parts, what, EACH);
     Ok(())

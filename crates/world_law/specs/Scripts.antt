@@ -1,5 +1,5 @@
 -- Closed scripts, with what comes of them.
-use Rattle.std.specs.Prelude.{◌≡◌, ℕ, true, List, [], ◌∷◌, ◌++◌, codes, map, replicate, Option, Some, None}
+use Rattle.std.specs.Prelude.{◌≡◌, ℕ, ◌+◌, true, List, [], ◌∷◌, ◌++◌, codes, map, replicate, Option, Some, None}
 use Rattle.client_frames.specs.declared.server_frames.ReplyFrame.TheVariants.{Pong}
 use Rattle.outbox.specs.declared.entries.Mode.{Mode}
 use Rattle.outbox.specs.declared.entries.Mode.TheVariants.{Plain, Queue}
@@ -142,7 +142,7 @@ a_full_window = Start 0 1 ∷ attach 0 1 ∷ (replicate WINDOW (publish 0) ++ (p
 
 -- 60 until both shards have done with the first turn
 pub record AFullWindow : Type 0 where
-  pub outcomes : outcomes alone a_full_window ≡ done 34 ++ (60 ∷ 0 ∷ 60 ∷ 0 ∷ 0 ∷ [])
+  pub outcomes : outcomes alone a_full_window ≡ done (WINDOW + 2) ++ (60 ∷ 0 ∷ 60 ∷ 0 ∷ 0 ∷ [])
 
 -- ---- a server that starts with an incarnation below an earlier one: it is fresh, but its peer knows a greater one; and frames
 -- that are of another kind, or are not there
