@@ -176,13 +176,29 @@ fn kept_of(len: usize, unread: usize, count: usize) -> usize
     }
 }
 
-/// Keeps the first bytes of a buffer, and gives back the memory of the others.
+/// Keeps the first bytes of a buffer, and gives back the memory of the others. Few bytes move to a buffer of their size, where there is memory
+/// for one: a large buffer that were made smaller where it stands would keep a page of its own.
 fn shorten(buffer: &mut Vec<u8>, kept: usize)
     requires { kept ≤ vec_len buffer.old }
     ensures { buffer.new.items ≡ take kept buffer.old.items }
 {
-    if kept < buffer.len() {
-        buffer.truncate(kept);
+    if kept >= buffer.len() {
+        return;
+    }
+    buffer.truncate(kept);
+    if kept > FEW_BYTES {
         buffer.shrink_to_fit();
+    } else {
+        move_few(buffer);
+    }
+}
+
+/// Moves the bytes of a buffer to one of their size, where there is memory for it.
+fn move_few(buffer: &mut Vec<u8>)
+    ensures { buffer.new.items ≡ buffer.old.items }
+{
+    let mut few = Vec::new(*buffer.allocator());
+    if few.extend_from_slice(buffer).is_ok() {
+        *buffer = few;
     }
 }
