@@ -6,8 +6,8 @@
 //! n1.add client
 //! n1.turn 1
 //! n1.ends 1|PONG\r\n => 1 of 1
-//! company.new 2
-//! company.is_over => no
+//! shutdown.new 2
+//! shutdown.is_over => no
 //! ```
 //!
 //! `mesh.new` starts the server n1 of so many servers, with so many shards, and n2 beside it. A stream is made ready by `stream`, and `add`

@@ -79,7 +79,7 @@ impl<'r, R: Wait> Rig for NetRig<'r, R> {
         let Call { of, name: call, .. } = call_of(name);
         match of {
             "mesh" => text(self.alloc, self.mesh.set(call, words)),
-            "company" => shutdown_answer(&mut self.shutdown, self.alloc, call, words.number(0)),
+            "shutdown" => shutdown_answer(&mut self.shutdown, self.alloc, call, words.number(0)),
             "log" => log_line(self.alloc, call, words),
             "stream" | "n1" | "n2" | "link" | "numbers" => self.server_answer(name, words),
             _ => text(self.alloc, "no such call"),

@@ -2,8 +2,8 @@
 //!
 //! - `counts.new`; `counts.open PATTERN|QUEUE` and `counts.close PATTERN|QUEUE`: what the other servers are told; `counts.weight
 //!   PATTERN|QUEUE`, `counts.keys`, `counts.key_count`, `counts.has_plain SUBJECT`
-//! - `view.hear_up NUMBER|PATTERN|QUEUE|WEIGHT`, `view.hear_gone NUMBER|PATTERN|QUEUE`: a change of this number; `view.hear_all NUMBER|COUNT`: a
-//!   snapshot of this number, with the plain keys of the first so many numbers of five digits; `view.has_plain SUBJECT`,
+//! - `view.apply_up NUMBER|PATTERN|QUEUE|WEIGHT`, `view.apply_gone NUMBER|PATTERN|QUEUE`: a change of this number; `view.apply_snapshot
+//!   NUMBER|COUNT`: a snapshot of this number, with the plain keys of the first so many numbers of five digits; `view.has_plain SUBJECT`,
 //!   `view.weight_in SUBJECT|QUEUE`, `view.names_twice SUBJECT`, `view.key_count`
 //! - `hub.new NAMES|INC|SHARDS`: the hub of the first of these servers; `hub.open PATTERN|QUEUE`, `hub.close PATTERN|QUEUE`: how many changes are
 //!   told; `hub.up PEER|INC`, `hub.cut PEER`, `hub.seen PEER`; `hub.take PEER`: how many frames wait for the peer, which are taken;
@@ -181,12 +181,12 @@ pub fn view_call(
 ) -> Option<()> {
     let number = words.number(0);
     match call {
-        "hear_up" => {
+        "apply_up" => {
             let weighted = WeightedKey::new(key_at(alloc, words, 1)?, words.number(3))?;
             apply_update(answer, view, number, Change::Up(weighted))
         }
-        "hear_gone" => apply_update(answer, view, number, Change::Gone(key_at(alloc, words, 1)?)),
-        "hear_all" => apply_snapshot(answer, view, alloc, words),
+        "apply_gone" => apply_update(answer, view, number, Change::Gone(key_at(alloc, words, 1)?)),
+        "apply_snapshot" => apply_snapshot(answer, view, alloc, words),
         "has_plain" => tell_whether(answer, view.has_plain(&subject_of(alloc, words.at(0))?)),
         "weight_in" => weight_in(answer, view, alloc, words),
         "names_twice" => names_twice(answer, view, &subject_of(alloc, words.at(0))?),

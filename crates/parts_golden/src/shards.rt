@@ -744,7 +744,7 @@ fn stand_call(
         "begin" => begin(answer, stand, alloc, words),
         "end" => end(answer, stand, "ok"),
         "work" => work(answer, stand, alloc, words),
-        "recipients" => dirty_conns(answer, stand),
+        "dirty_conns" => dirty_conns(answer, stand),
         _ => lone_call(answer, &mut stand.shard, alloc, call, words),
     }
 }
