@@ -248,7 +248,7 @@ impl<S: Stream, C: ServerCalls> Server<S, C> {
     /// A server that has dialed.
     fn accepted<R: Wait>(&mut self, rt: &R) -> Result<Link, AddFault> {
         let (session, info) = accept(rt, self.node)?;
-        if self.spell_info(info).is_err() {
+        if self.encode_info(info).is_err() {
             cut(rt, self.node, session);
             return Err(AddFault::OutOfMemory);
         }
@@ -256,7 +256,7 @@ impl<S: Stream, C: ServerCalls> Server<S, C> {
     }
 
     /// Encodes what a server that has dialed is told first.
-    fn spell_info(&mut self, info: RouteInfo) -> Result<(), AllocError> {
+    fn encode_info(&mut self, info: RouteInfo) -> Result<(), AllocError> {
         encode(&RouteFrame::Info(info), &mut self.encoded)
     }
 

@@ -13,7 +13,8 @@ range_of Shards = (1, MAX_SHARDS)
 range_of Inc = (1, MAX_INCARNATION)
 range_of StopAfter = (1, 2 ^ 64 - 1)
 
--- as many servers as a cluster may have, of as many shards as a server may have, and a port for the clients and one for the routes of each server, all of them ports
+-- as many servers as a cluster may have, of as many shards as a server may have, and a port for the clients and one for the routes
+-- of each server, all of them ports
 pub record AreWithin (options : Options) : Type 0 where
   pub some : 1 ≤ options.nodes
   pub few : options.nodes ≤ MAX_NODES

@@ -32,7 +32,7 @@ pub trait ShardCalls: ClientCalls + Drop {
     /// Whether the hub has not counted all that was opened and closed here.
     fn has_deltas(&self) -> bool;
 
-    /// Takes what waits for the client, at most so many entries, and spells it behind what stands there.
+    /// Takes what waits for the client, at most so many entries, and encodes it behind what stands there.
     fn take_bytes(
         &mut self,
         conn: ConnId,
