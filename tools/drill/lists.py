@@ -141,7 +141,7 @@ def fill_share(moves):
     """More bytes of subscriptions than a shard's share."""
     joined(moves)
     node, long = moves.cluster.names[0], "x" * 1_000
-    for number in range(520):
+    for number in range(260):
         if not moves.ask("sub", node, conn=1, pattern=f"{number}.{long}", sid=str(number)):
             break
     moves.ask("sub", node, conn=1, pattern="foo", sid="foo")
