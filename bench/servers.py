@@ -1,12 +1,16 @@
 """Builds the programs that are measured, starts servers, and tells what these take."""
 import os
 import random
+import re
 import socket
 import subprocess
 import sys
 import time
 
 TOP = os.path.dirname(os.path.dirname(os.path.abspath(__file__)))
+
+# A line of the launcher that gives a variable to the program, where its environment has none of this name.
+GIVEN = re.compile(r'^export (\w+)="\$\{\1:-(\w+)\}"$', re.MULTILINE)
 
 # How long servers may take to start, in seconds.
 START_PATIENCE = 20
@@ -42,6 +46,13 @@ def built(name, is_proved=True):
         subprocess.run([sys.executable, os.path.join(TOP, "tools", tool), name], stdin=subprocess.DEVNULL, stdout=sys.stderr, check=True)
         os.utime(path)
     return path
+
+
+def given_variables():
+    """What the launcher puts into the environment of the program, by the names of the variables."""
+    with open(os.path.join(TOP, "nats_mesh"), encoding="utf-8") as launcher:
+        given = dict(GIVEN.findall(launcher.read()))
+    return {name: os.environ.get(name) or value for name, value in given.items()}
 
 
 def is_free(port):
@@ -138,10 +149,10 @@ class Servers:
 
 
 def nats_mesh(program, count, settings=None):
-    """So many servers of nats_mesh, in one process, with these settings in its environment."""
+    """So many servers of nats_mesh, in one process, with these settings in its environment and what the launcher puts there."""
     first = free_ports(2 * count)
     command = [program, "serve", "--nodes", str(count), "--port", str(first)]
-    return Servers([command], [first + place for place in range(count)], settings)
+    return Servers([command], [first + place for place in range(count)], {**given_variables(), **(settings or {})})
 
 
 def nats_server(count):
