@@ -1,11 +1,12 @@
 -- An entry and an outbox as other crates see them.
-use Rattle.std.specs.Prelude.{ℕ, ◌+◌, Bool, true, false, not, ◌&&◌, nat_lt, nat_le, List, [], ◌∷◌, ◌++◌, length, drop, sum_by, flat_map}
+use Rattle.std.specs.Prelude.{ℕ, ◌+◌, ◌/◌, Bool, true, false, not, ◌&&◌, ◌||◌, nat_lt, nat_le, List, [], ◌∷◌, ◌++◌, length, drop, sum_by, flat_map}
 use Rattle.outbox.specs.declared.entries.Tag.{Tag}
 use Rattle.outbox.specs.declared.entries.Tag.TheVariants.{Reply, Msg}
 use Rattle.outbox.specs.declared.entries.Mode.{Mode}
 use Rattle.subj.specs.declared.identities.PubId.{PubId}
 use Rattle.subj.specs.declared.identities.SubId.{SubId}
 use Rattle.outbox.specs.Bytes.{bytes_of}
+use Rattle.outbox.specs.declared.outbox.TheConstants.{LAST_LINE_TEXT}
 use Rattle.std.specs.Prelude.{Some, None}
 
 -- an entry: what it is, and all its bytes
@@ -51,6 +52,11 @@ abbrev pub has_room : ℕ → ℕ → ℕ → Backlog → Bool
 has_room max_entries max_bytes len backlog =
     not backlog.shut && (nat_lt (length backlog.entries) max_entries && nat_le (size_of backlog.entries + len) max_bytes)
 
+-- half of the entries that may wait do, or there is no room for half of the bytes that may, as behind a last line
+abbrev pub is_half_full : ℕ → ℕ → Backlog → Bool
+is_half_full max_entries max_bytes backlog =
+    nat_le (max_entries / 2) (length backlog.entries) || not (has_room max_entries max_bytes (max_bytes / 2) backlog)
+
 abbrev pub with_entry : Written → Backlog → Backlog
 with_entry entry backlog = record { entries = backlog.entries ++ entry ∷ []; shut = backlog.shut }
 
@@ -60,6 +66,14 @@ with_last line backlog = record { entries = backlog.entries ++ reply_entry line 
 
 abbrev pub without_first : ℕ → Backlog → Backlog
 without_first count backlog = record { entries = drop count backlog.entries; shut = backlog.shut }
+
+-- a last line may be put: not behind another, and no longer than the room that is kept for it
+abbrev pub takes_last : List ℕ → Backlog → Bool
+takes_last line backlog = not backlog.shut && nat_le (length line) LAST_LINE_TEXT
+
+-- what was staged is dropped, and what waits changes
+abbrev pub on_shown : (Backlog → Backlog) → Waiting → Waiting
+on_shown change box = record box { shown = change box.shown; next = change box.shown }
 
 -- nothing is staged
 abbrev pub on_both : (Backlog → Backlog) → Waiting → Waiting

@@ -16,6 +16,9 @@ const HANDED_OVER: usize = 4_096;
 /// The most bytes of room that stay while nothing waits.
 const KEPT_BYTES: usize = 1_024;
 
+/// The most bytes of room that stay where all bytes were moved, for those that come next.
+const MOVED_BYTES: usize = 65_536;
+
 /// Puts a line or a payload with its CR LF behind the bytes that are there, where there is room for it.
 fn append_ended(bytes: &[u8], out: &mut Vec<u8>)
     requires { vec_len out.old + length bytes.now + 2 ≤ vec_capacity out.old }
@@ -134,25 +137,33 @@ impl ByteQueue {
         }
     }
 
-    /// Drops all bytes.
+    /// Drops all bytes. The memory of a large buffer is given back.
     pub(crate) fn clear(&mut self)
         ensures { self.new ≡ [] }
     {
         self.bytes.clear();
         self.start = 0;
+        self.give_back(MOVED_BYTES);
     }
 
-    /// Gives back the memory of a large buffer, where there are no bytes.
-    pub(crate) fn rest(&mut self)
+    /// Gives back the memory of a buffer with room for more than so many bytes, where there are no bytes.
+    fn give_back(&mut self, kept: usize)
         ensures { self.new ≡ self.old }
     {
-        if self.bytes.is_empty() && self.bytes.capacity() > KEPT_BYTES {
+        if self.bytes.is_empty() && self.bytes.capacity() > kept {
             self.bytes.shrink_to_fit();
         }
     }
 
+    /// Gives back the memory of a buffer that is no longer small, where there are no bytes.
+    pub(crate) fn rest(&mut self)
+        ensures { self.new ≡ self.old }
+    {
+        self.give_back(KEPT_BYTES);
+    }
+
     /// Hands all bytes over in their buffer, in place of one without bytes, whose memory is used from here
-    /// on. Takes no memory.
+    /// on, unless it is large. Takes no memory.
     fn hand_over(&mut self, out: &mut Vec<u8>)
         requires { out.old.items ≡ [] }
         ensures given { out.new.items ≡ self.old }
@@ -163,10 +174,12 @@ impl ByteQueue {
             self.start = 0;
         }
         mem::swap(&mut self.bytes, out);
+        self.give_back(MOVED_BYTES);
     }
 
     /// Moves all bytes behind those that are in `out`. Want of memory leaves both as they were. Where they are
-    /// many, and nothing is in `out`, the two buffers are swapped: no byte is copied, and no memory is taken.
+    /// many, and nothing is in `out`, the two buffers are swapped: no byte is copied, and no memory is taken. No large
+    /// buffer stays.
     pub(crate) fn move_all(&mut self, out: &mut Vec<u8>) -> Result<(), AllocError>
         ensures moved { OnOk result (out.new.items ≡ out.old.items ++ self.old) }
         ensures left { OnOk result (self.new ≡ []) }

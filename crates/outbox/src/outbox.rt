@@ -2,7 +2,7 @@
 
 ghost use Rattle.std.specs.Prelude.{◌≡◌, ◌+◌, ◌-◌, ◌≤◌, ◌<◌, ◌++◌, ◌==◌, vec_capacity, length, take, [], true, false, IfOk, OnOk, OnErr, IsTrue, Some, None, ◌^◌};
 ghost use Rattle.outbox.specs.Bytes.{bytes_of};
-ghost use Rattle.outbox.specs.Views.{Waiting, empty_outbox, bytes_of_all, size_of, has_room, reply_entry, message_entry, with_entry, with_last, without_first, on_both};
+ghost use Rattle.outbox.specs.Views.{Waiting, empty_outbox, bytes_of_all, size_of, has_room, is_half_full, reply_entry, message_entry, with_entry, with_last, without_first, on_both, on_shown, takes_last};
 
 use crate::entries::{Entry, Mode, Tag};
 use crate::entry_queue::EntryQueue;
@@ -121,6 +121,13 @@ impl Outbox {
             && self.bytes <= self.max_bytes - len
     }
 
+    /// Whether half of the room is used by all that was put or staged, for entries or for bytes, or a last line is among it.
+    pub fn is_half_full(&self) -> bool
+        ensures { result ≡ is_half_full self.now.max_entries self.now.max_bytes self.now.next }
+    {
+        self.entries.len() >= self.max_entries / 2 || !self.room(self.max_bytes / 2)
+    }
+
     /// How many entries more may wait: none where as many as the limit wait, or more. Takes no memory.
     pub fn entries_left(&self) -> usize
         ensures { result ≡ self.now.max_entries - length self.now.shown.entries }
@@ -152,8 +159,23 @@ impl Outbox {
         }
     }
 
-    /// Puts the last line, given without its CR LF, beyond both limits. Takes no memory.
-    pub fn shut(&mut self, line: &[u8])
+    /// Drops what was staged, and puts the last line, given without its CR LF, beyond both limits. Whether it was put: not
+    /// behind another last line, and not where it is longer than [`LAST_LINE_TEXT`]. Takes no memory.
+    pub fn shut(&mut self, line: &[u8]) -> bool
+        ensures can { result ≡ takes_last line.now self.old.shown }
+        ensures put { result ≡ true → self.new ≡ on_shown (with_last line.now) self.old }
+        ensures left { result ≡ false → self.new ≡ on_shown (λ backlog. backlog) self.old }
+    {
+        self.rollback();
+        if self.shut || line.len() > LAST_LINE_TEXT {
+            return false;
+        }
+        self.put_last(line);
+        true
+    }
+
+    /// Puts the last line behind all that waits.
+    fn put_last(&mut self, line: &[u8])
         requires settled { self.old.next ≡ self.old.shown }
         requires once { self.old.shown.shut ≡ false }
         requires small { length line.now ≤ LAST_LINE_TEXT }
@@ -258,16 +280,23 @@ impl Outbox {
         self.shown_bytes = self.bytes;
     }
 
-    /// Gives and removes the first entries that wait, or all where there are fewer. Want of memory
+    /// Whether anything is staged.
+    fn has_staged(&self) -> bool
+        ensures { result ≡ false → self.now.next ≡ self.now.shown }
+    {
+        self.shown != self.entries.len() || self.shut != self.closing
+    }
+
+    /// Gives and removes the first entries that wait, or all where there are fewer, and drops what was staged. Want of memory
     /// leaves all as it was.
     pub fn take(&mut self, count: usize) -> Result<Vec<Entry>, AllocError>
-        requires { self.old.next ≡ self.old.shown }
         ensures entries { IfOk result (λ entries. entries.items ≡ take count self.old.shown.entries) }
-        ensures ok { OnOk result (self.new ≡ on_both (without_first count) self.old) }
+        ensures ok { OnOk result (self.new ≡ on_shown (without_first count) self.old) }
         ensures err { OnErr result (self.new ≡ self.old) }
     {
-        let count = count.min(self.entries.len());
+        let count = count.min(self.shown);
         let taken = self.entries.copies(self.alloc, count)?;
+        self.rollback();
         self.remove_first(count);
         Ok(taken)
     }
@@ -289,13 +318,9 @@ impl Outbox {
     }
 
     /// Moves the bytes of the first entries that wait, or of all where there are fewer, behind those that
-    /// are in `out`, in order, and removes these entries. Gives how many they were. Want of memory leaves
-    /// all as it was.
-    ///
-    /// Where all are taken, have many bytes together and no shared payload, and nothing is in `out`, the two
-    /// buffers are swapped: no byte is copied, and no memory is taken. Where nothing waits, the memory that many
-    /// entries took is given back.
-    pub fn take_bytes(&mut self, count: usize, out: &mut Vec<u8>) -> Result<usize, AllocError>
+    /// are in `out`, in order, and removes these entries, where nothing is staged. Gives how many they were. Want of memory
+    /// leaves all as it was.
+    fn take_waiting(&mut self, count: usize, out: &mut Vec<u8>) -> Result<usize, AllocError>
         requires { self.old.next ≡ self.old.shown }
         ensures taken { IfOk result (λ taken. taken ≡ length (take count self.old.shown.entries)) }
         ensures bytes { OnOk result (out.new.items ≡ out.old.items ++ bytes_of_all (take count self.old.shown.entries)) }
@@ -315,5 +340,29 @@ impl Outbox {
         self.entries.append_front(count, out)?;
         self.remove_first(count);
         Ok(count)
+    }
+
+    /// Moves the bytes of the first entries that wait, or of all where there are fewer, behind those that
+    /// are in `out`, in order, removes these entries, and drops what was staged. Gives how many they were. Want of memory
+    /// leaves all as it was.
+    ///
+    /// Where all are taken, have many bytes together and no shared payload, and nothing is in `out`, the two
+    /// buffers are swapped: no byte is copied, and no memory is taken. Where nothing waits, the memory that many
+    /// entries took is given back.
+    pub fn take_bytes(&mut self, count: usize, out: &mut Vec<u8>) -> Result<usize, AllocError>
+        ensures taken { IfOk result (λ taken. taken ≡ length (take count self.old.shown.entries)) }
+        ensures bytes { OnOk result (out.new.items ≡ out.old.items ++ bytes_of_all (take count self.old.shown.entries)) }
+        ensures ok { OnOk result (self.new ≡ on_shown (without_first count) self.old) }
+        ensures err { OnErr result (self.new ≡ self.old) }
+        ensures out { OnErr result (out.new.items ≡ out.old.items) }
+    {
+        if !self.has_staged() {
+            return self.take_waiting(count, out);
+        }
+        let first = count.min(self.shown);
+        self.entries.append_front(first, out)?;
+        self.rollback();
+        self.remove_first(first);
+        Ok(first)
     }
 }
