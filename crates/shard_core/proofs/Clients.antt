@@ -6,3 +6,4 @@ pub mod Outboxes
 pub mod Limits
 pub mod Messages
 pub mod Rooms
+pub mod Told

@@ -17,6 +17,10 @@ pub record Clients : Type 0 where
 abbrev pub on_both : (List Client → List Client) → Clients → Clients
 on_both change c = record { shown = change c.shown; next = change c.next }
 
+-- what is staged is dropped
+abbrev pub on_shown : (List Client → List Client) → Clients → Clients
+on_shown change c = record { shown = change c.shown; next = change c.shown }
+
 abbrev pub IsSettled : Clients → Type 0
 IsSettled c = c.next ≡ c.shown
 

@@ -40,3 +40,5 @@ pub mod Limits
 pub mod Causes
 -- room for the messages of a publication
 pub mod Room
+-- for which connections something was put
+pub mod Dirty

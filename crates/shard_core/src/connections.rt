@@ -2,11 +2,12 @@
 
 ghost use Rattle.std.specs.List.{list_all};
 ghost use Rattle.sub_table.specs.Subscriptions.{is_room, matching_of};
-ghost use Rattle.shard_core.specs.Boxes.{room_left, AreRising, AreConns, IsSettled, IsSettledAt, on_both, client_in_view, shown_backlog, next_backlog, number_of, HasRoomAt, IsBoxStaged, IsOpenAt, IsSeated, IsSeatOf, IsStanding, standing_of};
-ghost use Rattle.std.specs.Prelude.{map, filter, not, ◌≡◌, ◌==◌, ◌≤◌, ◌+◌, ◌-◌, ◌<◌, ◌^◌, ◌++◌, ◌∷◌, [], true, false, position, take, length, All, IsTrue, IfOk, IfSome, OnOk, OnErr, None, Some};
+ghost use Rattle.shard_core.specs.Boxes.{room_left, AreRising, AreConns, IsSettled, IsSettledAt, on_both, on_shown, client_in_view, shown_backlog, next_backlog, number_of, HasRoomAt, IsBoxStaged, IsOpenAt, IsSeated, IsSeatOf, IsStanding, standing_of};
+ghost use Rattle.std.specs.Prelude.{map, filter, not, nat_le, ◌&&◌, ◌≡◌, ◌==◌, ◌≤◌, ◌+◌, ◌-◌, ◌<◌, ◌^◌, ◌++◌, ◌∷◌, [], true, false, position, take, length, All, IsTrue, IfOk, IfSome, OnOk, OnErr, None, Some};
 ghost use Rattle.std.specs.Option.{option_map, option_copied};
 ghost use Rattle.outbox.specs.Views.{has_room, with_entry, with_last, without_first, size_of, reply_entry, message_entry, bytes_of_all};
 ghost use Rattle.shard_core.specs.Shards.{is_open as opened, is_known as known, client_at, clients_with_change, without_client, fits, fits_len, waits_for};
+ghost use Rattle.shard_core.specs.Dirty.{AreKept, AreTold, AreToldBut, IsToldAt};
 ghost use Rattle.shard_core.specs.ShardSteps.{new_client};
 
 use crate::dirty_conns::DirtyConns;
@@ -179,17 +180,30 @@ fn standing_in(conns: &Vec<Conn>, near: usize, conn: ConnId, len: usize) -> Stan
     }
 }
 
-/// Whether half of the room for entries or for bytes is used.
-fn is_half_full(outbox: &Outbox) -> bool {
-    outbox.len() >= OUTBOX_ENTRIES / 2 || !outbox.room(OUTBOX_BYTES / 2)
+/// Notes that something was put or staged for the connection at the place.
+fn note_at(dirty_conns: &mut DirtyConns, conns: &Vec<Conn>, place: usize)
+    ensures told { IsToldAt place conns.now.items dirty_conns.new }
+    ensures kept { AreKept dirty_conns.old dirty_conns.new }
+{
+    if place >= conns.len() {
+        return;
+    }
+    let conn = &conns[place];
+    dirty_conns.note(
+        ConnId::new(conn.number),
+        conns.len(),
+        conn.outbox.is_half_full(),
+    );
 }
 
-/// Notes that something is put for a connection, which stands at this place.
-fn note(dirty_conns: &mut DirtyConns, conns: &[Conn], place: usize, conn: ConnId)
-    requires { place < length conns.now }
+/// Notes that something was put or staged for the connections at these places.
+fn note_all(dirty_conns: &mut DirtyConns, conns: &Vec<Conn>, places: &[usize])
+    ensures told { AreToldBut [] places.now conns.now.items dirty_conns.new }
+    ensures kept { AreKept dirty_conns.old dirty_conns.new }
 {
-    let is_urgent = is_half_full(&conns[place].outbox);
-    dirty_conns.note(conn, conns.len(), is_urgent);
+    for place in places {
+        note_at(dirty_conns, conns, *place);
+    }
 }
 
 /// What room is left behind the entries that wait.
@@ -203,18 +217,11 @@ fn room_of(outbox: &Outbox) -> Room
 }
 
 /// Notes that something is staged for the connection that stands there.
-fn note_staged(
-    conns: &Vec<Conn>,
-    places: &mut Vec<usize>,
-    dirty_conns: &mut DirtyConns,
-    seat: Seat,
-) -> Result<(), AllocError>
-    requires { seat.place < length conns.now.items }
+fn note_staged(places: &mut Vec<usize>, seat: Seat) -> Result<(), AllocError>
     ensures ok { OnOk result (places.new.items ≡ places.old.items ++ seat.place ∷ []) }
     ensures err { OnErr result (places.new.items ≡ places.old.items) }
 {
     places.push(seat.place)?;
-    note(dirty_conns, conns, seat.place, seat.conn);
     Ok(())
 }
 
@@ -273,8 +280,6 @@ pub struct Conns {
     places: Vec<usize>,
     /// Where something was staged before the last commit, in order: the next entries often go the same way.
     last_places: Vec<usize>,
-    /// For which connections something was put.
-    dirty_conns: DirtyConns,
 }
 
 impl Model for Conns {
@@ -300,7 +305,6 @@ impl Conns {
             conns: Vec::new(alloc),
             places: Vec::new(alloc),
             last_places: Vec::new(alloc),
-            dirty_conns: DirtyConns::new(alloc),
         }
     }
 
@@ -413,7 +417,7 @@ impl Conns {
         ensures err { OnErr result (self.new.next ≡ self.old.next) }
     {
         let place = seat.place;
-        note_staged(&self.conns, &mut self.places, &mut self.dirty_conns, seat)?;
+        note_staged(&mut self.places, seat)?;
         stage_message_at(&mut self.conns, place, id, sub, mode, line, payload)?;
         Ok(())
     }
@@ -429,7 +433,7 @@ impl Conns {
         ensures err { OnErr result (self.new.next ≡ self.old.next) }
     {
         let place = seat.place;
-        note_staged(&self.conns, &mut self.places, &mut self.dirty_conns, seat)?;
+        note_staged(&mut self.places, seat)?;
         stage_last_at(&mut self.conns, place, line)?;
         Ok(())
     }
@@ -441,10 +445,12 @@ impl Conns {
         !self.places.is_empty()
     }
 
-    /// Shows all that was staged. Takes no memory.
-    pub fn commit(&mut self)
-        ensures { self.new ≡ record { shown = self.old.next; next = self.old.next } }
+    /// Shows all that was staged, and notes for whom it is. Takes no memory but for the notes.
+    pub fn commit(&mut self, dirty_conns: &mut DirtyConns)
+        ensures shown { self.new ≡ record { shown = self.old.next; next = self.old.next } }
+        ensures told { AreTold self.old.shown self.old.next dirty_conns.old dirty_conns.new }
     {
+        note_all(dirty_conns, &self.conns, &self.places);
         commit_all(&mut self.conns, &self.places);
         std::mem::swap(&mut self.places, &mut self.last_places);
         self.places.clear();
@@ -458,14 +464,20 @@ impl Conns {
         self.places.clear();
     }
 
-    /// Puts an answer where the connection is there and has room for it: its line, given without its CR LF.
-    /// Tells whether it was put. Want of memory leaves all as it was.
-    pub fn put_reply(&mut self, conn: ConnId, line: &[u8]) -> Result<bool, AllocError>
+    /// Puts an answer where the connection is there and has room for it: its line, given without its CR LF. Notes
+    /// for whom it is. Tells whether it was put. Want of memory leaves all as it was.
+    pub fn put_reply(
+        &mut self,
+        dirty_conns: &mut DirtyConns,
+        conn: ConnId,
+        line: &[u8],
+    ) -> Result<bool, AllocError>
         requires { IsSettled self.old }
         ensures room { IfOk result (λ put. put ≡ fits (client_at conn self.old.shown) (reply_entry line.now)) }
         ensures put { IfOk result (λ put. put ≡ true → self.new ≡ on_both (clients_with_change (with_entry (reply_entry line.now)) conn) self.old) }
         ensures full { IfOk result (λ put. put ≡ false → self.new ≡ self.old) }
         ensures err { OnErr result (self.new ≡ self.old) }
+        ensures told { AreTold self.old.shown self.new.shown dirty_conns.old dirty_conns.new }
     {
         let Some(place) = place_in(&self.conns, conn) else {
             return Ok(false);
@@ -473,33 +485,49 @@ impl Conns {
         if !self.conns[place].outbox.room_for(line) {
             return Ok(false);
         }
-        note(&mut self.dirty_conns, &self.conns, place, conn);
         let conn = &mut self.conns[place];
         conn.outbox.stage_reply(line)?;
         conn.outbox.commit();
+        note_at(dirty_conns, &self.conns, place);
         Ok(true)
     }
 
-    /// Puts the last line of a connection that is open, given without its CR LF. Takes no memory.
-    pub fn shut(&mut self, conn: ConnId, line: &[u8])
-        requires settled { IsSettled self.old }
-        requires once { opened conn self.old.shown ≡ true }
-        requires small { length line.now ≤ LAST_LINE_TEXT }
-        ensures { self.new ≡ on_both (clients_with_change (with_last line.now) conn) self.old }
+    /// Puts the last line of a connection that is there and not shut, given without its CR LF, shows it, and notes for whom
+    /// it is. Whether it was put: not where it is longer than [`LAST_LINE_TEXT`]. Takes no memory but for the note.
+    fn shut_shown(&mut self, dirty_conns: &mut DirtyConns, conn: ConnId, line: &[u8]) -> bool
+        ensures can { result ≡ (opened conn self.old.shown && nat_le (length line.now) LAST_LINE_TEXT) }
+        ensures put { result ≡ true → self.new.shown ≡ clients_with_change (with_last line.now) conn self.old.shown }
+        ensures left { result ≡ false → self.new.shown ≡ self.old.shown }
+        ensures told { AreTold self.old.shown self.new.shown dirty_conns.old dirty_conns.new }
     {
-        if let Some(place) = place_in(&self.conns, conn) {
-            note(&mut self.dirty_conns, &self.conns, place, conn);
-            let conn = &mut self.conns[place];
-            conn.outbox.shut(line);
-        }
+        let Some(place) = place_in(&self.conns, conn) else {
+            return false;
+        };
+        let conn = &mut self.conns[place];
+        let put = conn.outbox.shut(line);
+        note_at(dirty_conns, &self.conns, place);
+        put
+    }
+
+    /// Drops all that was staged, and puts the last line of a connection that is there and not shut, given without its CR LF.
+    /// Notes for whom it is. Whether it was put: not where it is longer than [`LAST_LINE_TEXT`]. Takes no memory but for the
+    /// note.
+    pub fn shut(&mut self, dirty_conns: &mut DirtyConns, conn: ConnId, line: &[u8]) -> bool
+        ensures can { result ≡ (opened conn self.old.shown && nat_le (length line.now) LAST_LINE_TEXT) }
+        ensures put { result ≡ true → self.new ≡ on_shown (clients_with_change (with_last line.now) conn) self.old }
+        ensures left { result ≡ false → self.new ≡ on_shown (λ clients. clients) self.old }
+        ensures told { AreTold self.old.shown self.new.shown dirty_conns.old dirty_conns.new }
+    {
+        let put = self.shut_shown(dirty_conns, conn, line);
+        self.rollback();
+        put
     }
 
     /// Gives and removes the first entries that wait, or all where there are fewer. Want of memory
     /// leaves all as it was.
-    pub fn take(&mut self, conn: ConnId, count: usize) -> Result<Vec<Entry>, AllocError>
-        requires { IsSettled self.old }
+    fn take_shown(&mut self, conn: ConnId, count: usize) -> Result<Vec<Entry>, AllocError>
         ensures given { IfOk result (λ entries. entries.items ≡ take count (waits_for conn self.old.shown)) }
-        ensures ok { OnOk result (self.new ≡ on_both (clients_with_change (without_first count) conn) self.old) }
+        ensures ok { OnOk result (self.new.shown ≡ clients_with_change (without_first count) conn self.old.shown) }
         ensures err { OnErr result (self.new ≡ self.old) }
     {
         match place_in(&self.conns, conn) {
@@ -512,19 +540,30 @@ impl Conns {
         }
     }
 
+    /// Gives and removes the first entries that wait, or all where there are fewer, none for a connection that is not there;
+    /// and drops all that was staged. Want of memory leaves all as it was.
+    pub fn take(&mut self, conn: ConnId, count: usize) -> Result<Vec<Entry>, AllocError>
+        ensures given { IfOk result (λ entries. entries.items ≡ take count (waits_for conn self.old.shown)) }
+        ensures ok { OnOk result (self.new ≡ on_shown (clients_with_change (without_first count) conn) self.old) }
+        ensures err { OnErr result (self.new ≡ self.old) }
+    {
+        let entries = self.take_shown(conn, count)?;
+        self.rollback();
+        Ok(entries)
+    }
+
     /// Moves the bytes of the first entries that wait, or of all where there are fewer, behind those that
     /// are in `out`, and removes these entries. Gives how many they were. Want of memory leaves all as it
     /// was.
-    pub fn take_bytes(
+    fn take_bytes_shown(
         &mut self,
         conn: ConnId,
         count: usize,
         out: &mut Vec<u8>,
     ) -> Result<usize, AllocError>
-        requires { IsSettled self.old }
         ensures taken { IfOk result (λ taken. taken ≡ length (take count (waits_for conn self.old.shown))) }
         ensures bytes { OnOk result (out.new.items ≡ out.old.items ++ bytes_of_all (take count (waits_for conn self.old.shown))) }
-        ensures ok { OnOk result (self.new ≡ on_both (clients_with_change (without_first count) conn) self.old) }
+        ensures ok { OnOk result (self.new.shown ≡ clients_with_change (without_first count) conn self.old.shown) }
         ensures err { OnErr result (self.new ≡ self.old) }
         ensures out { OnErr result (out.new.items ≡ out.old.items) }
     {
@@ -538,18 +577,24 @@ impl Conns {
         }
     }
 
-    /// Whether the connections that are told next are to be asked for soon ([`DirtyConns::is_urgent`]).
-    pub fn is_urgent(&self) -> bool {
-        self.dirty_conns.is_urgent()
-    }
-
-    /// Gives for which connections something was put since the last time in place of what `dirty_conns` tells,
-    /// which is forgotten.
-    pub fn swap_dirty_conns(&mut self, dirty_conns: &mut DirtyConns)
-        ensures { self.new ≡ self.old }
+    /// Moves the bytes of the first entries that wait, or of all where there are fewer, none for a connection that is not
+    /// there, behind those that are in `out`, removes these entries, and drops all that was staged. Gives how many they were.
+    /// Want of memory leaves all as it was.
+    pub fn take_bytes(
+        &mut self,
+        conn: ConnId,
+        count: usize,
+        out: &mut Vec<u8>,
+    ) -> Result<usize, AllocError>
+        ensures taken { IfOk result (λ taken. taken ≡ length (take count (waits_for conn self.old.shown))) }
+        ensures bytes { OnOk result (out.new.items ≡ out.old.items ++ bytes_of_all (take count (waits_for conn self.old.shown))) }
+        ensures ok { OnOk result (self.new ≡ on_shown (clients_with_change (without_first count) conn) self.old) }
+        ensures err { OnErr result (self.new ≡ self.old) }
+        ensures out { OnErr result (out.new.items ≡ out.old.items) }
     {
-        dirty_conns.clear();
-        std::mem::swap(&mut self.dirty_conns, dirty_conns);
+        let taken = self.take_bytes_shown(conn, count, out)?;
+        self.rollback();
+        Ok(taken)
     }
 
     /// The connection goes, with all that waits for it. Takes no memory.

@@ -5,6 +5,7 @@ ghost use Rattle.client_frames.specs.Messages.{line_parts};
 ghost use Rattle.outbox.specs.Views.{with_entry, with_last};
 ghost use Rattle.shard_core.specs.Boxes.{IsSeatOf, IsSettled};
 ghost use Rattle.shard_core.specs.Closings.{ended_ids};
+ghost use Rattle.shard_core.specs.Dirty.{AreTold};
 ghost use Rattle.shard_core.specs.Opened.{AreRising, AreApart};
 ghost use Rattle.shard_core.specs.Owed.{is_due, is_permitted, due_entry as entry_due, mode_of, walk_after_put, walk, reaches, slow_consumer};
 ghost use Rattle.shard_core.specs.Shards.{State, is_open as opened, clients_with_change, client_at, fits};
@@ -13,6 +14,7 @@ ghost use Rattle.shard_core.specs.Tallies.{lent_subs, is_placed, Follows, HasPla
 
 use crate::calls::{Begun, Placed};
 use crate::connections::{Conns, Seat, Standing};
+use crate::dirty_conns::DirtyConns;
 use crate::openings::Openings;
 use client_frames::{ErrText, MessageLines};
 use outbox::{Entry, Mode};
@@ -382,12 +384,14 @@ impl DeliveryBuffer {
     }
 }
 
-/// Places a job for the subscriptions that it is due to, and shows what was placed; counts, and closes those
+/// Places a job for the subscriptions that it is due to, shows what was placed, and notes for whom it is; counts, and closes those
 /// that have come to their maximum and those of the connections that were shut. Want of memory leaves all
 /// as it was.
+#[tactic(auto, using(crate::proofs::Clients::Told::nothing_put))]
 pub fn place_all<T: SubTable>(
     buffer: &mut DeliveryBuffer,
     conns: &mut Conns,
+    dirty_conns: &mut DirtyConns,
     openings: &mut Openings<T>,
     job: &Job,
 ) -> Result<Begun, AllocError>
@@ -396,13 +400,14 @@ pub fn place_all<T: SubTable>(
     requires counts { All (λ sub. sub.delivered + 1 < 2 ^ 64) openings.old.subs }
     ensures ok { IfOk result (λ begun. (s : State) → s.shard ≡ buffer.old.shard → s.subs ≡ openings.old.subs → s.clients ≡ conns.old.shown → HasPlaced buffer.old.copies s job.now openings.old begun conns.new openings.new) }
     ensures err { OnErr result ((conns.new ≡ conns.old) × (openings.new ≡ openings.old)) }
+    ensures told { AreTold conns.old.shown conns.new.shown dirty_conns.old dirty_conns.new }
 {
     openings.remember(job.message.subject());
     let Ok(ended) = stage(buffer, conns, openings, job) else {
         conns.rollback();
         return Err(AllocError);
     };
-    conns.commit();
+    conns.commit(dirty_conns);
     openings.count_all(&buffer.given);
     openings.close_all(&buffer.ended);
     let put = mem::replace(&mut buffer.put, Vec::new(buffer.alloc));

@@ -10,6 +10,7 @@ ghost use Rattle.client_frames.specs.Frames.{reply_line as line_of_reply};
 ghost use Rattle.outbox.specs.Views.{reply_entry, with_entry, with_last};
 ghost use Rattle.shard_core.specs.Boxes.{IsSettled, on_both};
 ghost use Rattle.shard_core.specs.Closings.{left_of, ended_ids};
+ghost use Rattle.shard_core.specs.Dirty.{AreTold};
 ghost use Rattle.shard_core.specs.Held.{DoesStep, IsLeft, Chooses, Stands, held_at_rest, serial_told, after_put_chosen, ended_by_chosen};
 ghost use Rattle.shard_core.specs.Opened.{AreApart, AreRising, with_closings};
 ghost use Rattle.shard_core.specs.Room.{has_room_for as room_for_all};
@@ -61,11 +62,12 @@ fn serials_of<T: SubTable>(
     Ok(serials)
 }
 
-/// Puts an answer where the connection has room for it. Tells whether it has. Want of memory leaves all as it
-/// was.
+/// Puts an answer where the connection has room for it, and notes for whom it is. Tells whether it has. Want of memory leaves
+/// all as it was.
 fn put_answer(
     alloc: Global,
     conns: &mut Conns,
+    dirty_conns: &mut DirtyConns,
     conn: ConnId,
     frame: &ReplyFrame,
 ) -> Result<bool, AllocError>
@@ -74,18 +76,20 @@ fn put_answer(
     ensures put { IfOk result (λ put. put ≡ true → conns.new ≡ on_both (clients_with_change (with_entry (reply_entry (line_of_reply frame.now))) conn) conns.old) }
     ensures full { IfOk result (λ put. put ≡ false → conns.new ≡ conns.old) }
     ensures err { OnErr result (conns.new ≡ conns.old) }
+    ensures told { AreTold conns.old.shown conns.new.shown dirty_conns.old dirty_conns.new }
 {
     let text = reply_line(alloc, frame)?;
-    let put = conns.put_reply(conn, &text)?;
+    let put = conns.put_reply(dirty_conns, conn, &text)?;
     Ok(put)
 }
 
-/// Puts the last line of a connection that is open, and closes all its subscriptions. Gives those. Want of
+/// Puts the last line of a connection that is open, notes for whom it is, and closes all its subscriptions. Gives those. Want of
 /// memory leaves all as it was.
 fn shut_with<T: SubTable>(
     alloc: Global,
     shard: u64,
     conns: &mut Conns,
+    dirty_conns: &mut DirtyConns,
     openings: &mut Openings<T>,
     conn: ConnId,
     line: &[u8],
@@ -97,10 +101,11 @@ fn shut_with<T: SubTable>(
     ensures conns { OnOk result (conns.new ≡ on_both (clients_with_change (with_last line.now) conn) conns.old) }
     ensures openings { OnOk result (openings.new ≡ with_closings (left_of conn [] openings.old.subs) openings.old) }
     ensures err { OnErr result ((conns.new ≡ conns.old) × (openings.new ≡ openings.old)) }
+    ensures told { AreTold conns.old.shown conns.new.shown dirty_conns.old dirty_conns.new }
 {
     let serials = serials_of(alloc, openings, conn)?;
     let ended = sub_ids(alloc, shard, &serials)?;
-    conns.shut(conn, line);
+    let _put = conns.shut(dirty_conns, conn, line);
     openings.close_all(&serials);
     Ok(ended)
 }
@@ -193,6 +198,8 @@ pub struct Shard<T: SubTable> {
     chosen: Option<u64>,
     /// The memory of a walk, used again by the next.
     buffer: DeliveryBuffer,
+    /// For which connections something was put.
+    dirty_conns: DirtyConns,
 }
 
 impl<T: SubTable> Model for Shard<T> {
@@ -252,6 +259,7 @@ impl<T: SubTable> Shard<T> {
             openings,
             chosen: None,
             buffer: DeliveryBuffer::new(alloc, shard),
+            dirty_conns: DirtyConns::new(alloc),
         })
     }
 
@@ -344,7 +352,13 @@ impl<T: SubTable> Shard<T> {
         if !self.conns.is_open(conn) {
             return Err(Failure::Refused(ShardFault::NoConn));
         }
-        if put_answer(self.alloc, &mut self.conns, conn, frame)? {
+        if put_answer(
+            self.alloc,
+            &mut self.conns,
+            &mut self.dirty_conns,
+            conn,
+            frame,
+        )? {
             return Ok(Closed {
                 shut: false,
                 ended: Vec::new(self.alloc),
@@ -352,7 +366,15 @@ impl<T: SubTable> Shard<T> {
         }
         let line = ErrText::SlowConsumer.line();
         let (conns, openings) = (&mut self.conns, &mut self.openings);
-        let ended = shut_with(self.alloc, self.shard, conns, openings, conn, line)?;
+        let ended = shut_with(
+            self.alloc,
+            self.shard,
+            conns,
+            &mut self.dirty_conns,
+            openings,
+            conn,
+            line,
+        )?;
         Ok(Closed { shut: true, ended })
     }
 
@@ -366,7 +388,15 @@ impl<T: SubTable> Shard<T> {
             return Err(Failure::Refused(ShardFault::NoConn));
         }
         let (conns, openings) = (&mut self.conns, &mut self.openings);
-        let ended = shut_with(self.alloc, self.shard, conns, openings, conn, text.line())?;
+        let ended = shut_with(
+            self.alloc,
+            self.shard,
+            conns,
+            &mut self.dirty_conns,
+            openings,
+            conn,
+            text.line(),
+        )?;
         Ok(ended)
     }
 
@@ -444,7 +474,7 @@ impl<T: SubTable> Shard<T> {
 
     /// Whether the connections that are told next are to be asked for soon ([`DirtyConns::is_urgent`]).
     pub fn is_urgent(&self) -> bool {
-        self.conns.is_urgent()
+        self.dirty_conns.is_urgent()
     }
 
     /// Gives for which connections something was put since the last time, in place of what `dirty_conns`
@@ -452,7 +482,7 @@ impl<T: SubTable> Shard<T> {
     pub fn swap_dirty_conns(&mut self, dirty_conns: &mut DirtyConns)
         ensures { self.new ≡ self.old }
     {
-        self.conns.swap_dirty_conns(dirty_conns);
+        self.dirty_conns.hand_over(dirty_conns);
     }
 
     /// The job in hand.
@@ -485,8 +515,13 @@ impl<T: SubTable> Shard<T> {
             });
         }
         self.buffer.start(self.shard, copies);
-        let Ok(begun) = place_all(&mut self.buffer, &mut self.conns, &mut self.openings, &job)
-        else {
+        let Ok(begun) = place_all(
+            &mut self.buffer,
+            &mut self.conns,
+            &mut self.dirty_conns,
+            &mut self.openings,
+            &job,
+        ) else {
             return Err(BeginFault {
                 job,
                 cause: Failure::OutOfMemory,
@@ -549,7 +584,7 @@ impl<T: SubTable> Shard<T> {
             unreachable!()
         };
         let ends = is_last(sub);
-        self.conns.commit();
+        self.conns.commit(&mut self.dirty_conns);
         self.openings.count(serial);
         if !ends {
             return None;

@@ -7,12 +7,6 @@ use Rattle.shard_core.proofs.Clients.Staging.{has_room_at, left_after, left_is, 
 use Rattle.shard_core.proofs.Clients.Lookups.{place_within, seat_place}
 use Rattle.shard_core.proofs.connections.Conns.stage_message.Goals as goal
 
-pub note_staged-requires : goal.note_staged-requires
-note_staged-requires c =
-    let conns = c.self.inside.conns.items in
-    let n = c.args.seat.conn in
-    place_within n conns c.args.seat.place (seat_place c.args.seat conns (ap (λ (l : Clients). position (has_number n) l.next) c.self.view_is ∙ c.requires.seat))
-
 pub stage_message_at-requires-clause-within : goal.stage_message_at-requires-clause-within
 stage_message_at-requires-clause-within c =
     let conns = c.self.inside.conns.items in

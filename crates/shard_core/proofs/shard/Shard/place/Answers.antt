@@ -22,7 +22,7 @@ invariant_of-self g c =
     let found = ap (λ (l : List Subscription). find (has_serial c.in-Some.serial) l) (sym c.table.ensures.subs) ∙ sym c.get.ensures ∙ ap option_copied c.in-Some-get.is in
     let is = sym c.take.ensures.value ∙ c.in-Some.is in
     place_sound s c.self.inside.conns.next c.self.inside.chosen c.in-Some.serial c.in-Some-get.sub.now c.args.self.now c.self.view_is c.requires.hand is found c.self.invariant
-    [] c.commit.new.self c.count.new.self c.take.new.self c.take.ensures.after c.commit.ensures (c.count.ensures ∙ sym (no_closings (with_counts (c.in-Some.serial ∷ []) c.self.inside.openings)))
+    [] c.commit.new.self c.count.new.self c.take.new.self c.take.ensures.after c.commit.ensures.shown (c.count.ensures ∙ sym (no_closings (with_counts (c.in-Some.serial ∷ []) c.self.inside.openings)))
 
 pub returns-then-not-ends-clause-placed : goal.returns-then-not-ends-clause-placed
 returns-then-not-ends-clause-placed g c =
@@ -30,7 +30,7 @@ returns-then-not-ends-clause-placed g c =
     let found = ap (λ (l : List Subscription). find (has_serial c.in-Some.serial) l) (sym c.table.ensures.subs) ∙ sym c.get.ensures ∙ ap option_copied c.in-Some-get.is in
     let is = sym c.take.ensures.value ∙ c.in-Some.is in
     place_done s c.self.inside.conns.next c.self.inside.chosen c.in-Some.serial c.in-Some-get.sub.now c.args.self.now c.self.view_is c.requires.hand is found c.self.invariant
-    [] c.commit.new.self c.count.new.self c.take.new.self (ends_none c.in-Some-get.sub.now (sym c.is_last-ends.ensures ∙ c.if-not-ends.true)) c.commit.ensures
+    [] c.commit.new.self c.count.new.self c.take.new.self (ends_none c.in-Some-get.sub.now (sym c.is_last-ends.ensures ∙ c.if-not-ends.true)) c.commit.ensures.shown
     (c.count.ensures ∙ sym (no_closings (with_counts (c.in-Some.serial ∷ []) c.self.inside.openings))) c.take.ensures.after
 
 pub invariant_of-self-2 : goal.invariant_of-self-2
@@ -39,7 +39,7 @@ invariant_of-self-2 g c =
     let found = ap (λ (l : List Subscription). find (has_serial c.in-Some.serial) l) (sym c.table.ensures.subs) ∙ sym c.get.ensures ∙ ap option_copied c.in-Some-get.is in
     let is = sym c.take.ensures.value ∙ c.in-Some.is in
     place_sound s c.self.inside.conns.next c.self.inside.chosen c.in-Some.serial c.in-Some-get.sub.now c.args.self.now c.self.view_is c.requires.hand is found c.self.invariant
-    (c.in-Some.serial ∷ []) c.commit.new.self c.close.new.self c.take.new.self c.take.ensures.after c.commit.ensures (c.close.ensures ∙ ap (with_closings (c.in-Some.serial ∷ [])) c.count.ensures)
+    (c.in-Some.serial ∷ []) c.commit.new.self c.close.new.self c.take.new.self c.take.ensures.after c.commit.ensures.shown (c.close.ensures ∙ ap (with_closings (c.in-Some.serial ∷ [])) c.count.ensures)
 
 pub returns-clause-placed : goal.returns-clause-placed
 returns-clause-placed g c =
@@ -48,7 +48,7 @@ returns-clause-placed g c =
     let is = sym c.take.ensures.value ∙ c.in-Some.is in
     let sub = c.in-Some-get.sub.now in
     place_done s c.self.inside.conns.next c.self.inside.chosen c.in-Some.serial c.in-Some-get.sub.now c.args.self.now c.self.view_is c.requires.hand is found c.self.invariant
-    (c.in-Some.serial ∷ []) c.commit.new.self c.close.new.self c.take.new.self (ends_one sub c.in-Some.serial (serial_is c.in-Some.serial s.subs sub found) (sym c.is_last-ends.ensures ∙ c.if-not-ends.false)) c.commit.ensures
+    (c.in-Some.serial ∷ []) c.commit.new.self c.close.new.self c.take.new.self (ends_one sub c.in-Some.serial (serial_is c.in-Some.serial s.subs sub found) (sym c.is_last-ends.ensures ∙ c.if-not-ends.false)) c.commit.ensures.shown
     (c.close.ensures ∙ ap (with_closings (c.in-Some.serial ∷ [])) c.count.ensures) c.take.ensures.after
 
 pub returns-clause-ended : goal.returns-clause-ended

@@ -1,26 +1,14 @@
-use Rattle.std.proofs.Common.{take, ◌≡◌, ◌==◌, ◌<◌, ◌++◌, List, [], length, map, append-nil, Some, ap, sym, ◌∙◌, arith}
-use Rattle.std.specs.Prelude.{position, slice_set}
+use Rattle.std.proofs.Common.{take, ◌≡◌, ◌==◌, ◌<◌, ◌++◌, List, [], length, append-nil, Some, ap, sym, ◌∙◌, arith}
+use Rattle.std.specs.Prelude.{position}
 use Rattle.std.proofs.lemmas.List.{take_all}
 use Rattle.std.proofs.lemmas.List.Quantifiers.{position-Some}
 use Rattle.outbox.specs.Views.{Waiting, Written, bytes_of_all, without_first}
 use Rattle.shard_core.specs.declared.connections.Conn.{Conn}
-use Rattle.shard_core.specs.Boxes.{Clients, client_in_view, shown_backlog, next_backlog}
+use Rattle.shard_core.specs.Boxes.{Clients, client_in_view, shown_backlog}
 use Rattle.shard_core.specs.Shards.{entries_of, waits_for, clients_with_change}
-use Rattle.shard_core.proofs.Clients.Lookups.{client_none, changed_none, waits_is, changed_is, settled_box}
+use Rattle.shard_core.proofs.Clients.Lookups.{client_none, changed_none, waits_is, changed_is}
 use Rattle.shard_core.proofs.Clients.Staging.{conns_settled}
-use Rattle.shard_core.proofs.connections.Conns.take_bytes.Goals as goal
-
-pub take_bytes-requires : goal.take_bytes-requires
-take_bytes-requires c =
-    let conns = c.self.inside.conns.items in
-    let n = c.args.conn in
-    let i = c.in-Some.place in
-    let x = c.index_mut-conn.result.now in
-    let is = c.index_mut-conn.ensures.value in
-    let at : position (λ (y : Conn). y.number == n) conns ≡ Some i = sym c.place_in.ensures ∙ c.in-Some.is in
-    let settled : map (client_in_view next_backlog) conns ≡ map (client_in_view shown_backlog) conns = ap (λ (l : Clients). l.next) c.self.view_is ∙ c.requires ∙ sym (ap (λ (l : Clients). l.shown) c.self.view_is) in
-    let alone = settled_box n conns i x at is settled in
-    alone
+use Rattle.shard_core.proofs.connections.Conns.take_bytes_shown.Goals as goal
 
 pub invariant_of-self-in-Some : goal.invariant_of-self-in-Some
 invariant_of-self-in-Some c =
@@ -30,10 +18,8 @@ invariant_of-self-in-Some c =
     let x = c.index_mut-conn.result.now in
     let is = c.index_mut-conn.ensures.value in
     let at : position (λ (y : Conn). y.number == n) conns ≡ Some i = sym c.place_in.ensures ∙ c.in-Some.is in
-    let settled : map (client_in_view next_backlog) conns ≡ map (client_in_view shown_backlog) conns = ap (λ (l : Clients). l.next) c.self.view_is ∙ c.requires ∙ sym (ap (λ (l : Clients). l.shown) c.self.view_is) in
-    let alone = settled_box n conns i x at is settled in
     let there : i < length conns = (position-Some (λ (y : Conn). y.number == n) conns i x at).0 in
-    conns_settled c.self.inside.places.items conns i x c.take_bytes.new.self is there (ap (λ (b : Waiting). b.next) c.in_ok-taken-in-Some.ensures.ok ∙ ap (without_first c.args.count) alone ∙ sym (ap (λ (b : Waiting). b.shown) c.in_ok-taken-in-Some.ensures.ok)) c.self.invariant
+    conns_settled c.self.inside.places.items conns i x c.take_bytes.new.self is there (ap (λ (b : Waiting). b.next) c.in_ok-taken-in-Some.ensures.ok ∙ sym (ap (λ (b : Waiting). b.shown) c.in_ok-taken-in-Some.ensures.ok)) c.self.invariant
 
 pub returns-in-None-clause-taken : goal.returns-in-None-clause-taken
 returns-in-None-clause-taken c =
@@ -76,9 +62,7 @@ returns-in_ok-taken-in-Some-clause-ok c =
     let is = c.index_mut-conn.ensures.value in
     let at : position (λ (y : Conn). y.number == n) conns ≡ Some i = sym c.place_in.ensures ∙ c.in-Some.is in
     let change = without_first c.args.count in
-    let shown : map (client_in_view shown_backlog) (slice_set conns i (record { number = x.number; outbox = c.take_bytes.new.self })) ≡ clients_with_change change n c.args.self.now.shown = changed_is shown_backlog n conns i x at is change c.take_bytes.new.self (ap (λ (b : Waiting). client_in_view shown_backlog (record { number = x.number; outbox = b })) c.in_ok-taken-in-Some.ensures.ok) ∙ ap (λ (l : Clients). clients_with_change change n l.shown) c.self.view_is in
-    let next : map (client_in_view next_backlog) (slice_set conns i (record { number = x.number; outbox = c.take_bytes.new.self })) ≡ clients_with_change change n c.args.self.now.next = changed_is next_backlog n conns i x at is change c.take_bytes.new.self (ap (λ (b : Waiting). client_in_view next_backlog (record { number = x.number; outbox = b })) c.in_ok-taken-in-Some.ensures.ok) ∙ ap (λ (l : Clients). clients_with_change change n l.next) c.self.view_is in
-    λ k. record { shown = shown k; next = next k }
+    changed_is shown_backlog n conns i x at is change c.take_bytes.new.self (ap (λ (b : Waiting). client_in_view shown_backlog (record { number = x.number; outbox = b })) c.in_ok-taken-in-Some.ensures.ok) ∙ ap (λ (l : Clients). clients_with_change change n l.shown) c.self.view_is
 
 pub returns-in-None-clause-ok : goal.returns-in-None-clause-ok
 returns-in-None-clause-ok c =
@@ -86,6 +70,4 @@ returns-in-None-clause-ok c =
     let n = c.args.conn in
     let change = without_first c.args.count in
     let none = sym c.place_in.ensures ∙ c.in-None.is in
-    let shown : c.args.self.now.shown ≡ clients_with_change change n c.args.self.now.shown = ap (λ (l : Clients). l.shown) (sym c.self.view_is) ∙ sym (changed_none shown_backlog n change conns none) ∙ ap (λ (l : Clients). clients_with_change change n l.shown) c.self.view_is in
-    let next : c.args.self.now.next ≡ clients_with_change change n c.args.self.now.next = ap (λ (l : Clients). l.next) (sym c.self.view_is) ∙ sym (changed_none next_backlog n change conns none) ∙ ap (λ (l : Clients). clients_with_change change n l.next) c.self.view_is in
-    λ k. record { shown = shown k; next = next k }
+    ap (λ (l : Clients). l.shown) (sym c.self.view_is) ∙ sym (changed_none shown_backlog n change conns none) ∙ ap (λ (l : Clients). clients_with_change change n l.shown) c.self.view_is
