@@ -20,7 +20,6 @@ use subj::{
 #[derive(Drop)]
 pub struct Settled {
     outbox: Outbox,
-    ghost settled: { outbox.next ≡ outbox.shown },
 }
 
 impl Settled {
@@ -58,11 +57,7 @@ impl Settled {
 
     /// Puts the last line. Gives whether it is short enough, and the first one.
     pub fn shut(&mut self, line: &[u8]) -> bool {
-        if line.len() > LAST_LINE_TEXT || self.outbox.is_shut() {
-            return false;
-        }
-        self.outbox.shut(line);
-        true
+        self.outbox.shut(line)
     }
 
     /// Takes so many entries, or all where there are fewer.
