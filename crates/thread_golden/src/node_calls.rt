@@ -119,6 +119,18 @@ fn publish<N: NodeName, R: Wait>(
     published_told(alloc, node.publish(rt, conn, &publication, 0))
 }
 
+/// Hands the shards the jobs that they were not handed for want of memory.
+fn push_jobs<N: NodeName, R: Wait>(
+    rt: &R,
+    alloc: Global,
+    node: &Node<N>,
+) -> Result<String, AllocError> {
+    let mut hub = node.hub(rt);
+    hub.push_jobs(rt);
+    drop(hub);
+    text(alloc, "ok")
+}
+
 /// A call on a connection of a shard.
 fn on_conn<N: NodeName, R: Wait>(
     rt: &R,
@@ -151,6 +163,7 @@ fn first_answer<N: NodeName, R: Wait>(
     match call {
         "shards" => format!(in alloc; "shards {}", node.shards()),
         "publish" => publish(rt, alloc, node, ConnId::new(words.number(0))),
+        "push_jobs" => push_jobs(rt, alloc, node),
         "has_shard" => yes_or_no(alloc, node.shard(rt, shard).is_some()),
         "attach" => told(alloc, node.attach(rt, shard)),
         "collect" => told(alloc, node.collect(rt, shard)),
