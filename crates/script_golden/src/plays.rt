@@ -4,7 +4,7 @@ use crate::output::Output;
 use crate::streams::{left_in, sink_of, source_of};
 use claim_cells::CellsRace;
 use claim_race::{PlainRace, Race};
-use golden::{Words, text};
+use golden::{Words, bytes_of, text};
 use mesh_audit::script_audit_run;
 use mesh_script::{RunFault, script_run};
 use std::alloc::{AllocError, Global};
@@ -94,6 +94,44 @@ fn listed(
     ended_told(alloc, ended)
 }
 
+/// The script with these bytes behind its line of this number, from 1.
+fn with_behind(
+    alloc: Global,
+    script: &[u8],
+    number: u64,
+    behind: &[u8],
+) -> Result<Vec<u8>, AllocError> {
+    let mut whole = Vec::new(alloc);
+    let mut ended = 0u64;
+    for byte in script {
+        whole.push(*byte)?;
+        if *byte != b'\n' {
+            continue;
+        }
+        ended = ended.saturating_add(1);
+        if ended == number {
+            whole.extend_from_slice(behind)?;
+        }
+    }
+    Ok(whole)
+}
+
+/// Plays the script with more steps behind its line of this number, and behind the text writes what was published, subscribed and placed.
+fn disturbed(
+    alloc: Global,
+    script: &[u8],
+    output: &mut Output,
+    words: &Words<'_>,
+) -> Result<String, AllocError> {
+    let steps = bytes_of(alloc, words.at(1))?;
+    let whole = with_behind(alloc, script, words.number(0), &steps)?;
+    let mut source = MemSource::new(whole);
+    let mut sink = MemSink::new(alloc);
+    let ended = play_listing(alloc, &mut source, &mut sink);
+    output.keep(sink.bytes())?;
+    ended_told(alloc, ended)
+}
+
 /// Plays the script once more, by the list and the plain race.
 fn plainly(alloc: Global, script: &[u8], output: &Output) -> Result<String, AllocError> {
     let other = play_plainly(alloc, script, output)?;
@@ -156,7 +194,7 @@ fn writing(
     format!(in alloc; "{told}, {front} of {}", sink.bytes().len())
 }
 
-/// `whole`, `plainly`, `listed TAKES|FAILING`, `complaint`, `reading GIVES|FAILING` or `writing TAKES|FAILING`.
+/// `whole`, `plainly`, `listed TAKES|FAILING`, `disturbed LINE|STEPS`, `complaint`, `reading GIVES|FAILING` or `writing TAKES|FAILING`.
 pub fn answer(
     alloc: Global,
     script: &[u8],
@@ -168,6 +206,7 @@ pub fn answer(
         "whole" => whole(alloc, script, output),
         "plainly" => plainly(alloc, script, output),
         "listed" => listed(alloc, script, output, words),
+        "disturbed" => disturbed(alloc, script, output, words),
         "complaint" => complaint(alloc, script, output),
         "reading" => reading(alloc, script, output, words),
         "writing" => writing(alloc, script, output, words),
