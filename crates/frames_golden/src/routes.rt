@@ -93,14 +93,18 @@ fn body_of(alloc: Global, kind: &str, words: &Words<'_>) -> Option<Body> {
     }
 }
 
-/// The numbered frame of this kind, where there may be such a one.
-fn numbered_of(alloc: Global, kind: &str, words: &Words<'_>) -> Option<Option<RouteFrame>> {
+/// The numbered frame that says this, where there may be such a one.
+fn numbered_with(words: &Words<'_>, body: Body) -> Option<Option<RouteFrame>> {
     let (from, to) = (life_in(words.at(0))?, life_in(words.at(1))?);
-    let body = body_of(alloc, kind, words)?;
     match Numbered::new(from.name, from.inc, to.name, to.inc, words.number(2), body) {
         None => Some(None),
         Some(frame) => Some(Some(RouteFrame::Numbered(frame))),
     }
+}
+
+/// The numbered frame of this kind, where there may be such a one.
+fn numbered_of(alloc: Global, kind: &str, words: &Words<'_>) -> Option<Option<RouteFrame>> {
+    numbered_with(words, body_of(alloc, kind, words)?)
 }
 
 /// The `CONNECT` of one server to another with a serial, where there may be such a one.
@@ -131,11 +135,8 @@ fn frame_of(alloc: Global, kind: &str, words: &Words<'_>) -> Option<Option<Route
 fn build(
     answer: &mut String,
     place: &mut Option<RouteFrame>,
-    alloc: Global,
-    kind: &str,
-    words: &Words<'_>,
+    frame: Option<RouteFrame>,
 ) -> Option<()> {
-    let frame = frame_of(alloc, kind, words)?;
     let told = if frame.is_some() { "built" } else { "none" };
     put(place, frame);
     tell(answer, told)
@@ -313,7 +314,7 @@ pub fn frame_call(
             part_told(answer, call, routes.frame.as_ref()?)
         }
         "into_body" => into_body(answer, routes.frame.take()?),
-        _ => build(answer, &mut routes.frame, alloc, call, words),
+        _ => build(answer, &mut routes.frame, frame_of(alloc, call, words)?),
     }
 }
 
@@ -410,6 +411,10 @@ pub fn snapshot_call(
         "text" => snapshot_text(answer, alloc, routes.snapshot.as_ref()?),
         "text_len" => tell_number(answer, "", routes.snapshot.as_ref()?.text_len() as u64),
         "into_keys" => into_keys(answer, routes.snapshot.take()?),
+        "frame" => {
+            let body = Body::Snapshot(routes.snapshot.take()?);
+            build(answer, &mut routes.frame, numbered_with(words, body)?)
+        }
         _ => None,
     }
 }

@@ -1,7 +1,7 @@
 //! What stands in a case, and whose call a line is.
 
 use crate::output::Output;
-use crate::{audits, commands, input, matches, output, pipes, plays, reading};
+use crate::{audits, commands, input, matches, output, pipes, plays, reading, worlds};
 use golden::{Rig, Words, text};
 use std::alloc::{AllocError, Global};
 
@@ -40,6 +40,7 @@ impl Rig for ScriptRig {
             "play" => plays::answer(self.alloc, &self.input, &mut self.output, call, words),
             "audit" => audits::answer(self.alloc, &self.input, &self.output, call, words),
             "match" => matches::answer(self.alloc, call, words),
+            "world" => worlds::answer(self.alloc, call, words),
             "line" => commands::answer(self.alloc, call, words),
             "pipe" => pipes::answer(self.alloc, &self.input, &mut self.output, call, words),
             _ => text(self.alloc, "no such call"),
