@@ -103,7 +103,7 @@ fn assert_won_once(rt: &impl Abort, closed: &Closed) {
 
 #[test]
 fn two_threads_claim_one_index(rt: HostRuntime) -> Result<(), Fail> {
-    for _ in 0..10_000 {
+    for _ in 0..2_500 {
         let (first_won, second_won, closed) = two_threads(&rt, rt.alloc())?;
         assert!(rt; first_won != second_won);
         assert_won_once(&rt, &closed);
