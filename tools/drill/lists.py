@@ -2,9 +2,13 @@
 import json
 
 from .moves import Draw, Moves
-from .values import OUTBOX_ENTRIES, QUEUE_NAMES, ROUTE_FRAMES, SESSIONS, WINDOW
+from .values import OUTBOX_ENTRIES, QUEUE_NAMES, ROUTE_FRAMES, SERVERS, SESSIONS, SHARDS, WINDOW
 
-NAMES = [["n1", "n2", "n3", "n4", "n5"], ["b", "a", "Z-1", "x_2", "0"]]
+# The names of as many servers as a cluster may have.
+NAMES = [[f"n{number}" for number in range(1, SERVERS + 1)], ["b", "a", "Z-1", "x_2", "0"] + [f"y{number}" for number in range(SERVERS - 5)]]
+
+# How many servers, and how many shards of each, most lists have at most.
+FEW_SERVERS, FEW_SHARDS = 5, 4
 
 # How many events a list has at least that is not ended by its beginning; the last move may add a few.
 EVENTS = 300
@@ -41,6 +45,11 @@ def open_servers(moves):
     for place, node in enumerate(moves.cluster.names):
         for peer in moves.cluster.names[place + 1:]:
             moves.join(node, peer)
+
+
+def open_many(moves):
+    """The same, up to as many servers and shards as there may be."""
+    open_servers(moves)
 
 
 def joined(moves):
@@ -150,8 +159,9 @@ def fill_share(moves):
 
 
 # Each with how many of a thousand lists begin so, and how many shards the servers have at most.
-BEGINNINGS = [(open_servers, 640, 4), (blind, 120, 4), (fill_outbox, 80, 4), (fill_window, 60, 4), (fill_sessions, 30, 2), (fill_names, 30, 2),
-              (fill_bytes, 16, 4), (fill_share, 12, 16), (fill_route, 12, 1)]
+BEGINNINGS = [(open_servers, 610, FEW_SHARDS), (open_many, 30, SHARDS), (blind, 120, FEW_SHARDS), (fill_outbox, 80, FEW_SHARDS),
+              (fill_window, 60, FEW_SHARDS), (fill_sessions, 30, 2), (fill_names, 30, 2), (fill_bytes, 16, FEW_SHARDS), (fill_share, 12, SHARDS),
+              (fill_route, 12, 1)]
 
 
 def beginning_of(draw):
@@ -168,9 +178,10 @@ def drawn(seed, events=EVENTS, beginning=None):
     draw = Draw(seed)
     begin, most = beginning_of(draw)
     if beginning is not None:
-        begin, most = beginning, 4
-    shards = 16 if begin is fill_share else draw.up_to(most)
-    moves = Moves(draw, draw.one_of(NAMES)[:draw.up_to(5)], shards)
+        begin, most = beginning, FEW_SHARDS
+    shards = SHARDS if begin is fill_share else draw.up_to(most)
+    servers = draw.up_to(SERVERS if begin is open_many else FEW_SERVERS)
+    moves = Moves(draw, draw.one_of(NAMES)[:servers], shards)
     begin(moves)
     least = max(events, moves.cluster.step + 50)
     while moves.cluster.step < least:
@@ -205,7 +216,7 @@ def brought_to_rest(seed, is_held_back):
     """The cluster of this seed at rest, and deliveries there, each as one step or with its work in an order that is drawn. Or the same cluster with one
     frame held back that tells of a subscription; none where there is no such frame."""
     draw = Draw(seed)
-    moves = Moves(draw, draw.one_of(NAMES)[:draw.up_to(5)], draw.up_to(4))
+    moves = Moves(draw, draw.one_of(NAMES)[:draw.up_to(FEW_SERVERS)], draw.up_to(FEW_SHARDS))
     prepare(moves)
     telling = [number for number, frame in enumerate(moves.cluster.frames, 1) if tells(frame)]
     held = draw.one_of(telling) if is_held_back and telling else None

@@ -1,6 +1,10 @@
 """What the parts of the model share: limits, matching, and the values that they hand to each other (docs/PROTOCOL.md)."""
 from dataclasses import dataclass, field
 
+# How many servers a cluster may have, and how many shards each.
+SERVERS = 16
+SHARDS = 16
+
 # How many turns a shard may be behind, and how many queue names a publication may have.
 WINDOW = 128
 QUEUE_NAMES = 64
