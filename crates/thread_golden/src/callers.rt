@@ -2,11 +2,12 @@
 
 use client_frames::{ErrText, ReplyFrame};
 use golden::{key_of, message_of, sid_of};
+use node_law::NodeFault;
 use route_values::{Body, Numbered, RouteConnect, RouteInfo, SnapshotKeys};
 use std::alloc::Global;
 use std::sync::Wait;
 use sub_table::ListTable;
-use subj::{ConnId, Incarnation, Key, NodeId, Pub, QueueNames, Sid};
+use subj::{ConnId, Failure, Incarnation, Key, NodeId, Pub, QueueNames, Sid};
 use thread_node::{NodeName, ThreadNode};
 use thread_report::Pass;
 
@@ -87,6 +88,23 @@ pub fn serve_clients<N: NodeName, R: Wait>(
     opens_and_ends(rt, alloc, node, pass, conn)?;
     is_answered_and_shut(rt, node, pass, conn)?;
     publishes_and_goes(rt, node, pass, &hello(alloc)?)
+}
+
+/// Whether a call was refused for the connection of another shard.
+fn refused_away<X: Drop>(answer: Result<X, Failure<NodeFault>>) -> Option<()> {
+    match answer {
+        Err(Failure::Refused(NodeFault::NoShard)) => Some(()),
+        _ => None,
+    }
+}
+
+/// A client of the first shard, whose connection the second one is asked for.
+pub fn serve_stray<N: NodeName, R: Wait>(rt: &R, node: &Node<N>, pass: &mut Pass<N>) -> Option<()> {
+    let conn = pass.attach(rt, node, 1).ok()?;
+    refused_away(pass.reply(rt, node, 2, conn, &ReplyFrame::Pong))?;
+    refused_away(pass.take(rt, node, 2, conn, 1))?;
+    refused_away(pass.shut(rt, node, 2, conn, ErrText::ParserError))?;
+    refused_away(pass.detach(rt, node, 2, conn))
 }
 
 /// n1 and n2, both in their first lives.

@@ -3,7 +3,7 @@
 
 ghost use Rattle.std.specs.Prelude.{◌≡◌};
 
-use crate::callers::{Node, serve_clients, serve_peer};
+use crate::callers::{Node, serve_clients, serve_peer, serve_stray};
 use crate::node_calls;
 use golden::{Call, Words, call_of, server_of, text, yes_or_no};
 use std::alloc::{AllocError, Global};
@@ -23,6 +23,7 @@ fn is_served<N: NodeName, R: Wait>(
     match name {
         "clients" => serve_clients(rt, alloc, node, pass).is_some(),
         "peer" => serve_peer(rt, alloc, node, pass).is_some(),
+        "stray" => serve_stray(rt, node, pass).is_some(),
         _ => false,
     }
 }

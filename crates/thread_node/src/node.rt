@@ -1,12 +1,12 @@
 //! A hub and its shards, each under a lock of its own: the calls that take a lock, make one call and give its answer, and the
 //! threads that work lanes.
 
-ghost use Rattle.std.specs.Prelude.{◌≡◌, ◌≤◌, ◌<◌, [], All, length, vec_len, IfOk, is_some, true};
+ghost use Rattle.std.specs.Prelude.{◌≡◌, ◌≤◌, ◌<◌, [], All, length, vec_len, IfOk, IfSome, is_some, true};
 ghost use Rattle.std.specs.Arc.{arc_value};
 ghost use Rattle.subj.specs.declared.limits.TheConstants.{MAX_SHARDS};
 ghost use Rattle.thread_node.specs.Parts.{IsNamed};
 ghost use Rattle.claim_cells.specs.Rule.{fresh_hub};
-ghost use Rattle.thread_node.specs.Refusing.{AnswersAt, DecidesAt, has_shard};
+ghost use Rattle.thread_node.specs.Refusing.{AnswersAt, DecidesAt, has_conn, has_shard, is_own};
 
 use crate::locked_hub::LockedHub;
 use crate::locked_shard::LockedShard;
@@ -16,7 +16,7 @@ use client_frames::{ErrText, ReplyFrame};
 use crossbeam_utils::sync::{Parker, Unparker};
 use hub_core::{CollectResult, HubFault};
 use node_law::NodeFault;
-use node_parts::{Issued, Received, place_of_shard};
+use node_parts::{Issued, Received, place_of_conn, place_of_shard};
 use node_threads::{Gate, HubState, LaneSender, NodeName, ShardState, Turned};
 use outbox::Entry;
 use route_session::{Kept, SessionFault, SessionId};
@@ -119,7 +119,19 @@ fn locked_hub<N: NodeName>(
     Ok(Mutex::new(LockedHub::new(alloc, state, cells, keep)))
 }
 
-/// The server has no such shard.
+/// The place of the shard of this number, of so many, where the connection is of that shard.
+fn place_of_own(count: usize, shard: u64, conn: ConnId) -> Option<usize>
+    ensures own { is_some result ≡ is_own count shard conn }
+    ensures within { IfSome result (λ place. place < count) }
+{
+    let place = place_of_shard(count, shard)?;
+    if place_of_conn(count, conn)? != place {
+        return None;
+    }
+    Some(place)
+}
+
+/// The server has no such shard, or the connection is of another one.
 pub const NO_SHARD: Failure<NodeFault> = Failure::Refused(NodeFault::NoShard);
 
 /// What a call of a shard came to, as its server tells it.
@@ -236,6 +248,19 @@ impl<T: SubTable, N: NodeName> ThreadNode<T, N> {
         ensures { is_some result ≡ has_shard N.race number }
     {
         let place = place_of_shard(self.shards.len(), number)?;
+        Some(self.shards[place].lock(rt))
+    }
+
+    /// The same for a call on a connection: None too where the connection is of another shard, as its number tells. May wait.
+    pub fn shard_of_conn<R: Wait>(
+        &self,
+        rt: &R,
+        number: u64,
+        conn: ConnId,
+    ) -> Option<ShardSection<'_, T, N>>
+        ensures { is_some result ≡ has_conn N.race number conn }
+    {
+        let place = place_of_own(self.shards.len(), number, conn)?;
         Some(self.shards[place].lock(rt))
     }
 
@@ -385,7 +410,7 @@ impl<T: SubTable, N: NodeName> ThreadNode<T, N> {
     }
 
     /// [`ShardState::subscribe`](node_threads::ShardState::subscribe), of the shard of this number. Refused with
-    /// [`NodeFault::NoShard`] first. May wait.
+    /// [`NodeFault::NoShard`] first, where that is not there or the connection is of another. May wait.
     pub fn subscribe<R: Wait>(
         &self,
         rt: &R,
@@ -394,16 +419,16 @@ impl<T: SubTable, N: NodeName> ThreadNode<T, N> {
         key: Key,
         sid: Sid,
     ) -> Result<Subscribed, Failure<NodeFault>>
-        ensures { AnswersAt (has_shard N.race shard) result }
+        ensures { AnswersAt (has_conn N.race shard conn) result }
     {
-        let Some(mut shard) = self.shard(rt, shard) else {
+        let Some(mut shard) = self.shard_of_conn(rt, shard, conn) else {
             return Err(NO_SHARD);
         };
         answered_by_shard(shard.subscribe(conn, key, sid))
     }
 
     /// [`ShardState::unsubscribe`](node_threads::ShardState::unsubscribe), of the shard of this number. Refused with
-    /// [`NodeFault::NoShard`] first. May wait.
+    /// [`NodeFault::NoShard`] first, where that is not there or the connection is of another. May wait.
     pub fn unsubscribe<R: Wait>(
         &self,
         rt: &R,
@@ -412,16 +437,16 @@ impl<T: SubTable, N: NodeName> ThreadNode<T, N> {
         sid: &Sid,
         max: Option<u64>,
     ) -> Result<Option<SubId>, NodeFault>
-        ensures { DecidesAt (has_shard N.race shard) result }
+        ensures { DecidesAt (has_conn N.race shard conn) result }
     {
-        let Some(mut shard) = self.shard(rt, shard) else {
+        let Some(mut shard) = self.shard_of_conn(rt, shard, conn) else {
             return Err(NodeFault::NoShard);
         };
         decided_by_shard(shard.unsubscribe(conn, sid, max))
     }
 
     /// [`ShardState::reply`](node_threads::ShardState::reply), of the shard of this number. Refused with
-    /// [`NodeFault::NoShard`] first. May wait.
+    /// [`NodeFault::NoShard`] first, where that is not there or the connection is of another. May wait.
     pub fn reply<R: Wait>(
         &self,
         rt: &R,
@@ -429,16 +454,16 @@ impl<T: SubTable, N: NodeName> ThreadNode<T, N> {
         conn: ConnId,
         frame: &ReplyFrame,
     ) -> Result<Closed, Failure<NodeFault>>
-        ensures { AnswersAt (has_shard N.race shard) result }
+        ensures { AnswersAt (has_conn N.race shard conn) result }
     {
-        let Some(mut shard) = self.shard(rt, shard) else {
+        let Some(mut shard) = self.shard_of_conn(rt, shard, conn) else {
             return Err(NO_SHARD);
         };
         answered_by_shard(shard.reply(conn, frame))
     }
 
     /// [`ShardState::shut`](node_threads::ShardState::shut), of the shard of this number. Refused with
-    /// [`NodeFault::NoShard`] first. May wait.
+    /// [`NodeFault::NoShard`] first, where that is not there or the connection is of another. May wait.
     pub fn shut<R: Wait>(
         &self,
         rt: &R,
@@ -446,32 +471,32 @@ impl<T: SubTable, N: NodeName> ThreadNode<T, N> {
         conn: ConnId,
         text: ErrText,
     ) -> Result<Vec<SubId>, Failure<NodeFault>>
-        ensures { AnswersAt (has_shard N.race shard) result }
+        ensures { AnswersAt (has_conn N.race shard conn) result }
     {
-        let Some(mut shard) = self.shard(rt, shard) else {
+        let Some(mut shard) = self.shard_of_conn(rt, shard, conn) else {
             return Err(NO_SHARD);
         };
         answered_by_shard(shard.shut(conn, text))
     }
 
     /// [`ShardState::detach`](node_threads::ShardState::detach), of the shard of this number. Refused with
-    /// [`NodeFault::NoShard`] first. May wait.
+    /// [`NodeFault::NoShard`] first, where that is not there or the connection is of another. May wait.
     pub fn detach<R: Wait>(
         &self,
         rt: &R,
         shard: u64,
         conn: ConnId,
     ) -> Result<Vec<SubId>, Failure<NodeFault>>
-        ensures { AnswersAt (has_shard N.race shard) result }
+        ensures { AnswersAt (has_conn N.race shard conn) result }
     {
-        let Some(mut shard) = self.shard(rt, shard) else {
+        let Some(mut shard) = self.shard_of_conn(rt, shard, conn) else {
             return Err(NO_SHARD);
         };
         answered_by_shard(shard.detach(conn))
     }
 
     /// [`ShardState::take`](node_threads::ShardState::take), of the shard of this number. Refused with
-    /// [`NodeFault::NoShard`] first. May wait.
+    /// [`NodeFault::NoShard`] first, where that is not there or the connection is of another. May wait.
     pub fn take<R: Wait>(
         &self,
         rt: &R,
@@ -479,9 +504,9 @@ impl<T: SubTable, N: NodeName> ThreadNode<T, N> {
         conn: ConnId,
         count: usize,
     ) -> Result<Vec<Entry>, Failure<NodeFault>>
-        ensures { AnswersAt (has_shard N.race shard) result }
+        ensures { AnswersAt (has_conn N.race shard conn) result }
     {
-        let Some(mut shard) = self.shard(rt, shard) else {
+        let Some(mut shard) = self.shard_of_conn(rt, shard, conn) else {
             return Err(NO_SHARD);
         };
         answered_by_shard(shard.take(conn, count))

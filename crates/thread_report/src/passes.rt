@@ -12,7 +12,7 @@ ghost use Rattle.node_law.specs.declared.events.ShardWork.TheVariants as work;
 ghost use Rattle.node_threads.specs.Tapes.{told_of};
 ghost use Rattle.node_threads.specs.declared.shard_entries.ShardTold.TheVariants as shard_told;
 ghost use Rattle.thread_node.specs.HubTapes.{of_received};
-ghost use Rattle.thread_node.specs.Refusing.{AnswersAt, DecidesAt, has_shard};
+ghost use Rattle.thread_node.specs.Refusing.{AnswersAt, DecidesAt, has_conn, has_shard};
 ghost use Rattle.thread_node.specs.declared.hub_entries.HubTold.TheVariants as hub_told;
 
 use crate::asking::{frame_of_peer, of_conn, publish_event, subscription, unsubscription};
@@ -437,11 +437,11 @@ impl<N: NodeName> Pass<N> {
     ) -> Result<Subscribed, Failure<NodeFault>>
         ensures told { IfOk result (λ done. Gains N.keep shard (Own (own.OfConn conn (of_conn.Subscribe key sid))) (Shard (told_of (answer_of done))) self.old self.new) }
         ensures same { OnErr result (self.new ≡ self.old) }
-        ensures answers { AnswersAt (has_shard N.race shard) result }
+        ensures answers { AnswersAt (has_conn N.race shard conn) result }
     {
         let keep = node.keeps_tapes();
         let event = subscription(self.alloc, self.is_kept(keep), conn, &key, &sid);
-        let Some(mut locked) = node.shard(rt, shard) else {
+        let Some(mut locked) = node.shard_of_conn(rt, shard, conn) else {
             return Err(NO_SHARD);
         };
         let place = locked.steps_kept();
@@ -464,9 +464,9 @@ impl<N: NodeName> Pass<N> {
     ) -> Result<Option<SubId>, NodeFault>
         ensures told { IfOk result (λ ended. Gains N.keep shard (Own (own.OfConn conn (of_conn.Unsubscribe sid.now max))) (Shard (shard_told.Unsubscribed (length (option_to_list ended)))) self.old self.new) }
         ensures same { OnErr result (self.new ≡ self.old) }
-        ensures answers { DecidesAt (has_shard N.race shard) result }
+        ensures answers { DecidesAt (has_conn N.race shard conn) result }
     {
-        let Some(mut locked) = node.shard(rt, shard) else {
+        let Some(mut locked) = node.shard_of_conn(rt, shard, conn) else {
             return Err(NodeFault::NoShard);
         };
         let place = locked.steps_kept();
@@ -499,9 +499,9 @@ impl<N: NodeName> Pass<N> {
     ) -> Result<Closed, Failure<NodeFault>>
         ensures told { IfOk result (λ closed. Gains N.keep shard (Own (own.OfConn conn (of_conn.Reply frame.now))) (Shard (shard_told.Replied closed.shut (length closed.ended.items))) self.old self.new) }
         ensures same { OnErr result (self.new ≡ self.old) }
-        ensures answers { AnswersAt (has_shard N.race shard) result }
+        ensures answers { AnswersAt (has_conn N.race shard conn) result }
     {
-        let Some(mut locked) = node.shard(rt, shard) else {
+        let Some(mut locked) = node.shard_of_conn(rt, shard, conn) else {
             return Err(NO_SHARD);
         };
         let place = locked.steps_kept();
@@ -528,9 +528,9 @@ impl<N: NodeName> Pass<N> {
     ) -> Result<Vec<SubId>, Failure<NodeFault>>
         ensures told { IfOk result (λ ended. Gains N.keep shard (Own (own.OfConn conn (of_conn.Shut text))) (Shard (shard_told.WasShut (length ended.items))) self.old self.new) }
         ensures same { OnErr result (self.new ≡ self.old) }
-        ensures answers { AnswersAt (has_shard N.race shard) result }
+        ensures answers { AnswersAt (has_conn N.race shard conn) result }
     {
-        let Some(mut locked) = node.shard(rt, shard) else {
+        let Some(mut locked) = node.shard_of_conn(rt, shard, conn) else {
             return Err(NO_SHARD);
         };
         let place = locked.steps_kept();
@@ -558,9 +558,9 @@ impl<N: NodeName> Pass<N> {
     ) -> Result<Vec<SubId>, Failure<NodeFault>>
         ensures told { IfOk result (λ ended. Gains N.keep shard (Own (own.OfConn conn of_conn.Detach)) (Shard (shard_told.Detached (length ended.items))) self.old self.new) }
         ensures same { OnErr result (self.new ≡ self.old) }
-        ensures answers { AnswersAt (has_shard N.race shard) result }
+        ensures answers { AnswersAt (has_conn N.race shard conn) result }
     {
-        let Some(mut locked) = node.shard(rt, shard) else {
+        let Some(mut locked) = node.shard_of_conn(rt, shard, conn) else {
             return Err(NO_SHARD);
         };
         let place = locked.steps_kept();
@@ -589,9 +589,9 @@ impl<N: NodeName> Pass<N> {
     ) -> Result<Vec<Entry>, Failure<NodeFault>>
         ensures told { IfOk result (λ entries. Gains N.keep shard (Own (own.OfConn conn (of_conn.Take count))) (Shard (shard_told.Taken (length entries.items))) self.old self.new) }
         ensures same { OnErr result (self.new ≡ self.old) }
-        ensures answers { AnswersAt (has_shard N.race shard) result }
+        ensures answers { AnswersAt (has_conn N.race shard conn) result }
     {
-        let Some(mut locked) = node.shard(rt, shard) else {
+        let Some(mut locked) = node.shard_of_conn(rt, shard, conn) else {
             return Err(NO_SHARD);
         };
         let place = locked.steps_kept();
