@@ -410,17 +410,19 @@ impl<S: Stream> Connections<S> {
         self.await_deadline(key);
     }
 
-    /// Gives up the connections whose deadlines have come, and has those that are idle give back their buffers.
-    pub fn end_overdue(&mut self) {
+    /// Gives up the connections whose deadlines have come, and has those that are idle give back their buffers. Whether there were such.
+    pub fn end_overdue(&mut self) -> bool {
         if self.now < self.next_deadline {
-            return;
+            return false;
         }
         self.next_deadline = u64::MAX;
+        let mut is_any_idle = false;
         for key in 0..self.table.capacity() {
             self.end_if_overdue(key);
-            self.rest_if_idle(key);
+            is_any_idle |= self.rest_if_idle(key);
             self.await_deadline(key);
         }
+        is_any_idle
     }
 
     /// Whether the deadline of a connection has come.
@@ -460,8 +462,8 @@ impl<S: Stream> Connections<S> {
     }
 
     /// Gives back the buffers of a connection that is idle. It is served, since a client's are given back by a read of few bytes and where
-    /// nothing is taken out of its outbox.
-    fn rest_if_idle(&mut self, key: usize) {
+    /// nothing is taken out of its outbox. Whether it is idle.
+    fn rest_if_idle(&mut self, key: usize) -> bool {
         let is_idle = match self.table.get_mut(key) {
             None => false,
             Some(connection) => connection.rest_if_idle(self.now),
@@ -469,5 +471,6 @@ impl<S: Stream> Connections<S> {
         if is_idle {
             self.serve_later(key);
         }
+        is_idle
     }
 }

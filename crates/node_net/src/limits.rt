@@ -34,9 +34,12 @@ pub(crate) const IDLE_BYTES: usize = 1_024;
 /// in greater parts, so that one that sends little has a small buffer.
 pub(crate) const FIRST_READ: usize = 512;
 
-/// The most bytes of a buffer that stays once what is in it was written. A client's outbox may get the buffer
-/// in exchange for its own.
+/// The most bytes of a buffer for what was taken for clients that stays while connections rest. A client's outbox may get the buffer
+/// in exchange for its own, and lets a large one go.
 pub(crate) const KEPT_BYTES: usize = 16_384;
+
+/// The same while connections are busy: there is room for two of the largest messages. Each server has two such buffers.
+pub(crate) const BUSY_BYTES: usize = 2 * 1_048_576 + 16_384;
 
 /// How many bytes are taken under one hold of a shard's lock, at least, before they are written.
 pub(crate) const TAKEN_AT_ONCE: usize = 1_048_576;

@@ -1,6 +1,6 @@
 //! What was taken for clients and is about to be written.
 
-use crate::limits::KEPT_BYTES;
+use crate::limits::{BUSY_BYTES, KEPT_BYTES};
 use crate::placing::put;
 use std::alloc::{AllocError, Global};
 
@@ -10,6 +10,13 @@ pub(crate) struct Part {
     pub key: usize,
     start: usize,
     end: usize,
+}
+
+/// Lets a buffer with more than so many bytes of room go.
+fn let_go_beyond(alloc: Global, buffer: &mut Vec<u8>, room: usize) {
+    if buffer.capacity() > room {
+        put(buffer, Vec::new(alloc));
+    }
 }
 
 /// What was taken for clients, and for whom.
@@ -64,11 +71,9 @@ impl Taken {
         is_put
     }
 
-    /// Nothing is lent any more: a large buffer does not stay.
+    /// Nothing is lent any more: a buffer for more than large messages does not stay.
     pub fn let_go_of_lent(&mut self) {
-        if self.lent.capacity() > KEPT_BYTES {
-            put(&mut self.lent, Vec::new(self.alloc));
-        }
+        let_go_beyond(self.alloc, &mut self.lent, BUSY_BYTES);
     }
 
     /// How many parts there are.
@@ -86,10 +91,14 @@ impl Taken {
         self.bytes.get(part.start..part.end).unwrap_or(&[])
     }
 
-    /// What was taken is sent: a large buffer does not stay.
+    /// What was taken is sent: a buffer for more than large messages does not stay.
     pub fn let_go(&mut self) {
-        if self.bytes.capacity() > KEPT_BYTES {
-            put(&mut self.bytes, Vec::new(self.alloc));
-        }
+        let_go_beyond(self.alloc, &mut self.bytes, BUSY_BYTES);
+    }
+
+    /// Connections rest: no large buffer stays.
+    pub fn rest(&mut self) {
+        let_go_beyond(self.alloc, &mut self.lent, KEPT_BYTES);
+        let_go_beyond(self.alloc, &mut self.bytes, KEPT_BYTES);
     }
 }

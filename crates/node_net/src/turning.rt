@@ -80,7 +80,9 @@ impl<S: Stream, C: ServerCalls> Server<S, C> {
     pub fn turn<R: Wait>(&mut self, rt: &R, keys: &[usize]) {
         let was_short = std::mem::replace(&mut self.connections.is_short, false);
         self.serve_all(rt, keys);
-        self.connections.end_overdue();
+        if self.connections.end_overdue() {
+            self.taken.rest();
+        }
         self.work(rt);
         self.flush(rt);
         self.close_leaving(rt);
