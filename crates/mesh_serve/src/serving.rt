@@ -1,6 +1,6 @@
 //! A mesh of servers, each in a thread of its own.
 
-ghost use Rattle.std.specs.Prelude.{◌≡◌, ◌<◌};
+ghost use Rattle.std.specs.Prelude.{◌≡◌, ◌<◌, ◌+◌, ◌%◌, ◌^◌, IfOk};
 ghost use Rattle.router_command.specs.Ranges.{AreWithin};
 
 use crate::faults::ServeFault;
@@ -105,6 +105,13 @@ fn life_of(alloc: Global, options: &Options, place: u16) -> Result<ServerIdentit
     }
 }
 
+/// The seed of the words of the server at this place. Each server has another one, so that no two of them choose alike.
+fn seed_of(options: &Options, place: u16) -> u64
+    ensures { result ≡ (options.now.word + place) % 2 ^ 64 }
+{
+    options.word.wrapping_add(u64::from(place))
+}
+
 /// The server at this place, with its sockets bound.
 fn bound_server<R: Net>(
     rt: &R,
@@ -114,11 +121,12 @@ fn bound_server<R: Net>(
 ) -> Result<BoundServer, ServeFault>
     requires within { AreWithin options.now }
     requires place { place < options.now.nodes }
+    ensures { IfOk result (λ server. server.word ≡ (options.now.word + place) % 2 ^ 64) }
 {
     Ok(BoundServer {
         life: life_of(alloc, options, place)?,
         port: options.client_port(place),
-        word: options.word,
+        word: seed_of(options, place),
         sockets: sockets(rt, options, place)?,
     })
 }

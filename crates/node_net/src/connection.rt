@@ -3,7 +3,7 @@
 ghost use Rattle.std.specs.Prelude.{◌≡◌, ◌-◌, ◌^◌, min};
 
 use crate::client_link::ClientLink;
-use crate::limits::{FIRST_READ, IDLE_BYTES};
+use crate::limits::{FIRST_READ, IDLE_BYTES, READ_GROWTH};
 use crate::route_link::{RouteLink, Stepped, cut};
 use client_conn::ReadFault;
 use net_streams::{Outgoing, Stream, Wire};
@@ -14,9 +14,6 @@ use std::alloc::{AllocError, Global};
 use std::sync::Wait;
 use subj::{ConnId, Failure, READ_BYTES, ServerIdentity as Life};
 use wire_cut::FillFault;
-
-/// By how much the parts grow.
-const READ_GROWTH: usize = 8;
 
 /// How many bytes are read at once behind a read of at most so many that gave so many.
 fn next_part(part: usize, count: usize) -> usize {

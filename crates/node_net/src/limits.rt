@@ -1,6 +1,8 @@
 //! The limits of a server's connections and of its loop, each with its unit. All of them are this project's profile;
 //! `docs/OPERATING.md` says what comes of them.
 
+use subj::{OUTBOX_BYTES, OUTBOX_ENTRIES};
+
 /// How long a client has for its last bytes once it was shut, or sends nothing any more, in milliseconds: as long as
 /// nats-server waits for a write.
 pub(crate) const LAST_BYTES: u64 = 10_000;
@@ -34,6 +36,9 @@ pub(crate) const IDLE_BYTES: usize = 1_024;
 /// in greater parts, so that one that sends little has a small buffer.
 pub(crate) const FIRST_READ: usize = 512;
 
+/// How many times as many bytes are read at once behind a read that gave as many as it may.
+pub(crate) const READ_GROWTH: usize = 8;
+
 /// The most bytes of a buffer for what was taken for clients that stays while connections rest. A client's outbox may get the buffer
 /// in exchange for its own, and lets a large one go.
 pub(crate) const KEPT_BYTES: usize = 16_384;
@@ -60,3 +65,11 @@ pub(crate) const ACCEPTS: usize = 256;
 
 /// The most events that are told of in a turn.
 pub(crate) const EVENTS: usize = 1_024;
+
+/// After how many bytes of payloads what waits for clients is taken before more is read: a client with few
+/// subscriptions has room for several times as much.
+pub(crate) const TAKEN_EARLY: usize = OUTBOX_BYTES / 8;
+
+/// As how many bytes a message counts beside its payload: so a quarter of the messages that an outbox has
+/// room for come to [`TAKEN_EARLY`].
+pub(crate) const MESSAGE_COST: usize = TAKEN_EARLY / (OUTBOX_ENTRIES / 4);

@@ -1,5 +1,7 @@
 //! Over which connections the other servers of the cluster are reached, and when they are dialed again.
 
+ghost use Rattle.std.specs.Prelude.{◌≤◌};
+
 use crate::limits::{FIRST_PAUSE, LAST_PAUSE};
 use std::alloc::{AllocError, Global};
 
@@ -108,6 +110,13 @@ struct Redial {
     since: Option<u64>,
 }
 
+/// How long the pause behind one of so many milliseconds is: twice as long, and no longer than a second.
+fn next_pause(pause: u64) -> u64
+    ensures { result ≤ 1000 }
+{
+    pause.saturating_mul(2).min(LAST_PAUSE)
+}
+
 /// When each server of the cluster is dialed next.
 #[derive(Drop)]
 pub(crate) struct Redials {
@@ -154,7 +163,7 @@ impl Redials {
     pub fn dial(&mut self, place: usize, now: u64) {
         if let Some(redial) = self.redials.get_mut(place) {
             redial.at = now.saturating_add(redial.pause);
-            redial.pause = redial.pause.saturating_mul(2).min(LAST_PAUSE);
+            redial.pause = next_pause(redial.pause);
         }
     }
 

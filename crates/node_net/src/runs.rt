@@ -1,14 +1,6 @@
 //! What a link has come to, after a run of what it asks.
 
-use subj::{OUTBOX_BYTES, OUTBOX_ENTRIES};
-
-/// After how many bytes of payloads what waits for clients is taken before more is read: a client with few
-/// subscriptions has room for several times as much.
-pub(crate) const TAKEN_EARLY: usize = OUTBOX_BYTES / 8;
-
-/// As how many bytes a message counts beside its payload: so a quarter of the messages that an outbox has
-/// room for come to [`TAKEN_EARLY`].
-const MESSAGE_COST: usize = TAKEN_EARLY / (OUTBOX_ENTRIES / 4);
+use crate::limits::MESSAGE_COST;
 
 /// As how many bytes a message with a payload of so many counts; an answer counts as one without.
 pub(crate) fn cost_of(payload: usize) -> usize {

@@ -1,8 +1,9 @@
 //! A turn of the loop: what ready connections ask is done, what was put is written, and connections are closed that go.
 
 use crate::connection::Cause;
+use crate::limits::TAKEN_EARLY;
 use crate::route_link::{Greeted, Stepped};
-use crate::runs::{Ran, RunOutcome, TAKEN_EARLY};
+use crate::runs::{Ran, RunOutcome};
 use crate::server::Server;
 use net_streams::Stream;
 use route_frames::{RouteConnect, RouteFrame, encode};
