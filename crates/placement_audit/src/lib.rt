@@ -24,4 +24,4 @@ mod worlds;
 
 pub use audits::audit;
 pub use placements::{Placement, each_placement};
-pub use worlds::runs_pass_the_audit;
+pub use worlds::{runs_pass_the_audit, worlds_pass_the_audit};
