@@ -2,6 +2,7 @@
 pub mod Ended
 pub mod Starting
 pub mod Making
+pub mod Entering
 pub mod Kept
 pub mod Living
 pub mod Finds

@@ -3,6 +3,7 @@ use Rattle.std.specs.Prelude.{ℕ, List, [], ◌∷◌, map, Option, Some, None}
 use Rattle.std.specs.declared.vec.Vec.{Vec}
 use Rattle.subj.specs.Servers.{ServerIdentity}
 use Rattle.node_core.specs.InCode.{own_event_of, answer_of}
+use Rattle.cluster_world.specs.Entered.{Entered, entered_by}
 use Rattle.cluster_world.specs.declared.events.Event.{Event}
 use Rattle.cluster_world.specs.declared.events.Event.TheVariants as event
 use Rattle.world_law.specs.declared.faults.WorldFault.{WorldFault}
@@ -59,6 +60,10 @@ placing_server node inc = record { names = []; me = node; inc = inc; shards = 0 
 -- the messages among what a step put
 abbrev pub placements_in : Placements → List Placement
 placements_in p = placements_put (placing_server p.node p.inc) p.step p.entries.items
+
+-- and all of it
+abbrev pub entered_in : Placements → List Entered
+entered_in p = map (entered_by p.step p.node p.inc) p.entries.items
 
 abbrev pub started_of : Started → ℕ × ℕ
 started_of s = (s.node, s.inc)

@@ -1,3 +1,5 @@
+-- all that steps put into outboxes, and what a step adds to it
+pub mod Entered
 -- events, outcomes and lists as the code has them, and as the definitions do
 pub mod InCode
 -- what a step adds to the lists, as the code finds it: of the event, of what the server answers, and of what it tells closed

@@ -20,9 +20,10 @@ use Rattle.cluster_world.specs.declared.lists.Lists.{Lists}
 use Rattle.cluster_world.specs.declared.nodes.Made.{Made}
 use Rattle.cluster_world.specs.declared.lists.Noted.{Noted}
 use Rattle.cluster_world.specs.Adding.{AreNoted, opened_lives, closed_if}
+use Rattle.cluster_world.specs.Entered.{Entered, entered_by, Enters}
 use Rattle.world_law.specs.Events.{Event, Start, Stop, Receive, OnInfo, OnConnect, At}
 use Rattle.world_law.specs.Headline.{IsCluster}
-use Rattle.cluster_world.specs.InCode.{publication_of, life_of, placements_in, started_of, items_of, placing_server}
+use Rattle.cluster_world.specs.InCode.{publication_of, life_of, placements_in, entered_in, started_of, items_of, placing_server}
 use Rattle.world_law.specs.Outcomes.{Outcome}
 use Rattle.world_law.specs.Play.{placements_put}
 use Rattle.world_law.specs.State.{Cluster, Publication, Life, Placement, Running, World, new_world, server_at}
@@ -36,10 +37,11 @@ pub record Listed : Type 0 where
   pub publications : List Publication
   pub lives : List Life
   pub placements : List Placement
+  pub entered : List Entered
   pub sent : List RouteFrame
 
 abbrev pub no_lists : Listed
-no_lists = record { started = []; publications = []; lives = []; placements = []; sent = [] }
+no_lists = record { started = []; publications = []; lives = []; placements = []; entered = []; sent = [] }
 
 abbrev pub listed_of : Lists → Listed
 listed_of l = record {
@@ -47,6 +49,7 @@ listed_of l = record {
   publications = map publication_of l.publications.items;
   lives = map life_of l.lives.items;
   placements = flat_map placements_in l.placements.items;
+  entered = flat_map entered_in l.placements.items;
   sent = flat_map items_of l.sent.items;
 }
 
@@ -71,6 +74,7 @@ listed_with acted noted did old = record old {
   publications = old.publications ++ option_to_list (option_map publication_of noted.publication);
   lives = map (closed_if acted.step acted.node acted.inc (Some did.ended.items)) old.lives ++ opened_lives acted.node acted.inc acted.step noted.opening (answer_of did.answer);
   placements = old.placements ++ placements_put (placing_server acted.node acted.inc) acted.step did.entries.items;
+  entered = old.entered ++ map (entered_by acted.step acted.node acted.inc) did.entries.items;
   sent = old.sent ++ did.frames.items;
 }
 
@@ -117,9 +121,11 @@ pub record IsMade (n now : ℕ) (event : Option NodeEvent) (old : List (Option S
 
 -- ---- the whole
 
+-- what its callers see: the cluster, its world, and all that was put into outboxes, in order
 pub record Shown : Type 0 where
   pub cluster : Cluster
   pub world : World
+  pub entered : List Entered
 
 abbrev pub cluster_of : ServerIdentity → Cluster
 cluster_of server = record { names = server.names; shards = server.shards }
@@ -128,11 +134,11 @@ abbrev pub world_of : ℕ → List (Option Served) → Listed → World
 world_of step nodes l = record { step = step; nodes = map running_in nodes; started = l.started; publications = l.publications; lives = l.lives; placements = l.placements; sent = l.sent }
 
 abbrev pub value_of_parts : ServerIdentity → ℕ → List (Option Served) → Listed → Shown
-value_of_parts server step nodes l = record { cluster = cluster_of server; world = world_of step nodes l }
+value_of_parts server step nodes l = record { cluster = cluster_of server; world = world_of step nodes l; entered = l.entered }
 
 -- a new cluster, if that is one: its first server is then within the limits
 abbrev pub new_cluster : Cluster → Option Shown
-new_cluster c = if is_server (server_at c 0 1) then Some (record { cluster = c; world = new_world c }) else None
+new_cluster c = if is_server (server_at c 0 1) then Some (record { cluster = c; world = new_world c; entered = [] }) else None
 
 -- the server of the same cluster at this place, if it has that
 abbrev pub server_in : ServerIdentity → ℕ → ℕ → Option ServerIdentity
@@ -161,15 +167,26 @@ IsFor n (OnInfo m session k) = m ≡ n
 IsFor n (OnConnect m session k) = m ≡ n
 IsFor n (At m event) = m ≡ n
 
--- the exact cluster's step, with its outcome
+-- the exact cluster's step, with its outcome, and what it adds to all that was put into outboxes
 pub record IsStepped (old : Shown) (event : Event) (outcome : Outcome) (new : Shown) : Type 0 where
   pub cluster : new.cluster ≡ old.cluster
   pub step : WorldStep old.cluster old.world event outcome new.world
+  pub added : List Entered
+  pub entered : new.entered ≡ old.entered ++ added
+  pub enters : Enters old.cluster old.world event outcome new.world added
 
--- a run of it, with these outcomes
+-- such steps in turn
+abbrev pub AreStepped : Shown → List Event → List Outcome → Shown → Type 0
+AreStepped old [] [] new = new ≡ old
+AreStepped old [] (outcome ∷ outcomes) new = ⊥
+AreStepped old (event ∷ events) [] new = ⊥
+AreStepped old (event ∷ events) (outcome ∷ outcomes) new = (mid : Shown) × IsStepped old event outcome mid × AreStepped mid events outcomes new
+
+-- a run of it, with these outcomes, and its steps
 pub record Ran (old : Shown) (events : List Event) (outcomes : List Outcome) (new : Shown) : Type 0 where
   pub cluster : new.cluster ≡ old.cluster
   pub run : Answers old.cluster old.world events outcomes new.world
+  pub steps : AreStepped old events outcomes new
 
 -- a run of the first of these events
 pub record IsPart (old : Shown) (events : List Event) (new : Shown) : Type 0 where

@@ -6,8 +6,9 @@ ghost use Rattle.std.specs.Option.{option_map, option_copied, option_to_list};
 ghost use Rattle.std.specs.Vec.{vec_len, vec_capacity};
 ghost use Rattle.node_core.specs.InCode.{answer_of};
 ghost use Rattle.world_law.specs.Refusals.{is_used};
-ghost use Rattle.cluster_world.specs.InCode.{started_of, publication_of, life_of, placements_in, items_of, placing_server};
+ghost use Rattle.cluster_world.specs.InCode.{started_of, publication_of, life_of, placements_in, entered_in, items_of, placing_server};
 ghost use Rattle.world_law.specs.Play.{placements_put};
+ghost use Rattle.cluster_world.specs.Entered.{entered_by};
 ghost use Rattle.cluster_world.specs.Adding.{closes, closed_if, opened_lives, published_by, opening_by, AreNoted};
 ghost use Rattle.world_law.specs.State.{is_sub};
 ghost use Rattle.cluster_world.specs.Value.{listed_of, no_lists, with_start, with_closed, HasRoom, IsAdded};
@@ -121,7 +122,8 @@ fn close_all_lives(lives: &mut Vec<Life>, acted: &Acted)
 #[tactic(auto, using(crate::proofs::Clusters::Finds::flat_more, crate::proofs::Clusters::Finds::no_more))]
 fn keep_entries(placements: &mut Vec<Placements>, acted: &Acted, entries: Vec<Placed>)
     requires { vec_len placements.old < vec_capacity placements.old }
-    ensures { flat_map placements_in placements.new.items ≡ flat_map placements_in placements.old.items ++ placements_put (placing_server acted.now.node acted.now.inc) acted.now.step entries.items }
+    ensures messages { flat_map placements_in placements.new.items ≡ flat_map placements_in placements.old.items ++ placements_put (placing_server acted.now.node acted.now.inc) acted.now.step entries.items }
+    ensures entries { flat_map entered_in placements.new.items ≡ flat_map entered_in placements.old.items ++ map (entered_by acted.now.step acted.now.node acted.now.inc) entries.items }
 {
     if entries.is_empty() {
         return;
@@ -164,6 +166,7 @@ fn keep_all(
     ensures publications { map publication_of publications.new.items ≡ map publication_of publications.old.items ++ option_to_list (option_map publication_of noted.publication) }
     ensures lives { map life_of lives.new.items ≡ map (closed_if acted.step acted.node acted.inc (Some did.ended.items)) (map life_of lives.old.items) ++ opened_lives acted.node acted.inc acted.step noted.opening (answer_of did.answer) }
     ensures placements { flat_map placements_in placements.new.items ≡ flat_map placements_in placements.old.items ++ placements_put (placing_server acted.node acted.inc) acted.step did.entries.items }
+    ensures entered { flat_map entered_in placements.new.items ≡ flat_map entered_in placements.old.items ++ map (entered_by acted.step acted.node acted.inc) did.entries.items }
     ensures sent { flat_map items_of sent.new.items ≡ flat_map items_of sent.old.items ++ did.frames.items }
 {
     let Noted {

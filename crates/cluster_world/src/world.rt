@@ -9,7 +9,7 @@ ghost use Rattle.node_law.specs.Events.{Publish};
 ghost use Rattle.world_law.specs.Outcomes.{Refused};
 ghost use Rattle.world_law.specs.Echo.{EchoIsKept};
 ghost use Rattle.world_law.specs.Headline.{Headline, Names, AreSent};
-ghost use Rattle.cluster_world.specs.InCode.{event_of, outcome_of, outcomes_in, publication_of, life_of, placements_in, items_of};
+ghost use Rattle.cluster_world.specs.InCode.{event_of, outcome_of, outcomes_in, publication_of, life_of, placements_in, entered_in, items_of};
 ghost use Rattle.world_law.specs.Refusals.{world_refusal};
 ghost use Rattle.world_law.specs.RestsOn.{CameSo};
 ghost use Rattle.cluster_world.specs.Planned.{IsPlannedBy, TakesWhereSettled};
@@ -36,7 +36,8 @@ use subj::{ConnId, Incarnation, NodeId, Pub, ServerIdentity, Subject};
 use world_law::{
     WorldFault, carried_echo_is_kept, carried_frames_were_sent, carried_lives_are_open,
     carried_names_are_unique, carried_worlds_keep_the_headline, carried_worlds_rest_on_this,
-    each_event_goes_on, new_worlds_are_carried, puts_are_placed, steps_keep_worlds_carried,
+    each_event_goes_on, new_entries_were_put, new_worlds_are_carried, puts_are_placed,
+    steps_keep_worlds_carried,
 };
 
 /// A cluster of servers, over any table of subscriptions and any race. (Profile.)
@@ -125,9 +126,11 @@ impl<T: SubTable, R: Race> World<T, R> {
         &self.lists.lives
     }
 
-    /// What was placed so far, step by step.
+    /// What was put into outboxes so far, step by step: the messages, which are the placements, and beside them the answers and the
+    /// last lines, each where it was put.
     pub fn placements(&self) -> &[Placements]
-        ensures { flat_map placements_in result.now ≡ self.now.world.placements }
+        ensures messages { flat_map placements_in result.now ≡ self.now.world.placements }
+        ensures entries { flat_map entered_in result.now ≡ self.now.entered }
     {
         &self.lists.placements
     }
@@ -256,6 +259,7 @@ impl<T: SubTable, R: Race> World<T, R> {
         steps_keep_worlds_carried();
         carried_lives_are_open();
         puts_are_placed();
+        new_entries_were_put();
         self.lists.make_room()?;
         let asked = asked_by(event, &self.lists.sent);
         let Made { inc, noted, did } = match self.nodes.step(n, &asked, now) {

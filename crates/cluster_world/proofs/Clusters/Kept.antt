@@ -1,14 +1,15 @@
 -- What the steps of a cluster in code keep, and that they are steps: over the fields of a value and how it is seen.
-use Rattle.std.proofs.Common.{◌≡◌, ◌<◌, ◌≤◌, ℕ, ◌+◌, List, set, length, Option, Some, None, refl, sym, ap, ◌∙◌, subst}
+use Rattle.std.proofs.Common.{◌≡◌, ◌<◌, ◌≤◌, ℕ, ◌+◌, List, [], ◌++◌, map, set, length, Option, Some, None, refl, sym, ap, ◌∙◌, subst}
 use Rattle.std.specs.Prelude.{slice_get}
 use Rattle.std.specs.Option.{option_map}
 use Rattle.std.proofs.lemmas.Option.{slice_get_within, slice_get-map}
+use Rattle.list_laws.proofs.Changes.{append_nil}
 use Rattle.subj.specs.Servers.{ServerIdentity}
 use Rattle.node_law.specs.Answers.{Nothing}
 use Rattle.node_law.specs.Events.{NodeEvent}
 use Rattle.node_core.specs.InCode.{answer_of}
 use Rattle.node_core.specs.Served.{Served, new_server}
-use Rattle.world_law.specs.Changes.{LivesAreFound}
+use Rattle.world_law.specs.Changes.{LivesAreFound, EntriesWerePut}
 use Rattle.world_law.specs.declared.faults.WorldFault.{WorldFault}
 use Rattle.cluster_world.specs.declared.nodes.Made.{Made}
 use Rattle.world_law.specs.Events.{Event, Start, Stop, event_for}
@@ -18,8 +19,10 @@ use Rattle.world_law.specs.Play.{PutsArePlaced}
 use Rattle.world_law.specs.Refusals.{world_refusal, start_refusal, stop_refusal}
 use Rattle.world_law.specs.State.{Cluster, World, server_at}
 use Rattle.world_law.specs.Steps.{WorldStep, Carried}
+use Rattle.cluster_world.specs.Entered.{Entered, entered_by, EntersUnless, Enters}
 use Rattle.cluster_world.specs.Value.{Listed, listed_with, with_start, with_closed, inc_in, running_in, slot_refusal, IsMade, Shown, value_of_parts, world_of, cluster_of, IsFor, IsKept, IsStepped}
 use Rattle.cluster_world.proofs.Clusters.Making.{cause_is, made_step, size_set}
+use Rattle.cluster_world.proofs.Clusters.Entering.{made_enters}
 use Rattle.cluster_world.proofs.Clusters.Starting.{refused_step, free_at, up_at, start_step, start_places, stop_step, stop_places}
 
 abbrev pub CarriedOn : Type 0
@@ -41,12 +44,18 @@ module _ (server : ServerIdentity) (step : ℕ) (nodes : List (Option Served)) (
   now_here : (now : ℕ) → now ≡ v.world.step + 1 → now ≡ step + 1
   now_here now is = is ∙ ap (λ (s : Shown). s.world.step + 1) (sym view_is)
 
-  stepped : (e : Event) (o : Outcome) (now : ℕ) (new : List (Option Served)) (l' : Listed) → WorldStep c w e o (world_of now new l') → IsStepped v e o (value_of_parts server now new l')
-  stepped e o now new l' s = subst (λ t. IsStepped t e o (value_of_parts server now new l')) view_is (record { cluster = refl; step = s })
+  stepped : (e : Event) (o : Outcome) (now : ℕ) (new : List (Option Served)) (l' : Listed) (added : List Entered) → WorldStep c w e o (world_of now new l') → l'.entered ≡ l.entered ++ added → Enters c w e o (world_of now new l') added → IsStepped v e o (value_of_parts server now new l')
+  stepped e o now new l' added s entered enters = subst (λ t. IsStepped t e o (value_of_parts server now new l')) view_is (record { cluster = refl; step = s; added = added; entered = entered; enters = enters })
+
+  -- nothing was put
+  idle : (l' : Listed) → l'.entered ≡ l.entered → l'.entered ≡ l.entered ++ []
+  idle l' same = same ∙ sym (append_nil l.entered)
 
   -- a refusal
   pub refused_steps : (e : Event) (why : WorldFault) (now : ℕ) → now ≡ v.world.step + 1 → world_refusal v.cluster v.world e ≡ Some why → IsStepped v e (Refused why) (value_of_parts server now nodes l)
-  refused_steps e why now next cause = stepped e (Refused why) now nodes l (refused_step c w e why now (now_here now next) (cause_here e (Some why) cause))
+  refused_steps e why now next cause =
+      let here = cause_here e (Some why) cause in
+      stepped e (Refused why) now nodes l [] (refused_step c w e why now (now_here now next) here) (idle l refl) (subst (λ o. EntersUnless o c w e (Refused why) (world_of now nodes l) []) (sym here) refl)
 
   pub refused_keeps : CarriedOn → (e : Event) (why : WorldFault) (now : ℕ) → now ≡ v.world.step + 1 → world_refusal v.cluster v.world e ≡ Some why → IsKept server nodes (world_of now nodes l)
   refused_keeps on e why now next cause = record {
@@ -71,11 +80,14 @@ module _ (server : ServerIdentity) (step : ℕ) (nodes : List (Option Served)) (
   stop_cause n = ap stop_refusal (sym (slice_get-map running_in nodes n)) ∙ ap (λ (s : Shown). world_refusal s.cluster s.world (Stop n)) view_is
 
   -- a server's step
-  pub made_steps : PutsArePlaced → CarriedOpen → (n now : ℕ) (new : List (Option Served)) (l' : Listed) (e : Event) (found : Option NodeEvent) (made : Made) → now ≡ v.world.step + 1 → IsFor n e → found ≡ event_for w e → world_refusal v.cluster v.world e ≡ None
+  pub made_steps : PutsArePlaced → EntriesWerePut → CarriedOpen → (n now : ℕ) (new : List (Option Served)) (l' : Listed) (e : Event) (found : Option NodeEvent) (made : Made) → now ≡ v.world.step + 1 → IsFor n e → found ≡ event_for w e → world_refusal v.cluster v.world e ≡ None
       → IsMade n now found nodes made new → l' ≡ listed_with (record { step = now; node = n; inc = made.inc }) made.noted made.did l → IsStepped v e (Done (answer_of made.did.answer)) (value_of_parts server now new l')
-  made_steps puts opens n now new l' e found made next at is cause m lists =
-      stepped e (Done (answer_of made.did.answer)) now new l' (subst (λ t. WorldStep c w e (Done (answer_of made.did.answer)) (world_of now new t)) (sym lists)
+  made_steps puts were_put opens n now new l' e found made next at is cause m lists =
+      stepped e (Done (answer_of made.did.answer)) now new l' (map (entered_by now n made.inc) made.did.entries.items)
+      (subst (λ t. WorldStep c w e (Done (answer_of made.did.answer)) (world_of now new t)) (sym lists)
       (made_step puts server step now n nodes new l e found made (now_here now next) kept.places (opens c kept.apart w kept.carried) at is (cause_here e None cause) m).0)
+      (ap (λ (t : Listed). t.entered) lists)
+      (made_enters were_put server step now n nodes new l l' e found made (now_here now next) kept.places at is (cause_here e None cause) m)
 
   pub made_keeps : PutsArePlaced → CarriedOpen → CarriedOn → (n now : ℕ) (new : List (Option Served)) (l' : Listed) (e : Event) (found : Option NodeEvent) (made : Made) → now ≡ v.world.step + 1 → IsFor n e → found ≡ event_for w e → world_refusal v.cluster v.world e ≡ None
       → IsMade n now found nodes made new → l' ≡ listed_with (record { step = now; node = n; inc = made.inc }) made.noted made.did l → IsKept server new (world_of now new l')
@@ -98,7 +110,11 @@ module _ (server : ServerIdentity) (step : ℕ) (nodes : List (Option Served)) (
 
   pub start_steps : (n inc now : ℕ) (made : ServerIdentity) (y : Served) (l' : Listed) → now ≡ v.world.step + 1 → 1 ≤ inc → world_refusal v.cluster v.world (Start n inc) ≡ None → made ≡ server_at c n inc → y ≡ new_server made → l' ≡ with_start n inc l
       → IsStepped v (Start n inc) (Done Nothing) (value_of_parts server now (set nodes n (Some y)) l')
-  start_steps n inc now made y l' next some cause made_is y_is lists = stepped (Start n inc) (Done Nothing) now (set nodes n (Some y)) l' (start_step server made step now n inc nodes l l' y (now_here now next) some (cause_here (Start n inc) None cause) made_is y_is lists)
+  start_steps n inc now made y l' next some cause made_is y_is lists =
+      let here = cause_here (Start n inc) None cause in
+      stepped (Start n inc) (Done Nothing) now (set nodes n (Some y)) l' [] (start_step server made step now n inc nodes l l' y (now_here now next) some here made_is y_is lists)
+      (idle l' (ap (λ (t : Listed). t.entered) lists))
+      (subst (λ o. EntersUnless o c w (Start n inc) (Done Nothing) (world_of now (set nodes n (Some y)) l') []) (sym here) refl)
 
   pub start_keeps : CarriedOn → (n inc now : ℕ) (made : ServerIdentity) (y : Served) (l' : Listed) → now ≡ v.world.step + 1 → 1 ≤ inc → world_refusal v.cluster v.world (Start n inc) ≡ None → made ≡ server_at c n inc → y ≡ new_server made → l' ≡ with_start n inc l
       → IsKept server (set nodes n (Some y)) (world_of now (set nodes n (Some y)) l')
@@ -116,7 +132,11 @@ module _ (server : ServerIdentity) (step : ℕ) (nodes : List (Option Served)) (
 
   pub stop_steps : CarriedOpen → (n inc now : ℕ) (l' : Listed) → now ≡ v.world.step + 1 → world_refusal v.cluster v.world (Stop n) ≡ None → Some inc ≡ inc_in (slice_get nodes n) → l' ≡ with_closed (record { step = now; node = n; inc = inc }) l
       → IsStepped v (Stop n) (Done Nothing) (value_of_parts server now (set nodes n None) l')
-  stop_steps opens n inc now l' next cause inc_is lists = stepped (Stop n) (Done Nothing) now (set nodes n None) l' (stop_step server step now n inc nodes l l' (now_here now next) (opens c kept.apart w kept.carried) (cause_here (Stop n) None cause) inc_is lists)
+  stop_steps opens n inc now l' next cause inc_is lists =
+      let here = cause_here (Stop n) None cause in
+      stepped (Stop n) (Done Nothing) now (set nodes n None) l' [] (stop_step server step now n inc nodes l l' (now_here now next) (opens c kept.apart w kept.carried) here inc_is lists)
+      (idle l' (ap (λ (t : Listed). t.entered) lists))
+      (subst (λ o. EntersUnless o c w (Stop n) (Done Nothing) (world_of now (set nodes n None) l') []) (sym here) refl)
 
   pub stop_keeps : CarriedOpen → CarriedOn → (n inc now : ℕ) (l' : Listed) → now ≡ v.world.step + 1 → world_refusal v.cluster v.world (Stop n) ≡ None → Some inc ≡ inc_in (slice_get nodes n) → l' ≡ with_closed (record { step = now; node = n; inc = inc }) l
       → IsKept server (set nodes n None) (world_of now (set nodes n None) l')

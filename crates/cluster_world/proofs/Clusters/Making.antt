@@ -153,7 +153,7 @@ placed_alike s t now me inc (p ∷ ps) = (λ i. one p.entry.tag i ++ placed_alik
     one tag.Reply = refl
     one (tag.Msg id sub mode) = (λ i. record { step = now; life = record { node = me i; inc = inc i; sub = sub }; conn = p.conn; id = id; mode = mode; bytes = p.entry.bytes } ∷ [])
 
-put_at_is : (o : Option Part) → of_server.put_at o ≡ put_of o
+pub put_at_is : (o : Option Part) → of_server.put_at o ≡ put_of o
 put_at_is None = refl
 put_at_is (Some part) = refl
 

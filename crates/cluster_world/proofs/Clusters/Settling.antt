@@ -10,14 +10,14 @@ use Rattle.settled_law.specs.Promise.{Delivers}
 use Rattle.cluster_world.specs.Value.{Shown, IsStepped, Ran, IsPart, GivesOnce}
 
 pub ran_first : (old mid new : Shown) (e : Event) (o : Outcome) (es : List Event) (os : List Outcome) → IsStepped old e o mid → Ran mid es os new → Ran old (e ∷ es) (o ∷ os) new
-ran_first old mid new e o es os s r = record { cluster = r.cluster ∙ s.cluster; run = ((mid.world, o, s.step, rest.0), ap (λ t. o ∷ t) rest.1) }
+ran_first old mid new e o es os s r = record { cluster = r.cluster ∙ s.cluster; run = ((mid.world, o, s.step, rest.0), ap (λ t. o ∷ t) rest.1); steps = (mid, s, r.steps) }
   where
     rest : Answers old.cluster mid.world es os new.world
     rest = subst (λ c. Answers c mid.world es os new.world) s.cluster r.run
 
 -- none of the events was made
 pub none_made : (old new : Shown) (es : List Event) → new ≡ old → IsPart old es new
-none_made old new es same = subst (IsPart old es) (sym same) (record { made = 0; outcomes = []; run = record { cluster = refl; run = (refl, refl) } })
+none_made old new es same = subst (IsPart old es) (sym same) (record { made = 0; outcomes = []; run = record { cluster = refl; run = (refl, refl); steps = refl } })
 
 -- the first was made, and some of the others
 pub part_first : (old mid new : Shown) (e : Event) (o : Outcome) (es : List Event) → IsStepped old e o mid → IsPart mid es new → IsPart old (e ∷ es) new

@@ -17,7 +17,8 @@ use Rattle.world_law.specs.Outcomes.{Outcome, Done, Refused}
 use Rattle.world_law.specs.Refusals.{world_refusal, start_refusal, stop_refusal}
 use Rattle.world_law.specs.State.{Cluster, World, new_world, server_at}
 use Rattle.world_law.specs.Steps.{Decided, WorldStep, outcomes_of, Answers, Carried}
-use Rattle.cluster_world.specs.Value.{Listed, no_lists, with_start, with_closed, running_in, inc_in, world_of, cluster_of, Shown, InPlace, IsKept, IsStepped, Ran, server_in, new_cluster}
+use Rattle.cluster_world.specs.Entered.{Entered}
+use Rattle.cluster_world.specs.Value.{Listed, no_lists, with_start, with_closed, running_in, inc_in, world_of, cluster_of, Shown, InPlace, IsKept, IsStepped, AreStepped, Ran, server_in, new_cluster}
 use Rattle.cluster_world.proofs.Clusters.Making.{lives_are, all_close, in_place_set, shown_at}
 
 -- ---- at first
@@ -58,8 +59,10 @@ no_server s e = go (is_server s) refl e
     go true f e = absurd (none-some s e)
     go false f e = f
 
-pub new_made : (c : Cluster) (server : ServerIdentity) (w : World) → is_server (server_at c 0 1) ≡ true → cluster_of server ≡ c → w ≡ new_world (cluster_of server) → Some (record { cluster = cluster_of server; world = w }) ≡ new_cluster c
-new_made c server w tested same is = (λ i. Some (record { cluster = same i; world = (is ∙ ap new_world same) i })) ∙ ap (λ b. cond b (Some (record { cluster = c; world = new_world c })) None) (sym tested)
+pub new_made : (c : Cluster) (server : ServerIdentity) (w : World) (entered : List Entered) → is_server (server_at c 0 1) ≡ true → cluster_of server ≡ c → w ≡ new_world (cluster_of server) → entered ≡ [] → Some (record { cluster = cluster_of server; world = w; entered = entered }) ≡ new_cluster c
+new_made c server w entered tested same is none =
+    (λ i. Some (record { cluster = same i; world = (is ∙ ap new_world same) i; entered = none i }))
+    ∙ ap (λ b. cond b (Some (record { cluster = c; world = new_world c; entered = [] })) None) (sym tested)
 
 -- ---- the server of another place
 
@@ -151,10 +154,17 @@ stop_places c step n nodes l places cause = let s = up_at c step n nodes l cause
 
 -- ---- one step more of a run
 
+stepped_more : (old mid new : Shown) (es : List Event) (os : List Outcome) (e : Event) (o : Outcome) → AreStepped old es os mid → IsStepped mid e o new → AreStepped old (es ++ e ∷ []) (os ++ o ∷ []) new
+stepped_more old mid new [] [] e o rs s = (new, subst (λ (x : Shown). IsStepped x e o new) rs s, refl)
+stepped_more old mid new [] (y ∷ os) e o rs s = absurd rs
+stepped_more old mid new (x ∷ es) [] e o rs s = absurd rs
+stepped_more old mid new (x ∷ es) (y ∷ os) e o rs s = (rs.0, rs.1, stepped_more rs.0 mid new es os e o rs.2 s)
+
 pub ran_more : (old mid new : Shown) (es : List Event) (os : List Outcome) (e : Event) (o : Outcome) → Ran old es os mid → IsStepped mid e o new → Ran old (es ++ e ∷ []) (os ++ o ∷ []) new
 ran_more old mid new es os e o r s = record {
   cluster = s.cluster ∙ r.cluster;
   run = more old.cluster old.world es os mid.world e o new.world r.run (subst (λ c. WorldStep c mid.world e o new.world) r.cluster s.step);
+  steps = stepped_more old mid new es os e o r.steps s;
 }
   where
     more : (c : Cluster) (w : World) (es : List Event) (os : List Outcome) (w' : World) (e : Event) (o : Outcome) (w'' : World) → Answers c w es os w' → WorldStep c w' e o w'' → Answers c w (es ++ e ∷ []) (os ++ o ∷ []) w''

@@ -8,5 +8,6 @@ returns-clause-lists c = λ i. record {
   publications = c.keep_all.ensures.publications i;
   lives = c.keep_all.ensures.lives i;
   placements = c.keep_all.ensures.placements i;
+  entered = c.keep_all.ensures.entered i;
   sent = c.keep_all.ensures.sent i;
 }

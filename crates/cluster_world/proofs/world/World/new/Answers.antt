@@ -1,7 +1,7 @@
 use Rattle.std.proofs.Common.{◌≡◌, ◌∙◌, true, sym, ap, subst, length}
 use Rattle.subj.specs.Servers.{is_server}
 use Rattle.world_law.specs.State.{server_at}
-use Rattle.cluster_world.specs.Value.{listed_of, cluster_of, world_of}
+use Rattle.cluster_world.specs.Value.{Listed, listed_of, cluster_of, world_of}
 use Rattle.cluster_world.proofs.Clusters.Starting.{first_world, first_kept, made_server, new_made}
 use Rattle.cluster_world.proofs.world.World.new.Goals as goal
 
@@ -22,4 +22,4 @@ returns g c =
     let l = listed_of c.new-4.result in
     let m = made_server (record { names = c.args.names.items; me = 0; inc = c.in-Some.inc; shards = c.args.shards }) s (sym c.in-Some-new.is ∙ c.new-2.ensures) in
     let count = length c.names.result.now in
-    new_made (record { names = c.args.names.items; shards = c.args.shards }) s (world_of 0 nodes l) m.0 (ap cluster_of m.1) (first_world s count nodes l (ap length c.names.ensures) c.in_ok-nodes.ensures c.new-4.ensures)
+    new_made (record { names = c.args.names.items; shards = c.args.shards }) s (world_of 0 nodes l) l.entered m.0 (ap cluster_of m.1) (first_world s count nodes l (ap length c.names.ensures) c.in_ok-nodes.ensures c.new-4.ensures) (ap (λ (t : Listed). t.entered) c.new-4.ensures)
