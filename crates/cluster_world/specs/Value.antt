@@ -136,25 +136,17 @@ world_of step nodes l = record { step = step; nodes = map running_in nodes; star
 abbrev pub value_of_parts : ServerIdentity → ℕ → List (Option Served) → Listed → Shown
 value_of_parts server step nodes l = record { cluster = cluster_of server; world = world_of step nodes l; entered = l.entered }
 
+-- no server is up, and nothing was done
+abbrev pub new_shown : Cluster → Shown
+new_shown c = record { cluster = c; world = new_world c; entered = [] }
+
 -- a new cluster, if that is one: its first server is then within the limits
 abbrev pub new_cluster : Cluster → Option Shown
-new_cluster c = if is_server (server_at c 0 1) then Some (record { cluster = c; world = new_world c; entered = [] }) else None
+new_cluster c = if is_server (server_at c 0 1) then Some (new_shown c) else None
 
 -- the server of the same cluster at this place, if it has that
 abbrev pub server_in : ServerIdentity → ℕ → ℕ → Option ServerIdentity
 server_in server n inc = server_of (record { names = server.names; me = n; inc = inc; shards = server.shards })
-
--- each server that is up is that of its place in this cluster
-abbrev pub InPlace : Cluster → List (Option Served) → Type 0
-InPlace c nodes = (n : ℕ) (s : Served) → slice_get nodes n ≡ Some (Some s) → s.server ≡ server_at c n s.server.inc
-
--- the names are apart, and within the limits with the number of shards; the servers are in their places; and some run ends here
-pub record IsKept (server : ServerIdentity) (nodes : List (Option Served)) (world : World) : Type 0 where
-  pub apart : IsCluster (cluster_of server)
-  pub tested : is_server (server_at (cluster_of server) 0 1) ≡ true
-  pub size : length nodes ≡ length server.names
-  pub places : InPlace (cluster_of server) nodes
-  pub carried : Carried (cluster_of server) world
 
 -- ---- the calls
 
@@ -193,6 +185,28 @@ pub record IsPart (old : Shown) (events : List Event) (new : Shown) : Type 0 whe
   pub made : ℕ
   pub outcomes : List Outcome
   pub run : Ran old (take made events) outcomes new
+
+-- ---- what always holds
+
+-- each server that is up is that of its place in this cluster
+abbrev pub InPlace : Cluster → List (Option Served) → Type 0
+InPlace c nodes = (n : ℕ) (s : Served) → slice_get nodes n ≡ Some (Some s) → s.server ≡ server_at c n s.server.inc
+
+-- some steps in turn lead here from a new cluster
+abbrev pub CameBySteps : Shown → Type 0
+CameBySteps v = ∥ ((events : List Event) × (outcomes : List Outcome) × AreStepped (new_shown v.cluster) events outcomes v) ∥₁
+
+-- the names are apart, and within the limits with the number of shards; the servers are in their places; and some run ends here, with
+-- all that its steps put
+pub record IsKept (server : ServerIdentity) (nodes : List (Option Served)) (v : Shown) : Type 0 where
+  pub apart : IsCluster (cluster_of server)
+  pub tested : is_server (server_at (cluster_of server) 0 1) ≡ true
+  pub size : length nodes ≡ length server.names
+  pub places : InPlace (cluster_of server) nodes
+  pub carried : Carried (cluster_of server) v.world
+  pub came : CameBySteps v
+
+-- ---- what a publish gives
 
 -- What a publish with these events behind it gives where the cluster was settled for it and had room, and the events are the work
 -- that it makes, in an order of theirs: nothing is refused, and each plain subscription and each queue name has its message once.

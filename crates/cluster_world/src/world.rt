@@ -14,7 +14,7 @@ ghost use Rattle.world_law.specs.Refusals.{world_refusal};
 ghost use Rattle.world_law.specs.RestsOn.{CameSo};
 ghost use Rattle.cluster_world.specs.Planned.{IsPlannedBy, TakesWhereSettled};
 ghost use Rattle.hub_core.specs.Chosen.{publication_by};
-ghost use Rattle.cluster_world.specs.Value.{IsFor, IsStepped, Ran, IsPart, GivesOnce, new_cluster};
+ghost use Rattle.cluster_world.specs.Value.{IsFor, IsStepped, Ran, IsPart, CameBySteps, GivesOnce, new_cluster};
 
 use crate::events::Event;
 use crate::lists::{Acted, Lists};
@@ -60,11 +60,11 @@ impl<T: SubTable, R: Race> Model for World<T, R> {
 
     ghost Value = { Shown };
 
-    ghost use Rattle.cluster_world.specs.Value.{listed_of, world_of, value_of_parts, IsKept};
+    ghost use Rattle.cluster_world.specs.Value.{listed_of, value_of_parts, IsKept};
 
     ghost view = { λ w. value_of_parts w.server w.step w.nodes (listed_of w.lists) };
 
-    ghost invariant = { λ w. IsKept w.server w.nodes (world_of w.step w.nodes (listed_of w.lists)) };
+    ghost invariant = { λ w. IsKept w.server w.nodes (value_of_parts w.server w.step w.nodes (listed_of w.lists)) };
 }
 
 impl<T: SubTable, R: Race> World<T, R> {
@@ -154,12 +154,15 @@ impl<T: SubTable, R: Race> World<T, R> {
     /// - What that rests on holds of the run that ends here.
     /// - Each frame that a take from a peer gives was sent.
     /// - What was published without echo was placed for no subscription of the connection that published it.
+    /// - All that was put into outboxes is what the steps of a run put that ends here: the answers that were due and the last lines, each
+    ///   where it was due, as well as the messages.
     pub fn keeps_headline(&self)
         ensures headline { ∥ Headline self.now.world ∥₁ }
         ensures names { ∥ Names self.now.world ∥₁ }
         ensures echo { ∥ EchoIsKept self.now.cluster self.now.world ∥₁ }
         ensures rests { ∥ CameSo self.now.cluster self.now.world ∥₁ }
         ensures sent { ∥ AreSent self.now.world ∥₁ }
+        ensures entered { CameBySteps self.now }
     {
         let _step = self.step;
         carried_worlds_keep_the_headline();
@@ -471,6 +474,7 @@ impl<T: SubTable, R: Race> World<T, R> {
         ensures echo { ∥ EchoIsKept self.new.cluster self.new.world ∥₁ }
         ensures rests { ∥ CameSo self.new.cluster self.new.world ∥₁ }
         ensures sent { ∥ AreSent self.new.world ∥₁ }
+        ensures entered { CameBySteps self.new }
     {
         let outcomes = self.make(events);
         self.keeps_headline();

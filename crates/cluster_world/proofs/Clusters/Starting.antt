@@ -17,8 +17,7 @@ use Rattle.world_law.specs.Outcomes.{Outcome, Done, Refused}
 use Rattle.world_law.specs.Refusals.{world_refusal, start_refusal, stop_refusal}
 use Rattle.world_law.specs.State.{Cluster, World, new_world, server_at}
 use Rattle.world_law.specs.Steps.{Decided, WorldStep, outcomes_of, Answers, Carried}
-use Rattle.cluster_world.specs.Entered.{Entered}
-use Rattle.cluster_world.specs.Value.{Listed, no_lists, with_start, with_closed, running_in, inc_in, world_of, cluster_of, Shown, InPlace, IsKept, IsStepped, AreStepped, Ran, server_in, new_cluster}
+use Rattle.cluster_world.specs.Value.{Listed, no_lists, with_start, with_closed, running_in, inc_in, world_of, cluster_of, value_of_parts, Shown, new_shown, InPlace, IsKept, CameBySteps, IsStepped, AreStepped, Ran, server_in, new_cluster}
 use Rattle.cluster_world.proofs.Clusters.Making.{lives_are, all_close, in_place_set, shown_at}
 
 -- ---- at first
@@ -31,18 +30,22 @@ size_replicate : {A : Type 0} (k : ℕ) (x : A) → length (replicate k x) ≡ k
 size_replicate zero x = refl
 size_replicate (suc k) x = let z = size_replicate k x in omega arith
 
-pub first_world : (server : ServerIdentity) (count : ℕ) (nodes : List (Option Served)) (l : Listed) → count ≡ length server.names → nodes ≡ replicate count None → l ≡ no_lists → world_of 0 nodes l ≡ new_world (cluster_of server)
+first_world : (server : ServerIdentity) (count : ℕ) (nodes : List (Option Served)) (l : Listed) → count ≡ length server.names → nodes ≡ replicate count None → l ≡ no_lists → world_of 0 nodes l ≡ new_world (cluster_of server)
 first_world server count nodes l size nodes_are lists =
     (λ i. world_of 0 (nodes_are i) (lists i))
     ∙ (λ i. record { step = 0; nodes = (map_replicate running_in count None ∙ ap (λ k. replicate k None) size) i; started = []; publications = []; lives = []; placements = []; sent = [] })
 
-pub first_kept : (server : ServerIdentity) (count : ℕ) (nodes : List (Option Served)) (w : World) → IsListed server → is_server (server_at (cluster_of server) 0 1) ≡ true → count ≡ length server.names → nodes ≡ replicate count None → w ≡ new_world (cluster_of server) → Carried (cluster_of server) (new_world (cluster_of server)) → IsKept server nodes w
-first_kept server count nodes w listed tested size nodes_are is carried = record {
+pub first_shown : (server : ServerIdentity) (count : ℕ) (nodes : List (Option Served)) (l : Listed) → count ≡ length server.names → nodes ≡ replicate count None → l ≡ no_lists → value_of_parts server 0 nodes l ≡ new_shown (cluster_of server)
+first_shown server count nodes l size nodes_are lists = λ i. record { cluster = cluster_of server; world = first_world server count nodes l size nodes_are lists i; entered = ap (λ (t : Listed). t.entered) lists i }
+
+pub first_kept : (server : ServerIdentity) (count : ℕ) (nodes : List (Option Served)) (v : Shown) → IsListed server → is_server (server_at (cluster_of server) 0 1) ≡ true → count ≡ length server.names → nodes ≡ replicate count None → v ≡ new_shown (cluster_of server) → Carried (cluster_of server) (new_world (cluster_of server)) → IsKept server nodes v
+first_kept server count nodes v listed tested size nodes_are is carried = record {
   apart = record { apart = listed.apart };
   tested = tested;
   size = ap length nodes_are ∙ size_replicate count None ∙ size;
   places = λ n s at. absurd (none-some s (sym (read_replicate count None (Some s) n (ap (λ t. slice_get t n) (sym nodes_are) ∙ at))));
-  carried = subst (Carried (cluster_of server)) (sym is) carried;
+  carried = subst (λ (s : Shown). Carried (cluster_of server) s.world) (sym is) carried;
+  came = subst CameBySteps (sym is) ∣ ([], [], refl) ∣₁;
 }
 
 pub made_server : (s made : ServerIdentity) → Some made ≡ server_of s → (is_server s ≡ true) × (made ≡ s)
@@ -59,10 +62,8 @@ no_server s e = go (is_server s) refl e
     go true f e = absurd (none-some s e)
     go false f e = f
 
-pub new_made : (c : Cluster) (server : ServerIdentity) (w : World) (entered : List Entered) → is_server (server_at c 0 1) ≡ true → cluster_of server ≡ c → w ≡ new_world (cluster_of server) → entered ≡ [] → Some (record { cluster = cluster_of server; world = w; entered = entered }) ≡ new_cluster c
-new_made c server w entered tested same is none =
-    (λ i. Some (record { cluster = same i; world = (is ∙ ap new_world same) i; entered = none i }))
-    ∙ ap (λ b. cond b (Some (record { cluster = c; world = new_world c; entered = [] })) None) (sym tested)
+pub new_made : (c : Cluster) (server : ServerIdentity) (v : Shown) → is_server (server_at c 0 1) ≡ true → cluster_of server ≡ c → v ≡ new_shown (cluster_of server) → Some v ≡ new_cluster c
+new_made c server v tested same is = ap Some (is ∙ ap new_shown same) ∙ ap (λ b. cond b (Some (new_shown c)) None) (sym tested)
 
 -- ---- the server of another place
 
@@ -154,7 +155,7 @@ stop_places c step n nodes l places cause = let s = up_at c step n nodes l cause
 
 -- ---- one step more of a run
 
-stepped_more : (old mid new : Shown) (es : List Event) (os : List Outcome) (e : Event) (o : Outcome) → AreStepped old es os mid → IsStepped mid e o new → AreStepped old (es ++ e ∷ []) (os ++ o ∷ []) new
+pub stepped_more : (old mid new : Shown) (es : List Event) (os : List Outcome) (e : Event) (o : Outcome) → AreStepped old es os mid → IsStepped mid e o new → AreStepped old (es ++ e ∷ []) (os ++ o ∷ []) new
 stepped_more old mid new [] [] e o rs s = (new, subst (λ (x : Shown). IsStepped x e o new) rs s, refl)
 stepped_more old mid new [] (y ∷ os) e o rs s = absurd rs
 stepped_more old mid new (x ∷ es) [] e o rs s = absurd rs

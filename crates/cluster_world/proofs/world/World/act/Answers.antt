@@ -20,7 +20,7 @@ invariant_of-self-2 g c =
     let o = c.self.inside in
     let made = c.in-Ok.made in
     let is = c.asked_by-asked.ensures (world_of o.step o.nodes (listed_of o.lists)) (ap (λ (t : Listed). t.sent) (sym c.make_room.ensures.same) ∙ ap (flat_map items_of) (sym c.deref.ensures.value)) in
-    made_keeps o.server o.step o.nodes (listed_of o.lists) c.args.self.now c.self.view_is c.self.invariant c.puts_are_placed.ensures c.carried_lives_are_open.ensures c.steps_keep_worlds_carried.ensures c.args.n c.args.now c.step.new.self (listed_of c.keep-answer.new.self) (event_of c.args.event.now) (option_map asked_of c.asked_by-asked.result) made c.requires.now c.requires.at is c.requires.cause c.in-Ok.ensures.ok
+    made_keeps o.server o.step o.nodes (listed_of o.lists) c.args.self.now c.self.view_is c.self.invariant c.puts_are_placed.ensures c.new_entries_were_put.ensures c.carried_lives_are_open.ensures c.steps_keep_worlds_carried.ensures c.args.n c.args.now c.step.new.self (listed_of c.keep-answer.new.self) (event_of c.args.event.now) (option_map asked_of c.asked_by-asked.result) made c.requires.now c.requires.at is c.requires.cause c.in-Ok.ensures.ok
     (c.keep-answer.ensures.lists ∙ ap (listed_with (record { step = c.args.now; node = c.args.n; inc = made.inc }) made.noted made.did) c.make_room.ensures.same)
 
 pub returns-clause-ok : goal.returns-clause-ok

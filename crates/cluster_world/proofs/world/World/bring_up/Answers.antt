@@ -4,7 +4,7 @@ use Rattle.node_law.specs.Answers.{Nothing}
 use Rattle.world_law.specs.Events.{Start}
 use Rattle.world_law.specs.Outcomes.{Done}
 use Rattle.world_law.specs.State.{server_at}
-use Rattle.cluster_world.specs.Value.{listed_of, cluster_of, value_of_parts, world_of, with_start, IsKept, IsStepped}
+use Rattle.cluster_world.specs.Value.{listed_of, cluster_of, value_of_parts, with_start, IsKept, IsStepped}
 use Rattle.cluster_world.proofs.Clusters.Kept.{start_at, start_within, start_steps, start_keeps}
 use Rattle.cluster_world.proofs.Clusters.Starting.{server_there}
 use Rattle.cluster_world.proofs.world.World.bring_up.Goals as goal
@@ -23,7 +23,7 @@ invariant_of-self-2 g c =
     let within = start_within o.server o.step o.nodes (listed_of o.lists) c.args.self.now c.self.view_is c.self.invariant n inc c.requires.cause in
     let made = same_Some c.in-Some.server (server_at (cluster_of o.server) n inc) (sym c.in-Some.is ∙ c.in_ok-server.ensures ∙ server_there o.server n inc c.self.invariant.tested within) in
     let some = subst (λ k. 1 ≤ k) c.get-first.ensures.same c.get-first.ensures.least in
-    subst (λ t. IsKept o.server t (world_of c.args.now t l)) (sym c.put.ensures)
+    subst (λ t. IsKept o.server t (value_of_parts o.server c.args.now t l)) (sym c.put.ensures)
     (start_keeps o.server o.step o.nodes (listed_of o.lists) c.args.self.now c.self.view_is c.self.invariant c.steps_keep_worlds_carried.ensures n inc c.args.now c.in-Some.server c.in-Ok.node l c.requires.now some c.requires.cause made c.in-Ok.ensures (c.add_start.ensures ∙ ap (with_start n inc) c.make_start_room.ensures.same))
 
 pub returns-clause-ok : goal.returns-clause-ok

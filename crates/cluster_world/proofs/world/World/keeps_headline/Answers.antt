@@ -2,6 +2,7 @@ use Rattle.std.proofs.Common.{subst}
 use Rattle.world_law.specs.Echo.{EchoIsKept}
 use Rattle.world_law.specs.Headline.{Headline, Names, AreSent}
 use Rattle.world_law.specs.RestsOn.{CameSo}
+use Rattle.cluster_world.specs.Value.{CameBySteps}
 use Rattle.cluster_world.proofs.world.World.keeps_headline.Goals as goal
 
 pub returns-clause-headline : goal.returns-clause-headline
@@ -18,3 +19,6 @@ returns-clause-rests g c = subst (λ s. ∥ CameSo s.cluster s.world ∥₁) c.s
 
 pub returns-clause-sent : goal.returns-clause-sent
 returns-clause-sent g c = subst (λ s. ∥ AreSent s.world ∥₁) c.self.view_is (c.carried_frames_were_sent.ensures _ _ c.self.invariant.carried)
+
+pub returns-clause-entered : goal.returns-clause-entered
+returns-clause-entered g c = subst CameBySteps c.self.view_is c.self.invariant.came
