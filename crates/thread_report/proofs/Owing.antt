@@ -1,11 +1,8 @@
 -- What is owed of one entry more, and of one tape more.
-use Rattle.std.proofs.Common.{◌≡◌, ℕ, Bool, true, false, true≢false, cond, Some, None, zero, suc, ◌+◌, ◌<◌, List, [], ◌∷◌, ◌++◌, length, map, take, get_or, refl, sym, ap, ◌∙◌, arith, append_assoc, append-nil}
-use Rattle.node_law.specs.declared.events.NodeEvent.{NodeEvent}
+use Rattle.std.proofs.Common.{◌≡◌, ℕ, zero, suc, ◌+◌, ◌<◌, List, [], ◌∷◌, ◌++◌, length, map, take, get_or, refl, sym, ap, ◌∙◌, arith, append_assoc, append-nil}
 use Rattle.node_threads.specs.declared.shard_entries.ShardEntry.{ShardEntry}
 use Rattle.thread_node.specs.declared.hub_entries.HubEntry.{HubEntry}
-use Rattle.thread_report.specs.declared.passes.Call.{Call}
-use Rattle.thread_report.specs.declared.passes.CallAnswer.{CallAnswer}
-use Rattle.thread_report.specs.Owed.{Gains, call, call_of_hub, owed_by_hub, owed_by_shard, owed_by_shards, owed_one}
+use Rattle.thread_report.specs.Owed.{call_of_hub, owed_by_hub, owed_by_shard, owed_by_shards, owed_one}
 
 pub owed_by_hub_more : (from n i : ℕ) (xs : List HubEntry) (d : HubEntry) → i < length xs → n ≡ from + i → owed_by_hub from (take (suc i) xs) ≡ owed_by_hub from (take i xs) ++ call_of_hub n (get_or xs i d) ∷ []
 owed_by_hub_more from n i [] d lt is = absurd (omega arith)
@@ -27,14 +24,6 @@ module _ {A : Type 0} (f : A → List ShardEntry) where
   owed_by_shards_more from n (suc i) (x ∷ xs) d lt is =
       ap (λ l. owed_by_shard from 0 (f x) ++ l) (owed_by_shards_more (suc from) n i xs d (omega arith) (omega arith))
       ∙ sym (append_assoc (owed_by_shard from 0 (f x)) (owed_by_shards (suc from) (map f (take i xs))) (owed_by_shard n 0 (f (get_or xs i d))))
-
--- a pass gains a call, or is lost
-pub gains : (keep lost lost' : Bool) (lock place : ℕ) (event : NodeEvent) (told : CallAnswer) (calls calls' : List Call) → keep ≡ true → (lost' ≡ false → (lost ≡ false) × (calls' ≡ calls ++ call lock place event told ∷ []))
-    → Gains keep lock event told (cond lost None (Some calls)) (cond lost' None (Some calls'))
-gains false lost lost' lock place event told calls calls' on h = absurd (true≢false (sym on))
-gains true lost true lock place event told calls calls' on h = (place, tt)
-gains true true false lock place event told calls calls' on h = absurd (true≢false (h refl).0)
-gains true false false lock place event told calls calls' on h = (place, (h refl).1)
 
 -- the first of a list, one more
 pub take_map_more : {A B : Type 0} (f : A → B) (xs : List A) (n : ℕ) (d : A) → n < length xs → take (suc n) (map f xs) ≡ take n (map f xs) ++ f (get_or xs n d) ∷ []

@@ -1,8 +1,7 @@
 -- What the passes of callers have to tell of what was written down under the locks.
-use Rattle.std.specs.Prelude.{◌≡◌, ◌<◌, ℕ, suc, All, length, take, slice_index_or, flat_map, Bool, true, false, cond, List, [], ◌∷◌, ◌++◌, Option, Some, None}
+use Rattle.std.specs.Prelude.{◌≡◌, ◌<◌, ℕ, suc, All, length, take, slice_index_or, flat_map, Bool, true, false, cond, List, [], ◌∷◌, ◌++◌}
 use Rattle.std.specs.List.Sorted.{IsPermutation}
 use Rattle.node_law.specs.declared.events.NodeEvent.{NodeEvent}
-use Rattle.node_threads.specs.Tapes.{Grows}
 use Rattle.node_threads.specs.declared.shard_entries.ShardEntry.{ShardEntry}
 use Rattle.node_threads.specs.declared.shard_entries.ShardTold.{ShardTold}
 use Rattle.node_threads.specs.declared.shard_entries.ShardTold.TheVariants.{Attached, Opened, AlreadyOpen, Unsubscribed, Replied, WasShut, Detached, Taken, Work, Dropped}
@@ -16,14 +15,14 @@ use Rattle.thread_report.specs.declared.passes.CallAnswer.TheVariants.{Hub, Shar
 abbrev pub call : ℕ → ℕ → NodeEvent → CallAnswer → Call
 call lock place event told = record { lock = lock; place = place; event = event; told = told }
 
--- the calls of a pass, unless they were given up
-abbrev pub calls_of : Option (List Call) → List Call
-calls_of None = []
-calls_of (Some calls) = calls
+-- the calls of a caller, in order, and how many more it has room for
+pub record PassCalls : Type 0 where
+  pub calls : List Call
+  pub room : ℕ
 
 -- where steps are written down, a pass gains this call, at some place among the steps under its lock
-abbrev pub Gains : Bool → ℕ → NodeEvent → CallAnswer → Option (List Call) → Option (List Call) → Type 0
-Gains true lock event told old new = (place : ℕ) × Grows old (call lock place event told ∷ []) new
+abbrev pub Gains : Bool → ℕ → NodeEvent → CallAnswer → List Call → List Call → Type 0
+Gains true lock event told old new = (place : ℕ) × (new ≡ old ++ call lock place event told ∷ [])
 Gains false lock event told old new = new ≡ old
 
 -- ---- what is owed: what was asked, and what was answered
@@ -79,6 +78,6 @@ abbrev pub IsInOrder : List Call → Type 0
 IsInOrder calls = (j : ℕ) (d : Call) → j < length calls → All (λ c. Precedes c (slice_index_or calls j d)) (take j calls)
 
 -- the passes tell each step that a caller made, once, and nothing else, those of one caller in order
-pub record AreTold (passes : List (Option (List Call))) (hub : List HubEntry) (shards : List (List ShardEntry)) : Type 0 where
-  pub in_order : All (λ pass. IsInOrder (calls_of pass)) passes
-  pub once : IsPermutation (flat_map calls_of passes) (calls_owed hub shards)
+pub record AreTold (passes : List PassCalls) (hub : List HubEntry) (shards : List (List ShardEntry)) : Type 0 where
+  pub in_order : All (λ pass. IsInOrder pass.calls) passes
+  pub once : IsPermutation (flat_map (λ pass. pass.calls) passes) (calls_owed hub shards)

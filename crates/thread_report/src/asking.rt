@@ -1,93 +1,95 @@
-//! What callers asked, as the events that their passes keep: where calls are written down and there is memory for a copy.
+//! What callers ask, as the events that their passes keep: copies, where calls are written down.
 
-ghost use Rattle.std.specs.Prelude.{◌≡◌, IfSome};
+ghost use Rattle.std.specs.Prelude.{◌≡◌, Some, None, cond, IfOk};
 ghost use Rattle.node_law.specs.declared.events.ConnEvent.TheVariants.{Subscribe, Unsubscribe};
 ghost use Rattle.node_law.specs.declared.events.NodeEvent.TheVariants.{Own, Receive};
 ghost use Rattle.node_law.specs.declared.events.OwnEvent.TheVariants.{OfConn, Publish};
 
 use node_law::{ConnEvent, NodeEvent, OwnEvent};
 use route_values::Numbered;
-use std::alloc::Global;
+use std::alloc::{AllocError, Global};
 use subj::{ConnId, Key, Pub, Sid};
 use thread_node::copy_of_pub;
 
-/// A publication.
+/// An event, where calls are written down.
+pub(crate) fn event_if(keep: bool, event: NodeEvent) -> Option<NodeEvent>
+    ensures { result ≡ cond keep (Some event) None }
+{
+    keep.then_some(event)
+}
+
+/// What is asked for a connection, where calls are written down.
+pub(crate) fn conn_event_if(keep: bool, conn: ConnId, event: ConnEvent) -> Option<NodeEvent>
+    ensures { result ≡ cond keep (Some (Own (OfConn conn event))) None }
+{
+    event_if(keep, NodeEvent::Own(OwnEvent::OfConn { conn, event }))
+}
+
+/// A publication, where calls are written down.
 pub(crate) fn publish_event(
-    kept: bool,
+    keep: bool,
     conn: ConnId,
     publication: &Pub,
     word: u64,
-) -> Option<NodeEvent>
-    ensures { IfSome result (λ event. event ≡ Own (Publish conn publication.now word)) }
+) -> Result<Option<NodeEvent>, AllocError>
+    ensures { IfOk result (λ event. event ≡ cond keep (Some (Own (Publish conn publication.now word))) None) }
 {
-    if !kept {
-        return None;
+    if !keep {
+        return Ok(None);
     }
-    let publication = copy_of_pub(publication)?;
-    Some(NodeEvent::Own(OwnEvent::Publish {
+    let publication = copy_of_pub(publication).ok_or(AllocError)?;
+    Ok(Some(NodeEvent::Own(OwnEvent::Publish {
         conn,
         publication,
         word,
-    }))
+    })))
 }
 
-/// A frame of a peer.
-pub(crate) fn frame_of_peer(alloc: Global, kept: bool, frame: &Numbered) -> Option<NodeEvent>
-    ensures { IfSome result (λ event. event ≡ Receive frame.now) }
-{
-    if !kept {
-        return None;
-    }
-    let Ok(frame) = frame.try_clone(alloc) else {
-        return None;
-    };
-    Some(NodeEvent::Receive(frame))
-}
-
-/// A subscribe.
-pub(crate) fn subscription(
+/// A frame of a peer, where calls are written down.
+pub(crate) fn receive_event(
     alloc: Global,
-    kept: bool,
+    keep: bool,
+    frame: &Numbered,
+) -> Result<Option<NodeEvent>, AllocError>
+    ensures { IfOk result (λ event. event ≡ cond keep (Some (Receive frame.now)) None) }
+{
+    if !keep {
+        return Ok(None);
+    }
+    Ok(Some(NodeEvent::Receive(frame.try_clone(alloc)?)))
+}
+
+/// A subscribe, where calls are written down.
+pub(crate) fn subscribe_event(
+    alloc: Global,
+    keep: bool,
     conn: ConnId,
     key: &Key,
     sid: &Sid,
-) -> Option<NodeEvent>
-    ensures { IfSome result (λ event. event ≡ Own (OfConn conn (Subscribe key.now sid.now))) }
+) -> Result<Option<NodeEvent>, AllocError>
+    ensures { IfOk result (λ event. event ≡ cond keep (Some (Own (OfConn conn (Subscribe key.now sid.now)))) None) }
 {
-    if !kept {
-        return None;
+    if !keep {
+        return Ok(None);
     }
-    let Ok(key) = key.try_clone(alloc) else {
-        return None;
-    };
-    let Ok(sid) = sid.try_clone(alloc) else {
-        return None;
-    };
-    Some(of_conn(conn, ConnEvent::Subscribe { key, sid }))
+    let key = key.try_clone(alloc)?;
+    let sid = sid.try_clone(alloc)?;
+    Ok(conn_event_if(keep, conn, ConnEvent::Subscribe { key, sid }))
 }
 
-/// An unsubscribe.
-pub(crate) fn unsubscription(
+/// An unsubscribe, where calls are written down.
+pub(crate) fn unsubscribe_event(
     alloc: Global,
-    kept: bool,
+    keep: bool,
     conn: ConnId,
     sid: &Sid,
     max: Option<u64>,
-) -> Option<NodeEvent>
-    ensures { IfSome result (λ event. event ≡ Own (OfConn conn (Unsubscribe sid.now max))) }
+) -> Result<Option<NodeEvent>, AllocError>
+    ensures { IfOk result (λ event. event ≡ cond keep (Some (Own (OfConn conn (Unsubscribe sid.now max)))) None) }
 {
-    if !kept {
-        return None;
+    if !keep {
+        return Ok(None);
     }
-    let Ok(sid) = sid.try_clone(alloc) else {
-        return None;
-    };
-    Some(of_conn(conn, ConnEvent::Unsubscribe { sid, max }))
-}
-
-/// What is asked for a connection.
-pub(crate) fn of_conn(conn: ConnId, event: ConnEvent) -> NodeEvent
-    ensures { result ≡ Own (OfConn conn event) }
-{
-    NodeEvent::Own(OwnEvent::OfConn { conn, event })
+    let sid = sid.try_clone(alloc)?;
+    Ok(conn_event_if(keep, conn, ConnEvent::Unsubscribe { sid, max }))
 }

@@ -1,8 +1,8 @@
 //! What each caller asked, and what it was answered: the server's calls, and what a pass tells of them.
 
-ghost use Rattle.std.specs.Prelude.{◌≡◌, ◌∷◌, ◌++◌, [], true, false, Some, IfSome, length, option_to_list, IfOk, OnErr};
+ghost use Rattle.std.specs.Prelude.{◌≡◌, ◌<◌, [], true, Some, None, cond, length, option_to_list, IfOk, OnOk, OnErr};
 ghost use Rattle.node_law.specs.declared.events.NodeEvent.{NodeEvent};
-ghost use Rattle.thread_report.specs.Owed.{Gains, IsInOrder, calls_of};
+ghost use Rattle.thread_report.specs.Owed.{Gains, IsInOrder};
 ghost use Rattle.thread_report.specs.declared.passes.CallAnswer.TheVariants.{Hub, Shard};
 ghost use Rattle.shard_core.specs.Answers.{answer_of};
 ghost use Rattle.node_law.specs.declared.events.ConnEvent.TheVariants as of_conn;
@@ -12,10 +12,12 @@ ghost use Rattle.node_law.specs.declared.events.ShardWork.TheVariants as work;
 ghost use Rattle.node_threads.specs.Tapes.{told_of};
 ghost use Rattle.node_threads.specs.declared.shard_entries.ShardTold.TheVariants as shard_told;
 ghost use Rattle.thread_node.specs.HubTapes.{of_received};
-ghost use Rattle.thread_node.specs.Refusing.{AnswersAt, DecidesAt, has_conn, has_shard};
+ghost use Rattle.thread_node.specs.Refusing.{AnswersAt, has_conn, has_shard};
 ghost use Rattle.thread_node.specs.declared.hub_entries.HubTold.TheVariants as hub_told;
 
-use crate::asking::{frame_of_peer, of_conn, publish_event, subscription, unsubscription};
+use crate::asking::{
+    conn_event_if, event_if, publish_event, receive_event, subscribe_event, unsubscribe_event,
+};
 use crate::order::are_rising;
 use client_frames::{ErrText, ReplyFrame};
 use hub_core::HubFault;
@@ -26,7 +28,7 @@ use outbox::Entry;
 use route_session::{Kept, SessionFault, SessionId};
 use route_values::{Numbered, RouteConnect, RouteInfo};
 use shard_core::{Closed, Subscribed};
-use std::alloc::Global;
+use std::alloc::{AllocError, Global};
 use std::marker::{Model, PhantomData};
 use std::sync::Wait;
 use sub_table::SubTable;
@@ -55,53 +57,47 @@ pub struct Call {
 
 /// The calls that one caller made of the server that N names, in order. (Profile.)
 ///
-/// Seen as their list, or as None: where there is no memory for one more, or for a copy of what it was asked, all are given up, and
-/// the server gives no report.
+/// Seen as their list, and how many more it has room for.
 #[derive(Drop)]
 pub struct Pass<N: NodeName> {
     calls: Vec<Call>,
-    lost: bool,
     of: PhantomData<N>,
     alloc: Global,
 }
 
 impl<N: NodeName> Model for Pass<N> {
-    ghost use Rattle.std.specs.Prelude.{List, Option, Some, None, cond};
-    ghost use Rattle.thread_report.specs.declared.passes.Call.{Call};
+    ghost use Rattle.std.specs.Prelude.{◌-◌, vec_len, vec_capacity};
+    ghost use Rattle.thread_report.specs.Owed.{PassCalls};
 
-    ghost Value = { Option (List Call) };
+    ghost Value = { PassCalls };
 
-    ghost view = { λ s. cond s.lost None (Some s.calls.items) };
-}
-
-/// Adds one to those that are there.
-fn add<E: Drop>(calls: &mut Vec<E>, lost: &mut bool, call: E)
-    ensures { lost.new ≡ false → (lost.old ≡ false) × (calls.new.items ≡ calls.old.items ++ call ∷ []) }
-{
-    if !*lost {
-        *lost = calls.push(call).is_err();
-    }
+    ghost view = { λ s. record { calls = s.calls.items; room = vec_capacity s.calls - vec_len s.calls } };
 }
 
 impl<N: NodeName> Pass<N> {
     /// Of a caller that has made no call.
     pub fn new(alloc: Global) -> Pass<N>
-        ensures { result ≡ Some [] }
+        ensures { result.calls ≡ [] }
     {
         Pass {
             calls: Vec::new(alloc),
-            lost: false,
             of: PhantomData,
             alloc,
         }
     }
 
-    /// Whether a copy is wanted of what a call is asked: where calls are written down, and none was given up.
-    fn is_kept(&self, keep: bool) -> bool {
-        keep && !self.lost
+    /// Makes room for one more call, where calls are written down.
+    fn grow(&mut self, keep: bool) -> Result<(), AllocError>
+        ensures same { self.new.calls ≡ self.old.calls }
+        ensures room { OnOk result (keep ≡ true → 0 < self.new.room) }
+    {
+        if !keep {
+            return Ok(());
+        }
+        self.calls.reserve(1)
     }
 
-    /// Adds a call behind the others, where calls are written down. Where there is no copy of what it was asked, all are given up.
+    /// Adds a call behind the others, where calls are written down. Takes no memory.
     fn tell(
         &mut self,
         keep: bool,
@@ -110,27 +106,25 @@ impl<N: NodeName> Pass<N> {
         event: Option<NodeEvent>,
         told: CallAnswer,
     )
-        ensures { (e : NodeEvent) → IfSome event (λ x. x ≡ e) → Gains keep lock e told self.old self.new }
+        requires room { keep ≡ true → 0 < self.old.room }
+        ensures { (e : NodeEvent) → event ≡ cond keep (Some e) None → Gains keep lock e told self.old.calls self.new.calls }
     {
         if !keep {
             return;
         }
-        let Some(event) = event else {
-            self.lost = true;
-            return;
-        };
-        let call = Call {
+        let Some(event) = event else { return };
+        self.calls.push_reserved(Call {
             lock,
             place,
             event,
             told,
-        };
-        add(&mut self.calls, &mut self.lost, call);
+        });
     }
 
     /// The same of a call under the hub's lock.
     fn tell_hub(&mut self, keep: bool, place: usize, event: Option<NodeEvent>, told: HubTold)
-        ensures { (e : NodeEvent) → IfSome event (λ x. x ≡ e) → Gains keep 0 e (Hub told) self.old self.new }
+        requires room { keep ≡ true → 0 < self.old.room }
+        ensures { (e : NodeEvent) → event ≡ cond keep (Some e) None → Gains keep 0 e (Hub told) self.old.calls self.new.calls }
     {
         self.tell(keep, 0, place, event, CallAnswer::Hub(told));
     }
@@ -144,31 +138,31 @@ impl<N: NodeName> Pass<N> {
         event: Option<NodeEvent>,
         told: ShardTold,
     )
-        ensures { (e : NodeEvent) → IfSome event (λ x. x ≡ e) → Gains keep shard e (Shard told) self.old self.new }
+        requires room { keep ≡ true → 0 < self.old.room }
+        ensures { (e : NodeEvent) → event ≡ cond keep (Some e) None → Gains keep shard e (Shard told) self.old.calls self.new.calls }
     {
         self.tell(keep, shard, place, event, CallAnswer::Shard(told));
     }
 
     /// Whether the calls under each lock stand in the order in which they were made.
     pub(crate) fn is_in_order(&self) -> bool
-        ensures { result ≡ true → IsInOrder (calls_of self.now) }
+        ensures { result ≡ true → IsInOrder self.now.calls }
     {
         are_rising(self.calls.as_slice())
     }
 
-    /// The calls; None where they were given up.
-    pub(crate) fn into_calls(self) -> Option<Vec<Call>>
-        ensures { IfSome result (λ calls. calls.items ≡ calls_of self) }
+    /// The calls.
+    pub(crate) fn into_calls(self) -> Vec<Call>
+        ensures { result.items ≡ self.calls }
     {
-        if self.lost {
-            return None;
-        }
-        Some(self.calls)
+        let Pass { calls, .. } = self;
+        calls
     }
 }
 
 /// Each call is that of [`ThreadNode`] of the same name. Where what is done is written down, the pass gains it, with
-/// what was asked and what was answered; a refused call and want of memory leave it as it was.
+/// what was asked and what was answered; a refused call and want of memory leave it as it was. It grows before the call
+/// is made: so where there is no memory for that, no call is made, whether it would have been refused or not.
 impl<N: NodeName> Pass<N> {
     /// [`ThreadNode::publish`]. May wait.
     pub fn publish<T: SubTable, R: Wait>(
@@ -179,9 +173,12 @@ impl<N: NodeName> Pass<N> {
         publication: &Pub,
         word: u64,
     ) -> Result<Issued, Failure<HubFault>>
-        ensures told { IfOk result (λ issued. Gains N.keep 0 (Own (own.Publish conn publication.now word)) (Hub (hub_told.Issued issued.turn issued.frames)) self.old self.new) }
-        ensures same { OnErr result (self.new ≡ self.old) }
+        ensures told { IfOk result (λ issued. Gains N.keep 0 (Own (own.Publish conn publication.now word)) (Hub (hub_told.Issued issued.turn issued.frames)) self.old.calls self.new.calls) }
+        ensures same { OnErr result (self.new.calls ≡ self.old.calls) }
     {
+        let keep = node.keeps_tapes();
+        let event = publish_event(keep, conn, publication, word)?;
+        self.grow(keep)?;
         let mut hub = node.hub(rt);
         let place = hub.steps_kept();
         let issued = hub.publish(conn, publication, word)?;
@@ -192,8 +189,6 @@ impl<N: NodeName> Pass<N> {
             turn: issued.turn,
             frames: issued.frames,
         };
-        let keep = node.keeps_tapes();
-        let event = publish_event(self.is_kept(keep), conn, publication, word);
         self.tell_hub(keep, place, event, told);
         Ok(issued)
     }
@@ -205,9 +200,12 @@ impl<N: NodeName> Pass<N> {
         node: &ThreadNode<T, N>,
         frame: &Numbered,
     ) -> Result<Received, Failure<HubFault>>
-        ensures told { IfOk result (λ received. Gains N.keep 0 (Receive frame.now) (Hub (of_received received)) self.old self.new) }
-        ensures same { OnErr result (self.new ≡ self.old) }
+        ensures told { IfOk result (λ received. Gains N.keep 0 (Receive frame.now) (Hub (of_received received)) self.old.calls self.new.calls) }
+        ensures same { OnErr result (self.new.calls ≡ self.old.calls) }
     {
+        let keep = node.keeps_tapes();
+        let event = receive_event(self.alloc, keep, frame)?;
+        self.grow(keep)?;
         let mut hub = node.hub(rt);
         let place = hub.steps_kept();
         let received = hub.receive(frame)?;
@@ -215,8 +213,6 @@ impl<N: NodeName> Pass<N> {
         drop(hub);
         node.unpark_workers();
         let told = told_received(&received);
-        let keep = node.keeps_tapes();
-        let event = frame_of_peer(self.alloc, self.is_kept(keep), frame);
         self.tell_hub(keep, place, event, told);
         Ok(received)
     }
@@ -228,16 +224,18 @@ impl<N: NodeName> Pass<N> {
         node: &ThreadNode<T, N>,
         peer: usize,
     ) -> Result<SessionId, Failure<SessionFault>>
-        ensures told { IfOk result (λ session. Gains N.keep 0 (Own (own.Dial peer)) (Hub (hub_told.Dialed session)) self.old self.new) }
-        ensures same { OnErr result (self.new ≡ self.old) }
+        ensures told { IfOk result (λ session. Gains N.keep 0 (Own (own.Dial peer)) (Hub (hub_told.Dialed session)) self.old.calls self.new.calls) }
+        ensures same { OnErr result (self.new.calls ≡ self.old.calls) }
     {
+        let keep = node.keeps_tapes();
+        self.grow(keep)?;
         let mut hub = node.hub(rt);
         let place = hub.steps_kept();
         let done = hub.dial(peer);
         drop(hub);
         let session = done?;
-        let event = Some(NodeEvent::Own(OwnEvent::Dial { peer }));
-        self.tell_hub(node.keeps_tapes(), place, event, HubTold::Dialed(session));
+        let event = event_if(keep, NodeEvent::Own(OwnEvent::Dial { peer }));
+        self.tell_hub(keep, place, event, HubTold::Dialed(session));
         Ok(session)
     }
 
@@ -247,16 +245,18 @@ impl<N: NodeName> Pass<N> {
         rt: &R,
         node: &ThreadNode<T, N>,
     ) -> Result<(SessionId, RouteInfo), Failure<SessionFault>>
-        ensures told { IfOk result (λ given. Gains N.keep 0 (Own own.Accept) (Hub (hub_told.Accepted given.0)) self.old self.new) }
-        ensures same { OnErr result (self.new ≡ self.old) }
+        ensures told { IfOk result (λ given. Gains N.keep 0 (Own own.Accept) (Hub (hub_told.Accepted given.0)) self.old.calls self.new.calls) }
+        ensures same { OnErr result (self.new.calls ≡ self.old.calls) }
     {
+        let keep = node.keeps_tapes();
+        self.grow(keep)?;
         let mut hub = node.hub(rt);
         let place = hub.steps_kept();
         let done = hub.accept();
         drop(hub);
         let (session, info) = done?;
-        let event = Some(NodeEvent::Own(OwnEvent::Accept));
-        self.tell_hub(node.keeps_tapes(), place, event, HubTold::Accepted(session));
+        let event = event_if(keep, NodeEvent::Own(OwnEvent::Accept));
+        self.tell_hub(keep, place, event, HubTold::Accepted(session));
         Ok((session, info))
     }
 
@@ -268,24 +268,24 @@ impl<N: NodeName> Pass<N> {
         session: SessionId,
         info: &RouteInfo,
     ) -> Result<(Kept, RouteConnect), Failure<SessionFault>>
-        ensures told { IfOk result (λ done. Gains N.keep 0 (OnInfo session info.now) (Hub (hub_told.KeptAfterInfo done.0.instead_of)) self.old self.new) }
-        ensures same { OnErr result (self.new ≡ self.old) }
+        ensures told { IfOk result (λ done. Gains N.keep 0 (OnInfo session info.now) (Hub (hub_told.KeptAfterInfo done.0.instead_of)) self.old.calls self.new.calls) }
+        ensures same { OnErr result (self.new.calls ≡ self.old.calls) }
     {
+        let keep = node.keeps_tapes();
+        self.grow(keep)?;
         let mut hub = node.hub(rt);
         let place = hub.steps_kept();
         let done = hub.info(session, info);
         drop(hub);
         let (kept, connect) = done?;
-        let event = Some(NodeEvent::OnInfo {
-            session,
-            info: *info,
-        });
-        self.tell_hub(
-            node.keeps_tapes(),
-            place,
-            event,
-            HubTold::KeptAfterInfo(kept.instead_of),
+        let event = event_if(
+            keep,
+            NodeEvent::OnInfo {
+                session,
+                info: *info,
+            },
         );
+        self.tell_hub(keep, place, event, HubTold::KeptAfterInfo(kept.instead_of));
         Ok((kept, connect))
     }
 
@@ -297,24 +297,24 @@ impl<N: NodeName> Pass<N> {
         session: SessionId,
         connect: &RouteConnect,
     ) -> Result<Kept, Failure<SessionFault>>
-        ensures told { IfOk result (λ kept. Gains N.keep 0 (OnConnect session connect.now) (Hub (hub_told.Kept kept.instead_of)) self.old self.new) }
-        ensures same { OnErr result (self.new ≡ self.old) }
+        ensures told { IfOk result (λ kept. Gains N.keep 0 (OnConnect session connect.now) (Hub (hub_told.Kept kept.instead_of)) self.old.calls self.new.calls) }
+        ensures same { OnErr result (self.new.calls ≡ self.old.calls) }
     {
+        let keep = node.keeps_tapes();
+        self.grow(keep)?;
         let mut hub = node.hub(rt);
         let place = hub.steps_kept();
         let done = hub.connect(session, connect);
         drop(hub);
         let kept = done?;
-        let event = Some(NodeEvent::OnConnect {
-            session,
-            connect: *connect,
-        });
-        self.tell_hub(
-            node.keeps_tapes(),
-            place,
-            event,
-            HubTold::Kept(kept.instead_of),
+        let event = event_if(
+            keep,
+            NodeEvent::OnConnect {
+                session,
+                connect: *connect,
+            },
         );
+        self.tell_hub(keep, place, event, HubTold::Kept(kept.instead_of));
         Ok(kept)
     }
 
@@ -324,17 +324,22 @@ impl<N: NodeName> Pass<N> {
         rt: &R,
         node: &ThreadNode<T, N>,
         session: SessionId,
-    ) -> Result<Option<usize>, SessionFault>
-        ensures told { IfOk result (λ peer. Gains N.keep 0 (Own (own.CutSession session)) (Hub (hub_told.WasCut peer)) self.old self.new) }
-        ensures same { OnErr result (self.new ≡ self.old) }
+    ) -> Result<Option<usize>, Failure<SessionFault>>
+        ensures told { IfOk result (λ peer. Gains N.keep 0 (Own (own.CutSession session)) (Hub (hub_told.WasCut peer)) self.old.calls self.new.calls) }
+        ensures same { OnErr result (self.new.calls ≡ self.old.calls) }
     {
+        let keep = node.keeps_tapes();
+        self.grow(keep)?;
         let mut hub = node.hub(rt);
         let place = hub.steps_kept();
         let done = hub.cut(session);
         drop(hub);
-        let peer = done?;
-        let event = Some(NodeEvent::Own(OwnEvent::CutSession { session }));
-        self.tell_hub(node.keeps_tapes(), place, event, HubTold::WasCut(peer));
+        let peer = match done {
+            Ok(peer) => peer,
+            Err(fault) => return Err(Failure::Refused(fault)),
+        };
+        let event = event_if(keep, NodeEvent::Own(OwnEvent::CutSession { session }));
+        self.tell_hub(keep, place, event, HubTold::WasCut(peer));
         Ok(peer)
     }
 
@@ -346,21 +351,18 @@ impl<N: NodeName> Pass<N> {
         peer: usize,
         count: usize,
     ) -> Result<Vec<Numbered>, Failure<HubFault>>
-        ensures told { IfOk result (λ frames. Gains N.keep 0 (Own (own.TakeFrames peer count)) (Hub (hub_told.Taken (length frames.items))) self.old self.new) }
-        ensures same { OnErr result (self.new ≡ self.old) }
+        ensures told { IfOk result (λ frames. Gains N.keep 0 (Own (own.TakeFrames peer count)) (Hub (hub_told.Taken (length frames.items))) self.old.calls self.new.calls) }
+        ensures same { OnErr result (self.new.calls ≡ self.old.calls) }
     {
+        let keep = node.keeps_tapes();
+        self.grow(keep)?;
         let mut hub = node.hub(rt);
         let place = hub.steps_kept();
         let done = hub.take_frames(peer, count);
         drop(hub);
         let frames = done?;
-        let event = Some(NodeEvent::Own(OwnEvent::TakeFrames { peer, count }));
-        self.tell_hub(
-            node.keeps_tapes(),
-            place,
-            event,
-            HubTold::Taken(length_of(&frames)),
-        );
+        let event = event_if(keep, NodeEvent::Own(OwnEvent::TakeFrames { peer, count }));
+        self.tell_hub(keep, place, event, HubTold::Taken(length_of(&frames)));
         Ok(frames)
     }
 
@@ -371,14 +373,16 @@ impl<N: NodeName> Pass<N> {
         node: &ThreadNode<T, N>,
         shard: u64,
     ) -> Result<hub_core::CollectResult, Failure<NodeFault>>
-        ensures told { IfOk result (λ told. Gains N.keep 0 (Own (own.Collect shard)) (Hub (hub_told.Collected (length told.changes.items) (length told.cut.items))) self.old self.new) }
-        ensures same { OnErr result (self.new ≡ self.old) }
+        ensures told { IfOk result (λ told. Gains N.keep 0 (Own (own.Collect shard)) (Hub (hub_told.Collected (length told.changes.items) (length told.cut.items))) self.old.calls self.new.calls) }
+        ensures same { OnErr result (self.new.calls ≡ self.old.calls) }
         ensures answers { AnswersAt (has_shard N.race shard) result }
     {
         let mut hub = node.hub(rt);
         let Some(mut of_shard) = node.shard(rt, shard) else {
             return Err(NO_SHARD);
         };
+        let keep = node.keeps_tapes();
+        self.grow(keep)?;
         let place = hub.steps_kept();
         let done = hub.collect(&mut of_shard);
         drop(of_shard);
@@ -388,8 +392,8 @@ impl<N: NodeName> Pass<N> {
             changes: length_of(&told.changes),
             cut: length_of(&told.cut),
         };
-        let event = Some(NodeEvent::Own(OwnEvent::Collect { shard }));
-        self.tell_hub(node.keeps_tapes(), place, event, answer);
+        let event = event_if(keep, NodeEvent::Own(OwnEvent::Collect { shard }));
+        self.tell_hub(keep, place, event, answer);
         Ok(told)
     }
 
@@ -400,28 +404,27 @@ impl<N: NodeName> Pass<N> {
         node: &ThreadNode<T, N>,
         shard: u64,
     ) -> Result<ConnId, Failure<NodeFault>>
-        ensures told { IfOk result (λ conn. Gains N.keep shard (Own (own.AtShard shard work.Attach)) (Shard (shard_told.Attached conn)) self.old self.new) }
-        ensures same { OnErr result (self.new ≡ self.old) }
+        ensures told { IfOk result (λ conn. Gains N.keep shard (Own (own.AtShard shard work.Attach)) (Shard (shard_told.Attached conn)) self.old.calls self.new.calls) }
+        ensures same { OnErr result (self.new.calls ≡ self.old.calls) }
         ensures answers { AnswersAt (has_shard N.race shard) result }
     {
         let Some(mut locked) = node.shard(rt, shard) else {
             return Err(NO_SHARD);
         };
+        let keep = node.keeps_tapes();
+        self.grow(keep)?;
         let place = locked.steps_kept();
         let done = locked.attach();
         drop(locked);
         let conn = answered_by_shard(done)?;
-        let event = Some(NodeEvent::Own(OwnEvent::AtShard {
-            shard,
-            work: ShardWork::Attach,
-        }));
-        self.tell_shard(
-            node.keeps_tapes(),
-            shard,
-            place,
-            event,
-            ShardTold::Attached(conn),
+        let event = event_if(
+            keep,
+            NodeEvent::Own(OwnEvent::AtShard {
+                shard,
+                work: ShardWork::Attach,
+            }),
         );
+        self.tell_shard(keep, shard, place, event, ShardTold::Attached(conn));
         Ok(conn)
     }
 
@@ -435,15 +438,16 @@ impl<N: NodeName> Pass<N> {
         key: Key,
         sid: Sid,
     ) -> Result<Subscribed, Failure<NodeFault>>
-        ensures told { IfOk result (λ done. Gains N.keep shard (Own (own.OfConn conn (of_conn.Subscribe key sid))) (Shard (told_of (answer_of done))) self.old self.new) }
-        ensures same { OnErr result (self.new ≡ self.old) }
+        ensures told { IfOk result (λ done. Gains N.keep shard (Own (own.OfConn conn (of_conn.Subscribe key sid))) (Shard (told_of (answer_of done))) self.old.calls self.new.calls) }
+        ensures same { OnErr result (self.new.calls ≡ self.old.calls) }
         ensures answers { AnswersAt (has_conn N.race shard conn) result }
     {
-        let keep = node.keeps_tapes();
-        let event = subscription(self.alloc, self.is_kept(keep), conn, &key, &sid);
         let Some(mut locked) = node.shard_of_conn(rt, shard, conn) else {
             return Err(NO_SHARD);
         };
+        let keep = node.keeps_tapes();
+        let event = subscribe_event(self.alloc, keep, conn, &key, &sid)?;
+        self.grow(keep)?;
         let place = locked.steps_kept();
         let done = locked.subscribe(conn, key, sid);
         drop(locked);
@@ -461,23 +465,24 @@ impl<N: NodeName> Pass<N> {
         conn: ConnId,
         sid: &Sid,
         max: Option<u64>,
-    ) -> Result<Option<SubId>, NodeFault>
-        ensures told { IfOk result (λ ended. Gains N.keep shard (Own (own.OfConn conn (of_conn.Unsubscribe sid.now max))) (Shard (shard_told.Unsubscribed (length (option_to_list ended)))) self.old self.new) }
-        ensures same { OnErr result (self.new ≡ self.old) }
-        ensures answers { DecidesAt (has_conn N.race shard conn) result }
+    ) -> Result<Option<SubId>, Failure<NodeFault>>
+        ensures told { IfOk result (λ ended. Gains N.keep shard (Own (own.OfConn conn (of_conn.Unsubscribe sid.now max))) (Shard (shard_told.Unsubscribed (length (option_to_list ended)))) self.old.calls self.new.calls) }
+        ensures same { OnErr result (self.new.calls ≡ self.old.calls) }
+        ensures answers { AnswersAt (has_conn N.race shard conn) result }
     {
         let Some(mut locked) = node.shard_of_conn(rt, shard, conn) else {
-            return Err(NodeFault::NoShard);
+            return Err(NO_SHARD);
         };
+        let keep = node.keeps_tapes();
+        let event = unsubscribe_event(self.alloc, keep, conn, sid, max)?;
+        self.grow(keep)?;
         let place = locked.steps_kept();
         let done = locked.unsubscribe(conn, sid, max);
         drop(locked);
         let ended = match done {
             Ok(ended) => ended,
-            Err(fault) => return Err(NodeFault::Shard(fault)),
+            Err(fault) => return Err(Failure::Refused(NodeFault::Shard(fault))),
         };
-        let keep = node.keeps_tapes();
-        let event = unsubscription(self.alloc, self.is_kept(keep), conn, sid, max);
         self.tell_shard(
             keep,
             shard,
@@ -497,13 +502,15 @@ impl<N: NodeName> Pass<N> {
         conn: ConnId,
         frame: &ReplyFrame,
     ) -> Result<Closed, Failure<NodeFault>>
-        ensures told { IfOk result (λ closed. Gains N.keep shard (Own (own.OfConn conn (of_conn.Reply frame.now))) (Shard (shard_told.Replied closed.shut (length closed.ended.items))) self.old self.new) }
-        ensures same { OnErr result (self.new ≡ self.old) }
+        ensures told { IfOk result (λ closed. Gains N.keep shard (Own (own.OfConn conn (of_conn.Reply frame.now))) (Shard (shard_told.Replied closed.shut (length closed.ended.items))) self.old.calls self.new.calls) }
+        ensures same { OnErr result (self.new.calls ≡ self.old.calls) }
         ensures answers { AnswersAt (has_conn N.race shard conn) result }
     {
         let Some(mut locked) = node.shard_of_conn(rt, shard, conn) else {
             return Err(NO_SHARD);
         };
+        let keep = node.keeps_tapes();
+        self.grow(keep)?;
         let place = locked.steps_kept();
         let done = locked.reply(conn, frame);
         drop(locked);
@@ -512,8 +519,8 @@ impl<N: NodeName> Pass<N> {
             shut: closed.shut,
             ended: length_of(&closed.ended),
         };
-        let event = Some(of_conn(conn, ConnEvent::Reply { frame: *frame }));
-        self.tell_shard(node.keeps_tapes(), shard, place, event, told);
+        let event = conn_event_if(keep, conn, ConnEvent::Reply { frame: *frame });
+        self.tell_shard(keep, shard, place, event, told);
         Ok(closed)
     }
 
@@ -526,20 +533,22 @@ impl<N: NodeName> Pass<N> {
         conn: ConnId,
         text: ErrText,
     ) -> Result<Vec<SubId>, Failure<NodeFault>>
-        ensures told { IfOk result (λ ended. Gains N.keep shard (Own (own.OfConn conn (of_conn.Shut text))) (Shard (shard_told.WasShut (length ended.items))) self.old self.new) }
-        ensures same { OnErr result (self.new ≡ self.old) }
+        ensures told { IfOk result (λ ended. Gains N.keep shard (Own (own.OfConn conn (of_conn.Shut text))) (Shard (shard_told.WasShut (length ended.items))) self.old.calls self.new.calls) }
+        ensures same { OnErr result (self.new.calls ≡ self.old.calls) }
         ensures answers { AnswersAt (has_conn N.race shard conn) result }
     {
         let Some(mut locked) = node.shard_of_conn(rt, shard, conn) else {
             return Err(NO_SHARD);
         };
+        let keep = node.keeps_tapes();
+        self.grow(keep)?;
         let place = locked.steps_kept();
         let done = locked.shut(conn, text);
         drop(locked);
         let ended = answered_by_shard(done)?;
-        let event = Some(of_conn(conn, ConnEvent::Shut { text }));
+        let event = conn_event_if(keep, conn, ConnEvent::Shut { text });
         self.tell_shard(
-            node.keeps_tapes(),
+            keep,
             shard,
             place,
             event,
@@ -556,20 +565,22 @@ impl<N: NodeName> Pass<N> {
         shard: u64,
         conn: ConnId,
     ) -> Result<Vec<SubId>, Failure<NodeFault>>
-        ensures told { IfOk result (λ ended. Gains N.keep shard (Own (own.OfConn conn of_conn.Detach)) (Shard (shard_told.Detached (length ended.items))) self.old self.new) }
-        ensures same { OnErr result (self.new ≡ self.old) }
+        ensures told { IfOk result (λ ended. Gains N.keep shard (Own (own.OfConn conn of_conn.Detach)) (Shard (shard_told.Detached (length ended.items))) self.old.calls self.new.calls) }
+        ensures same { OnErr result (self.new.calls ≡ self.old.calls) }
         ensures answers { AnswersAt (has_conn N.race shard conn) result }
     {
         let Some(mut locked) = node.shard_of_conn(rt, shard, conn) else {
             return Err(NO_SHARD);
         };
+        let keep = node.keeps_tapes();
+        self.grow(keep)?;
         let place = locked.steps_kept();
         let done = locked.detach(conn);
         drop(locked);
         let ended = answered_by_shard(done)?;
-        let event = Some(of_conn(conn, ConnEvent::Detach));
+        let event = conn_event_if(keep, conn, ConnEvent::Detach);
         self.tell_shard(
-            node.keeps_tapes(),
+            keep,
             shard,
             place,
             event,
@@ -587,20 +598,22 @@ impl<N: NodeName> Pass<N> {
         conn: ConnId,
         count: usize,
     ) -> Result<Vec<Entry>, Failure<NodeFault>>
-        ensures told { IfOk result (λ entries. Gains N.keep shard (Own (own.OfConn conn (of_conn.Take count))) (Shard (shard_told.Taken (length entries.items))) self.old self.new) }
-        ensures same { OnErr result (self.new ≡ self.old) }
+        ensures told { IfOk result (λ entries. Gains N.keep shard (Own (own.OfConn conn (of_conn.Take count))) (Shard (shard_told.Taken (length entries.items))) self.old.calls self.new.calls) }
+        ensures same { OnErr result (self.new.calls ≡ self.old.calls) }
         ensures answers { AnswersAt (has_conn N.race shard conn) result }
     {
         let Some(mut locked) = node.shard_of_conn(rt, shard, conn) else {
             return Err(NO_SHARD);
         };
+        let keep = node.keeps_tapes();
+        self.grow(keep)?;
         let place = locked.steps_kept();
         let done = locked.take(conn, count);
         drop(locked);
         let entries = answered_by_shard(done)?;
-        let event = Some(of_conn(conn, ConnEvent::Take { count }));
+        let event = conn_event_if(keep, conn, ConnEvent::Take { count });
         self.tell_shard(
-            node.keeps_tapes(),
+            keep,
             shard,
             place,
             event,
@@ -616,28 +629,27 @@ impl<N: NodeName> Pass<N> {
         node: &ThreadNode<T, N>,
         shard: u64,
     ) -> Result<Turn, Failure<NodeFault>>
-        ensures told { IfOk result (λ turn. Gains N.keep shard (Own (own.AtShard shard work.DropJob)) (Shard (shard_told.Dropped (Some turn))) self.old self.new) }
-        ensures same { OnErr result (self.new ≡ self.old) }
+        ensures told { IfOk result (λ turn. Gains N.keep shard (Own (own.AtShard shard work.DropJob)) (Shard (shard_told.Dropped (Some turn))) self.old.calls self.new.calls) }
+        ensures same { OnErr result (self.new.calls ≡ self.old.calls) }
         ensures answers { AnswersAt (has_shard N.race shard) result }
     {
         let Some(mut locked) = node.shard(rt, shard) else {
             return Err(NO_SHARD);
         };
+        let keep = node.keeps_tapes();
+        self.grow(keep)?;
         let place = locked.steps_kept();
         let done = locked.drop_job(rt);
         drop(locked);
         let turn = answered_by_shard(done)?;
-        let event = Some(NodeEvent::Own(OwnEvent::AtShard {
-            shard,
-            work: ShardWork::DropJob,
-        }));
-        self.tell_shard(
-            node.keeps_tapes(),
-            shard,
-            place,
-            event,
-            ShardTold::Dropped(Some(turn)),
+        let event = event_if(
+            keep,
+            NodeEvent::Own(OwnEvent::AtShard {
+                shard,
+                work: ShardWork::DropJob,
+            }),
         );
+        self.tell_shard(keep, shard, place, event, ShardTold::Dropped(Some(turn)));
         Ok(turn)
     }
 }

@@ -1,7 +1,7 @@
 //! Whether the passes of all callers tell what was written down.
 
 ghost use Rattle.std.specs.Prelude.{◌≡◌, ◌++◌, true, All, IfOk, IfSome, flat_map, map};
-ghost use Rattle.thread_report.specs.Owed.{AreTold, IsInOrder, call_of_hub, call_of_shard, calls_of, calls_owed, owed_by_hub, owed_by_shard, owed_by_shards, owed_one};
+ghost use Rattle.thread_report.specs.Owed.{AreTold, IsInOrder, call_of_hub, call_of_shard, calls_owed, owed_by_hub, owed_by_shard, owed_by_shards, owed_one};
 
 use crate::asked::{is_of_hub, is_of_shard};
 use crate::faults::Unfinished;
@@ -47,21 +47,18 @@ fn tell<N: NodeName>(
 
 /// Whether each pass has its calls under each lock in order.
 fn all_in_order<N: NodeName>(passes: &[Pass<N>]) -> bool
-    ensures { result ≡ true → All (λ pass. IsInOrder (calls_of pass)) passes.now }
+    ensures { result ≡ true → All (λ pass. IsInOrder pass.calls) passes.now }
 {
     passes.iter().all(|pass| pass.is_in_order())
 }
 
 /// The calls of all passes, one pass behind another.
 fn all_calls<N: NodeName>(alloc: Global, passes: Vec<Pass<N>>) -> Result<Vec<Call>, Unfinished>
-    ensures { IfOk result (λ calls. calls.items ≡ flat_map calls_of passes.items) }
+    ensures { IfOk result (λ calls. calls.items ≡ flat_map (λ pass. pass.calls) passes.items) }
 {
     let mut all = Vec::new(alloc);
     for pass in passes {
-        let Some(mut calls) = pass.into_calls() else {
-            return Err(Unfinished::OutOfMemory);
-        };
-        all.append(&mut calls)?;
+        all.append(&mut pass.into_calls())?;
     }
     Ok(all)
 }
