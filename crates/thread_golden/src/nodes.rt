@@ -10,7 +10,7 @@ use std::alloc::{AllocError, Global};
 use std::marker::Brand;
 use std::sync::Wait;
 use thread_node::{NodeName, Parts, ThreadNode};
-use thread_report::{Pass, Report, Unfinished, finish};
+use thread_report::{IssuedJob, Pass, Report, Unfinished, finish};
 
 /// What the caller of this name asks, and is answered: whether it is served.
 fn is_served<N: NodeName, R: Wait>(
@@ -72,6 +72,29 @@ fn play_calls<N: NodeName, R: Wait>(
     Ok(answer)
 }
 
+/// How many publications a report names, and the last one.
+fn jobs_told(alloc: Global, jobs: &[IssuedJob]) -> Result<String, AllocError> {
+    let count = jobs.len();
+    let Some(last) = jobs.last() else {
+        return text(alloc, "jobs 0");
+    };
+    match *last {
+        IssuedJob::Own { turn, number } => {
+            format!(in alloc;
+                "jobs {count}, turn {} is its own publication {number}",
+                turn.get()
+            )
+        }
+        IssuedJob::Routed { turn, id } => {
+            let number = id.number;
+            format!(in alloc;
+                "jobs {count}, turn {} is a peer's publication {number}",
+                turn.get()
+            )
+        }
+    }
+}
+
 /// What is asked of a report.
 fn report_told(alloc: Global, report: &Report, what: &str) -> Result<String, AllocError> {
     match what {
@@ -83,6 +106,7 @@ fn report_told(alloc: Global, report: &Report, what: &str) -> Result<String, All
                 report.finished.of(2).get()
             )
         }
+        "jobs" => jobs_told(alloc, report.jobs.as_slice()),
         "kept" => yes_or_no(alloc, report.kept),
         "hub" => format!(in alloc; "steps {}", report.hub.len()),
         "worked" => {

@@ -1,3 +1,4 @@
+pub mod Naming
 pub mod Owing
 pub mod Orders
 pub mod Legal

@@ -2,6 +2,8 @@
 pub mod Events
 -- what the passes of callers have to tell of it
 pub mod Owed
+-- which publications the hub gave to the shards
+pub mod Issued
 -- the deltas that shards hand to the hub
 pub mod Handing
 -- what the end of a server on threads tells

@@ -12,19 +12,22 @@
 //! A server (`thread_node`) needs none of it to run: a caller that wants no report makes the server's own calls.
 //!
 //! In reading order: `passes` is what a caller asked and was told, with the server's calls that tell it to a pass, and `asking` the events
-//! that a pass keeps. `report` is the end. That what was written down is what callers were told is seen by `asked`, `passes_told` and
-//! `order`, and that the hub was handed what the shards gave by `handing`. `faults` says why there is no report.
+//! that a pass keeps. `report` is the end, and `issued` names the publications that it tells of. That what was written down is what callers
+//! were told is seen by `asked`, `passes_told` and `order`, and that the hub was handed what the shards gave by `handing`. `faults` says why
+//! there is no report.
 #![tactic(auto)]
 
 mod asked;
 mod asking;
 mod faults;
 mod handing;
+mod issued;
 mod order;
 mod passes;
 mod passes_told;
 mod report;
 
 pub use faults::Unfinished;
+pub use issued::IssuedJob;
 pub use passes::{Call, CallAnswer, Pass};
 pub use report::{Report, finish};

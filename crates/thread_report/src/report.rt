@@ -8,6 +8,7 @@ ghost use Rattle.node_threads.specs.Outlets.{AreFirst};
 ghost use Rattle.node_threads.specs.Tapes.{IsTape};
 ghost use Rattle.node_threads.specs.declared.shard_entries.ShardEntry.{ShardEntry};
 ghost use Rattle.thread_report.specs.Handing.{AreHanded};
+ghost use Rattle.thread_report.specs.Issued.{AreIssued};
 ghost use Rattle.thread_report.specs.Owed.{AreTold};
 ghost use Rattle.thread_law.specs.Once.{AreOnce};
 ghost use Rattle.thread_law.specs.Runs.{HubRun, IsLegal, ShardRun};
@@ -15,6 +16,7 @@ ghost use Rattle.thread_report.specs.Reports.{AreClosed, IsKept, IsWritten, Tell
 
 use crate::faults::Unfinished;
 use crate::handing::torn_shard;
+use crate::issued::{IssuedJob, issued_on};
 use crate::passes::Pass;
 use crate::passes_told::are_told;
 use claim_cells::{Cells, Closed, HubSeat, ShardSeat};
@@ -32,6 +34,8 @@ use thread_node::{HubEntry, LockedShard, ThreadNode};
 pub struct Report {
     /// The last turn issued.
     pub issued: Turn,
+    /// The publications that were issued, in order of turns: one a turn; nothing where nothing was written down.
+    pub jobs: Vec<IssuedJob>,
     /// The last turn that each shard finished.
     pub finished: Finished,
     /// Whether what was done was written down.
@@ -128,18 +132,20 @@ fn reported<T: SubTable, N: NodeName, R: Wait>(
     node: ThreadNode<T, N>,
 ) -> Result<Report, Unfinished>
     ensures kept { IfOk result (λ report. report.kept ≡ N.keep) }
-    ensures legal { IfOk result (λ report. (hub : HubRun) × (runs : List ShardRun) × IsLegal N.race.shards hub runs × AreOnce hub runs × Tells hub runs report.issued report.finished × IsWritten report.kept hub runs report.hub.items (map (λ entries. entries.items) report.worked.items)) }
+    ensures legal { IfOk result (λ report. (hub : HubRun) × (runs : List ShardRun) × IsLegal N.race.shards hub runs × AreOnce hub runs × Tells hub runs report.issued report.finished × IsWritten report.kept hub runs report.hub.items (map (λ entries. entries.items) report.worked.items) × AreIssued report.kept hub report.jobs.items) }
 {
     let keep = node.keeps_tapes();
     let (hub, shards) = node.into_locked();
     let (state, cells, tape) = hub.into_parts();
     let hub = entries_on(alloc, keep, tape)?;
+    let jobs = issued_on(alloc, hub.as_slice())?;
     let (seat, lines) = state.into_parts();
     let (seats, worked) = close_shards(rt, alloc, keep, lines, shards)?;
     let closed = close_race(cells, seat, seats)?;
     legal_runs_are_once();
     Ok(Report {
         issued: closed.issued,
+        jobs,
         finished: closed.finished,
         kept: keep,
         hub,
@@ -168,7 +174,7 @@ fn compare<N: NodeName>(
 }
 
 /// Ends the server, and tells which turns it issued and finished, and, where it was to be written down, all
-/// that it did. There is a legal run with these numbers and just these steps: a list of the hub's and the
+/// that it did, and which publication each turn issued has. There is a legal run with these numbers and just these steps: a list of the hub's and the
 /// sessions' steps and one of each shard's steps, where each shard worked a beginning of the jobs that the
 /// hub gave, in order, no queue name of a turn was won twice, and each that was lost was won by another
 /// shard. Each publication stands in one job, which one publish or one frame of a peer gave; over all shards
@@ -188,7 +194,7 @@ pub fn finish<T: SubTable, N: NodeName, R: Wait>(
     ensures kept { IfOk result (λ report. report.kept ≡ N.keep) }
     ensures handed { IfOk result (λ report. report.kept ≡ true → AreHanded report.hub.items (map (λ entries. entries.items) report.worked.items)) }
     ensures told { IfOk result (λ report. report.kept ≡ true → AreTold passes.items report.hub.items (map (λ entries. entries.items) report.worked.items)) }
-    ensures legal { IfOk result (λ report. (hub : HubRun) × (runs : List ShardRun) × IsLegal N.race.shards hub runs × AreOnce hub runs × Tells hub runs report.issued report.finished × IsWritten report.kept hub runs report.hub.items (map (λ entries. entries.items) report.worked.items)) }
+    ensures legal { IfOk result (λ report. (hub : HubRun) × (runs : List ShardRun) × IsLegal N.race.shards hub runs × AreOnce hub runs × Tells hub runs report.issued report.finished × IsWritten report.kept hub runs report.hub.items (map (λ entries. entries.items) report.worked.items) × AreIssued report.kept hub report.jobs.items) }
 {
     let report = reported(rt, alloc, node)?;
     compare(
