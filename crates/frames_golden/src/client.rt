@@ -331,14 +331,17 @@ fn feed(answer: &mut String, conn: &mut Conn, alloc: Global, word: &str) -> Opti
     tell(answer, "ok")
 }
 
+/// Whether the client is to be told who serves it; it is told then.
+fn greet(conn: &mut Conn) -> bool {
+    let is_asked = matches!(conn.next(), Ok(Some(_)));
+    conn.answer(Ok(()));
+    is_asked
+}
+
 /// The connection of a client that was told who serves it.
 fn greeted(alloc: Global) -> Option<Conn> {
     let mut conn = Conn::new(alloc, info_of("n1 1, 1, 0")?);
-    if conn.next().ok()?.is_none() {
-        return None;
-    }
-    conn.answer(Ok(()));
-    Some(conn)
+    if greet(&mut conn) { Some(conn) } else { None }
 }
 
 /// Tells how many beginnings of a stream there are, if nothing is asked behind any of them; else the first behind which something is.

@@ -53,9 +53,14 @@ fn weighted_of(alloc: Global, word: &str) -> Option<Option<WeightedKey>> {
 /// Gathers the keys of a text, with `, ` between them.
 fn gather(keys: &mut Vec<WeightedKey>, alloc: Global, text: &str) -> Option<()> {
     for word in text.split(", ") {
-        keys.push(weighted_of(alloc, word)??).ok()?;
+        gather_one(keys, alloc, word)?;
     }
     Some(())
+}
+
+/// Puts the key that a word is behind the others.
+fn gather_one(keys: &mut Vec<WeightedKey>, alloc: Global, word: &str) -> Option<()> {
+    keys.push(weighted_of(alloc, word)??).ok()
 }
 
 /// The snapshot of the keys of a text.
@@ -323,15 +328,23 @@ pub fn weighted_call(answer: &mut String, alloc: Global, call: &str, word: &str)
     let Some(weighted) = weighted_of(alloc, word)? else {
         return tell(answer, "none");
     };
-    let copy = weighted.try_clone(alloc).ok()?;
     match call {
         "new" => weighted_told(answer, weighted.key(), weighted.weight()),
-        "copy" => weighted_told(answer, copy.key(), copy.weight()),
-        _ => {
-            let (key, weight) = copy.into_parts();
-            weighted_told(answer, &key, weight)
-        }
+        "copy" => weighted_copy(answer, alloc, &weighted),
+        _ => weighted_parts(answer, weighted),
     }
+}
+
+/// Tells what a copy of a key with its weight is.
+fn weighted_copy(answer: &mut String, alloc: Global, weighted: &WeightedKey) -> Option<()> {
+    let copy = weighted.try_clone(alloc).ok()?;
+    weighted_told(answer, copy.key(), copy.weight())
+}
+
+/// Tells the parts that a key with its weight is taken into.
+fn weighted_parts(answer: &mut String, weighted: WeightedKey) -> Option<()> {
+    let (key, weight) = weighted.into_parts();
+    weighted_told(answer, &key, weight)
 }
 
 /// Gathers so many keys like this one, whose patterns begin with five digits each, from `00000`.
@@ -485,6 +498,14 @@ impl Encoding {
         }
         None
     }
+
+    /// Takes a stream that comes in parts of so many bytes.
+    fn feed_all(&mut self, alloc: Global, stream: &[u8], part: usize) -> Option<()> {
+        for bytes in stream.chunks(part.max(1)) {
+            self.feed(alloc, bytes)?;
+        }
+        Some(())
+    }
 }
 
 /// The encodings of the frames of a stream that comes in parts of so many bytes, or in one for 0.
@@ -495,10 +516,14 @@ fn encodings(alloc: Global, stream: &[u8], part: usize) -> Option<Vec<u8>> {
         encoded: Vec::new(alloc),
     };
     let part = if part == 0 { stream.len() } else { part };
-    for bytes in stream.chunks(part.max(1)) {
-        encoding.feed(alloc, bytes)?;
-    }
+    encoding.feed_all(alloc, stream, part)?;
     Some(encoding.encoded)
+}
+
+/// Tells the encodings of the frames of a stream.
+fn encodings_told(answer: &mut String, alloc: Global, stream: &[u8], part: usize) -> Option<()> {
+    let encoded = encodings(alloc, stream, part)?;
+    push_shown(answer, &encoded).ok()
 }
 
 /// Whether the stream is one, and no frame of it is whole.
@@ -524,7 +549,7 @@ pub fn stream_call(answer: &mut String, alloc: Global, call: &str, text: &str) -
     let (part, stream) = text.split_once('|')?;
     let stream = bytes_of(alloc, stream).ok()?;
     match call {
-        "spelt" => push_shown(answer, &encodings(alloc, &stream, number(part) as usize)?).ok(),
+        "spelt" => encodings_told(answer, alloc, &stream, number(part) as usize),
         "beginnings" => beginnings(answer, alloc, &stream, number(part) as usize),
         _ => None,
     }
@@ -561,8 +586,14 @@ fn same_pubs(alloc: Global, a: &str, b: &str) -> Option<bool> {
 }
 
 fn same_frames(alloc: Global, a: &str, b: &str) -> Option<bool> {
-    let (a, b) = (read_frame(alloc, a).ok()?, read_frame(alloc, b).ok()?);
-    are_same(&a, &b)
+    let a = read_frame(alloc, a).ok()?;
+    is_same_as(&a, alloc, b)
+}
+
+/// Whether a frame is the same as the one that a word is.
+fn is_same_as(a: &RouteFrame, alloc: Global, b: &str) -> Option<bool> {
+    let b = read_frame(alloc, b).ok()?;
+    are_same(a, &b)
 }
 
 fn same_keys(alloc: Global, a: &str, b: &str) -> Option<bool> {
