@@ -5,6 +5,9 @@ Usage: tools/dev budget            measures, and ends with status 1 where someth
 
 The whole is the processor time that `rt ci --anew` and all that it starts have used, as the system tells it at the end. A crate's is that of
 the provers and compilers that worked on it, looked at every second, so that it falls short by a second or two for each of them.
+
+Each check has one job. The gate else gives a check the processors that nothing else waits for, and two to four jobs share its work at 1.2 to 1.8 times
+its processor seconds, so that the figures would tell how many processors the machine has.
 """
 import json
 import os
@@ -101,7 +104,8 @@ class Meter:
 def run_gate():
     """Runs the gate from nothing. Gives its status, the seconds of all processors, the seconds that went by, and those of each crate."""
     before, start = resource.getrusage(resource.RUSAGE_CHILDREN), time.monotonic()
-    with subprocess.Popen(["rt", "ci", "--anew"], cwd=TOP, stdin=subprocess.DEVNULL) as gate:
+    one_job_each = {**os.environ, "RT_JOBS": str(len(os.sched_getaffinity(0)))}
+    with subprocess.Popen(["rt", "ci", "--anew"], cwd=TOP, stdin=subprocess.DEVNULL, env=one_job_each) as gate:
         meter = Meter(gate.pid)
         while gate.poll() is None:
             meter.look()
