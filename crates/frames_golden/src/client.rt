@@ -1,6 +1,6 @@
 //! Calls of what a client and its server tell each other: refusals, lines of clients, frames of the server, and what a connection asks.
 
-use crate::names::message_in;
+use crate::names::{message_in, named};
 use client_conn::{ClientAction, Conn, Refusal};
 use client_frames::{
     ClientLine, Delivery, ErrText, InfoData, LineFault, MessageLines, PubHead, ReplyFrame,
@@ -15,20 +15,28 @@ use std::fmt::Write;
 use subj::{ConnId, Failure, Key, Pattern, Pub, QueueName, Sid};
 use wire_cut::CutFault;
 
+/// The texts by their names.
+static TEXTS: [(&str, ErrText); 9] = [
+    (
+        "MaximumControlLineExceeded",
+        ErrText::MaximumControlLineExceeded,
+    ),
+    ("MaximumPayloadViolation", ErrText::MaximumPayloadViolation),
+    ("ParserError", ErrText::ParserError),
+    (
+        "UnknownProtocolOperation",
+        ErrText::UnknownProtocolOperation,
+    ),
+    ("SlowConsumer", ErrText::SlowConsumer),
+    ("InvalidSubject", ErrText::InvalidSubject),
+    ("TooManyQueueGroups", ErrText::TooManyQueueGroups),
+    ("TooManySubscriptions", ErrText::TooManySubscriptions),
+    ("NumbersSpent", ErrText::NumbersSpent),
+];
+
 /// The text of this name.
 fn err_text(name: &str) -> Option<ErrText> {
-    Some(match name {
-        "MaximumControlLineExceeded" => ErrText::MaximumControlLineExceeded,
-        "MaximumPayloadViolation" => ErrText::MaximumPayloadViolation,
-        "ParserError" => ErrText::ParserError,
-        "UnknownProtocolOperation" => ErrText::UnknownProtocolOperation,
-        "SlowConsumer" => ErrText::SlowConsumer,
-        "InvalidSubject" => ErrText::InvalidSubject,
-        "TooManyQueueGroups" => ErrText::TooManyQueueGroups,
-        "TooManySubscriptions" => ErrText::TooManySubscriptions,
-        "NumbersSpent" => ErrText::NumbersSpent,
-        _ => return None,
-    })
+    named(&TEXTS, name)
 }
 
 /// Tells the line of a text, and whether the connection ends behind it.
@@ -150,6 +158,11 @@ fn shared_line(answer: &mut String, alloc: Global, delivery: &Delivery) -> Optio
     push_shown(answer, &line).ok()
 }
 
+/// Tells the bytes of a message as a frame.
+fn delivery_told(answer: &mut String, alloc: Global, delivery: Delivery) -> Option<()> {
+    frame_told(answer, alloc, &ServerFrame::Msg(delivery))
+}
+
 /// Makes a call of the delivery of a message: its subject, its reply, its payload and the subscription.
 pub fn delivery_call(
     answer: &mut String,
@@ -161,7 +174,7 @@ pub fn delivery_call(
     match call {
         "line" => lone_line(answer, alloc, &delivery),
         "shared_line" => shared_line(answer, alloc, &delivery),
-        "bytes" => frame_told(answer, alloc, &ServerFrame::Msg(delivery)),
+        "bytes" => delivery_told(answer, alloc, delivery),
         _ => None,
     }
 }
@@ -248,6 +261,17 @@ fn read(answer: &mut String, texts: &mut SharedTexts, bytes: &[u8]) -> Option<()
     }
 }
 
+/// Reads the line that a word is, of a client with these texts.
+fn read_word(
+    answer: &mut String,
+    texts: &mut SharedTexts,
+    alloc: Global,
+    word: &str,
+) -> Option<()> {
+    let bytes = bytes_of(alloc, word).ok()?;
+    read(answer, texts, &bytes)
+}
+
 /// Makes a call of a line, of a client of its own or of the one whose texts these are.
 pub fn line_call(
     answer: &mut String,
@@ -256,10 +280,9 @@ pub fn line_call(
     call: &str,
     word: &str,
 ) -> Option<()> {
-    let bytes = bytes_of(alloc, word).ok()?;
     match call {
-        "read" => read(answer, &mut SharedTexts::new(alloc), &bytes),
-        "next" => read(answer, texts, &bytes),
+        "read" => read_word(answer, &mut SharedTexts::new(alloc), alloc, word),
+        "next" => read_word(answer, texts, alloc, word),
         _ => None,
     }
 }
@@ -302,24 +325,34 @@ fn ask_told(answer: &mut String, ask: &ClientAction) -> Option<()> {
     }
 }
 
+/// The refusals by the words that they are.
+static REFUSALS: [(&str, Refusal); 5] = [
+    ("busy", Refusal::Busy),
+    ("too many subscriptions", Refusal::TooManySubscriptions),
+    ("numbers spent", Refusal::NumbersSpent),
+    ("too many queue groups", Refusal::TooManyQueueGroups),
+    ("other", Refusal::Other),
+];
+
 /// The answer that a word is.
 fn answer_in(word: &str) -> Result<(), Refusal> {
-    match word {
-        "busy" => Err(Refusal::Busy),
-        "too many subscriptions" => Err(Refusal::TooManySubscriptions),
-        "numbers spent" => Err(Refusal::NumbersSpent),
-        "too many queue groups" => Err(Refusal::TooManyQueueGroups),
-        "other" => Err(Refusal::Other),
-        _ => Ok(()),
+    match named(&REFUSALS, word) {
+        None => Ok(()),
+        Some(refusal) => Err(refusal),
+    }
+}
+
+/// Tells what is asked, where anything is.
+fn told_if_asked(answer: &mut String, ask: Option<&ClientAction>) -> Option<()> {
+    match ask {
+        None => tell(answer, "nothing"),
+        Some(ask) => ask_told(answer, ask),
     }
 }
 
 /// Answers the next ask, and tells it; where there is none, the answer is given all the same.
 fn ask(answer: &mut String, conn: &mut Conn, word: &str) -> Option<()> {
-    match conn.next().ok()? {
-        None => tell(answer, "nothing")?,
-        Some(ask) => ask_told(answer, ask)?,
-    }
+    told_if_asked(answer, conn.next().ok()?)?;
     conn.answer(answer_in(word));
     Some(())
 }
@@ -338,27 +371,49 @@ fn greet(conn: &mut Conn) -> bool {
     is_asked
 }
 
-/// The connection of a client that was told who serves it.
-fn greeted(alloc: Global) -> Option<Conn> {
-    let mut conn = Conn::new(alloc, info_of("n1 1, 1, 0")?);
-    if greet(&mut conn) { Some(conn) } else { None }
+/// Whether something is asked.
+fn asks(conn: &mut Conn) -> Option<bool> {
+    Some(conn.next().ok()?.is_some())
+}
+
+/// Feeds one more byte, unless something is asked before it. Gives whether it is fed.
+fn feed_unasked(conn: &mut Conn, byte: u8) -> Option<bool> {
+    if asks(conn)? {
+        return Some(false);
+    }
+    conn.feed(&[byte]).ok()?;
+    Some(true)
 }
 
 /// Tells how many beginnings of a stream there are, if nothing is asked behind any of them; else the first behind which something is.
 fn beginnings(answer: &mut String, conn: &mut Conn, stream: &[u8]) -> Option<()> {
     for (len, byte) in stream.iter().enumerate() {
-        if conn.next().ok()?.is_some() {
+        if !feed_unasked(conn, *byte)? {
             return write!(answer, "asks behind {len} bytes").ok();
         }
-        conn.feed(&[*byte]).ok()?;
     }
     write!(answer, "{} beginnings, nothing asked", stream.len()).ok()
 }
 
-/// The same of a stream that a client sends first.
-fn first_beginnings(answer: &mut String, alloc: Global, word: &str) -> Option<()> {
+/// The same of a stream that a client sends once it is told who serves it.
+fn greeted_beginnings(
+    answer: &mut String,
+    conn: &mut Conn,
+    alloc: Global,
+    word: &str,
+) -> Option<()> {
     let stream = bytes_of(alloc, word).ok()?;
-    beginnings(answer, &mut greeted(alloc)?, &stream)
+    if !greet(conn) {
+        return None;
+    }
+    beginnings(answer, conn, &stream)
+}
+
+/// The same of a stream on a connection of its own.
+fn first_beginnings(answer: &mut String, alloc: Global, word: &str) -> Option<()> {
+    let told = info_of("n1 1, 1, 0")?;
+    let mut conn = Conn::new(alloc, told);
+    greeted_beginnings(answer, &mut conn, alloc, word)
 }
 
 /// A connection of a client that is told this first takes the place of the one that stands.

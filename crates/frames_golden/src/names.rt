@@ -193,14 +193,19 @@ static LIMITS: [(&str, u64); 30] = [
     ("JOIN_EVENTS", JOIN_EVENTS),
 ];
 
-/// The limit of this name, 0 where none has it.
-fn limit(name: &str) -> u64 {
-    for (other, limit) in &LIMITS {
+/// What stands behind this name in a table.
+pub fn named<T: Copy>(table: &[(&'static str, T)], name: &str) -> Option<T> {
+    for (other, value) in table {
         if *other == name {
-            return *limit;
+            return Some(*value);
         }
     }
-    0
+    None
+}
+
+/// The limit of this name, 0 where none has it.
+fn limit(name: &str) -> u64 {
+    named(&LIMITS, name).unwrap_or(0)
 }
 
 /// Tells the turn of this number, and the one behind it.

@@ -3,8 +3,8 @@
 use crate::client::reply_of;
 use bytes::Bytes;
 use golden::{
-    Words, bytes_of, key_in, life_in, message_of, number, push_key, push_shown, put, queues_of,
-    sid_of, tell, tell_bytes, tell_number, tell_refusal,
+    Life, Words, bytes_of, key_in, life_in, message_of, number, push_key, push_shown, put,
+    queues_of, sid_of, tell, tell_bytes, tell_number, tell_refusal,
 };
 use route_frames::{
     Body, Numbered, RouteConnect, RouteFault, RouteFrame, RouteInfo, RouteLine, SnapshotKeys,
@@ -87,53 +87,64 @@ fn publication_of(alloc: Global, queues: &str, message: &str) -> Option<Body> {
     Some(Body::Msg { message, queues })
 }
 
+/// The body of a key that is there with its weight.
+fn plus_of(alloc: Global, word: &str) -> Option<Body> {
+    Some(Body::Plus(weighted_of(alloc, word)??))
+}
+
+/// The body of a key that is gone.
+fn minus_of(alloc: Global, word: &str) -> Option<Body> {
+    Some(Body::Minus(key_in(alloc, word)?))
+}
+
+/// The body of all keys.
+fn keys_of(alloc: Global, text: &str) -> Option<Body> {
+    Some(Body::Snapshot(snapshot_of(alloc, text)?))
+}
+
 /// What a numbered frame of this kind is to say.
 fn body_of(alloc: Global, kind: &str, words: &Words<'_>) -> Option<Body> {
     match kind {
-        "plus" => Some(Body::Plus(weighted_of(alloc, words.at(3))??)),
-        "minus" => Some(Body::Minus(key_in(alloc, words.at(3))?)),
-        "snapshot" => Some(Body::Snapshot(snapshot_of(alloc, words.at(3))?)),
+        "plus" => plus_of(alloc, words.at(3)),
+        "minus" => minus_of(alloc, words.at(3)),
+        "snapshot" => keys_of(alloc, words.at(3)),
         "msg" => publication_of(alloc, words.at(3), words.at(4)),
         _ => None,
     }
 }
 
-/// The numbered frame that says this, where there may be such a one.
-fn numbered_with(words: &Words<'_>, body: Body) -> Option<Option<RouteFrame>> {
-    let (from, to) = (life_in(words.at(0))?, life_in(words.at(1))?);
-    match Numbered::new(from.name, from.inc, to.name, to.inc, words.number(2), body) {
-        None => Some(None),
-        Some(frame) => Some(Some(RouteFrame::Numbered(frame))),
-    }
+/// Whose a frame is, whose it is to be, and its number or its serial.
+#[derive(Clone, Copy)]
+struct Ends {
+    from: Life,
+    to: Life,
+    number: u64,
 }
 
-/// The numbered frame of this kind, where there may be such a one.
-fn numbered_of(alloc: Global, kind: &str, words: &Words<'_>) -> Option<Option<RouteFrame>> {
-    numbered_with(words, body_of(alloc, kind, words)?)
+/// The ends that the first three words are.
+fn ends_in(words: &Words<'_>) -> Option<Ends> {
+    let (from, to) = (life_in(words.at(0))?, life_in(words.at(1))?);
+    let number = words.number(2);
+    Some(Ends { from, to, number })
+}
+
+/// The numbered frame that says this, where there may be such a one.
+fn numbered_with(ends: &Ends, body: Body) -> Option<RouteFrame> {
+    let (from, to) = (ends.from, ends.to);
+    let numbered = Numbered::new(from.name, from.inc, to.name, to.inc, ends.number, body)?;
+    Some(RouteFrame::Numbered(numbered))
 }
 
 /// The `CONNECT` of one server to another with a serial, where there may be such a one.
-fn connect_of(words: &Words<'_>) -> Option<Option<RouteFrame>> {
-    let (me, other) = (life_in(words.at(0))?, life_in(words.at(1))?);
-    match RouteConnect::new(me.name, me.inc, other.name, other.inc, words.number(2)) {
-        None => Some(None),
-        Some(connect) => Some(Some(RouteFrame::Connect(connect))),
-    }
+fn connect_with(ends: &Ends) -> Option<RouteFrame> {
+    let (me, other) = (ends.from, ends.to);
+    let connect = RouteConnect::new(me.name, me.inc, other.name, other.inc, ends.number)?;
+    Some(RouteFrame::Connect(connect))
 }
 
 /// The `INFO` of a server.
-fn info_of(word: &str) -> Option<Option<RouteFrame>> {
-    let life = life_in(word)?;
-    Some(Some(RouteFrame::Info(RouteInfo::new(life.name, life.inc))))
-}
-
-/// The frame of this kind, where there may be such a one.
-fn frame_of(alloc: Global, kind: &str, words: &Words<'_>) -> Option<Option<RouteFrame>> {
-    match kind {
-        "info" => info_of(words.at(0)),
-        "connect" => connect_of(words),
-        _ => numbered_of(alloc, kind, words),
-    }
+fn info_with(life: Life) -> RouteFrame {
+    RouteFrame::Info(RouteInfo::new(life.name, life.inc))
 }
 
 /// The built frame stands from now on, where there may be such a one.
@@ -147,12 +158,42 @@ fn build(
     tell(answer, told)
 }
 
+/// Builds the numbered frame that says this.
+fn build_numbered(
+    answer: &mut String,
+    place: &mut Option<RouteFrame>,
+    words: &Words<'_>,
+    body: Body,
+) -> Option<()> {
+    let ends = ends_in(words)?;
+    build(answer, place, numbered_with(&ends, body))
+}
+
+/// Builds the frame of this kind.
+fn build_kind(
+    answer: &mut String,
+    place: &mut Option<RouteFrame>,
+    alloc: Global,
+    kind: &str,
+    words: &Words<'_>,
+) -> Option<()> {
+    match kind {
+        "info" => build(answer, place, Some(info_with(life_in(words.at(0))?))),
+        "connect" => build(answer, place, connect_with(&ends_in(words)?)),
+        _ => build_numbered(answer, place, words, body_of(alloc, kind, words)?),
+    }
+}
+
+/// The payload that a text spells.
+fn payload_in(alloc: Global, text: &str) -> Result<Bytes, Failure<RouteFault>> {
+    Ok(Bytes::from_vec(bytes_of(alloc, text)?)?)
+}
+
 /// The frame that a line and, behind its CR LF, its payload spell.
 fn read_frame(alloc: Global, text: &str) -> Result<RouteFrame, Failure<RouteFault>> {
     let (line, payload) = text.split_once("\\r\\n").unwrap_or((text, ""));
-    let payload = Bytes::from_vec(bytes_of(alloc, payload)?)?;
     let line = bytes_of(alloc, line)?;
-    decode(alloc, &line, payload)
+    decode(alloc, &line, payload_in(alloc, payload)?)
 }
 
 /// Tells the canonical spelling of a frame.
@@ -281,9 +322,9 @@ fn part_told(answer: &mut String, name: &str, frame: &RouteFrame) -> Option<()> 
     }
 }
 
-/// Tells what the frame says, taken out of it.
-fn into_body(answer: &mut String, frame: RouteFrame) -> Option<()> {
-    match frame {
+/// Tells what the frame says, which is taken, out of it.
+fn into_body(answer: &mut String, place: &mut Option<RouteFrame>) -> Option<()> {
+    match place.take()? {
         RouteFrame::Numbered(frame) => body_told(answer, &frame.into_body()),
         _ => None,
     }
@@ -318,8 +359,8 @@ pub fn frame_call(
         "ends" | "number" | "body" | "greeting" => {
             part_told(answer, call, routes.frame.as_ref()?)
         }
-        "into_body" => into_body(answer, routes.frame.take()?),
-        _ => build(answer, &mut routes.frame, frame_of(alloc, call, words)?),
+        "into_body" => into_body(answer, &mut routes.frame),
+        _ => build_kind(answer, &mut routes.frame, alloc, call, words),
     }
 }
 
@@ -356,9 +397,26 @@ fn gather_numbered(
 ) -> Option<()> {
     for number in 0..count {
         let word = format!(in alloc; "{number:05}{word}").ok()?;
-        keys.push(weighted_of(alloc, word.as_str())??).ok()?;
+        gather_one(keys, alloc, word.as_str())?;
     }
     Some(())
+}
+
+/// Adds the keys of a text to those that are gathered, and tells how many there are.
+fn add(answer: &mut String, keys: &mut Vec<WeightedKey>, alloc: Global, text: &str) -> Option<()> {
+    gather(keys, alloc, text)?;
+    keys_told(answer, keys)
+}
+
+/// Adds so many keys to those that are gathered, and tells how many there are.
+fn add_numbered(
+    answer: &mut String,
+    keys: &mut Vec<WeightedKey>,
+    alloc: Global,
+    words: &Words<'_>,
+) -> Option<()> {
+    gather_numbered(keys, alloc, words.number(0), words.at(1))?;
+    keys_told(answer, keys)
 }
 
 /// A snapshot of the gathered keys stands from now on, where there may be such a one.
@@ -390,16 +448,27 @@ fn snapshot_copy(
     Some(())
 }
 
-/// Tells the keys, taken out of a snapshot, each in brackets.
-fn into_keys(answer: &mut String, snapshot: SnapshotKeys) -> Option<()> {
-    let keys = snapshot.into_keys();
-    keys_told(answer, &keys)?;
-    for weighted in &keys {
+/// Tells keys, each in brackets.
+fn each_told(answer: &mut String, keys: &[WeightedKey]) -> Option<()> {
+    keys_told(answer, keys)?;
+    for weighted in keys {
         tell(answer, " [")?;
         weighted_told(answer, weighted.key(), weighted.weight())?;
         tell(answer, "]")?;
     }
     Some(())
+}
+
+/// Tells the keys, taken out of the snapshot, which is taken.
+fn into_keys(answer: &mut String, place: &mut Option<SnapshotKeys>) -> Option<()> {
+    let keys = place.take()?.into_keys();
+    each_told(answer, &keys)
+}
+
+/// Builds the frame of the snapshot, which is taken.
+fn build_snapshot(answer: &mut String, routes: &mut Routes, words: &Words<'_>) -> Option<()> {
+    let body = Body::Snapshot(routes.snapshot.take()?);
+    build_numbered(answer, &mut routes.frame, words, body)
 }
 
 /// Makes a call about a snapshot.
@@ -411,23 +480,14 @@ pub fn snapshot_call(
     words: &Words<'_>,
 ) -> Option<()> {
     match call {
-        "add" => {
-            gather(&mut routes.keys, alloc, words.text)?;
-            keys_told(answer, &routes.keys)
-        }
-        "add_numbered" => {
-            gather_numbered(&mut routes.keys, alloc, words.number(0), words.at(1))?;
-            keys_told(answer, &routes.keys)
-        }
+        "add" => add(answer, &mut routes.keys, alloc, words.text),
+        "add_numbered" => add_numbered(answer, &mut routes.keys, alloc, words),
         "take" => take(answer, routes, alloc),
         "copy" => snapshot_copy(answer, &mut routes.snapshot, alloc),
         "text" => snapshot_text(answer, alloc, routes.snapshot.as_ref()?),
         "text_len" => tell_number(answer, "", routes.snapshot.as_ref()?.text_len() as u64),
-        "into_keys" => into_keys(answer, routes.snapshot.take()?),
-        "frame" => {
-            let body = Body::Snapshot(routes.snapshot.take()?);
-            build(answer, &mut routes.frame, numbered_with(words, body)?)
-        }
+        "into_keys" => into_keys(answer, &mut routes.snapshot),
+        "frame" => build_snapshot(answer, routes, words),
         _ => None,
     }
 }
@@ -441,20 +501,39 @@ struct Encoding {
     encoded: Vec<u8>,
 }
 
+/// The frame of a line and its payload.
+fn joined(alloc: Global, line: RouteLine, payload: &[u8]) -> Option<RouteFrame> {
+    let payload = Bytes::copy_from_slice(alloc, payload).ok()?;
+    line.into_frame(alloc, payload).ok()
+}
+
+/// Announces a payload behind a line.
+fn expect(cutter: &mut Cutter, size: u64) -> Option<()> {
+    if !cutter.after_line() {
+        return None;
+    }
+    cutter.expect(size).ok()
+}
+
 impl Encoding {
+    /// Nothing was read.
+    fn new(alloc: Global) -> Encoding {
+        Encoding {
+            cutter: Cutter::new(alloc, ROUTE_LINE, MAX_SNAPSHOT as u64),
+            waiting: None,
+            encoded: Vec::new(alloc),
+        }
+    }
+
     /// Joins a line with its payload, and encodes that frame.
     fn encode_frame(&mut self, alloc: Global, line: RouteLine, payload: &[u8]) -> Option<()> {
-        let payload = Bytes::copy_from_slice(alloc, payload).ok()?;
-        let frame = line.into_frame(alloc, payload).ok()?;
+        let frame = joined(alloc, line, payload)?;
         encode(&frame, &mut self.encoded).ok()
     }
 
     /// The line waits for a payload of this size.
     fn wait(&mut self, line: RouteLine, size: u64) -> Option<()> {
-        if !self.cutter.after_line() {
-            return None;
-        }
-        self.cutter.expect(size).ok()?;
+        expect(&mut self.cutter, size)?;
         put(&mut self.waiting, Some(line));
         Some(())
     }
@@ -487,48 +566,51 @@ impl Encoding {
         }
     }
 
+    /// Takes the next piece. Gives whether one was whole.
+    fn take_next(&mut self, alloc: Global) -> Option<bool> {
+        match self.next_piece(alloc)? {
+            None => Some(false),
+            Some(bytes) => {
+                self.take_piece(alloc, &bytes)?;
+                Some(true)
+            }
+        }
+    }
+
     /// Takes the next part of the stream, and the pieces that are whole then.
     fn feed(&mut self, alloc: Global, bytes: &[u8]) -> Option<()> {
         self.cutter.feed(bytes).ok()?;
         for _piece in 0..u64::MAX {
-            let Some(bytes) = self.next_piece(alloc)? else {
+            if !self.take_next(alloc)? {
                 return Some(());
-            };
-            self.take_piece(alloc, &bytes)?;
+            }
         }
         None
     }
 
-    /// Takes a stream that comes in parts of so many bytes.
-    fn feed_all(&mut self, alloc: Global, stream: &[u8], part: usize) -> Option<()> {
+    /// The bytes of the frames of a stream that comes in parts of so many bytes, or in one for 0.
+    fn encode_all(&mut self, alloc: Global, stream: &[u8], part: usize) -> Option<&[u8]> {
+        let part = if part == 0 { stream.len() } else { part };
         for bytes in stream.chunks(part.max(1)) {
             self.feed(alloc, bytes)?;
         }
-        Some(())
+        Some(&self.encoded)
     }
-}
-
-/// The encodings of the frames of a stream that comes in parts of so many bytes, or in one for 0.
-fn encodings(alloc: Global, stream: &[u8], part: usize) -> Option<Vec<u8>> {
-    let mut encoding = Encoding {
-        cutter: Cutter::new(alloc, ROUTE_LINE, MAX_SNAPSHOT as u64),
-        waiting: None,
-        encoded: Vec::new(alloc),
-    };
-    let part = if part == 0 { stream.len() } else { part };
-    encoding.feed_all(alloc, stream, part)?;
-    Some(encoding.encoded)
 }
 
 /// Tells the encodings of the frames of a stream.
 fn encodings_told(answer: &mut String, alloc: Global, stream: &[u8], part: usize) -> Option<()> {
-    let encoded = encodings(alloc, stream, part)?;
-    push_shown(answer, &encoded).ok()
+    let mut encoding = Encoding::new(alloc);
+    match encoding.encode_all(alloc, stream, part) {
+        Some(encoded) => push_shown(answer, encoded).ok(),
+        None => None,
+    }
 }
 
 /// Whether the stream is one, and no frame of it is whole.
 fn has_no_frame(alloc: Global, stream: &[u8], part: usize) -> bool {
-    match encodings(alloc, stream, part) {
+    let mut encoding = Encoding::new(alloc);
+    match encoding.encode_all(alloc, stream, part) {
         Some(encoded) => encoded.is_empty(),
         None => false,
     }
@@ -623,23 +705,34 @@ fn key_and_copy(alloc: Global, word: &str) -> Option<bool> {
 
 fn frame_and_copy(alloc: Global, text: &str) -> Option<bool> {
     let frame = read_frame(alloc, text).ok()?;
-    are_same(&frame, &frame.try_clone(alloc).ok()?)
+    is_same_as_copy(&frame, alloc)
+}
+
+/// Whether a frame is the same as its copy.
+fn is_same_as_copy(frame: &RouteFrame, alloc: Global) -> Option<bool> {
+    let copy = frame.try_clone(alloc).ok()?;
+    are_same(frame, &copy)
+}
+
+/// Whether two values of this kind are the same, or a value and its copy.
+fn are_same_values(alloc: Global, kind: &str, text: &str) -> Option<bool> {
+    let (a, b) = text.split_once('|').unwrap_or((text, ""));
+    match kind {
+        "sid" => same_sids(alloc, a, b),
+        "key" => same_keys(alloc, a, b),
+        "message" => same_messages(alloc, a, b),
+        "pub" => same_pubs(alloc, a, b),
+        "frame" => same_frames(alloc, a, b),
+        "answer" => same_answers(a, b),
+        "sid_copy" => sid_and_copy(alloc, text),
+        "key_copy" => key_and_copy(alloc, text),
+        "frame_copy" => frame_and_copy(alloc, text),
+        _ => None,
+    }
 }
 
 /// Tells whether two values of this kind are the same, or a value and its copy.
 pub fn same_call(answer: &mut String, alloc: Global, kind: &str, text: &str) -> Option<()> {
-    let (a, b) = text.split_once('|').unwrap_or((text, ""));
-    let same = match kind {
-        "sid" => same_sids(alloc, a, b)?,
-        "key" => same_keys(alloc, a, b)?,
-        "message" => same_messages(alloc, a, b)?,
-        "pub" => same_pubs(alloc, a, b)?,
-        "frame" => same_frames(alloc, a, b)?,
-        "answer" => same_answers(a, b)?,
-        "sid_copy" => sid_and_copy(alloc, text)?,
-        "key_copy" => key_and_copy(alloc, text)?,
-        "frame_copy" => frame_and_copy(alloc, text)?,
-        _ => return None,
-    };
+    let same = are_same_values(alloc, kind, text)?;
     tell(answer, if same { "same" } else { "differ" })
 }
