@@ -268,15 +268,15 @@ impl<'a> PlusFields<'a> {
             });
         };
         let (weight, behind) = split_field(behind)?;
-        if split_field(behind).is_some() {
-            return None;
+        match split_field(behind) {
+            None => Some(PlusFields {
+                account,
+                pattern,
+                queue: Some(queue),
+                weight: Some(weight),
+            }),
+            Some(_) => None,
         }
-        Some(PlusFields {
-            account,
-            pattern,
-            queue: Some(queue),
-            weight: Some(weight),
-        })
     }
 }
 
@@ -303,14 +303,14 @@ impl<'a> MinusFields<'a> {
                 queue: None,
             });
         };
-        if split_field(behind).is_some() {
-            return None;
+        match split_field(behind) {
+            None => Some(MinusFields {
+                account,
+                pattern,
+                queue: Some(queue),
+            }),
+            Some(_) => None,
         }
-        Some(MinusFields {
-            account,
-            pattern,
-            queue: Some(queue),
-        })
     }
 }
 
@@ -319,10 +319,10 @@ pub(crate) fn size_alone(text: &[u8]) -> Option<&[u8]>
     ensures { option_copied result ≡ snapshot_field (fields text.now) }
 {
     let (size, behind) = split_field(text)?;
-    if split_field(behind).is_some() {
-        return None;
+    match split_field(behind) {
+        None => Some(size),
+        Some(_) => None,
     }
-    Some(size)
 }
 
 /// All fields of a text but the last, and the last.

@@ -544,6 +544,15 @@ fn check_size(size: Option<u64>, payload: &[u8]) -> Result<(), RouteFault>
     }
 }
 
+fn reply_copy(reply: &Option<Reply>) -> Result<Option<Reply>, AllocError>
+    ensures { IfOk result (λ copy. copy ≡ reply.now) }
+{
+    match reply {
+        None => Ok(None),
+        Some(reply) => Ok(Some(reply.try_clone()?)),
+    }
+}
+
 /// The message of a line and the payload behind it; copies share their bytes.
 fn message_of(
     alloc: Global,
@@ -557,10 +566,7 @@ fn message_of(
         return Err(Failure::Refused(RouteFault::BadArgs));
     }
     let subject = subject.try_clone()?;
-    let reply = match reply {
-        None => None,
-        Some(reply) => Some(reply.try_clone()?),
-    };
+    let reply = reply_copy(reply)?;
     match Message::new(alloc, subject, reply, payload.clone()?)? {
         Some(message) => Ok(message),
         // the payload is within the limit
