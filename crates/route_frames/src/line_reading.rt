@@ -152,14 +152,12 @@ pub(crate) struct Common<'a> {
 impl<'a> Common<'a> {
     ghost use Rattle.route_frames.specs.TextViews.{common_view};
 
-    /// The first five fields of a text, and what stands behind them, where there are so many.
-    pub(crate) fn read(text: &'a [u8]) -> Option<(Common<'a>, &'a [u8])>
-        ensures { MatchOption result (common_fields (fields text.now) ≡ None)
-            (λ read. common_fields (fields text.now) ≡ Some (common_view read.0, fields read.1.now)) }
+    /// The fields of which these two come first, and what stands behind them, where there are so many.
+    fn read_others(from: &'a [u8], inc: &'a [u8], text: &'a [u8]) -> Option<(Common<'a>, &'a [u8])>
+        ensures { MatchOption result (common_fields (from.now ∷ inc.now ∷ fields text.now) ≡ None)
+            (λ read. common_fields (from.now ∷ inc.now ∷ fields text.now) ≡ Some (common_view read.0, fields read.1.now)) }
     {
-        let (from, behind) = split_field(text)?;
-        let (inc, behind) = split_field(behind)?;
-        let (to, behind) = split_field(behind)?;
+        let (to, behind) = split_field(text)?;
         let (to_inc, behind) = split_field(behind)?;
         let (number, behind) = split_field(behind)?;
         let common = Common {
@@ -170,6 +168,16 @@ impl<'a> Common<'a> {
             number,
         };
         Some((common, behind))
+    }
+
+    /// The first five fields of a text, and what stands behind them, where there are so many.
+    pub(crate) fn read(text: &'a [u8]) -> Option<(Common<'a>, &'a [u8])>
+        ensures { MatchOption result (common_fields (fields text.now) ≡ None)
+            (λ read. common_fields (fields text.now) ≡ Some (common_view read.0, fields read.1.now)) }
+    {
+        let (from, behind) = split_field(text)?;
+        let (inc, behind) = split_field(behind)?;
+        Common::read_others(from, inc, behind)
     }
 
     /// The numbers that the fields spell.
