@@ -1,22 +1,119 @@
-//! Events of a server. Connections, shards, sessions and indices are named by their numbers, and peers by their places.
+//! Events of a server. Connections, shards, sessions and indices are named by their numbers, and peers by their places. A server in one of
+//! its incarnations is written `n2/7`.
 //!
 //! ```text
 //! attach SHARD   begin SHARD   claim SHARD|INDEX   end SHARD   drop_job SHARD   collect SHARD
 //! subscribe CONN|PATTERN|QUEUE|SID   unsubscribe CONN|SID|MAX   reply CONN   shut CONN   detach CONN   take CONN|COUNT
 //! publish CONN|SUBJECT|PAYLOAD|WORD   publish_no_echo CONN|SUBJECT|PAYLOAD|WORD
 //! dial PEER   accept   cut SESSION   take_frames PEER|COUNT
+//! info SESSION|FROM   connect SESSION|FROM|TO|SERIAL
+//! message FROM|TO|NUMBER|SUBJECT|PAYLOAD|QUEUES   plus FROM|TO|NUMBER|PATTERN|QUEUE|WEIGHT   minus FROM|TO|NUMBER|PATTERN|QUEUE
+//! no_interest FROM|TO|NUMBER
 //! ```
 //!
-//! A queue name or a maximum that is empty is none. The word decides which server serves a queue name.
+//! A queue name or a maximum that is empty is none. The word decides which server serves a queue name. The last three lines are frames of
+//! another server.
 
-use crate::frames::{frame_event, session_event};
-use crate::keys::count;
 use client_frames::{ErrText, ReplyFrame};
-use golden::{Words, key_of, message_of, sid_of};
+use golden::{Life, Words, key_of, message_of, number, queues_of, sid_of};
 use node_law::{ConnEvent, NodeEvent, OwnEvent, ShardWork};
 use route_session::SessionId;
+use route_values::{Body, Numbered, RouteConnect, RouteInfo, SnapshotKeys, WeightedKey};
 use std::alloc::Global;
 use subj::{ConnId, Pub};
+
+/// The number that a word is.
+pub fn count(word: &str) -> u64 {
+    if word == "last" {
+        u64::MAX
+    } else {
+        number(word)
+    }
+}
+
+/// The place of the server of this name.
+pub fn place_of(name: &str) -> Option<usize> {
+    match name {
+        "n1" => Some(0),
+        "n2" => Some(1),
+        "n3" => Some(2),
+        _ => None,
+    }
+}
+
+/// The server and its incarnation, with `/` between them.
+fn life_of(word: &str) -> Option<Life> {
+    let (name, inc) = word.split_once('/')?;
+    golden::life_of(name, count(inc))
+}
+
+/// A message for these queue names, with blanks between them.
+fn message(alloc: Global, words: &Words<'_>) -> Option<Body> {
+    let message = message_of(alloc, words.at(3), "", words.at(4))?;
+    let queues = queues_of(alloc, words.at(5))??;
+    Some(Body::Msg { message, queues })
+}
+
+/// A key is counted with this weight from now on.
+fn plus(alloc: Global, words: &Words<'_>) -> Option<Body> {
+    let key = key_of(alloc, words.at(3), words.at(4))?;
+    let key = WeightedKey::new(key, count(words.at(5)))?;
+    Some(Body::Plus(key))
+}
+
+/// A key is gone.
+fn minus(alloc: Global, words: &Words<'_>) -> Option<Body> {
+    let key = key_of(alloc, words.at(3), words.at(4))?;
+    Some(Body::Minus(key))
+}
+
+fn body_of(alloc: Global, name: &str, words: &Words<'_>) -> Option<Body> {
+    match name {
+        "message" => message(alloc, words),
+        "plus" => plus(alloc, words),
+        "minus" => minus(alloc, words),
+        "no_interest" => Some(Body::Snapshot(SnapshotKeys::new(alloc))),
+        _ => None,
+    }
+}
+
+/// A numbered frame of one server to another.
+fn frame(from: Life, to: Life, number: u64, body: Body) -> Option<NodeEvent> {
+    let frame = Numbered::new(from.name, from.inc, to.name, to.inc, number, body)?;
+    Some(NodeEvent::Receive(frame))
+}
+
+/// A numbered frame.
+fn frame_event(alloc: Global, name: &str, words: &Words<'_>) -> Option<NodeEvent> {
+    let from = life_of(words.at(0))?;
+    let to = life_of(words.at(1))?;
+    let body = body_of(alloc, name, words)?;
+    frame(from, to, count(words.at(2)), body)
+}
+
+fn info(session: SessionId, words: &Words<'_>) -> Option<NodeEvent> {
+    let from = life_of(words.at(1))?;
+    let info = RouteInfo::new(from.name, from.inc);
+    Some(NodeEvent::OnInfo { session, info })
+}
+
+fn connect(session: SessionId, words: &Words<'_>) -> Option<NodeEvent> {
+    let from = life_of(words.at(1))?;
+    let to = life_of(words.at(2))?;
+    let serial = count(words.at(3));
+    let connect = RouteConnect::new(from.name, from.inc, to.name, to.inc, serial)?;
+    Some(NodeEvent::OnConnect { session, connect })
+}
+
+/// An `INFO` or a `CONNECT` on a session.
+fn session_event(name: &str, words: &Words<'_>) -> Option<NodeEvent> {
+    let session = SessionId::new(count(words.at(0)));
+    match name {
+        "info" => info(session, words),
+        "connect" => connect(session, words),
+        _ => None,
+    }
+}
 
 /// What a shard is asked to do.
 fn shard_event(name: &str, words: &Words<'_>) -> Option<NodeEvent> {

@@ -14,8 +14,8 @@
 //!
 //! - The servers of a cluster are `n1`, `n2` and `n3`, at the places 0, 1 and 2. `n1.start SHARDS` starts `n1` in its incarnation 5, once
 //!   in a case.
-//! - Each other call of a server is an event, as `events` and `frames` list them, or looks at what came of the last one. As a number,
-//!   `last` is the largest one. An answer is a refusal's number, or what `answers` tells.
+//! - Each other call of a server is an event, as `events` lists them, or looks at what came of the last one. As a number, `last` is the
+//!   largest one. An answer is a refusal's number, or what `servers` tells.
 //! - `n1.put` tells how many entries and frames the last step put, and how many connections and subscriptions it closed; `n1.names` for
 //!   how many queue names its first two frames are; `n1.text CONN|COUNT` takes the bytes of the first entries that wait.
 //! - What could not be made for want of memory is made once more.
@@ -24,17 +24,11 @@
 //! - `each FIRST|LAST|CALL -> ANSWER; CALL -> ANSWER` makes calls for each number from the first to the last, which stands for `#` in
 //!   them and in their answers. The first answer that differs is told.
 //!
-//! In reading order: `servers` has the servers of a case, `stand` one of them over both races, and `machine` over one; `events`, `frames`
-//! and `keys` read what is asked, and `answers` tells what came of it.
+//! In reading order: `events` reads what is asked, and `servers` makes it: a server over one race, over both, and all servers of a case.
 #![tactic(auto)]
 
-mod answers;
 mod events;
-mod frames;
-mod keys;
-mod machine;
 mod servers;
-mod stand;
 
 use servers::Servers;
 use std::process::ExitCode;
