@@ -16,8 +16,6 @@
 //!   `on_info SESSION|NAME|INC|LEAST`: what is kept, and the `CONNECT`, and `info_fault` with the same words;
 //!   `on_connect SESSION|NAME|INC|TO|TO_INC|SERIAL|LEAST` and `connect_fault`; `kept PEER`, `cut SESSION`, `cut_fault SESSION`, `drop_kept PEER`,
 //!   `dial_fault PEER`, `accept_fault`
-//! - `fault.of_hub CAUSE`, `fault.of_session CAUSE`: the number that the router tells of the refusal; `id.number N`, `id.same N|M` and
-//!   `id.differs N|M`: the number of a session, and whether two are one
 
 use golden::{
     Words, key_of, life_of, message_of, push_key, put, queue_of, server_of, subject_of, tell,
@@ -30,8 +28,8 @@ use route_values::{Body, Numbered, RouteConnect, RouteInfo, SnapshotKeys, Weight
 use std::alloc::Global;
 use std::fmt::Write;
 use subj::{
-    Busy, ConnId, Delta, Failure, Finished, Incarnation, Key, MAX_SHARDS, NodeId, Pub, QueueName,
-    QueueNames, Subject, Turn,
+    ConnId, Delta, Failure, Finished, Incarnation, Job, Key, MAX_SHARDS, NodeId, Pub, QueueName,
+    QueueNames, Turn,
 };
 
 /// The key of a pattern, and of a queue name behind it.
@@ -47,14 +45,46 @@ fn interest_refused(answer: &mut String, fault: Failure<InterestFault>) -> Optio
     }
 }
 
+/// The opening or the closing of the key of the words.
+fn delta_of(alloc: Global, words: &Words<'_>, up: bool) -> Option<Delta> {
+    let key = key_at(alloc, words, 0)?;
+    Some(Delta { key, up })
+}
+
+/// Tells what the other servers are told.
+fn change_told(answer: &mut String, change: Option<&Change>) -> Option<()> {
+    match change {
+        None => tell(answer, "nothing"),
+        Some(Change::Up(weighted)) => tell_number(answer, "weight ", weighted.weight()),
+        Some(Change::Gone(_)) => tell(answer, "gone"),
+    }
+}
+
 /// Counts an opening or a closing.
-fn count(answer: &mut String, counts: &mut Local, key: Key, up: bool) -> Option<()> {
-    match counts.apply(&Delta { key, up }) {
-        Ok(None) => tell(answer, "nothing"),
-        Ok(Some(Change::Up(weighted))) => tell_number(answer, "weight ", weighted.weight()),
-        Ok(Some(Change::Gone(_))) => tell(answer, "gone"),
+fn count(
+    answer: &mut String,
+    counts: &mut Local,
+    alloc: Global,
+    words: &Words<'_>,
+    up: bool,
+) -> Option<()> {
+    let delta = delta_of(alloc, words, up)?;
+    match counts.apply(&delta) {
+        Ok(change) => change_told(answer, change.as_ref()),
         Err(fault) => interest_refused(answer, fault),
     }
+}
+
+/// Tells what a key weighs.
+fn weight(answer: &mut String, counts: &Local, alloc: Global, words: &Words<'_>) -> Option<()> {
+    let key = key_at(alloc, words, 0)?;
+    tell_number(answer, "weight ", counts.weight(&key))
+}
+
+/// Tells whether a subscription without a queue name is open that the subject matches.
+fn is_counted(answer: &mut String, counts: &Local, alloc: Global, word: &str) -> Option<()> {
+    let subject = subject_of(alloc, word)?;
+    tell_whether(answer, counts.has_plain(&subject))
 }
 
 /// Tells the keys in their order, each with its weight.
@@ -83,12 +113,12 @@ fn local_call(
     words: &Words<'_>,
 ) -> Option<()> {
     match call {
-        "open" => count(answer, counts, key_at(alloc, words, 0)?, true),
-        "close" => count(answer, counts, key_at(alloc, words, 0)?, false),
-        "weight" => tell_number(answer, "weight ", counts.weight(&key_at(alloc, words, 0)?)),
+        "open" => count(answer, counts, alloc, words, true),
+        "close" => count(answer, counts, alloc, words, false),
+        "weight" => weight(answer, counts, alloc, words),
         "keys" => keys(answer, counts),
         "key_count" => tell_number(answer, "keys ", counts.keys().count() as u64),
-        "has_plain" => tell_whether(answer, counts.has_plain(&subject_of(alloc, words.at(0))?)),
+        "has_plain" => is_counted(answer, counts, alloc, words.at(0)),
         _ => None,
     }
 }
@@ -127,14 +157,46 @@ fn apply_update(answer: &mut String, view: &mut View, number: u64, change: Chang
     heard_told(answer, heard, view.mark())
 }
 
-/// The plain keys of the first so many numbers, of five digits each, in their order.
+/// The key of the words behind a number, and its weight behind it.
+fn weighted_of(alloc: Global, words: &Words<'_>) -> Option<WeightedKey> {
+    WeightedKey::new(key_at(alloc, words, 1)?, words.number(3))
+}
+
+/// Applies that a key is there.
+fn apply_up(answer: &mut String, view: &mut View, alloc: Global, words: &Words<'_>) -> Option<()> {
+    let change = Change::Up(weighted_of(alloc, words)?);
+    apply_update(answer, view, words.number(0), change)
+}
+
+/// Applies that a key is gone.
+fn apply_gone(
+    answer: &mut String,
+    view: &mut View,
+    alloc: Global,
+    words: &Words<'_>,
+) -> Option<()> {
+    let change = Change::Gone(key_at(alloc, words, 1)?);
+    apply_update(answer, view, words.number(0), change)
+}
+
+/// The plain key of a number of five digits.
+fn numbered_key(alloc: Global, number: u64) -> Option<WeightedKey> {
+    let pattern = format!(in alloc; "{number:05}").ok()?;
+    WeightedKey::new(key_of(alloc, pattern.as_str(), "")?, 1)
+}
+
+/// Gathers the plain keys of the first so many numbers, in their order.
+fn gather_numbered(keys: &mut Vec<WeightedKey>, alloc: Global, count: u64) -> Option<()> {
+    for number in 0..count {
+        keys.push(numbered_key(alloc, number)?).ok()?;
+    }
+    Some(())
+}
+
+/// The plain keys of the first so many numbers, in their order.
 fn numbered_keys(alloc: Global, count: u64) -> Option<SnapshotKeys> {
     let mut keys = Vec::new(alloc);
-    for number in 0..count {
-        let pattern = format!(in alloc; "{number:05}").ok()?;
-        let key = key_of(alloc, pattern.as_str(), "")?;
-        keys.push(WeightedKey::new(key, 1)?).ok()?;
-    }
+    gather_numbered(&mut keys, alloc, count)?;
     SnapshotKeys::from_keys(keys)
 }
 
@@ -159,16 +221,28 @@ fn weight_in(answer: &mut String, view: &View, alloc: Global, words: &Words<'_>)
     tell_number(answer, "weight ", view.weight_in(&subject, &name))
 }
 
-/// Tells the queue names that want the subject, asked for twice: each is there once.
-fn names_twice(answer: &mut String, view: &View, subject: &Subject) -> Option<()> {
-    let mut names = FoundNames::new();
-    view.names_in(subject, &mut names).ok()?;
-    view.names_in(subject, &mut names).ok()?;
+/// Tells whether the peer has a subscription without a queue name that the subject matches.
+fn is_heard(answer: &mut String, view: &View, alloc: Global, word: &str) -> Option<()> {
+    let subject = subject_of(alloc, word)?;
+    tell_whether(answer, view.has_plain(&subject))
+}
+
+/// Tells the names that were found.
+fn found_told(answer: &mut String, names: &FoundNames<'_>) -> Option<()> {
     tell(answer, "names")?;
     for place in 0..names.len() {
         tell_bytes(answer, " ", names.get(place)?.bytes())?;
     }
     Some(())
+}
+
+/// Tells the queue names that want the subject, asked for twice: each is there once.
+fn names_twice(answer: &mut String, view: &View, alloc: Global, word: &str) -> Option<()> {
+    let subject = subject_of(alloc, word)?;
+    let mut names = FoundNames::new();
+    view.names_in(&subject, &mut names).ok()?;
+    view.names_in(&subject, &mut names).ok()?;
+    found_told(answer, &names)
 }
 
 /// Makes a call of what a peer has told of its interest.
@@ -179,17 +253,13 @@ pub fn view_call(
     call: &str,
     words: &Words<'_>,
 ) -> Option<()> {
-    let number = words.number(0);
     match call {
-        "apply_up" => {
-            let weighted = WeightedKey::new(key_at(alloc, words, 1)?, words.number(3))?;
-            apply_update(answer, view, number, Change::Up(weighted))
-        }
-        "apply_gone" => apply_update(answer, view, number, Change::Gone(key_at(alloc, words, 1)?)),
+        "apply_up" => apply_up(answer, view, alloc, words),
+        "apply_gone" => apply_gone(answer, view, alloc, words),
         "apply_snapshot" => apply_snapshot(answer, view, alloc, words),
-        "has_plain" => tell_whether(answer, view.has_plain(&subject_of(alloc, words.at(0))?)),
+        "has_plain" => is_heard(answer, view, alloc, words.at(0)),
         "weight_in" => weight_in(answer, view, alloc, words),
-        "names_twice" => names_twice(answer, view, &subject_of(alloc, words.at(0))?),
+        "names_twice" => names_twice(answer, view, alloc, words.at(0)),
         "key_count" => tell_number(answer, "keys ", view.keys().len() as u64),
         _ => None,
     }
@@ -229,20 +299,11 @@ fn hub_refused(answer: &mut String, fault: Failure<HubFault>) -> Option<()> {
     }
 }
 
-/// Notes that the shard has finished the turn.
-fn finish(finished: &mut Finished, shard: u64, turn: Option<Turn>) -> Option<()> {
-    if shard < 1 || MAX_SHARDS < shard {
-        return None;
-    }
-    finished.set(shard, turn?);
-    Some(())
-}
-
 impl HubStand {
     /// A job of this turn is issued.
     fn note(&mut self, turn: Turn) {
         if self.is_prompt {
-            let _noted = finish(&mut self.finished, 1, Some(turn));
+            self.finished.set(1, turn);
         }
     }
 }
@@ -300,7 +361,7 @@ fn receive_frame(
 }
 
 /// The publication of the words: behind the connection a subject and a payload.
-fn publication(alloc: Global, words: &Words<'_>) -> Option<Pub> {
+fn publication_of(alloc: Global, words: &Words<'_>) -> Option<Pub> {
     let message = message_of(alloc, words.at(1), "", words.at(2))?;
     Some(Pub {
         message,
@@ -308,24 +369,25 @@ fn publication(alloc: Global, words: &Words<'_>) -> Option<Pub> {
     })
 }
 
+/// Tells the job that was issued.
+fn job_told(answer: &mut String, stand: &mut HubStand, job: &Job) -> Option<()> {
+    stand.note(job.turn);
+    let (turn, names) = (job.turn.get(), job.queues.as_slice().len());
+    let number = job.id.number;
+    write!(answer, "turn {turn}, number {number}, names {names}").ok()
+}
+
 /// Publishes, with the word 0.
 fn publish(
     answer: &mut String,
     stand: &mut HubStand,
-    conn: ConnId,
-    publication: &Pub,
+    alloc: Global,
+    words: &Words<'_>,
 ) -> Option<()> {
-    match stand.hub.publish(conn, publication, 0, &stand.finished) {
-        Ok(job) => {
-            stand.note(job.turn);
-            let (turn, names) = (job.turn.get(), job.queues.as_slice().len());
-            write!(
-                answer,
-                "turn {turn}, number {}, names {names}",
-                job.id.number
-            )
-            .ok()
-        }
+    let publication = publication_of(alloc, words)?;
+    let conn = ConnId::new(words.number(0));
+    match stand.hub.publish(conn, &publication, 0, &stand.finished) {
+        Ok(job) => job_told(answer, stand, &job),
         Err(fault) => hub_refused(answer, fault),
     }
 }
@@ -363,16 +425,24 @@ fn plan_told(answer: &mut String, plan: &PublishPlan) -> Option<()> {
 }
 
 /// Tells what a publication would owe, where no shard has finished a turn.
-fn plan(answer: &mut String, hub: &Hub, conn: ConnId, publication: &Pub, word: u64) -> Option<()> {
-    match hub.plan_publish(conn, publication, word, &Finished::new()) {
+fn plan(answer: &mut String, hub: &Hub, alloc: Global, words: &Words<'_>) -> Option<()> {
+    let publication = publication_of(alloc, words)?;
+    let (conn, word) = (ConnId::new(words.number(0)), words.number(3));
+    match hub.plan_publish(conn, &publication, word, &Finished::new()) {
         Ok(plan) => plan_told(answer, &plan),
         Err(fault) => hub_refused(answer, fault),
     }
 }
 
 /// Counts an opening or a closing, and tells how many changes are told.
-fn collect(answer: &mut String, hub: &mut Hub, key: Key, up: bool) -> Option<()> {
-    match hub.collect(&[Delta { key, up }]) {
+fn collect(
+    answer: &mut String,
+    hub: &mut Hub,
+    alloc: Global,
+    words: &Words<'_>,
+    up: bool,
+) -> Option<()> {
+    match hub.collect(&[delta_of(alloc, words, up)?]) {
         Ok(told) => tell_number(answer, "told ", told.changes.len() as u64),
         Err(fault) => hub_refused(answer, fault),
     }
@@ -405,14 +475,9 @@ fn take(answer: &mut String, hub: &mut Hub, place: usize, most: u64) -> Option<(
     }
 }
 
-/// Makes a call of a hub about a peer, at this place.
-fn peer_call(
-    answer: &mut String,
-    hub: &mut Hub,
-    call: &str,
-    place: usize,
-    number: u64,
-) -> Option<()> {
+/// Makes a call of a hub about a peer.
+fn peer_call(answer: &mut String, hub: &mut Hub, call: &str, words: &Words<'_>) -> Option<()> {
+    let (place, number) = (place_in(hub, words.at(0))?, words.number(1));
     match call {
         "up" => up(answer, hub, place, Incarnation::new(number)?),
         "cut" => cut(answer, hub, place),
@@ -427,30 +492,20 @@ fn place_in(hub: &Hub, word: &str) -> Option<usize> {
     hub.server().place(NodeId::read(word.as_bytes()).ok()?)
 }
 
-/// Makes a call of a hub that has nothing to do with turns.
-fn lone_hub_call(
-    answer: &mut String,
-    hub: &mut Hub,
-    alloc: Global,
-    call: &str,
-    words: &Words<'_>,
-) -> Option<()> {
-    let conn = ConnId::new(words.number(0));
-    match call {
-        "open" => collect(answer, hub, key_at(alloc, words, 0)?, true),
-        "close" => collect(answer, hub, key_at(alloc, words, 0)?, false),
-        "plan" => plan(
-            answer,
-            hub,
-            conn,
-            &publication(alloc, words)?,
-            words.number(3),
-        ),
-        _ => {
-            let place = place_in(hub, words.at(0))?;
-            peer_call(answer, hub, call, place, words.number(1))
-        }
+/// The shard has finished the turn.
+fn finish(answer: &mut String, stand: &mut HubStand, words: &Words<'_>) -> Option<()> {
+    let (shard, turn) = (words.number(0), Turn::new(words.number(1))?);
+    if shard < 1 || MAX_SHARDS < shard {
+        return None;
     }
+    stand.finished.set(shard, turn);
+    tell(answer, "ok")
+}
+
+/// The first shard finishes each turn at once from now on.
+fn be_prompt(answer: &mut String, stand: &mut HubStand) -> Option<()> {
+    stand.is_prompt = true;
+    tell(answer, "ok")
 }
 
 /// Makes a call of a hub that stands.
@@ -461,24 +516,15 @@ fn stand_call(
     call: &str,
     words: &Words<'_>,
 ) -> Option<()> {
-    let (number, turn) = (words.number(0), Turn::new(words.number(1)));
     match call {
-        "publish" => publish(
-            answer,
-            stand,
-            ConnId::new(number),
-            &publication(alloc, words)?,
-        ),
+        "publish" => publish(answer, stand, alloc, words),
         "message" | "plus" | "snapshot" => receive_frame(answer, stand, alloc, call, words),
-        "finish" => {
-            finish(&mut stand.finished, number, turn)?;
-            tell(answer, "ok")
-        }
-        "be_prompt" => {
-            stand.is_prompt = true;
-            tell(answer, "ok")
-        }
-        _ => lone_hub_call(answer, &mut stand.hub, alloc, call, words),
+        "finish" => finish(answer, stand, words),
+        "be_prompt" => be_prompt(answer, stand),
+        "open" => collect(answer, &mut stand.hub, alloc, words, true),
+        "close" => collect(answer, &mut stand.hub, alloc, words, false),
+        "plan" => plan(answer, &stand.hub, alloc, words),
+        _ => peer_call(answer, &mut stand.hub, call, words),
     }
 }
 
@@ -643,22 +689,42 @@ fn kept(answer: &mut String, sessions: &Sessions, place: usize) -> Option<()> {
     }
 }
 
-/// Makes a call of the sessions of one server about the peer at the place.
+/// Lets go of the session that is kept for the peer at the place.
+fn drop_kept(answer: &mut String, sessions: &mut Sessions, place: usize) -> Option<()> {
+    sessions.drop_kept(place);
+    tell(answer, "ok")
+}
+
+/// Makes a call of the sessions of one server about a peer.
 fn peer_session_call(
     answer: &mut String,
     sessions: &mut Sessions,
     call: &str,
-    place: usize,
+    name: &str,
 ) -> Option<()> {
+    let name = NodeId::read(name.as_bytes()).ok()?;
+    let place = sessions.server().place(name)?;
     match call {
         "dial" => dial(answer, sessions, place),
         "dial_fault" => cause_told(answer, sessions.dial_fault(place)),
         "kept" => kept(answer, sessions, place),
-        _ => {
-            sessions.drop_kept(place);
-            tell(answer, "ok")
-        }
+        _ => drop_kept(answer, sessions, place),
     }
+}
+
+/// Tells why an `INFO` would be refused.
+fn info_fault(answer: &mut String, sessions: &Sessions, words: &Words<'_>) -> Option<()> {
+    let (session, info) = (SessionId::new(words.number(0)), info_of(words)?);
+    cause_told(answer, sessions.info_fault(session, &info, words.number(3)))
+}
+
+/// Tells why a `CONNECT` would be refused.
+fn connect_fault(answer: &mut String, sessions: &Sessions, words: &Words<'_>) -> Option<()> {
+    let (session, connect) = (SessionId::new(words.number(0)), connect_of(words)?);
+    cause_told(
+        answer,
+        sessions.connect_fault(session, &connect, words.number(6)),
+    )
 }
 
 /// Makes a call of the sessions of one server.
@@ -668,30 +734,17 @@ fn session_call(
     call: &str,
     words: &Words<'_>,
 ) -> Option<()> {
-    let (session, least) = (SessionId::new(words.number(0)), words.number(3));
+    let session = SessionId::new(words.number(0));
     match call {
         "dial" | "dial_fault" | "kept" | "drop_kept" => {
-            let name = NodeId::read(words.at(0).as_bytes()).ok()?;
-            let place = sessions.server().place(name)?;
-            peer_session_call(answer, sessions, call, place)
+            peer_session_call(answer, sessions, call, words.at(0))
         }
         "accept" => accept(answer, sessions),
         "on_info" => on_info(answer, sessions, words),
         "on_connect" => on_connect(answer, sessions, words),
         "cut" => cut_session(answer, sessions, session),
-        "info_fault" => {
-            cause_told(
-                answer,
-                sessions.info_fault(session, &info_of(words)?, least),
-            )
-        }
-        "connect_fault" => {
-            let connect = connect_of(words)?;
-            cause_told(
-                answer,
-                sessions.connect_fault(session, &connect, words.number(6)),
-            )
-        }
+        "info_fault" => info_fault(answer, sessions, words),
+        "connect_fault" => connect_fault(answer, sessions, words),
         "accept_fault" => cause_told(answer, sessions.accept_fault()),
         "cut_fault" => cause_told(answer, sessions.cut_fault(session)),
         _ => None,
@@ -710,61 +763,5 @@ pub fn pair_call(
         Some(pair) if name == "n1" => session_call(answer, &mut pair.n1, call, words),
         Some(pair) => session_call(answer, &mut pair.n2, call, words),
         None => None,
-    }
-}
-
-/// The hub's refusal of this name.
-fn hub_fault(name: &str) -> Option<HubFault> {
-    match name {
-        "busy" => Some(HubFault::Busy(Busy {
-            shard: 2,
-            finished: Turn::zero(),
-        })),
-        "too many queues" => Some(HubFault::TooManyQueues),
-        "spent" => Some(HubFault::Spent),
-        "not me" => Some(HubFault::NotMe),
-        "other me" => Some(HubFault::OtherMe),
-        "not in cluster" => Some(HubFault::NotInCluster),
-        "stale origin" => Some(HubFault::StaleOrigin),
-        "late" => Some(HubFault::Late),
-        "gap" => Some(HubFault::Gap),
-        "bad interest" => Some(HubFault::BadInterest),
-        _ => None,
-    }
-}
-
-/// The sessions' refusal of this name.
-fn session_fault(name: &str) -> Option<SessionFault> {
-    match name {
-        "wrong name" => Some(SessionFault::WrongName),
-        "old incarnation" => Some(SessionFault::OldIncarnation),
-        "duplicate" => Some(SessionFault::Duplicate {
-            kept: SessionId::new(1),
-        }),
-        "unknown session" => Some(SessionFault::UnknownSession),
-        "too many sessions" => Some(SessionFault::TooManySessions),
-        "spent" => Some(SessionFault::Spent),
-        _ => None,
-    }
-}
-
-/// Tells the number of a refusal of this name.
-pub fn fault_call(answer: &mut String, call: &str, name: &str) -> Option<()> {
-    let number = match call {
-        "of_hub" => hub_fault(name)?.number(),
-        _ => session_fault(name)?.number(),
-    };
-    tell_number(answer, "number ", u64::from(number))
-}
-
-/// Makes a call of the numbers of sessions.
-pub fn id_call(answer: &mut String, call: &str, words: &Words<'_>) -> Option<()> {
-    let one = SessionId::new(words.number(0));
-    let other = SessionId::new(words.number(1));
-    match call {
-        "number" => tell_number(answer, "number ", one.get()),
-        "same" => tell_whether(answer, one == other),
-        "differs" => tell_whether(answer, one != other),
-        _ => None,
     }
 }

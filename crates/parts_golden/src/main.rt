@@ -8,7 +8,10 @@
 //! ```
 //!
 //! In reading order: `guarded` has what calls may ask for only where something holds; `shards` makes the calls of outboxes, tries, races and
-//! shards; `tables` those of tables of subscriptions; and `hubs` those of interest, hubs and sessions.
+//! shards; `tables` those of tables of subscriptions; and `hubs` those of interest, hubs and sessions. Here are those of numbers:
+//!
+//! - `fault.of_hub CAUSE`, `fault.of_session CAUSE`: the number that the router tells of the refusal
+//! - `id.number N`, `id.same N|M` and `id.differs N|M`: the number of a session, and whether two are one
 #![tactic(auto)]
 
 mod guarded;
@@ -16,20 +19,77 @@ mod hubs;
 mod shards;
 mod tables;
 
-use golden::{Words, put, told};
+use golden::{Words, put, tell_number, tell_whether, told};
 use guarded::{Course, Opened, Outboxes};
-use hubs::{
-    HubStand, Pair, counts_call, fault_call, hub_call, id_call, new_sessions, pair_call, view_call,
-};
+use hub_core::HubFault;
+use hubs::{HubStand, Pair, counts_call, hub_call, new_sessions, pair_call, view_call};
 use interest::{Local, View};
 use outbox::Entry;
 use pattern_trie::PatternTrie;
+use route_session::{SessionFault, SessionId};
 use shards::{Stand, choose, entry_call, outbox_call, patterns_call, race_call, shard_call};
 use std::alloc::{AllocError, Global};
 use std::process::ExitCode;
 use sub_table::ListTable;
 use sub_trie::TrieTable;
+use subj::{Busy, Turn};
 use tables::{compare, table_call, trie_call};
+
+/// The hub's refusal of this name.
+fn hub_fault(name: &str) -> Option<HubFault> {
+    match name {
+        "busy" => Some(HubFault::Busy(Busy {
+            shard: 2,
+            finished: Turn::zero(),
+        })),
+        "too many queues" => Some(HubFault::TooManyQueues),
+        "spent" => Some(HubFault::Spent),
+        "not me" => Some(HubFault::NotMe),
+        "other me" => Some(HubFault::OtherMe),
+        "not in cluster" => Some(HubFault::NotInCluster),
+        "stale origin" => Some(HubFault::StaleOrigin),
+        "late" => Some(HubFault::Late),
+        "gap" => Some(HubFault::Gap),
+        "bad interest" => Some(HubFault::BadInterest),
+        _ => None,
+    }
+}
+
+/// The sessions' refusal of this name.
+fn session_fault(name: &str) -> Option<SessionFault> {
+    match name {
+        "wrong name" => Some(SessionFault::WrongName),
+        "old incarnation" => Some(SessionFault::OldIncarnation),
+        "duplicate" => Some(SessionFault::Duplicate {
+            kept: SessionId::new(1),
+        }),
+        "unknown session" => Some(SessionFault::UnknownSession),
+        "too many sessions" => Some(SessionFault::TooManySessions),
+        "spent" => Some(SessionFault::Spent),
+        _ => None,
+    }
+}
+
+/// Tells the number of a refusal of this name.
+fn fault_call(answer: &mut String, call: &str, name: &str) -> Option<()> {
+    let number = match call {
+        "of_hub" => hub_fault(name)?.number(),
+        _ => session_fault(name)?.number(),
+    };
+    tell_number(answer, "number ", u64::from(number))
+}
+
+/// Makes a call of the numbers of sessions.
+fn id_call(answer: &mut String, call: &str, words: &Words<'_>) -> Option<()> {
+    let one = SessionId::new(words.number(0));
+    let other = SessionId::new(words.number(1));
+    match call {
+        "number" => tell_number(answer, "number ", one.get()),
+        "same" => tell_whether(answer, one == other),
+        "differs" => tell_whether(answer, one != other),
+        _ => None,
+    }
+}
 
 /// What a case has made of outboxes, tries, tables and shards.
 #[derive(Drop)]
