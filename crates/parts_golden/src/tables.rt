@@ -55,12 +55,27 @@ fn remove<T: SubTable>(answer: &mut String, opened: &mut Opened<T>, serial: u64)
     sub_told(answer, closed.as_ref())
 }
 
+/// Tells the serials of these.
+fn subs_told(answer: &mut String, subs: &[&Subscription]) -> Option<()> {
+    tell(answer, "serials")?;
+    for sub in subs {
+        tell_number(answer, " ", sub.serial)?;
+    }
+    Some(())
+}
+
 /// Tells the serials of those that match.
 fn matching<T: SubTable>(answer: &mut String, table: &T, alloc: Global, word: &str) -> Option<()> {
     let subject = subject_of(alloc, word)?;
+    let subs = table.matching(&subject).ok()?;
+    subs_told(answer, &subs)
+}
+
+/// Tells serials.
+fn serials_told(answer: &mut String, serials: &[u64]) -> Option<()> {
     tell(answer, "serials")?;
-    for sub in &table.matching(&subject).ok()? {
-        tell_number(answer, " ", sub.serial)?;
+    for serial in serials {
+        tell_number(answer, " ", *serial)?;
     }
     Some(())
 }
@@ -69,11 +84,7 @@ fn matching<T: SubTable>(answer: &mut String, table: &T, alloc: Global, word: &s
 fn serials_of<T: SubTable>(answer: &mut String, table: &T, alloc: Global, conn: u64) -> Option<()> {
     let mut serials = Vec::from_slice(alloc, &[77]).ok()?;
     table.serials_of(ConnId::new(conn), &mut serials).ok()?;
-    tell(answer, "serials")?;
-    for serial in &serials {
-        tell_number(answer, " ", *serial)?;
-    }
-    Some(())
+    serials_told(answer, &serials)
 }
 
 /// Tells the serial of what a connection calls by an id.
@@ -241,9 +252,8 @@ fn token(word: u64, is_last: bool, is_wild: bool) -> u8 {
     }
 }
 
-/// One to three tokens, the wildcards among them where they are wanted.
-fn tokens(alloc: Global, word: u64, is_wild: bool) -> Option<Vec<u8>> {
-    let mut drawn = Vec::new(alloc);
+/// Puts one to three tokens, the wildcards among them where they are wanted.
+fn push_tokens(drawn: &mut Vec<u8>, word: u64, is_wild: bool) -> Option<()> {
     let (count, mut word) = (word % 3, word / 3);
     for at in 0..=count {
         if at > 0 {
@@ -252,6 +262,13 @@ fn tokens(alloc: Global, word: u64, is_wild: bool) -> Option<Vec<u8>> {
         drawn.push(token(word, at == count, is_wild)).ok()?;
         word /= 5;
     }
+    Some(())
+}
+
+/// One to three tokens, the wildcards among them where they are wanted.
+fn tokens(alloc: Global, word: u64, is_wild: bool) -> Option<Vec<u8>> {
+    let mut drawn = Vec::new(alloc);
+    push_tokens(&mut drawn, word, is_wild)?;
     Some(drawn)
 }
 
@@ -288,6 +305,21 @@ fn drawn_subscription(alloc: Global, drawn: Drawn, serial: u64) -> Option<Subscr
     })
 }
 
+/// Opens the subscription of a drawn call. Gives its serial.
+fn open_next<T: SubTable>(opened: &mut Opened<T>, alloc: Global, drawn: Drawn) -> Option<u64> {
+    let serial = opened.last().saturating_add(1);
+    let is_next = opened.open(drawn_subscription(alloc, drawn, serial)?).ok()?;
+    is_next.then_some(serial)
+}
+
+/// Closes the one of this serial. Gives its serial, 0 where there is none.
+fn close_one<T: SubTable>(opened: &mut Opened<T>, serial: u64) -> u64 {
+    match opened.remove(serial) {
+        None => 0,
+        Some(sub) => sub.serial,
+    }
+}
+
 /// Makes a drawn call. Gives the serial that it opened or closed, 0 where there is none.
 fn make<T: SubTable>(opened: &mut Opened<T>, alloc: Global, drawn: Drawn) -> Option<u64> {
     match drawn.kind {
@@ -295,15 +327,8 @@ fn make<T: SubTable>(opened: &mut Opened<T>, alloc: Global, drawn: Drawn) -> Opt
             opened.close(drawn.conn);
             Some(0)
         }
-        1 | 2 => match opened.remove(drawn.serial) {
-            None => Some(0),
-            Some(sub) => Some(sub.serial),
-        },
-        _ => {
-            let serial = opened.last().saturating_add(1);
-            let is_next = opened.open(drawn_subscription(alloc, drawn, serial)?).ok()?;
-            is_next.then_some(serial)
-        }
+        1 | 2 => Some(close_one(opened, drawn.serial)),
+        _ => open_next(opened, alloc, drawn),
     }
 }
 
@@ -328,15 +353,29 @@ fn push_matching<T: SubTable>(answers: &mut Vec<u64>, table: &T, subject: &Subje
 /// Puts what is told of a connection and an id of it.
 fn push_of_conn<T: SubTable>(
     answers: &mut Vec<u64>,
+    alloc: Global,
     table: &T,
-    conn: u64,
-    sid: &Sid,
+    asked: Drawn,
 ) -> Option<()> {
-    table.serials_of(ConnId::new(conn), answers).ok()?;
+    let conn = ConnId::new(asked.conn);
+    table.serials_of(conn, answers).ok()?;
     answers.push(PART).ok()?;
-    answers
-        .push(table.find(ConnId::new(conn), sid).unwrap_or(PART))
-        .ok()
+    let sid = drawn_sid(alloc, asked.word)?;
+    answers.push(table.find(conn, &sid).unwrap_or(PART)).ok()
+}
+
+/// Puts what a table answers to a drawn question.
+fn push_answers<T: SubTable>(
+    answers: &mut Vec<u64>,
+    alloc: Global,
+    table: &T,
+    subject: &Subject,
+    asked: Drawn,
+) -> Option<()> {
+    push_matching(answers, table, subject)?;
+    push_of_conn(answers, alloc, table, asked)?;
+    answers.push(table.fits(30, asked.limit) as u64).ok()?;
+    push_got(answers, table, asked.serial)
 }
 
 /// What a table answers to a drawn question.
@@ -346,12 +385,8 @@ fn answers_of<T: SubTable>(
     subject: &Subject,
     asked: Drawn,
 ) -> Option<Vec<u64>> {
-    let sid = drawn_sid(alloc, asked.word)?;
     let mut answers = Vec::new(alloc);
-    push_matching(&mut answers, table, subject)?;
-    push_of_conn(&mut answers, table, asked.conn, &sid)?;
-    answers.push(table.fits(30, asked.limit) as u64).ok()?;
-    push_got(&mut answers, table, asked.serial)?;
+    push_answers(&mut answers, alloc, table, subject, asked)?;
     Some(answers)
 }
 
@@ -369,15 +404,25 @@ fn new_pair(alloc: Global) -> Option<Pair> {
     Some(Pair { list, trie })
 }
 
+/// The subject of a drawn word.
+fn drawn_subject(alloc: Global, word: u64) -> Option<Subject> {
+    Subject::read(alloc, &tokens(alloc, word, false)?).ok()
+}
+
+/// Whether both tables answer a question about the subject alike.
+fn answer_alike(alloc: Global, pair: &Pair, subject: &Subject, asked: Drawn) -> Option<bool> {
+    let of_list = answers_of(alloc, pair.list.table(), subject, asked)?;
+    let of_trie = answers_of(alloc, pair.trie.table(), subject, asked)?;
+    Some(of_list.as_slice() == of_trie.as_slice())
+}
+
 /// Asks both tables the same, and tells the trie before so often that the subject will be looked up. Gives whether they answer alike.
 fn ask_both(alloc: Global, pair: &mut Pair, asked: Drawn, times: u64) -> Option<bool> {
-    let subject = Subject::read(alloc, &tokens(alloc, asked.word, false)?).ok()?;
+    let subject = drawn_subject(alloc, asked.word)?;
     for _time in 0..times {
         pair.trie.remember(&subject);
     }
-    let of_list = answers_of(alloc, pair.list.table(), &subject, asked)?;
-    let of_trie = answers_of(alloc, pair.trie.table(), &subject, asked)?;
-    Some(of_list.as_slice() == of_trie.as_slice())
+    answer_alike(alloc, pair, &subject, asked)
 }
 
 /// Makes a drawn call on both tables. Gives whether they answer alike.
@@ -401,17 +446,34 @@ fn keeping(keeps: bool, drawn: Drawn) -> u64 {
     if keeps && drawn.limit % 2 == 0 { 8 } else { 0 }
 }
 
+/// Makes a drawn call on both tables, or notes drawn counts. Gives whether they answer alike.
+fn change_both(alloc: Global, pair: &mut Pair, drawn: Drawn, is_call: bool) -> Option<bool> {
+    if is_call {
+        return call_both(alloc, pair, drawn);
+    }
+    note_both(pair, drawn);
+    Some(true)
+}
+
+/// Changes both tables, and asks them. Gives whether they answer alike.
+fn play_round(
+    alloc: Global,
+    random: &mut Pcg32,
+    pair: &mut Pair,
+    is_call: bool,
+    keeps: bool,
+) -> Option<bool> {
+    if !change_both(alloc, pair, draw(random), is_call)? {
+        return Some(false);
+    }
+    let asked = draw(random);
+    ask_both(alloc, pair, asked, keeping(keeps, asked))
+}
+
 /// One list of calls, then a round of notes: whether both tables answer alike.
 fn play_list(alloc: Global, random: &mut Pcg32, pair: &mut Pair, keeps: bool) -> Option<bool> {
     for call in 0..CALLS + NOTES {
-        let drawn = draw(random);
-        if call >= CALLS {
-            note_both(pair, drawn);
-        } else if !call_both(alloc, pair, drawn)? {
-            return Some(false);
-        }
-        let asked = draw(random);
-        if !ask_both(alloc, pair, asked, keeping(keeps, asked))? {
+        if !play_round(alloc, random, pair, call < CALLS, keeps)? {
             return Some(false);
         }
     }
