@@ -191,10 +191,21 @@ struct Rig {
     hub_parts: HubParts,
 }
 
+impl Rig {
+    /// Where no call was made.
+    fn new(alloc: Global) -> Rig {
+        Rig {
+            alloc,
+            shard_parts: ShardParts::new(alloc),
+            hub_parts: HubParts::new(alloc),
+        }
+    }
+}
+
 impl golden::Rig for Rig {
     fn renew(&mut self) -> Result<(), AllocError> {
-        put(&mut self.shard_parts, ShardParts::new(self.alloc));
-        put(&mut self.hub_parts, HubParts::new(self.alloc));
+        let alloc = self.alloc;
+        put(self, Rig::new(alloc));
         Ok(())
     }
 
