@@ -112,6 +112,14 @@ impl Outboxes {
         }
     }
 
+    /// Puts an entry, or stages it. Gives whether there was room.
+    pub fn put(&mut self, entry: Entry) -> Result<bool, AllocError> {
+        match self {
+            Outboxes::Settled(settled) => settled.put(entry),
+            Outboxes::Staged(staged) => staged.stage(entry),
+        }
+    }
+
     /// From now on what is put is staged.
     pub fn open(self) -> Outboxes {
         match self {

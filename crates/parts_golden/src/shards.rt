@@ -42,13 +42,18 @@ fn reply_of(alloc: Global, word: &str) -> Option<Entry> {
     Some(Entry::reply(line))
 }
 
+/// The mode of what is for a member of the queue group of this name, or of none.
+fn mode_of(alloc: Global, name: &str) -> Option<Mode> {
+    match name {
+        "" => Some(Mode::Plain),
+        name => Some(Mode::Queue(queue_of(alloc, name)?)),
+    }
+}
+
 /// The ninth publication of n1 in its fourth incarnation, for a member of the queue group of this name, or of none.
 fn message_in(alloc: Global, words: &Words<'_>) -> Option<Entry> {
     let id = publication_of(4, 9)?;
-    let mode = match words.at(2) {
-        "" => Mode::Plain,
-        name => Mode::Queue(queue_of(alloc, name)?),
-    };
+    let mode = mode_of(alloc, words.at(2))?;
     let line = bytes_of(alloc, words.at(0)).ok()?;
     let payload = payload_of(alloc, words.at(1))?;
     if line.len() > OUTBOX_BYTES || payload.len() > MAX_PAYLOAD {
@@ -173,21 +178,15 @@ fn room_told(answer: &mut String, has_room: bool) -> Option<()> {
 }
 
 /// Puts the entry, or stages it.
-fn put_entry(answer: &mut String, outboxes: &mut Outboxes, entry: Entry) -> Option<()> {
-    let has_room = match outboxes {
-        Outboxes::Settled(settled) => settled.put(entry),
-        Outboxes::Staged(staged) => staged.stage(entry),
-    };
-    room_told(answer, has_room.ok()?)
+fn put_entry(answer: &mut String, outboxes: &mut Outboxes, entry: Option<Entry>) -> Option<()> {
+    room_told(answer, outboxes.put(entry?).ok()?)
 }
 
 /// Puts a message by its parts.
 fn put_parts(answer: &mut String, settled: &mut Settled, alloc: Global, word: &str) -> Option<()> {
+    let id = publication_of(4, 9)?;
     let payload = payload_of(alloc, word)?;
-    let has_room = settled
-        .put_parts(publication_of(4, 9)?, SUB, &payload)
-        .ok()?;
-    room_told(answer, has_room)
+    room_told(answer, settled.put_parts(id, SUB, &payload).ok()?)
 }
 
 /// Takes the bytes of so many entries behind those that stand there.
@@ -266,8 +265,8 @@ fn outboxes_call(
     words: &Words<'_>,
 ) -> Option<()> {
     match call {
-        "put" => put_entry(answer, outboxes, reply_of(alloc, words.at(0))?),
-        "put_message" => put_entry(answer, outboxes, message_in(alloc, words)?),
+        "put" => put_entry(answer, outboxes, reply_of(alloc, words.at(0))),
+        "put_message" => put_entry(answer, outboxes, message_in(alloc, words)),
         "room" => tell_whether(answer, outboxes.outbox().room(words.number(0) as usize)),
         "room_for" => tell_whether(answer, outboxes.outbox().room_for(words.at(0).as_bytes())),
         "seen" => seen(answer, outboxes.outbox()),
@@ -376,13 +375,19 @@ fn weighted_server(word: &str) -> Option<(NodeId, u64)> {
     Some((NodeId::read(name.as_bytes()).ok()?, number(weight)))
 }
 
-/// Tells the server that a word picks among those of a text, with blanks between them.
-pub fn choose(answer: &mut String, alloc: Global, text: &str, word: u64) -> Option<()> {
-    let mut weights = Weights::new(alloc);
+/// Gathers the servers of a text, with blanks between them.
+fn gather_weights(weights: &mut Weights, text: &str) -> Option<()> {
     for server in text.split_whitespace() {
         let (server, weight) = weighted_server(server)?;
         weights.push(server, weight)?;
     }
+    Some(())
+}
+
+/// Tells the server that a word picks among those of a text, with blanks between them.
+pub fn choose(answer: &mut String, alloc: Global, text: &str, word: u64) -> Option<()> {
+    let mut weights = Weights::new(alloc);
+    gather_weights(&mut weights, text)?;
     match weights.chosen(word) {
         None => tell(answer, "none"),
         Some(server) => tell(answer, server.text()),
@@ -547,13 +552,17 @@ fn unsubscribe(
     }
 }
 
-/// Puts an answer: `pong`, or `ok`.
-fn reply(answer: &mut String, shard: &mut ListShard, words: &Words<'_>) -> Option<()> {
-    let frame = match words.at(1) {
+/// The answer of this name: `pong`, or `ok`.
+fn frame_of(word: &str) -> ReplyFrame {
+    match word {
         "pong" => ReplyFrame::Pong,
         _ => ReplyFrame::Ok,
-    };
-    match shard.reply(ConnId::new(words.number(0)), &frame) {
+    }
+}
+
+/// Puts an answer.
+fn reply(answer: &mut String, shard: &mut ListShard, words: &Words<'_>) -> Option<()> {
+    match shard.reply(ConnId::new(words.number(0)), &frame_of(words.at(1))) {
         Ok(closed) => tell(answer, if closed.shut { "shut" } else { "put" }),
         Err(fault) => refused(answer, fault),
     }
@@ -586,13 +595,18 @@ fn take(
     }
 }
 
+/// The turn of this number, or the next one where the word is empty.
+fn turn_of(word: &str, next: u64) -> Option<Turn> {
+    match word {
+        "" => Turn::new(next),
+        turn => Turn::new(number(turn)),
+    }
+}
+
 /// A job of `hello` on foo: of a publisher or none, for a queue name or none, in a turn or the next one. There is no echo where there is a
 /// publisher.
 fn job_of(alloc: Global, words: &Words<'_>, next: u64) -> Option<Job> {
-    let turn = match words.at(2) {
-        "" => Turn::new(next)?,
-        turn => Turn::new(number(turn))?,
-    };
+    let turn = turn_of(words.at(2), next)?;
     let id = publication_of(1, turn.get())?;
     let queues = queues_of(alloc, words.at(1))??;
     let message = message_of(alloc, "foo", "", "hello")?;
