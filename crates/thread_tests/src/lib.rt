@@ -8,18 +8,10 @@
 #[cfg(test)]
 mod claim_tests;
 #[cfg(test)]
-mod clients;
-#[cfg(test)]
 mod lane_tests;
-#[cfg(test)]
-mod leaving_tests;
 #[cfg(test)]
 mod loop_tests;
 #[cfg(test)]
-mod report_tests;
+mod node_tests;
 #[cfg(test)]
 mod serve_tests;
-#[cfg(test)]
-mod servers;
-#[cfg(test)]
-mod worker_tests;

@@ -1,21 +1,185 @@
-//! Meshes of servers over sockets of this machine.
+//! Meshes of servers over sockets of this machine, and clients that wait for what they read.
 
 ghost use Rattle.router_command.specs.Ranges.{AreWithin};
 
-use crate::clients::Client;
 use mesh_serve::{ServeFault, ready_line, serve};
 use rand_core::SeedableRng;
 use rand_core::utils::NextWord;
 use rand_pcg::Pcg64;
 use router_command::{Given, Options};
 use std::alloc::Global;
+use std::io::{Read, Write};
 use std::net::{Ipv4Addr, Net, SocketAddr, TcpListener, TcpStream};
 use std::process::Abort;
 use std::rt::Clock;
 use std::test::Fail;
-use std::thread;
 use std::thread::join;
 use std::time::Duration;
+use std::{io, thread};
+
+/// How often a client tries to connect.
+const TRIES: usize = 500;
+
+/// How long a client waits between two tries, and how long for bytes, in milliseconds.
+const PAUSE: u64 = 10;
+
+const PATIENCE: u64 = 20_000;
+
+/// A client of a server of this machine.
+#[derive(Drop)]
+struct Client {
+    stream: TcpStream,
+    unread: Vec<u8>,
+}
+
+/// Where these bytes first stand.
+fn place_of(bytes: &[u8], wanted: &[u8]) -> Option<usize> {
+    for place in 0..bytes.len() {
+        if bytes.get(place..)?.starts_with(wanted) {
+            return Some(place);
+        }
+    }
+    None
+}
+
+/// Connects to this port, as soon as something listens there.
+fn stream_to<R: Net<Stream = TcpStream> + Clock>(rt: &R, port: u16) -> Option<TcpStream> {
+    let address = SocketAddr::from((Ipv4Addr::LOCALHOST, port));
+    for _try in 0..TRIES {
+        if let Ok(stream) = TcpStream::connect(rt, address) {
+            return Some(stream);
+        }
+        thread::sleep(rt, Duration::from_millis(PAUSE));
+    }
+    None
+}
+
+impl Client {
+    /// Connects to this port, as soon as something listens there.
+    fn connect<R: Net<Stream = TcpStream> + Clock + Abort>(
+        rt: &R,
+        alloc: Global,
+        port: u16,
+    ) -> Client {
+        let stream = stream_to(rt, port).expect(rt, "a connection");
+        let patience = Some(Duration::from_millis(PATIENCE));
+        assert!(rt; stream.set_read_timeout(patience).is_ok());
+        Client {
+            stream,
+            unread: Vec::new(alloc),
+        }
+    }
+
+    /// A client that wants no `+OK`, and that the server has answered.
+    fn with_greeting<R: Net<Stream = TcpStream> + Clock + Abort>(
+        rt: &R,
+        alloc: Global,
+        port: u16,
+    ) -> Client {
+        let mut client = Client::connect(rt, alloc, port);
+        client.send(rt, b"CONNECT {\"verbose\":false}\r\n");
+        let _first = client.bytes_until_pong(rt, alloc);
+        client
+    }
+
+    /// Sends these bytes.
+    fn send<R: Abort>(&mut self, rt: &R, bytes: &[u8]) {
+        assert!(rt; self.offer(bytes));
+    }
+
+    /// Sends these bytes, as many as the server takes. Whether it took all.
+    fn offer(&mut self, bytes: &[u8]) -> bool {
+        (&self.stream).write_all(bytes).is_ok()
+    }
+
+    /// Reads once.
+    fn read_on<R: Abort>(&mut self, rt: &R) {
+        let mut buffer = [0; 4_096];
+        let count = (&self.stream).read(&mut buffer).ok().expect(rt, "bytes");
+        assert!(rt; count > 0);
+        let read = buffer.get(..count).unwrap_or(&[]);
+        assert!(rt; self.unread.extend_from_slice(read).is_ok());
+    }
+
+    /// Reads until so many bytes came, and forgets them.
+    fn skip<R: Abort>(&mut self, rt: &R, count: usize) {
+        let mut left = count.saturating_sub(self.unread.len());
+        self.unread.clear();
+        let mut buffer = [0; 4_096];
+        for _read in 0..u64::MAX {
+            if left == 0 {
+                return;
+            }
+            let most = left.min(buffer.len());
+            let read = (&self.stream)
+                .read(&mut buffer[..most])
+                .ok()
+                .expect(rt, "bytes");
+            assert!(rt; read > 0);
+            left = left.saturating_sub(read);
+        }
+    }
+
+    /// Takes what was read up to this place, and leaves what stands `behind` there.
+    fn cut<R: Abort>(&mut self, rt: &R, alloc: Global, place: usize, behind: usize) -> Vec<u8> {
+        let rest = self.unread.get(behind..).unwrap_or(&[]);
+        let rest = Vec::from_slice(alloc, rest).ok().expect(rt, "memory");
+        let mut before = std::mem::replace(&mut self.unread, rest);
+        before.truncate(place);
+        before
+    }
+
+    /// Reads up to these bytes, and gives all that was read before them.
+    fn until<R: Abort>(&mut self, rt: &R, alloc: Global, wanted: &[u8]) -> Vec<u8> {
+        for _read in 0..u64::MAX {
+            if let Some(place) = place_of(&self.unread, wanted) {
+                return self.cut(rt, alloc, place, place.saturating_add(wanted.len()));
+            }
+            self.read_on(rt);
+        }
+        Vec::new(alloc)
+    }
+
+    /// All that came before the answer to a PING that is sent now.
+    fn bytes_until_pong<R: Abort>(&mut self, rt: &R, alloc: Global) -> Vec<u8> {
+        self.send(rt, b"PING\r\n");
+        self.until(rt, alloc, b"PONG\r\n")
+    }
+
+    /// The numbers that came as payloads before the answer to a PING that is sent now.
+    fn heard<R: Abort>(&mut self, rt: &R, alloc: Global) -> Vec<u64> {
+        numbers(rt, alloc, &self.bytes_until_pong(rt, alloc))
+    }
+
+    /// Reads until the server closes the connection; a failed read is an end too, but none that has waited too long.
+    fn ends(&mut self) -> bool {
+        let mut buffer = [0; 4_096];
+        for _read in 0..u64::MAX {
+            match (&self.stream).read(&mut buffer) {
+                Ok(0) => return true,
+                Ok(_) => {}
+                Err(error) => {
+                    return !matches!(
+                        error.kind(),
+                        io::ErrorKind::WouldBlock | io::ErrorKind::TimedOut
+                    );
+                }
+            }
+        }
+        false
+    }
+}
+
+/// The numbers that stand as payloads in what a client read: the lines that are digits alone.
+fn numbers<R: Abort>(rt: &R, alloc: Global, read: &[u8]) -> Vec<u64> {
+    let mut all = Vec::new(alloc);
+    for line in str::from_utf8(read).unwrap_or("").lines() {
+        if let Ok(number) = line.parse::<u64>() {
+            assert!(rt; all.push(number).is_ok());
+        }
+    }
+    all
+}
 
 /// The options of a mesh of so many servers of two shards, which ends after so many clients.
 fn options(rt: &impl Abort, nodes: u64, port: u64, stop_after: u64) -> Options
@@ -219,17 +383,24 @@ fn publishes_all<R: Clock + Abort>(
     count(rt, alloc, members, heard);
 }
 
-/// A queue group with a member at each of three servers: each of a thousand messages comes to one member.
-fn served_once<R: Net<Stream = TcpStream> + Clock + Abort>(
+/// Each of a thousand messages comes to one of the members.
+fn each_is_heard_once<R: Clock + Abort>(
     rt: &R,
     alloc: Global,
-    ports: [u16; 3],
-    heard: &mut Heard,
+    says: &mut Client,
+    members: &mut [Client],
 ) {
+    let mut heard = nothing_heard(rt, alloc);
+    warms_up(rt, alloc, says, members, &mut heard);
+    publishes_all(rt, alloc, says, members, &mut heard);
+    assert!(rt; heard.times.iter().skip(1).all(|time| *time == 1));
+}
+
+/// A queue group with a member at each of three servers is served each message once.
+fn served_once<R: Net<Stream = TcpStream> + Clock + Abort>(rt: &R, alloc: Global, ports: [u16; 3]) {
     let mut members = members(rt, alloc, ports);
     let mut says = Client::with_greeting(rt, alloc, ports[0]);
-    warms_up(rt, alloc, &mut says, members.as_mut_slice(), heard);
-    publishes_all(rt, alloc, &mut says, members.as_mut_slice(), heard);
+    each_is_heard_once(rt, alloc, &mut says, members.as_mut_slice());
 }
 
 /// Nothing was heard, of numbers up to 1,000.
@@ -246,14 +417,12 @@ fn nothing_heard<R: Abort>(rt: &R, alloc: Global) -> Heard {
 fn a_queue_group_over_three_nodes(rt: HostRuntime) -> Result<(), Fail> {
     let alloc = rt.alloc();
     let options = options(&rt, 3, 17_420, 4);
-    let mut heard = nothing_heard(&rt, alloc);
     let (served, ()) = join(
         &rt,
         || serve(&rt, alloc, &options).is_ok(),
-        || served_once(&rt, alloc, [17_420, 17_421, 17_422], &mut heard),
+        || served_once(&rt, alloc, [17_420, 17_421, 17_422]),
     );
     assert!(rt; served);
-    assert!(rt; heard.times.iter().skip(1).all(|time| *time == 1));
     Ok(())
 }
 
