@@ -353,6 +353,21 @@ fn read_sid(alloc: Global, text: &[u8]) -> Result<Sid, AllocError>
     }
 }
 
+/// The name of the queue group of a subscription, where it joins one, and its id.
+fn read_membership(
+    alloc: Global,
+    queue: Option<&[u8]>,
+    sid: &[u8],
+) -> Result<(Option<QueueName>, Sid), AllocError>
+    requires queue { queue_fault (option_copied queue) ≡ None }
+    requires sid { sid_fault sid.now ≡ None }
+    ensures { IfOk result (λ read. (read.0 ≡ option_copied queue.entry) × (read.1 ≡ sid.now)) }
+{
+    let queue = read_queue(alloc, queue)?;
+    let sid = read_sid(alloc, sid)?;
+    Ok((queue, sid))
+}
+
 fn decode_sub(alloc: Global, text: &[u8]) -> Result<ClientLine, Failure<LineFault>>
     ensures { ClientLineMeans (subscription_of (two_or_three (fields text.now))) result }
 {
@@ -367,8 +382,7 @@ fn decode_sub(alloc: Global, text: &[u8]) -> Result<ClientLine, Failure<LineFaul
         Err(Failure::Refused(_)) => return Err(Failure::Refused(LineFault::BadSubject)),
         Err(Failure::OutOfMemory) => return Err(Failure::OutOfMemory),
     };
-    let queue = read_queue(alloc, arguments.between)?;
-    let sid = read_sid(alloc, arguments.last)?;
+    let (queue, sid) = read_membership(alloc, arguments.between, arguments.last)?;
     Ok(ClientLine::Sub {
         pattern,
         queue,

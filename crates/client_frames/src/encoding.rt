@@ -5,8 +5,9 @@ ghost use Rattle.client_frames.specs.Messages.{before_sid as before_the_sid, beh
 ghost use Rattle.std.specs.Cow.{cow_slice_items};
 ghost use Rattle.client_frames.specs.Frames.{frame_bytes, reply_line as line_of_reply};
 ghost use Rattle.client_frames.specs.declared.server_frames.ServerFrame.TheVariants.{Reply, Msg};
+ghost use Rattle.client_frames.specs.declared.server_frames.ReplyFrame.TheVariants.{Info};
 
-use crate::info::info_text;
+use crate::info::{InfoData, info_text};
 use crate::server_frames::{Delivery, ReplyFrame, ServerFrame};
 use itoa::Buffer;
 use line_fields::{CR_LF, append_reserved};
@@ -39,9 +40,9 @@ fn before_sid(alloc: Global, message: &Message) -> Result<Vec<u8>, AllocError>
 {
     let subject = message.subject().bytes();
     let mut text = Vec::with_capacity(alloc, MSG.len() + subject.len() + BLANK.len())?;
-    text.extend_from_slice(MSG)?;
-    text.extend_from_slice(subject)?;
-    text.extend_from_slice(BLANK)?;
+    append_reserved(&mut text, MSG);
+    append_reserved(&mut text, subject);
+    append_reserved(&mut text, BLANK);
     Ok(text)
 }
 
@@ -54,16 +55,16 @@ fn behind_sid(alloc: Global, message: &Message) -> Result<Vec<u8>, AllocError>
     let size = buffer.format(message.payload().len()).as_bytes();
     let Some(reply) = message.reply() else {
         let mut text = Vec::with_capacity(alloc, BLANK.len() + size.len())?;
-        text.extend_from_slice(BLANK)?;
-        text.extend_from_slice(size)?;
+        append_reserved(&mut text, BLANK);
+        append_reserved(&mut text, size);
         return Ok(text);
     };
     let reply = reply.bytes();
     let mut text = Vec::with_capacity(alloc, BLANK.len() + reply.len() + BLANK.len() + size.len())?;
-    text.extend_from_slice(BLANK)?;
-    text.extend_from_slice(reply)?;
-    text.extend_from_slice(BLANK)?;
-    text.extend_from_slice(size)?;
+    append_reserved(&mut text, BLANK);
+    append_reserved(&mut text, reply);
+    append_reserved(&mut text, BLANK);
+    append_reserved(&mut text, size);
     Ok(text)
 }
 
@@ -137,9 +138,9 @@ impl MessageLines {
             self.alloc,
             self.before.len() + sid.len() + self.behind.len(),
         )?;
-        line.extend_from_slice(&self.before)?;
-        line.extend_from_slice(sid)?;
-        line.extend_from_slice(&self.behind)?;
+        append_reserved(&mut line, &self.before);
+        append_reserved(&mut line, sid);
+        append_reserved(&mut line, &self.behind);
         Ok(line)
     }
 }
@@ -185,17 +186,22 @@ pub fn message_len(message: &Message) -> usize
     line + digits_of(payload.len()) + CR_LF.len() + payload.len() + CR_LF.len()
 }
 
+/// The line of `INFO`, without its CR LF.
+fn info_line(alloc: Global, info: &InfoData) -> Result<Vec<u8>, AllocError>
+    ensures { IfOk result (λ line. line.items ≡ line_of_reply (Info info.now)) }
+{
+    let text = info_text(alloc, info)?;
+    let mut line = Vec::from_slice(alloc, b"INFO ")?;
+    line.extend_from_slice(text.as_bytes())?;
+    Ok(line)
+}
+
 /// The line of an answer, without its CR LF. Only that of `INFO` takes memory.
 pub fn reply_line(alloc: Global, reply: &ReplyFrame) -> Result<CowSlice<'static, u8>, AllocError>
     ensures { IfOk result (λ line. cow_slice_items line ≡ line_of_reply reply.now) }
 {
     match reply {
-        ReplyFrame::Info(info) => {
-            let text = info_text(alloc, info)?;
-            let mut line = Vec::from_slice(alloc, b"INFO ")?;
-            line.extend_from_slice(text.as_bytes())?;
-            Ok(CowSlice::Owned(line))
-        }
+        ReplyFrame::Info(info) => Ok(CowSlice::Owned(info_line(alloc, info)?)),
         ReplyFrame::Pong => Ok(CowSlice::Borrowed(b"PONG")),
         ReplyFrame::Ok => Ok(CowSlice::Borrowed(b"+OK")),
         ReplyFrame::Err(text) => Ok(CowSlice::Borrowed(text.line())),

@@ -8,7 +8,7 @@ use subj::LAST_LINE;
 use wire_cut::CutFault;
 
 /// What `-ERR` tells a client. (NATS documentation, "Client Protocol"; the last three are this project's own.)
-#[derive(Clone, Copy, Debug, PartialEq, Eq)]
+#[derive(Clone, Copy, PartialEq, Eq)]
 pub enum ErrText {
     /// A control line is longer than its limit.
     MaximumControlLineExceeded,

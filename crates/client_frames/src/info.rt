@@ -9,7 +9,7 @@ use std::alloc::{AllocError, Global};
 use subj::{ConnId, Incarnation, MAX_PAYLOAD, NodeId};
 
 /// What a server tells a client first. (NATS documentation, "Client Protocol": `INFO`.)
-#[derive(Clone, Copy, Debug, PartialEq, Eq)]
+#[derive(Clone, Copy)]
 pub struct InfoData {
     /// The server's name.
     pub name: NodeId,

@@ -5,7 +5,7 @@ use crate::info::InfoData;
 use subj::{Message, Sid};
 
 /// A line that answers a client. (NATS documentation, "Client Protocol".)
-#[derive(Clone, Copy, Debug, PartialEq, Eq)]
+#[derive(Clone, Copy)]
 pub enum ReplyFrame {
     /// The first line of a connection.
     Info(InfoData),

@@ -8,7 +8,7 @@ use subj::Incarnation;
 ///
 /// Servers are named by their places in the cluster, from 0, and frames by their numbers among all that were
 /// sent, from 1; each may be any number, and one that is not there is refused.
-#[derive(Debug, Drop)]
+#[derive(Drop)]
 pub enum Event {
     /// The server starts. It knows nothing.
     Start {

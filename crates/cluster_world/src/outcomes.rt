@@ -7,7 +7,7 @@ use node_core::Answer;
 use world_law::WorldFault;
 
 /// What a cluster answers to an event. (Profile.)
-#[derive(Debug, Drop)]
+#[derive(Drop)]
 pub enum Outcome {
     /// Why it is refused.
     Refused(WorldFault),

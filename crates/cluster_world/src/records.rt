@@ -48,7 +48,7 @@ pub struct Life {
 
 /// What one step put into outboxes of connections at a server, in order. The messages among the entries are
 /// the placements; answers and last lines are none.
-#[derive(Debug, Drop)]
+#[derive(Drop)]
 pub struct Placements {
     /// The step.
     pub step: u64,

@@ -313,9 +313,24 @@ fn servers<R: Net>(rt: &R, alloc: Global, options: &Options) -> Result<Vec<Bound
 {
     let mut all = Vec::new(alloc);
     for place in 0..options.nodes {
-        all.push(bound_server(rt, alloc, options, place)?)?;
+        push_bound(&mut all, rt, alloc, options, place)?;
     }
     Ok(all)
+}
+
+/// Puts the server at this place behind the others, with its sockets bound.
+fn push_bound<R: Net>(
+    all: &mut Vec<BoundServer>,
+    rt: &R,
+    alloc: Global,
+    options: &Options,
+    place: u16,
+) -> Result<(), ServeFault>
+    requires within { AreWithin options.now }
+    requires place { place < options.now.nodes }
+{
+    all.push(bound_server(rt, alloc, options, place)?)?;
+    Ok(())
 }
 
 /// What wakes each server.
@@ -335,13 +350,25 @@ struct BoundMesh {
     shutdown: Shutdown,
 }
 
+/// The servers of a mesh, with their sockets bound, and when they stop, for which each is woken.
+fn servers_to_wake<R: Net>(
+    rt: &R,
+    alloc: Global,
+    options: &Options,
+) -> Result<(Vec<BoundServer>, Shutdown), ServeFault>
+    requires { AreWithin options.now }
+{
+    let servers = servers(rt, alloc, options)?;
+    let wakers = wakers(alloc, &servers)?;
+    Ok((servers, Shutdown::new(options.stop_after, wakers)))
+}
+
 /// A mesh whose sockets are bound.
 fn bound_mesh<R: Net>(rt: &R, alloc: Global, options: &Options) -> Result<BoundMesh, ServeFault>
     requires { AreWithin options.now }
 {
     let addresses = addresses(alloc, options)?;
-    let servers = servers(rt, alloc, options)?;
-    let shutdown = Shutdown::new(options.stop_after, wakers(alloc, &servers)?);
+    let (servers, shutdown) = servers_to_wake(rt, alloc, options)?;
     Ok(BoundMesh {
         servers,
         addresses,

@@ -6,7 +6,7 @@ use route_values::Numbered;
 use subj::{ConnId, SubId, Turn};
 
 /// What a server answers to an event that it does not refuse. (Profile.)
-#[derive(Debug, Drop)]
+#[derive(Drop)]
 pub enum Answer {
     /// An attach: the connection.
     Attached(ConnId),

@@ -11,7 +11,7 @@ use std::alloc::Global;
 use subj::{ConnId, SubId};
 
 /// What a server did: its answer, with copies of what it put, and what closed. (Profile.)
-#[derive(Debug, Drop)]
+#[derive(Drop)]
 pub struct Did {
     /// What it answers.
     pub answer: Answer,

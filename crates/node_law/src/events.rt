@@ -6,7 +6,7 @@ use route_values::{Numbered, RouteConnect, RouteInfo};
 use subj::{ConnId, Key, Pub, Sid};
 
 /// What is asked for a connection.
-#[derive(Debug, Drop)]
+#[derive(Drop)]
 pub enum ConnEvent {
     /// Opens a subscription to the key, by which id the client calls it. (NATS documentation, "Client
     /// Protocol": `SUB`.)
@@ -43,7 +43,7 @@ pub enum ShardWork {
 ///
 /// Numbers of connections and shards are from 1, and peers are named by their places in the cluster, from
 /// 0; each may be any number, and one that the server does not have is refused.
-#[derive(Debug, Drop)]
+#[derive(Drop)]
 pub enum OwnEvent {
     /// Of the connection of this number.
     OfConn {
@@ -84,7 +84,7 @@ pub enum OwnEvent {
 }
 
 /// What a server is asked: by its clients and its own parts, or by a frame of another server. (Profile.)
-#[derive(Debug, Drop)]
+#[derive(Drop)]
 pub enum NodeEvent {
     /// By its own side.
     Own(OwnEvent),

@@ -3,9 +3,8 @@
 use crate::connection::{Cause, Ending};
 use crate::connections::Connections;
 use crate::limits::{FRAMES, PEER_BACKLOG, TAKEN_AT_ONCE};
-use crate::placing::put;
 use crate::server::Server;
-use crate::taken::Taken;
+use crate::taken::{Taken, let_go_beyond};
 use net_streams::Stream;
 use route_frames::{Numbered, RouteFrame, encode};
 use server_calls::{HubCalls, ServerCalls, ShardCalls};
@@ -48,7 +47,24 @@ impl<S: Stream> Connections<S> {
         }
     }
 
-    /// Takes what waits for clients of the shard, from this place on, until enough is taken. The place where it goes on.
+    /// Takes what waits for clients of the shard of this number, from this place on, until enough is taken. The place where it goes on.
+    fn take_some<C: ServerCalls, R: Wait>(
+        &mut self,
+        rt: &R,
+        node: C,
+        number: u64,
+        awaited: Awaited<'_>,
+        place: usize,
+        taken: &mut Taken,
+    ) -> usize {
+        taken.clear();
+        match node.shard(rt, number) {
+            None => awaited.count(),
+            Some(mut shard) => self.take_from(&mut shard, awaited, place, taken),
+        }
+    }
+
+    /// The same of a shard that is held.
     fn take_from<H: ShardCalls>(
         &mut self,
         shard: &mut H,
@@ -149,14 +165,19 @@ impl<S: Stream> Connections<S> {
         }
     }
 
+    /// Sends a connection what was taken for it.
+    fn send_part(&mut self, key: usize, bytes: &[u8]) {
+        if let Some(connection) = self.table.get_mut(key) {
+            connection.send_taken(bytes);
+        }
+    }
+
     /// Writes the part at this place.
     fn write_part(&mut self, taken: &Taken, place: usize) {
         let Some(part) = taken.part(place) else {
             return;
         };
-        if let Some(connection) = self.table.get_mut(part.key) {
-            connection.send_taken(taken.bytes_of(part));
-        }
+        self.send_part(part.key, taken.bytes_of(part));
         self.rest_later(part.key);
         self.leave_if_gone(part.key);
     }
@@ -262,28 +283,11 @@ impl<S: Stream, C: ServerCalls> Server<S, C> {
             if place >= awaited.count() {
                 return;
             }
-            place = self.take_some(rt, number, awaited, place);
+            place = self
+                .connections
+                .take_some(rt, self.node, number, awaited, place, &mut self.taken);
             self.connections.write_parts(&self.taken);
             self.taken.let_go();
-        }
-    }
-
-    /// Takes what waits for clients of a shard, from this place on, until enough is taken. The place where it goes on.
-    fn take_some<R: Wait>(
-        &mut self,
-        rt: &R,
-        number: u64,
-        awaited: Awaited<'_>,
-        place: usize,
-    ) -> usize {
-        self.taken.clear();
-        let node = self.node;
-        match node.shard(rt, number) {
-            None => awaited.count(),
-            Some(mut shard) => {
-                self.connections
-                    .take_from(&mut shard, awaited, place, &mut self.taken)
-            }
         }
     }
 
@@ -339,9 +343,7 @@ impl<S: Stream, C: ServerCalls> Server<S, C> {
         let is_whole = encode_frames(frames, &mut self.encoded).is_ok();
         self.connections.send_encoded(key, &self.encoded, is_whole);
         self.connections.leave_if_gone(key);
-        if self.encoded.capacity() > TAKEN_AT_ONCE {
-            put(&mut self.encoded, Vec::new(self.alloc));
-        }
+        let_go_beyond(self.alloc, &mut self.encoded, TAKEN_AT_ONCE);
         true
     }
 }

@@ -79,6 +79,11 @@ fn dial<C: ServerCalls, R: Wait>(
     hub.dial(peer)
 }
 
+/// Encodes what a server that has dialed is told first.
+fn encode_info(info: RouteInfo, encoded: &mut Vec<u8>) -> Result<(), AllocError> {
+    encode(&RouteFrame::Info(info), encoded)
+}
+
 /// What is told of another server whose route ended for this cause; without one its connection broke.
 fn peer_cause(cause: Option<Cause>) -> PeerCause {
     match cause {
@@ -248,16 +253,11 @@ impl<S: Stream, C: ServerCalls> Server<S, C> {
     /// A server that has dialed.
     fn accepted<R: Wait>(&mut self, rt: &R) -> Result<Link, AddFault> {
         let (session, info) = accept(rt, self.node)?;
-        if self.encode_info(info).is_err() {
+        if encode_info(info, &mut self.encoded).is_err() {
             cut(rt, self.node, session);
             return Err(AddFault::OutOfMemory);
         }
         Ok(self.route(session, Stage::Accepted))
-    }
-
-    /// Encodes what a server that has dialed is told first.
-    fn encode_info(&mut self, info: RouteInfo) -> Result<(), AllocError> {
-        encode(&RouteFrame::Info(info), &mut self.encoded)
     }
 
     /// The server at this place, which is dialed.

@@ -13,7 +13,7 @@ pub(crate) struct Part {
 }
 
 /// Lets a buffer with more than so many bytes of room go.
-fn let_go_beyond(alloc: Global, buffer: &mut Vec<u8>, room: usize) {
+pub(crate) fn let_go_beyond(alloc: Global, buffer: &mut Vec<u8>, room: usize) {
     if buffer.capacity() > room {
         put(buffer, Vec::new(alloc));
     }

@@ -64,6 +64,11 @@ fn push_jobs<C: ServerCalls, R: Wait>(rt: &R, node: C) {
     hub.push_jobs(rt);
 }
 
+/// Encodes what a server that was dialed is told back.
+fn encode_answer(answer: RouteConnect, encoded: &mut Vec<u8>) -> Result<(), AllocError> {
+    encode(&RouteFrame::Connect(answer), encoded)
+}
+
 /// Why a client was shut in a run: for what it asked, where it was told so, and else since it does not read.
 fn shut_cause(run: RunOutcome) -> Cause {
     if run.is_refused {
@@ -213,7 +218,7 @@ impl<S: Stream, C: ServerCalls> Server<S, C> {
     /// Sends another server the answer to what it was told first.
     fn send_answer(&mut self, key: usize, answer: RouteConnect) {
         self.encoded.clear();
-        let is_whole = encode(&RouteFrame::Connect(answer), &mut self.encoded).is_ok();
+        let is_whole = encode_answer(answer, &mut self.encoded).is_ok();
         self.connections.send_encoded(key, &self.encoded, is_whole);
     }
 

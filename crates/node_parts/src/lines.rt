@@ -59,7 +59,7 @@ fn no_job<T: SubTable>(shard: &Shard<T>) -> NodeFault
 }
 
 /// What a claim of a queue name comes to.
-#[derive(Debug, Drop)]
+#[derive(Drop)]
 pub enum Claimed {
     /// The shard has no candidate.
     Nobody,

@@ -11,7 +11,7 @@ use std::marker::Model;
 use subj::{PubId, QueueName, SubId};
 
 /// How a message came to its subscription.
-#[derive(Debug, Drop)]
+#[derive(Drop)]
 pub enum Mode {
     /// By a subscription without a queue name.
     Plain,
@@ -32,7 +32,7 @@ impl Mode {
 }
 
 /// What an entry is.
-#[derive(Debug, Drop)]
+#[derive(Drop)]
 pub enum Tag {
     /// An answer to the client, or the line that it is shut with.
     Reply,
@@ -66,7 +66,7 @@ impl Tag {
 }
 
 /// What stands behind the line of an entry.
-#[derive(Debug, Drop)]
+#[derive(Drop)]
 enum Behind {
     /// Nothing: the line holds all bytes of the entry.
     Nothing,
@@ -80,7 +80,7 @@ enum Behind {
 /// CR LF. The payload is shared and not copied. (NATS documentation, "Client Protocol".)
 ///
 /// Seen as its tag and its bytes.
-#[derive(Debug, Drop)]
+#[derive(Drop)]
 pub struct Entry {
     tag: Tag,
     line: Vec<u8>,
@@ -131,6 +131,20 @@ impl Entry {
             line,
             behind: Behind::Payload(payload),
         }
+    }
+
+    /// An entry of a copy of this line and of this payload, which is shared, without their CR LF.
+    pub(crate) fn shared(
+        alloc: Global,
+        tag: Tag,
+        line: &[u8],
+        payload: &Bytes,
+    ) -> Result<Entry, AllocError>
+        requires { length line.now + length payload.now + 4 < 2 ^ 64 }
+        ensures { IfOk result (λ entry. entry ≡ record { tag = tag; bytes = bytes_of line.now (Some payload.now) }) }
+    {
+        let line = Vec::from_slice(alloc, line)?;
+        Ok(Entry::of_parts(tag, line, payload.clone()?))
     }
 
     /// An entry of these bytes.

@@ -195,21 +195,42 @@ impl EntryQueue {
         self.kept.len()
     }
 
+    /// Takes the memory for the places of two entries more.
+    #[tactic(auto, using(crate::proofs::Seen::length_seen))]
+    fn reserve_two(&mut self) -> Result<(), AllocError>
+        ensures entries { self.new.entries ≡ self.old.entries }
+        ensures places { OnOk result (length self.new.entries + 2 ≤ self.new.places) }
+        ensures kept { self.old.places ≤ self.new.places }
+    {
+        self.kept.reserve(2)?;
+        Ok(())
+    }
+
     /// Puts an entry behind, and takes the memory for the place of one more. Want of memory leaves all as it
     /// was.
-    #[tactic(auto, using(crate::proofs::Seen::seen_whole, crate::proofs::Seen::seen_copied, crate::proofs::Seen::copied_whole, crate::proofs::Seen::copied_copied, crate::proofs::Seen::length_seen))]
     pub(crate) fn push(&mut self, entry: Entry) -> Result<(), AllocError>
         ensures ok { OnOk result (self.new.entries ≡ self.old.entries ++ entry ∷ []) }
         ensures place { OnOk result (length self.new.entries + 1 ≤ self.new.places) }
         ensures err { OnErr result (self.new.entries ≡ self.old.entries) }
         ensures kept { self.old.places ≤ self.new.places }
     {
-        self.kept.reserve(2)?;
+        self.reserve_two()?;
         let len = entry.len();
         if len > COPIED {
-            self.kept.push_back_reserved(Kept::Whole(entry));
+            self.push_whole_reserved(entry);
             return Ok(());
         }
+        self.push_copied(entry, len)
+    }
+
+    /// Puts a copy of an entry of so many bytes behind, for which there is a place. Want of memory leaves all as it was.
+    #[tactic(auto, using(crate::proofs::Seen::length_seen))]
+    fn push_copied(&mut self, entry: Entry, len: usize) -> Result<(), AllocError>
+        requires place { length self.old.entries + 1 ≤ self.old.places }
+        requires len { len ≡ length entry.bytes }
+        ensures ok { OnOk result (self.new ≡ record { entries = self.old.entries ++ entry ∷ []; places = self.old.places }) }
+        ensures err { OnErr result (self.new ≡ self.old) }
+    {
         self.text.push_entry(&entry)?;
         let tag = entry.into_tag();
         self.kept.push_back_reserved(Kept::Copied { tag, len });
@@ -218,7 +239,7 @@ impl EntryQueue {
 
     /// Puts an answer behind, and takes the memory for the place of one more. Its line comes without its CR LF, and
     /// is copied, however long it is. Want of memory leaves all as it was.
-    #[tactic(auto, using(crate::proofs::Seen::seen_copied, crate::proofs::Seen::copied_copied, crate::proofs::Seen::length_seen))]
+    #[tactic(auto, using(crate::proofs::Seen::length_seen))]
     pub(crate) fn push_reply(&mut self, line: &[u8]) -> Result<(), AllocError>
         requires { length line.now + 2 < 2 ^ 64 }
         ensures ok { OnOk result (self.new.entries ≡ self.old.entries ++ reply_entry line.now ∷ []) }
@@ -235,7 +256,6 @@ impl EntryQueue {
 
     /// Puts a message behind, and takes the memory for the place of one more. Its line and payload come without
     /// their CR LF. Want of memory leaves all as it was.
-    #[tactic(auto, using(crate::proofs::Seen::seen_whole, crate::proofs::Seen::seen_copied, crate::proofs::Seen::copied_whole, crate::proofs::Seen::copied_copied, crate::proofs::Seen::length_seen))]
     pub(crate) fn push_message(
         &mut self,
         alloc: Global,
@@ -249,13 +269,39 @@ impl EntryQueue {
         ensures err { OnErr result (self.new.entries ≡ self.old.entries) }
         ensures kept { self.old.places ≤ self.new.places }
     {
-        self.kept.reserve(2)?;
+        self.reserve_two()?;
         if line.len() + payload.len() > COPIED {
-            let line = Vec::from_slice(alloc, line)?;
-            let entry = Entry::of_parts(tag, line, payload.clone()?);
-            self.kept.push_back_reserved(Kept::Whole(entry));
-            return Ok(());
+            return self.push_shared(alloc, tag, line, payload);
         }
+        self.push_text(tag, line, payload)
+    }
+
+    /// Puts a message behind that shares its payload, for which there is a place. Want of memory leaves all as it was.
+    fn push_shared(
+        &mut self,
+        alloc: Global,
+        tag: Tag,
+        line: &[u8],
+        payload: &Bytes,
+    ) -> Result<(), AllocError>
+        requires len { length line.now + length payload.now + 4 < 2 ^ 64 }
+        requires place { length self.old.entries + 1 ≤ self.old.places }
+        ensures ok { OnOk result (self.new ≡ record { entries = self.old.entries ++ record { tag = tag; bytes = bytes_of line.now (Some payload.now) } ∷ []; places = self.old.places }) }
+        ensures err { OnErr result (self.new ≡ self.old) }
+    {
+        let entry = Entry::shared(alloc, tag, line, payload)?;
+        self.push_whole_reserved(entry);
+        Ok(())
+    }
+
+    /// Puts a message behind whose bytes are copied, for which there is a place. Want of memory leaves all as it was.
+    #[tactic(auto, using(crate::proofs::Seen::length_seen))]
+    fn push_text(&mut self, tag: Tag, line: &[u8], payload: &[u8]) -> Result<(), AllocError>
+        requires len { length line.now + length payload.now + 4 < 2 ^ 64 }
+        requires place { length self.old.entries + 1 ≤ self.old.places }
+        ensures ok { OnOk result (self.new ≡ record { entries = self.old.entries ++ record { tag = tag; bytes = bytes_of line.now (Some payload.now) } ∷ []; places = self.old.places }) }
+        ensures err { OnErr result (self.new ≡ self.old) }
+    {
         let len = self.text.push_message(line, payload)?;
         self.kept.push_back_reserved(Kept::Copied { tag, len });
         Ok(())

@@ -61,6 +61,17 @@ impl Model for Outbox {
     ghost invariant = { λ b. IsSound b.entries.entries b.entries.places b.shown b.shown_bytes b.bytes b.shut b.closing b.max_bytes × HasLastLine b.shut b.last_line.items (vec_capacity b.last_line) };
 }
 
+/// Takes the memory that is kept for a last line, and writes this one there.
+fn last_text(kept: &mut Vec<u8>, alloc: Global, line: &[u8]) -> Vec<u8>
+    requires empty { kept.old.items ≡ [] }
+    requires room { length line.now ≤ vec_capacity kept.old }
+    ensures { result.items ≡ line.now }
+{
+    let mut text = mem::replace(kept, Vec::new(alloc));
+    let _ = text.extend_from_slice(line);
+    text
+}
+
 impl Outbox {
     /// An empty outbox with these limits. The room of its last line is taken here.
     pub fn new(alloc: Global, max_entries: usize, max_bytes: usize) -> Result<Outbox, AllocError>
@@ -181,8 +192,7 @@ impl Outbox {
         requires small { length line.now ≤ LAST_LINE_TEXT }
         ensures { self.new ≡ on_both (with_last line.now) self.old }
     {
-        let mut text = mem::replace(&mut self.last_line, Vec::new(self.alloc));
-        let _ = text.extend_from_slice(line);
+        let text = last_text(&mut self.last_line, self.alloc, line);
         self.entries.push_whole_reserved(Entry::reply(text));
         self.shown = self.entries.len();
         self.shut = true;
@@ -317,6 +327,31 @@ impl Outbox {
         Ok(())
     }
 
+    /// Gives back the memory that many entries took, where nothing waits.
+    fn rest(&mut self)
+        requires settled { self.old.next ≡ self.old.shown }
+        requires none { length self.old.shown.entries ≡ 0 }
+        ensures { self.new ≡ self.old }
+    {
+        self.entries.rest();
+    }
+
+    /// Moves the bytes of the first entries, so many, behind those that are in `out`, in order, and removes these entries, where
+    /// nothing is staged. Want of memory leaves all as it was.
+    fn take_first(&mut self, count: usize, out: &mut Vec<u8>) -> Result<usize, AllocError>
+        requires settled { self.old.next ≡ self.old.shown }
+        requires there { count ≤ length self.old.shown.entries }
+        ensures taken { IfOk result (λ taken. taken ≡ length (take count self.old.shown.entries)) }
+        ensures bytes { OnOk result (out.new.items ≡ out.old.items ++ bytes_of_all (take count self.old.shown.entries)) }
+        ensures ok { OnOk result (self.new ≡ on_both (without_first count) self.old) }
+        ensures err { OnErr result (self.new ≡ self.old) }
+        ensures out { OnErr result (out.new.items ≡ out.old.items) }
+    {
+        self.entries.append_front(count, out)?;
+        self.remove_first(count);
+        Ok(count)
+    }
+
     /// Moves the bytes of the first entries that wait, or of all where there are fewer, behind those that
     /// are in `out`, in order, and removes these entries, where nothing is staged. Gives how many they were. Want of memory
     /// leaves all as it was.
@@ -328,18 +363,16 @@ impl Outbox {
         ensures err { OnErr result (self.new ≡ self.old) }
         ensures out { OnErr result (out.new.items ≡ out.old.items) }
     {
-        let waiting = self.entries.len();
+        let waiting = self.len();
         if waiting == 0 {
-            self.entries.rest();
+            self.rest();
             return Ok(0);
         }
         if count >= waiting {
             self.take_all_bytes(out)?;
             return Ok(waiting);
         }
-        self.entries.append_front(count, out)?;
-        self.remove_first(count);
-        Ok(count)
+        self.take_first(count, out)
     }
 
     /// Moves the bytes of the first entries that wait, or of all where there are fewer, behind those that

@@ -15,7 +15,7 @@ pub enum Subscribed {
 }
 
 /// What a reply closed.
-#[derive(Debug, Drop)]
+#[derive(Drop)]
 pub struct Closed {
     /// Whether the connection was shut for want of room.
     pub shut: bool,
@@ -24,14 +24,14 @@ pub struct Closed {
 }
 
 /// An entry, and the connection that it was put for.
-#[derive(Debug, Drop)]
+#[derive(Drop)]
 pub struct Placed {
     pub conn: ConnId,
     pub entry: Entry,
 }
 
 /// What a begin did.
-#[derive(Debug, Drop)]
+#[derive(Drop)]
 pub struct Begun {
     /// How many messages were placed.
     pub given: usize,
@@ -46,7 +46,7 @@ pub struct Begun {
 }
 
 /// A member of a queue group that was chosen, and stands until the next call.
-#[derive(Debug, Drop)]
+#[derive(Drop)]
 pub struct Candidate {
     pub sub: SubId,
     /// A copy of the entry that is kept for it, where it was asked for; else none.

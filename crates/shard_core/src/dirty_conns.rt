@@ -36,7 +36,7 @@ fn push_within(conns: &mut Vec<ConnId>, conn: ConnId, count: usize) -> bool
 /// more than once, and one may be gone. Also whether half of the room for what waits for one of them was used.
 ///
 /// Seen as these three.
-#[derive(Debug, Drop)]
+#[derive(Drop)]
 pub struct DirtyConns {
     conns: Vec<ConnId>,
     is_any: bool,

@@ -1,7 +1,7 @@
 //! A hub and its shards, each under a lock of its own: the calls that take a lock, make one call and give its answer, and the
 //! threads that work lanes.
 
-ghost use Rattle.std.specs.Prelude.{◌≡◌, ◌≤◌, ◌<◌, [], All, length, vec_len, IfOk, IfSome, is_some, true};
+ghost use Rattle.std.specs.Prelude.{◌≡◌, ◌+◌, ◌≤◌, ◌<◌, [], All, length, vec_len, IfOk, IfSome, OnOk, is_some, true};
 ghost use Rattle.std.specs.Arc.{arc_value};
 ghost use Rattle.subj.specs.declared.limits.TheConstants.{MAX_SHARDS};
 ghost use Rattle.thread_node.specs.Parts.{IsNamed};
@@ -73,6 +73,29 @@ fn locked_shard<T: SubTable, N: NodeName>(
     Ok((line, Mutex::new(shard)))
 }
 
+/// Puts the hub's end of the lane of these parts behind the others, and the shard under its lock.
+fn add_shard<T: SubTable, N: NodeName>(
+    alloc: Global,
+    cells: &Arc<Cells, Global>,
+    count: u64,
+    keep: bool,
+    parts: ShardParts,
+    lines: &mut Vec<LaneSender<N>>,
+    shards: &mut Vec<Mutex<LockedShard<T, N>>>,
+) -> Result<(), AllocError>
+    requires race { (arc_value cells.now ≡ N.race) × (count ≡ N.race.shards) }
+    requires few { count ≤ MAX_SHARDS }
+    requires parts { IsNamed N.race N.lanes parts }
+    ensures line { OnOk result (vec_len lines.new ≡ vec_len lines.old + 1) }
+    ensures shard { OnOk result (vec_len shards.new ≡ vec_len shards.old + 1) }
+    ensures fresh { OnOk result (All (λ line. line.pushed ≡ []) lines.old.items → All (λ line. line.pushed ≡ []) lines.new.items) }
+{
+    let (line, shard) = locked_shard(alloc, cells, count, keep, parts)?;
+    lines.push(line)?;
+    shards.push(shard)?;
+    Ok(())
+}
+
 /// The hub's ends of the lanes, and the shards under their locks, in their order.
 type Shards<T, N> = (Vec<LaneSender<N>>, Vec<Mutex<LockedShard<T, N>>>);
 
@@ -93,9 +116,7 @@ fn locked_shards<T: SubTable, N: NodeName>(
     let mut lines = Vec::new(alloc);
     let mut shards = Vec::new(alloc);
     for part in parts {
-        let (line, shard) = locked_shard(alloc, cells, count, keep, part)?;
-        lines.push(line)?;
-        shards.push(shard)?;
+        add_shard(alloc, cells, count, keep, part, &mut lines, &mut shards)?;
     }
     Ok((lines, shards))
 }
@@ -117,6 +138,32 @@ fn locked_hub<N: NodeName>(
 {
     let state = HubState::new(alloc, server, &cells, seat, lines)?;
     Ok(Mutex::new(LockedHub::new(alloc, state, cells, keep)))
+}
+
+/// What stands under the locks of a server: the hub, and the shards in their order.
+type Locked<T, N> = (Mutex<LockedHub<N>>, Vec<Mutex<LockedShard<T, N>>>);
+
+/// The hub and the shards of these parts, each under its lock.
+fn locked<T: SubTable, N: NodeName>(
+    alloc: Global,
+    server: ServerIdentity,
+    keep: bool,
+    cells: Cells,
+    seat: HubSeat,
+    parts: Vec<ShardParts>,
+) -> Result<Locked<T, N>, AllocError>
+    requires race { (cells ≡ N.race) × (seat.race ≡ N.race) }
+    requires shards { server.shards ≡ N.race.shards }
+    requires fresh { seat.part ≡ fresh_hub }
+    requires each { vec_len parts ≡ N.race.shards }
+    requires parts { All (IsNamed N.race N.lanes) parts.items }
+    ensures { IfOk result (λ made. vec_len made.1 ≡ N.race.shards) }
+{
+    let count = server.shards();
+    let cells = Arc::new(alloc, cells)?;
+    let (lines, shards) = locked_shards(alloc, &cells, count, keep, parts)?;
+    let hub = locked_hub(alloc, server, cells, seat, keep, lines)?;
+    Ok((hub, shards))
 }
 
 /// The place of the shard of this number, of so many, where the connection is of that shard.
@@ -210,10 +257,7 @@ impl<T: SubTable, N: NodeName> ThreadNode<T, N> {
             shards,
             unparkers,
         } = parts;
-        let count = server.shards();
-        let cells = Arc::new(alloc, cells)?;
-        let (lines, shards) = locked_shards(alloc, &cells, count, keep, shards)?;
-        let hub = locked_hub(alloc, server, cells, hub, keep, lines)?;
+        let (hub, shards) = locked(alloc, server, keep, cells, hub, shards)?;
         Ok(ThreadNode {
             hub,
             shards,

@@ -1,7 +1,7 @@
 //! What a server on threads is made of.
 
 ghost use Rattle.std.specs.Prelude.{◌≡◌, All, map, IfOk};
-ghost use Rattle.thread_node.specs.Parts.{IsFreshLane};
+ghost use Rattle.thread_node.specs.Parts.{AreFresh, IsFreshLane};
 
 use claim_cells::{Cells, HubSeat, ShardSeat};
 use crossbeam_utils::sync::{Parker, Unparker};
@@ -44,28 +44,54 @@ impl Model for Parts {
     ghost invariant = { λ p. AreFresh p.server p.cells p.hub p.shards.items };
 }
 
+/// What a shard with this seat has: a new lane comes with it.
+fn shard_part(alloc: Global, seat: ShardSeat) -> Result<ShardParts, AllocError>
+    ensures { IfOk result (λ part. (part.seat ≡ seat) × IsFreshLane part.near part.far) }
+{
+    let (near, far) = lane(alloc, LANE_CAPACITY)?;
+    Ok(ShardParts { seat, near, far })
+}
+
 /// A seat and a new lane for each shard, in their order.
 fn shard_parts(alloc: Global, seats: Vec<ShardSeat>) -> Result<Vec<ShardParts>, AllocError>
     ensures { IfOk result (λ shards. (map (λ p. p.seat) shards.items ≡ seats.items) × All (λ p. IsFreshLane p.near p.far) shards.items) }
 {
     let mut shards = Vec::with_capacity(alloc, seats.len())?;
     for seat in seats {
-        let (near, far) = lane(alloc, LANE_CAPACITY)?;
-        shards.push(ShardParts { seat, near, far })?;
+        let part = shard_part(alloc, seat)?;
+        shards.push(part)?;
     }
     Ok(shards)
 }
 
-/// A parker for each shard, and what wakes it, in their order.
-fn parkers(alloc: Global, shards: u64) -> Result<(Vec<Parker>, Vec<Unparker>), AllocError> {
+/// The race of a server that has done nothing: its cells, the hub's seat, and what each shard has, in their order.
+fn fresh_race(
+    alloc: Global,
+    server: &ServerIdentity,
+) -> Result<(Cells, HubSeat, Vec<ShardParts>), AllocError>
+    ensures { IfOk result (λ made. AreFresh server.now made.0 made.1 made.2.items) }
+{
+    let (cells, hub, seats) = Cells::new(alloc, server.shards())?;
+    let shards = shard_parts(alloc, seats)?;
+    Ok((cells, hub, shards))
+}
+
+/// A parker for each shard.
+fn parkers(alloc: Global, shards: u64) -> Result<Vec<Parker>, AllocError> {
     let mut parkers = Vec::new(alloc);
-    let mut unparkers = Vec::new(alloc);
     for _shard in 0..shards {
-        let parker = Parker::new(alloc)?;
-        unparkers.push(parker.unparker().clone()?)?;
-        parkers.push(parker)?;
+        parkers.push(Parker::new(alloc)?)?;
     }
-    Ok((parkers, unparkers))
+    Ok(parkers)
+}
+
+/// What wakes each of these, in their order.
+fn unparkers_of(alloc: Global, parkers: &[Parker]) -> Result<Vec<Unparker>, AllocError> {
+    let mut unparkers = Vec::new(alloc);
+    for parker in parkers {
+        unparkers.push(parker.unparker().clone()?)?;
+    }
+    Ok(unparkers)
 }
 
 impl Parts {
@@ -79,18 +105,30 @@ impl Parts {
     ) -> Result<(Parts, Vec<Parker>), AllocError>
         ensures { IfOk result (λ made. (made.0.server ≡ server) × (made.0.keep ≡ keep)) }
     {
-        let (parkers, unparkers) = parkers(alloc, server.shards())?;
-        let (cells, hub, seats) = Cells::new(alloc, server.shards())?;
-        let shards = shard_parts(alloc, seats)?;
-        let parts = Parts {
+        let parkers = parkers(alloc, server.shards())?;
+        let parts = Parts::woken_by(alloc, server, keep, parkers.as_slice())?;
+        Ok((parts, parkers))
+    }
+
+    /// The parts of this server, whose workers sleep on these parkers.
+    fn woken_by(
+        alloc: Global,
+        server: ServerIdentity,
+        keep: bool,
+        parkers: &[Parker],
+    ) -> Result<Parts, AllocError>
+        ensures { IfOk result (λ parts. (parts.server ≡ server) × (parts.keep ≡ keep)) }
+    {
+        let unparkers = unparkers_of(alloc, parkers)?;
+        let (cells, hub, shards) = fresh_race(alloc, &server)?;
+        Ok(Parts {
             server,
             keep,
             cells,
             hub,
             shards,
             unparkers,
-        };
-        Ok((parts, parkers))
+        })
     }
 
     /// How many shards the server has, from 1.

@@ -1,9 +1,10 @@
 -- What the end of a server on threads tells.
-use Rattle.std.specs.Prelude.{◌≡◌, ℕ, ◌+◌, Bool, true, false, cond, List, [], map, Option, Some}
+use Rattle.std.specs.Prelude.{◌≡◌, ℕ, ◌+◌, Bool, true, false, cond, List, [], length, map, Option, Some}
 use Rattle.subj.specs.declared.jobs.Job.{Job}
-use Rattle.claim_cells.specs.Calls.{finished_list}
+use Rattle.claim_cells.specs.Calls.{IsClosed, finished_list}
 use Rattle.claim_cells.specs.Rule.{At}
 use Rattle.claim_cells.specs.Seats.{RaceId, ShardShown}
+use Rattle.node_threads.specs.AtHub.{AtHub}
 use Rattle.node_threads.specs.Tapes.{entries_of}
 use Rattle.node_threads.specs.declared.shard_entries.ShardEntry.{ShardEntry}
 use Rattle.thread_law.specs.Runs.{HubRun, ShardRun, IsShardRun}
@@ -37,3 +38,7 @@ seat_of race run = record { race = race; part = run.end.part }
 -- these seats are those of the shards of this race, in their order, and these their tapes; and each shard worked a beginning of these jobs
 abbrev pub AreClosed : RaceId → List Job → Bool → List ShardShown → List (List ShardEntry) → Type 0
 AreClosed race issued kept seats tapes = (runs : List ShardRun) × (seats ≡ map (seat_of race) runs) × ((k : ℕ) (run : ShardRun) → At runs k run → IsShardRun race.shards issued (k + 1) run) × (tapes ≡ map (entries_written kept) runs)
+
+-- one seat of each shard is closed with the hub's, which gave them these jobs: the end of the race tells the last turns, and who won what
+abbrev pub IsOver : RaceId → AtHub → Bool → List (List ShardEntry) → ℕ → List ℕ → List ℕ → Type 0
+IsOver race hub kept tapes issued finished claims = (seats : List ShardShown) × (length seats ≡ race.shards) × AreClosed race hub.issued kept seats tapes × IsClosed race hub.part seats issued finished claims

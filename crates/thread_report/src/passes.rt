@@ -34,8 +34,8 @@ use std::sync::Wait;
 use sub_table::SubTable;
 use subj::{ConnId, Failure, Key, Pub, Sid, SubId, Turn};
 use thread_node::{
-    HubTold, NO_SHARD, ThreadNode, answered_by_hub, answered_by_shard, count_of, length_of,
-    told_received, told_subscribed,
+    HubSection, HubTold, LockedShard, NO_SHARD, ShardSection, ThreadNode, answered_by_hub,
+    answered_by_shard, count_of, length_of, told_received, told_subscribed,
 };
 
 /// What a call answered, in numbers: one of the hub's, or one of a shard's.
@@ -144,6 +144,61 @@ impl<N: NodeName> Pass<N> {
         self.tell(keep, shard, place, event, CallAnswer::Shard(told));
     }
 
+    /// Makes room for one more call, where calls are written down, and takes the hub's lock: the place that the next step has under it comes
+    /// along. May wait.
+    fn enter_hub<'n, T: SubTable, R: Wait>(
+        &mut self,
+        rt: &R,
+        node: &'n ThreadNode<T, N>,
+    ) -> Result<(HubSection<'n, N>, usize), AllocError>
+        ensures same { self.new.calls ≡ self.old.calls }
+        ensures room { IfOk result (λ _. N.keep ≡ true → 0 < self.new.room) }
+    {
+        self.grow(node.keeps_tapes())?;
+        let hub = node.hub(rt);
+        let place = hub.steps_kept();
+        Ok((hub, place))
+    }
+
+    /// The same of the lock of the shard of this number. Refused with [`NodeFault::NoShard`] first. May wait.
+    fn enter_shard<'n, T: SubTable, R: Wait>(
+        &mut self,
+        rt: &R,
+        node: &'n ThreadNode<T, N>,
+        shard: u64,
+    ) -> Result<(ShardSection<'n, T, N>, usize), Failure<NodeFault>>
+        ensures same { self.new.calls ≡ self.old.calls }
+        ensures room { IfOk result (λ _. N.keep ≡ true → 0 < self.new.room) }
+        ensures answers { AnswersAt (has_shard N.race shard) result }
+    {
+        let Some(locked) = node.shard(rt, shard) else {
+            return Err(NO_SHARD);
+        };
+        self.grow(node.keeps_tapes())?;
+        let place = locked.steps_kept();
+        Ok((locked, place))
+    }
+
+    /// The same for a call on a connection: refused too where the connection is of another shard. May wait.
+    fn enter_conn<'n, T: SubTable, R: Wait>(
+        &mut self,
+        rt: &R,
+        node: &'n ThreadNode<T, N>,
+        shard: u64,
+        conn: ConnId,
+    ) -> Result<(ShardSection<'n, T, N>, usize), Failure<NodeFault>>
+        ensures same { self.new.calls ≡ self.old.calls }
+        ensures room { IfOk result (λ _. N.keep ≡ true → 0 < self.new.room) }
+        ensures answers { AnswersAt (has_conn N.race shard conn) result }
+    {
+        let Some(locked) = node.shard_of_conn(rt, shard, conn) else {
+            return Err(NO_SHARD);
+        };
+        self.grow(node.keeps_tapes())?;
+        let place = locked.steps_kept();
+        Ok((locked, place))
+    }
+
     /// Whether the calls under each lock stand in the order in which they were made.
     pub(crate) fn is_in_order(&self) -> bool
         ensures { result ≡ true → IsInOrder self.now.calls }
@@ -158,6 +213,55 @@ impl<N: NodeName> Pass<N> {
         let Pass { calls, .. } = self;
         calls
     }
+}
+
+/// [`ThreadNode::publish`], with the place of the step under the hub's lock. May wait.
+fn published<T: SubTable, N: NodeName, R: Wait>(
+    rt: &R,
+    node: &ThreadNode<T, N>,
+    conn: ConnId,
+    publication: &Pub,
+    word: u64,
+) -> Result<(usize, Issued), Failure<HubFault>> {
+    let mut hub = node.hub(rt);
+    let place = hub.steps_kept();
+    let issued = hub.publish(conn, publication, word)?;
+    hub.push_jobs(rt);
+    drop(hub);
+    node.unpark_workers();
+    Ok((place, issued))
+}
+
+/// [`ThreadNode::receive`], with the place of the step under the hub's lock. May wait.
+fn received<T: SubTable, N: NodeName, R: Wait>(
+    rt: &R,
+    node: &ThreadNode<T, N>,
+    frame: &Numbered,
+) -> Result<(usize, Received), Failure<HubFault>> {
+    let mut hub = node.hub(rt);
+    let place = hub.steps_kept();
+    let received = hub.receive(frame)?;
+    hub.push_jobs(rt);
+    drop(hub);
+    node.unpark_workers();
+    Ok((place, received))
+}
+
+/// Subscribes under the lock of the shard; what was asked comes along, where calls are written down.
+fn subscribed<T: SubTable, N: NodeName>(
+    alloc: Global,
+    keep: bool,
+    locked: &mut LockedShard<T, N>,
+    conn: ConnId,
+    key: Key,
+    sid: Sid,
+) -> Result<(Option<NodeEvent>, Subscribed), Failure<NodeFault>>
+    ensures event { IfOk result (λ made. made.0 ≡ cond keep (Some (Own (own.OfConn conn (of_conn.Subscribe key sid)))) None) }
+    ensures answers { AnswersAt true result }
+{
+    let event = subscribe_event(alloc, keep, conn, &key, &sid)?;
+    let done = answered_by_shard(locked.subscribe(conn, key, sid))?;
+    Ok((event, done))
 }
 
 /// Each call is that of [`ThreadNode`] of the same name. Where what is done is written down, the pass gains it, with
@@ -177,14 +281,9 @@ impl<N: NodeName> Pass<N> {
         ensures same { OnErr result (self.new.calls ≡ self.old.calls) }
     {
         let keep = node.keeps_tapes();
-        let event = publish_event(keep, conn, publication, word)?;
         self.grow(keep)?;
-        let mut hub = node.hub(rt);
-        let place = hub.steps_kept();
-        let issued = hub.publish(conn, publication, word)?;
-        hub.push_jobs(rt);
-        drop(hub);
-        node.unpark_workers();
+        let event = publish_event(keep, conn, publication, word)?;
+        let (place, issued) = published(rt, node, conn, publication, word)?;
         let told = HubTold::Issued {
             turn: issued.turn,
             frames: issued.frames,
@@ -204,14 +303,9 @@ impl<N: NodeName> Pass<N> {
         ensures same { OnErr result (self.new.calls ≡ self.old.calls) }
     {
         let keep = node.keeps_tapes();
-        let event = receive_event(self.alloc, keep, frame)?;
         self.grow(keep)?;
-        let mut hub = node.hub(rt);
-        let place = hub.steps_kept();
-        let received = hub.receive(frame)?;
-        hub.push_jobs(rt);
-        drop(hub);
-        node.unpark_workers();
+        let event = receive_event(self.alloc, keep, frame)?;
+        let (place, received) = received(rt, node, frame)?;
         let told = told_received(&received);
         self.tell_hub(keep, place, event, told);
         Ok(received)
@@ -228,9 +322,7 @@ impl<N: NodeName> Pass<N> {
         ensures same { OnErr result (self.new.calls ≡ self.old.calls) }
     {
         let keep = node.keeps_tapes();
-        self.grow(keep)?;
-        let mut hub = node.hub(rt);
-        let place = hub.steps_kept();
+        let (mut hub, place) = self.enter_hub(rt, node)?;
         let done = hub.dial(peer);
         drop(hub);
         let session = done?;
@@ -249,9 +341,7 @@ impl<N: NodeName> Pass<N> {
         ensures same { OnErr result (self.new.calls ≡ self.old.calls) }
     {
         let keep = node.keeps_tapes();
-        self.grow(keep)?;
-        let mut hub = node.hub(rt);
-        let place = hub.steps_kept();
+        let (mut hub, place) = self.enter_hub(rt, node)?;
         let done = hub.accept();
         drop(hub);
         let (session, info) = done?;
@@ -272,9 +362,7 @@ impl<N: NodeName> Pass<N> {
         ensures same { OnErr result (self.new.calls ≡ self.old.calls) }
     {
         let keep = node.keeps_tapes();
-        self.grow(keep)?;
-        let mut hub = node.hub(rt);
-        let place = hub.steps_kept();
+        let (mut hub, place) = self.enter_hub(rt, node)?;
         let done = hub.info(session, info);
         drop(hub);
         let (kept, connect) = done?;
@@ -301,9 +389,7 @@ impl<N: NodeName> Pass<N> {
         ensures same { OnErr result (self.new.calls ≡ self.old.calls) }
     {
         let keep = node.keeps_tapes();
-        self.grow(keep)?;
-        let mut hub = node.hub(rt);
-        let place = hub.steps_kept();
+        let (mut hub, place) = self.enter_hub(rt, node)?;
         let done = hub.connect(session, connect);
         drop(hub);
         let kept = done?;
@@ -329,9 +415,7 @@ impl<N: NodeName> Pass<N> {
         ensures same { OnErr result (self.new.calls ≡ self.old.calls) }
     {
         let keep = node.keeps_tapes();
-        self.grow(keep)?;
-        let mut hub = node.hub(rt);
-        let place = hub.steps_kept();
+        let (mut hub, place) = self.enter_hub(rt, node)?;
         let done = hub.cut(session);
         drop(hub);
         let peer = match done {
@@ -355,9 +439,7 @@ impl<N: NodeName> Pass<N> {
         ensures same { OnErr result (self.new.calls ≡ self.old.calls) }
     {
         let keep = node.keeps_tapes();
-        self.grow(keep)?;
-        let mut hub = node.hub(rt);
-        let place = hub.steps_kept();
+        let (mut hub, place) = self.enter_hub(rt, node)?;
         let done = hub.take_frames(peer, count);
         drop(hub);
         let frames = done?;
@@ -377,13 +459,10 @@ impl<N: NodeName> Pass<N> {
         ensures same { OnErr result (self.new.calls ≡ self.old.calls) }
         ensures answers { AnswersAt (has_shard N.race shard) result }
     {
-        let mut hub = node.hub(rt);
-        let Some(mut of_shard) = node.shard(rt, shard) else {
-            return Err(NO_SHARD);
-        };
         let keep = node.keeps_tapes();
-        self.grow(keep)?;
+        let mut hub = node.hub(rt);
         let place = hub.steps_kept();
+        let (mut of_shard, _) = self.enter_shard(rt, node, shard)?;
         let done = hub.collect(&mut of_shard);
         drop(of_shard);
         drop(hub);
@@ -408,12 +487,8 @@ impl<N: NodeName> Pass<N> {
         ensures same { OnErr result (self.new.calls ≡ self.old.calls) }
         ensures answers { AnswersAt (has_shard N.race shard) result }
     {
-        let Some(mut locked) = node.shard(rt, shard) else {
-            return Err(NO_SHARD);
-        };
         let keep = node.keeps_tapes();
-        self.grow(keep)?;
-        let place = locked.steps_kept();
+        let (mut locked, place) = self.enter_shard(rt, node, shard)?;
         let done = locked.attach();
         drop(locked);
         let conn = answered_by_shard(done)?;
@@ -442,16 +517,10 @@ impl<N: NodeName> Pass<N> {
         ensures same { OnErr result (self.new.calls ≡ self.old.calls) }
         ensures answers { AnswersAt (has_conn N.race shard conn) result }
     {
-        let Some(mut locked) = node.shard_of_conn(rt, shard, conn) else {
-            return Err(NO_SHARD);
-        };
         let keep = node.keeps_tapes();
-        let event = subscribe_event(self.alloc, keep, conn, &key, &sid)?;
-        self.grow(keep)?;
-        let place = locked.steps_kept();
-        let done = locked.subscribe(conn, key, sid);
+        let (mut locked, place) = self.enter_conn(rt, node, shard, conn)?;
+        let (event, done) = subscribed(self.alloc, keep, &mut locked, conn, key, sid)?;
         drop(locked);
-        let done = answered_by_shard(done)?;
         self.tell_shard(keep, shard, place, event, told_subscribed(done));
         Ok(done)
     }
@@ -470,13 +539,9 @@ impl<N: NodeName> Pass<N> {
         ensures same { OnErr result (self.new.calls ≡ self.old.calls) }
         ensures answers { AnswersAt (has_conn N.race shard conn) result }
     {
-        let Some(mut locked) = node.shard_of_conn(rt, shard, conn) else {
-            return Err(NO_SHARD);
-        };
         let keep = node.keeps_tapes();
+        let (mut locked, place) = self.enter_conn(rt, node, shard, conn)?;
         let event = unsubscribe_event(self.alloc, keep, conn, sid, max)?;
-        self.grow(keep)?;
-        let place = locked.steps_kept();
         let done = locked.unsubscribe(conn, sid, max);
         drop(locked);
         let ended = match done {
@@ -506,12 +571,8 @@ impl<N: NodeName> Pass<N> {
         ensures same { OnErr result (self.new.calls ≡ self.old.calls) }
         ensures answers { AnswersAt (has_conn N.race shard conn) result }
     {
-        let Some(mut locked) = node.shard_of_conn(rt, shard, conn) else {
-            return Err(NO_SHARD);
-        };
         let keep = node.keeps_tapes();
-        self.grow(keep)?;
-        let place = locked.steps_kept();
+        let (mut locked, place) = self.enter_conn(rt, node, shard, conn)?;
         let done = locked.reply(conn, frame);
         drop(locked);
         let closed = answered_by_shard(done)?;
@@ -537,12 +598,8 @@ impl<N: NodeName> Pass<N> {
         ensures same { OnErr result (self.new.calls ≡ self.old.calls) }
         ensures answers { AnswersAt (has_conn N.race shard conn) result }
     {
-        let Some(mut locked) = node.shard_of_conn(rt, shard, conn) else {
-            return Err(NO_SHARD);
-        };
         let keep = node.keeps_tapes();
-        self.grow(keep)?;
-        let place = locked.steps_kept();
+        let (mut locked, place) = self.enter_conn(rt, node, shard, conn)?;
         let done = locked.shut(conn, text);
         drop(locked);
         let ended = answered_by_shard(done)?;
@@ -569,12 +626,8 @@ impl<N: NodeName> Pass<N> {
         ensures same { OnErr result (self.new.calls ≡ self.old.calls) }
         ensures answers { AnswersAt (has_conn N.race shard conn) result }
     {
-        let Some(mut locked) = node.shard_of_conn(rt, shard, conn) else {
-            return Err(NO_SHARD);
-        };
         let keep = node.keeps_tapes();
-        self.grow(keep)?;
-        let place = locked.steps_kept();
+        let (mut locked, place) = self.enter_conn(rt, node, shard, conn)?;
         let done = locked.detach(conn);
         drop(locked);
         let ended = answered_by_shard(done)?;
@@ -602,12 +655,8 @@ impl<N: NodeName> Pass<N> {
         ensures same { OnErr result (self.new.calls ≡ self.old.calls) }
         ensures answers { AnswersAt (has_conn N.race shard conn) result }
     {
-        let Some(mut locked) = node.shard_of_conn(rt, shard, conn) else {
-            return Err(NO_SHARD);
-        };
         let keep = node.keeps_tapes();
-        self.grow(keep)?;
-        let place = locked.steps_kept();
+        let (mut locked, place) = self.enter_conn(rt, node, shard, conn)?;
         let done = locked.take(conn, count);
         drop(locked);
         let entries = answered_by_shard(done)?;
@@ -633,12 +682,8 @@ impl<N: NodeName> Pass<N> {
         ensures same { OnErr result (self.new.calls ≡ self.old.calls) }
         ensures answers { AnswersAt (has_shard N.race shard) result }
     {
-        let Some(mut locked) = node.shard(rt, shard) else {
-            return Err(NO_SHARD);
-        };
         let keep = node.keeps_tapes();
-        self.grow(keep)?;
-        let place = locked.steps_kept();
+        let (mut locked, place) = self.enter_shard(rt, node, shard)?;
         let done = locked.drop_job(rt);
         drop(locked);
         let turn = answered_by_shard(done)?;

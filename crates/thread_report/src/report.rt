@@ -4,15 +4,16 @@ ghost use Rattle.std.specs.Prelude.{◌≡◌, true, List, Option, All, length, 
 ghost use Rattle.std.specs.Arc.{arc_value};
 ghost use Rattle.subj.specs.declared.jobs.Job.{Job};
 ghost use Rattle.claim_cells.specs.Calls.{AllOf, HasEach, IsClosed};
+ghost use Rattle.node_threads.specs.AtHub.{IsAtHub};
 ghost use Rattle.node_threads.specs.Outlets.{AreFirst};
 ghost use Rattle.node_threads.specs.Tapes.{IsTape};
 ghost use Rattle.node_threads.specs.declared.shard_entries.ShardEntry.{ShardEntry};
 ghost use Rattle.thread_report.specs.Handing.{AreHanded};
-ghost use Rattle.thread_report.specs.Issued.{AreIssued};
+ghost use Rattle.thread_report.specs.Issued.{AreIssued, issued_on as jobs_on};
 ghost use Rattle.thread_report.specs.Owed.{AreTold};
 ghost use Rattle.thread_law.specs.Once.{AreOnce};
 ghost use Rattle.thread_law.specs.Runs.{HubRun, IsLegal, ShardRun};
-ghost use Rattle.thread_report.specs.Reports.{AreClosed, IsKept, IsWritten, Tells};
+ghost use Rattle.thread_report.specs.Reports.{AreClosed, IsKept, IsOver, IsWritten, Tells};
 
 use crate::faults::Unfinished;
 use crate::handing::torn_shard;
@@ -21,7 +22,7 @@ use crate::passes::Pass;
 use crate::passes_told::are_told;
 use claim_cells::{Cells, Closed, HubSeat, ShardSeat};
 use job_lane::meet;
-use node_threads::{LaneSender, NodeName, ShardEntry, Tape};
+use node_threads::{HubState, LaneSender, NodeName, ShardEntry, Tape};
 use std::alloc::Global;
 use std::sync::{Arc, Mutex, Wait};
 use sub_table::SubTable;
@@ -125,6 +126,40 @@ fn close_race(
     Ok(cells.close(seat, seats)?)
 }
 
+/// What the hub's tape says, and the publications that it names; nothing of both where nothing was to be written down.
+fn written_by_hub(
+    alloc: Global,
+    keep: bool,
+    tape: Tape<HubEntry>,
+) -> Result<(Vec<HubEntry>, Vec<IssuedJob>), Unfinished>
+    ensures kept { IfOk result (λ made. IsKept keep tape made.0.items) }
+    ensures jobs { IfOk result (λ made. made.1.items ≡ jobs_on 1 made.0.items) }
+{
+    let entries = entries_on(alloc, keep, tape)?;
+    let jobs = issued_on(alloc, entries.as_slice())?;
+    Ok((entries, jobs))
+}
+
+/// Ends the race of these shards, whose seats come together with the hub's, and gives what stands on the shards' tapes.
+fn close_all<T: SubTable, N: NodeName, R: Wait>(
+    rt: &R,
+    alloc: Global,
+    keep: bool,
+    state: HubState<N>,
+    cells: Arc<Cells, Global>,
+    shards: Vec<Mutex<LockedShard<T, N>>>,
+) -> Result<(Closed, Vec<Vec<ShardEntry>>), Unfinished>
+    requires race { arc_value cells ≡ N.race }
+    requires all { vec_len shards ≡ N.race.shards }
+    ensures hub { IfOk result (λ _. IsAtHub N.race.shards state) }
+    ensures over { IfOk result (λ made. IsOver N.race state keep (map (λ entries. entries.items) made.1.items) made.0.issued made.0.finished made.0.cells.items) }
+{
+    let (seat, lines) = state.into_parts();
+    let (seats, worked) = close_shards(rt, alloc, keep, lines, shards)?;
+    let closed = close_race(cells, seat, seats)?;
+    Ok((closed, worked))
+}
+
 /// The report of a server, with which no pass was compared yet.
 fn reported<T: SubTable, N: NodeName, R: Wait>(
     rt: &R,
@@ -137,11 +172,8 @@ fn reported<T: SubTable, N: NodeName, R: Wait>(
     let keep = node.keeps_tapes();
     let (hub, shards) = node.into_locked();
     let (state, cells, tape) = hub.into_parts();
-    let hub = entries_on(alloc, keep, tape)?;
-    let jobs = issued_on(alloc, hub.as_slice())?;
-    let (seat, lines) = state.into_parts();
-    let (seats, worked) = close_shards(rt, alloc, keep, lines, shards)?;
-    let closed = close_race(cells, seat, seats)?;
+    let (hub, jobs) = written_by_hub(alloc, keep, tape)?;
+    let (closed, worked) = close_all(rt, alloc, keep, state, cells, shards)?;
     legal_runs_are_once();
     Ok(Report {
         issued: closed.issued,

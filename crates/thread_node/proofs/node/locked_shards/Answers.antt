@@ -1,6 +1,6 @@
 use Rattle.std.proofs.Common.{◌≡◌, ◌+◌, [], All, length, sym, ap, ◌∙◌, subst, arith}
 use Rattle.thread_node.specs.Parts.{IsNamed}
-use Rattle.thread_node.proofs.Starting.{all_first, all_rest, all_snoc, none_pushed}
+use Rattle.thread_node.proofs.Starting.{all_first, all_rest, none_pushed}
 use Rattle.thread_node.proofs.node.locked_shards.Goals as goal
 
 pub loop-part-init : goal.loop-part-init
@@ -11,8 +11,8 @@ loop-part-init g c = (
   subst (All (λ line. line.pushed ≡ [])) (sym c.new-lines.ensures.items) (none_pushed (λ line. line.pushed)),
 )
 
-pub locked_shard-requires-clause-parts : goal.locked_shard-requires-clause-parts
-locked_shard-requires-clause-parts g c =
+pub add_shard-requires-clause-parts : goal.add_shard-requires-clause-parts
+add_shard-requires-clause-parts g c =
     let named = IsNamed g.N.NodeName.race g.N.NodeName.lanes in
     all_first named c.in-Some.part c.next.new.self.rest.items (subst (All named) c.in-Some.ensures.steps.0 c.loop-part.invariant.0)
 
@@ -20,11 +20,10 @@ pub loop-part-preserved : goal.loop-part-preserved
 loop-part-preserved g c =
     let i = c.loop-part.invariant in
     let named = IsNamed g.N.NodeName.race g.N.NodeName.lanes in
-    let line = c.in_ok-push.ensures in
-    let step = c.in-Some.ensures.steps.0 in
-    let new = c.in_ok-line in (
+    let added = c.in_ok-add_shard.ensures in
+    let step = c.in-Some.ensures.steps.0 in (
       all_rest named c.in-Some.part c.next.new.self.rest.items (subst (All named) step i.0),
-      (let n = ap length step in omega (arith, line.len, i.1, n)),
-      c.in_ok-push-2.ensures.len ∙ ap (λ n. n + 1) i.2 ∙ sym line.len,
-      subst (All (λ l. l.pushed ≡ [])) (sym line.items) (all_snoc (λ l. l.pushed ≡ []) c.loop-part.lines.items new.line i.3 new.ensures),
+      (let n = ap length step in omega (arith, added.line, i.1, n)),
+      added.shard ∙ ap (λ n. n + 1) i.2 ∙ sym added.line,
+      added.fresh i.3,
     )
