@@ -1,12 +1,14 @@
 #!/usr/bin/env python3
 """Proves and builds a program of the repository, with all processors, and tells on standard error how far it is.
 
-First the wide part: crates that are proved side by side, as many at a time as processors and memory allow. That is done in a folder of their own (`.build`),
-since only `rt all` proves crates side by side, and it takes all that a folder lists. Then the end: the last crates, which stand on one another, each with all
-processors. What is proved goes back into `crates/NAME/out`, also where a run was stopped, so the next one goes on from there. Where a crate is
-refused, what the prover said of it is printed and the status is 1.
+A crate is proved once all crates below it are. As many are proved side by side as processors and memory allow, first those with the longest chain of crates
+above them; where fewer are ready than there are processors, a check gets several jobs. `rt` keeps other commands out of each crate that it reads, so each of
+these checks has a tree of its own (`.build/1`, `.build/2` and so on): a copy of the sources, with links to the libraries that are built. What is proved goes
+into `crates/NAME/out`, also where a run was stopped, so the next one goes on from there. Where a crate is refused, what the prover said of it is printed and
+the status is 1.
 Usage: tools/build.py PROGRAM
 """
+import concurrent.futures
 import json
 import os
 import re
@@ -30,8 +32,11 @@ UNMEASURED = 100
 # How often progress is told at least, in seconds.
 INTERVAL = 10
 
-# By how much less a check with so many jobs takes, and by how much more processor time.
+# By how much less time a check takes with so many jobs; more of them gain nothing.
 GAIN = {1: 1.0, 2: 0.65, 3: 0.53, 4: 0.45}
+
+# How long a run says what was planned, before it goes by what it took until then, in seconds.
+SETTLING = 120
 
 # What the prover says of the functions of one crate.
 FUNCTIONS = re.compile(r"(?:so far: |checked \S+, )(\d+) of (\d+)")
@@ -68,66 +73,61 @@ def available_memory():
 
 
 def processors():
-    """How many checks may run side by side, or jobs in one."""
+    """How many jobs may run side by side."""
     return max(1, min(len(os.sched_getaffinity(0)), available_memory() // MEMORY_OF_A_CHECK))
 
 
 class Plan:
-    """When each crate is expected to be proved, in seconds of a quiet machine, and which crates are the end."""
+    """The crates that a program needs, what each stands on and costs, and in which order they are taken up."""
 
-    def __init__(self, needed, lines, costs, lanes):
-        self.below = {crate: [it for it in libraries_of(lines[crate]) if it in needed] for crate in needed}
-        self.costs, self.lanes = costs, lanes
-        ends = self.side_by_side(needed)
-        self.end = self.chain_at_the_end(needed, ends)
-        self.wide = [crate for crate in needed if crate not in self.end]
-        self.expected = {crate: ends[crate] for crate in self.wide}
-        now = max(self.expected.values(), default=0)
-        for crate in self.end:
-            now += costs[crate] * GAIN.get(lanes, GAIN[4])
-            self.expected[crate] = now
+    def __init__(self, program, lines, lanes):
+        self.needed, self.lines, self.lanes = crates_needed(program, lines), lines, lanes
+        self.costs = costs_of(self.needed)
+        self.below = {crate: [it for it in libraries_of(lines[crate]) if it in self.needed] for crate in self.needed}
+        self.chains = self.longest_chains()
 
-    def behind(self, needed):
-        """For each crate, how much stands in its longest chain of crates above, itself among them."""
-        behind = {}
-        for crate in reversed(needed):
-            above = [behind[other] for other in needed if crate in self.below[other] and other in behind]
-            behind[crate] = self.costs[crate] + max(above, default=0)
-        return behind
+    def longest_chains(self):
+        """For each crate, the cost of the dearest chain of crates that begins with it and goes up."""
+        chains = {}
+        for crate in reversed(self.needed):
+            above = [chains[other] for other in chains if crate in self.below[other]]
+            chains[crate] = self.costs[crate] + max(above, default=0)
+        return chains
 
-    def side_by_side(self, needed):
-        """When each crate ends, where each has one processor and the longest chains go first."""
-        behind, ends, running, now = self.behind(needed), {}, {}, 0
-        while len(ends) < len(needed):
-            ready = [it for it in needed if it not in ends and it not in running and all(low in ends for low in self.below[it])]
-            for crate in sorted(ready, key=lambda it: -behind[it])[: self.lanes - len(running)]:
-                running[crate] = now + self.costs[crate]
-            crate = min(running, key=running.get)
-            now = ends[crate] = running.pop(crate)
-        return ends
-
-    def chain_at_the_end(self, needed, ends):
-        """The last crates that are proved alone: no other one, but those behind it, ends beyond the middle of each, and each ends before the next begins."""
-        end, next_begins = [], max(ends.values())
-        for crate in sorted(needed, key=lambda it: -ends[it]):
-            middle = ends[crate] - self.costs[crate] / 2
-            others = [ends[it] for it in needed if it != crate and it not in end]
-            if ends[crate] > next_begins or max(others, default=0) > middle:
+    def next_checks(self, proved, begun, free):
+        """The crates that are taken up now, each with its jobs, where so many processors are free."""
+        ready = [it for it in self.needed if it not in begun and all(low in proved for low in self.below[it])]
+        checks = []
+        for waiting, crate in zip(reversed(range(len(ready))), sorted(ready, key=lambda it: -self.chains[it])):
+            if not free:
                 break
-            end.insert(0, crate)
-            next_begins = ends[crate] - self.costs[crate]
-        return end or needed[-1:]
+            jobs = max(1, min(free - waiting, max(GAIN)))
+            checks.append((crate, jobs))
+            free -= jobs
+        return checks
+
+    def expected(self):
+        """How long all of it takes on a quiet machine, in seconds."""
+        proved, running, now, free = set(), {}, 0, self.lanes
+        while len(proved) < len(self.needed):
+            for crate, jobs in self.next_checks(proved, {*proved, *running}, free):
+                running[crate] = now + self.costs[crate] * GAIN[jobs], jobs
+                free -= jobs
+            crate = min(running, key=running.get)
+            now, jobs = running.pop(crate)
+            free += jobs
+            proved.add(crate)
+        return now
 
 
 class Progress:
     """Tells how far the build is: at each crate that is proved, and at least every so many seconds."""
 
     def __init__(self, plan, program):
-        self.plan, self.program = plan, program
-        self.count, self.whole = len(plan.expected), max(plan.expected.values())
-        self.done, self.reached, self.doing = 0, 0, "reading what was proved before"
+        self.plan, self.program, self.whole = plan, program, plan.expected()
+        self.proved, self.running = [], {}
         self.start, self.ended = time.monotonic(), threading.Event()
-        self.thread = threading.Thread(target=self.tell_on, daemon=True)
+        self.telling, self.thread = threading.RLock(), threading.Thread(target=self.tell_on, daemon=True)
 
     def __enter__(self):
         self.thread.start()
@@ -141,107 +141,123 @@ class Progress:
         while not self.ended.wait(INTERVAL):
             self.tell()
 
-    def left(self):
-        """How long it takes on, by what it took until now."""
-        gone = time.monotonic() - self.start
-        scale = gone / self.reached if self.reached else 1
-        return max(0, self.whole - self.reached) * scale
+    def share(self):
+        """Which part of the whole work is done."""
+        costs = self.plan.costs
+        begun = sum(costs[crate] * done / count for crate, (done, count) in self.running.items())
+        return (sum(costs[crate] for crate in self.proved) + begun) / sum(costs.values())
+
+    def left(self, gone):
+        """How long it takes on, by what was planned and by what it took until now."""
+        planned = self.whole * self.share()
+        return (self.whole - planned) * (gone + SETTLING) / (planned + SETTLING)
 
     def tell(self):
-        gone = time.monotonic() - self.start
-        print(f"{self.program}: {self.done} of {self.count} crates, {self.doing}; {gone:.0f} s gone, about {self.left() / 60:.0f} min left",
-              file=sys.stderr, flush=True)
+        with self.telling:
+            gone = time.monotonic() - self.start
+            doing = ", ".join(f"{crate} {done} of {count}" if done else crate for crate, (done, count) in self.running.items())
+            print(f"{self.program}: {len(self.proved)} of {len(self.plan.needed)} crates are proved; at {doing or 'none'}; {gone:.0f} s gone, "
+                  f"about {self.left(gone) / 60:.0f} min left", file=sys.stderr, flush=True)
 
-    def proved(self, crate):
-        self.done += 1
-        self.reached = max(self.reached, self.plan.expected.get(crate, 0))
-        self.doing = f"{crate} is proved"
-        self.tell()
+    def begins(self, crate):
+        with self.telling:
+            self.running[crate] = 0, 1
+
+    def reaches(self, crate, functions, count):
+        with self.telling:
+            self.running[crate] = functions, count
+
+    def ends(self, crate):
+        with self.telling:
+            del self.running[crate]
+            self.proved.append(crate)
+            self.tell()
 
 
-def move_proofs(source, target):
-    """Moves what was proved of each crate from one tree to the other, in place of what is there."""
-    crates = os.path.join(source, "crates")
-    for crate in os.listdir(crates) if os.path.isdir(crates) else []:
-        proofs, place = (os.path.join(tree, "crates", crate, "out") for tree in (source, target))
-        if os.path.isdir(proofs):
-            shutil.rmtree(place, ignore_errors=True)
-            os.rename(proofs, place)
+class Commands:
+    """The commands that run. They are stopped together."""
+
+    def __init__(self):
+        self.children, self.guard, self.is_stopped = set(), threading.Lock(), False
+
+    def start(self, command, folder):
+        with self.guard:
+            if self.is_stopped:
+                return None
+            child = subprocess.Popen(command, cwd=folder, stdin=subprocess.DEVNULL, stdout=subprocess.PIPE, stderr=subprocess.STDOUT, text=True,
+                                     errors="replace", start_new_session=True)
+            self.children.add(child)
+            return child
+
+    def run(self, command, folder, hear):
+        """Runs a command, and has each of its lines heard. Gives whether it passed."""
+        child = self.start(command, folder)
+        if child is None:
+            return False
+        for line in child.stdout:
+            hear(line)
+        status = child.wait()
+        with self.guard:
+            self.children.discard(child)
+        return status == 0
+
+    def stop(self):
+        with self.guard:
+            self.is_stopped = True
+            for child in self.children:
+                os.killpg(child.pid, signal.SIGTERM)
 
 
-class Room:
-    """A tree of the crates of the wide part alone, over the proofs that the repository has of them."""
+def out_of(tree, crate):
+    """Where `rt` keeps what it proved and built of a crate."""
+    return os.path.join(tree, "crates", crate, "out")
 
-    def __init__(self, crates, lines):
-        self.crates, self.lines = crates, lines
+
+class Trees:
+    """Copies of the sources. In each one crate at a time is proved."""
+
+    def __init__(self, plan):
+        self.plan, self.free, self.guard = plan, [os.path.join(ROOM, str(lane + 1)) for lane in range(plan.lanes)], threading.Lock()
 
     def __enter__(self):
-        # what an earlier run has left, which was stopped
+        # what an earlier run has left, which was killed
         self.__exit__()
-        os.mkdir(ROOM)
-        with open(os.path.join(ROOM, "crates.txt"), "w", encoding="utf-8") as file:
-            file.writelines(self.lines[crate] for crate in self.crates)
-        for crate in self.crates:
-            source, target = (os.path.join(tree, "crates", crate) for tree in (TOP, ROOM))
-            shutil.copytree(source, target, ignore=shutil.ignore_patterns("out", "must-fail"))
-            if os.path.isdir(os.path.join(source, "out")):
-                os.rename(os.path.join(source, "out"), os.path.join(target, "out"))
+        for tree in self.free:
+            for crate in self.plan.needed:
+                shutil.copytree(folder_of(crate), os.path.join(tree, "crates", crate), ignore=shutil.ignore_patterns("out", "must-fail"))
+            with open(os.path.join(tree, "crates.txt"), "w", encoding="utf-8") as file:
+                file.writelines(self.plan.lines[crate] for crate in self.plan.needed)
         return self
 
     def __exit__(self, *_):
-        move_proofs(ROOM, TOP)
+        """A crate without `out` in the repository is at work in one of the trees: what was proved of it goes on from there."""
+        for tree in (entry.path for entry in os.scandir(ROOM)) if os.path.isdir(ROOM) else []:
+            for crate in self.plan.needed:
+                if os.path.isdir(out_of(tree, crate)) and not os.path.isdir(out_of(TOP, crate)):
+                    os.rename(out_of(tree, crate), out_of(TOP, crate))
         shutil.rmtree(ROOM, ignore_errors=True)
 
+    def enter(self, crate):
+        """A tree in which the crate can be proved: what was proved of it before goes there, and links to the libraries below it."""
+        with self.guard:
+            tree = self.free.pop()
+        for library in self.libraries_below(crate):
+            if not os.path.isdir(out_of(tree, library)):
+                shutil.copytree(os.path.join(out_of(TOP, library), "rlib"), os.path.join(out_of(tree, library), "rlib"), copy_function=os.link)
+        if os.path.isdir(out_of(TOP, crate)):
+            os.rename(out_of(TOP, crate), out_of(tree, crate))
+        return tree
 
-def run(command, folder, hear):
-    """Runs a command, and has each of its lines heard. Gives its status."""
-    child = subprocess.Popen(command, cwd=folder, stdin=subprocess.DEVNULL, stdout=subprocess.PIPE, stderr=subprocess.STDOUT, text=True,
-                             errors="replace", start_new_session=True)
-    try:
-        for line in child.stdout:
-            hear(line)
-        return child.wait()
-    finally:
-        if child.poll() is None:
-            os.killpg(child.pid, signal.SIGTERM)
-            child.wait()
+    def leave(self, tree, crate):
+        """The crate's proofs go back to the repository, and another crate can be proved in the tree."""
+        os.rename(out_of(tree, crate), out_of(TOP, crate))
+        with self.guard:
+            self.free.append(tree)
 
-
-def prove_wide(lines, progress):
-    """Proves the wide part. Gives what was said of the crates that are not proved, or None."""
-    said, crate = [], []
-
-    def hear(line):
-        nonlocal said, crate
-        if line.startswith("== "):
-            said, crate = said + crate, []
-        crate.append(line)
-        if line.startswith("logic=proved"):
-            progress.proved(crate[0].strip("= \n"))
-            crate = []
-
-    if not progress.plan.wide:
-        return None
-    with Room(progress.plan.wide, lines):
-        status = run(["rt", "all", "check", "--jobs", str(processors())], ROOM, hear)
-    return "".join(said + crate) if status else None
-
-
-def prove_one(crate, command, progress):
-    """Proves a crate with all processors. Gives what was said of it where it is not proved, or None."""
-    said = []
-
-    def hear(line):
-        said.append(line)
-        found = FUNCTIONS.search(line)
-        if found:
-            progress.doing = f"{found[1]} of {found[2]} functions of {crate}"
-
-    progress.doing = f"{crate} with all processors"
-    if run(command, folder_of(crate), hear):
-        return "".join(said)
-    progress.proved(crate)
-    return None
+    def libraries_below(self, crate):
+        """All crates that the crate stands on."""
+        found = set(self.plan.below[crate])
+        return found.union(*(self.libraries_below(library) for library in found))
 
 
 def stored_words(program):
@@ -253,22 +269,70 @@ def stored_words(program):
         return file.read().split()
 
 
+class Build:
+    """A build of a program: its plan, its trees, and how far it is."""
+
+    def __init__(self, plan, program, trees, progress):
+        self.plan, self.program, self.trees, self.progress, self.commands = plan, program, trees, progress, Commands()
+
+    def prove_by(self, crate, words, folder):
+        """Proves a crate by a command of `rt`. Gives what was said of it where it is not proved, or None."""
+        said = []
+
+        def hear(line):
+            said.append(line)
+            found = FUNCTIONS.search(line)
+            if found:
+                self.progress.reaches(crate, int(found[1]), int(found[2]))
+
+        self.progress.begins(crate)
+        if not self.commands.run(["rt", *words], folder, hear):
+            return "".join(said) or f"{crate} was not proved\n"
+        self.progress.ends(crate)
+        return None
+
+    def prove(self, crate, jobs):
+        """Proves a crate. The program is built too, in the repository itself: nothing is proved beside it."""
+        flags = ["--jobs", str(jobs)]
+        if crate == self.program:
+            # A program is built by a run of it. On an empty input it ends with status 0: any other is that of a build that failed.
+            return self.prove_by(crate, ["run", *flags, "--", *stored_words(crate)], folder_of(crate))
+        tree = self.trees.enter(crate)
+        said = self.prove_by(crate, ["lib", *flags], os.path.join(tree, "crates", crate))
+        if said is None:
+            self.trees.leave(tree, crate)
+        return said
+
+    def prove_all(self):
+        """Proves all crates. Gives what was said of the first that is refused, or None."""
+        proved, running, free = set(), {}, self.plan.lanes
+        with concurrent.futures.ThreadPoolExecutor(self.plan.lanes) as pool:
+            try:
+                while len(proved) < len(self.plan.needed):
+                    begun = {*proved, *(crate for crate, _ in running.values())}
+                    for crate, jobs in self.plan.next_checks(proved, begun, free):
+                        running[pool.submit(self.prove, crate, jobs)] = crate, jobs
+                        free -= jobs
+                    ended, _ = concurrent.futures.wait(running, return_when=concurrent.futures.FIRST_COMPLETED)
+                    for check in ended:
+                        crate, jobs = running.pop(check)
+                        if check.result() is not None:
+                            return check.result()
+                        free += jobs
+                        proved.add(crate)
+            finally:
+                self.commands.stop()
+        return None
+
+
 def build(program):
     """Proves and builds the program, unless it is as its sources are. Ends this process where it is refused."""
-    lines = lines_of_crates()
-    needed = crates_needed(program, lines)
-    lanes = processors()
-    plan = Plan(needed, lines, costs_of(needed), lanes)
+    plan = Plan(program, lines_of_crates(), processors())
     with Progress(plan, program) as progress:
-        print(f"{program}: {len(needed)} crates are proved and built once, on {lanes} processors: about {progress.whole / 60:.0f} minutes on a quiet machine",
-              file=sys.stderr, flush=True)
-        said = prove_wide(lines, progress)
-        for crate in plan.end if said is None else []:
-            # A program is built by a run of it. On an empty input it ends with status 0: any other is that of a build that failed.
-            verb = ["run", "--jobs", str(lanes), "--", *stored_words(crate)] if crate == program else ["lib", "--jobs", str(lanes)]
-            said = prove_one(crate, ["rt", *verb], progress)
-            if said is not None:
-                break
+        print(f"{program}: {len(plan.needed)} crates are proved and built once, on {plan.lanes} processors: about {progress.whole / 60:.0f} minutes on a "
+              "quiet machine", file=sys.stderr, flush=True)
+        with Trees(plan) as trees:
+            said = Build(plan, program, trees, progress).prove_all()
     if said is not None:
         sys.exit(f"{said}{program}: refused")
 
