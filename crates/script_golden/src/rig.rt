@@ -1,25 +1,28 @@
 //! What stands in a case, and whose call a line is.
 
 use crate::output::Output;
+use crate::servers::Servers;
 use crate::{audits, commands, input, matches, output, pipes, plays, reading, worlds};
 use golden::{Rig, Words, text};
 use std::alloc::{AllocError, Global};
 
-/// What a case puts together, and what was written last.
+/// What a case puts together, what was written last, and the servers that have started.
 #[derive(Drop)]
 pub struct ScriptRig {
     alloc: Global,
     input: Vec<u8>,
     output: Output,
+    servers: Servers,
 }
 
 impl ScriptRig {
-    /// Nothing was put and nothing written.
+    /// Nothing was put, nothing written, and no server has started.
     pub fn new(alloc: Global) -> ScriptRig {
         ScriptRig {
             alloc,
             input: Vec::new(alloc),
             output: Output::new(alloc),
+            servers: Servers::new(alloc),
         }
     }
 }
@@ -28,6 +31,7 @@ impl Rig for ScriptRig {
     fn renew(&mut self) -> Result<(), AllocError> {
         self.input.clear();
         self.output.clear();
+        self.servers.renew();
         Ok(())
     }
 
@@ -43,6 +47,7 @@ impl Rig for ScriptRig {
             "world" => worlds::answer(self.alloc, call, words),
             "line" => commands::answer(self.alloc, call, words),
             "pipe" => pipes::answer(self.alloc, &self.input, &mut self.output, call, words),
+            "n1" | "n2" | "n3" => self.servers.answer(name, words),
             _ => text(self.alloc, "no such call"),
         }
     }
