@@ -1,24 +1,34 @@
-//! Cases of the parts of a server: entries and outboxes, tries, tables of subscriptions, shards, the race for queue names and the choice of a
-//! server; interest, hubs, and the sessions of two servers. `golden` has the form of their files, which stand in `data/`.
+//! Cases of what the lower crates read, write and do. Of what is read and written: names and the values that hold them, fields of lines, streams and what is
+//! cut from them, what clients and servers tell each other, and the frames of routes. Of the parts of a server: entries and outboxes, tries, tables of
+//! subscriptions, shards, the race for queue names and the choice of a server; interest, hubs, and the sessions of two servers. `golden` has the form of
+//! their files, which stand in `data/`; each begins with the calls that it has.
 //!
 //! ```text
+//! pattern.match foo.*|foo => no
 //! shard.new 1|8
 //! shard.attach => conn 1
 //! times 511 shard.subscribe 1|<<a*1000>>||# => new
 //! ```
 //!
-//! In reading order: `guarded` has what calls may ask for only where something holds; `shards` makes the calls of outboxes, tries, races and
+//! In reading order: `names` makes the calls of names, values and fields; `streams` those of streams; `client` those of a client's lines, frames and
+//! connection; `routes` those of frames of routes, and of values that are the same; and `frames` has what a case has made of all these. `guarded` has what calls may ask for only where something holds; `shards` makes the calls of outboxes, tries, races and
 //! shards; `tables` those of tables of subscriptions; and `hubs` those of interest, hubs and sessions. Here are those of numbers:
 //!
-//! - `fault.of_hub CAUSE`, `fault.of_session CAUSE`: the number that the router tells of the refusal
+//! - `refusal.of_hub CAUSE`, `refusal.of_session CAUSE`: the number that the router tells of the refusal
 //! - `id.number N`, `id.same N|M` and `id.differs N|M`: the number of a session, and whether two are one
 #![tactic(auto)]
 
+mod client;
+mod frames;
 mod guarded;
 mod hubs;
+mod names;
+mod routes;
 mod shards;
+mod streams;
 mod tables;
 
+use frames::FrameParts;
 use golden::{Words, put, tell_number, tell_whether, told};
 use guarded::{Course, Opened, Outboxes};
 use hub_core::HubFault;
@@ -71,7 +81,7 @@ fn session_fault(name: &str) -> Option<SessionFault> {
 }
 
 /// Tells the number of a refusal of this name.
-fn fault_call(answer: &mut String, call: &str, name: &str) -> Option<()> {
+fn refusal_call(answer: &mut String, call: &str, name: &str) -> Option<()> {
     let number = match call {
         "of_hub" => hub_fault(name)?.number(),
         _ => session_fault(name)?.number(),
@@ -176,7 +186,7 @@ impl HubParts {
             "hub" => hub_call(answer, &mut self.hub, alloc, call, words),
             "sessions" => new_sessions(answer, &mut self.pair, alloc, words.number(0)),
             "n1" | "n2" => pair_call(answer, &mut self.pair, of, call, words),
-            "fault" => fault_call(answer, call, words.at(0)),
+            "refusal" => refusal_call(answer, call, words.at(0)),
             "id" => id_call(answer, call, words),
             _ => None,
         }
@@ -187,6 +197,7 @@ impl HubParts {
 #[derive(Drop)]
 struct Rig {
     alloc: Global,
+    frame_parts: FrameParts,
     shard_parts: ShardParts,
     hub_parts: HubParts,
 }
@@ -196,8 +207,31 @@ impl Rig {
     fn new(alloc: Global) -> Rig {
         Rig {
             alloc,
+            frame_parts: FrameParts::new(alloc),
             shard_parts: ShardParts::new(alloc),
             hub_parts: HubParts::new(alloc),
+        }
+    }
+}
+
+impl Rig {
+    /// Makes a call of frames, of shards or of hubs.
+    fn call(&mut self, answer: &mut String, of: &str, call: &str, words: &Words<'_>) -> Option<()> {
+        let alloc = self.alloc;
+        match of {
+            "counts" | "view" | "hub" | "sessions" | "n1" | "n2" | "refusal" | "id" => {
+                self.hub_parts.call(answer, alloc, of, call, words)
+            }
+            "entry"
+            | "outbox"
+            | "patterns"
+            | "list"
+            | "trie"
+            | "tables"
+            | "shard"
+            | "race"
+            | "pick" => self.shard_parts.call(answer, alloc, of, call, words),
+            _ => self.frame_parts.call(answer, alloc, of, call, words),
         }
     }
 }
@@ -213,22 +247,12 @@ impl golden::Rig for Rig {
         let alloc = self.alloc;
         let (of, call) = name.split_once('.').unwrap_or((name, ""));
         let mut answer = String::new(alloc);
-        let is_told = match of {
-            "counts" | "view" | "hub" | "sessions" | "n1" | "n2" | "fault" | "id" => {
-                self.hub_parts.call(&mut answer, alloc, of, call, words)
-            }
-            _ => self.shard_parts.call(&mut answer, alloc, of, call, words),
-        };
+        let is_told = self.call(&mut answer, of, call, words);
         told(alloc, answer, is_told)
     }
 }
 
 fn main(rt: HostRuntime) -> ExitCode {
-    let alloc = rt.alloc();
-    let mut rig = Rig {
-        alloc,
-        shard_parts: ShardParts::new(alloc),
-        hub_parts: HubParts::new(alloc),
-    };
+    let mut rig = Rig::new(rt.alloc());
     golden::play(&rt, &mut rig)
 }
