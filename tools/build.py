@@ -9,6 +9,7 @@ the status is 1.
 Usage: tools/build.py PROGRAM
 """
 import concurrent.futures
+import contextlib
 import json
 import os
 import re
@@ -205,12 +206,22 @@ class Commands:
         with self.guard:
             self.is_stopped = True
             for child in self.children:
-                os.killpg(child.pid, signal.SIGTERM)
+                # one may have ended by itself meanwhile
+                with contextlib.suppress(ProcessLookupError):
+                    os.killpg(child.pid, signal.SIGTERM)
 
 
 def out_of(tree, crate):
     """Where `rt` keeps what it proved and built of a crate."""
     return os.path.join(tree, "crates", crate, "out")
+
+
+def link_or_copy(source, target):
+    """Gives a file a second name, or, where the file system has no links, a copy."""
+    try:
+        os.link(source, target)
+    except OSError:
+        shutil.copy2(source, target)
 
 
 class Trees:
@@ -243,7 +254,8 @@ class Trees:
             tree = self.free.pop()
         for library in self.libraries_below(crate):
             if not os.path.isdir(out_of(tree, library)):
-                shutil.copytree(os.path.join(out_of(TOP, library), "rlib"), os.path.join(out_of(tree, library), "rlib"), copy_function=os.link)
+                shutil.copytree(os.path.join(out_of(TOP, library), "rlib"), os.path.join(out_of(tree, library), "rlib"),
+                                copy_function=link_or_copy)
         if os.path.isdir(out_of(TOP, crate)):
             os.rename(out_of(TOP, crate), out_of(tree, crate))
         return tree
