@@ -109,6 +109,8 @@ class Cluster:
         """Whether the cluster is settled for a publication on this subject."""
         if len(self.running) < len(self.names):
             return False
+        if any(server.is_draining for server in self.running.values()):
+            return False
         if any(shard.waiting or shard.hand or shard.deltas for server in self.running.values() for shard in server.shards):
             return False
         if not all(server.knows(other, self.running[other]) for server in self.running.values() for other in server.peers):
@@ -226,6 +228,15 @@ class Cluster:
         changes, frames = self.server(place).collect(members["shard"])
         self.frames += frames
         return f"changes {changes} frames {len(frames)}"
+
+    def on_drain(self, place, members):
+        changes, frames = self.server(place).drain()
+        self.frames += frames
+        return f"changes {changes} frames {len(frames)}"
+
+    def on_drainshard(self, place, members):
+        self.server(place).shard(members["shard"]).drain()
+        return "ok"
 
     def on_begin(self, place, members):
         placed, shut = self.server(place).shard(members["shard"]).begin()

@@ -149,6 +149,13 @@ class Moves:
         for shard in range(1, self.cluster.shards + 1):
             self.ask("collect", node, shard=shard)
 
+    def drain(self, node):
+        """A server or one of its shards drains, sometimes for the second time."""
+        if self.draw.is_one_in(2):
+            self.ask("drain", node)
+        else:
+            self.ask("drainshard", node, shard=self.shard())
+
     def route(self, node):
         """A session is cut, or frames are taken that wait for a peer."""
         server = self.server(node)
@@ -294,6 +301,8 @@ class Moves:
             self.repeat()
         elif which < 14:
             self.collect(node)
+        elif which < 15 and self.draw.is_one_in(20):
+            self.drain(node)
         else:
             self.hand_over(self.draw.up_to(6))
 

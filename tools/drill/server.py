@@ -62,6 +62,7 @@ class Server:
         self.peers = {other: Peer() for other in range(servers) if other != place}
         self.sessions, self.last_session, self.dials = {}, 0, 0
         self.counts, self.changed, self.published, self.issued = {}, 0, 0, 0
+        self.is_draining = False
         self.won = set()
 
     # ---- which shard
@@ -125,7 +126,7 @@ class Server:
         known = self.peers[peer]
         known.see(inc)
         known.is_up = True
-        snapshot = Frame("RSS", self.place, self.inc, peer, inc, self.changed, dict(self.counts))
+        snapshot = Frame("RSS", self.place, self.inc, peer, inc, self.changed, {} if self.is_draining else dict(self.counts))
         known.outbox = [snapshot]
         return old.number if old else None, snapshot
 
@@ -173,6 +174,15 @@ class Server:
         shard = self.shard(number)
         changes = [change for change in (self.count(*delta) for delta in shard.deltas) if change]
         shard.deltas = []
+        return self.tell([] if self.is_draining else changes)
+
+    def drain(self):
+        refuse_if(self.is_draining, 59)
+        self.is_draining = True
+        return self.tell([None])
+
+    def tell(self, changes):
+        """Numbers the changes and sends each to the peers that are up; none stands for the one that clears."""
         up = {place: peer for place, peer in self.peers.items() if peer.is_up}
         for place, peer in up.items():
             if not peer.has_room(len(changes)):
@@ -182,8 +192,9 @@ class Server:
             self.changed += 1
             for place, peer in up.items():
                 if peer.is_up:
-                    kind = "RS+" if change[1] else "RS-"
-                    frames.append(self.send(Frame(kind, self.place, self.inc, place, peer.seen, self.changed, change)))
+                    kind = "RSS" if change is None else "RS+" if change[1] else "RS-"
+                    body = {} if change is None else change
+                    frames.append(self.send(Frame(kind, self.place, self.inc, place, peer.seen, self.changed, body)))
         return len(changes), frames
 
     def send(self, frame):

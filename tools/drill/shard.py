@@ -16,7 +16,7 @@ class Shard:
 
     def __init__(self, number, shards):
         self.number, self.shards, self.next_conn = number, shards, number
-        self.outboxes, self.subs, self.opened = {}, [], 0
+        self.outboxes, self.subs, self.opened, self.is_draining = {}, [], 0, False
         self.waiting, self.hand, self.next_index, self.finished = [], None, 0, 0
         # What the hub was not told yet: a key, and whether a subscription of it opened or closed.
         self.deltas = []
@@ -40,6 +40,7 @@ class Shard:
     def subscribe(self, conn, pattern, queue, sid):
         """The subscription that opened; none where the connection has that id open."""
         self.box_of(conn)
+        refuse_if(self.is_draining, 59)
         if self.called(conn, sid):
             return None
         spent = sum(cost_of(sub.pattern, sub.queue) for sub in self.subs)
@@ -50,6 +51,10 @@ class Shard:
         self.subs.append(sub)
         self.deltas.append((sub.key, True))
         return sub
+
+    def drain(self):
+        refuse_if(self.is_draining, 59)
+        self.is_draining = True
 
     def unsubscribe(self, conn, sid, maximum):
         self.box_of(conn)

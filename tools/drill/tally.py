@@ -5,14 +5,14 @@ from collections import Counter
 # Each kind of answer that a script can get: the word of its event, and what is written without its numbers (docs/SCRIPTS.md).
 ANSWERS = [
     "start ok", "stop ok", "attach conn", "sub sub", "sub same", "unsub ok", "detach ok", "publish turn frames", "receive turn", "receive view",
-    "collect changes frames", "begin placed closed", "claim won", "claim lost", "claim nobody", "end ok", "drop ok", "dial session",
+    "collect changes frames", "drain changes frames", "drainshard ok", "begin placed closed", "claim won", "claim lost", "claim nobody", "end ok", "drop ok", "dial session",
     "accept session", "info kept", "info kept instead of", "connect kept", "connect kept instead of", "cut ok", "take took", "settled yes", "settled no",
     "delivered",
 ]
 
 # Each refusal that a script can meet (docs/PROTOCOL.md, "Numbers of refusals"). No script comes to the others of servers: 53 wants another job than
 # the first that waits, 57, 62 and 75 counters at their ends, and 69 news of interest that no server tells.
-REFUSALS = [50, 51, 52, 54, 55, 56, 58, 60, 61, 63, 64, 65, 66, 67, 68, 70, 71, 72, 73, 74, 80, 81, 82, 83]
+REFUSALS = [50, 51, 52, 54, 55, 56, 58, 59, 60, 61, 63, 64, 65, 66, 67, 68, 70, 71, 72, 73, 74, 80, 81, 82, 83]
 
 
 def kind_of(word, told):

@@ -5,7 +5,7 @@ use Rattle.wire_cut.specs.Reading.{reading_of, reading_within}
 use Rattle.client_frames.specs.declared.info.InfoData.{InfoData}
 use Rattle.client_frames.specs.Streams.{client_grammar}
 use Rattle.client_conn.specs.declared.ask.ClientAction.{ClientAction}
-use Rattle.client_conn.specs.declared.ask.Refusal.TheVariants.{Busy, TooManySubscriptions, NumbersSpent, TooManyQueueGroups, Other}
+use Rattle.client_conn.specs.declared.ask.Refusal.TheVariants.{Busy, TooManySubscriptions, NumbersSpent, TooManyQueueGroups, Draining, Other}
 use Rattle.client_conn.specs.Asks.{Asking, Answer, Onward, listens, over, asked_before, asking_of, read_onward, asks_after_bytes, asks_after_answer, answered_of, answered_first, asks_after_answers, first_asking}
 use Rattle.client_conn.specs.Laws.{Happening, more_bytes, an_answer, after_all, after, bytes_in, answers_in, EachAnswersAnAsk, FollowsBytesAndAnswers, AsksForStreamCommands}
 use Rattle.client_conn.proofs.Telling.{fed_reading, fed_behind}
@@ -30,6 +30,7 @@ answered_then_fed (Err Busy) ask asks onward bytes = refl
 answered_then_fed (Err TooManySubscriptions) ask asks onward bytes = refl
 answered_then_fed (Err NumbersSpent) ask asks onward bytes = refl
 answered_then_fed (Err TooManyQueueGroups) ask asks onward bytes = refl
+answered_then_fed (Err Draining) ask asks onward bytes = refl
 answered_then_fed (Err Other) ask asks onward bytes = refl
 
 first_answered : (answer : Answer) (asks : List ClientAction) (onward : Onward) (bytes : List ℕ) → ¬ (asks ≡ [])

@@ -12,7 +12,7 @@ use Rattle.client_frames.specs.Streams.{StreamItem, client_grammar}
 use Rattle.client_conn.specs.declared.ask.ClientAction.{ClientAction}
 use Rattle.client_conn.specs.declared.ask.ClientAction.TheVariants.{Reply}
 use Rattle.client_conn.specs.declared.ask.Refusal.{Refusal}
-use Rattle.client_conn.specs.declared.ask.Refusal.TheVariants.{Busy, TooManySubscriptions, NumbersSpent, TooManyQueueGroups, Other}
+use Rattle.client_conn.specs.declared.ask.Refusal.TheVariants.{Busy, TooManySubscriptions, NumbersSpent, TooManyQueueGroups, Draining, Other}
 use Rattle.client_conn.specs.Items.{first_options, options_after, items_asks}
 
 -- how a connection goes on
@@ -58,12 +58,13 @@ asks_after_bytes bytes s = asked_before s.asks (read_onward s.onward bytes)
 abbrev pub asking_with_err : ErrText → List ClientAction → Onward → Asking
 asking_with_err text asks onward = record { asks = Reply (reply.Err text) ∷ asks; onward = onward }
 
--- A busy server is asked the same again. Four refusals are told; of all others nothing comes any more.
+-- A busy server is asked the same again. Five refusals are told; of all others nothing comes any more.
 abbrev pub refused_by : Refusal → ClientAction → List ClientAction → Onward → Asking
 refused_by Busy ask asks onward = record { asks = ask ∷ asks; onward = onward }
 refused_by TooManySubscriptions ask asks onward = asking_with_err text.TooManySubscriptions asks onward
 refused_by NumbersSpent ask asks onward = asking_with_err text.NumbersSpent asks onward
 refused_by TooManyQueueGroups ask asks onward = asking_with_err text.TooManyQueueGroups asks onward
+refused_by Draining ask asks onward = asking_with_err text.Draining asks onward
 refused_by Other ask asks onward = nothing_more
 
 -- what a server says of an ask: it is done, or refused

@@ -34,6 +34,9 @@ pub enum Refusal {
     /// The publication would reach more queue groups than one may, which the client is told.
     #[error("the publication would reach too many queue groups")]
     TooManyQueueGroups,
+    /// The server drains and takes no subscription any more, which the client is told.
+    #[error("the server drains")]
+    Draining,
     /// Any other: nothing is asked any more.
     #[error("the server refuses it")]
     Other,

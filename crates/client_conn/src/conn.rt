@@ -612,6 +612,7 @@ impl Conn {
             Refusal::TooManySubscriptions => self.open_asks.tell(ErrText::TooManySubscriptions),
             Refusal::NumbersSpent => self.open_asks.tell(ErrText::NumbersSpent),
             Refusal::TooManyQueueGroups => self.open_asks.tell(ErrText::TooManyQueueGroups),
+            Refusal::Draining => self.open_asks.tell(ErrText::Draining),
             Refusal::Other => {
                 self.open_asks.clear();
                 self.reader.close();

@@ -5,9 +5,9 @@ use Rattle.wire_cut.specs.declared.faults.CutFault.TheVariants.{LineTooLong, Pay
 use Rattle.client_frames.specs.declared.faults.LineFault.{LineFault}
 use Rattle.client_frames.specs.declared.faults.LineFault.TheVariants.{UnknownOp, BadArgs, BadJson, BadSubject}
 use Rattle.client_frames.specs.declared.err_texts.ErrText.{ErrText}
-use Rattle.client_frames.specs.declared.err_texts.ErrText.TheVariants.{MaximumControlLineExceeded, MaximumPayloadViolation, ParserError, UnknownProtocolOperation, SlowConsumer, InvalidSubject, TooManyQueueGroups, TooManySubscriptions, NumbersSpent}
+use Rattle.client_frames.specs.declared.err_texts.ErrText.TheVariants.{MaximumControlLineExceeded, MaximumPayloadViolation, ParserError, UnknownProtocolOperation, SlowConsumer, InvalidSubject, TooManyQueueGroups, TooManySubscriptions, NumbersSpent, Draining}
 
--- NATS documentation, "Client Protocol", "+OK/ERR"; the last three are this project's own
+-- NATS documentation, "Client Protocol", "+OK/ERR"; the last four are this project's own
 abbrev pub err_text : ErrText → List ℕ
 err_text MaximumControlLineExceeded = codes "Maximum Control Line Exceeded"
 err_text MaximumPayloadViolation = codes "Maximum Payload Violation"
@@ -18,6 +18,7 @@ err_text InvalidSubject = codes "Invalid Subject"
 err_text TooManyQueueGroups = codes "Too Many Queue Groups"
 err_text TooManySubscriptions = codes "Too Many Subscriptions"
 err_text NumbersSpent = codes "Numbers Spent"
+err_text Draining = codes "Draining"
 
 -- NATS documentation, "Client Protocol": `-ERR <error message>`, in quotes
 abbrev pub err_line : ErrText → List ℕ
@@ -34,6 +35,7 @@ text_closes InvalidSubject = false
 text_closes TooManyQueueGroups = false
 text_closes TooManySubscriptions = false
 text_closes NumbersSpent = false
+text_closes Draining = false
 
 -- what a client is told of a refusal (profile)
 abbrev pub line_fault_text : LineFault → ErrText

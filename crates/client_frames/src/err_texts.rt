@@ -7,7 +7,7 @@ use crate::faults::LineFault;
 use subj::LAST_LINE;
 use wire_cut::CutFault;
 
-/// What `-ERR` tells a client. (NATS documentation, "Client Protocol"; the last three are this project's own.)
+/// What `-ERR` tells a client. (NATS documentation, "Client Protocol"; the last four are this project's own.)
 #[derive(Clone, Copy, PartialEq, Eq)]
 pub enum ErrText {
     /// A control line is longer than its limit.
@@ -28,6 +28,8 @@ pub enum ErrText {
     TooManySubscriptions,
     /// A counter has come to its limit.
     NumbersSpent,
+    /// The server drains: it takes no subscription any more.
+    Draining,
 }
 
 impl ErrText {
@@ -68,6 +70,7 @@ impl ErrText {
             ErrText::TooManyQueueGroups => b"-ERR 'Too Many Queue Groups'",
             ErrText::TooManySubscriptions => b"-ERR 'Too Many Subscriptions'",
             ErrText::NumbersSpent => b"-ERR 'Numbers Spent'",
+            ErrText::Draining => b"-ERR 'Draining'",
         }
     }
 
@@ -84,7 +87,8 @@ impl ErrText {
             ErrText::InvalidSubject
             | ErrText::TooManyQueueGroups
             | ErrText::TooManySubscriptions
-            | ErrText::NumbersSpent => false,
+            | ErrText::NumbersSpent
+            | ErrText::Draining => false,
         }
     }
 }

@@ -10,6 +10,7 @@ use Rattle.hub_core.specs.declared.faults.HubFault.TheVariants as hub_fault
 abbrev pub refusal_of_shard : ShardFault → Refusal
 refusal_of_shard shard_fault.TooManySubs = refusal.TooManySubscriptions
 refusal_of_shard shard_fault.Spent = refusal.NumbersSpent
+refusal_of_shard shard_fault.Draining = refusal.Draining
 refusal_of_shard fault = refusal.Other
 
 -- of the hub

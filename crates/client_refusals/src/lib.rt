@@ -16,14 +16,15 @@ use client_conn::Refusal;
 use hub_core::HubFault;
 use shard_core::ShardFault;
 
-/// What a client is told of a refusal of its shard: that it has too many subscriptions, or that a counter is at its end. The
-/// other refusals do not come to a client whose connection stands. (Profile.)
+/// What a client is told of a refusal of its shard: that it has too many subscriptions, that a counter is at its end, or that
+/// it drains. The other refusals do not come to a client whose connection stands. (Profile.)
 pub fn refusal_of_shard(fault: ShardFault) -> Refusal
     ensures { result ≡ refused_by_shard fault }
 {
     match fault {
         ShardFault::TooManySubs => Refusal::TooManySubscriptions,
         ShardFault::Spent => Refusal::NumbersSpent,
+        ShardFault::Draining => Refusal::Draining,
         _ => Refusal::Other,
     }
 }

@@ -8,7 +8,7 @@ use Rattle.node_law.specs.Answers as answer
 use Rattle.node_law.specs.Answers.{Answer}
 use Rattle.node_law.specs.declared.events.ConnEvent.{ConnEvent}
 use Rattle.node_law.specs.declared.events.ConnEvent.TheVariants.{Subscribe, Unsubscribe, Reply, Shut, Detach, Take}
-use Rattle.node_law.specs.Events.{OwnEvent, OfConn, AtShard, Publish, Collect, Dial, Accept, CutSession, TakeFrames, NodeEvent, Own, Receive, OnInfo, OnConnect}
+use Rattle.node_law.specs.Events.{OwnEvent, OfConn, AtShard, Publish, Collect, Drain, Dial, Accept, CutSession, TakeFrames, NodeEvent, Own, Receive, OnInfo, OnConnect}
 use Rattle.cluster_world.specs.declared.lists.Noted.{Noted}
 use Rattle.cluster_world.specs.declared.lists.Opening.{Opening}
 use Rattle.cluster_world.specs.InCode.{publication_of}
@@ -21,6 +21,7 @@ published_by_own id now (OfConn conn event) = []
 published_by_own id now (AtShard shard work) = []
 published_by_own id now (Publish p) = record { step = now; id = id; message = p.publication.message; publisher = p.conn; echo = p.publication.echo } ∷ []
 published_by_own id now (Collect shard) = []
+published_by_own id now Drain = []
 published_by_own id now (Dial q) = []
 published_by_own id now Accept = []
 published_by_own id now (CutSession session) = []
@@ -47,6 +48,7 @@ opening_by_own (OfConn conn event) = opening_of conn event
 opening_by_own (AtShard shard work) = None
 opening_by_own (Publish p) = None
 opening_by_own (Collect shard) = None
+opening_by_own Drain = None
 opening_by_own (Dial q) = None
 opening_by_own Accept = None
 opening_by_own (CutSession session) = None

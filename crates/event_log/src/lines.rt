@@ -71,6 +71,7 @@ fn client_cause(cause: ClientCause) -> &'static str {
         ClientCause::Unread => "it did not take its last bytes in time",
         ClientCause::OutOfMemory => "out of memory",
         ClientCause::Unwatched => "its socket cannot be watched",
+        ClientCause::CutOff => "its server drains and waits no longer",
     }
 }
 
@@ -140,6 +141,11 @@ impl Display for EventText {
             Event::OutOfMemory => f.write_str(
                 "out of memory: what could not be done is tried again",
             ),
+            Event::DrainAsked { seconds } => { write!(f, "drains, for at most {seconds} seconds") }
+            Event::Drained => f.write_str("has drained"),
+            Event::DrainedLate { clients } => {
+                write!(f, "has drained too late: {clients} clients were cut off")
+            }
             Event::Stopped => f.write_str("stops"),
             Event::Failed { cause } => write!(f, "cannot go on: {}", SystemText(cause)),
         }
@@ -157,6 +163,9 @@ fn kind_text(kind: EventKind) -> &'static str {
         EventKind::ClientClosed => "clients that are closed",
         EventKind::ConnectionRefused => "connections that are refused",
         EventKind::OutOfMemory => "want of memory",
+        EventKind::DrainAsked => "servers that drain",
+        EventKind::Drained => "servers that have drained",
+        EventKind::DrainedLate => "servers that have drained too late",
         EventKind::Stopped => "servers that stop",
         EventKind::Failed => "servers that cannot go on",
     }

@@ -100,6 +100,9 @@ impl Rates {
                 Rate::new(),
                 Rate::new(),
                 Rate::new(),
+                Rate::new(),
+                Rate::new(),
+                Rate::new(),
             ],
         }
     }

@@ -7,4 +7,6 @@ pub mod Issued
 pub mod Publishes
 pub mod Receives
 pub mod Collected
+pub mod Drained
+pub mod Changes
 pub mod Announces

@@ -13,10 +13,10 @@ use Rattle.subj.specs.declared.limits.TheConstants.{MAX_QUEUE_NAMES, WINDOW}
 use Rattle.subj.specs.Messages.{Content}
 use Rattle.subj.specs.Servers.{ServerIdentity, IsListed, place}
 use Rattle.interest.specs.declared.changes.Change.{Change}
-use Rattle.interest.specs.declared.changes.Change.TheVariants.{Up, Gone}
+use Rattle.interest.specs.declared.changes.Change.TheVariants.{Up, Gone, Clear}
 use Rattle.subj.specs.declared.keys.Delta.{Delta}
 use Rattle.interest.specs.Counts.{IsInterest}
-use Rattle.interest.specs.Views.{View, told_view, view_with_change}
+use Rattle.interest.specs.Views.{View, view_with_change}
 use Rattle.route_values.specs.declared.bodies.Body.{Body}
 use Rattle.route_values.specs.declared.bodies.Body.TheVariants.{Plus, Minus, Snapshot, Msg}
 use Rattle.route_values.specs.Frames.{Frame}
@@ -24,8 +24,8 @@ use Rattle.route_values.specs.Snapshots.{Weighted}
 use Rattle.hub_core.specs.State.{State, Peer}
 use Rattle.hub_core.specs.Publishing.{Publication, publish_refusal, after_publish, own_job, frames_of, next_id}
 use Rattle.hub_core.specs.Receiving.{receive_refusal, after_receive}
-use Rattle.hub_core.specs.Telling.{collect_refusal, after_collect, changes_of, collect_frames}
-use Rattle.hub_core.specs.Peers.{up, cut, after_take, snapshot_to}
+use Rattle.hub_core.specs.Telling.{collect_refusal, after_collect, changes_of, collect_frames, drain_refusal, after_drain, drain_frames, clearing}
+use Rattle.hub_core.specs.Peers.{up, cut, after_take, snapshot_to, told_interest}
 
 -- ---- values
 
@@ -41,6 +41,7 @@ view_of view = map weighted_of view
 abbrev pub change_of : Change → interest.Change
 change_of (Up weighted) = interest.Up (weighted_of weighted)
 change_of (Gone key) = interest.Gone (key_of key)
+change_of Clear = interest.Cleared
 
 abbrev pub id_of : ServerIdentity → PubId → names.PubId
 id_of server id = record { origin = place server id.origin; inc = id.inc; number = id.number }
@@ -73,9 +74,9 @@ frame_of server frame = as_said server frame frame.body
 abbrev pub peer_of : Peer → law.Peer
 peer_of peer = record { seen = peer.seen; mark = peer.mark; heard = peer.heard.mark; view = view_of peer.heard.keys }
 
--- of the counts the view that they are told as
+-- of the counts the view that they are told as; a server that drains tells of none
 abbrev pub hub_of : State → law.Hub
-hub_of hub = record { published = hub.published; changed = hub.changed; interest = view_of (told_view hub.counts); peers = map peer_of hub.peers }
+hub_of hub = record { published = hub.published; changed = hub.changed; interest = view_of (told_interest hub); peers = map peer_of hub.peers }
 
 -- ---- the law's parameters: how many queue names, and how a change acts on a view
 
@@ -143,6 +144,14 @@ pub record IsAnnounced (c : Config) (server : ServerIdentity) (hub : State) (del
 -- a collect that is not refused, of counts within their limits
 abbrev pub AnnouncesInLaw : Type 0
 AnnouncesInLaw = (c : Config) (server : ServerIdentity) (hub : State) (deltas : List Delta) → IsListed server → HasPeers server hub → IsInterest hub.counts → collect_refusal hub deltas ≡ None → IsAnnounced c server hub deltas
+
+pub record IsDrained (c : Config) (server : ServerIdentity) (hub : State) : Type 0 where
+  pub announces : HubAnnounces (routing c) server.me server.inc (hub_of hub) (map change_of clearing) (map (frame_of server) (drain_frames server hub)) (hub_of (after_drain server hub))
+  pub peers : HasPeers server (after_drain server hub)
+
+-- a drain that is not refused
+abbrev pub DrainsInLaw : Type 0
+DrainsInLaw = (c : Config) (server : ServerIdentity) (hub : State) → IsListed server → HasPeers server hub → drain_refusal hub ≡ None → IsDrained c server hub
 
 -- a cut and a take are not seen
 pub record IsUnseen (server : ServerIdentity) (hub new : State) : Type 0 where

@@ -25,7 +25,7 @@ use Rattle.interest.specs.Counts.{Counts}
 use Rattle.interest.specs.declared.recounts.Recount.{Recount}
 use Rattle.interest.specs.Recounts.{IsRecountOf}
 use Rattle.subj.specs.declared.keys.Delta.{Delta}
-use Rattle.hub_core.specs.Telling.{body_of, without_slow, count_of_changes, changes_of, collect_refusal, collect_frames, slow_peers}
+use Rattle.hub_core.specs.Telling.{body_of, without_slow, count_of_changes, changes_of, collect_refusal, collect_frames, slow_peers, drain_frames, peers_too_slow}
 use Rattle.hub_core.specs.Receiving.{receive_refusal, routed_job}
 use Rattle.hub_core.specs.Hubs.{Hub}
 
@@ -108,6 +108,13 @@ pub record AreCounted (server : ServerIdentity) (hub : State) (deltas : List Del
 -- so many changes are told, by these frames
 abbrev pub after_changes : ServerIdentity → State → Counts → ℕ → List Frame → State
 after_changes server hub counts count frames = record hub { changed = hub.changed + count; counts = counts; peers = with_frames server frames 0 (map (without_slow count) hub.peers) }
+
+-- ---- a drain
+
+-- what a drain is planned as: the frames, and the peers that are cut
+pub record IsDrainOf (hub : Hub) (frames : List Frame) (cut : List ℕ) : Type 0 where
+  pub frames_are : frames ≡ drain_frames hub.server hub.state
+  pub cut_are : cut ≡ peers_too_slow hub.state
 
 -- what a collect of these deltas is planned as: what becomes of the counts, the changes, the frames, and the peers that are cut
 pub record IsTellingOf (hub : Hub) (deltas : List Delta) (recount : Recount) (changes : List Change) (frames : List Frame) (cut : List ℕ) : Type 0 where

@@ -11,6 +11,8 @@ pub data Event : Type 0 where
   Publish : (publication : Publication) (finished : List ℕ) → Event
   Receive : (frame : Frame) (finished : List ℕ) → Event
   Collect : (shard : ℕ) (deltas : List Delta) → Event
+  -- the server tells that it has no interest any more
+  Drain : Event
   Up : (peer inc : ℕ) → Event
   Cut : (peer : ℕ) → Event
   TakeFrom : (peer count : ℕ) → Event
@@ -24,6 +26,8 @@ pub data Answer : Type 0 where
   Heard : (mark : ℕ) → Answer
   -- the changes, the frames put, and the peers cut
   Collected : (changes : List Change) (frames : List Frame) (cut : List ℕ) → Answer
+  -- the frames put, and the peers cut
+  Drained : (frames : List Frame) (cut : List ℕ) → Answer
   -- the snapshot put
   IsUp : (snapshot : Frame) → Answer
   WasCut : Answer
@@ -35,6 +39,7 @@ frames_of_answer (Issued job frames) = frames
 frames_of_answer (Routed job) = []
 frames_of_answer (Heard mark) = []
 frames_of_answer (Collected changes frames cut) = frames
+frames_of_answer (Drained frames cut) = frames
 frames_of_answer (IsUp snapshot) = snapshot ∷ []
 frames_of_answer WasCut = []
 frames_of_answer (Taken frames) = []

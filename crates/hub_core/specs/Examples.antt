@@ -1,5 +1,5 @@
 -- Closed examples: what a hub answers, by hand.
-use Rattle.std.specs.Prelude.{◌≡◌, ℕ, ◌+◌, ◌-◌, ◌/◌, ◌%◌, true, codes, List, [], ◌∷◌, map, replicate, Some, None, Err}
+use Rattle.std.specs.Prelude.{◌≡◌, ℕ, ◌+◌, ◌-◌, ◌/◌, ◌%◌, true, false, codes, List, [], ◌∷◌, map, replicate, Some, None, Err}
 use Rattle.std.specs.List.{range_with_len}
 use Rattle.subj.specs.declared.jobs.Job.{Job}
 use Rattle.subj.specs.declared.keys.Key.{Key}
@@ -56,7 +56,7 @@ abbrev pub peer : View → List Frame → Peer
 peer view outbox = record { seen = 7; mark = 0; heard = record { mark = 0; keys = view }; up = true; outbox = outbox }
 
 abbrev pub hub : Counts → Peer → Peer → State
-hub counts second third = record { issued = 0; published = 0; changed = 0; counts = counts; peers = unknown_peer ∷ second ∷ third ∷ [] }
+hub counts second third = record { issued = 0; published = 0; changed = 0; draining = false; counts = counts; peers = unknown_peer ∷ second ∷ third ∷ [] }
 
 abbrev pub hello_on : List ℕ → Content
 hello_on subject = record { subject = subject; reply = None; payload = codes "hello" }

@@ -3,9 +3,10 @@ use Rattle.std.specs.Prelude.{ℕ}
 use Rattle.interest.specs.declared.faults.InterestFault.{InterestFault}
 use Rattle.interest.specs.declared.faults.InterestFault.TheVariants as interest
 use Rattle.hub_core.specs.declared.faults.HubFault.{HubFault}
-use Rattle.hub_core.specs.declared.faults.HubFault.TheVariants.{Busy, TooManyQueues, Spent, NotMe, OtherMe, NotInCluster, StaleOrigin, Late, Gap, BadInterest}
+use Rattle.hub_core.specs.declared.faults.HubFault.TheVariants.{Draining, Busy, TooManyQueues, Spent, NotMe, OtherMe, NotInCluster, StaleOrigin, Late, Gap, BadInterest}
 
 abbrev pub hub_fault_number : HubFault → ℕ
+hub_fault_number Draining = 59
 hub_fault_number (Busy busy) = 60
 hub_fault_number TooManyQueues = 61
 hub_fault_number Spent = 62

@@ -1,5 +1,5 @@
 -- A hub with the server that it is of, and the calls on it.
-use Rattle.std.specs.Prelude.{◌≡◌, ℕ, ◌≤◌, List, Option}
+use Rattle.std.specs.Prelude.{◌≡◌, ℕ, ◌≤◌, Bool, List, Option}
 use Rattle.subj.specs.declared.limits.TheConstants.{MAX_COUNTER}
 use Rattle.subj.specs.Servers.{ServerIdentity, IsListed}
 use Rattle.interest.specs.Counts.{Counts}
@@ -29,8 +29,8 @@ pub record DoesStep (old : Hub) (event : Event) (answer : Answer) (new : Hub) : 
 
 -- ---- the fields of a hub in code
 
-abbrev pub hub_of_parts : ServerIdentity → ℕ → ℕ → ℕ → Counts → List Peer → Hub
-hub_of_parts server issued published changed counts peers = record { server = server; state = record { issued = issued; published = published; changed = changed; counts = counts; peers = peers } }
+abbrev pub hub_of_parts : ServerIdentity → ℕ → ℕ → ℕ → Bool → Counts → List Peer → Hub
+hub_of_parts server issued published changed draining counts peers = record { server = server; state = record { issued = issued; published = published; changed = changed; draining = draining; counts = counts; peers = peers } }
 
 -- the server is one of its cluster, and no number is beyond its limit
 pub record IsKept (hub : Hub) : Type 0 where

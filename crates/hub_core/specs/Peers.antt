@@ -1,16 +1,20 @@
 -- Peers come up and are cut, and frames are taken from their outboxes (profile).
 use Rattle.std.specs.Prelude.{ℕ, true, false, List, [], ◌∷◌, take, drop, Option, Some, None, slice_get, if◌then◌else◌}
 use Rattle.subj.specs.Servers.{ServerIdentity, name_of, own_name, is_peer}
-use Rattle.interest.specs.Views.{told_view}
+use Rattle.interest.specs.Views.{View, told_view}
 use Rattle.route_values.specs.declared.bodies.Body.TheVariants.{Snapshot}
 use Rattle.route_values.specs.Frames.{Frame}
 use Rattle.hub_core.specs.declared.faults.HubFault.{HubFault}
 use Rattle.hub_core.specs.declared.faults.HubFault.TheVariants.{NotInCluster}
 use Rattle.hub_core.specs.State.{State, Peer, peer_in_life, changed_at}
 
--- all interest of the counts, at the number of the last change, to an incarnation of the peer at place q
+-- what peers are told of the counts: all, and of a server that drains nothing
+abbrev pub told_interest : State → View
+told_interest hub = if hub.draining then [] else told_view hub.counts
+
+-- all interest that is told, at the number of the last change, to an incarnation of the peer at place q
 abbrev pub snapshot_to : ServerIdentity → State → ℕ → ℕ → Frame
-snapshot_to server hub q inc = record { from = own_name server; inc = server.inc; to = name_of server q; to_inc = inc; number = hub.changed; body = Snapshot (told_view hub.counts) }
+snapshot_to server hub q inc = record { from = own_name server; inc = server.inc; to = name_of server q; to_inc = inc; number = hub.changed; body = Snapshot (told_interest hub) }
 
 -- a session with an incarnation of the peer is kept: it is up, and a snapshot is all that waits
 abbrev pub up : ServerIdentity → State → ℕ → ℕ → State

@@ -1,5 +1,5 @@
 -- Whether a hub has nothing left to hear, and can go on (profile).
-use Rattle.std.specs.Prelude.{ℕ, Bool, false, ◌&&◌, nat_eq, nat_lt, nat_le, List, length, Option, Some, None}
+use Rattle.std.specs.Prelude.{ℕ, Bool, false, not, ◌&&◌, nat_eq, nat_lt, nat_le, List, length, Option, Some, None}
 use Rattle.subj.specs.declared.limits.TheConstants.{MAX_COUNTER, MAX_QUEUE_NAMES, ROUTE_FRAMES}
 use Rattle.subj.specs.Servers.{ServerIdentity}
 use Rattle.interest.specs.Counts.{Counts}
@@ -15,6 +15,10 @@ knows_at (Some peer) inc counts = peer.up && (nat_eq peer.seen inc && (same_view
 -- one more turn and one more publication have a number
 abbrev pub can_number : State → Bool
 can_number hub = nat_lt hub.issued MAX_COUNTER && nat_lt hub.published MAX_COUNTER
+
+-- it does not drain, and can number
+abbrev pub goes_on : State → Bool
+goes_on hub = not hub.draining && can_number hub
 
 -- not too many queue names want the subject
 abbrev pub has_few_names : ServerIdentity → State → List ℕ → Bool

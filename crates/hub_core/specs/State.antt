@@ -14,11 +14,12 @@ pub record Peer : Type 0 where
   pub up : Bool
   pub outbox : List Frame
 
--- a hub (profile): the last turn issued; the last number of a publication, and of a change of interest; of each key the number of its open subscriptions, as the shards have told them; and each server of the cluster by its place, its own place idle
+-- a hub (profile): the last turn issued; the last number of a publication, and of a change of interest; whether it drains; of each key the number of its open subscriptions, as the shards have told them; and each server of the cluster by its place, its own place idle
 pub record State : Type 0 where
   pub issued : ℕ
   pub published : ℕ
   pub changed : ℕ
+  pub draining : Bool
   pub counts : Counts
   pub peers : List Peer
 
@@ -27,7 +28,7 @@ abbrev pub unknown_peer : Peer
 unknown_peer = record { seen = 0; mark = 0; heard = nothing_heard; up = false; outbox = [] }
 
 abbrev pub new_hub : ServerIdentity → State
-new_hub server = record { issued = 0; published = 0; changed = 0; counts = []; peers = replicate (length server.names) unknown_peer }
+new_hub server = record { issued = 0; published = 0; changed = 0; draining = false; counts = []; peers = replicate (length server.names) unknown_peer }
 
 -- the peer at this place
 abbrev pub peer_at : ServerIdentity → State → ℕ → Option Peer

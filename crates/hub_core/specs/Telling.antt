@@ -1,21 +1,21 @@
--- Collect: the deltas of a shard are counted, and what they change is told to the peers (NATS documentation, "Cluster Protocol": `RS+` and `RS-`; numbers, order and cuts: profile).
-use Rattle.std.specs.Prelude.{ℕ, suc, ◌+◌, Bool, not, ◌&&◌, nat_lt, nat_le, List, [], ◌∷◌, ◌++◌, length, map, Option, Some, None, if◌then◌else◌}
+-- Collect and Drain. The deltas of a shard are counted, and what they change is told to the peers; a server that drains counts on, tells that it has no interest any more, and makes no further change (NATS documentation, "Cluster Protocol": `RS+` and `RS-`; numbers, order and cuts: profile).
+use Rattle.std.specs.Prelude.{ℕ, suc, ◌+◌, Bool, not, ◌&&◌, nat_lt, nat_le, List, [], ◌∷◌, ◌++◌, length, map, true, Option, Some, None, if◌then◌else◌}
 use Rattle.subj.specs.declared.limits.TheConstants.{MAX_COUNTER, ROUTE_FRAMES}
 use Rattle.subj.specs.Servers.{ServerIdentity, name_of, own_name}
 use Rattle.interest.specs.declared.changes.Change.{Change}
-use Rattle.interest.specs.declared.changes.Change.TheVariants.{Up, Gone}
+use Rattle.interest.specs.declared.changes.Change.TheVariants.{Up, Gone, Clear}
 use Rattle.subj.specs.declared.keys.Delta.{Delta}
 use Rattle.interest.specs.Told.{counts_told, changes_told, are_refused}
 use Rattle.route_values.specs.declared.bodies.Body.{Body}
-use Rattle.route_values.specs.declared.bodies.Body.TheVariants.{Plus, Minus}
+use Rattle.route_values.specs.declared.bodies.Body.TheVariants.{Plus, Minus, Snapshot}
 use Rattle.route_values.specs.Frames.{Frame}
 use Rattle.hub_core.specs.declared.faults.HubFault.{HubFault}
-use Rattle.hub_core.specs.declared.faults.HubFault.TheVariants.{Spent, BadInterest}
+use Rattle.hub_core.specs.declared.faults.HubFault.TheVariants.{Draining, Spent, BadInterest}
 use Rattle.hub_core.specs.Publishing.{with_frames}
 use Rattle.hub_core.specs.State.{State, Peer}
 
 abbrev pub changes_of : State → List Delta → List Change
-changes_of hub deltas = changes_told hub.counts deltas
+changes_of hub deltas = if hub.draining then [] else changes_told hub.counts deltas
 
 abbrev pub count_of_changes : State → List Delta → ℕ
 count_of_changes hub deltas = length (changes_of hub deltas)
@@ -55,6 +55,7 @@ without_slow count peer = record peer { up = is_told count peer }
 abbrev pub body_of : Change → Body
 body_of (Up weighted) = Plus weighted
 body_of (Gone key) = Minus key
+body_of Clear = Snapshot []
 
 -- the change of this number, to each peer that is told all of them
 abbrev pub frames_of_change : ServerIdentity → ℕ → ℕ → Change → ℕ → List Peer → List Frame
@@ -80,4 +81,26 @@ after_collect server hub deltas = record hub {
   changed = hub.changed + count_of_changes hub deltas;
   counts = counts_told hub.counts deltas;
   peers = with_frames server (collect_frames server hub deltas) 0 (map (without_slow (count_of_changes hub deltas)) hub.peers);
+}
+
+-- ---- drain: one change, which clears; refusals: 59, 62
+
+abbrev pub clearing : List Change
+clearing = Clear ∷ []
+
+abbrev pub drain_refusal : State → Option HubFault
+drain_refusal hub = if hub.draining then Some Draining else (if nat_le MAX_COUNTER hub.changed then Some Spent else None)
+
+abbrev pub peers_too_slow : State → List ℕ
+peers_too_slow hub = slow_from 1 0 hub.peers
+
+-- a snapshot without keys, to each peer that is up with room for it
+abbrev pub drain_frames : ServerIdentity → State → List Frame
+drain_frames server hub = frames_behind server 1 hub.changed clearing hub.peers
+
+abbrev pub after_drain : ServerIdentity → State → State
+after_drain server hub = record hub {
+  changed = hub.changed + 1;
+  draining = true;
+  peers = with_frames server (drain_frames server hub) 0 (map (without_slow 1) hub.peers);
 }

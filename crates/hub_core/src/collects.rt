@@ -1,13 +1,15 @@
-//! What a collect tells: the changes of the server's own interest, in frames for the peers that have room for all of them.
+//! What a collect and a drain tell: the changes of the server's own interest, in frames for the peers that have room for all of them.
 
 ghost use Rattle.std.specs.Prelude.{◌≡◌, IfOk, ◌≤◌, ◌<◌, ◌+◌, ◌++◌, map, length, OnOk};
 ghost use Rattle.hub_core.specs.Telling.{is_told as told, is_slow as slow, slow_from, without_slow, frames_of_change, frames_behind, body_of as told_as};
-ghost use Rattle.hub_core.specs.Calls.{WereSeen, change_to};
+ghost use Rattle.hub_core.specs.Calls.{WereSeen, HasRoomFor, change_to};
+ghost use Rattle.hub_core.specs.Publishing.{with_frames};
+ghost use Rattle.subj.specs.Servers.{IsListed};
 ghost use Rattle.subj.specs.declared.limits.TheConstants.{MAX_COUNTER};
 
-use crate::peers::{Peer, frame_to};
+use crate::peers::{Peer, frame_to, put_all};
 use interest::{Change, Recount};
-use route_values::{Body, Numbered};
+use route_values::{Body, Numbered, SnapshotKeys};
 use std::alloc::{AllocError, Global};
 use subj::{ROUTE_FRAMES, ServerIdentity};
 
@@ -45,6 +47,7 @@ fn body_of(alloc: Global, change: &Change) -> Result<Body, AllocError>
     match change {
         Change::Up(weighted) => Ok(Body::Plus(weighted.try_clone(alloc)?)),
         Change::Gone(key) => Ok(Body::Minus(key.try_clone(alloc)?)),
+        Change::Clear => Ok(Body::Snapshot(SnapshotKeys::new(alloc))),
     }
 }
 
@@ -93,12 +96,29 @@ fn cut_if_slow(peer: &mut Peer, count: usize)
 }
 
 /// The peers that are up without room for so many frames more are so no longer.
-pub(crate) fn cut_slow(peers: &mut [Peer], count: usize)
+fn cut_slow(peers: &mut [Peer], count: usize)
     ensures { peers.new ≡ map (without_slow count) peers.old }
 {
     for peer in peers {
         cut_if_slow(peer, count);
     }
+}
+
+/// Tells the peers so many changes by these frames: those that are up without room for all of them are so no longer, and
+/// the frames wait for the others. Takes no memory.
+pub(crate) fn tell_peers(
+    server: &ServerIdentity,
+    peers: &mut [Peer],
+    count: usize,
+    frames: Vec<Numbered>,
+)
+    requires known { IsListed server.now }
+    requires placed { length peers.old ≡ length server.now.names }
+    requires room { HasRoomFor server.now frames.items (map (without_slow count) peers.old) }
+    ensures { peers.new ≡ with_frames server.now frames.items 0 (map (without_slow count) peers.old) }
+{
+    cut_slow(peers, count);
+    put_all(server, peers, frames);
 }
 
 /// Adds the frames that tell of the change of this number, of so many, to each peer that is told all.

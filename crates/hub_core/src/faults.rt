@@ -9,6 +9,9 @@ use thiserror::Error;
 /// Why a hub refuses an event. (Profile.)
 #[derive(Clone, Copy, Debug, PartialEq, Eq, Error)]
 pub enum HubFault {
+    /// The server drains already.
+    #[error("the server drains already")]
+    Draining,
     /// A shard is a whole window behind: no turn can be issued.
     #[error("{0}")]
     Busy(Busy),
@@ -47,6 +50,7 @@ impl HubFault {
         ensures { result ≡ hub_fault_number self }
     {
         match self {
+            HubFault::Draining => 59,
             HubFault::Busy(_) => 60,
             HubFault::TooManyQueues => 61,
             HubFault::Spent => 62,

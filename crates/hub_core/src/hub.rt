@@ -1,6 +1,6 @@
 //! The hub, with all that it is called for.
 
-ghost use Rattle.std.specs.Prelude.{◌≡◌, ◌<◌, nat_le, if◌then◌else◌, ⊤, Some, None, true, false, take, length, slice_get, IfOk, IfSome, OnOk, OnErr, ℕ, ◌+◌, ◌≤◌, position, [], nat_lt, unwrap_or};
+ghost use Rattle.std.specs.Prelude.{◌≡◌, ◌<◌, nat_le, not, ◌&&◌, if◌then◌else◌, ⊤, Some, None, true, false, take, length, slice_get, IfOk, IfSome, OnOk, OnErr, ℕ, ◌+◌, ◌≤◌, position, [], nat_lt, unwrap_or};
 ghost use Rattle.std.specs.Option.{option_or, option_copied};
 ghost use Rattle.subj.specs.Answers.{IsAnswered, IsDecided};
 ghost use Rattle.subj.specs.declared.limits.TheConstants.{MAX_COUNTER, MAX_SHARDS, MAX_QUEUE_NAMES};
@@ -13,7 +13,7 @@ ghost use Rattle.hub_core.specs.declared.faults.HubFault.TheVariants.{Spent, Too
 ghost use Rattle.hub_core.specs.Publishing.{busy_fault, next_id as id_of_next, publish_refusal, frames_of};
 ghost use Rattle.hub_core.specs.Receiving.{receive_refusal, origin_fault as refused_of_origin, after_receive, has_message};
 ghost use Rattle.hub_core.specs.Calls.{job_of, IsTaken, answer_of, IsPlanned, after_frames, IsTellingOf, AreCounted, after_changes};
-ghost use Rattle.hub_core.specs.Peers.{snapshot_to};
+ghost use Rattle.hub_core.specs.Peers.{snapshot_to, told_interest};
 ghost use Rattle.std.specs.List.{count_by};
 ghost use Rattle.hub_core.specs.Chosen.{publication_by, IsPlanOf, turn_refusal};
 ghost use Rattle.hub_core.specs.Telling.{collect_refusal, collect_frames};
@@ -24,7 +24,7 @@ ghost use Rattle.interest.specs.Told.{counts_told};
 ghost use Rattle.interest.specs.Recounts.{IsPlanOf as IsPlanOfCounts, IsRecountOf};
 
 use crate::answers::{CollectResult, Received};
-use crate::collects::{CollectPlan, cut_slow, frames_of_changes, slow_peers};
+use crate::collects::{CollectPlan, frames_of_changes, slow_peers, tell_peers};
 use crate::faults::HubFault;
 use crate::own_interest::OwnInterest;
 use crate::peers::{
@@ -33,8 +33,8 @@ use crate::peers::{
 use crate::publishing::{
     Outgoing, PublishPlan, frames_for, gather_names, is_alone, is_name_wanted, own_job, servers_for,
 };
-use interest::{DeltaPlan, FoundNames, Recount};
-use route_values::{Body, Numbered};
+use interest::{Change, DeltaPlan, FoundNames, Recount};
+use route_values::{Body, Numbered, SnapshotKeys};
 use std::alloc::{AllocError, Global};
 use std::marker::Model;
 use subj::{
@@ -45,8 +45,8 @@ use subj::{
 /// The hub of a server. (Profile.)
 ///
 /// Seen as its server, and as the last turn issued, the last numbers of a publication and of a change of
-/// interest, the counts of the server's own interest as its shards have told it, and what it knows of
-/// each server of the cluster, by place. Each call is the hub's part of a server's step: it is refused
+/// interest, whether it drains, the counts of the server's own interest as its shards have told it, and
+/// what it knows of each server of the cluster, by place. Each call is the hub's part of a server's step: it is refused
 /// by the first cause, or does what the step says; want of memory comes only where there is no cause,
 /// and leaves all as it was.
 #[derive(Drop)]
@@ -56,6 +56,7 @@ pub struct Hub {
     pub(crate) issued: Turn,
     pub(crate) published: u64,
     pub(crate) changed: u64,
+    pub(crate) draining: bool,
     pub(crate) counts: OwnInterest,
     pub(crate) peers: Vec<Peer>,
 }
@@ -67,9 +68,9 @@ impl Model for Hub {
 
     ghost use Rattle.hub_core.specs.Hubs.{hub_of_parts, IsKept};
 
-    ghost view = { λ hub. hub_of_parts hub.server hub.issued hub.published hub.changed hub.counts hub.peers.items };
+    ghost view = { λ hub. hub_of_parts hub.server hub.issued hub.published hub.changed hub.draining hub.counts hub.peers.items };
 
-    ghost invariant = { λ hub. IsKept (hub_of_parts hub.server hub.issued hub.published hub.changed hub.counts hub.peers.items) };
+    ghost invariant = { λ hub. IsKept (hub_of_parts hub.server hub.issued hub.published hub.changed hub.draining hub.counts hub.peers.items) };
 }
 
 impl Hub {
@@ -86,6 +87,7 @@ impl Hub {
             issued: Turn::zero(),
             published: 0,
             changed: 0,
+            draining: false,
             counts,
             peers,
         })
@@ -109,13 +111,23 @@ impl Hub {
         }
     }
 
-    /// The snapshot for an incarnation of the peer at the place: all interest of the counts, at the number
+    /// The keys that peers are told of: all that is counted, and none of a server that drains.
+    fn keys_told(&self) -> Result<SnapshotKeys, AllocError>
+        ensures { IfOk result (λ keys. keys ≡ told_interest self.now.state) }
+    {
+        if self.draining {
+            return Ok(SnapshotKeys::new(self.alloc));
+        }
+        snapshot_of(self.alloc, self.counts.counts())
+    }
+
+    /// The snapshot for an incarnation of the peer at the place: all interest that is told, at the number
     /// of the last change. Required: the place is of a peer. It changes nothing.
     pub fn plan_up(&self, place: usize, inc: Incarnation) -> Result<Numbered, AllocError>
         requires { is_peer self.now.server place ≡ true }
         ensures { IfOk result (λ snapshot. snapshot ≡ snapshot_to self.now.server self.now.state place inc) }
     {
-        let keys = snapshot_of(self.alloc, self.counts.counts())?;
+        let keys = self.keys_told()?;
         let body = Body::Snapshot(keys);
         Ok(frame_to(&self.server, place, inc, self.changed, body))
     }
@@ -644,6 +656,24 @@ impl Hub {
 }
 
 impl Hub {
+    /// Why deltas are refused that can be counted and make so many changes of the counts: their numbers would go
+    /// beyond the last one. A server that drains tells of none.
+    fn count_fault(&self, count: u64) -> Option<HubFault>
+        ensures { result ≡ (if (not self.now.state.draining && nat_lt MAX_COUNTER (self.now.state.changed + count)) then Some Spent else None) }
+    {
+        (!self.draining && count > MAX_COUNTER - self.changed).then_some(HubFault::Spent)
+    }
+
+    /// Of the changes of the counts those that are told: all, and none of a server that drains.
+    fn told_of(&self, changes: Vec<Change>) -> Vec<Change>
+        ensures { result.items ≡ (if self.now.state.draining then [] else changes.items) }
+    {
+        if self.draining {
+            return Vec::new(self.alloc);
+        }
+        changes
+    }
+
     /// Why deltas are refused. Keeps no memory. The time grows with the deltas; where there is no memory for a
     /// table of their keys, with their square.
     pub fn collect_fault(&self, deltas: &[Delta]) -> Option<HubFault>
@@ -651,7 +681,7 @@ impl Hub {
     {
         match self.counts.counts().changes_of(deltas) {
             None => Some(HubFault::BadInterest),
-            Some(count) => (count > MAX_COUNTER - self.changed).then_some(HubFault::Spent),
+            Some(count) => self.count_fault(count),
         }
     }
 
@@ -663,6 +693,7 @@ impl Hub {
     {
         let alloc = self.alloc;
         let DeltaPlan { recount, changes } = plan;
+        let changes = self.told_of(changes);
         let frames = frames_of_changes(alloc, &self.server, &self.peers, self.changed, &changes)?;
         let cut = slow_peers(alloc, &self.peers, changes.len())?;
         Ok(CollectPlan {
@@ -690,8 +721,8 @@ impl Hub {
                 None => return Err(Failure::OutOfMemory),
             },
         };
-        if plan.changes.len() as u64 > MAX_COUNTER - self.changed {
-            return Err(Failure::Refused(HubFault::Spent));
+        if let Some(fault) = self.count_fault(plan.changes.len() as u64) {
+            return Err(Failure::Refused(fault));
         }
         Ok(self.telling_of(deltas, plan)?)
     }
@@ -705,8 +736,7 @@ impl Hub {
     {
         self.counts.commit(deltas, recount);
         self.changed += count as u64;
-        cut_slow(&mut self.peers, count);
-        put_all(&self.server, &mut self.peers, frames);
+        tell_peers(&self.server, &mut self.peers, count, frames);
     }
 
     /// Counts deltas, and tells of them: their changes take the next numbers, peers without room for all of
@@ -728,7 +758,7 @@ impl Hub {
     }
 
     /// Counts the deltas of a shard, in their order, and tells each peer that is up of all that they
-    /// change; a peer that has no room for all of it is told nothing, and is cut. It is
+    /// change, unless the server drains; a peer that has no room for all of it is told nothing, and is cut. It is
     /// [`Hub::plan_collect`] and [`Hub::commit_collect`] together; no deltas change nothing, and cost hardly
     /// anything. Any `Err` leaves all as it was. (NATS documentation, "Cluster Protocol": `RS+` and `RS-`;
     /// numbers, order and cuts: profile.)

@@ -1,6 +1,6 @@
 //! What each event of a hub is in the cluster law. The calls do nothing: their contracts are the laws.
 
-ghost use Rattle.hub_core.specs.AsLaw.{PublishesInLaw, ReceivesInLaw, MeetsInLaw, AnnouncesInLaw, CutsUnseen, TakesUnseen};
+ghost use Rattle.hub_core.specs.AsLaw.{PublishesInLaw, ReceivesInLaw, MeetsInLaw, AnnouncesInLaw, DrainsInLaw, CutsUnseen, TakesUnseen};
 ghost use Rattle.hub_core.specs.Steps.{StaysSound};
 ghost use Rattle.hub_core.specs.Wanted.{NamesAreWanted};
 
@@ -25,6 +25,11 @@ pub fn sessions_follow_the_law()
 /// A collect that is not refused tells its changes with their numbers, and the interest after them.
 pub fn collects_follow_the_law()
     ensures { AnnouncesInLaw }
+{}
+
+/// A drain that is not refused tells of one change, which clears, and the interest after it, which is none.
+pub fn drains_follow_the_law()
+    ensures { DrainsInLaw }
 {}
 
 /// The law sees nothing of a cut, nor of frames that are taken.

@@ -8,14 +8,15 @@
 //! let frames = hub.take_route(1, usize::MAX)?;
 //! ```
 //!
-//! In reading order: `hub` has the state, and says why a call is refused (`faults`); `publishing` is what a publish owes, with the choice
-//! of who serves each queue name, and `collects` what peers are told of interest. `peers` keeps what is known of each: what a frame of a peer
-//! does, the snapshot for one that comes up, and the frames that wait. `own_interest` is the server's own, with the queue names in mind that want a hot subject. `answers` is what the calls give. `laws` and `examples` are what
-//! holds of all this.
+//! In reading order: `hub` has the state, and says why a call is refused (`faults`); `publishing` is what a publish owes, with the choice of who
+//! serves each queue name, `collects` what peers are told of interest, and `drains` how a server tells that it has none any more. `peers` keeps what
+//! is known of each: what a frame of a peer does, the snapshot for one that comes up, and the frames that wait. `own_interest` is the server's own,
+//! with the queue names in mind that want a hot subject. `answers` is what the calls give. `laws` and `examples` are what holds of all this.
 #![tactic(auto)]
 
 mod answers;
 mod collects;
+mod drains;
 mod examples;
 mod faults;
 mod hub;
@@ -27,6 +28,7 @@ mod settled;
 
 pub use answers::{CollectResult, Received};
 pub use collects::CollectPlan;
+pub use drains::DrainPlan;
 pub use examples::{
     a_peer_comes_up, a_publication_is_split, changes_are_heard_in_order, frames_are_taken_once,
     frames_need_room, queue_names_are_counted, the_window_is_kept, weights_are_units,
@@ -34,7 +36,8 @@ pub use examples::{
 pub use faults::HubFault;
 pub use hub::Hub;
 pub use laws::{
-    collects_follow_the_law, publishes_follow_the_law, queue_names_are_wanted,
-    receives_follow_the_law, sessions_follow_the_law, sound_hubs_stay_sound, the_rest_is_unseen,
+    collects_follow_the_law, drains_follow_the_law, publishes_follow_the_law,
+    queue_names_are_wanted, receives_follow_the_law, sessions_follow_the_law,
+    sound_hubs_stay_sound, the_rest_is_unseen,
 };
 pub use publishing::PublishPlan;

@@ -1,7 +1,7 @@
 //! Whether a hub has nothing left to hear, and can go on.
 
 ghost use Rattle.std.specs.Prelude.{◌≡◌, slice_get};
-ghost use Rattle.hub_core.specs.Settled.{knows_at, can_number as has_numbers, has_few_names as are_few};
+ghost use Rattle.hub_core.specs.Settled.{knows_at, can_number as has_numbers, goes_on as can_go_on, has_few_names as are_few};
 
 use crate::hub::Hub;
 use crate::publishing::gather_names;
@@ -25,6 +25,13 @@ impl Hub {
         ensures { result ≡ has_numbers self.now.state }
     {
         self.issued.get() < MAX_COUNTER && self.published < MAX_COUNTER
+    }
+
+    /// Whether it does not drain, and one more turn and one more publication have a number.
+    pub fn goes_on(&self) -> bool
+        ensures { result ≡ can_go_on self.now.state }
+    {
+        !self.draining && self.can_number()
     }
 
     /// Whether no more queue names want the subject than a publication may have. Takes no memory.

@@ -10,7 +10,7 @@ use Rattle.route_values.specs.Snapshots.{Weighted}
 use Rattle.interest.specs.declared.faults.InterestFault.{InterestFault}
 use Rattle.interest.specs.declared.faults.InterestFault.TheVariants.{Late, Gap, UnknownKey, TooManyKeys}
 use Rattle.interest.specs.declared.changes.Change.{Change}
-use Rattle.interest.specs.declared.changes.Change.TheVariants.{Up, Gone}
+use Rattle.interest.specs.declared.changes.Change.TheVariants.{Up, Gone, Clear}
 use Rattle.interest.specs.Counts.{Counts, told_weight}
 
 -- all that one incarnation has told: its keys with their weights, in order
@@ -37,6 +37,8 @@ has_key view key = is_some (lookup (is_at (key_cmp key)) view)
 abbrev pub view_with_change : Change → View → View
 view_with_change (Up weighted) view = insert_entry key_cmp view weighted.0 weighted.1
 view_with_change (Gone key) view = remove_entry (is_at (key_cmp key)) view
+-- a server that drains waits for nothing any more (profile)
+view_with_change Clear view = []
 
 abbrev pub followed_if : Option Change → View → View
 followed_if None view = view
@@ -57,6 +59,7 @@ view_at changes count = view_after (take count changes) []
 abbrev pub follow_fault : View → Change → Option InterestFault
 follow_fault view (Up weighted) = if not (has_key view weighted.0) && nat_le MAX_KEYS (length view) then Some TooManyKeys else None
 follow_fault view (Gone key) = if has_key view key then None else Some UnknownKey
+follow_fault view Clear = None
 
 -- a change must be the next one
 abbrev pub change_fault : ℕ → View → ℕ → Change → Option InterestFault

@@ -11,4 +11,6 @@ pub enum Change {
     Up(WeightedKey),
     /// The key has no open subscription any more.
     Gone(Key),
+    /// No key is there any more: the server drains. Peers hear it as a snapshot without keys.
+    Clear,
 }

@@ -72,6 +72,10 @@ fn follow(keys: &mut Vec<WeightedKey>, change: Change) -> Result<(), AllocError>
             take_away(keys, &key);
             Ok(())
         }
+        Change::Clear => {
+            keys.clear();
+            Ok(())
+        }
     }
 }
 
@@ -204,6 +208,7 @@ impl View {
         match change {
             Change::Up(weighted) => self.up_fault(number, weighted),
             Change::Gone(key) => self.gone_fault(number, key),
+            Change::Clear => self.order_fault(number),
         }
     }
 

@@ -4,7 +4,7 @@ use Rattle.client_frames.specs.declared.err_texts.ErrText.TheVariants as text
 use Rattle.client_conn.specs.declared.ask.ClientAction.{ClientAction}
 use Rattle.client_conn.specs.declared.ask.ClientAction.TheVariants as ask
 use Rattle.client_conn.specs.declared.ask.Refusal.{Refusal}
-use Rattle.client_conn.specs.declared.ask.Refusal.TheVariants.{Busy, TooManySubscriptions, NumbersSpent, TooManyQueueGroups, Other}
+use Rattle.client_conn.specs.declared.ask.Refusal.TheVariants.{Busy, TooManySubscriptions, NumbersSpent, TooManyQueueGroups, Draining, Other}
 use Rattle.mesh_pipe.specs.declared.pipe_server.Outcome.{Outcome}
 use Rattle.mesh_pipe.specs.declared.pipe_server.Outcome.TheVariants.{Answered, Closed}
 use Rattle.mesh_pipe.specs.declared.pipe_server.PipeServer.{PipeServer}
@@ -47,6 +47,7 @@ IsTold Busy s said = ⊥
 IsTold TooManySubscriptions s said = said ≡ error_told text.TooManySubscriptions s
 IsTold NumbersSpent s said = said ≡ error_told text.NumbersSpent s
 IsTold TooManyQueueGroups s said = said ≡ error_told text.TooManyQueueGroups s
+IsTold Draining s said = said ≡ error_told text.Draining s
 IsTold Other s said = ⊥
 
 abbrev pub HasServed : {R : Type 0} → Outcome → Output → PipeServer R → PipeServer R → Type 0

@@ -3,7 +3,7 @@ use Rattle.std.specs.Prelude.{ℕ, suc, ◌+◌, Bool, true, false, List, [], �
 use Rattle.hub_core.specs.Publishing.{Publication}
 use Rattle.subj.specs.Servers.{place_in}
 use Rattle.node_law.specs.Answers.{Answer, OnSession}
-use Rattle.node_law.specs.Events.{OfConn, AtShard, Publish, Collect, Dial, Accept, CutSession, TakeFrames}
+use Rattle.node_law.specs.Events.{OfConn, AtShard, Publish, Collect, Drain, Dial, Accept, CutSession, TakeFrames}
 use Rattle.node_law.specs.declared.events.ConnEvent.TheVariants.{Subscribe, Unsubscribe, Detach, Take}
 use Rattle.node_law.specs.declared.events.ShardWork.TheVariants as work
 use Rattle.world_law.specs.Events.{Event, Start, Stop, Receive, OnInfo, OnConnect, At}
@@ -116,6 +116,8 @@ act_wants names n (act.Deliver conn publication word) = Delivers n (record { con
 act_wants names n (act.Receive frame) = Once (Receive n frame)
 act_wants names n (act.Collect shard) = Once (At n (Collect shard))
 act_wants names n (act.Begin shard) = Once (At n (AtShard shard work.Begin))
+act_wants names n act.Drain = Once (At n Drain)
+act_wants names n (act.DrainShard shard) = Once (At n (AtShard shard work.DrainShard))
 act_wants names n (act.End shard) = Once (At n (AtShard shard work.End))
 act_wants names n (act.DropJob shard) = Once (At n (AtShard shard work.DropJob))
 act_wants names n (act.Claim shard index) = Once (At n (AtShard shard (work.Claim index)))

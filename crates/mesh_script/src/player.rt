@@ -248,6 +248,8 @@ fn asked_by(
         Act::Receive { frame } => Ok(receive(node, *frame)),
         Act::Collect { shard } => Ok(own(node, OwnEvent::Collect { shard: *shard })),
         Act::Begin { shard } => Ok(at_shard(node, *shard, ShardWork::Begin)),
+        Act::Drain => Ok(own(node, OwnEvent::Drain)),
+        Act::DrainShard { shard } => Ok(at_shard(node, *shard, ShardWork::DrainShard)),
         Act::End { shard } => Ok(at_shard(node, *shard, ShardWork::End)),
         Act::DropJob { shard } => Ok(at_shard(node, *shard, ShardWork::DropJob)),
         Act::Claim { shard, index } => {

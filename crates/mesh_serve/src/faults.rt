@@ -1,4 +1,4 @@
-//! Why a mesh is not served.
+//! Why a mesh is not served, and why none drains.
 
 use event_log::StartFault;
 use std::alloc::{AllocError, AllocFailed};
@@ -10,6 +10,8 @@ use std::{fmt, io};
 pub enum ServeFault {
     /// The port is not to be had.
     Port { port: u16, error: io::Error },
+    /// The socket where the servers are told to drain is not to be had.
+    Control(io::Error),
     /// A socket, or standard output, failed before the servers ran.
     Failed(io::Error),
     /// The servers would be no cluster.
@@ -29,6 +31,9 @@ impl Display for ServeFault {
         match self {
             ServeFault::Port { port, error } => {
                 write!(f, "port {port} of 127.0.0.1 is not to be had: {error}")
+            }
+            ServeFault::Control(error) => {
+                write!(f, "the socket of --control is not to be had: {error}")
             }
             ServeFault::Failed(error) => write!(f, "{error}"),
             ServeFault::NoCluster => f.write_str("the servers are no cluster"),
@@ -64,5 +69,34 @@ impl From<StartFault> for ServeFault {
 impl From<io::Error> for ServeFault {
     fn from(error: io::Error) -> ServeFault {
         ServeFault::Failed(error)
+    }
+}
+
+/// Why no server drains that was told to.
+#[derive(Drop)]
+pub enum DrainFault {
+    /// Nothing is at the path.
+    NoSocket,
+    /// A socket is left there, and the process that had it is gone.
+    NobodyListens,
+    /// The socket is not reached.
+    NotReached(io::Error),
+    /// None of the servers has the name.
+    NoServer,
+    /// There was no answer, or one that says nothing.
+    NoAnswer,
+}
+
+impl Display for DrainFault {
+    fn fmt<W: Write>(&self, f: &mut Formatter<W>) -> fmt::Result {
+        match self {
+            DrainFault::NoSocket => f.write_str("nothing is at the path: no mesh is served there"),
+            DrainFault::NobodyListens => {
+                f.write_str("nobody listens at the path: the process that did has ended")
+            }
+            DrainFault::NotReached(error) => write!(f, "the path cannot be reached: {error}"),
+            DrainFault::NoServer => f.write_str("no server there has this name"),
+            DrainFault::NoAnswer => f.write_str("the mesh there has not answered"),
+        }
     }
 }

@@ -3,15 +3,17 @@
 ghost use Rattle.std.specs.Prelude.{◌≡◌, ◌<◌, ◌+◌, ◌%◌, ◌^◌, IfOk};
 ghost use Rattle.router_command.specs.Ranges.{AreWithin};
 
+use crate::control::{bind_control, remove_control};
 use crate::faults::ServeFault;
 use event_log::EventLog;
 use mio::net::TcpListener;
 use mio::{Poll, Waker};
-use node_net::{Server as Connections, Shutdown, Sockets, WAKER};
+use node_net::{Control, Server as Connections, ServerControl, Shutdown, Sockets, WAKER};
 use router_command::Options;
 use server_calls::ServerCalls;
 use server_events::{Event, SystemCause};
 use std::alloc::{AllocError, Global};
+use std::fs::Files;
 use std::marker::Brand;
 use std::net::{Ipv4Addr, Net, SocketAddr, TcpListener as Listener, TcpStream as Stream};
 use std::rt::Clock;
@@ -47,7 +49,7 @@ fn bind<R: Net>(rt: &R, port: u16) -> Result<TcpListener, ServeFault> {
 /// Where clients and other servers connect to the server at this place.
 fn listeners<R: Net>(
     rt: &R,
-    options: &Options,
+    options: &Options<'_>,
     place: u16,
 ) -> Result<(TcpListener, TcpListener), ServeFault>
     requires within { AreWithin options.now }
@@ -59,7 +61,7 @@ fn listeners<R: Net>(
 }
 
 /// The sockets of the server at this place.
-fn sockets<R: Net>(rt: &R, options: &Options, place: u16) -> Result<Sockets, ServeFault>
+fn sockets<R: Net>(rt: &R, options: &Options<'_>, place: u16) -> Result<Sockets, ServeFault>
     requires within { AreWithin options.now }
     requires place { place < options.now.nodes }
 {
@@ -69,6 +71,7 @@ fn sockets<R: Net>(rt: &R, options: &Options, place: u16) -> Result<Sockets, Ser
         poll,
         clients,
         routes,
+        control: None,
     })
 }
 
@@ -94,7 +97,7 @@ fn name_of(place: u16) -> Result<NodeId, ServeFault> {
 }
 
 /// The life of the server at this place.
-fn life_of(alloc: Global, options: &Options, place: u16) -> Result<ServerIdentity, ServeFault> {
+fn life_of(alloc: Global, options: &Options<'_>, place: u16) -> Result<ServerIdentity, ServeFault> {
     let mut names = Vec::new(alloc);
     for other in 0..options.nodes {
         names.push(name_of(other)?)?;
@@ -106,7 +109,7 @@ fn life_of(alloc: Global, options: &Options, place: u16) -> Result<ServerIdentit
 }
 
 /// The seed of the words of the server at this place. Each server has another one, so that no two of them choose alike.
-fn seed_of(options: &Options, place: u16) -> u64
+fn seed_of(options: &Options<'_>, place: u16) -> u64
     ensures { result ≡ (options.now.word + place) % 2 ^ 64 }
 {
     options.word.wrapping_add(u64::from(place))
@@ -116,7 +119,7 @@ fn seed_of(options: &Options, place: u16) -> u64
 fn bound_server<R: Net>(
     rt: &R,
     alloc: Global,
-    options: &Options,
+    options: &Options<'_>,
     place: u16,
 ) -> Result<BoundServer, ServeFault>
     requires within { AreWithin options.now }
@@ -132,7 +135,7 @@ fn bound_server<R: Net>(
 }
 
 /// Where other servers connect to each server.
-fn addresses(alloc: Global, options: &Options) -> Result<Vec<SocketAddr>, ServeFault>
+fn addresses(alloc: Global, options: &Options<'_>) -> Result<Vec<SocketAddr>, ServeFault>
     requires { AreWithin options.now }
 {
     let mut all = Vec::new(alloc);
@@ -269,7 +272,7 @@ fn run_all<'m, R: Threads + Wait + Net<Listener = Listener, Stream = Stream> + C
 }
 
 /// The line that tells that the server at this place, counted from 0, can be reached: at which ports clients and other servers connect.
-pub fn ready_line(alloc: Global, options: &Options, place: u16) -> Result<String, AllocError>
+pub fn ready_line(alloc: Global, options: &Options<'_>, place: u16) -> Result<String, AllocError>
     requires within { AreWithin options.now }
     requires place { place < options.now.nodes }
 {
@@ -282,7 +285,7 @@ pub fn ready_line(alloc: Global, options: &Options, place: u16) -> Result<String
 }
 
 /// Tells on standard output that all servers can be reached, a line each.
-fn tell<R: Print>(rt: &R, alloc: Global, options: &Options) -> io::Result<()>
+fn tell<R: Print>(rt: &R, alloc: Global, options: &Options<'_>) -> io::Result<()>
     requires { AreWithin options.now }
 {
     for place in 0..options.nodes {
@@ -293,7 +296,7 @@ fn tell<R: Print>(rt: &R, alloc: Global, options: &Options) -> io::Result<()>
 }
 
 /// Tells the log at which ports each server listens.
-fn tell_log<R: Wait + Clock>(rt: &R, options: &Options, log: &EventLog)
+fn tell_log<R: Wait + Clock>(rt: &R, options: &Options<'_>, log: &EventLog)
     requires { AreWithin options.now }
 {
     for place in 0..options.nodes {
@@ -308,7 +311,11 @@ fn tell_log<R: Wait + Clock>(rt: &R, options: &Options, log: &EventLog)
 }
 
 /// The servers of a mesh, with their sockets bound.
-fn servers<R: Net>(rt: &R, alloc: Global, options: &Options) -> Result<Vec<BoundServer>, ServeFault>
+fn servers<R: Net>(
+    rt: &R,
+    alloc: Global,
+    options: &Options<'_>,
+) -> Result<Vec<BoundServer>, ServeFault>
     requires { AreWithin options.now }
 {
     let mut all = Vec::new(alloc);
@@ -323,7 +330,7 @@ fn push_bound<R: Net>(
     all: &mut Vec<BoundServer>,
     rt: &R,
     alloc: Global,
-    options: &Options,
+    options: &Options<'_>,
     place: u16,
 ) -> Result<(), ServeFault>
     requires within { AreWithin options.now }
@@ -333,11 +340,12 @@ fn push_bound<R: Net>(
     Ok(())
 }
 
-/// What wakes each server.
-fn wakers(alloc: Global, servers: &[BoundServer]) -> Result<Vec<Waker>, ServeFault> {
+/// What wakes each server, and tells it to drain.
+fn controls(alloc: Global, servers: &[BoundServer]) -> Result<Vec<ServerControl>, ServeFault> {
     let mut all = Vec::new(alloc);
     for server in servers {
-        all.push(Waker::new(server.sockets.poll.registry(), WAKER)?)?;
+        let waker = Waker::new(server.sockets.poll.registry(), WAKER)?;
+        all.push(ServerControl::new(waker))?;
     }
     Ok(all)
 }
@@ -354,17 +362,19 @@ struct BoundMesh {
 fn servers_to_wake<R: Net>(
     rt: &R,
     alloc: Global,
-    options: &Options,
+    options: &Options<'_>,
 ) -> Result<(Vec<BoundServer>, Shutdown), ServeFault>
     requires { AreWithin options.now }
 {
     let servers = servers(rt, alloc, options)?;
-    let wakers = wakers(alloc, &servers)?;
-    Ok((servers, Shutdown::new(options.stop_after, wakers)))
+    let controls = controls(alloc, &servers)?;
+    let mut shutdown = Shutdown::new(options.stop_after, controls);
+    shutdown.set_drain_seconds(options.drain_seconds);
+    Ok((servers, shutdown))
 }
 
 /// A mesh whose sockets are bound.
-fn bound_mesh<R: Net>(rt: &R, alloc: Global, options: &Options) -> Result<BoundMesh, ServeFault>
+fn bound_mesh<R: Net>(rt: &R, alloc: Global, options: &Options<'_>) -> Result<BoundMesh, ServeFault>
     requires { AreWithin options.now }
 {
     let addresses = addresses(alloc, options)?;
@@ -376,11 +386,81 @@ fn bound_mesh<R: Net>(rt: &R, alloc: Global, options: &Options) -> Result<BoundM
     })
 }
 
+/// Has the first server take what operators say at this path.
+fn control_at<R: Files + Net>(
+    rt: &R,
+    alloc: Global,
+    bound: &mut BoundMesh,
+    path: &str,
+) -> Result<(), ServeFault> {
+    let listener = bind_control(rt, path)?;
+    if let Some(first) = bound.servers.first_mut() {
+        first.sockets.control = Some(Control::new(alloc, listener));
+    }
+    Ok(())
+}
+
+/// Serves a mesh whose ports are bound, and has it take what operators say where the options name a path, whose file is gone at the end.
+fn serve_controlled<R>(
+    rt: &R,
+    alloc: Global,
+    options: &Options<'_>,
+    mut bound: BoundMesh,
+) -> Result<(), ServeFault>
+where
+    R: Threads
+        + Wait
+        + Net<Listener = Listener, Stream = Stream>
+        + Files
+        + Clock
+        + Print
+        + Eprint
+        + Copy
+        + Send
+        + Sync
+        + 'static,
+    requires { AreWithin options.now }
+{
+    let Some(path) = options.control else {
+        return serve_logged(rt, alloc, options, bound);
+    };
+    control_at(rt, alloc, &mut bound, path)?;
+    let ended = serve_logged(rt, alloc, options, bound);
+    remove_control(rt, path);
+    ended
+}
+
+/// Serves a mesh whose sockets are bound, and tells standard error of it.
+fn serve_logged<R>(
+    rt: &R,
+    alloc: Global,
+    options: &Options<'_>,
+    bound: BoundMesh,
+) -> Result<(), ServeFault>
+where
+    R: Threads
+        + Wait
+        + Net<Listener = Listener, Stream = Stream>
+        + Clock
+        + Print
+        + Eprint
+        + Copy
+        + Send
+        + Sync
+        + 'static,
+    requires { AreWithin options.now }
+{
+    let log = EventLog::start(rt, alloc, options.log_level)?;
+    let ended = run_told(rt, alloc, options, bound, &log);
+    log.end(rt);
+    ended
+}
+
 /// Tells standard output and the log that the mesh is ready, and runs it, whose sockets are bound.
 fn run_told<R>(
     rt: &R,
     alloc: Global,
-    options: &Options,
+    options: &Options<'_>,
     bound: BoundMesh,
     log: &EventLog,
 ) -> Result<(), ServeFault>
@@ -400,15 +480,17 @@ where
 
 /// Serves the mesh that the options tell of, each server in a thread of its own. When all sockets are bound, a
 /// line for each server is on standard output. It ends where the options say so: never, or once so many
-/// clients have come and all of them have gone. Standard error tells what happens meanwhile, as far as the options let it.
+/// clients have come and all of them have gone; and once all servers have drained, which they are told at the path of the options, and by
+/// [`ask_drain`](crate::ask_drain). Standard error tells what happens meanwhile, as far as the options let it.
 ///
 /// A port that is not to be had is told by its number, and of a server that cannot go on its number and the
 /// cause; the others stop then too. Required: options as [`Options::new`] gives them. May wait, and for ever.
-pub fn serve<R>(rt: &R, alloc: Global, options: &Options) -> Result<(), ServeFault>
+pub fn serve<R>(rt: &R, alloc: Global, options: &Options<'_>) -> Result<(), ServeFault>
 where
     R: Threads
         + Wait
         + Net<Listener = Listener, Stream = Stream>
+        + Files
         + Clock
         + Print
         + Eprint
@@ -419,8 +501,5 @@ where
     requires { AreWithin options.now }
 {
     let bound = bound_mesh(rt, alloc, options)?;
-    let log = EventLog::start(rt, alloc, options.log_level)?;
-    let ended = run_told(rt, alloc, options, bound, &log);
-    log.end(rt);
-    ended
+    serve_controlled(rt, alloc, options, bound)
 }

@@ -1,5 +1,5 @@
-//! The program: `serve` serves a mesh on sockets, `pipe` one client on standard input and output, `match` answers one
-//! question of matching, `script` plays what is done in a cluster, and `audit` audits a log of what was done in one.
+//! The program: `serve` serves a mesh on sockets, `drain` has its servers drain, `pipe` serves one client on standard input and output, `match`
+//! answers one question of matching, `script` plays what is done in a cluster, and `audit` audits a log of what was done in one.
 //!
 //! ```text
 //! nats_mesh serve --nodes 3 --port 4222
@@ -12,10 +12,11 @@ use command_line::{status_of, tell_line, words};
 use mesh_audit::{audit_run, script_audit_run};
 use mesh_pipe::{pipe_complaint, pipe_run, pipe_status};
 use mesh_script::{match_run, script_run};
-use mesh_serve::serve;
+use mesh_serve::{ask_drain, serve};
 use router_command::{Command, Given, Options, command_of};
 use std::alloc::Global;
 use std::fmt::Display;
+use std::fs::Files;
 use std::io;
 use std::net::{Net, TcpListener, TcpStream};
 use std::process::ExitCode;
@@ -23,6 +24,7 @@ use std::rt::Clock;
 use std::sync::Wait;
 use std::thread::Threads;
 use sub_trie::TrieTable;
+use subj::NodeId;
 use wire_cut::Raw;
 
 /// The exit status of a command line that is no text, or has a number that is out of its range.
@@ -90,6 +92,7 @@ where
     R: Threads
         + Wait
         + Net<Listener = TcpListener, Stream = TcpStream>
+        + Files
         + Clock
         + Print
         + Eprint
@@ -108,12 +111,24 @@ where
     }
 }
 
+/// Has the servers drain that are told so at this path, or the one of this name.
+fn run_drain<R: Net + Eprint>(rt: &R, path: &str, server: Option<&str>) -> u8 {
+    if let Some(name) = server {
+        if NodeId::read(name.as_bytes()).is_err() {
+            let _ = eprintln!(rt; "nats_mesh: '{name}' is no name of a server");
+            return BAD_LINE;
+        }
+    }
+    report(rt, ask_drain(rt, path, server))
+}
+
 /// Does what the command line asks for. Gives the exit status.
 fn run<R>(rt: &R, words: &[String]) -> u8
 where
     R: Threads
         + Wait
         + Net<Listener = TcpListener, Stream = TcpStream>
+        + Files
         + Clock
         + Input
         + Print
@@ -131,6 +146,7 @@ where
         Ok(Command::Script { audit: true }) => run_script_listing(rt),
         Ok(Command::Audit) => run_audit(rt),
         Ok(Command::Serve(given)) => run_serve(rt, given),
+        Ok(Command::Drain { path, server }) => run_drain(rt, path, server),
         Err(error) => tell_line(rt, &error),
     }
 }

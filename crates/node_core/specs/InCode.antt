@@ -22,6 +22,7 @@ own_event_of (own.OfConn conn event) = asked.OfConn conn event
 own_event_of (own.AtShard shard work) = asked.AtShard shard work
 own_event_of (own.Publish conn publication word) = asked.Publish (record { conn = conn; publication = publication; word = word })
 own_event_of (own.Collect shard) = asked.Collect shard
+own_event_of own.Drain = asked.Drain
 own_event_of (own.Dial peer) = asked.Dial peer
 own_event_of own.Accept = asked.Accept
 own_event_of (own.CutSession session) = asked.CutSession session

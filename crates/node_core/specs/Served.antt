@@ -27,7 +27,7 @@ use Rattle.node_parts.specs.declared.told.Received.{Received}
 use Rattle.node_parts.specs.declared.told.Received.TheVariants.{Routed, Heard}
 use Rattle.node_law.specs.Answers as answer
 use Rattle.node_law.specs.Answers.{Answer, node_answer}
-use Rattle.node_law.specs.Events.{NodeEvent, Own, OfConn, AtShard, Publish, Collect, Dial, Accept, CutSession, TakeFrames, Receive, OnInfo, OnConnect}
+use Rattle.node_law.specs.Events.{NodeEvent, Own, OfConn, AtShard, Publish, Collect, Drain, Dial, Accept, CutSession, TakeFrames, Receive, OnInfo, OnConnect}
 use Rattle.node_law.specs.declared.events.ConnEvent.{ConnEvent}
 use Rattle.node_law.specs.declared.events.ShardWork.{ShardWork}
 use Rattle.node_law.specs.declared.events.ShardWork.TheVariants.{Begin, Claim, DropJob}
@@ -195,3 +195,8 @@ pub record ReceiveStep (old : Served) (frame : Frame) (received : Received) (new
 pub record CollectStep (old : Served) (shard changes frames : ℕ) (cut : List ℕ) (new : Served) : Type 0 where
   pub step : DoesStep old (Own (Collect shard)) false new
   pub answered : answer.Collected changes frames cut ≡ node_answer old.server old.node (Own (Collect shard)) false
+
+-- the same of a drain
+pub record DrainStep (old : Served) (changes frames : ℕ) (cut : List ℕ) (new : Served) : Type 0 where
+  pub step : DoesStep old (Own Drain) false new
+  pub answered : answer.Collected changes frames cut ≡ node_answer old.server old.node (Own Drain) false

@@ -25,7 +25,7 @@ pub enum Answer {
     Routed(Turn),
     /// Received news: the number of the last change of interest that is known now.
     Heard(u64),
-    /// A collect.
+    /// A collect; and a drain, which is one change.
     Collected {
         /// How many changes of interest the peers are told.
         changes: usize,

@@ -4,11 +4,11 @@ ghost use Rattle.std.specs.Prelude.{◌≡◌, ◌≤◌, Some, false, option_to
 ghost use Rattle.subj.specs.Answers.{IsAnswered, IsDecided};
 ghost use Rattle.subj.specs.declared.limits.TheConstants.{MAX_SHARDS};
 ghost use Rattle.shard_core.specs.Answers.{answer_of};
-ghost use Rattle.shard_core.specs.ShardEvents.{Attached, Unsubscribed, Replied, WasShut, Detached, Taken, Finished};
-ghost use Rattle.node_law.specs.Events.{Own, OfConn, AtShard, Dial, Accept, CutSession, TakeFrames, OnInfo, OnConnect, Publish, Collect, Receive};
+ghost use Rattle.shard_core.specs.ShardEvents.{Attached, Unsubscribed, Replied, WasShut, Detached, Taken, Finished, Drains};
+ghost use Rattle.node_law.specs.Events.{Own, OfConn, AtShard, Dial, Accept, CutSession, TakeFrames, OnInfo, OnConnect, Publish, Collect, Drain, Receive};
 ghost use Rattle.node_law.specs.declared.events.ConnEvent.TheVariants.{Subscribe, Unsubscribe, Reply, Shut, Detach, Take};
-ghost use Rattle.node_law.specs.declared.events.ShardWork.TheVariants.{Attach, Begin, Claim, End, DropJob};
-ghost use Rattle.node_core.specs.Served.{new_server, of_session_answer, of_session_decision, of_hub_answer, refusal, ConnStep, WorkStep, BeginStep, DialStep, AcceptStep, CutStep, FramesStep, DropStep, ClaimStep, InfoStep, ConnectStep, PublishStep, ReceiveStep, CollectStep};
+ghost use Rattle.node_law.specs.declared.events.ShardWork.TheVariants.{Attach, Begin, Claim, End, DropJob, DrainShard};
+ghost use Rattle.node_core.specs.Served.{new_server, of_session_answer, of_session_decision, of_hub_answer, refusal, ConnStep, WorkStep, BeginStep, DialStep, AcceptStep, CutStep, FramesStep, DropStep, ClaimStep, InfoStep, ConnectStep, PublishStep, ReceiveStep, CollectStep, DrainStep};
 ghost use Rattle.node_law.specs.State.{lines_from};
 ghost use Rattle.hub_core.specs.Chosen.{publication_by};
 ghost use Rattle.node_law.specs.declared.faults.NodeFault.TheVariants.{Hub};
@@ -286,6 +286,18 @@ impl<T: SubTable, R: Race> Node<T, R> {
         }
     }
 
+    /// The shard takes no subscription any more: [`ShardWithJobs::drain`]. Refused with [`NodeFault::NoShard`] first.
+    /// Takes no memory.
+    pub fn drain_shard(&mut self, shard: u64) -> Result<(), NodeFault>
+        ensures { IsDecided (refusal self.old (Own (AtShard shard DrainShard))) (λ _. WorkStep self.old shard DrainShard false Drains self.new) (self.new ≡ self.old) result }
+    {
+        let Some(place) = place_of_shard(self.lines.len(), shard) else {
+            return Err(NodeFault::NoShard);
+        };
+        let line = &mut self.lines[place];
+        line.drain()
+    }
+
     /// Dials the server at this place: [`HubWithSessions::dial`]. Gives the number of the session.
     pub fn dial(&mut self, peer: usize) -> Result<SessionId, Failure<NodeFault>>
         ensures { IsAnswered (refusal self.old (Own (Dial peer))) (λ session. DialStep self.old peer session self.new) (self.new ≡ self.old) result }
@@ -455,6 +467,7 @@ impl<T: SubTable, R: Race> Node<T, R> {
                 word,
             } => self.publish_fault(*conn, publication, *word),
             OwnEvent::Collect { shard } => self.collect_fault(*shard),
+            OwnEvent::Drain => of_hub_fault(self.side.hub().drain_fault()),
             OwnEvent::Dial { peer } => {
                 Some(NodeFault::Session(self.side.sessions().dial_fault(*peer)?))
             }
@@ -610,6 +623,24 @@ impl<T: SubTable, R: Race> Node<T, R> {
             changes,
             frames,
             cut: told.cut,
+        })
+    }
+
+    /// Tells each peer that is up that the server has no interest any more, and of none from then on:
+    /// [`Hub::drain`](hub_core::Hub::drain). A peer without room for it is cut, and the session that was kept with it
+    /// ends. Refused as the hub's call is.
+    pub fn drain(&mut self) -> Result<CollectResult, Failure<NodeFault>>
+        ensures { IsAnswered (refusal self.old (Own Drain)) (λ told. DrainStep self.old told.changes told.frames told.cut.items self.new) (self.new ≡ self.old) result }
+    {
+        let cut = match self.side.drain() {
+            Ok(cut) => cut,
+            Err(fault) => return of_hub(Err(fault)),
+        };
+        let frames = self.side.hub().up_count();
+        Ok(CollectResult {
+            changes: 1,
+            frames,
+            cut,
         })
     }
 }

@@ -12,7 +12,7 @@ use Rattle.hub_core.specs.Steps.{hub_answer}
 use Rattle.route_session.specs.Events as of_sessions
 use Rattle.route_session.specs.Steps.{session_answer}
 use Rattle.node_law.specs.State.{ShardWithJobs, Node, finished_turns}
-use Rattle.node_law.specs.Events.{OwnEvent, OfConn, AtShard, Publish, Collect, Dial, Accept, CutSession, TakeFrames, NodeEvent, Own, Receive, OnInfo, OnConnect}
+use Rattle.node_law.specs.Events.{OwnEvent, OfConn, AtShard, Publish, Collect, Drain, Dial, Accept, CutSession, TakeFrames, NodeEvent, Own, Receive, OnInfo, OnConnect}
 use Rattle.node_law.specs.Steps.{conn_line, shard_line, conn_event, work_event, deltas_at, seen_name}
 
 pub data Answer : Type 0 where
@@ -27,7 +27,7 @@ pub data Answer : Type 0 where
   Routed : (turn : ℕ) → Answer
   -- the number of the last change of interest heard
   Heard : (mark : ℕ) → Answer
-  -- how many changes, how many frames were put, and the peers cut
+  -- how many changes, how many frames were put, and the peers cut; a drain makes one change
   Collected : (changes frames : ℕ) (cut : List ℕ) → Answer
   -- how many messages were placed, and how many connections shut
   Began : (placed shut : ℕ) → Answer
@@ -59,6 +59,7 @@ told_of_shard of_shard.Lost = Lost
 told_of_shard (of_shard.Won sub placed ended) = Won sub
 told_of_shard of_shard.Finished = Nothing
 told_of_shard (of_shard.Dropped job) = Nothing
+told_of_shard of_shard.Drains = Nothing
 told_of_shard (of_shard.Collected deltas) = Nothing
 
 abbrev pub told_of_hub : of_hub.Answer → Answer
@@ -66,6 +67,7 @@ told_of_hub (of_hub.Issued job frames) = Issued job.turn (length frames)
 told_of_hub (of_hub.Routed job) = Routed job.turn
 told_of_hub (of_hub.Heard mark) = Heard mark
 told_of_hub (of_hub.Collected changes frames cut) = Collected (length changes) (length frames) cut
+told_of_hub (of_hub.Drained frames cut) = Collected 1 (length frames) cut
 told_of_hub (of_hub.IsUp snapshot) = Nothing
 told_of_hub of_hub.WasCut = Nothing
 told_of_hub (of_hub.Taken frames) = TakenFrames frames
@@ -92,6 +94,7 @@ own_answer server a (OfConn conn event) won = told_at (conn_line server a conn) 
 own_answer server a (AtShard shard work) won = told_at (shard_line a shard) (work_event work won)
 own_answer server a (Publish p) won = told_of_hub (hub_answer server a.hub (of_hub.Publish p (finished_turns a.lines)))
 own_answer server a (Collect shard) won = told_of_hub (hub_answer server a.hub (of_hub.Collect shard (deltas_at (shard_line a shard))))
+own_answer server a Drain won = told_of_hub (hub_answer server a.hub of_hub.Drain)
 own_answer server a (Dial q) won = told_of_sessions (session_answer server a.sessions (of_sessions.Dial q))
 own_answer server a Accept won = told_of_sessions (session_answer server a.sessions of_sessions.Accept)
 own_answer server a (CutSession session) won = told_of_sessions (session_answer server a.sessions (of_sessions.Cut session))

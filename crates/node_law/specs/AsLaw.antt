@@ -29,14 +29,14 @@ use Rattle.route_values.specs.declared.frames.RouteFrame.TheVariants as route
 use Rattle.hub_core.specs.AsLaw.{hub_of, id_of, frame_of, change_of, follow}
 use Rattle.hub_core.specs.Publishing.{Publication, own_job, next_id}
 use Rattle.hub_core.specs.Receiving.{routed_job}
-use Rattle.hub_core.specs.Telling.{changes_of}
+use Rattle.hub_core.specs.Telling.{changes_of, clearing}
 use Rattle.shard_core.specs.AsLaw.{shard_of, job_of, given_by, job_by, lives_by, placements_for, is_open_serial, AreThese}
 use Rattle.shard_core.specs.Owed.{due_entry}
 use Rattle.shard_core.specs.ShardEvents as of_shard
 use Rattle.shard_core.specs.Shards.{waits_for}
 use Rattle.node_law.specs.Race.{race_of}
 use Rattle.node_law.specs.State.{ShardWithJobs, Node, new_node}
-use Rattle.node_law.specs.Events.{ConnEvent, OwnEvent, OfConn, AtShard, Publish, Collect, Dial, Accept, CutSession, TakeFrames, NodeEvent, Own, Receive, OnInfo, OnConnect}
+use Rattle.node_law.specs.Events.{ConnEvent, OwnEvent, OfConn, AtShard, Publish, Collect, Drain, Dial, Accept, CutSession, TakeFrames, NodeEvent, Own, Receive, OnInfo, OnConnect}
 use Rattle.node_law.specs.Steps.{conn_place, conn_line, shard_line, conn_event, work_event, deltas_at, node_frames, NodeStep}
 use Rattle.node_law.specs.Sound.{SoundNode}
 
@@ -80,6 +80,7 @@ own_part server a (OfConn conn event) won = part_at (conn_place server conn) (λ
 own_part server a (AtShard shard work) won = part_at (shard - 1) (work_event work won) (shard_line a shard)
 own_part server a (Publish p) won = None
 own_part server a (Collect shard) won = None
+own_part server a Drain won = None
 own_part server a (Dial q) won = None
 own_part server a Accept won = None
 own_part server a (CutSession session) won = None
@@ -123,6 +124,7 @@ own_publications server now a (OfConn conn event) = []
 own_publications server now a (AtShard shard work) = []
 own_publications server now a (Publish p) = publication_of server now a p ∷ []
 own_publications server now a (Collect shard) = []
+own_publications server now a Drain = []
 own_publications server now a (Dial q) = []
 own_publications server now a Accept = []
 own_publications server now a (CutSession session) = []
@@ -143,6 +145,7 @@ own_lives server now a (OfConn conn event) = conn_lives server now conn event (c
 own_lives server now a (AtShard shard work) = []
 own_lives server now a (Publish p) = []
 own_lives server now a (Collect shard) = []
+own_lives server now a Drain = []
 own_lives server now a (Dial q) = []
 own_lives server now a Accept = []
 own_lives server now a (CutSession session) = []
@@ -159,6 +162,7 @@ own_jobs server a (OfConn conn event) = []
 own_jobs server a (AtShard shard work) = []
 own_jobs server a (Publish p) = own_job server a.hub p ∷ []
 own_jobs server a (Collect shard) = []
+own_jobs server a Drain = []
 own_jobs server a (Dial q) = []
 own_jobs server a Accept = []
 own_jobs server a (CutSession session) = []
@@ -181,6 +185,7 @@ own_changes a (OfConn conn event) = []
 own_changes a (AtShard shard work) = []
 own_changes a (Publish p) = []
 own_changes a (Collect shard) = changes_of a.hub (deltas_at (shard_line a shard))
+own_changes a Drain = clearing
 own_changes a (Dial q) = []
 own_changes a Accept = []
 own_changes a (CutSession session) = []

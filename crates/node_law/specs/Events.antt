@@ -7,7 +7,7 @@ use Rattle.route_values.specs.Records.{Info, Connect}
 pub use Rattle.node_law.specs.declared.events.ConnEvent.{ConnEvent}
 pub use Rattle.node_law.specs.declared.events.ConnEvent.TheVariants.{Subscribe, Unsubscribe, Reply, Shut, Detach, Take}
 pub use Rattle.node_law.specs.declared.events.ShardWork.{ShardWork}
-pub use Rattle.node_law.specs.declared.events.ShardWork.TheVariants.{Attach, Begin, Claim, End, DropJob}
+pub use Rattle.node_law.specs.declared.events.ShardWork.TheVariants.{Attach, Begin, Claim, End, DropJob, DrainShard}
 
 -- of the server itself
 pub data OwnEvent : Type 0 where
@@ -15,6 +15,7 @@ pub data OwnEvent : Type 0 where
   AtShard : (shard : ℕ) (work : ShardWork) → OwnEvent
   Publish : (publication : Publication) → OwnEvent
   Collect : (shard : ℕ) → OwnEvent
+  Drain : OwnEvent
   Dial : (peer : ℕ) → OwnEvent
   Accept : OwnEvent
   CutSession : (session : ℕ) → OwnEvent

@@ -11,7 +11,7 @@ use Rattle.shard_core.specs.Owed.{candidate_of, placed_for}
 use Rattle.shard_core.specs.Puts.{entries_for}
 use Rattle.shard_core.specs.declared.calls.Placed.{Placed}
 use Rattle.node_law.specs.AsLaw.{waits_at, jobs_by}
-use Rattle.node_law.specs.Events.{ShardWork, Attach, Begin, Claim, End, DropJob, OwnEvent, OfConn, AtShard, Publish, Collect, Dial, Accept, CutSession, TakeFrames, NodeEvent, Own, Receive, OnInfo, OnConnect}
+use Rattle.node_law.specs.Events.{ShardWork, Attach, Begin, Claim, End, DropJob, DrainShard, OwnEvent, OfConn, AtShard, Publish, Collect, Drain, Dial, Accept, CutSession, TakeFrames, NodeEvent, Own, Receive, OnInfo, OnConnect}
 use Rattle.node_law.specs.Race.{race_of}
 use Rattle.node_law.specs.Runs.{Done, Ran}
 use Rattle.node_law.specs.Sound.{SoundNode}
@@ -43,6 +43,7 @@ work_claims a shard Attach won = []
 work_claims a shard Begin won = []
 work_claims a shard (Claim index) won = claimed_at shard index won (shard_line a shard)
 work_claims a shard End won = []
+work_claims a shard DrainShard won = []
 work_claims a shard DropJob won = []
 
 abbrev pub own_claims : Node → OwnEvent → Bool → List Claimed
@@ -50,6 +51,7 @@ own_claims a (OfConn conn event) won = []
 own_claims a (AtShard shard work) won = work_claims a shard work won
 own_claims a (Publish p) won = []
 own_claims a (Collect shard) won = []
+own_claims a Drain won = []
 own_claims a (Dial q) won = []
 own_claims a Accept won = []
 own_claims a (CutSession session) won = []
@@ -130,6 +132,7 @@ work_ends a shard Attach = []
 work_ends a shard Begin = []
 work_ends a shard (Claim index) = []
 work_ends a shard End = ended_at shard (shard_line a shard)
+work_ends a shard DrainShard = []
 work_ends a shard DropJob = []
 
 abbrev pub own_ends : Node → OwnEvent → List Ended
@@ -137,6 +140,7 @@ own_ends a (OfConn conn event) = []
 own_ends a (AtShard shard work) = work_ends a shard work
 own_ends a (Publish p) = []
 own_ends a (Collect shard) = []
+own_ends a Drain = []
 own_ends a (Dial q) = []
 own_ends a Accept = []
 own_ends a (CutSession session) = []

@@ -4,7 +4,7 @@ use Rattle.std.specs.List.{list_all}
 use Rattle.list_laws.specs.Lists.{is_empty}
 use Rattle.subj.specs.Messages.{Content}
 use Rattle.route_session.specs.State.{has_session}
-use Rattle.hub_core.specs.Settled.{knows_at, can_number}
+use Rattle.hub_core.specs.Settled.{knows_at, goes_on}
 use Rattle.shard_core.specs.Room.{has_room_for}
 use Rattle.node_law.specs.State.{ShardWithJobs, Node}
 
@@ -12,9 +12,9 @@ use Rattle.node_law.specs.State.{ShardWithJobs, Node}
 abbrev pub is_line_settled : ShardWithJobs → Bool
 is_line_settled line = is_empty line.waiting && (is_none line.shard.hand && is_empty line.shard.deltas)
 
--- and one more publication and one more turn can be numbered
+-- it does not drain, and one more publication and one more turn can be numbered
 abbrev pub is_node_settled : Node → Bool
-is_node_settled node = list_all is_line_settled node.lines && can_number node.hub
+is_node_settled node = list_all is_line_settled node.lines && goes_on node.hub
 
 -- a session with the other one, at place q and in this incarnation, is kept; it is up, its interest is known, and there is room
 -- for a frame to it

@@ -20,7 +20,7 @@ use Rattle.hub_core.specs.State as hub
 use Rattle.hub_core.specs.State.{peer_of, seen_of}
 use Rattle.hub_core.specs.Publishing.{publish_refusal, after_publish, own_job, frames_of}
 use Rattle.hub_core.specs.Receiving.{receive_refusal, after_receive, routed_job}
-use Rattle.hub_core.specs.Telling.{collect_refusal, after_collect, collect_frames, slow_peers}
+use Rattle.hub_core.specs.Telling.{collect_refusal, after_collect, collect_frames, slow_peers, drain_refusal, after_drain, drain_frames, peers_too_slow}
 use Rattle.hub_core.specs.Peers.{up, cut, snapshot_to, take_refusal, after_take}
 use Rattle.route_session.specs.State as sessions
 use Rattle.route_session.specs.State.{session_at, peer_of_session}
@@ -28,7 +28,7 @@ use Rattle.route_session.specs.Steps.{dial_refusal, room_refusal, info_refusal, 
 use Rattle.node_law.specs.declared.faults.NodeFault.{NodeFault}
 use Rattle.node_law.specs.declared.faults.NodeFault.TheVariants.{NoShard, Shard, Hub, Session}
 use Rattle.node_law.specs.State.{ShardWithJobs, Node, finished_turns}
-use Rattle.node_law.specs.Events.{ConnEvent, Subscribe, Unsubscribe, Reply, Shut, Detach, Take, ShardWork, Attach, Begin, Claim, End, DropJob, OwnEvent, OfConn, AtShard, Publish, Collect, Dial, Accept, CutSession, TakeFrames, NodeEvent, Own, Receive, OnInfo, OnConnect}
+use Rattle.node_law.specs.Events.{ConnEvent, Subscribe, Unsubscribe, Reply, Shut, Detach, Take, ShardWork, Attach, Begin, Claim, End, DropJob, DrainShard, OwnEvent, OfConn, AtShard, Publish, Collect, Drain, Dial, Accept, CutSession, TakeFrames, NodeEvent, Own, Receive, OnInfo, OnConnect}
 
 -- ---- which line an event is for, and what it is there
 
@@ -67,6 +67,7 @@ work_event Begin won line = begin_of (first_of line.waiting)
 work_event (Claim index) won line = Some (of_shard.Claim index won)
 work_event End won line = Some of_shard.End
 work_event DropJob won line = drop_of line.shard.hand (first_of line.waiting)
+work_event DrainShard won line = Some of_shard.Drain
 
 -- ---- why an event is refused, the first cause first (profile)
 
@@ -97,6 +98,7 @@ own_refusal server a (OfConn conn event) = conn_refusal event conn (conn_line se
 own_refusal server a (AtShard shard work) = work_refusal work (shard_line a shard)
 own_refusal server a (Publish p) = option_map Hub (publish_refusal server a.hub p (finished_turns a.lines))
 own_refusal server a (Collect shard) = collect_refusal_at a.hub (shard_line a shard)
+own_refusal server a Drain = option_map Hub (drain_refusal a.hub)
 own_refusal server a (Dial q) = option_map Session (dial_refusal server a.sessions q)
 own_refusal server a Accept = option_map Session (room_refusal a.sessions)
 own_refusal server a (CutSession session) = option_map Session (cut_refusal (session_at session a.sessions.standing))
@@ -127,12 +129,14 @@ WorkRace race shard Begin (Some line) won after = after ≡ race
 WorkRace race shard (Claim index) (Some line) won after = ClaimRace race shard index line.shard.hand (candidate_of line.shard line.shard.hand index) won after
 WorkRace race shard End (Some line) won after = IsFinished race shard (line.shard.finished + 1) after
 WorkRace race shard DropJob (Some line) won after = IsFinished race shard (line.shard.finished + 1) after
+WorkRace race shard DrainShard (Some line) won after = after ≡ race
 
 abbrev pub OwnRace : Node → OwnEvent → Bool → RaceState → Type 0
 OwnRace a (OfConn conn event) won after = after ≡ a.race
 OwnRace a (AtShard shard work) won after = WorkRace a.race shard work (shard_line a shard) won after
 OwnRace a (Publish p) won after = IsIssued a.race (a.race.issued + 1) after
 OwnRace a (Collect shard) won after = after ≡ a.race
+OwnRace a Drain won after = after ≡ a.race
 OwnRace a (Dial q) won after = after ≡ a.race
 OwnRace a Accept won after = after ≡ a.race
 OwnRace a (CutSession session) won after = after ≡ a.race
@@ -181,6 +185,10 @@ collected_at server a shard deltas = record (on_line a (shard - 1) (line_after o
   sessions = without_peers (slow_peers a.hub deltas) a.sessions;
 }
 
+-- the same of a drain
+abbrev pub drained_at : ServerIdentity → Node → Node
+drained_at server a = record a { hub = after_drain server a.hub; sessions = without_peers (peers_too_slow a.hub) a.sessions }
+
 -- the peer of a kept session is cut with it
 abbrev pub cut_if : hub.State → Option ℕ → hub.State
 cut_if hub None = hub
@@ -191,6 +199,7 @@ own_after server a (OfConn conn event) won race = on_line a (conn_place server c
 own_after server a (AtShard shard work) won race = record (on_line a (shard - 1) (λ line. line_after_if (work_event work won line) line) (shard_line a shard)) { race = race }
 own_after server a (Publish p) won race = record a { hub = after_publish server a.hub p; race = race; lines = map (line_with_job (own_job server a.hub p)) a.lines }
 own_after server a (Collect shard) won race = collected_at server a shard (deltas_at (shard_line a shard))
+own_after server a Drain won race = drained_at server a
 own_after server a (Dial q) won race = record a { sessions = after_dial a.sessions q }
 own_after server a Accept won race = record a { sessions = after_accept a.sessions }
 own_after server a (CutSession session) won race = record a { hub = cut_if a.hub (peer_of_session session a.sessions.standing); sessions = after_cut session a.sessions }
@@ -220,6 +229,7 @@ own_frames server a (OfConn conn event) = []
 own_frames server a (AtShard shard work) = []
 own_frames server a (Publish p) = map route.Numbered (frames_of server a.hub p)
 own_frames server a (Collect shard) = map route.Numbered (collect_frames server a.hub (deltas_at (shard_line a shard)))
+own_frames server a Drain = map route.Numbered (drain_frames server a.hub)
 own_frames server a (Dial q) = []
 own_frames server a Accept = route.Info (own_info server) ∷ []
 own_frames server a (CutSession session) = []

@@ -37,6 +37,8 @@ pub enum ShardWork {
     End,
     /// Drops the job in hand, or else the first that waits.
     DropJob,
+    /// Takes no subscription any more.
+    DrainShard,
 }
 
 /// What a server is asked that comes from no other server. (Profile.)
@@ -66,6 +68,8 @@ pub enum OwnEvent {
     Collect {
         shard: u64,
     },
+    /// The hub tells its peers that the server has no interest any more.
+    Drain,
     /// Dials the server at this place.
     Dial {
         peer: usize,

@@ -40,6 +40,11 @@ impl Clients {
         let _ = self.keys.push(key);
     }
 
+    /// Whether there is none.
+    pub fn is_empty(&self) -> bool {
+        self.ids.is_empty()
+    }
+
     /// Where the client stands.
     fn place_of(&self, id: ConnId) -> Option<usize> {
         self.ids.binary_search(&id).ok()

@@ -59,6 +59,8 @@ pub(crate) enum Cause {
     OutOfMemory,
     /// Its stream cannot be watched.
     Unwatched,
+    /// Its server drains, and waits no longer.
+    CutOff,
 }
 
 /// What is told of a client whose connection was ended for this cause.
@@ -69,6 +71,7 @@ fn client_cause(cause: Cause) -> ClientCause {
         Cause::Overdue => ClientCause::Unread,
         Cause::OutOfMemory => ClientCause::OutOfMemory,
         Cause::Unwatched => ClientCause::Unwatched,
+        Cause::CutOff => ClientCause::CutOff,
     }
 }
 
@@ -266,6 +269,12 @@ impl<S: Stream> Connection<S> {
     /// Whether it goes on, with something to be done although nothing may tell of it.
     pub fn goes_on(&self) -> bool {
         self.ending() == Ending::Open && (self.has_more || self.is_short)
+    }
+
+    /// Whether it is of a client that goes on, of which all that has come was done, and all that was sent is written.
+    pub fn is_quiet(&self) -> bool {
+        let is_done = !self.has_more && !self.is_short && self.is_flushed();
+        is_done && self.ending() == Ending::Open && self.client().is_some()
     }
 
     /// Whether it goes on.
@@ -514,6 +523,11 @@ impl<S: Stream> Connection<S> {
     /// Sends what was taken for it. It is given up once it is to be closed and all is written.
     pub fn send_taken(&mut self, bytes: &[u8]) {
         self.send(bytes);
+        self.close_if_written();
+    }
+
+    /// It is given up where it is to be closed and all is written.
+    pub fn close_if_written(&mut self) {
         if self.ending == Ending::Shut && self.is_flushed() {
             self.give_up();
         }

@@ -41,6 +41,12 @@ pub(crate) struct Connections<S: Stream> {
     turns: u64,
     /// Whether there was no memory for something, which is tried again.
     pub is_short: bool,
+    /// Whether clients are closed once nothing waits for them.
+    pub drains: bool,
+    /// Clients that were served or written to since it was looked last for which of them nothing waits, where they are closed then; and
+    /// whether all are to be looked at.
+    pub quiet: Vec<usize>,
+    pub looks_at_all: bool,
     /// What has happened since it was told last.
     pub events: Events,
 }
@@ -74,6 +80,9 @@ impl<S: Stream> Connections<S> {
             next_deadline: u64::MAX,
             turns: 0,
             is_short: false,
+            drains: false,
+            quiet: Vec::new(alloc),
+            looks_at_all: false,
             events: Events::new(alloc),
         }
     }
@@ -183,6 +192,7 @@ impl<S: Stream> Connections<S> {
         }
         connection.resume();
         self.has_told |= connection.client().is_none();
+        self.note_quiet(key);
         self.leave_if_gone(key);
     }
 
@@ -270,6 +280,7 @@ impl<S: Stream> Connections<S> {
             self.serve_later(key);
         }
         self.await_bytes(key);
+        self.note_quiet(key);
         self.leave_if_gone(key);
     }
 
@@ -363,6 +374,15 @@ impl<S: Stream> Connections<S> {
             connection.shut(deadline);
         }
         self.await_deadline(key);
+    }
+
+    /// A connection that is to be closed once all is written is closed at the end of the turn, where it is.
+    pub fn close_if_written(&mut self, key: usize) {
+        if let Some(connection) = self.table.get_mut(key) {
+            connection.close_if_written();
+        }
+        self.await_bytes(key);
+        self.leave_if_gone(key);
     }
 
     /// The same, for this cause.

@@ -179,6 +179,7 @@ impl<S: Stream> Connections<S> {
         };
         self.send_part(part.key, taken.bytes_of(part));
         self.rest_later(part.key);
+        self.note_quiet(part.key);
         self.leave_if_gone(part.key);
     }
 }

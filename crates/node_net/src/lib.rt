@@ -13,7 +13,8 @@
 //! In reading order: `client_link` and `route_link` make calls of what was read, and tell what they have come to (`runs`);
 //! `connection` has one of them with its stream; `connections` has all of them, and what is noted of each until it is done; `server` takes them
 //! and lets them go, and finds those of clients (`clients`) and of other servers (`peers`); `turning` and `flushing` are a turn of its loop, by
-//! what was `taken` for clients, and `running` is the loop. `shutdown` says when the loop ends, the `limits` when and how much of everything, and
+//! what was `taken` for clients, `draining` is what a server that drains does, and `running` is the loop, which is told by operators over a
+//! `control` socket. `shutdown` says when the loop ends, and which server drains, the `limits` when and how much of everything, and
 //! `faults` why no stream is taken.
 #![tactic(auto)]
 
@@ -21,6 +22,8 @@ mod client_link;
 mod clients;
 mod connection;
 mod connections;
+mod control;
+mod draining;
 mod faults;
 mod flushing;
 mod limits;
@@ -34,8 +37,9 @@ mod shutdown;
 mod taken;
 mod turning;
 
+pub use control::{Control, DRAIN, DRAINS, NO_SERVER};
 pub use faults::AddFault;
 pub use net_streams::{MemStream, Stream, StreamFault};
 pub use running::{Sockets, WAKER};
 pub use server::{Server, Side, shard_of_client};
-pub use shutdown::Shutdown;
+pub use shutdown::{ServerControl, Shutdown};

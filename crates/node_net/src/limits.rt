@@ -10,6 +10,19 @@ pub(crate) const LAST_BYTES: u64 = 10_000;
 /// How long a route may take no byte while something waits for it, in milliseconds. It is cut then.
 pub(crate) const ROUTE_STALL: u64 = 10_000;
 
+/// How long a drain may take where nothing else is said, in seconds.
+pub(crate) const DRAIN_SECONDS: u64 = 30;
+
+/// How long a server that drains goes on as before once it has told the other servers, in milliseconds: what they sent before they heard it
+/// comes meanwhile.
+pub(crate) const DRAIN_PAUSE: u64 = 500;
+
+/// The most bytes of an operator's line, with its end.
+pub(crate) const CONTROL_LINE: usize = 64;
+
+/// The most connections of operators that are kept while their lines are not whole.
+pub(crate) const CONTROL_LINKS: usize = 8;
+
 /// How long the session of a route may take to be complete, in milliseconds.
 pub(crate) const GREETING: u64 = 5_000;
 

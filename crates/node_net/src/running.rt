@@ -1,6 +1,7 @@
 //! The loop of a server's thread: it polls, accepts, dials, and turns.
 
 use crate::connection::Cause;
+use crate::control::{CONTROL, CONTROL_LINK, Control};
 use crate::faults::AddFault;
 use crate::limits::{ACCEPTS, EVENTS, RETRY};
 use crate::peers::Redials;
@@ -17,6 +18,7 @@ use std::net::{Net, SocketAddr};
 use std::rt::Clock;
 use std::sync::Wait;
 use std::time::{Duration, Instant};
+use subj::NodeId;
 
 /// The token of the socket where clients connect.
 const CLIENTS: Token = Token(usize::MAX);
@@ -36,12 +38,15 @@ pub struct Sockets {
     pub clients: TcpListener,
     /// Where other servers connect.
     pub routes: TcpListener,
+    /// Where operators connect, at one server of the process.
+    pub control: Option<Control>,
 }
 
 /// Where connections come in.
 #[derive(Drop)]
 struct Door {
-    listener: TcpListener,
+    /// None once nobody is taken any more.
+    listener: Option<TcpListener>,
     /// Who is at the other end.
     side: Side,
     /// Whether there may be more to accept.
@@ -51,7 +56,7 @@ struct Door {
 impl Door {
     fn new(listener: TcpListener, side: Side) -> Door {
         Door {
-            listener,
+            listener: Some(listener),
             side,
             has_more: true,
         }
@@ -65,9 +70,18 @@ impl Door {
         }
     }
 
+    /// Nobody is taken any more: the socket is closed.
+    fn close(&mut self) {
+        self.listener = None;
+        self.has_more = false;
+    }
+
     /// The next connection.
     fn accept(&self) -> Accepted {
-        match self.listener.accept() {
+        let Some(listener) = &self.listener else {
+            return Accepted::Nothing;
+        };
+        match listener.accept() {
             Ok((stream, _)) => Accepted::Stream(stream),
             Err(error) if error.kind() == io::ErrorKind::WouldBlock => Accepted::Nothing,
             Err(error) => Accepted::Failed(SystemCause::of(&error)),
@@ -94,13 +108,24 @@ struct Rounds {
     ready: Vec<usize>,
     /// Whether accepting failed for another cause than that there is none.
     has_failed: bool,
+    /// Where operators connect, at one server of the process, and whether something may have come from them.
+    control: Option<Control>,
+    is_controlled: bool,
+    /// How often the server was asked to drain, as far as it has heard.
+    heard: u64,
+    /// Whether the others know that the server has drained.
+    has_finished: bool,
 }
 
 /// Has the sockets tell when connections come in.
-fn register(poll: &Poll, clients: &mut TcpListener, routes: &mut TcpListener) -> io::Result<()> {
-    let registry = poll.registry();
-    registry.register(clients, CLIENTS, Interest::READABLE)?;
-    registry.register(routes, ROUTES, Interest::READABLE)
+fn register(sockets: &mut Sockets) -> io::Result<()> {
+    let registry = sockets.poll.registry();
+    registry.register(&mut sockets.clients, CLIENTS, Interest::READABLE)?;
+    registry.register(&mut sockets.routes, ROUTES, Interest::READABLE)?;
+    match &mut sockets.control {
+        None => Ok(()),
+        Some(control) => control.register(&sockets.poll),
+    }
 }
 
 impl Rounds {
@@ -109,6 +134,7 @@ impl Rounds {
             poll,
             clients,
             routes,
+            control,
         } = sockets;
         Rounds {
             start,
@@ -118,6 +144,10 @@ impl Rounds {
             redials: Redials::new(alloc),
             ready: Vec::new(alloc),
             has_failed: false,
+            control,
+            is_controlled: true,
+            heard: 0,
+            has_finished: false,
         }
     }
 
@@ -136,6 +166,16 @@ impl Rounds {
     /// Whether something may be accepted at once.
     fn may_accept(&self) -> bool {
         (self.clients.has_more || self.routes.has_more) && !self.has_failed
+    }
+
+    /// Does what operators say who have come. The servers have these names, in their order.
+    fn hear_operators(&mut self, names: &[NodeId], shutdown: &Shutdown) {
+        if !std::mem::replace(&mut self.is_controlled, false) {
+            return;
+        }
+        if let Some(control) = &mut self.control {
+            control.hear(&self.poll, names, shutdown);
+        }
     }
 
     /// A connection is ready.
@@ -166,7 +206,7 @@ fn refusal_of(fault: AddFault) -> RefusalCause {
 }
 
 impl<C: ServerCalls> Server<TcpStream, C> {
-    /// Serves until all servers of the process stop: waits until a socket is ready, takes clients and routes,
+    /// Serves until all servers of the process stop, or have drained: waits until a socket is ready, takes clients and routes,
     /// dials each other server of the cluster that is not reached at its address, those of all servers in
     /// their order, and makes a turn. What happens is told to the log. May wait, and for ever.
     pub fn run<R: Wait + Net + Clock, L: EventSink>(
@@ -178,7 +218,7 @@ impl<C: ServerCalls> Server<TcpStream, C> {
         log: &L,
     ) -> io::Result<()> {
         self.connections.events.set_filter(log.filter());
-        register(&sockets.poll, &mut sockets.clients, &mut sockets.routes)?;
+        register(&mut sockets)?;
         let mut rounds = Rounds::new(self.alloc, Instant::now(rt)?, sockets);
         self.run_rounds(rt, &mut rounds, addresses, shutdown, log)
     }
@@ -212,7 +252,7 @@ impl<C: ServerCalls> Server<TcpStream, C> {
                 return Ok(());
             }
             self.go_once(rt, rounds, addresses, shutdown);
-            self.tell(rt, shutdown, log);
+            self.tell(rt, rounds, shutdown, log);
             if shutdown.is_over() {
                 return Ok(());
             }
@@ -229,16 +269,45 @@ impl<C: ServerCalls> Server<TcpStream, C> {
         addresses: &[SocketAddr],
         shutdown: &Shutdown,
     ) {
+        rounds.hear_operators(self.life.names(), shutdown);
+        self.hear_drain(rounds, shutdown);
         self.accept_all(rt, rounds, shutdown);
         self.dial_all(rt, rounds, addresses);
         self.turn(rt, &rounds.ready);
         rounds.ready.clear();
     }
 
-    /// Tells the log what has happened, and the other servers who is gone.
-    fn tell<R: Wait + Clock, L: EventSink>(&mut self, rt: &R, shutdown: &Shutdown, log: &L) {
+    /// Begins a drain where the server was asked for one, and takes no more clients; a further ask ends it.
+    fn hear_drain(&mut self, rounds: &mut Rounds, shutdown: &Shutdown) {
+        let asks = shutdown.asks(self.life.me());
+        if asks == rounds.heard {
+            return;
+        }
+        rounds.clients.close();
+        if !self.drains() {
+            self.drain(shutdown.drain_seconds());
+            rounds.heard = rounds.heard.saturating_add(1);
+        }
+        if asks > rounds.heard {
+            self.drain(shutdown.drain_seconds());
+        }
+        rounds.heard = asks;
+    }
+
+    /// Tells the log what has happened, and the other servers who is gone, and once that this one has drained.
+    fn tell<R: Wait + Clock, L: EventSink>(
+        &mut self,
+        rt: &R,
+        rounds: &mut Rounds,
+        shutdown: &Shutdown,
+        log: &L,
+    ) {
         log.take(rt, self.life.name(), &mut self.connections.events);
         shutdown.lose(std::mem::replace(&mut self.gone, 0));
+        if self.has_drained() && !rounds.has_finished {
+            rounds.has_finished = true;
+            shutdown.finish_drain();
+        }
     }
 
     /// Waits until a socket is ready, or something is to be done, and notes which connections are ready. May wait, and for ever.
@@ -412,6 +481,8 @@ impl<C: ServerCalls> Server<TcpStream, C> {
             rounds.clients.has_more = true;
         } else if token == ROUTES {
             rounds.routes.has_more = true;
+        } else if token == CONTROL || token == CONTROL_LINK {
+            rounds.is_controlled = true;
         } else if token != WAKER {
             return self.note_ready(event, token.0, rounds);
         }

@@ -7,6 +7,7 @@ use crate::client_link::ClientLink;
 use crate::clients::Clients;
 use crate::connection::{Cause, Connection, Link};
 use crate::connections::Connections;
+use crate::draining::Drain;
 use crate::faults::AddFault;
 use crate::limits::GREETING;
 use crate::peers::Peers;
@@ -87,7 +88,7 @@ fn encode_info(info: RouteInfo, encoded: &mut Vec<u8>) -> Result<(), AllocError>
 /// What is told of another server whose route ended for this cause; without one its connection broke.
 fn peer_cause(cause: Option<Cause>) -> PeerCause {
     match cause {
-        None => PeerCause::Broken,
+        None | Some(Cause::CutOff) => PeerCause::Broken,
         Some(Cause::Refused) => PeerCause::Refused,
         Some(Cause::Slow | Cause::Overdue) => PeerCause::Stalled,
         Some(Cause::Full) => PeerCause::Full,
@@ -125,6 +126,8 @@ pub struct Server<S: Stream, C: ServerCalls> {
     pub(crate) taken: Taken,
     /// Frames that are encoded and about to be written.
     pub(crate) encoded: Vec<u8>,
+    /// How far it has come with its drain, where it was asked for one.
+    pub(crate) drain: Drain,
 }
 
 impl<S: Stream, C: ServerCalls> Server<S, C> {
@@ -155,6 +158,7 @@ impl<S: Stream, C: ServerCalls> Server<S, C> {
             unworked: 0,
             taken: Taken::new(alloc),
             encoded: Vec::new(alloc),
+            drain: Drain::new(),
         })
     }
 

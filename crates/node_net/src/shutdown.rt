@@ -1,30 +1,74 @@
-//! When the servers of a process stop.
+//! When the servers of a process stop, and which of them drain.
 
+use crate::limits::DRAIN_SECONDS;
 use mio::Waker;
 use std::sync::atomic::{AtomicBool, AtomicU64, Ordering};
 
+/// What one server of a process is told from outside its thread: it is woken, and asked to drain.
+#[derive(Drop)]
+pub struct ServerControl {
+    waker: Waker,
+    /// How often it was asked to drain.
+    asks: AtomicU64,
+}
+
+impl ServerControl {
+    /// A server that this wakes, and that was not asked to drain.
+    pub fn new(waker: Waker) -> ServerControl {
+        ServerControl {
+            waker,
+            asks: AtomicU64::new(0),
+        }
+    }
+
+    /// Asks it to drain, and wakes it.
+    fn ask(&self) {
+        self.asks.fetch_add(1, Ordering::SeqCst);
+        self.wake();
+    }
+
+    fn wake(&self) {
+        let _ = self.waker.wake();
+    }
+}
+
 /// What the servers of a process share: how many clients they have taken, how many of these are gone, after
-/// how many all of them stop, and what wakes each.
+/// how many all of them stop, how many servers have drained, and what each is told from outside.
 #[derive(Drop)]
 pub struct Shutdown {
     stops_after: Option<u64>,
+    /// How long a drain may take, in seconds.
+    drain_seconds: u64,
     taken: AtomicU64,
     gone: AtomicU64,
+    drained: AtomicU64,
     has_failed: AtomicBool,
-    wakers: Vec<Waker>,
+    servers: Vec<ServerControl>,
 }
 
 impl Shutdown {
-    /// Servers that have taken nobody, with what wakes each. They stop once they have taken so many clients,
-    /// and all that they took are gone; for None they go on.
-    pub fn new(stops_after: Option<u64>, wakers: Vec<Waker>) -> Shutdown {
+    /// Servers that have taken nobody, in their order. They stop once they have taken so many clients, and all that they took are gone;
+    /// for None they go on, until all have drained. A drain may take half a minute.
+    pub fn new(stops_after: Option<u64>, servers: Vec<ServerControl>) -> Shutdown {
         Shutdown {
             stops_after,
+            drain_seconds: DRAIN_SECONDS,
             taken: AtomicU64::new(0),
             gone: AtomicU64::new(0),
+            drained: AtomicU64::new(0),
             has_failed: AtomicBool::new(false),
-            wakers,
+            servers,
         }
+    }
+
+    /// A drain may take so many seconds from now on.
+    pub fn set_drain_seconds(&mut self, seconds: u64) {
+        self.drain_seconds = seconds;
+    }
+
+    /// How long a drain may take, in seconds.
+    pub fn drain_seconds(&self) -> u64 {
+        self.drain_seconds
     }
 
     /// A client was taken.
@@ -49,9 +93,50 @@ impl Shutdown {
         self.wake_all();
     }
 
+    /// Asks the server at this place, counted from 0, to drain, and wakes it. One that drains already ends its drain at once. Whether there is
+    /// such a server.
+    pub fn ask_drain(&self, place: usize) -> bool {
+        match self.servers.get(place) {
+            None => false,
+            Some(server) => {
+                server.ask();
+                true
+            }
+        }
+    }
+
+    /// Asks each server to drain.
+    pub fn ask_all(&self) {
+        for server in &self.servers {
+            server.ask();
+        }
+    }
+
+    /// How often the server at this place was asked to drain; never where there is no such one.
+    pub fn asks(&self, place: usize) -> u64 {
+        match self.servers.get(place) {
+            None => 0,
+            Some(server) => server.asks.load(Ordering::SeqCst),
+        }
+    }
+
+    /// A server has drained, which each tells once. Where it was the last one, all servers are woken.
+    pub fn finish_drain(&self) {
+        self.drained.fetch_add(1, Ordering::SeqCst);
+        if self.is_over() {
+            self.wake_all();
+        }
+    }
+
+    /// Whether all servers have drained; not where there is none.
+    fn have_drained(&self) -> bool {
+        let count = self.servers.len() as u64;
+        count > 0 && self.drained.load(Ordering::SeqCst) >= count
+    }
+
     /// Whether the servers stop.
     pub fn is_over(&self) -> bool {
-        if self.has_failed.load(Ordering::SeqCst) {
+        if self.has_failed.load(Ordering::SeqCst) || self.have_drained() {
             return true;
         }
         let Some(least) = self.stops_after else {
@@ -64,8 +149,8 @@ impl Shutdown {
 
     /// Wakes all servers.
     fn wake_all(&self) {
-        for waker in &self.wakers {
-            let _ = waker.wake();
+        for server in &self.servers {
+            server.wake();
         }
     }
 }

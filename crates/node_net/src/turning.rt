@@ -91,9 +91,11 @@ impl<S: Stream, C: ServerCalls> Server<S, C> {
         }
         self.work(rt);
         self.flush(rt);
+        self.drain_on(rt);
         self.close_leaving(rt);
         self.collect_all(rt);
         self.write_frames(rt);
+        self.end_drain();
         if self.connections.is_short && !was_short {
             self.connections.tell(Event::OutOfMemory);
         }
@@ -112,7 +114,11 @@ impl<S: Stream, C: ServerCalls> Server<S, C> {
     /// When another turn is to be made although no stream is ready, in milliseconds since the loop began: at once where something
     /// is to be done, soon where there was no memory for something, and else at the next deadline. None where there is no need.
     pub fn next_turn(&self) -> Option<u64> {
-        self.connections.next_turn()
+        let next = self.drain.next();
+        match self.connections.next_turn() {
+            Some(turn) => Some(turn.min(next)),
+            None => (next < u64::MAX).then_some(next),
+        }
     }
 
     /// Serves the connections that are to be served again, and these.
@@ -290,7 +296,7 @@ impl<S: Stream, C: ServerCalls> Server<S, C> {
     }
 
     /// Closes the routes to the servers at these places, since a change of interest had no room.
-    fn cut_routes(&mut self, places: &[usize]) {
+    pub(crate) fn cut_routes(&mut self, places: &[usize]) {
         for place in places {
             if let Some(key) = self.peers.kept_connection(*place) {
                 self.connections.give_up_for(key, Cause::Full);
@@ -327,7 +333,7 @@ impl<S: Stream, C: ServerCalls> Server<S, C> {
     }
 
     /// A client leaves its shard, and has what waits for it sent to it.
-    fn leave<R: Wait>(&mut self, rt: &R, key: usize) -> Result<(), AllocError> {
+    pub(crate) fn leave<R: Wait>(&mut self, rt: &R, key: usize) -> Result<(), AllocError> {
         if !self.close_subscriptions(rt, key) {
             return Err(AllocError);
         }

@@ -3,7 +3,7 @@ use Rattle.std.proofs.Common.{◌≡◌, ℕ, List, [], None, sym, ap, ◌∙◌
 use Rattle.hub_core.specs.Events as of_hub
 use Rattle.hub_core.specs.Hubs as hubs
 use Rattle.hub_core.specs.Hubs.{Hub}
-use Rattle.hub_core.specs.Telling.{collect_frames, slow_peers}
+use Rattle.hub_core.specs.Telling.{collect_frames, slow_peers, drain_frames, peers_too_slow}
 use Rattle.interest.specs.declared.changes.Change.{Change}
 use Rattle.subj.specs.declared.keys.Delta.{Delta}
 use Rattle.route_session.specs.Calls as calls
@@ -34,13 +34,14 @@ greeted hub new_hub old new e answer q inc same asked with free step up = record
 pub greeted_stays : (hub new_hub : Hub) (old new : calls.Served) (e : of_sessions.Event) (answer : of_sessions.Answer) (q inc : ℕ) → old.server ≡ hub.server → calls.DoesStep old e answer new → new_hub ≡ hubs.after hub (of_hub.Up q inc) → new.server ≡ new_hub.server
 greeted_stays hub new_hub old new e answer q inc same step up = ap (λ (t : calls.Served). t.server) step.after ∙ same ∙ sym (ap (λ (t : Hub). t.server) up)
 
--- ---- a collect
+-- ---- a collect, and a drain
 
 abbrev cut_of : of_hub.Answer → List ℕ
 cut_of (of_hub.Issued job frames) = []
 cut_of (of_hub.Routed job) = []
 cut_of (of_hub.Heard mark) = []
 cut_of (of_hub.Collected changes frames cut) = cut
+cut_of (of_hub.Drained frames cut) = cut
 cut_of (of_hub.IsUp snapshot) = []
 cut_of of_hub.WasCut = []
 cut_of (of_hub.Taken frames) = []
@@ -57,5 +58,18 @@ collect_done old new s t shard deltas changes cut given free step same dropped =
       λ k. record { server = (step.after k).server; hub = (step.after k).state; sessions = is k };
 }
 
+pub drain_done : (old new : Hub) (s t : calls.Served) (cut given : List ℕ) → hubs.refusal old of_hub.Drain ≡ None
+    → hubs.DoesStep old of_hub.Drain (of_hub.Drained (drain_frames old.server old.state) cut) new → given ≡ cut → t ≡ record { server = s.server; state = without_peers given s.state }
+    → IsDone (side_of old s) (ByHub of_hub.Drain) (OfHub (of_hub.Drained (drain_frames old.server old.state) cut)) (side_of new t)
+drain_done old new s t cut given free step same dropped = record {
+  free = free;
+  asked = tt;
+  answered = ap OfHub step.answered;
+  after =
+      let is : t.state ≡ without_peers (peers_too_slow old.state) s.state = ap (λ (x : calls.Served). x.state) dropped ∙ ap (λ l. without_peers l s.state) (same ∙ ap cut_of step.answered) in
+      λ k. record { server = (step.after k).server; hub = (step.after k).state; sessions = is k };
+}
+
+-- the sessions stay those of their server
 pub collect_stays : (old new : Hub) (s t : calls.Served) (e : of_hub.Event) (answer : of_hub.Answer) (given : List ℕ) → s.server ≡ old.server → hubs.DoesStep old e answer new → t ≡ record { server = s.server; state = without_peers given s.state } → t.server ≡ new.server
 collect_stays old new s t e answer given same step dropped = ap (λ (x : calls.Served). x.server) dropped ∙ same ∙ sym (ap (λ (x : Hub). x.server) step.after)

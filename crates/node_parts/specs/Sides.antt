@@ -7,7 +7,7 @@ use Rattle.hub_core.specs.State as hub
 use Rattle.hub_core.specs.State.{new_hub, peer_of, seen_of}
 use Rattle.hub_core.specs.Peers.{up}
 use Rattle.hub_core.specs.Steps.{hub_refusal, hub_after, hub_answer}
-use Rattle.hub_core.specs.Telling.{slow_peers}
+use Rattle.hub_core.specs.Telling.{slow_peers, peers_too_slow}
 use Rattle.route_session.specs.Events as of_sessions
 use Rattle.route_session.specs.State as sessions
 use Rattle.route_session.specs.State.{no_sessions, peer_of_session}
@@ -41,6 +41,7 @@ abbrev pub IsAskedHub : of_hub.Event → Type 0
 IsAskedHub (of_hub.Publish p finished) = Unit {0}
 IsAskedHub (of_hub.Receive frame finished) = Unit {0}
 IsAskedHub (of_hub.Collect shard deltas) = Unit {0}
+IsAskedHub of_hub.Drain = Unit {0}
 IsAskedHub (of_hub.Up q inc) = ⊥
 IsAskedHub (of_hub.Cut q) = ⊥
 IsAskedHub (of_hub.TakeFrom q count) = Unit {0}
@@ -72,6 +73,7 @@ abbrev pub sessions_with : HubWithSessions → of_hub.Event → sessions.State
 sessions_with s (of_hub.Publish p finished) = s.sessions
 sessions_with s (of_hub.Receive frame finished) = session_after_frame (place s.server frame.from) (seen_name s frame.from) frame.inc s.sessions
 sessions_with s (of_hub.Collect shard deltas) = without_peers (slow_peers s.hub deltas) s.sessions
+sessions_with s of_hub.Drain = without_peers (peers_too_slow s.hub) s.sessions
 sessions_with s (of_hub.Up q inc) = s.sessions
 sessions_with s (of_hub.Cut q) = s.sessions
 sessions_with s (of_hub.TakeFrom q count) = s.sessions
@@ -116,6 +118,7 @@ job_of_hub (of_hub.Issued job frames) = job ∷ []
 job_of_hub (of_hub.Routed job) = job ∷ []
 job_of_hub (of_hub.Heard mark) = []
 job_of_hub (of_hub.Collected changes frames cut) = []
+job_of_hub (of_hub.Drained frames cut) = []
 job_of_hub (of_hub.IsUp snapshot) = []
 job_of_hub of_hub.WasCut = []
 job_of_hub (of_hub.Taken frames) = []

@@ -5,7 +5,7 @@ ghost use Rattle.subj.specs.Answers.{IsAnswered, IsDecided};
 ghost use Rattle.subj.specs.declared.limits.TheConstants.{MAX_SHARDS, WINDOW};
 ghost use Rattle.shard_core.specs.Answers.{answer_of};
 ghost use Rattle.shard_core.specs.Lines.{first_of};
-ghost use Rattle.shard_core.specs.ShardEvents.{Attach, Subscribe, Unsubscribe, Reply, Shut, Detach, Take, Claim, End, Collect, Attached, Unsubscribed, Replied, WasShut, Detached, Taken, Collected};
+ghost use Rattle.shard_core.specs.ShardEvents.{Attach, Subscribe, Unsubscribe, Reply, Shut, Detach, Take, Claim, End, Drain, Collect, Attached, Unsubscribed, Replied, WasShut, Detached, Taken, Drains, Collected};
 ghost use Rattle.node_parts.specs.Lines.{LineStep, LineBegins, LineEnds, LineDrops, LineClaims, MayClaim, WaitsNext, of_answer, of_decision};
 ghost use Rattle.node_law.specs.Settled.{is_line_settled, has_room_in};
 ghost use Rattle.node_law.specs.State.{new_line};
@@ -220,6 +220,13 @@ impl<T: SubTable> ShardWithJobs<T> {
                 Ok(turn)
             }
         }
+    }
+
+    /// [`Shard::drain`].
+    pub fn drain(&mut self) -> Result<(), NodeFault>
+        ensures { IsDecided (event_refusal self.old (Some Drain)) (λ _. LineStep self.old Drain Drains self.new) (self.new ≡ self.old) result }
+    {
+        shard_decision(self.shard.drain())
     }
 
     /// [`Shard::deltas`].

@@ -4,14 +4,14 @@ ghost use Rattle.std.specs.Prelude.{◌≡◌, ◌&&◌, ⊤, [], true, false, o
 ghost use Rattle.subj.specs.Answers.{IsAnswered, IsDecided};
 ghost use Rattle.hub_core.specs.Calls.{IsPlanned, IsTaken, job_of, after_frames};
 ghost use Rattle.hub_core.specs.Chosen.{IsPlanOf, publication_by};
-ghost use Rattle.hub_core.specs.Events.{Collect, Receive, TakeFrom, Collected, Heard, Taken};
+ghost use Rattle.hub_core.specs.Events.{Collect, Drain, Receive, TakeFrom, Collected, Drained, Heard, Taken};
 ghost use Rattle.hub_core.specs.Publishing.{publish_refusal};
 ghost use Rattle.hub_core.specs.Receiving.{has_message, receive_refusal};
 ghost use Rattle.hub_core.specs.Hubs.{DoesStep};
 ghost use Rattle.hub_core.specs.Peers.{snapshot_to};
 ghost use Rattle.hub_core.specs.Settled.{knows_at};
 ghost use Rattle.hub_core.specs.Steps.{hub_refusal};
-ghost use Rattle.hub_core.specs.Telling.{collect_frames};
+ghost use Rattle.hub_core.specs.Telling.{collect_frames, drain_frames};
 ghost use Rattle.route_session.specs.Calls.{peer_of as peer_by_name};
 ghost use Rattle.route_session.specs.Events.{Dial, Accept, OnInfo, OnConnect, Cut, Dialed, Accepted, KeptAfterInfo, Kept as WasKept, WasCut};
 ghost use Rattle.route_session.specs.State.{has_session};
@@ -252,6 +252,18 @@ impl HubWithSessions {
         };
         drop_sessions(&mut self.sessions, &told.cut);
         Ok(told)
+    }
+
+    /// [`Hub::drain`]; the sessions that are kept with peers that are cut end. Gives the places of those.
+    pub fn drain(&mut self) -> Result<Vec<usize>, Failure<HubFault>>
+        ensures { IsAnswered (hub_refusal self.old.server self.old.hub Drain) (λ cut. IsDone self.old (ByHub Drain) (OfHub (Drained (drain_frames self.old.server self.old.hub) cut.items)) self.new) (self.new ≡ self.old) result }
+    {
+        let cut = match self.hub.drain() {
+            Ok(cut) => cut,
+            Err(fault) => return Err(fault),
+        };
+        drop_sessions(&mut self.sessions, &cut);
+        Ok(cut)
     }
 
     /// [`Hub::receive`] of news. A frame of a later life of its peer ends the session that was kept with it.

@@ -4,7 +4,7 @@ use Rattle.subj.specs.Servers.{ServerIdentity}
 use Rattle.claim_race.specs.Race.{RaceState}
 use Rattle.hub_core.specs.Events as of_hub
 use Rattle.route_session.specs.Events as of_sessions
-use Rattle.node_law.specs.Events.{NodeEvent, Own, OfConn, AtShard, Publish, Collect, Dial, Accept, CutSession, TakeFrames, Receive, OnInfo, OnConnect}
+use Rattle.node_law.specs.Events.{NodeEvent, Own, OfConn, AtShard, Publish, Collect, Drain, Dial, Accept, CutSession, TakeFrames, Receive, OnInfo, OnConnect}
 use Rattle.node_law.specs.State.{Node, finished_turns}
 use Rattle.node_law.specs.Steps.{NodeStep, shard_line, deltas_at, seen_name}
 use Rattle.node_parts.specs.Sides.{HubWithSessions, Event, ByHub, BySessions, side_answer, IsDone}
@@ -18,6 +18,7 @@ part_of server a (Own (OfConn conn event)) = None
 part_of server a (Own (AtShard shard work)) = None
 part_of server a (Own (Publish p)) = Some (ByHub (of_hub.Publish p (finished_turns a.lines)))
 part_of server a (Own (Collect shard)) = Some (ByHub (of_hub.Collect shard (deltas_at (shard_line a shard))))
+part_of server a (Own Drain) = Some (ByHub of_hub.Drain)
 part_of server a (Own (Dial q)) = Some (BySessions (of_sessions.Dial q))
 part_of server a (Own Accept) = Some (BySessions of_sessions.Accept)
 part_of server a (Own (CutSession session)) = Some (BySessions (of_sessions.Cut session))

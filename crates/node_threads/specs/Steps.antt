@@ -3,7 +3,7 @@ use Rattle.std.specs.Prelude.{◌≡◌, ℕ, ◌+◌, Bool, not, List, [], ◌�
 use Rattle.sub_table.specs.declared.Subscription.{Subscription}
 use Rattle.subj.specs.declared.jobs.Job.{Job}
 use Rattle.shard_core.specs.Owed.{candidate_of}
-use Rattle.shard_core.specs.ShardEvents.{Event, Attach, Subscribe, Unsubscribe, Reply, Shut, Detach, Take, Begin, Claim, End, DropJob, Collect, Answer}
+use Rattle.shard_core.specs.ShardEvents.{Event, Attach, Subscribe, Unsubscribe, Reply, Shut, Detach, Take, Begin, Claim, End, DropJob, Drain, Collect, Answer}
 use Rattle.shard_core.specs.ShardSteps.{IsDone}
 use Rattle.shard_core.specs.Shards.{State}
 
@@ -32,6 +32,7 @@ job_in (Begin job) = job ∷ []
 job_in (Claim index won) = []
 job_in End = []
 job_in (DropJob waiting) = option_to_list waiting
+job_in Drain = []
 job_in Collect = []
 
 abbrev pub jobs_of : List Done → List Job
@@ -56,6 +57,7 @@ claimed_in s (Begin job) as_won = []
 claimed_in s (Claim index won) as_won = if (if as_won then won else not won) then pair_of (s.finished + 1) index (candidate_of s s.hand index) else []
 claimed_in s End as_won = []
 claimed_in s (DropJob waiting) as_won = []
+claimed_in s Drain as_won = []
 claimed_in s Collect as_won = []
 
 abbrev pub claims_of : Bool → List Done → List (ℕ × ℕ)

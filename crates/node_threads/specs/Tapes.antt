@@ -39,6 +39,7 @@ told_of of_shard.Lost = told.Work
 told_of (of_shard.Won sub placed ended) = told.Work
 told_of of_shard.Finished = told.Work
 told_of (of_shard.Dropped job) = told.Dropped (turn_of job)
+told_of of_shard.Drains = told.Drained
 told_of (of_shard.Collected deltas) = told.Work
 
 -- the deltas that are handed to the hub
@@ -57,6 +58,7 @@ deltas_in of_shard.Lost = []
 deltas_in (of_shard.Won sub placed ended) = []
 deltas_in of_shard.Finished = []
 deltas_in (of_shard.Dropped job) = []
+deltas_in of_shard.Drains = []
 deltas_in (of_shard.Collected deltas) = deltas
 
 abbrev pub entry : ShardEvent → ShardTold → ShardEntry
@@ -87,6 +89,7 @@ entry_of (of_shard.Begin job) answer = begin_entry job
 entry_of (of_shard.Claim index won) answer = claim_entry index won
 entry_of of_shard.End answer = end_entry
 entry_of (of_shard.DropJob waiting) answer = entry (event.DropJob waiting) (told_of answer)
+entry_of of_shard.Drain answer = entry event.Drain (told_of answer)
 entry_of of_shard.Collect answer = entry (event.Collect (deltas_in answer)) told.Work
 
 -- of all steps, the newest of which stands first in their list, and last on the tape

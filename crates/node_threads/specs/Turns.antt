@@ -5,7 +5,7 @@ use Rattle.subj.specs.declared.jobs.Job.{Job}
 use Rattle.subj.specs.declared.failures.Failure.{Failure}
 use Rattle.subj.specs.declared.failures.Failure.TheVariants.{Refused, OutOfMemory}
 use Rattle.claim_cells.specs.Seats.{HasTurn}
-use Rattle.shard_core.specs.ShardEvents.{Event, Attach, Subscribe, Unsubscribe, Reply, Shut, Detach, Take, Begin, Claim, End, DropJob, Collect}
+use Rattle.shard_core.specs.ShardEvents.{Event, Attach, Subscribe, Unsubscribe, Reply, Shut, Detach, Take, Begin, Claim, End, DropJob, Drain, Collect}
 use Rattle.shard_core.specs.declared.faults.ShardFault.{ShardFault}
 use Rattle.shard_core.specs.declared.faults.ShardFault.TheVariants.{NoJob}
 use Rattle.shard_core.specs.Shards.{State}
@@ -27,6 +27,7 @@ is_work (Begin job) = true
 is_work (Claim index won) = true
 is_work End = false
 is_work (DropJob waiting) = false
+is_work Drain = false
 is_work Collect = false
 
 -- steps that a turn makes before its end: each is the shard's step

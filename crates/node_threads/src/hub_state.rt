@@ -8,10 +8,11 @@ ghost use Rattle.claim_cells.specs.Calls.{IsLooked};
 ghost use Rattle.claim_cells.specs.Rule.{fresh_hub};
 ghost use Rattle.hub_core.specs.Chosen.{IsPlanOf, publication_by};
 ghost use Rattle.hub_core.specs.Calls.{job_of};
-ghost use Rattle.hub_core.specs.Events.{Receive, TakeFrom, Heard as WasHeard, Taken};
+ghost use Rattle.hub_core.specs.Events.{Receive, Drain, Drained, TakeFrom, Heard as WasHeard, Taken};
 ghost use Rattle.hub_core.specs.Publishing.{publish_refusal};
 ghost use Rattle.hub_core.specs.Receiving.{has_message, receive_refusal};
 ghost use Rattle.hub_core.specs.Steps.{hub_refusal};
+ghost use Rattle.hub_core.specs.Telling.{drain_frames};
 ghost use Rattle.route_session.specs.Events.{Dial, Accept, OnInfo, OnConnect, Cut, Dialed, Accepted, KeptAfterInfo, Kept as WasKept, WasCut};
 ghost use Rattle.route_session.specs.Steps.{session_refusal};
 ghost use Rattle.node_threads.specs.AtHub.{Collects, Does, Looks, Publishes, Receives, Routes, refuses_busy, IsAtHub};
@@ -555,6 +556,13 @@ impl<N: NodeName> HubState<N> {
         };
         shard.take_deltas();
         Ok(told)
+    }
+
+    /// [`Hub::drain`](hub_core::Hub::drain); a peer that is cut loses the session that was kept with it.
+    pub fn drain(&mut self) -> Result<Vec<usize>, Failure<HubFault>>
+        ensures { IsAnswered (hub_refusal self.old.side.server self.old.side.hub Drain) (λ cut. Does self.old (ByHub Drain) (OfHub (Drained (drain_frames self.old.side.server self.old.side.hub) cut.items)) self.new) (self.new ≡ self.old) result }
+    {
+        self.side.drain()
     }
 
     /// [`Hub::take_route`](hub_core::Hub::take_route).

@@ -94,6 +94,8 @@ pub enum ShardEvent {
     End,
     /// Drops the job in hand, or else this one.
     DropJob(Option<Job>),
+    /// Takes no subscription any more.
+    Drain,
     /// Handed these deltas to the hub.
     Collect(Deltas),
 }
@@ -123,6 +125,8 @@ pub enum ShardTold {
     Work,
     /// The turn of the job that was dropped.
     Dropped(Option<Turn>),
+    /// No subscription is taken any more.
+    Drained,
 }
 
 /// A step of a shard: what it was asked, and what it answered. (Profile.)

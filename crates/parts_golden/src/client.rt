@@ -16,7 +16,7 @@ use subj::{ConnId, Failure, Key, Pattern, Pub, QueueName, Sid};
 use wire_cut::CutFault;
 
 /// The texts by their names.
-static TEXTS: [(&str, ErrText); 9] = [
+static TEXTS: [(&str, ErrText); 10] = [
     (
         "MaximumControlLineExceeded",
         ErrText::MaximumControlLineExceeded,
@@ -31,6 +31,7 @@ static TEXTS: [(&str, ErrText); 9] = [
     ("InvalidSubject", ErrText::InvalidSubject),
     ("TooManyQueueGroups", ErrText::TooManyQueueGroups),
     ("TooManySubscriptions", ErrText::TooManySubscriptions),
+    ("Draining", ErrText::Draining),
     ("NumbersSpent", ErrText::NumbersSpent),
 ];
 
@@ -326,11 +327,12 @@ fn ask_told(answer: &mut String, ask: &ClientAction) -> Option<()> {
 }
 
 /// The refusals by the words that they are.
-static REFUSALS: [(&str, Refusal); 5] = [
+static REFUSALS: [(&str, Refusal); 6] = [
     ("busy", Refusal::Busy),
     ("too many subscriptions", Refusal::TooManySubscriptions),
     ("numbers spent", Refusal::NumbersSpent),
     ("too many queue groups", Refusal::TooManyQueueGroups),
+    ("draining", Refusal::Draining),
     ("other", Refusal::Other),
 ];
 

@@ -2,12 +2,13 @@
 //!
 //! - `counts.new`; `counts.open PATTERN|QUEUE` and `counts.close PATTERN|QUEUE`: what the other servers are told; `counts.weight
 //!   PATTERN|QUEUE`, `counts.keys`, `counts.key_count`, `counts.has_plain SUBJECT`
-//! - `view.apply_up NUMBER|PATTERN|QUEUE|WEIGHT`, `view.apply_gone NUMBER|PATTERN|QUEUE`: a change of this number; `view.apply_snapshot
-//!   NUMBER|COUNT`: a snapshot of this number, with the plain keys of the first so many numbers of five digits; `view.has_plain SUBJECT`,
-//!   `view.weight_in SUBJECT|QUEUE`, `view.names_twice SUBJECT`, `view.key_count`
+//! - `view.apply_up NUMBER|PATTERN|QUEUE|WEIGHT`, `view.apply_gone NUMBER|PATTERN|QUEUE`, `view.apply_clear NUMBER`: a change of this number;
+//!   `view.apply_snapshot NUMBER|COUNT`: a snapshot of this number, with the plain keys of the first so many numbers of five digits;
+//!   `view.has_plain SUBJECT`, `view.weight_in SUBJECT|QUEUE`, `view.names_twice SUBJECT`, `view.key_count`
 //! - `hub.new NAMES|INC|SHARDS`: the hub of the first of these servers; `hub.open PATTERN|QUEUE`, `hub.close PATTERN|QUEUE`: how many changes are
-//!   told; `hub.up PEER|INC`, `hub.cut PEER`, `hub.seen PEER`; `hub.take PEER`: how many frames wait for the peer, which are taken;
-//!   `hub.finish SHARD|TURN`: the shard has finished the turn; `hub.be_prompt`: from now on the first shard finishes each turn at once
+//!   told; `hub.drain`: how many peers are cut; `hub.up PEER|INC`, `hub.cut PEER`, `hub.seen PEER`; `hub.take PEER`: how many frames wait for the
+//!   peer, which are taken; `hub.finish SHARD|TURN`: the shard has finished the turn; `hub.be_prompt`: from now on the first shard finishes each
+//!   turn at once
 //! - `hub.publish CONN|SUBJECT|PAYLOAD`: the turn, the number, and how many queue names the job has; `hub.plan CONN|SUBJECT|PAYLOAD|WORD`: the
 //!   queue names of the job, and those of the frame for each peer that is owed one
 //! - `hub.message`, `hub.plus` and `hub.snapshot`, with `FROM|INC|TO_INC|NUMBER`, and behind it a subject, or a pattern and a queue name: a frame
@@ -57,6 +58,7 @@ fn change_told(answer: &mut String, change: Option<&Change>) -> Option<()> {
         None => tell(answer, "nothing"),
         Some(Change::Up(weighted)) => tell_number(answer, "weight ", weighted.weight()),
         Some(Change::Gone(_)) => tell(answer, "gone"),
+        Some(Change::Clear) => tell(answer, "clear"),
     }
 }
 
@@ -256,6 +258,7 @@ pub fn view_call(
     match call {
         "apply_up" => apply_up(answer, view, alloc, words),
         "apply_gone" => apply_gone(answer, view, alloc, words),
+        "apply_clear" => apply_update(answer, view, words.number(0), Change::Clear),
         "apply_snapshot" => apply_snapshot(answer, view, alloc, words),
         "has_plain" => is_heard(answer, view, alloc, words.at(0)),
         "weight_in" => weight_in(answer, view, alloc, words),
@@ -475,6 +478,14 @@ fn take(answer: &mut String, hub: &mut Hub, place: usize, most: u64) -> Option<(
     }
 }
 
+/// Drains: how many peers are cut.
+fn drain(answer: &mut String, hub: &mut Hub) -> Option<()> {
+    match hub.drain() {
+        Ok(cut) => tell_number(answer, "cut ", cut.len() as u64),
+        Err(fault) => hub_refused(answer, fault),
+    }
+}
+
 /// Makes a call of a hub about a peer.
 fn peer_call(answer: &mut String, hub: &mut Hub, call: &str, words: &Words<'_>) -> Option<()> {
     let (place, number) = (place_in(hub, words.at(0))?, words.number(1));
@@ -523,6 +534,7 @@ fn stand_call(
         "be_prompt" => be_prompt(answer, stand),
         "open" => collect(answer, &mut stand.hub, alloc, words, true),
         "close" => collect(answer, &mut stand.hub, alloc, words, false),
+        "drain" => drain(answer, &mut stand.hub),
         "plan" => plan(answer, &stand.hub, alloc, words),
         _ => peer_call(answer, &mut stand.hub, call, words),
     }

@@ -48,6 +48,7 @@ use tables::{compare, table_call, trie_call};
 /// The hub's refusal of this name.
 fn hub_fault(name: &str) -> Option<HubFault> {
     match name {
+        "draining" => Some(HubFault::Draining),
         "busy" => Some(HubFault::Busy(Busy {
             shard: 2,
             finished: Turn::zero(),

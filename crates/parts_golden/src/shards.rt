@@ -552,6 +552,14 @@ fn unsubscribe(
     }
 }
 
+/// Takes no subscription any more.
+fn drain(answer: &mut String, shard: &mut ListShard) -> Option<()> {
+    match shard.drain() {
+        Ok(()) => tell(answer, "ok"),
+        Err(fault) => tell_refusal(answer, fault.number()),
+    }
+}
+
 /// The answer of this name: `pong`, or `ok`.
 fn frame_of(word: &str) -> ReplyFrame {
     match word {
@@ -734,6 +742,7 @@ fn lone_call(
         "unsubscribe" => unsubscribe(answer, shard, alloc, words),
         "reply" => reply(answer, shard, words),
         "shut" => count_told(answer, shard.shut(conn, ErrText::ParserError)),
+        "drain" => drain(answer, shard),
         "detach" => count_told(answer, shard.detach(conn)),
         "has_nothing_for" => tell_whether(answer, shard.has_nothing_for(conn)),
         "take" => take(answer, shard, alloc, words, false),

@@ -10,3 +10,5 @@ pub mod Lines
 pub mod Numbers
 -- how the texts of words and options are read
 pub mod Texts
+-- which cause of a refusal there is
+pub mod Refused

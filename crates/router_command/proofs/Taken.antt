@@ -16,7 +16,7 @@ use Rattle.clap.specs.declared.error.kind.ErrorKind.{ErrorKind}
 use Rattle.clap.specs.declared.error.kind.ErrorKind.TheVariants as kind
 use Rattle.clap.specs.declared.builder.value_parser.ValueParser.TheVariants as vp
 use Rattle.clap.proofs.ValueTestLemmas.{accepts-Accepts}
-use Rattle.router_command.specs.Line.{greatest_number, level_rule, number_rule, required_rule, router, with_value}
+use Rattle.router_command.specs.Line.{control_rule, greatest_number, level_rule, number_rule, required_rule, router, with_value}
 use Rattle.router_command.specs.Command.{AreOptions, AreWords, HasNumber, IsNumber, IsWhole}
 use Rattle.router_command.proofs.Walks.{Each, IsNoHelp, Keeps, KeepsDefault, both_pass, level_keeps, walk_stops}
 use Rattle.router_command.proofs.Rows.{Passes, Reads, RowFits, default_comes, default_keeps, defaults_stay, given_found, help_keeps, one_value, row_found, row_of_rule, text_of_row, value_keeps}
@@ -59,11 +59,24 @@ end_rule = option_rule (codes "stop-after")
 abbrev log_rule : Rule
 log_rule = text_rule level_rule
 
+abbrev time_rule : Rule
+time_rule = with_value (option_rule (codes "drain-seconds")) (codes "30")
+
+abbrev socket_rule : Rule
+socket_rule = text_rule control_rule
+
 abbrev pattern_rule : Rule
 pattern_rule = word_rule 1 (codes "PATTERN")
 
 abbrev subject_rule : Rule
 subject_rule = word_rule 2 (codes "SUBJECT")
+
+abbrev path_rule : Rule
+path_rule = word_rule 1 (codes "PATH")
+
+-- a word that need not be there
+abbrev server_rule : Rule
+server_rule = record (text_rule (new_rule (codes "NAME"))) { index = Some 2 }
 
 -- the flag that each command has
 abbrev flag_rule : Rule
@@ -85,12 +98,19 @@ match_shape = built_of (codes "match") (pattern_rule ∷ subject_rule ∷ flag_r
 
 abbrev serve_shape : Shape
 serve_shape = built_of (codes "serve")
-    (nodes_rule ∷ port_rule ∷ shards_rule ∷ inc_rule ∷ seed_rule ∷ end_rule ∷ log_rule ∷ flag_rule ∷ [])
+    (nodes_rule ∷ port_rule ∷ shards_rule ∷ inc_rule ∷ seed_rule ∷ end_rule ∷ log_rule ∷ time_rule ∷ socket_rule ∷ flag_rule ∷ [])
+
+abbrev drain_shape : Shape
+drain_shape = built_of (codes "drain") (path_rule ∷ server_rule ∷ flag_rule ∷ [])
 
 -- ---- small steps
 
 no_kinds : (k : ErrorKind) (ks : Kinds) → k ∷ ks ≡ [] → ⊥
 no_kinds k ks e = cc
+
+one_given : (a : Bool) → cond (not a || false) (kind.MissingRequiredArgument ∷ []) [] ≡ [] → a ≡ true
+one_given true e = refl
+one_given false e = absurd (no_kinds kind.MissingRequiredArgument [] e)
 
 both_given : (a b : Bool) → cond (not a || (not b || false)) (kind.MissingRequiredArgument ∷ []) [] ≡ [] → (a ≡ true) × (b ≡ true)
 both_given true true e = (refl, refl)
@@ -187,7 +207,13 @@ serve_keeps = (
             value_keeps false serve_shape.rules end_rule refl,
             (
               value_keeps false serve_shape.rules log_rule refl,
-              (help_keeps false (Each (RowFits serve_shape.rules)) flag_rule, tt),
+              (
+                value_keeps false serve_shape.rules time_rule refl,
+                (
+                  value_keeps false serve_shape.rules socket_rule refl,
+                  (help_keeps false (Each (RowFits serve_shape.rules)) flag_rule, tt),
+                ),
+              ),
             ),
           ),
         ),
@@ -211,7 +237,13 @@ serve_defaults = (
             default_keeps serve_shape.rules end_rule refl,
             (
               default_keeps serve_shape.rules log_rule refl,
-              (default_keeps serve_shape.rules flag_rule refl, tt),
+              (
+                default_keeps serve_shape.rules time_rule refl,
+                (
+                  default_keeps serve_shape.rules socket_rule refl,
+                  (default_keeps serve_shape.rules flag_rule refl, tt),
+                ),
+              ),
             ),
           ),
         ),
@@ -256,6 +288,14 @@ level_there rows =
     defaults_stay (codes "log-level") (drop 7 serve_shape.rules) (with_default before log_rule)
     (default_comes log_rule (codes "info") before)
 
+seconds_there : (rows : List Row) → has_row (codes "drain-seconds") (fold with_default rows serve_shape.rules) ≡ true
+seconds_there rows =
+    let early = with_default (with_default rows nodes_rule) port_rule in
+    let later = with_default (with_default (with_default early shards_rule) inc_rule) seed_rule in
+    let before = with_default (with_default later end_rule) log_rule in
+    defaults_stay (codes "drain-seconds") (drop 8 serve_shape.rules) (with_default before time_rule)
+    (default_comes time_rule (codes "30") before)
+
 serve_whole : (words : List Text) → level_fault serve_shape [] nothing_held words false [] ≡ [] → AreOptions (rows_after serve_shape.rules [] words)
 serve_whole words e =
     let rows = rows_after serve_shape.rules [] words in
@@ -273,7 +313,40 @@ serve_whole words e =
       log_level = word_found log_rule (find (λ r. bytes_eq r.id (codes "log-level")) rows)
           (row_of_rule serve_shape.rules (codes "log-level") log_rule rows refl kept.0)
           (row_found (codes "log-level") rows (level_there used));
+      drain_seconds = serve_number (codes "drain-seconds") time_rule rows refl kept.0 (row_found (codes "drain-seconds") rows (seconds_there used));
     }
+
+-- ---- `drain`
+
+drain_keeps : Each (Keeps drain_shape.args_override_self (Each (RowFits drain_shape.rules))) drain_shape.rules
+drain_keeps = (
+  value_keeps false drain_shape.rules path_rule refl,
+  (
+    value_keeps false drain_shape.rules server_rule refl,
+    (help_keeps false (Each (RowFits drain_shape.rules)) flag_rule, tt),
+  ),
+)
+
+drain_defaults : Each (KeepsDefault (Each (RowFits drain_shape.rules))) drain_shape.rules
+drain_defaults = (
+  default_keeps drain_shape.rules path_rule refl,
+  (
+    default_keeps drain_shape.rules server_rule refl,
+    (default_keeps drain_shape.rules flag_rule refl, tt),
+  ),
+)
+
+drain_needs : (rows : List Row) → check_fault drain_shape rows false ≡ [] → is_given (codes "PATH") rows ≡ true
+drain_needs rows e = one_given (is_given (codes "PATH") rows) e
+
+drain_whole : (words : List Text) → level_fault drain_shape [] nothing_held words false [] ≡ []
+    → IsSome (first_of (codes "PATH") (rows_after drain_shape.rules [] words))
+drain_whole words e =
+    let rows = rows_after drain_shape.rules [] words in
+    let kept = level_keeps drain_shape (Each (RowFits drain_shape.rules)) drain_keeps [] nothing_held words false [] drain_defaults e tt in
+    word_found path_rule (find (λ r. bytes_eq r.id (codes "PATH")) rows)
+    (row_of_rule drain_shape.rules (codes "PATH") path_rule rows refl kept.0)
+    (given_found (codes "PATH") rows (drain_needs rows kept.1))
 
 -- ---- the line
 
@@ -311,8 +384,11 @@ each_whole name words plain = (
       (
         (λ _ _. inr (inr (inr (inl refl)))),
         (
-          (λ _ e. inr (inr (inr (inr (refl, serve_whole words e))))),
-          ((λ here _. absurd (help_met name here plain)), tt),
+          (λ _ e. inr (inr (inr (inr (inl (refl, serve_whole words e)))))),
+          (
+            (λ _ e. inr (inr (inr (inr (inr (refl, drain_whole words e)))))),
+            ((λ here _. absurd (help_met name here plain)), tt),
+          ),
         ),
       ),
     ),

@@ -6,7 +6,7 @@ use Rattle.clap.specs.Values.{IsUnsignedIn}
 use Rattle.clap.specs.Words.{Row, Text, first_of, one_of, subcommand_of}
 use Rattle.router_command.specs.Line.{greatest_number, router}
 use Rattle.router_command.specs.declared.command.Command.{Command}
-use Rattle.router_command.specs.declared.command.Command.TheVariants.{Pipe, Match, Script, Audit, Serve}
+use Rattle.router_command.specs.declared.command.Command.TheVariants.{Pipe, Match, Script, Audit, Serve, Drain}
 use Rattle.router_command.specs.declared.options.Given.{Given}
 
 -- by its word behind the program's name
@@ -16,6 +16,7 @@ name_of (Match pattern subject) = codes "match"
 name_of (Script audit) = codes "script"
 name_of Audit = codes "audit"
 name_of (Serve given) = codes "serve"
+name_of (Drain path server) = codes "drain"
 
 -- the number that a text writes in decimal digits, a plus before them or none
 abbrev pub number_of : Text → ℕ
@@ -33,7 +34,7 @@ IsNumber text = IsUnsignedIn 0 greatest_number text
 abbrev pub HasNumber : Text → List Row → Type 0
 HasNumber name rows = IsSomeAnd (one_of name rows) IsNumber
 
--- all options of a mesh are there, but for the number of its clients
+-- all options of a mesh are there, but for the number of its clients, and where it is told to drain
 pub record AreOptions (rows : List Row) : Type 0 where
   pub nodes : HasNumber (codes "nodes") rows
   pub port : HasNumber (codes "port") rows
@@ -42,8 +43,9 @@ pub record AreOptions (rows : List Row) : Type 0 where
   pub word : HasNumber (codes "word") rows
   pub stop_after : IfSome (one_of (codes "stop-after") rows) IsNumber
   pub log_level : IsSome (first_of (codes "log-level") rows)
+  pub drain_seconds : HasNumber (codes "drain-seconds") rows
 
--- each number of a mesh is what its option writes, in digits, and the level is the text of its option
+-- each number of a mesh is what its option writes, in digits, and the level and the path are the texts of their options
 pub record HasOptions (rows : List Row) (given : Given) : Type 0 where
   pub written : AreOptions rows
   pub nodes : number_in (codes "nodes") rows ≡ Some given.nodes
@@ -53,6 +55,8 @@ pub record HasOptions (rows : List Row) (given : Given) : Type 0 where
   pub word : number_in (codes "word") rows ≡ Some given.word
   pub stop_after : number_in (codes "stop-after") rows ≡ given.stop_after
   pub log_level : first_of (codes "log-level") rows ≡ Some given.log_level.now
+  pub drain_seconds : number_in (codes "drain-seconds") rows ≡ Some given.drain_seconds
+  pub control : first_of (codes "control") rows ≡ option_map (λ text. text.now) given.control
 
 -- it is on where its text is `true`, and off where it is `false`
 pub record IsFlag (name : Text) (rows : List Row) (flag : Bool) : Type 0 where
@@ -68,6 +72,9 @@ HasValues rows (Match pattern subject) =
 HasValues rows (Script audit) = IsFlag (codes "audit") rows audit
 HasValues rows Audit = ⊤
 HasValues rows (Serve given) = HasOptions rows given
+HasValues rows (Drain path server) =
+    (first_of (codes "PATH") rows ≡ Some path.now)
+    × (first_of (codes "NAME") rows ≡ option_map (λ text. text.now) server)
 
 -- what was found names the command, and has its values
 abbrev pub Names : Option (Text × List Row) → Command → Type 0
@@ -89,3 +96,4 @@ pub record AreWords (rows : List Row) : Type 0 where
 abbrev pub IsWhole : Text × List Row → Type 0
 IsWhole found = (found.0 ≡ codes "pipe") ⊎ ((found.0 ≡ codes "match") × AreWords found.1)
     ⊎ (found.0 ≡ codes "script") ⊎ (found.0 ≡ codes "audit") ⊎ ((found.0 ≡ codes "serve") × AreOptions found.1)
+    ⊎ ((found.0 ≡ codes "drain") × IsSome (first_of (codes "PATH") found.1))

@@ -6,3 +6,5 @@ pub mod Command
 pub mod Ranges
 -- the levels of what standard error tells
 pub mod Levels
+-- why the options of a mesh are refused
+pub mod Refusals

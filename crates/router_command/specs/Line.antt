@@ -54,9 +54,26 @@ level_rule = with_value (record (new_rule (codes "log-level")) {
   value_names = 1;
 }) (codes "info")
 
+-- the path where it is told to drain
+abbrev pub control_rule : Rule
+control_rule = record (new_rule (codes "control")) {
+  long = Some (codes "control");
+  value_names = 1;
+}
+
+-- how many seconds a drain may take
+abbrev pub seconds_rule : Rule
+seconds_rule = with_value (number_rule (codes "drain-seconds")) (codes "30")
+
 -- `serve`, with all its options
 abbrev pub serve_command : App
-serve_command = with_rule serve_with_end level_rule
+serve_command = with_rule (with_rule (with_rule serve_with_end level_rule) seconds_rule) control_rule
+
+-- `drain`, with its path, and the name of a server or none
+abbrev pub drain_command : App
+drain_command = with_rule
+    (with_rule (new_app (codes "drain")) (required_rule (new_rule (codes "PATH"))))
+    (new_rule (codes "NAME"))
 
 -- to write the lists of a run, which is a flag
 abbrev pub audit_rule : Rule
@@ -82,9 +99,10 @@ program = on_top (λ shape. record shape {
   subcommand_required = true;
 }) (new_app (codes "nats_mesh"))
 
--- the program and its five commands
+-- the program and its six commands
 abbrev pub router : App
 router = with_subcommand
+    (with_subcommand
     (with_subcommand
     (with_subcommand
     (with_subcommand
@@ -92,7 +110,8 @@ router = with_subcommand
     match_command.top)
     script_command.top)
     (new_app (codes "audit")).top)
-    serve_command.top
+    serve_command.top)
+    drain_command.top
 
 -- ---- what is built of it
 

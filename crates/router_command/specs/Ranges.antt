@@ -1,8 +1,10 @@
 -- The ranges of the options of a mesh. (Profile.)
-use Rattle.std.specs.Prelude.{ℕ, ◌+◌, ◌-◌, ◌*◌, ◌^◌, ◌≤◌}
+use Rattle.std.specs.Prelude.{◌≡◌, ℕ, List, length, ◌+◌, ◌-◌, ◌*◌, ◌^◌, ◌≤◌}
 use Rattle.subj.specs.declared.limits.TheConstants.{MAX_INCARNATION, MAX_NODES, MAX_SHARDS}
+use Rattle.router_command.specs.declared.faults.TheConstants.{MOST_DRAIN_SECONDS, MOST_PATH_BYTES}
 use Rattle.router_command.specs.declared.faults.OptionName.{OptionName}
-use Rattle.router_command.specs.declared.faults.OptionName.TheVariants.{Nodes, Port, Shards, Inc, StopAfter}
+use Rattle.router_command.specs.declared.faults.OptionName.TheVariants.{Nodes, Port, Shards, Inc, StopAfter, DrainSeconds}
+use Rattle.router_command.specs.declared.options.Given.{Given}
 use Rattle.router_command.specs.declared.options.Options.{Options}
 
 -- the least value that the option takes, and the greatest
@@ -12,9 +14,14 @@ range_of Port = (1, 2 ^ 16 - 1)
 range_of Shards = (1, MAX_SHARDS)
 range_of Inc = (1, MAX_INCARNATION)
 range_of StopAfter = (1, 2 ^ 64 - 1)
+range_of DrainSeconds = (1, MOST_DRAIN_SECONDS)
+
+-- the system takes it as the path of a socket
+abbrev pub IsPath : List ℕ → Type 0
+IsPath path = (1 ≤ length path) × (length path ≤ MOST_PATH_BYTES)
 
 -- as many servers as a cluster may have, of as many shards as a server may have, and a port for the clients and one for the routes
--- of each server, all of them ports
+-- of each server, all of them ports, and a time for a drain
 pub record AreWithin (options : Options) : Type 0 where
   pub some : 1 ≤ options.nodes
   pub few : options.nodes ≤ MAX_NODES
@@ -22,3 +29,14 @@ pub record AreWithin (options : Options) : Type 0 where
   pub last_shard : options.shards ≤ MAX_SHARDS
   pub first_port : 1 ≤ options.port
   pub last_port : options.port + 2 * options.nodes ≤ 65536
+  pub some_time : 1 ≤ options.drain_seconds
+  pub short_time : options.drain_seconds ≤ MOST_DRAIN_SECONDS
+
+-- the numbers of a mesh are those that were given, but for the time of a drain
+pub record AreNumbers (given : Given) (options : Options) : Type 0 where
+  pub nodes : options.nodes ≡ given.nodes
+  pub port : options.port ≡ given.port
+  pub shards : options.shards ≡ given.shards
+  pub inc : options.inc ≡ given.inc
+  pub word : options.word ≡ given.word
+  pub stop_after : options.stop_after ≡ given.stop_after

@@ -1,10 +1,10 @@
 //! What the command line asks for.
 
-ghost use Rattle.std.specs.Prelude.{◌≡◌, IfErr, IfOk, IsSomeAnd, map, true};
+ghost use Rattle.std.specs.Prelude.{◌≡◌, IfErr, IfOk, IsSomeAnd, codes, map, true};
 ghost use Rattle.std.specs.String.{string_bytes};
 ghost use Rattle.clap.specs.Words.{FailsBy, fault_of, found_of, kind_of, rows_of, subcommand_rows_of, takes};
 ghost use Rattle.router_command.specs.Command.{AreOptions, AskFor, HasOptions, IsWhole, Names};
-ghost use Rattle.router_command.specs.Line.{HasRule, IsLine, level_rule, number_rule, router, script_command, serve_command};
+ghost use Rattle.router_command.specs.Line.{HasRule, IsLine, control_rule, drain_command, level_rule, number_rule, router, script_command, seconds_rule, serve_command};
 
 use crate::options::Given;
 use clap::builder::ValueParser;
@@ -18,13 +18,23 @@ pub enum Command<'a> {
     /// To serve one client on standard input and output.
     Pipe,
     /// To tell whether the pattern matches the subject.
-    Match { pattern: &'a str, subject: &'a str },
+    Match {
+        pattern: &'a str,
+        subject: &'a str,
+    },
     /// To play the script on standard input, and perhaps to write what was published, subscribed and placed behind its text.
-    Script { audit: bool },
+    Script {
+        audit: bool,
+    },
     /// To audit the log on standard input.
     Audit,
     /// To serve a mesh on sockets.
     Serve(Given<'a>),
+    /// To have the servers drain that are controlled at this path, or the one of this name alone.
+    Drain {
+        path: &'a str,
+        server: Option<&'a str>,
+    },
 }
 
 /// The option of this name, which is a number.
@@ -38,6 +48,29 @@ fn number<'a>(alloc: Global, name: &'a str, help: &'a str) -> Arg<'a>
         .help(help)
 }
 
+/// The option of after how many clients a mesh ends.
+fn stop_after<'a>(alloc: Global) -> Arg<'a>
+    ensures { HasRule result (number_rule (codes "stop-after")) }
+{
+    number(
+        alloc,
+        "stop-after",
+        "Ends once so many clients have come and all of them have gone",
+    )
+}
+
+/// The option of how long a drain may take.
+fn drain_seconds<'a>(alloc: Global) -> Arg<'a>
+    ensures { HasRule result seconds_rule }
+{
+    number(
+        alloc,
+        "drain-seconds",
+        "How many seconds a drain may take, 1 to 3600",
+    )
+    .default_value("30")
+}
+
 /// The option of how grave an event has to be to be told.
 fn log_level<'a>(alloc: Global) -> Arg<'a>
     ensures { HasRule result level_rule }
@@ -47,6 +80,16 @@ fn log_level<'a>(alloc: Global) -> Arg<'a>
         .value_name("LEVEL")
         .default_value("info")
         .help("What standard error tells: error, warn, info or debug")
+}
+
+/// The option of the path where a mesh is told to drain.
+fn control<'a>(alloc: Global) -> Arg<'a>
+    ensures { HasRule result control_rule }
+{
+    Arg::new(alloc, "control")
+        .long("control")
+        .value_name("PATH")
+        .help("Takes `drain` on a Unix socket at this path")
 }
 
 /// The command that serves a mesh.
@@ -75,11 +118,6 @@ fn serve_line<'a>(alloc: Global) -> Result<clap::Command<'a>, AllocError>
         "The seed of the words that choose who serves a queue group",
     )
     .default_value("0");
-    let stop_after = number(
-        alloc,
-        "stop-after",
-        "Ends once so many clients have come and all of them have gone",
-    );
     clap::Command::new(alloc, "serve")
         .about("Serves a mesh of servers at 127.0.0.1")
         .arg(nodes)?
@@ -87,8 +125,24 @@ fn serve_line<'a>(alloc: Global) -> Result<clap::Command<'a>, AllocError>
         .arg(shards)?
         .arg(inc)?
         .arg(word)?
-        .arg(stop_after)?
-        .arg(log_level(alloc))
+        .arg(stop_after(alloc))?
+        .arg(log_level(alloc))?
+        .arg(drain_seconds(alloc))?
+        .arg(control(alloc))
+}
+
+/// The command that has servers drain.
+fn drain_line<'a>(alloc: Global) -> Result<clap::Command<'a>, AllocError>
+    ensures { IfOk result (λ command. IsLine command drain_command) }
+{
+    let path = Arg::new(alloc, "PATH")
+        .required(true)
+        .help("The path that the servers were given as --control");
+    let server = Arg::new(alloc, "NAME").help("The server that drains alone, as n2");
+    clap::Command::new(alloc, "drain")
+        .about("Has the servers drain that serve with --control PATH, or the one of this name")
+        .arg(path)?
+        .arg(server)
 }
 
 /// The command that plays scripts.
@@ -104,7 +158,7 @@ fn script_line<'a>(alloc: Global) -> Result<clap::Command<'a>, AllocError>
         .arg(audit)
 }
 
-/// The commands that play scripts and audit logs, that of one question, the pipe, and the mesh.
+/// The commands that play scripts and audit logs, that of one question, the pipe, the mesh, and that which has its servers drain.
 fn line<'a>(alloc: Global) -> Result<clap::Command<'a>, AllocError>
     ensures { IfOk result (λ command. IsLine command router) }
 {
@@ -128,7 +182,8 @@ fn line<'a>(alloc: Global) -> Result<clap::Command<'a>, AllocError>
         .subcommand(question)?
         .subcommand(script_line(alloc)?)?
         .subcommand(audit)?
-        .subcommand(serve_line(alloc)?)
+        .subcommand(serve_line(alloc)?)?
+        .subcommand(drain_line(alloc)?)
 }
 
 /// What the line says of a mesh.
@@ -144,6 +199,8 @@ fn given_in<'a>(values: &ArgMatches<'a>) -> Given<'a>
         word: values.get_one("word").unwrap(),
         stop_after: values.get_one("stop-after"),
         log_level: values.get_str("log-level").unwrap(),
+        drain_seconds: values.get_one("drain-seconds").unwrap(),
+        control: values.get_str("control"),
     }
 }
 
@@ -164,7 +221,11 @@ fn command_in<'a>(found: &ArgMatches<'a>) -> Command<'a>
         },
         "audit" => Command::Audit,
         "serve" => Command::Serve(given_in(values)),
-        // required: the line names one of the five
+        "drain" => Command::Drain {
+            path: values.get_str("PATH").unwrap(),
+            server: values.get_str("NAME"),
+        },
+        // required: the line names one of the six
         _ => unreachable!(),
     }
 }

@@ -8,6 +8,12 @@ use std::fmt;
 use std::fmt::{Display, Formatter, Write};
 use subj::{MAX_INCARNATION, MAX_NODES, MAX_SHARDS};
 
+/// The most seconds that a drain may take.
+pub const MOST_DRAIN_SECONDS: u64 = 3_600;
+
+/// The most bytes of the path of a socket: the system has room for one more, which ends it.
+pub const MOST_PATH_BYTES: usize = 107;
+
 /// An option of the command line.
 #[derive(Clone, Copy, Debug)]
 pub enum OptionName {
@@ -16,6 +22,7 @@ pub enum OptionName {
     Shards,
     Inc,
     StopAfter,
+    DrainSeconds,
 }
 
 impl OptionName {
@@ -27,6 +34,7 @@ impl OptionName {
             OptionName::Shards => "--shards",
             OptionName::Inc => "--inc",
             OptionName::StopAfter => "--stop-after",
+            OptionName::DrainSeconds => "--drain-seconds",
         }
     }
 
@@ -40,6 +48,7 @@ impl OptionName {
             OptionName::Shards => MAX_SHARDS,
             OptionName::Inc => MAX_INCARNATION,
             OptionName::StopAfter => u64::MAX,
+            OptionName::DrainSeconds => MOST_DRAIN_SECONDS,
         };
         (1, most)
     }
@@ -54,6 +63,8 @@ pub enum OptionFault {
     TooManyPorts,
     /// The text is no level of what standard error tells.
     NoLevel,
+    /// The path of the socket is empty, or has more than [`MOST_PATH_BYTES`].
+    BadPath,
 }
 
 impl Display for OptionFault {
@@ -69,6 +80,9 @@ impl Display for OptionFault {
                 u16::MAX
             ),
             OptionFault::NoLevel => f.write_str("--log-level takes error, warn, info or debug"),
+            OptionFault::BadPath => {
+                write!(f, "--control takes a path of 1 to {MOST_PATH_BYTES} bytes")
+            }
         }
     }
 }

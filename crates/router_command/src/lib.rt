@@ -16,5 +16,5 @@ mod faults;
 mod options;
 
 pub use command::{Command, command_of};
-pub use faults::{OptionFault, OptionName};
+pub use faults::{MOST_DRAIN_SECONDS, MOST_PATH_BYTES, OptionFault, OptionName};
 pub use options::{Given, Options};

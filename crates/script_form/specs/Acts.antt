@@ -9,7 +9,7 @@ use Rattle.subj.specs.Names.{node_name_fault, pattern_fault, subject_fault, queu
 use Rattle.subj.specs.Numbers.{incarnation_of}
 use Rattle.subj.specs.Publications.{new_publication}
 use Rattle.script_form.specs.declared.steps.Act.{Act}
-use Rattle.script_form.specs.declared.steps.Act.TheVariants.{Start, Stop, Attach, Sub, Unsub, Detach, Publish, Settled, Deliver, Receive, Collect, Begin, End, DropJob, Claim, Dial, Accept, Info, Connect, Cut, TakeEntries, TakeFrames, Join}
+use Rattle.script_form.specs.declared.steps.Act.TheVariants.{Start, Stop, Attach, Sub, Unsub, Detach, Publish, Settled, Deliver, Receive, Collect, Drain, DrainShard, Begin, End, DropJob, Claim, Dial, Accept, Info, Connect, Cut, TakeEntries, TakeFrames, Join}
 use Rattle.script_form.specs.declared.steps.Step.{Step}
 use Rattle.script_form.specs.declared.steps.Verb.{Verb}
 use Rattle.script_form.specs.declared.steps.Verb.TheVariants as verb
@@ -164,6 +164,8 @@ act_in verb.Settled json = settled_in json
 act_in verb.Deliver json = publish_in Deliver json
 act_in verb.Receive json = receive_in json
 act_in verb.Collect json = of_shard Collect json
+act_in verb.Drain json = Some Drain
+act_in verb.DrainShard json = of_shard DrainShard json
 act_in verb.Begin json = of_shard Begin json
 act_in verb.End json = of_shard End json
 act_in verb.Drop json = of_shard DropJob json

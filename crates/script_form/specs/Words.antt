@@ -2,7 +2,7 @@
 use Rattle.std.specs.Prelude.{ℕ, List, [], ◌∷◌, codes, Option, Some, None, if◌then◌else◌}
 use Rattle.std.specs.Str.{bytes_eq}
 use Rattle.script_form.specs.declared.steps.Verb.{Verb}
-use Rattle.script_form.specs.declared.steps.Verb.TheVariants.{Start, Stop, Attach, Sub, Unsub, Detach, Publish, Settled, Deliver, Receive, Collect, Begin, End, Drop, Claim, Dial, Accept, Info, Connect, Cut, Take, Join}
+use Rattle.script_form.specs.declared.steps.Verb.TheVariants.{Start, Stop, Attach, Sub, Unsub, Detach, Publish, Settled, Deliver, Receive, Collect, Drain, DrainShard, Begin, End, Drop, Claim, Dial, Accept, Info, Connect, Cut, Take, Join}
 
 abbrev pub word_of : Verb → List ℕ
 word_of Start = codes "start"
@@ -16,6 +16,8 @@ word_of Settled = codes "settled"
 word_of Deliver = codes "deliver"
 word_of Receive = codes "receive"
 word_of Collect = codes "collect"
+word_of Drain = codes "drain"
+word_of DrainShard = codes "drainshard"
 word_of Begin = codes "begin"
 word_of End = codes "end"
 word_of Drop = codes "drop"
@@ -31,8 +33,8 @@ word_of Join = codes "join"
 -- all of them; no two have one word
 abbrev pub verbs : List Verb
 verbs =
-    Start ∷ Stop ∷ Attach ∷ Sub ∷ Unsub ∷ Detach ∷ Publish ∷ Settled ∷ Deliver ∷ Receive ∷ Collect ∷ Begin ∷ End ∷ Drop ∷ Claim ∷ Dial
-    ∷ Accept ∷ Info ∷ Connect ∷ Cut ∷ Take ∷ Join ∷ []
+    Start ∷ Stop ∷ Attach ∷ Sub ∷ Unsub ∷ Detach ∷ Publish ∷ Settled ∷ Deliver ∷ Receive ∷ Collect ∷ Drain ∷ DrainShard ∷ Begin ∷ End ∷ Drop
+    ∷ Claim ∷ Dial ∷ Accept ∷ Info ∷ Connect ∷ Cut ∷ Take ∷ Join ∷ []
 
 -- the one whose word this is, letter by letter
 abbrev pub verb_among : List Verb → List ℕ → Option Verb

@@ -385,6 +385,10 @@ fn read_act(alloc: Global, verb: Verb, object: &Value) -> Result<Act, Failure<Mi
         Verb::Collect => Ok(Act::Collect {
             shard: read_shard(object)?,
         }),
+        Verb::Drain => Ok(Act::Drain),
+        Verb::DrainShard => Ok(Act::DrainShard {
+            shard: read_shard(object)?,
+        }),
         Verb::Begin => Ok(Act::Begin {
             shard: read_shard(object)?,
         }),

@@ -64,6 +64,12 @@ pub enum Act {
     Collect {
         shard: u64,
     },
+    /// The server tells its peers that it has no interest any more.
+    Drain,
+    /// The shard takes no subscription any more.
+    DrainShard {
+        shard: u64,
+    },
     /// The shard begins the first job that waits.
     Begin {
         shard: u64,
@@ -212,6 +218,8 @@ pub(crate) enum Verb {
     Deliver,
     Receive,
     Collect,
+    Drain,
+    DrainShard,
     Begin,
     End,
     Drop,
@@ -242,6 +250,8 @@ impl Verb {
             "deliver" => Some(Verb::Deliver),
             "receive" => Some(Verb::Receive),
             "collect" => Some(Verb::Collect),
+            "drain" => Some(Verb::Drain),
+            "drainshard" => Some(Verb::DrainShard),
             "begin" => Some(Verb::Begin),
             "end" => Some(Verb::End),
             "drop" => Some(Verb::Drop),

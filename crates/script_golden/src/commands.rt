@@ -39,14 +39,16 @@ fn choice_told(alloc: Global, number: Option<u64>) -> Result<String, AllocError>
 fn mesh_told(alloc: Global, given: &Given<'_>) -> Result<String, AllocError> {
     let stop_after = choice_told(alloc, given.stop_after)?;
     format!(in alloc;
-        "serve {} {} {} {} {} {} {}",
+        "serve {} {} {} {} {} {} {} {} {}",
         given.nodes,
         given.port,
         given.shards,
         given.inc,
         given.word,
         stop_after.as_str(),
-        given.log_level
+        given.log_level,
+        given.drain_seconds,
+        given.control.unwrap_or("none")
     )
 }
 
@@ -59,6 +61,11 @@ fn command_told(alloc: Global, command: &Command<'_>) -> Result<String, AllocErr
         Command::Script { audit: true } => text(alloc, "script with its lists"),
         Command::Audit => text(alloc, "audit"),
         Command::Serve(given) => mesh_told(alloc, given),
+        Command::Drain { path, server: None } => format!(in alloc; "drain '{path}'"),
+        Command::Drain {
+            path,
+            server: Some(server),
+        } => format!(in alloc; "drain '{path}' '{server}'"),
     }
 }
 
@@ -161,8 +168,13 @@ fn end_told(alloc: Global, word: &str) -> Result<String, AllocError> {
     format!(in alloc; "status {}", status_of(&ended))
 }
 
-/// What a command line says of a mesh, in the order of `serve`: servers, port, shards, incarnation, word, after how many clients it ends, and
-/// what standard error tells.
+/// A text that may be left out.
+fn choice<'a>(word: &'a str) -> Option<&'a str> {
+    (word != "none").then_some(word)
+}
+
+/// What a command line says of a mesh, in the order of `serve`: servers, port, shards, incarnation, word, after how many clients it ends,
+/// what standard error tells, how many seconds a drain may take, and where it is told.
 fn given_of<'a>(words: &Words<'a>) -> Given<'a> {
     let stop_after = words.at(5);
     Given {
@@ -173,21 +185,25 @@ fn given_of<'a>(words: &Words<'a>) -> Given<'a> {
         word: words.number(4),
         stop_after: (stop_after != "none").then_some(number(stop_after)),
         log_level: words.at(6),
+        drain_seconds: words.number(7),
+        control: choice(words.at(8)),
     }
 }
 
 /// What the options are, with the ports of the first server and of the last one.
-fn options_told(alloc: Global, options: &Options) -> Result<String, AllocError> {
+fn options_told(alloc: Global, options: &Options<'_>) -> Result<String, AllocError> {
     let stop_after = choice_told(alloc, options.stop_after)?;
     format!(in alloc;
-        "{} {} {} {} {} {} {}",
+        "{} {} {} {} {} {} {} {} {}",
         options.nodes,
         options.port,
         options.shards,
         options.inc.get(),
         options.word,
         stop_after.as_str(),
-        options.log_level
+        options.log_level,
+        options.drain_seconds,
+        options.control.unwrap_or("none")
     )
 }
 
@@ -201,7 +217,7 @@ fn options(alloc: Global, words: &Words<'_>) -> Result<String, AllocError> {
 
 /// The ports of the server at this place, counted from 0, of a mesh with these options.
 fn ports(alloc: Global, words: &Words<'_>) -> Result<String, AllocError> {
-    let place = words.number(7).min(u64::from(u16::MAX)) as u16;
+    let place = words.number(9).min(u64::from(u16::MAX)) as u16;
     match Options::new(given_of(words)) {
         Ok(options) if place < options.nodes => {
             let (client, route) = (options.client_port(place), options.route_port(place));

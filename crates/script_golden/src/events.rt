@@ -125,6 +125,7 @@ fn shard_event(name: &str, words: &Words<'_>) -> Option<NodeEvent> {
         "claim" => ShardWork::Claim { index },
         "end" => ShardWork::End,
         "drop_job" => ShardWork::DropJob,
+        "drain_shard" => ShardWork::DrainShard,
         _ => return None,
     };
     Some(NodeEvent::at_shard(shard, work))
@@ -188,6 +189,7 @@ fn route_event(name: &str, words: &Words<'_>) -> Option<OwnEvent> {
     let number = count(words.at(0));
     match name {
         "collect" => Some(OwnEvent::Collect { shard: number }),
+        "drain" => Some(OwnEvent::Drain),
         "dial" => Some(OwnEvent::Dial {
             peer: number as usize,
         }),
@@ -211,10 +213,14 @@ fn own_route_event(name: &str, words: &Words<'_>) -> Option<NodeEvent> {
 /// The event of this name; none where a word names nothing.
 pub fn event_of(alloc: Global, name: &str, words: &Words<'_>) -> Option<NodeEvent> {
     match name {
-        "attach" | "begin" | "claim" | "end" | "drop_job" => shard_event(name, words),
+        "attach" | "begin" | "claim" | "end" | "drop_job" | "drain_shard" => shard_event(
+            name, words,
+        ),
         "publish" => publication(alloc, words, true),
         "publish_no_echo" => publication(alloc, words, false),
-        "collect" | "dial" | "accept" | "cut" | "take_frames" => own_route_event(name, words),
+        "collect" | "drain" | "dial" | "accept" | "cut" | "take_frames" => own_route_event(
+            name, words,
+        ),
         "info" | "connect" => session_event(name, words),
         "message" | "plus" | "minus" | "no_interest" => frame_event(alloc, name, words),
         _ => conn_event(alloc, name, words),

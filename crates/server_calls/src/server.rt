@@ -8,7 +8,8 @@ use std::sync::Wait;
 
 /// A server whose hub and shards are held one at a time.
 ///
-/// Whoever makes its calls holds at most one of them; only [`ServerCalls::collect`] holds two, and lets both go.
+/// Whoever makes its calls holds at most one of them; only [`ServerCalls::collect`] holds two, and lets both go. [`ServerCalls::drain`] holds one
+/// after another.
 pub trait ServerCalls: Copy {
     /// A shard, held.
     type Shard: ShardCalls;
@@ -28,4 +29,9 @@ pub trait ServerCalls: Copy {
     /// Has the hub count what the shard has opened and closed: what it tells of it. None where there is nothing, and where
     /// the hub refuses it. May wait.
     fn collect<R: Wait>(&self, rt: &R, shard: u64) -> Result<Option<CollectResult>, AllocError>;
+
+    /// Has the hub tell the other servers that this one has no interest any more, and then each shard take no subscription any more: the
+    /// places of the servers that are cut, since they had no room for it. None where nothing is told: the server drains already, or
+    /// the numbers of changes are used up. For want of memory nothing is changed. May wait.
+    fn drain<R: Wait>(&self, rt: &R) -> Result<Option<Vec<usize>>, AllocError>;
 }

@@ -44,6 +44,8 @@ pub enum ClientCause {
     OutOfMemory,
     /// The system does not tell when its socket is ready.
     Unwatched,
+    /// Its server drains, and waits no longer.
+    CutOff,
 }
 
 /// Why the connection to another server ended.
@@ -99,7 +101,7 @@ pub enum Event {
     ClientCame {
         client: ConnId,
     },
-    /// A client went of its own accord.
+    /// A client went of its own accord, or since its server drains and nothing waited for it.
     ClientGone {
         client: ConnId,
     },
@@ -116,6 +118,17 @@ pub enum Event {
     },
     /// There was no memory for something, which is tried again.
     OutOfMemory,
+    /// The server was asked to drain. It takes no new clients, has no interest for other servers any more, and closes its clients once
+    /// nothing waits for them, at the latest after so many seconds.
+    DrainAsked {
+        seconds: u64,
+    },
+    /// The server has drained: all its clients have got what waited for them, and are gone.
+    Drained,
+    /// The server has drained, and so many of its clients were closed before nothing waited for them.
+    DrainedLate {
+        clients: u64,
+    },
     /// The server ends, since its mesh does.
     Stopped,
     /// The server cannot go on.

@@ -7,7 +7,7 @@ use crate::event::Event;
 use log::Level;
 
 /// How many kinds of events there are.
-pub const KINDS: usize = 10;
+pub const KINDS: usize = 13;
 
 /// A kind of events: those of one are as grave as each other, and counted together.
 #[derive(Clone, Copy)]
@@ -20,6 +20,9 @@ pub enum EventKind {
     ClientClosed,
     ConnectionRefused,
     OutOfMemory,
+    DrainAsked,
+    Drained,
+    DrainedLate,
     Stopped,
     Failed,
 }
@@ -35,6 +38,9 @@ impl EventKind {
         EventKind::ClientClosed,
         EventKind::ConnectionRefused,
         EventKind::OutOfMemory,
+        EventKind::DrainAsked,
+        EventKind::Drained,
+        EventKind::DrainedLate,
         EventKind::Stopped,
         EventKind::Failed,
     ];
@@ -48,8 +54,13 @@ impl EventKind {
             EventKind::PeerDown
             | EventKind::ClientClosed
             | EventKind::ConnectionRefused
-            | EventKind::OutOfMemory => Level::Warn,
-            EventKind::Listening | EventKind::PeerUp | EventKind::Stopped => Level::Info,
+            | EventKind::OutOfMemory
+            | EventKind::DrainedLate => Level::Warn,
+            EventKind::Listening
+            | EventKind::PeerUp
+            | EventKind::DrainAsked
+            | EventKind::Drained
+            | EventKind::Stopped => Level::Info,
             EventKind::ClientCame | EventKind::ClientGone => Level::Debug,
         }
     }
@@ -68,8 +79,11 @@ impl EventKind {
             EventKind::ClientClosed => 5,
             EventKind::ConnectionRefused => 6,
             EventKind::OutOfMemory => 7,
-            EventKind::Stopped => 8,
-            EventKind::Failed => 9,
+            EventKind::DrainAsked => 8,
+            EventKind::Drained => 9,
+            EventKind::DrainedLate => 10,
+            EventKind::Stopped => 11,
+            EventKind::Failed => 12,
         }
     }
 }
@@ -88,6 +102,9 @@ impl Event {
             Event::ClientClosed { .. } => EventKind::ClientClosed,
             Event::ConnectionRefused { .. } => EventKind::ConnectionRefused,
             Event::OutOfMemory => EventKind::OutOfMemory,
+            Event::DrainAsked { .. } => EventKind::DrainAsked,
+            Event::Drained => EventKind::Drained,
+            Event::DrainedLate { .. } => EventKind::DrainedLate,
             Event::Stopped => EventKind::Stopped,
             Event::Failed { .. } => EventKind::Failed,
         }

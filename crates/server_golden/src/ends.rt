@@ -235,6 +235,7 @@ impl<C: ServerCalls> End<C> {
             }
             "turn_on" => self.turn_on(rt),
             "time" => self.server.set_time(words.number(0)),
+            "drain" => self.server.drain(words.number(0)),
             "send" => self.send(rt, key, number as usize, bytes)?,
             "grant_until" => self.grant_until(rt, key, number, bytes)?,
             _ => {
@@ -325,6 +326,7 @@ impl<C: ServerCalls> End<C> {
         let key = self.key(first);
         match call {
             "goes_on" => yes_or_no(alloc, self.server.goes_on()),
+            "has_drained" => yes_or_no(alloc, self.server.has_drained()),
             "next_turn" => number_told(alloc, "at", self.server.next_turn(), "never"),
             "is_there" => yes_or_no(alloc, self.server.stream(key).is_some()),
             "shard" => number_told(alloc, "shard", self.server.shard(key), "none"),
@@ -471,6 +473,7 @@ pub fn is_question(line: &Call<'_>) -> bool {
                 | "shard"
                 | "told"
                 | "goes_on"
+                | "has_drained"
                 | "next_turn"
                 | "remove"
         )

@@ -116,4 +116,9 @@ impl<'n, C: ServerCalls> ServerCalls for &'n LanedNode<C> {
         let laned: &'n LanedNode<C> = *self;
         laned.node.collect(rt, shard)
     }
+
+    fn drain<R: Wait>(&self, rt: &R) -> Result<Option<Vec<usize>>, AllocError> {
+        let laned: &'n LanedNode<C> = *self;
+        laned.node.drain(rt)
+    }
 }

@@ -9,7 +9,7 @@ use Rattle.route_values.specs.declared.bodies.Body.TheVariants.{Plus, Minus, Sna
 use Rattle.hub_core.specs.Publishing as hub
 use Rattle.hub_core.specs.Publishing.{own_job, frames_of}
 use Rattle.node_law.specs.declared.events.ShardWork.TheVariants.{Begin, Claim, End}
-use Rattle.node_law.specs.Events.{OwnEvent, OfConn, AtShard, Publish, Collect, Dial, Accept, CutSession, TakeFrames}
+use Rattle.node_law.specs.Events.{OwnEvent, OfConn, AtShard, Publish, Collect, Drain, Dial, Accept, CutSession, TakeFrames}
 use Rattle.world_law.specs.Events.{Event, Start, Stop, Receive, OnInfo, OnConnect, At}
 use Rattle.world_law.specs.State.{Cluster, World, Running, server_at}
 
@@ -20,6 +20,7 @@ is_work_of shard (OfConn conn event) = false
 is_work_of shard (AtShard other work) = nat_eq other shard
 is_work_of shard (Publish p) = false
 is_work_of shard (Collect other) = false
+is_work_of shard Drain = false
 is_work_of shard (Dial q) = false
 is_work_of shard Accept = false
 is_work_of shard (CutSession session) = false

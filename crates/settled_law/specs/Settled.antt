@@ -1,5 +1,5 @@
 -- A cluster that is settled for a publication.
-use Rattle.std.specs.Prelude.{◌≡◌, ◌≢◌, ℕ, ◌<◌, ◌≤◌, true, List, [], length, Some, None, slice_get}
+use Rattle.std.specs.Prelude.{◌≡◌, ◌≢◌, ℕ, ◌<◌, ◌≤◌, true, false, List, [], length, Some, None, slice_get}
 use Rattle.list_laws.specs.Lists.{In, Each, Pairs}
 use Rattle.sub_table.specs.declared.Subscription.{Subscription}
 use Rattle.subj.specs.Messages.{Content}
@@ -42,9 +42,10 @@ pub record LineIsSettled (line : ShardWithJobs) : Type 0 where
   pub hand : line.shard.hand ≡ None
   pub told : line.shard.deltas ≡ []
 
--- and one more publication and one more turn can be numbered
+-- it does not drain, and one more publication and one more turn can be numbered
 pub record NodeIsSettled (a : Running) : Type 0 where
   pub lines : (place : ℕ) (line : ShardWithJobs) → slice_get a.node.lines place ≡ Some line → LineIsSettled line
+  pub lasting : a.node.hub.draining ≡ false
   pub issued : a.node.hub.issued < MAX_COUNTER
   pub published : a.node.hub.published < MAX_COUNTER
 

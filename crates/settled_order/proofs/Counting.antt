@@ -18,7 +18,7 @@ use Rattle.shard_core.specs.ShardEvents as part
 use Rattle.shard_core.specs.Shards.{State}
 use Rattle.shard_core.specs.ShardSteps.{shard_answer, claim_answer, subscribe_answer, answer_fits, sub_called}
 use Rattle.node_law.specs.Answers.{node_answer, told_at, told_of_line, told_of_shard, told_of_hub}
-use Rattle.node_law.specs.Events.{OfConn, AtShard, Publish, Collect, Dial, Accept, CutSession, TakeFrames, NodeEvent, Own, Receive, OnInfo, OnConnect}
+use Rattle.node_law.specs.Events.{OfConn, AtShard, Publish, Collect, Drain, Dial, Accept, CutSession, TakeFrames, NodeEvent, Own, Receive, OnInfo, OnConnect}
 use Rattle.node_law.specs.Sound.{SoundNode}
 use Rattle.node_law.specs.State.{ShardWithJobs, Node}
 use Rattle.node_law.specs.Steps.{conn_line, shard_line, conn_event, work_event}
@@ -82,6 +82,7 @@ module _ (server : ServerIdentity) (now : ℕ) where
   by_shard s (part.Claim index won) = claimed s s.hand (candidate_of s s.hand index) won
   by_shard s part.End = refl
   by_shard s (part.DropJob waiting) = refl
+  by_shard s part.Drain = refl
   by_shard s part.Collect = refl
 
   by_line : (line : ShardWithJobs) (event : Option part.Event) → length (placements_put server now (put_if line event)) ≡ placed_by_answer (told_of_line line event)
@@ -105,6 +106,7 @@ by_node server now a (Own (OfConn conn event)) won = by_part server now (conn_li
 by_node server now a (Own (AtShard shard work)) won = by_part server now (shard_line a shard) (work_event work won)
 by_node server now a (Own (Publish p)) won = refl
 by_node server now a (Own (Collect shard)) won = refl
+by_node server now a (Own Drain) won = refl
 by_node server now a (Own (Dial q)) won = refl
 by_node server now a (Own Accept) won = refl
 by_node server now a (Own (CutSession session)) won = refl

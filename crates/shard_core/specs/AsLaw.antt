@@ -16,7 +16,7 @@ use Rattle.subj.specs.declared.keys.Key.{Key}
 use Rattle.shard_core.specs.Shards.{State}
 use Rattle.shard_core.specs.Closings.{serials_of}
 use Rattle.shard_core.specs.Owed.{whole_walk, candidate_of}
-use Rattle.shard_core.specs.ShardEvents.{Event, Attach, Subscribe, Unsubscribe, Reply, Shut, Detach, Take, Begin, Claim, End, DropJob, Collect}
+use Rattle.shard_core.specs.ShardEvents.{Event, Attach, Subscribe, Unsubscribe, Reply, Shut, Detach, Take, Begin, Claim, End, DropJob, Drain, Collect}
 use Rattle.shard_core.specs.ShardSteps.{sub_called, shard_refusal, shard_after}
 use Rattle.shard_core.specs.Lines.{SoundLine, HasJob, waiting_after}
 
@@ -70,6 +70,7 @@ RaceMoves window s (Begin job) race after = Keeps window race after
 RaceMoves window s (Claim index won) race after = ClaimMoves window index s.hand (candidate_of s s.hand index) won race after
 RaceMoves window s End race after = Keeps window race after
 RaceMoves window s (DropJob waiting) race after = Keeps window race after
+RaceMoves window s Drain race after = Keeps window race after
 RaceMoves window s Collect race after = Keeps window race after
 
 -- ---- who was given a message, for which job
@@ -92,6 +93,7 @@ given_by s (Begin job) = (whole_walk s job).given
 given_by s (Claim index won) = given_by_claim s.hand (candidate_of s s.hand index) won
 given_by s End = []
 given_by s (DropJob waiting) = []
+given_by s Drain = []
 given_by s Collect = []
 
 abbrev pub job_by : State → Event → Option Job
@@ -106,6 +108,7 @@ job_by s (Begin job) = Some job
 job_by s (Claim index won) = s.hand
 job_by s End = None
 job_by s (DropJob waiting) = None
+job_by s Drain = None
 job_by s Collect = None
 
 -- just these subscriptions, each once, in any order
@@ -132,6 +135,7 @@ lives_by n inc now place s (Begin job) = []
 lives_by n inc now place s (Claim index won) = []
 lives_by n inc now place s End = []
 lives_by n inc now place s (DropJob waiting) = []
+lives_by n inc now place s Drain = []
 lives_by n inc now place s Collect = []
 
 abbrev pub placements_for : Naming → ℕ → ℕ → ℕ → ℕ → Option Job → List Subscription → List history.Placement

@@ -58,6 +58,7 @@ shard first second third subs = record {
   next_index = 0;
   clients = client 1 first ∷ client 2 second ∷ client 3 third ∷ [];
   subs = subs;
+  draining = false;
   deltas = [];
 }
 

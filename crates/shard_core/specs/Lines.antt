@@ -4,7 +4,7 @@ use Rattle.list_laws.specs.Lists.{Each, Pairs}
 use Rattle.subj.specs.declared.jobs.Job.{Job}
 use Rattle.shard_core.specs.Shards.{State}
 use Rattle.shard_core.specs.Closings.{serials_of}
-use Rattle.shard_core.specs.ShardEvents.{Event, Attach, Subscribe, Unsubscribe, Reply, Shut, Detach, Take, Begin, Claim, End, DropJob, Collect}
+use Rattle.shard_core.specs.ShardEvents.{Event, Attach, Subscribe, Unsubscribe, Reply, Shut, Detach, Take, Begin, Claim, End, DropJob, Drain, Collect}
 
 -- the turns of the jobs that wait follow one another, up to the last one issued
 abbrev pub Turns : ℕ → List Job → ℕ → Type 0
@@ -48,6 +48,7 @@ HasJob hand (Claim index won) waiting = Unit {0}
 HasJob hand End waiting = Unit {0}
 HasJob (Some job) (DropJob next) waiting = next ≡ None
 HasJob None (DropJob next) waiting = (job : Job) × (next ≡ Some job) × (first_of waiting ≡ Some job)
+HasJob hand Drain waiting = Unit {0}
 HasJob hand Collect waiting = Unit {0}
 
 abbrev pub waiting_after : Option Job → Event → List Job → List Job
@@ -63,4 +64,5 @@ waiting_after hand (Claim index won) waiting = waiting
 waiting_after hand End waiting = waiting
 waiting_after (Some job) (DropJob next) waiting = waiting
 waiting_after None (DropJob next) waiting = rest_of waiting
+waiting_after hand Drain waiting = waiting
 waiting_after hand Collect waiting = waiting

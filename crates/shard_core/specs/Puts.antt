@@ -8,7 +8,7 @@ use Rattle.subj.specs.declared.jobs.Job.{Job}
 use Rattle.shard_core.specs.declared.calls.Placed.{Placed}
 use Rattle.shard_core.specs.Shards.{State, waits_for}
 use Rattle.shard_core.specs.Owed.{Walk, whole_walk, slow_consumer, candidate_of, placed_for}
-use Rattle.shard_core.specs.ShardEvents.{Event, Attach, Subscribe, Unsubscribe, Reply, Shut, Detach, Take, Begin, Claim, End, DropJob, Collect}
+use Rattle.shard_core.specs.ShardEvents.{Event, Attach, Subscribe, Unsubscribe, Reply, Shut, Detach, Take, Begin, Claim, End, DropJob, Drain, Collect}
 use Rattle.shard_core.specs.ShardSteps.{answer_fits, shard_refusal, shard_after}
 
 -- a line that answers a client, or that it is shut with
@@ -36,6 +36,7 @@ put_by s (Begin job) = put_by_walk s job (whole_walk s job)
 put_by s (Claim index won) = put_by_claim s s.hand (candidate_of s s.hand index) won
 put_by s End = []
 put_by s (DropJob waiting) = []
+put_by s Drain = []
 put_by s Collect = []
 
 -- the entries put for one connection
@@ -56,6 +57,7 @@ kept_of (Begin job) conn entries = entries
 kept_of (Claim index won) conn entries = entries
 kept_of End conn entries = entries
 kept_of (DropJob waiting) conn entries = entries
+kept_of Drain conn entries = entries
 kept_of Collect conn entries = entries
 
 -- what an event that is not refused shows in the outbox of each connection

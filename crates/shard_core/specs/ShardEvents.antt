@@ -25,6 +25,8 @@ pub data Event : Type 0 where
   -- The job in hand is done without the rest of it. Where none is in hand, the job that waits is handed over and done unbegun:
   -- a shard does not hold its line.
   DropJob : (waiting : Option Job) → Event
+  -- no subscription is taken any more
+  Drain : Event
   -- the deltas are handed to the hub
   Collect : Event
 
@@ -47,4 +49,5 @@ pub data Answer : Type 0 where
   Finished : Answer
   -- the job that is done
   Dropped : (job : Option Job) → Answer
+  Drains : Answer
   Collected : (deltas : List Delta) → Answer

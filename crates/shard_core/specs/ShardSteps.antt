@@ -12,11 +12,11 @@ use Rattle.subj.specs.declared.jobs.Job.{Job}
 use Rattle.subj.specs.declared.keys.Key.{Key}
 use Rattle.subj.specs.declared.limits.TheConstants.{MAX_COUNTER, MAX_SERIAL, SUBSCRIPTIONS, SUBSCRIPTION_BYTES, OUTBOX_ENTRIES, OUTBOX_BYTES}
 use Rattle.shard_core.specs.declared.faults.ShardFault.{ShardFault}
-use Rattle.shard_core.specs.declared.faults.ShardFault.TheVariants.{NoConn, JobInHand, NoJob, WrongTurn, TooManySubs, BadIndex, NotAllTried, Spent}
+use Rattle.shard_core.specs.declared.faults.ShardFault.TheVariants.{NoConn, JobInHand, NoJob, WrongTurn, TooManySubs, BadIndex, NotAllTried, Spent, Draining}
 use Rattle.shard_core.specs.Shards.{State, Client, is_open, is_known, client_at, clients_with_change, without_client, fits, waits_for}
 use Rattle.shard_core.specs.Closings.{id_of, left_of, without_subs, ended_ids}
 use Rattle.shard_core.specs.Owed.{Walk, whole_walk, after_begin, slow_consumer, candidate_of, after_claim, placed_for, ended_by}
-use Rattle.shard_core.specs.ShardEvents.{Event, Attach, Subscribe, Unsubscribe, Reply, Shut, Detach, Take, Begin, Claim, End, DropJob, Collect, Answer, Attached, Opened, AlreadyOpen, Unsubscribed, Replied, WasShut, Detached, Taken, Began, Nobody, Lost, Won, Finished, Dropped, Collected}
+use Rattle.shard_core.specs.ShardEvents.{Event, Attach, Subscribe, Unsubscribe, Reply, Shut, Detach, Take, Begin, Claim, End, DropJob, Drain, Collect, Answer, Attached, Opened, AlreadyOpen, Unsubscribed, Replied, WasShut, Detached, Taken, Began, Nobody, Lost, Won, Finished, Dropped, Drains, Collected}
 
 -- what the connection calls by this id
 abbrev pub sub_called : ℕ → List ℕ → List Subscription → Option Subscription
@@ -36,13 +36,14 @@ open_refusal s conn = if is_open conn s.clients then None else Some NoConn
 abbrev pub known_refusal : State → ℕ → Option ShardFault
 known_refusal s conn = if is_known conn s.clients then None else Some NoConn
 
--- a sid that is open is told before the limits
+-- a sid that is open is told before the limits, and a drain before the sid
 abbrev pub subscribe_refusal : State → ℕ → Key → List ℕ → Option ShardFault
 subscribe_refusal s conn key sid =
     if not (is_open conn s.clients) then Some NoConn
+    else (if s.draining then Some Draining
     else (if is_some (sub_called conn sid s.subs) then None
     else (if is_full s key then Some TooManySubs
-    else (if nat_le MAX_SERIAL s.opened then Some Spent else None)))
+    else (if nat_le MAX_SERIAL s.opened then Some Spent else None))))
 
 abbrev pub begin_refusal : State → Job → Option ShardFault
 begin_refusal s job =
@@ -70,6 +71,7 @@ shard_refusal s (Begin job) = begin_refusal s job
 shard_refusal s (Claim index won) = claim_refusal s index s.hand
 shard_refusal s End = end_refusal s s.hand
 shard_refusal s (DropJob waiting) = None
+shard_refusal s Drain = if s.draining then Some Draining else None
 shard_refusal s Collect = None
 
 -- ---- the state after an event that is not refused
@@ -133,6 +135,7 @@ shard_after s (Begin job) = after_begin s job
 shard_after s (Claim index won) = after_claim s s.hand (candidate_of s s.hand index) won
 shard_after s End = done_with s s.hand
 shard_after s (DropJob waiting) = done_with s (option_or s.hand waiting)
+shard_after s Drain = record s { draining = true }
 shard_after s Collect = record s { deltas = [] }
 
 -- ---- what is answered
@@ -169,6 +172,7 @@ shard_answer s (Begin job) = begin_answer s job (whole_walk s job)
 shard_answer s (Claim index won) = claim_answer s s.hand (candidate_of s s.hand index) won
 shard_answer s End = Finished
 shard_answer s (DropJob waiting) = Dropped (option_or s.hand waiting)
+shard_answer s Drain = Drains
 shard_answer s Collect = Collected s.deltas
 
 -- ---- who is told: the connections that an event shut, and the subscriptions that an answer tells closed, in order
@@ -185,6 +189,7 @@ shut_by s (Begin job) = (whole_walk s job).shut
 shut_by s (Claim index won) = []
 shut_by s End = []
 shut_by s (DropJob waiting) = []
+shut_by s Drain = []
 shut_by s Collect = []
 
 abbrev pub ended_of : Answer → List SubId
@@ -202,6 +207,7 @@ ended_of Lost = []
 ended_of (Won sub placed ended) = ended
 ended_of Finished = []
 ended_of (Dropped job) = []
+ended_of Drains = []
 ended_of (Collected deltas) = []
 
 -- ---- the step
@@ -225,6 +231,7 @@ IsAsked s (Begin job) = Unit {0}
 IsAsked s (Claim index won) = Unit {0}
 IsAsked s End = Unit {0}
 IsAsked s (DropJob waiting) = IsHanded s.finished s.hand waiting
+IsAsked s Drain = Unit {0}
 IsAsked s Collect = Unit {0}
 
 -- an event is done,

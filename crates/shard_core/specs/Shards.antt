@@ -15,8 +15,8 @@ pub record Client : Type 0 where
 
 -- A shard of a server (profile): which of how many it is, counted from 1; the number of its next connection; how many
 -- subscriptions it has opened; the last turn that it finished; the job that it works off, and the index of the queue name
--- to be claimed next there; its connections in order of attaching; its open subscriptions in order of opening; and the
--- openings and closings that the hub was not told of yet, in order.
+-- to be claimed next there; its connections in order of attaching; its open subscriptions in order of opening; whether
+-- it drains, and takes no more of them; and the openings and closings that the hub was not told of yet, in order.
 pub record State : Type 0 where
   pub shard : ℕ
   pub shards : ℕ
@@ -27,11 +27,12 @@ pub record State : Type 0 where
   pub next_index : ℕ
   pub clients : List Client
   pub subs : List Subscription
+  pub draining : Bool
   pub deltas : List Delta
 
 -- a shard without connections; it numbers them s, s + K, s + 2K, .. (profile)
 abbrev pub new_shard : ℕ → ℕ → State
-new_shard shard shards = record { shard = shard; shards = shards; next_conn = shard; opened = 0; finished = 0; hand = None; next_index = 0; clients = []; subs = []; deltas = [] }
+new_shard shard shards = record { shard = shard; shards = shards; next_conn = shard; opened = 0; finished = 0; hand = None; next_index = 0; clients = []; subs = []; draining = false; deltas = [] }
 
 -- ---- connections
 

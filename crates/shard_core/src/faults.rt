@@ -32,6 +32,9 @@ pub enum ShardFault {
     /// A counter has come to its limit.
     #[error("a counter has come to its limit")]
     Spent = 57,
+    /// The shard drains: it takes no subscription any more.
+    #[error("the shard drains")]
+    Draining = 59,
 }
 
 impl ShardFault {

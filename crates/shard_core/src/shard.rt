@@ -15,7 +15,7 @@ ghost use Rattle.shard_core.specs.Held.{DoesStep, IsLeft, Chooses, Stands, held_
 ghost use Rattle.shard_core.specs.Opened.{AreApart, AreRising, with_closings};
 ghost use Rattle.shard_core.specs.Room.{has_room_for as room_for_all};
 ghost use Rattle.shard_core.specs.Shards.{new_shard, clients_with_change, client_at, fits, is_open as opened, waits_for};
-ghost use Rattle.shard_core.specs.ShardEvents.{Attach, Subscribe, Unsubscribe, Reply, Shut, Detach, Take, Begin, Claim, End, DropJob, Collect, Attached, Unsubscribed, Replied, WasShut, Detached, Taken, Finished, Dropped, Collected};
+ghost use Rattle.shard_core.specs.ShardEvents.{Attach, Subscribe, Unsubscribe, Reply, Shut, Detach, Take, Begin, Claim, End, DropJob, Drain, Drains, Collect, Attached, Unsubscribed, Replied, WasShut, Detached, Taken, Finished, Dropped, Collected};
 ghost use Rattle.shard_core.specs.ShardSteps.{shard_refusal, sub_called as call, ended_now, IsHanded};
 
 mod refusals;
@@ -194,6 +194,8 @@ pub struct Shard<T: SubTable> {
     next_index: u64,
     conns: Conns,
     openings: Openings<T>,
+    /// Whether no subscription is taken any more.
+    draining: bool,
     /// The serial of the candidate that stands, whose entry is staged.
     chosen: Option<u64>,
     /// The memory of a walk, used again by the next.
@@ -218,6 +220,7 @@ impl<T: SubTable> Model for Shard<T> {
         next_index = s.next_index;
         clients = s.conns.shown;
         subs = s.openings.subs;
+        draining = s.draining;
         deltas = s.openings.deltas;
       };
       chosen = with_serial s.chosen s.openings.subs;
@@ -233,6 +236,7 @@ impl<T: SubTable> Model for Shard<T> {
       next_index = s.next_index;
       clients = s.conns.shown;
       subs = s.openings.subs;
+      draining = s.draining;
       deltas = s.openings.deltas;
     }) (with_serial s.chosen s.openings.subs) s.conns.next };
 }
@@ -257,6 +261,7 @@ impl<T: SubTable> Shard<T> {
             next_index: 0,
             conns: Conns::new(alloc),
             openings,
+            draining: false,
             chosen: None,
             buffer: DeliveryBuffer::new(alloc, shard),
             dirty_conns: DirtyConns::new(alloc),
@@ -279,8 +284,9 @@ impl<T: SubTable> Shard<T> {
     }
 
     /// Opens a subscription, and notes it for the hub, unless the connection has one of this id open.
-    /// Refused with [`ShardFault::NoConn`] where the connection is not there or shut; then, where the id
-    /// is not open, with [`ShardFault::TooManySubs`] at the shard's share of [`SUBSCRIPTIONS`] or of
+    /// Refused with [`ShardFault::NoConn`] where the connection is not there or shut, and with
+    /// [`ShardFault::Draining`] where the shard drains; then, where the id is not open, with
+    /// [`ShardFault::TooManySubs`] at the shard's share of [`SUBSCRIPTIONS`] or of
     /// [`SUBSCRIPTION_BYTES`], and with [`ShardFault::Spent`] past [`MAX_SERIAL`] openings.
     pub fn subscribe(
         &mut self,
@@ -309,6 +315,19 @@ impl<T: SubTable> Shard<T> {
             shard: self.shard,
             serial,
         }))
+    }
+
+    /// Takes no subscription any more; what is open stays. Refused with [`ShardFault::Draining`] where the shard
+    /// drains already. Takes no memory. (Profile.)
+    pub fn drain(&mut self) -> Result<(), ShardFault>
+        ensures { IsDecided (shard_refusal self.old.state Drain) (λ _. DoesStep self.old Drain Drains self.new) (IsLeft self.old self.new) result }
+    {
+        drop_candidate(&mut self.conns, &mut self.chosen);
+        if self.draining {
+            return Err(ShardFault::Draining);
+        }
+        self.draining = true;
+        Ok(())
     }
 
     /// Closes what the connection calls by this id: at once, or, with a maximum, once so many messages

@@ -1,5 +1,5 @@
 -- What a shard puts for the jobs that it works: for a subscription those of later jobs come later, and for a queue name of a job one at most.
-use Rattle.std.proofs.Common.{◌≡◌, ◌≢◌, ◌⊎◌, ℕ, ◌+◌, ◌<◌, ◌≤◌, Bool, true, false, true≢false, ◌&&◌, cond, nat_eq, nat_lt, List, [], ◌∷◌, ◌++◌, map, filter, length, Option, Some, None, Ok, is_some, not, refl, sym, ap, ◌∙◌, subst, inl, ⊎_elim, arith}
+use Rattle.std.proofs.Common.{◌≡◌, ◌≢◌, ℕ, ◌+◌, ◌<◌, ◌≤◌, Bool, true, false, true≢false, ◌&&◌, cond, nat_eq, nat_lt, List, [], ◌∷◌, ◌++◌, map, filter, length, Option, Some, None, Ok, is_some, not, refl, sym, ap, ◌∙◌, subst, inl, ⊎_elim, arith}
 use Rattle.std.specs.Prelude.{slice_get, is_none, option_to_list, if◌then◌else◌}
 use Rattle.std.specs.Option.{option_or}
 use Rattle.std.proofs.lemmas.Option.{none-some, same_Some}
@@ -16,7 +16,7 @@ use Rattle.shard_core.specs.Causes.{AreHeld, sub_after, IsOpening}
 use Rattle.shard_core.specs.Closings.{id_of}
 use Rattle.shard_core.specs.Opened.{AreRising}
 use Rattle.shard_core.specs.Owed.{candidate_of, candidate_named, after_claim, first_step, is_due, is_plain, is_wanted, mode_of, placed_for, after_put, after_try, whole_walk}
-use Rattle.shard_core.specs.ShardEvents.{Event, Attach, Subscribe, Unsubscribe, Reply, Shut, Detach, Take, Begin, Claim, End, DropJob, Collect}
+use Rattle.shard_core.specs.ShardEvents.{Event, Attach, Subscribe, Unsubscribe, Reply, Shut, Detach, Take, Begin, Claim, End, DropJob, Drain, Collect}
 use Rattle.shard_core.specs.ShardSteps.{IsAsked, IsHanded, answer_fits, begin_refusal, sub_called, claim_refusal, claim_answer, done_with, end_refusal, ended_now, new_sub, shard_refusal, shard_after, shard_answer, after_subscribe, subscribe_answer, after_unsubscribe}
 use Rattle.shard_core.specs.Shards.{State, new_shard}
 use Rattle.shard_core.specs.declared.calls.Placed.{Placed}
@@ -56,6 +56,7 @@ gave_in s (Begin job) = map (plain_to job) (whole_walk s job).given
 gave_in s (Claim index won) = gave_by_claim s.hand (candidate_of s s.hand index) won
 gave_in s End = []
 gave_in s (DropJob waiting) = []
+gave_in s Drain = []
 gave_in s Collect = []
 
 abbrev pub gave_by : List Done → List Gave
@@ -92,6 +93,7 @@ step_tags s (Begin job) = map_map (placed_for s.shard job None) (λ (p : Placed)
 step_tags s (Claim index won) = claim_tags s s.hand (candidate_of s s.hand index) won
 step_tags s End = refl
 step_tags s (DropJob waiting) = refl
+step_tags s Drain = refl
 step_tags s Collect = refl
 
 -- ---- what holds of them
@@ -145,6 +147,7 @@ key_after s e g held free low key u i same = ⊎_elim
     opens (Claim index won) x = absurd x
     opens End x = absurd x
     opens (DropJob waiting) x = absurd x
+    opens Drain x = absurd x
     opens Collect x = absurd x
 
 held_after : (s : State) (e : Event) → AreHeld s → shard_refusal s e ≡ None → IsAsked s e → AreHeld (shard_after s e)
@@ -429,6 +432,7 @@ module _ (s : State) (gs : List Gave) (jobs : List Job) (wins : List (ℕ × ℕ
   given_step (Claim index won) free asked = claimed_given s index won gs jobs wins g free apart
   given_step End free asked = let o = ended free in job_over s End gs jobs wins g free asked [] [] o.none o.finished
   given_step (DropJob waiting) free asked = let o = dropped waiting asked in job_over s (DropJob waiting) gs jobs wins g free asked (option_to_list waiting) [] o.none o.finished
+  given_step Drain free asked = calm Drain free asked (record { hand = refl; finished = refl; next = refl })
   given_step Collect free asked = calm Collect free asked (record { hand = refl; finished = refl; next = refl })
 
 -- ---- each run

@@ -9,7 +9,6 @@ use Rattle.subj.specs.declared.identities.SubId.{SubId}
 use Rattle.subj.specs.declared.jobs.Job.{Job}
 use Rattle.outbox.specs.declared.entries.Mode.{Mode}
 use Rattle.outbox.specs.declared.entries.Mode.TheVariants.{Plain, Queue}
-use Rattle.outbox.specs.declared.entries.Tag.{Tag}
 use Rattle.outbox.specs.declared.entries.Tag.TheVariants.{Msg}
 use Rattle.shard_core.specs.Owed.{mode_of}
 use Rattle.shard_core.specs.declared.calls.Placed.{Placed}

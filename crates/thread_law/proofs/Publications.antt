@@ -1,5 +1,5 @@
 -- The publications of one incarnation are given to the shards in rising number.
-use Rattle.std.proofs.Common.{◌≡◌, ◌≢◌, ◌⊎◌, ℕ, zero, suc, ◌+◌, ◌<◌, ◌≤◌, Bool, true, false, cond, nat_lt, nat_le, List, [], ◌∷◌, ◌++◌, map, drop, Option, Some, None, refl, sym, ap, ◌∙◌, subst, ⊎_elim, arith}
+use Rattle.std.proofs.Common.{◌≡◌, ◌≢◌, ℕ, zero, suc, ◌+◌, ◌<◌, ◌≤◌, Bool, true, false, cond, nat_lt, nat_le, List, [], ◌∷◌, ◌++◌, map, drop, Option, Some, None, refl, sym, ap, ◌∙◌, subst, ⊎_elim, arith}
 use Rattle.std.specs.Prelude.{slice_get, if◌then◌else◌}
 use Rattle.std.specs.Option.{option_or}
 use Rattle.std.proofs.lemmas.Option.{none-some, same_Some}
@@ -22,7 +22,7 @@ use Rattle.hub_core.specs.Receiving.{has_message, body_fault, routed_job, told_b
 use Rattle.hub_core.specs.State as hub
 use Rattle.hub_core.specs.State.{Peer, peer_in_life, changed_in, changed_at}
 use Rattle.hub_core.specs.Steps.{received_answer}
-use Rattle.hub_core.specs.Telling.{without_slow, count_of_changes, after_collect, collect_frames}
+use Rattle.hub_core.specs.Telling.{without_slow, count_of_changes, after_collect, collect_frames, after_drain, drain_frames}
 use Rattle.hub_core.specs.declared.faults.HubFault.TheVariants as fault
 use Rattle.hub_core.proofs.Choices.Places.{named}
 use Rattle.hub_core.proofs.Steps.Receives.{FromPeer, from_peer}
@@ -262,6 +262,9 @@ past_hub s (of_hub.Collect shard deltas) jobs past free asked =
     let count = count_of_changes s.hub deltas in
     quiet s (after_collect s.server s.hub deltas) (sessions_with s (of_hub.Collect shard deltas)) jobs
     (peers_go s (after_collect s.server s.hub deltas) refl refl (on_both s.hub.peers (map (without_slow count) s.hub.peers) (with_frames s.server (collect_frames s.server s.hub deltas) 0 (map (without_slow count) s.hub.peers)) (slow_on count s.hub.peers) (frames_on s.server (collect_frames s.server s.hub deltas) 0 (map (without_slow count) s.hub.peers)))) past
+past_hub s of_hub.Drain jobs past free asked =
+    quiet s (after_drain s.server s.hub) (sessions_with s of_hub.Drain) jobs
+    (peers_go s (after_drain s.server s.hub) refl refl (on_both s.hub.peers (map (without_slow 1) s.hub.peers) (with_frames s.server (drain_frames s.server s.hub) 0 (map (without_slow 1) s.hub.peers)) (slow_on 1 s.hub.peers) (frames_on s.server (drain_frames s.server s.hub) 0 (map (without_slow 1) s.hub.peers)))) past
 past_hub s (of_hub.Up q inc) jobs past free asked = absurd asked
 past_hub s (of_hub.Cut q) jobs past free asked = absurd asked
 past_hub s (of_hub.TakeFrom q count) jobs past free asked = quiet s (taken_from s.hub q count) s.sessions jobs (peers_go s (taken_from s.hub q count) refl refl (changed_on (λ peer. record peer { outbox = drop count peer.outbox }) q s.hub.peers (λ p at. stays p _ refl refl))) past

@@ -33,6 +33,7 @@ by_step : (s : HubWithSessions) (e : Event) (job : Job) → In job (job_in (side
 by_step s (ByHub (of_hub.Publish p finished)) job i = one_given s.server (ByHub (of_hub.Publish p finished)) _ job (refl, refl) i
 by_step s (ByHub (of_hub.Receive frame finished)) job i = by_frame s frame finished job frame.body i
 by_step s (ByHub (of_hub.Collect shard deltas)) job i = absurd i
+by_step s (ByHub of_hub.Drain) job i = absurd i
 by_step s (ByHub (of_hub.Up q inc)) job i = absurd i
 by_step s (ByHub (of_hub.Cut q)) job i = absurd i
 by_step s (ByHub (of_hub.TakeFrom q count)) job i = absurd i

@@ -12,7 +12,7 @@ use Rattle.outbox.specs.declared.entries.Tag.TheVariants.{Msg}
 use Rattle.hub_core.specs.Events as of_hub
 use Rattle.node_parts.specs.Sides.{Event, ByHub, BySessions, job_in}
 use Rattle.node_parts.specs.Sides as side
-use Rattle.shard_core.specs.ShardEvents.{Answer, Attached, Opened, AlreadyOpen, Unsubscribed, Replied, WasShut, Detached, Taken, Began, Nobody, Lost, Won, Finished, Dropped, Collected}
+use Rattle.shard_core.specs.ShardEvents.{Answer, Attached, Opened, AlreadyOpen, Unsubscribed, Replied, WasShut, Detached, Taken, Began, Nobody, Lost, Won, Finished, Dropped, Drains, Collected}
 use Rattle.shard_core.specs.declared.calls.Placed.{Placed}
 use Rattle.node_threads.specs.Steps.{Done}
 use Rattle.thread_law.specs.Runs.{HubRun, ShardRun, IsLegal}
@@ -28,6 +28,7 @@ abbrev pub BringsToHub : ServerIdentity → of_hub.Event → PubId → Type 0
 BringsToHub server (of_hub.Publish p finished) id = (id.origin ≡ own_name server) × (id.inc ≡ server.inc)
 BringsToHub server (of_hub.Receive frame finished) id = id ≡ record { origin = frame.from; inc = frame.inc; number = frame.number }
 BringsToHub server (of_hub.Collect shard deltas) id = ⊥
+BringsToHub server of_hub.Drain id = ⊥
 BringsToHub server (of_hub.Up peer inc) id = ⊥
 BringsToHub server (of_hub.Cut peer) id = ⊥
 BringsToHub server (of_hub.TakeFrom peer count) id = ⊥
@@ -60,6 +61,7 @@ placed_in Lost = []
 placed_in (Won sub placed ended) = placed ∷ []
 placed_in Finished = []
 placed_in (Dropped job) = []
+placed_in Drains = []
 placed_in (Collected deltas) = []
 
 -- by all steps of a shard, in order

@@ -4,3 +4,5 @@ pub mod Parts
 pub mod Refusing
 -- what is kept in writing of what the hub did
 pub mod HubTapes
+-- a drain of the hub and of each shard
+pub mod Drains

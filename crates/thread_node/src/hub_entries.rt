@@ -28,6 +28,8 @@ pub enum HubEvent {
         shard: u64,
         deltas: Deltas,
     },
+    /// The peers were told that the server has no interest any more.
+    Drain,
     /// The first frames that waited for the peer were taken, at most so many.
     TakeFrames {
         peer: usize,
@@ -66,7 +68,7 @@ pub enum HubTold {
     Routed(Turn),
     /// News of a peer: the number of the last change of interest that is known now.
     Heard(u64),
-    /// The deltas of a shard: how many changes of interest the peers are told, and how many peers were cut.
+    /// The deltas of a shard, or a drain: how many changes of interest the peers are told, and how many peers were cut.
     Collected { changes: usize, cut: usize },
     /// How many frames were taken for a peer.
     Taken(usize),

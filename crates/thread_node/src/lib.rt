@@ -9,7 +9,7 @@
 //! ```
 //!
 //! In reading order: `parts` is what a server is made of, `locked_hub` and `locked_shard` what stands under its locks, `node` the server with
-//! its locks and its threads, and `serving` the calls that the connections of a server make while a lock is held. What is written down
+//! its locks and its threads, `drains` how all of it drains, and `serving` the calls that the connections of a server make while a lock is held. What is written down
 //! under a lock is `keeping` and `hub_entries`.
 //!
 //! No call here tells a caller's pass, and none ends a server with a report: `thread_report` does, above the same locks. It
@@ -17,6 +17,7 @@
 //! under the locks (`into_locked`, and of each its state and its tape, `into_parts`).
 #![tactic(auto)]
 
+mod drains;
 mod hub_entries;
 mod keeping;
 mod locked_hub;
@@ -25,6 +26,7 @@ mod node;
 mod parts;
 mod serving;
 
+pub use drains::drain_shards;
 pub use hub_entries::{HubEntry, HubEvent, HubTold};
 pub use keeping::{copy_of_pub, count_of, length_of, told_received, told_subscribed};
 pub use locked_hub::LockedHub;

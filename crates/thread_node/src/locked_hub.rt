@@ -4,8 +4,9 @@ ghost use Rattle.std.specs.Prelude.{◌≡◌, []};
 ghost use Rattle.std.specs.Arc.{arc_value};
 ghost use Rattle.subj.specs.Answers.{IsAnswered, IsDecided};
 ghost use Rattle.hub_core.specs.Chosen.{publication_by};
-ghost use Rattle.hub_core.specs.Events.{TakeFrom, Taken};
+ghost use Rattle.hub_core.specs.Events.{Drain, Drained, TakeFrom, Taken};
 ghost use Rattle.hub_core.specs.Steps.{hub_refusal};
+ghost use Rattle.hub_core.specs.Telling.{drain_frames};
 ghost use Rattle.route_session.specs.Events.{Dial, Accept, OnInfo, OnConnect, Cut, Dialed, Accepted, KeptAfterInfo, Kept as WasKept, WasCut};
 ghost use Rattle.route_session.specs.Steps.{session_refusal};
 ghost use Rattle.subj.specs.Servers.{ServerIdentity};
@@ -213,6 +214,19 @@ impl<N: NodeName> LockedHub<N> {
         };
         note_heard(&mut self.tape, number, heard, answer);
         Ok(told)
+    }
+
+    /// [`HubState::drain`].
+    pub fn drain(&mut self) -> Result<Vec<usize>, Failure<HubFault>>
+        ensures { IsAnswered (hub_refusal self.old.side.server self.old.side.hub Drain) (λ cut. Does self.old (ByHub Drain) (OfHub (Drained (drain_frames self.old.side.server self.old.side.hub) cut.items)) self.new) (self.new ≡ self.old) result }
+    {
+        let cut = self.state.drain()?;
+        let answer = HubTold::Collected {
+            changes: 1,
+            cut: length_of(&cut),
+        };
+        note_hub(&mut self.tape, Some(HubEvent::Drain), answer);
+        Ok(cut)
     }
 
     /// [`HubState::take_frames`].

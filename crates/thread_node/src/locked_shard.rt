@@ -4,7 +4,7 @@ ghost use Rattle.std.specs.Prelude.{◌≡◌, option_to_list};
 ghost use Rattle.std.specs.Arc.{arc_value};
 ghost use Rattle.subj.specs.Answers.{IsAnswered, IsDecided};
 ghost use Rattle.shard_core.specs.Answers.{answer_of};
-ghost use Rattle.shard_core.specs.ShardEvents.{Attach, Subscribe, Unsubscribe, Reply, Shut, Detach, Take, Attached, Unsubscribed, Replied, WasShut, Detached, Taken};
+ghost use Rattle.shard_core.specs.ShardEvents.{Attach, Subscribe, Unsubscribe, Reply, Shut, Detach, Take, Drain, Drains, Attached, Unsubscribed, Replied, WasShut, Detached, Taken};
 ghost use Rattle.shard_core.specs.Shards.{is_open as opened};
 ghost use Rattle.shard_core.specs.ShardSteps.{shard_refusal};
 ghost use Rattle.node_threads.specs.AtWork.{Does, TakesBytes, at_start};
@@ -144,6 +144,15 @@ impl<T: SubTable, N: NodeName> LockedShard<T, N> {
         };
         note_shard(&mut self.tape, Some(event), told);
         Ok(closed)
+    }
+
+    /// [`ShardState::drain`].
+    pub fn drain(&mut self) -> Result<(), ShardFault>
+        ensures { IsDecided (shard_refusal self.old.state Drain) (λ _. Does self.old Drain Drains self.new) (self.new ≡ self.old) result }
+    {
+        self.state.drain()?;
+        note_shard(&mut self.tape, Some(ShardEvent::Drain), ShardTold::Drained);
+        Ok(())
     }
 
     /// [`ShardState::shut`].

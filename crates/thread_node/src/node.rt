@@ -8,6 +8,7 @@ ghost use Rattle.thread_node.specs.Parts.{IsNamed};
 ghost use Rattle.claim_cells.specs.Rule.{fresh_hub};
 ghost use Rattle.thread_node.specs.Refusing.{AnswersAt, DecidesAt, has_conn, has_shard, is_own};
 
+use crate::drains::drain_shards;
 use crate::locked_hub::LockedHub;
 use crate::locked_shard::LockedShard;
 use crate::parts::{Parts, ShardParts};
@@ -421,6 +422,35 @@ impl<T: SubTable, N: NodeName> ThreadNode<T, N> {
             return Err(NO_SHARD);
         };
         answered_by_hub(hub.collect(&mut shard))
+    }
+
+    /// [`HubState::drain`](node_threads::HubState::drain). May wait.
+    pub fn drain_hub<R: Wait>(&self, rt: &R) -> Result<Vec<usize>, Failure<HubFault>> {
+        self.hub(rt).drain()
+    }
+
+    /// [`ShardState::drain`](node_threads::ShardState::drain), of the shard of this number. Refused with
+    /// [`NodeFault::NoShard`] first. May wait.
+    pub fn drain_shard<R: Wait>(&self, rt: &R, shard: u64) -> Result<(), NodeFault>
+        ensures { DecidesAt (has_shard N.race shard) result }
+    {
+        let Some(mut shard) = self.shard(rt, shard) else {
+            return Err(NodeFault::NoShard);
+        };
+        decided_by_shard(shard.drain())
+    }
+
+    /// Drains the hub, and then each shard, each under a lock of its own: [`drain_shards`]. Those that drain already are
+    /// passed over, so a later call makes the rest. Gives the peers that the hub cut, and None where it drained already. Refused with
+    /// [`HubFault::Draining`] where all did, and with [`HubFault::Spent`] as the hub is; that, and want of memory, come
+    /// before any shard drains. May wait.
+    pub fn drain<R: Wait>(&self, rt: &R) -> Result<Option<Vec<usize>>, Failure<NodeFault>> {
+        let told = self.drain_hub(rt);
+        drain_shards(
+            told,
+            self.shards(),
+            |shard| self.drain_shard(rt, shard).is_ok(),
+        )
     }
 
     /// [`ShardState::turn`](node_threads::ShardState::turn), of the shard of this number; None where the server has no such shard.

@@ -10,6 +10,7 @@ use client_conn::Refusal;
 use client_frames::{ErrText, ReplyFrame};
 use client_refusals::{refusal_of_hub, refusal_of_shard};
 use hub_core::{CollectResult, HubFault};
+use node_law::NodeFault;
 use node_threads::{NodeName, Open, Turned};
 use route_session::{SessionFault, SessionId};
 use route_values::{Numbered, RouteConnect, RouteInfo};
@@ -58,6 +59,17 @@ fn collected<T: SubTable, N: NodeName>(
     }
     match hub.collect(shard) {
         Ok(told) => Ok(Some(told)),
+        Err(Failure::Refused(_)) => Ok(None),
+        Err(Failure::OutOfMemory) => Err(AllocError),
+    }
+}
+
+/// What a drain told: the servers that are cut, or None where it is refused.
+fn drained(
+    told: Result<Option<Vec<usize>>, Failure<NodeFault>>,
+) -> Result<Option<Vec<usize>>, AllocError> {
+    match told {
+        Ok(cut) => Ok(cut),
         Err(Failure::Refused(_)) => Ok(None),
         Err(Failure::OutOfMemory) => Err(AllocError),
     }
@@ -272,5 +284,10 @@ impl<'n, T: SubTable, N: NodeName> ServerCalls for &'n ThreadNode<T, N> {
             return Ok(None);
         };
         collected(&mut hub_guard, &mut shard_guard)
+    }
+
+    fn drain<R: Wait>(&self, rt: &R) -> Result<Option<Vec<usize>>, AllocError> {
+        let node: &'n ThreadNode<T, N> = *self;
+        drained(node.drain(rt))
     }
 }

@@ -12,7 +12,7 @@ use Rattle.hub_core.specs.Publishing.{after_publish}
 use Rattle.hub_core.specs.Receiving.{after_receive}
 use Rattle.hub_core.specs.State as hub
 use Rattle.hub_core.specs.Steps.{received_answer}
-use Rattle.hub_core.specs.Telling.{after_collect}
+use Rattle.hub_core.specs.Telling.{after_collect, after_drain}
 use Rattle.node_law.specs.Steps.{cut_if}
 use Rattle.route_session.specs.Events as of_sessions
 use Rattle.route_session.specs.State as sessions
@@ -103,6 +103,9 @@ names_hub s (of_hub.Receive frame finished) tape jobs n asked = taken s frame fi
 names_hub s (of_hub.Collect shard deltas) tape jobs n asked =
     let e = ByHub (of_hub.Collect shard deltas) in
     quiet s (after_collect s.server s.hub deltas) (sessions_with s (of_hub.Collect shard deltas)) tape (entries_in e (side_answer s e)) jobs n refl refl refl
+names_hub s of_hub.Drain tape jobs n asked =
+    let e = ByHub of_hub.Drain in
+    quiet s (after_drain s.server s.hub) (sessions_with s of_hub.Drain) tape (entries_in e (side_answer s e)) jobs n refl refl refl
 names_hub s (of_hub.Up q inc) tape jobs n asked = absurd asked
 names_hub s (of_hub.Cut q) tape jobs n asked = absurd asked
 names_hub s (of_hub.TakeFrom q count) tape jobs n asked =

@@ -15,6 +15,7 @@ abbrev pub event_of_hub : HubEvent → NodeEvent
 event_of_hub (hub_event.Publish conn publication word finished) = Own (own.Publish conn publication word)
 event_of_hub (hub_event.Receive frame finished) = Receive frame
 event_of_hub (hub_event.Collect shard deltas) = Own (own.Collect shard)
+event_of_hub hub_event.Drain = Own own.Drain
 event_of_hub (hub_event.TakeFrames peer count) = Own (own.TakeFrames peer count)
 event_of_hub (hub_event.Dial peer) = Own (own.Dial peer)
 event_of_hub hub_event.Accept = Own own.Accept
@@ -35,4 +36,5 @@ event_of_shard shard (shard_event.Begin job) = Own (own.AtShard shard work.Begin
 event_of_shard shard (shard_event.Claim index won) = Own (own.AtShard shard (work.Claim index))
 event_of_shard shard shard_event.End = Own (own.AtShard shard work.End)
 event_of_shard shard (shard_event.DropJob job) = Own (own.AtShard shard work.DropJob)
+event_of_shard shard shard_event.Drain = Own (own.AtShard shard work.DrainShard)
 event_of_shard shard (shard_event.Collect deltas) = Own (own.Collect shard)

@@ -13,6 +13,7 @@ abbrev pub heard_in : ℕ → HubEvent → List (List Delta)
 heard_in number (hub.Publish conn publication word finished) = []
 heard_in number (hub.Receive frame finished) = []
 heard_in number (hub.Collect of deltas) = cond (nat_eq of number) (deltas ∷ []) []
+heard_in number hub.Drain = []
 heard_in number (hub.TakeFrames peer count) = []
 heard_in number (hub.Dial peer) = []
 heard_in number hub.Accept = []
@@ -35,6 +36,7 @@ given_in (shard.Begin job) = []
 given_in (shard.Claim index won) = []
 given_in shard.End = []
 given_in (shard.DropJob job) = []
+given_in shard.Drain = []
 given_in (shard.Collect deltas) = deltas ∷ []
 
 abbrev pub deltas_given : List ShardEntry → List (List Delta)

@@ -20,6 +20,7 @@ abbrev pub owned : HubEvent → ℕ
 owned (event.Publish conn publication word finished) = 1
 owned (event.Receive frame finished) = 0
 owned (event.Collect shard deltas) = 0
+owned event.Drain = 0
 owned (event.TakeFrames peer count) = 0
 owned (event.Dial peer) = 0
 owned event.Accept = 0
@@ -52,6 +53,7 @@ abbrev pub issued_by : ℕ → HubEvent → HubTold → List IssuedJob
 issued_by next (event.Publish conn publication word finished) told = map (λ turn. Own turn next) (turns_in told)
 issued_by next (event.Receive frame finished) told = map (λ turn. Routed turn (id_in frame)) (turns_in told)
 issued_by next (event.Collect shard deltas) told = []
+issued_by next event.Drain told = []
 issued_by next (event.TakeFrames peer count) told = []
 issued_by next (event.Dial peer) told = []
 issued_by next event.Accept told = []

@@ -4,7 +4,7 @@ use Rattle.std.specs.List.Sorted.{IsPermutation}
 use Rattle.node_law.specs.declared.events.NodeEvent.{NodeEvent}
 use Rattle.node_threads.specs.declared.shard_entries.ShardEntry.{ShardEntry}
 use Rattle.node_threads.specs.declared.shard_entries.ShardTold.{ShardTold}
-use Rattle.node_threads.specs.declared.shard_entries.ShardTold.TheVariants.{Attached, Opened, AlreadyOpen, Unsubscribed, Replied, WasShut, Detached, Taken, Work, Dropped}
+use Rattle.node_threads.specs.declared.shard_entries.ShardTold.TheVariants.{Attached, Opened, AlreadyOpen, Unsubscribed, Replied, WasShut, Detached, Taken, Work, Dropped, Drained}
 use Rattle.thread_report.specs.Events.{event_of_hub, event_of_shard}
 use Rattle.thread_node.specs.declared.hub_entries.HubEntry.{HubEntry}
 use Rattle.thread_report.specs.declared.passes.Call.{Call}
@@ -50,6 +50,7 @@ is_told (Detached ended) = true
 is_told (Taken entries) = true
 is_told Work = false
 is_told (Dropped turn) = true
+is_told Drained = true
 
 abbrev pub owed_one : ℕ → ℕ → ShardEntry → List Call
 owed_one shard place entry = cond (is_told entry.told) (call_of_shard shard place entry ∷ []) []

@@ -60,6 +60,7 @@ fn is_own_of_hub(event: &OwnEvent, asked: &HubEvent) -> bool
             },
         ) => conn == by && word == drawn && is_same_pub(publication, of),
         (OwnEvent::Collect { shard }, HubEvent::Collect { shard: of, .. }) => shard == of,
+        (OwnEvent::Drain, HubEvent::Drain) => true,
         (OwnEvent::Dial { peer }, HubEvent::Dial { peer: of }) => peer == of,
         (OwnEvent::Accept, HubEvent::Accept) => true,
         (OwnEvent::CutSession { session }, HubEvent::Cut { session: of }) => session == of,
@@ -145,7 +146,8 @@ fn is_work(shard: u64, work: ShardWork, asked: &ShardEvent) -> bool
         (ShardWork::Attach, ShardEvent::Attach)
         | (ShardWork::Begin, ShardEvent::Begin(_))
         | (ShardWork::End, ShardEvent::End)
-        | (ShardWork::DropJob, ShardEvent::DropJob(_)) => true,
+        | (ShardWork::DropJob, ShardEvent::DropJob(_))
+        | (ShardWork::DrainShard, ShardEvent::Drain) => true,
         (ShardWork::Claim { index }, ShardEvent::Claim { index: of, .. }) => index == *of,
         _ => false,
     }

@@ -476,6 +476,64 @@ impl<N: NodeName> Pass<N> {
         Ok(told)
     }
 
+    /// [`ThreadNode::drain_hub`]. May wait.
+    pub fn drain_hub<T: SubTable, R: Wait>(
+        &mut self,
+        rt: &R,
+        node: &ThreadNode<T, N>,
+    ) -> Result<Vec<usize>, Failure<HubFault>>
+        ensures told { IfOk result (λ cut. Gains N.keep 0 (Own own.Drain) (Hub (hub_told.Collected 1 (length cut.items))) self.old.calls self.new.calls) }
+        ensures same { OnErr result (self.new.calls ≡ self.old.calls) }
+    {
+        let keep = node.keeps_tapes();
+        self.grow(keep)?;
+        let mut hub = node.hub(rt);
+        let place = hub.steps_kept();
+        let done = hub.drain();
+        drop(hub);
+        let cut = done?;
+        let answer = HubTold::Collected {
+            changes: 1,
+            cut: length_of(&cut),
+        };
+        let event = event_if(keep, NodeEvent::Own(OwnEvent::Drain));
+        self.tell_hub(keep, place, event, answer);
+        Ok(cut)
+    }
+
+    /// [`ThreadNode::drain_shard`]. May wait.
+    pub fn drain_shard<T: SubTable, R: Wait>(
+        &mut self,
+        rt: &R,
+        node: &ThreadNode<T, N>,
+        shard: u64,
+    ) -> Result<(), Failure<NodeFault>>
+        ensures told { IfOk result (λ _. Gains N.keep shard (Own (own.AtShard shard work.DrainShard)) (Shard shard_told.Drained) self.old.calls self.new.calls) }
+        ensures same { OnErr result (self.new.calls ≡ self.old.calls) }
+        ensures answers { AnswersAt (has_shard N.race shard) result }
+    {
+        let Some(mut locked) = node.shard(rt, shard) else {
+            return Err(NO_SHARD);
+        };
+        let keep = node.keeps_tapes();
+        self.grow(keep)?;
+        let place = locked.steps_kept();
+        let done = locked.drain();
+        drop(locked);
+        if let Err(fault) = done {
+            return Err(Failure::Refused(NodeFault::Shard(fault)));
+        }
+        let event = event_if(
+            keep,
+            NodeEvent::Own(OwnEvent::AtShard {
+                shard,
+                work: ShardWork::DrainShard,
+            }),
+        );
+        self.tell_shard(keep, shard, place, event, ShardTold::Drained);
+        Ok(())
+    }
+
     /// [`ThreadNode::attach`]. May wait.
     pub fn attach<T: SubTable, R: Wait>(
         &mut self,

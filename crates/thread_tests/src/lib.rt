@@ -8,6 +8,8 @@
 #[cfg(test)]
 mod claim_tests;
 #[cfg(test)]
+mod drain_tests;
+#[cfg(test)]
 mod lane_tests;
 #[cfg(test)]
 mod loop_tests;

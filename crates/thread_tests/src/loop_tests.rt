@@ -4,7 +4,7 @@ ghost use Rattle.std.specs.Prelude.{◌≡◌};
 
 use mio::net::{TcpListener, TcpStream};
 use mio::{Poll, Waker};
-use node_net::{Server as Connections, Shutdown, Sockets, WAKER};
+use node_net::{Server as Connections, ServerControl, Shutdown, Sockets, WAKER};
 use server_calls::ServerCalls;
 use server_events::{Caller, Event, EventSink, Events, LevelFilter, RefusalCause};
 use std::alloc::Global;
@@ -99,6 +99,7 @@ fn sockets<R: Net + Abort>(rt: &R) -> Sockets {
         poll,
         clients,
         routes,
+        control: None,
     }
 }
 
@@ -107,8 +108,9 @@ fn shutdown<R: Abort>(rt: &R, alloc: Global, poll: &Poll) -> Shutdown {
     let waker = Waker::new(poll.registry(), WAKER)
         .ok()
         .expect(rt, "a waker");
-    let wakers = Vec::from_array(alloc, [waker]).ok().expect(rt, "memory");
-    Shutdown::new(None, wakers)
+    let control = ServerControl::new(waker);
+    let servers = Vec::from_array(alloc, [control]).ok().expect(rt, "memory");
+    Shutdown::new(None, servers)
 }
 
 /// The server n1 of n1 and n2.

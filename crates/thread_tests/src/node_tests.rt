@@ -43,7 +43,7 @@ fn hello(rt: &impl Abort, alloc: Global) -> Pub {
 }
 
 /// The key of `foo`, in the queue group `work`.
-fn work_of_foo(rt: &impl Abort, alloc: Global) -> Key {
+pub(crate) fn work_of_foo(rt: &impl Abort, alloc: Global) -> Key {
     let queue = QueueName::read(alloc, b"work").ok();
     let pattern = Pattern::read(alloc, b"foo").ok();
     Key {
@@ -53,7 +53,7 @@ fn work_of_foo(rt: &impl Abort, alloc: Global) -> Key {
 }
 
 /// The id of a subscription.
-fn sid(rt: &impl Abort, alloc: Global) -> Sid {
+pub(crate) fn sid(rt: &impl Abort, alloc: Global) -> Sid {
     Sid::read(alloc, b"1").ok().expect(rt, "an id")
 }
 
@@ -73,7 +73,7 @@ fn member<N: NodeName, R: Abort + Wait>(
 }
 
 /// The same by a caller with a pass.
-fn told_member<N: NodeName, R: Abort + Wait>(
+pub(crate) fn told_member<N: NodeName, R: Abort + Wait>(
     rt: &R,
     alloc: Global,
     node: &ThreadNode<ListTable, N>,
@@ -604,7 +604,12 @@ fn stage<N: NodeName + Send + Sync, R: Abort + Threads + Wait + Sync>(
 }
 
 /// The parts of a server of so many shards, and the parkers of the last two of its workers. It writes down what it does where it is to.
-fn parts<R: Abort>(rt: &R, alloc: Global, shards: u64, keep: bool) -> (Parts, (Parker, Parker)) {
+pub(crate) fn parts<R: Abort>(
+    rt: &R,
+    alloc: Global,
+    shards: u64,
+    keep: bool,
+) -> (Parts, (Parker, Parker)) {
     let made = Parts::new(alloc, server(rt, alloc, shards), keep).ok();
     let (parts, mut parkers) = made.expect(rt, "memory");
     let second = parkers.pop().expect(rt, "a parker");

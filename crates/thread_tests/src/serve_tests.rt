@@ -182,7 +182,7 @@ fn numbers<R: Abort>(rt: &R, alloc: Global, read: &[u8]) -> Vec<u64> {
 }
 
 /// The options of a mesh of so many servers of two shards, which ends after so many clients.
-fn options(rt: &impl Abort, nodes: u64, port: u64, stop_after: u64) -> Options
+fn options(rt: &impl Abort, nodes: u64, port: u64, stop_after: u64) -> Options<'static>
     ensures { AreWithin result }
 {
     let given = Given {
@@ -193,6 +193,8 @@ fn options(rt: &impl Abort, nodes: u64, port: u64, stop_after: u64) -> Options
         word: 0,
         stop_after: Some(stop_after),
         log_level: "error",
+        drain_seconds: 30,
+        control: None,
     };
     match Options::new(given) {
         Ok(options) => options,

@@ -20,7 +20,7 @@ use Rattle.node_law.specs.Sound.{SoundNode}
 use Rattle.node_law.specs.State.{ShardWithJobs, Node}
 use Rattle.node_law.specs.declared.events.ConnEvent.{ConnEvent}
 use Rattle.node_law.specs.declared.events.ConnEvent.TheVariants.{Subscribe, Unsubscribe, Reply, Shut, Detach, Take}
-use Rattle.node_law.specs.Events.{OwnEvent, OfConn, AtShard, Publish, Collect, Dial, Accept, CutSession, TakeFrames, NodeEvent, Own, Receive, OnInfo, OnConnect}
+use Rattle.node_law.specs.Events.{OwnEvent, OfConn, AtShard, Publish, Collect, Drain, Dial, Accept, CutSession, TakeFrames, NodeEvent, Own, Receive, OnInfo, OnConnect}
 use Rattle.node_law.specs.Steps.{NodeStep, conn_line, shard_line}
 use Rattle.world_law.specs.State.{Publication, LifeId, Life, Placement, Running, World}
 
@@ -34,6 +34,7 @@ own_publications server now a (OfConn conn event) = []
 own_publications server now a (AtShard shard work) = []
 own_publications server now a (Publish p) = publication server now a p ∷ []
 own_publications server now a (Collect shard) = []
+own_publications server now a Drain = []
 own_publications server now a (Dial q) = []
 own_publications server now a Accept = []
 own_publications server now a (CutSession session) = []
@@ -65,6 +66,7 @@ own_lives server now a (OfConn conn event) = conn_lives server now conn event (c
 own_lives server now a (AtShard shard work) = []
 own_lives server now a (Publish p) = []
 own_lives server now a (Collect shard) = []
+own_lives server now a Drain = []
 own_lives server now a (Dial q) = []
 own_lives server now a Accept = []
 own_lives server now a (CutSession session) = []

@@ -13,8 +13,8 @@ use Rattle.shard_core.specs.Puts.{put_by}
 use Rattle.node_law.specs.State.{ShardWithJobs, Node}
 use Rattle.node_law.specs.Answers.{Answer, Nothing, node_answer}
 use Rattle.node_law.specs.declared.events.ShardWork.{ShardWork}
-use Rattle.node_law.specs.declared.events.ShardWork.TheVariants.{Attach, Begin, Claim, End, DropJob}
-use Rattle.node_law.specs.Events.{OfConn, AtShard, Publish, Collect, Dial, Accept, CutSession, TakeFrames, NodeEvent, Own, Receive, OnInfo, OnConnect}
+use Rattle.node_law.specs.declared.events.ShardWork.TheVariants.{Attach, Begin, Claim, End, DropJob, DrainShard}
+use Rattle.node_law.specs.Events.{OfConn, AtShard, Publish, Collect, Drain, Dial, Accept, CutSession, TakeFrames, NodeEvent, Own, Receive, OnInfo, OnConnect}
 use Rattle.node_law.specs.Steps.{NodeStep, conn_line, shard_line, conn_event, work_event, node_after}
 use Rattle.world_law.specs.declared.faults.WorldFault.{WorldFault}
 use Rattle.world_law.specs.State.{Cluster, Placement, Running, World, server_at}
@@ -65,6 +65,7 @@ work_wins race Attach (Some line) = false
 work_wins race Begin (Some line) = false
 work_wins race (Claim index) (Some line) = wins race index line.shard.hand (candidate_of line.shard line.shard.hand index)
 work_wins race End (Some line) = false
+work_wins race DrainShard (Some line) = false
 work_wins race DropJob (Some line) = false
 
 abbrev pub race_after_work : RaceState → ℕ → ShardWork → Option ShardWithJobs → RaceState
@@ -73,6 +74,7 @@ race_after_work race shard Attach (Some line) = race
 race_after_work race shard Begin (Some line) = race
 race_after_work race shard (Claim index) (Some line) = race_after_claim race shard index line.shard.hand (candidate_of line.shard line.shard.hand index)
 race_after_work race shard End (Some line) = finished_next race shard (line.shard.finished + 1)
+race_after_work race shard DrainShard (Some line) = race
 race_after_work race shard DropJob (Some line) = finished_next race shard (line.shard.finished + 1)
 
 abbrev pub node_wins : Node → NodeEvent → Bool
@@ -80,6 +82,7 @@ node_wins a (Own (OfConn conn event)) = false
 node_wins a (Own (AtShard shard work)) = work_wins a.race work (shard_line a shard)
 node_wins a (Own (Publish p)) = false
 node_wins a (Own (Collect shard)) = false
+node_wins a (Own Drain) = false
 node_wins a (Own (Dial q)) = false
 node_wins a (Own Accept) = false
 node_wins a (Own (CutSession session)) = false
@@ -99,6 +102,7 @@ node_race a (Own (OfConn conn event)) = a.race
 node_race a (Own (AtShard shard work)) = race_after_work a.race shard work (shard_line a shard)
 node_race a (Own (Publish p)) = issued_next a.race
 node_race a (Own (Collect shard)) = a.race
+node_race a (Own Drain) = a.race
 node_race a (Own (Dial q)) = a.race
 node_race a (Own Accept) = a.race
 node_race a (Own (CutSession session)) = a.race
@@ -122,6 +126,7 @@ puts server a (Own (OfConn conn event)) won = put_at (conn_line server a conn) (
 puts server a (Own (AtShard shard work)) won = put_at (shard_line a shard) (work_event work won)
 puts server a (Own (Publish p)) won = []
 puts server a (Own (Collect shard)) won = []
+puts server a (Own Drain) won = []
 puts server a (Own (Dial q)) won = []
 puts server a (Own Accept) won = []
 puts server a (Own (CutSession session)) won = []

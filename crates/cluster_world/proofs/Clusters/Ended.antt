@@ -23,7 +23,7 @@ use Rattle.hub_core.specs.Receiving.{routed_job}
 use Rattle.shard_core.specs.AsLaw.{is_open_serial}
 use Rattle.shard_core.specs.Closings.{serials_of, is_left, left_of, without_subs, ended_ids}
 use Rattle.shard_core.specs.Owed.{whole_walk, sub_with_count, ended_by, candidate_of, after_claim, slow_consumer}
-use Rattle.shard_core.specs.ShardEvents.{Event, Attach, Subscribe, Unsubscribe, Reply, Shut, Detach, Take, Begin, Claim, End, DropJob, Collect}
+use Rattle.shard_core.specs.ShardEvents.{Event, Attach, Subscribe, Unsubscribe, Reply, Shut, Detach, Take, Begin, Claim, End, DropJob, Drain, Collect}
 use Rattle.shard_core.specs.ShardSteps.{sub_called, new_sub, after_subscribe, subscribe_answer, ended_now, after_unsubscribe, ended_by_unsubscribe, answer_fits, ended_by_reply, was_shut, done_with, claim_answer, shard_after, shard_answer, ended_of}
 use Rattle.shard_core.specs.Shards.{State, clients_with_change}
 use Rattle.shard_core.proofs.Closings.Closed.{counted_serials, max_serials}
@@ -58,6 +58,7 @@ ended_serials s (Begin job) = (whole_walk s job).ended
 ended_serials s (Claim index won) = ended_by_claim s.hand (candidate_of s s.hand index) won
 ended_serials s End = []
 ended_serials s (DropJob waiting) = []
+ended_serials s Drain = []
 ended_serials s Collect = []
 
 told : (s : State) (e : Event) → ended_of (shard_answer s e) ≡ ended_ids s.shard (ended_serials s e)
@@ -82,6 +83,7 @@ told s (Claim index won) = go s.hand (candidate_of s s.hand index) won
     go (Some job) (Some u) false = refl
 told s End = refl
 told s (DropJob waiting) = refl
+told s Drain = refl
 told s Collect = refl
 
 -- of what was open, just what is told is open no more
@@ -162,6 +164,7 @@ shard_agrees s (DropJob waiting) = go (option_or s.hand waiting)
     go : (hand : Option Job) → Agrees [] s.subs (done_with s hand).subs
     go None = nothing s.subs s.subs refl
     go (Some job) = nothing s.subs s.subs refl
+shard_agrees s Drain = nothing s.subs s.subs refl
 shard_agrees s Collect = nothing s.subs s.subs refl
 
 -- ---- a server
@@ -263,6 +266,7 @@ module _ (server : ServerIdentity) (a : Node) (sound : SoundNode server a) (sub 
   server_agrees (Own (AtShard shard work)) won race = on_line (shard - 1) (work_event work won) (shard_line a shard) (here shard (shard - 1))
   server_agrees (Own (Publish p)) won race = let job = own_job server a.hub p in same_open sub a.lines (map (line_with_job job) a.lines) (queued_same sub job a.lines) is
   server_agrees (Own (of_node.Collect shard)) won race = on_collect (shard - 1) (shard_line a shard) (here shard (shard - 1))
+  server_agrees (Own of_node.Drain) won race = same_open sub a.lines a.lines (λ q. refl) is
   server_agrees (Own (Dial q)) won race = same_open sub a.lines a.lines (λ q. refl) is
   server_agrees (Own Accept) won race = same_open sub a.lines a.lines (λ q. refl) is
   server_agrees (Own (CutSession session)) won race = same_open sub a.lines a.lines (λ q. refl) is

@@ -20,7 +20,7 @@ use Rattle.node_law.specs.declared.events.ConnEvent.{ConnEvent}
 use Rattle.node_law.specs.declared.events.ConnEvent.TheVariants.{Subscribe, Unsubscribe, Reply, Shut, Detach, Take}
 use Rattle.node_law.specs.Answers.{node_answer, told_of_shard, told_at}
 use Rattle.node_law.specs.AsLaw.{Part, part_of}
-use Rattle.node_law.specs.Events.{OfConn, AtShard, Publish, Collect, Dial, Accept, CutSession, TakeFrames, NodeEvent, Own, Receive, OnInfo, OnConnect}
+use Rattle.node_law.specs.Events.{OfConn, AtShard, Publish, Collect, Drain, Dial, Accept, CutSession, TakeFrames, NodeEvent, Own, Receive, OnInfo, OnConnect}
 use Rattle.node_core.specs.InCode.{answer_of}
 use Rattle.node_core.specs.Outcome as of_server
 use Rattle.node_core.specs.Outcome.{did_of, ended_at}
@@ -52,6 +52,7 @@ published_are server now a (Own (OfConn conn event)) = refl
 published_are server now a (Own (AtShard shard work)) = refl
 published_are server now a (Own (Publish p)) = refl
 published_are server now a (Own (Collect shard)) = refl
+published_are server now a (Own Drain) = refl
 published_are server now a (Own (Dial q)) = refl
 published_are server now a (Own Accept) = refl
 published_are server now a (Own (CutSession session)) = refl
@@ -85,6 +86,7 @@ opened_are server now a (Own (OfConn conn event)) won = opened_at server now con
 opened_are server now a (Own (AtShard shard work)) won = refl
 opened_are server now a (Own (Publish p)) won = refl
 opened_are server now a (Own (Collect shard)) won = refl
+opened_are server now a (Own Drain) won = refl
 opened_are server now a (Own (Dial q)) won = refl
 opened_are server now a (Own Accept) won = refl
 opened_are server now a (Own (CutSession session)) won = refl

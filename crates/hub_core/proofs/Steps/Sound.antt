@@ -19,9 +19,9 @@ use Rattle.hub_core.specs.State.{State, Peer, IsSound, IsSoundAt, peer_in_life, 
 use Rattle.hub_core.specs.Choice.{is_eligible, names_for}
 use Rattle.hub_core.specs.Publishing.{Publication, is_to, is_owed, names_of, choice_of, frames_from, frames_of, with_frames, after_publish}
 use Rattle.hub_core.specs.Receiving.{told_by}
-use Rattle.hub_core.specs.Telling.{changes_of, count_of_changes, has_room_for, is_told, body_of, frames_of_change, frames_behind, collect_frames, without_slow, after_collect}
+use Rattle.hub_core.specs.Telling.{changes_of, has_room_for, is_told, body_of, frames_of_change, frames_behind, without_slow, after_collect, clearing, after_drain}
 use Rattle.hub_core.specs.Peers.{snapshot_to}
-use Rattle.hub_core.specs.Events.{Event, Publish, Receive, Collect, Up, Cut, TakeFrom, Answer}
+use Rattle.hub_core.specs.Events.{Event, Publish, Receive, Collect, Drain, Up, Cut, TakeFrom, Answer}
 use Rattle.hub_core.specs.Steps.{IsAsked, HubStep, StaysSound, hub_after}
 use Rattle.hub_core.proofs.Choices.Places.{not_own}
 use Rattle.hub_core.proofs.Neighbours.Known.{changed_length, frames_length, map_length}
@@ -161,23 +161,32 @@ module _ (server : ServerIdentity) (is : IsListed server) (count : ℕ) where
         room = old.room;
       })
 
--- what a collect puts has room
-pub collect_fits : (server : ServerIdentity) (old : State) (deltas : List Delta) → IsListed server → IsSound server old → (q : ℕ) (new : Peer) → slice_get (map (without_slow (count_of_changes old deltas)) old.peers) q ≡ Some new → length new.outbox + length (filter (is_to server q) (collect_frames server old deltas)) ≤ ROUTE_FRAMES
-collect_fits server old deltas is sound q new at =
-    let x = read_map (without_slow (count_of_changes old deltas)) old.peers q new at in
-    subst (λ (peer : Peer). length peer.outbox + length (filter (is_to server q) (collect_frames server old deltas)) ≤ ROUTE_FRAMES) (sym x.2)
-    (told_fits server is (count_of_changes old deltas) x.0 (length (filter (is_to server q) (collect_frames server old deltas))) (sound.peers q x.0 x.1).room (changes_few server is (count_of_changes old deltas) old.changed (changes_of old deltas) old.peers sound.placed q x.0 x.1))
+-- the frames that tell of the next changes, and the peers once these frames wait
+module _ (server : ServerIdentity) (old : State) (changes : List Change) where
+  abbrev frames : List Frame
+  frames = frames_behind server (length changes) old.changed changes old.peers
+
+  abbrev peers_told : List Peer
+  peers_told = with_frames server frames 0 (map (without_slow (length changes)) old.peers)
+
+  -- they have room
+  pub changes_fit : IsListed server → IsSound server old → (q : ℕ) (new : Peer) → slice_get (map (without_slow (length changes)) old.peers) q ≡ Some new → length new.outbox + length (filter (is_to server q) frames) ≤ ROUTE_FRAMES
+  changes_fit is sound q new at =
+      let x = read_map (without_slow (length changes)) old.peers q new at in
+      subst (λ (peer : Peer). length peer.outbox + length (filter (is_to server q) frames) ≤ ROUTE_FRAMES) (sym x.2)
+      (told_fits server is (length changes) x.0 (length (filter (is_to server q) frames)) (sound.peers q x.0 x.1).room (changes_few server is (length changes) old.changed changes old.peers sound.placed q x.0 x.1))
+
+  changes_sound : IsListed server → IsSound server old → (length peers_told ≡ length server.names) × AllSound server peers_told
+  changes_sound is sound = (
+    frames_length server frames 0 (map (without_slow (length changes)) old.peers) ∙ map_length (without_slow (length changes)) old.peers ∙ sound.placed,
+    put_sound server frames (map (without_slow (length changes)) old.peers) (slow_sound server is (length changes) old.peers sound.peers) (changes_fit is sound),
+  )
 
 collect_sound : (server : ServerIdentity) (old : State) (deltas : List Delta) → IsListed server → IsSound server old → IsSound server (after_collect server old deltas)
-collect_sound server old deltas is sound = record {
-  placed = frames_length server frames 0 (map (without_slow count) old.peers) ∙ map_length (without_slow count) old.peers ∙ sound.placed;
-  peers = put_sound server frames (map (without_slow count) old.peers) (slow_sound server is count old.peers sound.peers) (collect_fits server old deltas is sound);
-} where
-  count : ℕ
-  count = count_of_changes old deltas
+collect_sound server old deltas is sound = let c = changes_sound server old (changes_of old deltas) is sound in record { placed = c.0; peers = c.1 }
 
-  frames : List Frame
-  frames = collect_frames server old deltas
+drain_sound : (server : ServerIdentity) (old : State) → IsListed server → IsSound server old → IsSound server (after_drain server old)
+drain_sound server old is sound = let c = changes_sound server old clearing is sound in record { placed = c.0; peers = c.1 }
 
 -- and each is to a server of the cluster
 pub changes_listed : (server : ServerIdentity) → IsListed server → (count number : ℕ) (changes : List Change) (peers : List Peer) → length peers ≡ length server.names → All (λ (frame : Frame). place server frame.to < length server.names) (frames_behind server count number changes peers)
@@ -201,6 +210,7 @@ after_sound server old (Receive frame finished) is sound asked =
     let c = changed_hub server old (λ peer. told_by frame.body frame.number (peer_in_life peer frame.inc)) q sound (λ peer at. told_sound server q frame.number frame.body (peer_in_life peer frame.inc) (known_sound server q frame.inc peer at)) in
     record { placed = c.0; peers = c.1 }
 after_sound server old (Collect shard deltas) is sound asked = collect_sound server old deltas is sound
+after_sound server old Drain is sound asked = drain_sound server old is sound
 after_sound server old (Up q inc) is sound asked =
     let c = changed_hub server old (λ peer. record (peer_in_life peer inc) { up = true; outbox = snapshot_to server old q inc ∷ [] }) q sound (λ peer at. record { other = λ e. not_own server q asked.other; seen = λ e. seen_now peer inc asked.first; room = lit≤ tt }) in
     record { placed = c.0; peers = c.1 }

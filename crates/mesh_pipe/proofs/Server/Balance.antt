@@ -12,10 +12,10 @@ use Rattle.sub_table.specs.Subscriptions.{with_max}
 use Rattle.sub_table.specs.declared.Subscription.{Subscription}
 use Rattle.shard_core.specs.Closings.{serials_of, is_left, left_of, closing, closings_of, without_subs}
 use Rattle.shard_core.specs.Owed.{Walk, whole_walk, walk_with_entry, due_entry, first_step, slow_consumer, after_walk, sub_with_count, candidate_of, after_claim, after_try, reaches}
-use Rattle.shard_core.specs.ShardEvents.{Event, Attach, Subscribe, Unsubscribe, Reply, Shut, Detach, Take, Begin, Claim, End, DropJob, Collect}
+use Rattle.shard_core.specs.ShardEvents.{Event, Attach, Subscribe, Unsubscribe, Reply, Shut, Detach, Take, Begin, Claim, End, DropJob, Drain, Collect}
 use Rattle.shard_core.specs.ShardSteps.{sub_called, is_full, new_sub, after_subscribe, ended_now, after_unsubscribe, answer_fits, done_with, shard_refusal, shard_after}
 use Rattle.shard_core.specs.Shards.{State, is_open, clients_with_change}
-use Rattle.shard_core.specs.declared.faults.ShardFault.TheVariants.{NoConn, TooManySubs, Spent}
+use Rattle.shard_core.specs.declared.faults.ShardFault.TheVariants.{NoConn, Draining, TooManySubs, Spent}
 use Rattle.node_law.specs.CountsOpen.{keys_of}
 use Rattle.node_law.proofs.Interest.Replays.{Distinct, picked, picked_closings, split_all, total, left_distinct, walked_distinct}
 use Rattle.node_law.proofs.Interest.CountsOpen.{counted_keys, max_keys, size_of_keys, one_distinct, is_collect}
@@ -61,7 +61,7 @@ done_balance s (Some job) few = same_balance s (done_with s (Some job)) refl ref
 
 pub event_balance : (s : State) (e : Event) → Distinct (serials_of s.subs) → shard_refusal s e ≡ None → is_collect e ≡ false → s.opened ≤ MAX_SERIAL → IsBalanced s (shard_after s e)
 event_balance s Attach apart cause other few = same_balance s (shard_after s Attach) refl refl refl few
-event_balance s (Subscribe conn key sid) apart cause other few = go (sub_called conn sid s.subs) (no_cause (not (is_open conn s.clients)) NoConn _ cause).1
+event_balance s (Subscribe conn key sid) apart cause other few = go (sub_called conn sid s.subs) (no_cause s.draining Draining _ (no_cause (not (is_open conn s.clients)) NoConn _ cause).1).1
   where
     go : (o : Option Subscription) → (if is_some o then None else (if is_full s key then Some TooManySubs else (if nat_le MAX_SERIAL s.opened then Some Spent else None))) ≡ None → IsBalanced s (after_subscribe s (new_sub s conn key sid) o)
     go (Some u) f = same_balance s s refl refl refl few
@@ -105,4 +105,5 @@ event_balance s (Claim index won) apart cause other few = go s.hand (candidate_o
         from_same s (after_try s) (after_walk (after_try s) w) refl refl refl (walk_balance (after_try s) w (ended u (reaches u.max (u.delivered + 1))) few)
 event_balance s End apart cause other few = done_balance s s.hand few
 event_balance s (DropJob waiting) apart cause other few = done_balance s (option_or s.hand waiting) few
+event_balance s Drain apart cause other few = same_balance s (shard_after s Drain) refl refl refl few
 event_balance s Collect apart cause other few = absurd (true≢false other)

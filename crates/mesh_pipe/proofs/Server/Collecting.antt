@@ -35,6 +35,14 @@ few_changes counts (d ∷ ds) = go (change_of counts d) (few_changes (counts_aft
     go None few = omega (arith, few)
     go (Some c) few = omega (arith, few)
 
+-- none where the server drains
+few_told : (h : hub.State) (ds : List Delta) → count_of_changes h ds ≤ length ds
+few_told h ds = go h.draining
+  where
+    go : (b : Bool) → length (cond b [] (changes_told h.counts ds)) ≤ length ds
+    go true = omega arith
+    go false = few_changes h.counts ds
+
 no_frames : (count number : ℕ) (changes : List Change) → frames_behind pipe_server count number changes (unknown_peer ∷ []) ≡ []
 no_frames count number [] = refl
 no_frames count number (c ∷ cs) = no_frames count (number + 1) cs
@@ -49,7 +57,7 @@ still_alone h ds alone =
 
 few_enough : (s : Served) → IsServing s → s.node.hub.changed + count_of_changes s.node.hub (shard_in s).deltas ≤ MAX_COUNTER
 few_enough s serving =
-    let few = few_changes s.node.hub.counts (shard_in s).deltas in
+    let few = few_told s.node.hub (shard_in s).deltas in
     let all = serving.changed in
     let opened = serving.opened in
     omega (arith, few, all, opened)
@@ -84,7 +92,7 @@ collect_steps old new serving does = record {
     alone = ap (λ h. h.peers) hub_is ∙ still_alone old.node.hub ds serving.alone;
     published = ap (λ h. h.published) hub_is ∙ serving.published ∙ sym (ap (λ h. h.issued) hub_is);
     changed = subst (λ (l : ShardWithJobs). new.node.hub.changed + (length l.shard.deltas + length l.shard.subs) ≤ 2 * l.shard.opened) (sym here)
-        (subst (λ n. n + (0 + length (shard_in old).subs) ≤ 2 * (shard_in old).opened) (sym (ap (λ h. h.changed) hub_is)) (let few = few_changes old.node.hub.counts ds in let all = serving.changed in omega (arith, few, all)));
+        (subst (λ n. n + (0 + length (shard_in old).subs) ≤ 2 * (shard_in old).opened) (sym (ap (λ h. h.changed) hub_is)) (let few = few_told old.node.hub ds in let all = serving.changed in omega (arith, few, all)));
     opened = subst (λ (l : ShardWithJobs). l.shard.opened ≤ MAX_SERIAL) (sym here) serving.opened;
     ran = run_more old new (Own (Collect 1)) false serving.server serving.ran does;
   };

@@ -176,7 +176,7 @@ wanted_counted subject z subs counts c w =
 -- ---- the names
 
 abbrev alone : Counts → State
-alone keys = record { issued = 0; published = 0; changed = 0; counts = keys; peers = [] }
+alone keys = record { issued = 0; published = 0; changed = 0; draining = false; counts = keys; peers = [] }
 
 nowhere : ServerIdentity
 nowhere = record { names = []; me = 0; inc = 0; shards = 0 }

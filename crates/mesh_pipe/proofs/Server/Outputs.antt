@@ -72,6 +72,7 @@ pub record IsSettled (t : State) : Type 0 where
   pub hand : t.hand ≡ None
   pub index : t.next_index ≡ 0
   pub deltas : t.deltas ≡ []
+  pub draining : t.draining ≡ false
 
 pub rests : (t : State) → IsAlone t [] false → IsSettled t → t ≡ at_rest (served_by t)
 rests t alone settled = λ k. record {
@@ -85,6 +86,7 @@ rests t alone settled = λ k. record {
   clients = alone.clients k;
   subs = t.subs;
   deltas = settled.deltas k;
+  draining = settled.draining k;
 }
 
 pub alone_at_rest : (t : State) (s : Served) → t ≡ at_rest s → IsAlone t [] false
@@ -97,7 +99,7 @@ alone_at_rest t s is = record {
 }
 
 pub settled_at_rest : (t : State) (s : Served) → t ≡ at_rest s → IsSettled t
-settled_at_rest t s is = record { hand = ap (λ (u : State). u.hand) is; index = ap (λ (u : State). u.next_index) is; deltas = ap (λ (u : State). u.deltas) is }
+settled_at_rest t s is = record { hand = ap (λ (u : State). u.hand) is; index = ap (λ (u : State). u.next_index) is; deltas = ap (λ (u : State). u.deltas) is; draining = ap (λ (u : State). u.draining) is }
 
 -- ---- lines
 
@@ -125,7 +127,7 @@ pub replied_alone : (t : State) (line : List ℕ) (fit : Bool) → IsAlone t [] 
 replied_alone t line true alone = record {
   entries = reply_entry line ∷ [];
   alone = on_one t (record t { clients = clients_with_change (with_entry (reply_entry line)) 1 t.clients }) [] (reply_entry line ∷ []) false false (with_entry (reply_entry line)) alone refl refl refl refl refl (omega arith);
-  settled = λ kept s. record { hand = s.hand; index = s.index; deltas = s.deltas };
+  settled = λ kept s. record { hand = s.hand; index = s.index; deltas = s.deltas; draining = s.draining };
 }
 replied_alone t line false alone = record { entries = reply_entry slow_consumer ∷ []; alone = behind_shut t slow_consumer alone; settled = λ shut s. absurd (true≢false shut) }
 
@@ -141,12 +143,13 @@ pub record IsQuiet (t u : State) : Type 0 where
   pub clients : u.clients ≡ t.clients
   pub hand : u.hand ≡ t.hand
   pub index : u.next_index ≡ t.next_index
+  pub draining : u.draining ≡ t.draining
 
 quiet : (t : State) → IsQuiet t t
-quiet t = record { shard = refl; shards = refl; next = refl; clients = refl; hand = refl; index = refl }
+quiet t = record { shard = refl; shards = refl; next = refl; clients = refl; hand = refl; index = refl; draining = refl }
 
 pub subscribe_quiet : (t : State) (sub : Subscription) (o : Option Subscription) → IsQuiet t (after_subscribe t sub o)
-subscribe_quiet t sub None = record { shard = refl; shards = refl; next = refl; clients = refl; hand = refl; index = refl }
+subscribe_quiet t sub None = record { shard = refl; shards = refl; next = refl; clients = refl; hand = refl; index = refl; draining = refl }
 subscribe_quiet t sub (Some same) = quiet t
 
 pub unsubscribe_quiet : (t : State) (max : Option ℕ) (o : Option Subscription) → IsQuiet t (after_unsubscribe t max o)
@@ -154,15 +157,15 @@ unsubscribe_quiet t max None = quiet t
 unsubscribe_quiet t max (Some sub) = go (ended_now max sub)
   where
     go : (b : Bool) → IsQuiet t (cond b (without_subs (sub.serial ∷ []) t) (record t { subs = with_max sub.serial max t.subs }))
-    go true = record { shard = refl; shards = refl; next = refl; clients = refl; hand = refl; index = refl }
-    go false = record { shard = refl; shards = refl; next = refl; clients = refl; hand = refl; index = refl }
+    go true = record { shard = refl; shards = refl; next = refl; clients = refl; hand = refl; index = refl; draining = refl }
+    go false = record { shard = refl; shards = refl; next = refl; clients = refl; hand = refl; index = refl; draining = refl }
 
 pub quiet_alone : (t u : State) → IsQuiet t u → IsAlone t [] false → IsAlone u [] false
 quiet_alone t u q alone = same_alone t u [] false alone q.shard q.shards q.next q.clients
 
 -- behind a collect
 pub quiet_settled : (t u : State) → IsQuiet t u → IsSettled t → IsSettled (shard_after u Collect)
-quiet_settled t u q settled = record { hand = q.hand ∙ settled.hand; index = q.index ∙ settled.index; deltas = refl }
+quiet_settled t u q settled = record { hand = q.hand ∙ settled.hand; index = q.index ∙ settled.index; deltas = refl; draining = q.draining ∙ settled.draining }
 
 -- ---- what an entry finds
 
@@ -295,6 +298,15 @@ pub claimed_hand : (n : ℕ) (t : State) → (after_claims n t).hand ≡ t.hand
 claimed_hand zero t = refl
 claimed_hand (suc n) t = let u = after_claims n t in claim_hand u u.hand (candidate_of u u.hand n) ∙ claimed_hand n t
 
+claim_drains : (t : State) (hand : Option Job) (sub : Option Subscription) → (after_claim t hand sub true).draining ≡ t.draining
+claim_drains t None sub = refl
+claim_drains t (Some job) None = refl
+claim_drains t (Some job) (Some sub) = refl
+
+claimed_drains : (n : ℕ) (t : State) → (after_claims n t).draining ≡ t.draining
+claimed_drains zero t = refl
+claimed_drains (suc n) t = let u = after_claims n t in claim_drains u u.hand (candidate_of u u.hand n) ∙ claimed_drains n t
+
 claim_index : (t : State) (job : Job) (sub : Option Subscription) → (after_claim t (Some job) sub true).next_index ≡ t.next_index + 1
 claim_index t job None = refl
 claim_index t job (Some sub) = refl
@@ -317,9 +329,9 @@ worked_still job t alone =
     let u = after_claims (length job.queues) (shard_after t (Begin job)) in
     end_still u u.hand (has_any (whole_walk t job).shut) (claimed_still (length job.queues) (shard_after t (Begin job)) (has_any (whole_walk t job).shut) (begun_still t job alone))
 
--- nothing is in hand behind it
-pub worked_done : (job : Job) (t : State) → ((after_job job t).hand ≡ None) × ((after_job job t).next_index ≡ 0)
+-- nothing is in hand behind it, and whether it drains is as before
+pub worked_done : (job : Job) (t : State) → ((after_job job t).hand ≡ None) × ((after_job job t).next_index ≡ 0) × ((after_job job t).draining ≡ t.draining)
 worked_done job t =
     let u = after_claims (length job.queues) (shard_after t (Begin job)) in
     let hand : u.hand ≡ Some job = claimed_hand (length job.queues) (shard_after t (Begin job)) in
-    (ap (λ (h : Option Job). (done_with u h).hand) hand, ap (λ (h : Option Job). (done_with u h).next_index) hand)
+    (ap (λ (h : Option Job). (done_with u h).hand) hand, ap (λ (h : Option Job). (done_with u h).next_index) hand, ap (λ (h : Option Job). (done_with u h).draining) hand ∙ claimed_drains (length job.queues) (shard_after t (Begin job)))

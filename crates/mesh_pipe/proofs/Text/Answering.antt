@@ -88,7 +88,7 @@ reply_served old new mid frame shut ready replies is takes put conn = go shut is
         let alone = behind_take u replied.entries false (subst (IsAlone u replied.entries) (sym e) replied.alone) in
         let settled = replied.settled (sym e) (settled_of old ready) in
         let shard : shard_in new.node ≡ shard_after u (Take 1 all_entries) = takes.shard ∙ ap (λ (v : State). shard_after v (Take 1 all_entries)) replies.shard in
-        let at = rests_at new (shard_after u (Take 1 all_entries)) takes.serving (conn ∙ ready.conn) (takes.waiting ∙ replies.waiting ∙ ready.waiting) shard alone (record { hand = settled.hand; index = settled.index; deltas = settled.deltas }) in
+        let at = rests_at new (shard_after u (Take 1 all_entries)) takes.serving (conn ∙ ready.conn) (takes.waiting ∙ replies.waiting ∙ ready.waiting) shard alone (record { hand = settled.hand; index = settled.index; deltas = settled.deltas; draining = settled.draining }) in
         (closed ∙ sym e, record { text = text; ready = at.ready; same = at.same ∙ sym (ap (λ (r : Output). r.served) said_is) })
 
 pub shut_served : {R : Type 0} (old new : PipeServer R) (mid : of_node.Served) (why : ErrText) → IsReady old → Steps old.node (Shut 1 why) mid → new.output.items ≡ old.output.items ++ waiting_bytes (shard_in mid) → HasServed Closed (after_event (Shut 1 why) (served_state old)) old new
@@ -221,7 +221,7 @@ publish_served old new issued worked counted p shut ready free issues works coun
         let taken = behind_take u still.entries false open_still in
         let done = worked_done job t in
         let shard : shard_in new.node ≡ v = takes.shard ∙ ap (λ (w : State). shard_after w (Take 1 all_entries)) (counts.shard ∙ ap (λ (w : State). shard_after w Collect) worked_is) in
-        let at = rests_at new v takes.serving (conn ∙ ready.conn) (takes.waiting ∙ counts.waiting ∙ works.waiting) shard (record { shard = taken.shard; shards = taken.shards; next = taken.next; clients = taken.clients; few = taken.few }) (record { hand = done.0; index = done.1; deltas = refl }) in
+        let at = rests_at new v takes.serving (conn ∙ ready.conn) (takes.waiting ∙ counts.waiting ∙ works.waiting) shard (record { shard = taken.shard; shards = taken.shards; next = taken.next; clients = taken.clients; few = taken.few }) (record { hand = done.0; index = done.1; deltas = refl; draining = done.2 ∙ (settled_of old ready).draining }) in
         (closed ∙ sym (e ∙ shut_is), record { text = text; ready = at.ready; same = at.same ∙ sym (ap (λ (r : Output). r.served) said_is) })
 
 pub published_known : {R : Type 0} (old : PipeServer R) (issued worked counted : of_node.Served) (p : Pub) (shut : Bool) → IsReady old → HasIssued p old.node issued → HasWorkedOff issued shut worked → Steps worked Collect counted → is_known 1 (shard_in counted).clients ≡ true

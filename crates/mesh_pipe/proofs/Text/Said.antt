@@ -10,7 +10,7 @@ use Rattle.client_frames.specs.ErrTexts.{err_line}
 use Rattle.client_conn.specs.declared.ask.ClientAction.{ClientAction}
 use Rattle.client_conn.specs.declared.ask.ClientAction.TheVariants as ask
 use Rattle.client_conn.specs.declared.ask.Refusal.{Refusal}
-use Rattle.client_conn.specs.declared.ask.Refusal.TheVariants.{Busy, TooManySubscriptions, NumbersSpent, TooManyQueueGroups, Other}
+use Rattle.client_conn.specs.declared.ask.Refusal.TheVariants.{Busy, TooManySubscriptions, NumbersSpent, TooManyQueueGroups, Draining, Other}
 use Rattle.client_conn.specs.Asks.{Asking, Answer, ConnState, Onward, asks_after_bytes, read_onward, asks_after_answer, answered_first}
 use Rattle.client_conn.specs.Shuts.{AsksToShut}
 use Rattle.client_conn.proofs.Following.{in_any_order}
@@ -186,6 +186,8 @@ answer_goes (Err NumbersSpent) a rest onward given old new step serves may =
     subst (Goes (conn_at a rest onward given) old (record { asks = ask.Reply (reply.Err text.NumbersSpent) ∷ rest; onward = onward })) (sym serves.1) (telling_goes a rest onward given old NumbersSpent text.NumbersSpent step may serves.0 (settled_behind (Err NumbersSpent) a rest onward step.settled) refl)
 answer_goes (Err TooManyQueueGroups) a rest onward given old new step serves may =
     subst (Goes (conn_at a rest onward given) old (record { asks = ask.Reply (reply.Err text.TooManyQueueGroups) ∷ rest; onward = onward })) (sym serves.1) (telling_goes a rest onward given old TooManyQueueGroups text.TooManyQueueGroups step may serves.0 (settled_behind (Err TooManyQueueGroups) a rest onward step.settled) refl)
+answer_goes (Err Draining) a rest onward given old new step serves may =
+    subst (Goes (conn_at a rest onward given) old (record { asks = ask.Reply (reply.Err text.Draining) ∷ rest; onward = onward })) (sym serves.1) (telling_goes a rest onward given old Draining text.Draining step may serves.0 (settled_behind (Err Draining) a rest onward step.settled) refl)
 answer_goes (Err Other) a rest onward given old new step serves may = absurd serves.0
 
 -- a connection that asks for this first

@@ -1,4 +1,4 @@
--- A collect at a server: how many frames it puts, and what it changes.
+-- A collect or a drain at a server: how many frames it puts, and what it changes.
 use Rattle.std.proofs.Common.{◌≡◌, ℕ, suc, ◌+◌, ◌-◌, ◌*◌, ◌≤◌, Bool, true, false, cond, List, [], ◌∷◌, ◌++◌, length, map, set, Some, refl, sym, ap, ◌∙◌, subst, arith, length-append}
 use Rattle.std.specs.Prelude.{filter, slice_get, if◌then◌else◌}
 use Rattle.std.specs.List.{count_by}
@@ -17,14 +17,14 @@ use Rattle.hub_core.specs.State.{Peer}
 use Rattle.hub_core.specs.Events as of_hub
 use Rattle.hub_core.specs.AsLaw.{HasPeers}
 use Rattle.hub_core.specs.Publishing.{is_to, with_frames}
-use Rattle.hub_core.specs.Telling.{is_told, has_room_for, without_slow, body_of, changes_of, count_of_changes, frames_of_change, frames_behind, collect_frames, after_collect, slow_peers}
+use Rattle.hub_core.specs.Telling.{is_told, has_room_for, without_slow, body_of, changes_of, count_of_changes, frames_of_change, frames_behind, collect_frames, after_collect, slow_peers, clearing, drain_frames, peers_too_slow}
 use Rattle.node_parts.specs.Sides.{HubWithSessions, ByHub, OfHub, IsDone, side_after}
 use Rattle.shard_core.specs.ShardEvents as of_shard
 use Rattle.node_law.specs.declared.faults.NodeFault.TheVariants as node_fault
 use Rattle.node_law.specs.Answers as answer
 use Rattle.node_law.specs.State.{ShardWithJobs, Node}
 use Rattle.node_law.specs.Steps.{shard_line, line_after, set_line, deltas_at, collect_refusal_at}
-use Rattle.node_core.specs.Served.{CollectStep, served_of_parts}
+use Rattle.node_core.specs.Served.{CollectStep, DrainStep, served_of_parts}
 use Rattle.node_core.proofs.Calls.Composed.{IsShard, lines_same}
 
 -- ---- how many frames
@@ -179,3 +179,35 @@ told_of old new shard line after deltas changes ups cut same done ups_are after_
 -- a collect that is refused leaves all as it was
 pub collect_left : (old new : HubWithSessions) (race : RaceState) (lines : List ShardWithJobs) (place : ℕ) (line : ShardWithJobs) → new ≡ old → slice_get lines place ≡ Some line → served_of_parts new race (set lines place line) ≡ served_of_parts old race lines
 collect_left old new race lines place line left here = λ k. served_of_parts (left k) race (lines_same lines place line line here refl k)
+
+-- ---- a drain
+
+pub drain_done : (old new : HubWithSessions) (race : RaceState) (lines : List ShardWithJobs) (ups : ℕ) (cut : List ℕ) → IsDone old (ByHub of_hub.Drain) (OfHub (of_hub.Drained (drain_frames old.server old.hub) cut)) new → ups ≡ count_by is_up new.hub.peers
+    → DrainStep (served_of_parts old race lines) 1 ups cut (served_of_parts new race lines)
+drain_done old new race lines ups cut done ups_are = record {
+  step = record {
+    race = race;
+    server = ap (λ (s : HubWithSessions). s.server) done.after;
+    step = record {
+      cause = ap (option_map node_fault.Hub) done.free;
+      moves = refl;
+      after = λ k. (served_of_parts (done.after k) race lines).node;
+    };
+  };
+  answered = λ k. answer.Collected 1 (frames_are k) (cut_are k);
+} where
+  frames : List Frame
+  frames = drain_frames old.server old.hub
+
+  cut_are : cut ≡ peers_too_slow old.hub
+  cut_are =
+      let e : OfHub (of_hub.Drained (drain_frames old.server old.hub) cut) ≡ OfHub (of_hub.Drained (drain_frames old.server old.hub) (peers_too_slow old.hub)) = done.answered in
+      let is : cut ≡ peers_too_slow old.hub = cc (e) in
+      is
+
+  -- one frame for each peer that is told
+  frames_are : ups ≡ length (drain_frames old.server old.hub)
+  frames_are =
+      let up : ups ≡ count_by (is_told 1) old.hub.peers = ups_are ∙ ap (λ (s : HubWithSessions). count_by is_up s.hub.peers) done.after ∙ up_with old.server frames 0 (map (without_slow 1) old.hub.peers) ∙ up_told 1 old.hub.peers in
+      let each = of_changes old.server 1 old.hub.changed clearing old.hub.peers in
+      omega arith

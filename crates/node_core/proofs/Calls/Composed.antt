@@ -260,11 +260,40 @@ work_call {X = X} side race lines shard count place o work line after done fact 
     go (Err (Refused why)) g = (cause (Some why) g.0, same g.1)
     go (Err OutOfMemory) g = (cause None g.0, same g.1)
 
+-- the same of work that takes no memory
+pub work_decision : {X : Type 0} (side : HubWithSessions) (race : RaceState) (lines : List ShardWithJobs) (shard count place : ℕ) (o : Option ℕ) (work : ShardWork) (line after : ShardWithJobs) (done : X → Type 0) (fact : X → Type 0) (r : Result X NodeFault)
+    → IsKept (served_of_parts side race lines) → count ≡ length lines → o ≡ place_of_shard count shard → o ≡ Some place → slice_get lines place ≡ Some line
+    → WorkRace race shard work (Some line) false race → ((x : X) → done x → after ≡ line_after_if (work_event work false line) line)
+    → (shard_line (served_of_parts side race lines).node shard ≡ Some line → (x : X) → done x → fact x)
+    → IsDecided (event_refusal line (work_event work false line)) done (after ≡ line) r
+    → Decided X (served_of_parts side race lines) (served_of_parts side race (set lines place after)) (Own (AtShard shard work)) (λ x. DoesStep (served_of_parts side race lines) (Own (AtShard shard work)) false (served_of_parts side race (set lines place after)) × fact x) r
+work_decision {X = X} side race lines shard count place o work line after done fact r kept is_count given some here moves does told h = record { keeps = decision_keeps old new (Own (AtShard shard work)) false (λ x. DoesStep old (Own (AtShard shard work)) false new × fact x) r kept (λ x d. d.0) (go r h); answers = go r h }
+  where
+    old : Served
+    old = served_of_parts side race lines
+
+    new : Served
+    new = served_of_parts side race (set lines place after)
+
+    p : IsShard old.node shard place line
+    p = shard_found old.node shard count place o line is_count given some here
+
+    cause : (c : Option NodeFault) → event_refusal line (work_event work false line) ≡ c → refusal old (Own (AtShard shard work)) ≡ c
+    cause c e = ap (work_refusal work) p.is ∙ e
+
+    go : (r : Result X NodeFault) → IsDecided (event_refusal line (work_event work false line)) done (after ≡ line) r → IsDecided (refusal old (Own (AtShard shard work))) (λ x. DoesStep old (Own (AtShard shard work)) false new × fact x) (new ≡ old) r
+    go (Ok x) g = (cause None g.0, (work_done side race race lines shard place work false line after p g.0 (does x g.1) moves, told p.is x g.1))
+    go (Err why) g = (cause (Some why) g.0, ap (served_of_parts side race) (lines_same lines place line after here g.1))
+
 -- an answer with another word for what was done
 pub reworded : {X : Type 0} (cause : Option NodeFault) (same : Type 0) (done fact : X → Type 0) (r : Result X (Failure NodeFault)) → ((x : X) → done x → fact x) → IsAnswered cause done same r → IsAnswered cause fact same r
 reworded cause same done fact (Ok x) f h = (h.0, f x h.1)
 reworded cause same done fact (Err (Refused why)) f h = h
 reworded cause same done fact (Err OutOfMemory) f h = h
+
+pub redecided : {X : Type 0} (cause : Option NodeFault) (same : Type 0) (done fact : X → Type 0) (r : Result X NodeFault) → ((x : X) → done x → fact x) → IsDecided cause done same r → IsDecided cause fact same r
+redecided cause same done fact (Ok x) f h = (h.0, f x h.1)
+redecided cause same done fact (Err why) f h = h
 
 -- ---- a turn is finished
 

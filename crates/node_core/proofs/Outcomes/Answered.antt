@@ -14,12 +14,12 @@ use Rattle.subj.specs.declared.jobs.Job.{Job}
 use Rattle.node_parts.specs.declared.lines.Claimed.{Claimed}
 use Rattle.node_parts.specs.declared.lines.Claimed.TheVariants as code
 use Rattle.node_law.specs.Answers.{OnSession, Kept, TakenFrames, Nothing, Began, Issued, Collected, told_of_shard, told_of_line, told_at}
-use Rattle.node_law.specs.Events.{Own, OfConn, AtShard, Publish, Collect, Receive, Dial, Accept, CutSession, TakeFrames, OnInfo, OnConnect}
+use Rattle.node_law.specs.Events.{Own, OfConn, AtShard, Publish, Collect, Drain, Receive, Dial, Accept, CutSession, TakeFrames, OnInfo, OnConnect}
 use Rattle.node_law.specs.declared.events.ConnEvent.{ConnEvent}
 use Rattle.node_law.specs.declared.events.ShardWork.{ShardWork}
 use Rattle.node_law.specs.declared.events.ShardWork.TheVariants.{Begin, Claim, DropJob}
 use Rattle.node_core.specs.Outcome.{Answers, told_of_claim}
-use Rattle.node_core.specs.Served.{Served, ConnStep, WorkStep, BeginStep, ClaimStep, IsToldAt, DropStep, DialStep, AcceptStep, CutStep, FramesStep, InfoStep, ConnectStep, PublishStep, ReceiveStep, CollectStep, told_of_received, IsClaimTold, IsClaimToldAt, answer_at, line_answer, work_answer, is_won}
+use Rattle.node_core.specs.Served.{Served, ConnStep, WorkStep, BeginStep, ClaimStep, IsToldAt, DropStep, DialStep, AcceptStep, CutStep, FramesStep, InfoStep, ConnectStep, PublishStep, ReceiveStep, CollectStep, DrainStep, told_of_received, IsClaimTold, IsClaimToldAt, answer_at, line_answer, work_answer, is_won}
 use Rattle.hub_core.specs.Publishing.{Publication}
 use Rattle.node_parts.specs.declared.told.Received.{Received}
 use Rattle.node_law.specs.State.{ShardWithJobs}
@@ -106,6 +106,9 @@ publish_answers old new p turn frames d = record { won = false; step = d.step; t
 
 pub receive_answers : (old new : Served) (frame : Frame) (received : Received) → ReceiveStep old frame received new → Answers old (Receive frame) (told_of_received received) new
 receive_answers old new frame received d = record { won = false; step = d.step; told = d.answered }
+
+pub drain_answers : (old new : Served) (changes frames : ℕ) (cut : List ℕ) → DrainStep old changes frames cut new → Answers old (Own Drain) (Collected changes frames cut) new
+drain_answers old new changes frames cut d = record { won = false; step = d.step; told = d.answered }
 
 pub collect_answers : (old new : Served) (shard changes frames : ℕ) (cut : List ℕ) → CollectStep old shard changes frames cut new → Answers old (Own (Collect shard)) (Collected changes frames cut) new
 collect_answers old new shard changes frames cut d = record { won = false; step = d.step; told = d.answered }

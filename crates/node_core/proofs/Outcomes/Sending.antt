@@ -15,7 +15,7 @@ use Rattle.route_values.specs.declared.frames.RouteFrame.{RouteFrame}
 use Rattle.route_values.specs.declared.frames.RouteFrame.TheVariants as route
 use Rattle.node_law.specs.declared.faults.NodeFault.TheVariants as node_fault
 use Rattle.node_law.specs.Answers.{Answer, OnSession, Kept}
-use Rattle.node_law.specs.Events.{Own, Publish, Collect, Dial, Accept, CutSession, TakeFrames, Receive, OnInfo, OnConnect}
+use Rattle.node_law.specs.Events.{Own, Publish, Collect, Drain, Dial, Accept, CutSession, TakeFrames, Receive, OnInfo, OnConnect}
 use Rattle.node_core.specs.Outcome.{Outcome, Answers, Does}
 use Rattle.node_core.specs.Served.{Served, AcceptStep, InfoStep, ConnectStep}
 use Rattle.node_law.specs.Steps.{node_frames, seen_name}
@@ -31,6 +31,9 @@ publish_does old new p answer frames sent d = alone_does old new (Own (Publish p
 
 pub collect_does : (old new : Served) (shard : ℕ) (answer : Answer) (frames : List RouteFrame) → frames ≡ node_frames old.server old.node (Own (Collect shard)) → Answers old (Own (Collect shard)) answer new → Does old (Own (Collect shard)) (record { answer = answer; entries = []; frames = frames; shut = []; ended = [] }) new
 collect_does old new shard answer frames sent d = alone_does old new (Own (Collect shard)) answer frames (λ won. record { put = refl; closed = refl; over = refl }) sent d
+
+pub drain_does : (old new : Served) (answer : Answer) (frames : List RouteFrame) → frames ≡ node_frames old.server old.node (Own Drain) → Answers old (Own Drain) answer new → Does old (Own Drain) (record { answer = answer; entries = []; frames = frames; shut = []; ended = [] }) new
+drain_does old new answer frames sent d = alone_does old new (Own Drain) answer frames (λ won. record { put = refl; closed = refl; over = refl }) sent d
 
 pub dial_does : (old new : Served) (peer : ℕ) (answer : Answer) → Answers old (Own (Dial peer)) answer new → Does old (Own (Dial peer)) (record { answer = answer; entries = []; frames = []; shut = []; ended = [] }) new
 dial_does old new peer answer d = alone_does old new (Own (Dial peer)) answer [] (λ won. record { put = refl; closed = refl; over = refl }) refl d

@@ -28,7 +28,7 @@ use Rattle.node_law.specs.AsLaw.{Part, part_at, part_if, part_of}
 use Rattle.node_law.specs.Events.{NodeEvent, Own, OfConn, AtShard}
 use Rattle.node_law.specs.declared.events.ConnEvent.{ConnEvent}
 use Rattle.node_law.specs.declared.events.ConnEvent.TheVariants.{Subscribe, Unsubscribe, Reply, Shut, Detach, Take}
-use Rattle.node_law.specs.declared.events.ShardWork.TheVariants.{Attach, Begin, Claim, End, DropJob}
+use Rattle.node_law.specs.declared.events.ShardWork.TheVariants.{Attach, Begin, Claim, End, DropJob, DrainShard}
 use Rattle.node_core.specs.declared.node.stepping.ReplyPuts.{ReplyPuts}
 use Rattle.node_core.specs.Outcome.{Answers, Does, Outcome, claim_outcome, ended_told, entries_told, put_at, reply_outcome, shut_at, ended_at}
 use Rattle.node_core.specs.Served.{Served, ConnStep, BeginStep, ClaimStep, IsToldAt, IsClaimTold, IsClaimToldAt, answer_at, work_answer, is_won}
@@ -94,6 +94,7 @@ was_shut of_shard.Lost = false
 was_shut (of_shard.Won sub placed ended) = false
 was_shut of_shard.Finished = false
 was_shut (of_shard.Dropped job) = false
+was_shut of_shard.Drains = false
 was_shut (of_shard.Collected deltas) = false
 
 chosen : {X : Type 0} (shut fits : Bool) (last : X) (line : X) → shut ≡ not fits → cond shut last line ≡ cond fits line last
@@ -172,6 +173,7 @@ placed_of of_shard.Lost = []
 placed_of (of_shard.Won sub placed ended) = placed ∷ []
 placed_of of_shard.Finished = []
 placed_of (of_shard.Dropped job) = []
+placed_of of_shard.Drains = []
 placed_of (of_shard.Collected deltas) = []
 
 claim_put : (s : State) (hand : Option Job) (sub : Option Subscription) (won : Bool) → placed_of (claim_answer s hand sub won) ≡ put_by_claim s hand sub won
@@ -269,3 +271,10 @@ quiet_drop place won (Some line) = quiet_drop_of place line line.shard.hand (fir
 
 pub drop_does : (old new : Served) (shard : ℕ) (answer : Answer) → Answers old (Own (AtShard shard DropJob)) answer new → Does old (Own (AtShard shard DropJob)) (record { answer = answer; entries = []; frames = []; shut = []; ended = [] }) new
 drop_does old new shard answer d = alone_does old new (Own (AtShard shard DropJob)) answer [] (λ won. let q = quiet_drop (shard - 1) won (shard_line old.node shard) in record { put = q.put; closed = q.closed; over = q.over }) refl d
+
+quiet_drain : (place : ℕ) (won : Bool) (o : Option ShardWithJobs) → Putting place [] [] [] (part_at place (work_event DrainShard won) o)
+quiet_drain place won None = record { put = refl; closed = refl; over = refl }
+quiet_drain place won (Some line) = record { put = refl; closed = refl; over = refl }
+
+pub drain_shard_does : (old new : Served) (shard : ℕ) (answer : Answer) → Answers old (Own (AtShard shard DrainShard)) answer new → Does old (Own (AtShard shard DrainShard)) (record { answer = answer; entries = []; frames = []; shut = []; ended = [] }) new
+drain_shard_does old new shard answer d = alone_does old new (Own (AtShard shard DrainShard)) answer [] (λ won. let q = quiet_drain (shard - 1) won (shard_line old.node shard) in record { put = q.put; closed = q.closed; over = q.over }) refl d

@@ -18,8 +18,8 @@ use sub_table::SubTable;
 use subj::{ConnId, Failure, Message, Pub, Subject};
 
 impl<T: SubTable, R: Race> Node<T, R> {
-    /// Whether no job waits or is in hand at any of its shards, its hub was told of all openings and closings, and one more turn
-    /// and one more publication have a number.
+    /// Whether no job waits or is in hand at any of its shards, its hub was told of all openings and closings and does not drain,
+    /// and one more turn and one more publication have a number.
     pub fn is_settled(&self) -> bool
         ensures { result ≡ is_node_settled self.now.node }
     {
@@ -28,7 +28,7 @@ impl<T: SubTable, R: Race> Node<T, R> {
                 return false;
             }
         }
-        self.side.hub().can_number()
+        self.side.hub().goes_on()
     }
 
     /// Whether the other server, at this place, is known as it runs: a session with its incarnation is kept, it is up, its

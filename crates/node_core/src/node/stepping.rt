@@ -7,7 +7,7 @@ ghost use Rattle.route_values.specs.declared.frames.RouteFrame.TheVariants.{Numb
 ghost use Rattle.shard_core.specs.Owed.{slow_consumer};
 ghost use Rattle.shard_core.specs.Puts.{put_line};
 ghost use Rattle.subj.specs.Answers.{IsAnswered};
-ghost use Rattle.node_law.specs.Events.{Own, OfConn, AtShard, OnInfo, OnConnect, Publish, Collect, Accept, Receive};
+ghost use Rattle.node_law.specs.Events.{Own, OfConn, AtShard, OnInfo, OnConnect, Publish, Collect, Drain, Accept, Receive};
 ghost use Rattle.node_law.specs.declared.events.ConnEvent.TheVariants.{Unsubscribe, Reply, Shut, Detach, Subscribe};
 ghost use Rattle.node_law.specs.declared.events.ShardWork.TheVariants.{Begin, Claim};
 ghost use Rattle.node_core.specs.Outcome.{Does, did_of, Answers, claim_outcome, reply_outcome, told_of_claim};
@@ -282,7 +282,7 @@ impl<T: SubTable, R: Race> Node<T, R> {
     }
 
     /// The step of what a shard is asked to do.
-    #[tactic(auto, using(crate::proofs::Outcomes::Told::attach_does, crate::proofs::Outcomes::Told::end_does, crate::proofs::Outcomes::Told::drop_does))]
+    #[tactic(auto, using(crate::proofs::Outcomes::Told::attach_does, crate::proofs::Outcomes::Told::end_does, crate::proofs::Outcomes::Told::drop_does, crate::proofs::Outcomes::Told::drain_shard_does))]
     fn did_of_shard(&mut self, shard: u64, work: ShardWork) -> Result<Did, Failure<NodeFault>>
         ensures { IsAnswered (refusal self.old (Own (AtShard shard work))) (λ did. Does self.old (Own (AtShard shard work)) (did_of did) self.new) (self.new ≡ self.old) result }
     {
@@ -292,7 +292,7 @@ impl<T: SubTable, R: Race> Node<T, R> {
         match work {
             ShardWork::Begin => self.did_begin(shard),
             ShardWork::Claim { index } => self.did_claim(shard, index),
-            ShardWork::Attach | ShardWork::End | ShardWork::DropJob => {
+            ShardWork::Attach | ShardWork::End | ShardWork::DropJob | ShardWork::DrainShard => {
                 let answer = self.answer_of_shard(shard, work)?;
                 Ok(Did::answer_alone(self.alloc, answer))
             }
@@ -396,11 +396,15 @@ impl<T: SubTable, R: Race> Node<T, R> {
                 Ok(_) => Ok(Answer::Nothing),
                 Err(fault) => Err(Failure::Refused(fault)),
             },
+            ShardWork::DrainShard => match self.drain_shard(shard) {
+                Ok(()) => Ok(Answer::Nothing),
+                Err(fault) => Err(Failure::Refused(fault)),
+            },
         }
     }
 
     /// The step of an event of its own.
-    #[tactic(auto, using(crate::proofs::Outcomes::Answered::publish_answers, crate::proofs::Outcomes::Answered::collect_answers, crate::proofs::Outcomes::Answered::dial_answers, crate::proofs::Outcomes::Answered::accept_answers, crate::proofs::Outcomes::Answered::cut_answers, crate::proofs::Outcomes::Answered::frames_answers))]
+    #[tactic(auto, using(crate::proofs::Outcomes::Answered::publish_answers, crate::proofs::Outcomes::Answered::collect_answers, crate::proofs::Outcomes::Answered::drain_answers, crate::proofs::Outcomes::Answered::dial_answers, crate::proofs::Outcomes::Answered::accept_answers, crate::proofs::Outcomes::Answered::cut_answers, crate::proofs::Outcomes::Answered::frames_answers))]
     fn own_answer(&mut self, event: &OwnEvent) -> Result<Answer, Failure<NodeFault>>
         ensures { IsAnswered (refusal self.old (Own (own_event_of event.now))) (λ answer. Answers self.old (Own (own_event_of event.now)) (answer_of answer) self.new) (self.new ≡ self.old) result }
     {
@@ -420,6 +424,14 @@ impl<T: SubTable, R: Race> Node<T, R> {
             }
             OwnEvent::Collect { shard } => {
                 let told = self.collect(*shard)?;
+                Ok(Answer::Collected {
+                    changes: told.changes,
+                    frames: told.frames,
+                    cut: told.cut,
+                })
+            }
+            OwnEvent::Drain => {
+                let told = self.drain()?;
                 Ok(Answer::Collected {
                     changes: told.changes,
                     frames: told.frames,
@@ -569,6 +581,20 @@ impl<T: SubTable, R: Race> Node<T, R> {
         Ok(frames)
     }
 
+    /// The frames that a drain puts. It changes nothing.
+    fn drain_frames(&self) -> Result<Vec<RouteFrame>, Failure<NodeFault>>
+        ensures { let e = Own Drain in IsAnswered (refusal self.now e) (λ frames. frames.items ≡ node_frames self.now.server self.now.node e) ⊤ result }
+    {
+        let frames = match self.side.hub().frames_of_drain() {
+            Ok(frames) => frames,
+            Err(fault) => return of_hub(Err(fault)),
+        };
+        let Ok(frames) = route_frames(self.alloc, frames) else {
+            return Err(Failure::OutOfMemory);
+        };
+        Ok(frames)
+    }
+
     /// Accepts a session, with the `INFO` to send.
     #[tactic(auto, using(crate::proofs::Outcomes::Sending::accept_does))]
     fn did_accept(&mut self) -> Result<Did, Failure<NodeFault>>
@@ -584,7 +610,7 @@ impl<T: SubTable, R: Race> Node<T, R> {
     }
 
     /// The step of an event of its own.
-    #[tactic(auto, using(crate::proofs::Outcomes::Sending::publish_does, crate::proofs::Outcomes::Sending::collect_does, crate::proofs::Outcomes::Sending::dial_does, crate::proofs::Outcomes::Sending::cut_does, crate::proofs::Outcomes::Sending::frames_does))]
+    #[tactic(auto, using(crate::proofs::Outcomes::Sending::publish_does, crate::proofs::Outcomes::Sending::collect_does, crate::proofs::Outcomes::Sending::drain_does, crate::proofs::Outcomes::Sending::dial_does, crate::proofs::Outcomes::Sending::cut_does, crate::proofs::Outcomes::Sending::frames_does))]
     fn own_did(&mut self, event: &OwnEvent) -> Result<Did, Failure<NodeFault>>
         ensures { IsAnswered (refusal self.old (Own (own_event_of event.now))) (λ did. Does self.old (Own (own_event_of event.now)) (did_of did) self.new) (self.new ≡ self.old) result }
     {
@@ -602,6 +628,11 @@ impl<T: SubTable, R: Race> Node<T, R> {
             }
             OwnEvent::Collect { shard } => {
                 let frames = self.collect_frames(*shard)?;
+                let answer = self.own_answer(event)?;
+                Ok(Did::of_frames(self.alloc, answer, frames))
+            }
+            OwnEvent::Drain => {
+                let frames = self.drain_frames()?;
                 let answer = self.own_answer(event)?;
                 Ok(Did::of_frames(self.alloc, answer, frames))
             }

@@ -24,7 +24,7 @@ use Rattle.shard_core.specs.ShardEvents as of_shard
 use Rattle.shard_core.specs.Shards as shards
 use Rattle.shard_core.specs.ShardSteps.{sub_called, new_sub, after_subscribe, ended_now, after_unsubscribe, answer_fits, done_with, shard_refusal, claim_refusal, end_refusal, shard_after}
 use Rattle.node_law.specs.declared.faults.NodeFault.TheVariants.{Shard}
-use Rattle.node_law.specs.Events.{ConnEvent, Subscribe, Unsubscribe, Reply, Shut, Detach, Take, ShardWork, Attach, Begin, Claim, End, DropJob, OfConn, AtShard, Publish, Collect, Dial, Accept, CutSession, TakeFrames, NodeEvent, Own, Receive, OnInfo, OnConnect}
+use Rattle.node_law.specs.Events.{ConnEvent, Subscribe, Unsubscribe, Reply, Shut, Detach, Take, ShardWork, Attach, Begin, Claim, End, DropJob, DrainShard, OfConn, AtShard, Publish, Collect, Drain, Dial, Accept, CutSession, TakeFrames, NodeEvent, Own, Receive, OnInfo, OnConnect}
 use Rattle.node_law.specs.OneServer.{Claimed, is_of_pair, is_of_shard, claimed_at, claimed_with, work_claims, claims_by, claims_of, Ended, ended_with, ended_at, work_ends, ends_by, ends_of, EndedAll}
 use Rattle.node_law.specs.Runs.{Done, Ran}
 use Rattle.node_law.specs.Sound.{SoundNode}
@@ -291,6 +291,7 @@ work_counts server a s End won claims ends (Some line) sound at cause k =
     (subst (λ n. Counts (set a.lines (s - 1) (line_after of_shard.End line)) claims (ended_with n line.shard.hand ++ ends)) (one_up s (slice_get a.lines (s - 1)) line at)
     (end_case a.race.issued (s - 1) a.lines line claims ends (found (nat_eq s 0) (slice_get a.lines (s - 1)) line at) (line_sound server a sound s line at) (map_none Shard (shard_refusal line.shard of_shard.End) cause) k))
 work_counts server a s DropJob won claims ends (Some line) sound at cause k = set_counts a.lines (s - 1) _ claims ends k (drop_counted a.race.issued (suc (s - 1)) line claims ends (line_sound server a sound s line at) (k.each (s - 1) line (found (nat_eq s 0) (slice_get a.lines (s - 1)) line at)))
+work_counts server a s DrainShard won claims ends (Some line) sound at cause k = let c = k.each (s - 1) line (found (nat_eq s 0) (slice_get a.lines (s - 1)) line at) in set_counts a.lines (s - 1) _ claims ends k (record { now = c.now; past = c.past })
 
 body_counts : (a : Node) (frame : Frame) (body : Body) (claims : List Claimed) (ends : List Ended) → Counts a.lines claims ends → Counts (lines_after_body a frame body) claims ends
 body_counts a frame (Plus weighted) claims ends k = k
@@ -305,6 +306,7 @@ step_counts server a (Own (AtShard s work)) b r claims ends sound cause k = work
 step_counts server a (Own (Publish p)) b r claims ends sound cause k = queue_counts (own_job server a.hub p) a.lines claims ends k
 step_counts server a (Own (Collect s)) b r claims ends sound cause k =
     line_case (s - 1) (line_after of_shard.Collect) a.lines (shard_line a s) claims ends (λ line at. found (nat_eq s 0) (slice_get a.lines (s - 1)) line at) (λ line at c. record { now = c.now; past = c.past }) k
+step_counts server a (Own Drain) b r claims ends sound cause k = k
 step_counts server a (Own (Dial q)) b r claims ends sound cause k = k
 step_counts server a (Own Accept) b r claims ends sound cause k = k
 step_counts server a (Own (CutSession q)) b r claims ends sound cause k = k

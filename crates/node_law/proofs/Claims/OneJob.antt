@@ -20,7 +20,7 @@ use Rattle.shard_core.specs.ShardEvents as of_shard
 use Rattle.shard_core.specs.Shards as shards
 use Rattle.shard_core.specs.ShardSteps.{sub_called, new_sub, after_subscribe, ended_now, after_unsubscribe, answer_fits, done_with, shard_after}
 use Rattle.node_law.specs.AsLaw.{jobs_by, body_jobs}
-use Rattle.node_law.specs.Events.{ConnEvent, Subscribe, Unsubscribe, Reply, Shut, Detach, Take, ShardWork, Attach, Begin, Claim, End, DropJob, OfConn, AtShard, Publish, Collect, Dial, Accept, CutSession, TakeFrames, NodeEvent, Own, Receive, OnInfo, OnConnect}
+use Rattle.node_law.specs.Events.{ConnEvent, Subscribe, Unsubscribe, Reply, Shut, Detach, Take, ShardWork, Attach, Begin, Claim, End, DropJob, DrainShard, OfConn, AtShard, Publish, Collect, Drain, Dial, Accept, CutSession, TakeFrames, NodeEvent, Own, Receive, OnInfo, OnConnect}
 use Rattle.node_law.specs.OneServer.{Claimed, claimed_at, claimed_with, work_claims, claims_by, claims_of, Ended, ended_with, ended_at, work_ends, ends_by, ends_of, jobs_of, HasOneJob}
 use Rattle.node_law.specs.Runs.{Done, Ran}
 use Rattle.node_law.specs.Sound.{SoundNode}
@@ -109,6 +109,7 @@ work_known jobs DropJob won line k = go line.shard.hand (first_of line.waiting)
     go None None = k
     go None (Some job) = record { hand = λ j f. k.hand j (done_keeps line.shard (option_or line.shard.hand (Some job)) j f); waiting = drop_in jobs line.waiting line.shard.hand (Some job) k.waiting }
     go (Some busy) o = record { hand = λ j f. k.hand j (done_keeps line.shard (option_or line.shard.hand None) j f); waiting = drop_in jobs line.waiting line.shard.hand None k.waiting }
+work_known jobs DrainShard won line k = record { hand = k.hand; waiting = k.waiting }
 
 -- ---- of the whole server
 
@@ -151,6 +152,7 @@ work_claims_known a s Begin won jobs claims known k = k
 work_claims_known a s (Claim index) won jobs claims known k = more_claims s index won jobs claims (shard_line a s) known k
 work_claims_known a s End won jobs claims known k = k
 work_claims_known a s DropJob won jobs claims known k = k
+work_claims_known a s DrainShard won jobs claims known k = k
 
 work_ends_known : (a : Node) (s : ℕ) (work : ShardWork) (jobs : List Job) (ends : List Ended) → ((line : ShardWithJobs) → shard_line a s ≡ Some line → Known jobs line) → Each (λ x. In x.job jobs) ends → Each (λ x. In x.job jobs) (work_ends a s work ++ ends)
 work_ends_known a s Attach jobs ends known k = k
@@ -158,6 +160,7 @@ work_ends_known a s Begin jobs ends known k = k
 work_ends_known a s (Claim index) jobs ends known k = k
 work_ends_known a s End jobs ends known k = more_ended s jobs ends (shard_line a s) known k
 work_ends_known a s DropJob jobs ends known k = k
+work_ends_known a s DrainShard jobs ends known k = k
 
 -- a new job
 queue_known : (issued issued' : ℕ) (lines : List ShardWithJobs) (job : Job) (jobs : List Job) (claims : List Claimed) (ends : List Ended) → job.turn ≡ suc issued → issued' ≡ suc issued → Jobs issued lines jobs claims ends → Jobs issued' (map (line_with_job job) lines) (job ∷ jobs) claims ends
@@ -205,6 +208,7 @@ step_jobs server a (Own (AtShard s work)) b r jobs claims ends sound race k =
 step_jobs server a (Own (Publish p)) b r jobs claims ends sound race k = queue_known a.race.issued r.issued a.lines (own_job server a.hub p) jobs claims ends (next_is a.hub.issued a.race.issued sound.issued) (issued_is a.race.issued r.issued (a.race.issued + 1) race.after race.issued) k
 step_jobs server a (Own (Collect s)) b r jobs claims ends sound race k =
     at_known a.race.issued (s - 1) (line_after of_shard.Collect) a.lines jobs claims ends (shard_line a s) (λ line at. found (nat_eq s 0) (slice_get a.lines (s - 1)) line at) (λ line h. record { hand = h.hand; waiting = h.waiting }) k
+step_jobs server a (Own Drain) b r jobs claims ends sound race k = k
 step_jobs server a (Own (Dial q)) b r jobs claims ends sound race k = k
 step_jobs server a (Own Accept) b r jobs claims ends sound race k = k
 step_jobs server a (Own (CutSession q)) b r jobs claims ends sound race k = k

@@ -16,7 +16,7 @@ use Rattle.shard_core.specs.Owed.{candidate_of}
 use Rattle.shard_core.specs.Lines.{SoundLine, Turns, begun_turn}
 use Rattle.node_law.specs.Race.{race_of, IssuesNext, Decides}
 use Rattle.node_law.specs.State.{ShardWithJobs, Node}
-use Rattle.node_law.specs.Events.{ShardWork, Attach, Begin, Claim, End, DropJob, OfConn, AtShard, Publish, Collect, Dial, Accept, CutSession, TakeFrames, NodeEvent, Own, Receive, OnInfo, OnConnect}
+use Rattle.node_law.specs.Events.{ShardWork, Attach, Begin, Claim, End, DropJob, DrainShard, OfConn, AtShard, Publish, Collect, Drain, Dial, Accept, CutSession, TakeFrames, NodeEvent, Own, Receive, OnInfo, OnConnect}
 use Rattle.node_law.specs.Steps.{shard_line, ClaimRace, WorkRace, BodyRace, NodeRace, node_after}
 use Rattle.node_law.specs.Sound.{SoundNode}
 use Rattle.node_law.specs.Runs.{Done, Ran}
@@ -128,6 +128,8 @@ work_case s Attach b a new claims (Some line) at sound is w = same_says a.race n
 work_case s Begin b a new claims (Some line) at sound is w = same_says a.race new claims is w
 work_case s End b a new claims (Some line) at sound is w = keeps_says (race_of a.race) (race_of new) claims (races_follow_the_law.finishes a.race s (line.shard.finished + 1) new is) w
 work_case s DropJob b a new claims (Some line) at sound is w = keeps_says (race_of a.race) (race_of new) claims (races_follow_the_law.finishes a.race s (line.shard.finished + 1) new is) w
+work_case s DrainShard b a new claims None at sound is w = same_says a.race new claims is w
+work_case s DrainShard b a new claims (Some line) at sound is w = same_says a.race new claims is w
 
 body_case : (a : Node) (body : Body) (r : RaceState) (claims : List Claimed) → BodyRace a body r → Winners (race_of a.race) claims → Winners (race_of r) claims
 body_case a (Plus weighted) r claims is w = same_says a.race r claims is w
@@ -140,6 +142,7 @@ step_winners server a (Own (OfConn conn event)) b r claims sound race w = w
 step_winners server a (Own (AtShard s work)) b r claims sound race w = work_case s work b a r claims (shard_line a s) refl (line_sound server a sound s) race w
 step_winners server a (Own (Publish p)) b r claims sound race w = issues_says (race_of a.race) (race_of r) claims (races_follow_the_law.issues a.race (a.race.issued + 1) r race) w
 step_winners server a (Own (Collect s)) b r claims sound race w = w
+step_winners server a (Own Drain) b r claims sound race w = w
 step_winners server a (Own (Dial q)) b r claims sound race w = w
 step_winners server a (Own Accept) b r claims sound race w = w
 step_winners server a (Own (CutSession k)) b r claims sound race w = w
@@ -193,12 +196,14 @@ work_below server a s Begin b claims sound below = below
 work_below server a s (Claim index) b claims sound below = claim_below s index b a.race.issued claims (shard_line a s) (line_sound server a sound s) below
 work_below server a s End b claims sound below = below
 work_below server a s DropJob b claims sound below = below
+work_below server a s DrainShard b claims sound below = below
 
 step_below : (server : ServerIdentity) (a : Node) (e : NodeEvent) (b : Bool) (claims : List Claimed) → SoundNode server a → Below a.race.issued claims → Below a.race.issued (claims_by a e b ++ claims)
 step_below server a (Own (OfConn conn event)) b claims sound below = below
 step_below server a (Own (AtShard s work)) b claims sound below = work_below server a s work b claims sound below
 step_below server a (Own (Publish p)) b claims sound below = below
 step_below server a (Own (Collect s)) b claims sound below = below
+step_below server a (Own Drain) b claims sound below = below
 step_below server a (Own (Dial q)) b claims sound below = below
 step_below server a (Own Accept) b claims sound below = below
 step_below server a (Own (CutSession k)) b claims sound below = below
@@ -219,6 +224,7 @@ work_issued old s Begin (Some line) b new k = let h = ap (λ (x : RaceState). x.
 work_issued old s (Claim index) (Some line) b new k = claim_issued old s index line.shard.hand (candidate_of line.shard line.shard.hand index) b new k
 work_issued old s End (Some line) b new k = let h = k.issued in omega arith
 work_issued old s DropJob (Some line) b new k = let h = k.issued in omega arith
+work_issued old s DrainShard (Some line) b new k = let h = ap (λ (x : RaceState). x.issued) k in omega arith
 
 body_issued : (a : Node) (body : Body) (r : RaceState) → BodyRace a body r → a.race.issued ≤ r.issued
 body_issued a (Plus weighted) r k = let h = ap (λ (x : RaceState). x.issued) k in omega arith
@@ -231,6 +237,7 @@ issued_after server a (Own (OfConn conn event)) b r race = omega arith
 issued_after server a (Own (AtShard s work)) b r race = work_issued a.race s work (shard_line a s) b r race
 issued_after server a (Own (Publish p)) b r race = let h = race.issued in let g = race.after in omega arith
 issued_after server a (Own (Collect s)) b r race = omega arith
+issued_after server a (Own Drain) b r race = omega arith
 issued_after server a (Own (Dial q)) b r race = omega arith
 issued_after server a (Own Accept) b r race = omega arith
 issued_after server a (Own (CutSession k)) b r race = omega arith

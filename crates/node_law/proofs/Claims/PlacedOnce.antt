@@ -99,6 +99,7 @@ none_else turn name s (of_shard.Begin job) other = go (nat_eq job.turn turn)
 none_else turn name s (of_shard.Claim index won) other = absurd (true≢false other)
 none_else turn name s of_shard.End other = refl
 none_else turn name s (of_shard.DropJob waiting) other = refl
+none_else turn name s of_shard.Drain other = refl
 none_else turn name s of_shard.Collect other = refl
 
 -- where the name stands in the job of the turn
@@ -172,6 +173,7 @@ module _ (turn index : ℕ) (name : List ℕ) where
           (claim_less turn index name shard k won line.shard line.shard.hand (candidate_of line.shard line.shard.hand k) refl (subst (λ o. Each (Stands turn name index) (claimed_at shard k won o)) at stands))
       go of_node.End (Some line) at stands = omega arith
       go of_node.DropJob (Some line) at stands = if_less (shard - 1) line (drop_of line.shard.hand (first_of line.waiting)) _ (drops line.shard.hand (first_of line.waiting))
+      go of_node.DrainShard (Some line) at stands = omega arith
 
   step_less : (server : ServerIdentity) (a : Node) (e : NodeEvent) (won : Bool) → Each (Stands turn name index) (claims_by a e won) → length (put_for turn name (part_of server a e won)) ≤ length (flat_map (placed_of turn index) (claims_by a e won))
   step_less server a (Own (of_node.OfConn conn event)) won stands = go (conn_line server a conn)
@@ -182,6 +184,7 @@ module _ (turn index : ℕ) (name : List ℕ) where
   step_less server a (Own (of_node.AtShard shard work)) won stands = work_less a shard work won stands
   step_less server a (Own (of_node.Publish p)) won stands = omega arith
   step_less server a (Own (of_node.Collect shard)) won stands = omega arith
+  step_less server a (Own of_node.Drain) won stands = omega arith
   step_less server a (Own (of_node.Dial q)) won stands = omega arith
   step_less server a (Own of_node.Accept) won stands = omega arith
   step_less server a (Own (of_node.CutSession session)) won stands = omega arith

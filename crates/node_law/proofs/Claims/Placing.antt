@@ -20,7 +20,7 @@ use Rattle.shard_core.proofs.Clients.Outboxes.{are_put}
 use Rattle.node_law.specs.declared.faults.NodeFault.TheVariants.{Shard}
 use Rattle.node_law.specs.AsLaw.{waits_in, waits_at}
 use Rattle.node_law.specs.State.{ShardWithJobs, Node}
-use Rattle.node_law.specs.Events.{Attach, Begin, Claim, End, DropJob, OfConn, AtShard, Publish, Collect, Dial, Accept, CutSession, TakeFrames, NodeEvent, Own, Receive, OnInfo, OnConnect}
+use Rattle.node_law.specs.Events.{Attach, Begin, Claim, End, DropJob, DrainShard, OfConn, AtShard, Publish, Collect, Drain, Dial, Accept, CutSession, TakeFrames, NodeEvent, Own, Receive, OnInfo, OnConnect}
 use Rattle.node_law.specs.Steps.{shard_line, work_refusal, line_after, set_line, node_refusal, node_after}
 use Rattle.node_law.specs.Sound.{SoundNode}
 use Rattle.node_law.specs.OneServer.{Claimed, claims_by, claimed_at, claimed_with, placed_with, placed_by, ClaimsPlace}
@@ -81,8 +81,10 @@ claims_put server a (Own (AtShard s Begin)) won race sound cause = λ x i. absur
 claims_put server a (Own (AtShard s (Claim index))) won race sound cause = claim_case server a s index won (shard_line a s) sound refl cause
 claims_put server a (Own (AtShard s End)) won race sound cause = λ x i. absurd i
 claims_put server a (Own (AtShard s DropJob)) won race sound cause = λ x i. absurd i
+claims_put server a (Own (AtShard s DrainShard)) won race sound cause = λ x i. absurd i
 claims_put server a (Own (Publish p)) won race sound cause = λ x i. absurd i
 claims_put server a (Own (Collect s)) won race sound cause = λ x i. absurd i
+claims_put server a (Own Drain) won race sound cause = λ x i. absurd i
 claims_put server a (Own (Dial q)) won race sound cause = λ x i. absurd i
 claims_put server a (Own Accept) won race sound cause = λ x i. absurd i
 claims_put server a (Own (CutSession k)) won race sound cause = λ x i. absurd i

@@ -25,7 +25,7 @@ use Rattle.shard_core.specs.ShardSteps.{sub_called, new_sub, after_subscribe, en
 use Rattle.shard_core.specs.declared.faults.ShardFault.TheVariants.{JobInHand, WrongTurn, BadIndex}
 use Rattle.node_law.specs.declared.faults.NodeFault.TheVariants.{Shard}
 use Rattle.node_law.specs.State.{ShardWithJobs, Node}
-use Rattle.node_law.specs.Events.{ConnEvent, Subscribe, Unsubscribe, Reply, Shut, Detach, Take, ShardWork, Attach, Begin, Claim, End, DropJob, OfConn, AtShard, Publish, Collect, Dial, Accept, CutSession, TakeFrames, NodeEvent, Own, Receive, OnInfo, OnConnect}
+use Rattle.node_law.specs.Events.{ConnEvent, Subscribe, Unsubscribe, Reply, Shut, Detach, Take, ShardWork, Attach, Begin, Claim, End, DropJob, DrainShard, OfConn, AtShard, Publish, Collect, Drain, Dial, Accept, CutSession, TakeFrames, NodeEvent, Own, Receive, OnInfo, OnConnect}
 use Rattle.node_law.specs.Steps.{conn_place, conn_line, shard_line, conn_event, begin_of, drop_of, work_event, conn_refusal, event_refusal, work_refusal, collect_refusal_at, ClaimRace, WorkRace, NodeRace, node_refusal, node_after, line_after, line_after_if, set_line, line_with_job, lines_after_body, BodyRace}
 use Rattle.node_law.specs.Sound.{SoundNode, IsRaced, tried_of}
 use Rattle.node_law.proofs.Moves.LineEvents.{found, same_refusal}
@@ -181,6 +181,7 @@ work_raced race new lines shard k DropJob won line at raced sound cause h = go l
     go None is None first c = absurd (none-some _ (sym c))
     go None is (Some job) first c = over_turn race new lines shard line (line_after (of_shard.DropJob (Some job)) line) job raced h (next_turn line.shard line.waiting k job sound.turns is first) (dropped_free line.shard job is)
     go (Some job) is f first c = over_turn race new lines shard line (line_after (of_shard.DropJob None) line) job raced h (sound.hand job is) (dropped_held line.shard job is)
+work_raced race new lines shard k DrainShard won line at raced sound cause h = subst (λ r. IsRaced r (set lines (shard - 1) (line_after of_shard.Drain line))) (sym h) (tracked race lines (shard - 1) line (line_after of_shard.Drain line) at raced (record { finished = refl; hand = refl; next = refl }))
 
 -- ---- each step
 
@@ -211,6 +212,7 @@ raced_after server a (Own (OfConn conn event)) won race sound raced cause h = co
 raced_after server a (Own (AtShard shard work)) won race sound raced cause h = shard_raced server a shard work won race (shard_line a shard) sound refl raced cause h
 raced_after server a (Own (Publish p)) won race sound raced cause h = issued a.race race (a.race.issued + 1) (own_job server a.hub p) a.lines raced h
 raced_after server a (Own (Collect shard)) won race sound raced cause h = told_raced a shard (shard_line a shard) refl raced cause
+raced_after server a (Own Drain) won race sound raced cause h = raced
 raced_after server a (Own (Dial q)) won race sound raced cause h = raced
 raced_after server a (Own Accept) won race sound raced cause h = raced
 raced_after server a (Own (CutSession session)) won race sound raced cause h = raced

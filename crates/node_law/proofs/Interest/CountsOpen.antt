@@ -26,11 +26,11 @@ use Rattle.interest.specs.KeyOrder.{key_order_total}
 use Rattle.interest.specs.Laws.{IsCounting, StaysWithin, times, one_if_same}
 use Rattle.client_frames.specs.Frames.{reply_line}
 use Rattle.outbox.specs.Views.{with_entry, with_last, reply_entry}
-use Rattle.shard_core.specs.declared.faults.ShardFault.TheVariants.{NoConn, TooManySubs, Spent as Used}
+use Rattle.shard_core.specs.declared.faults.ShardFault.TheVariants.{NoConn, Draining, TooManySubs, Spent as Used}
 use Rattle.shard_core.specs.Shards.{State, is_open, clients_with_change}
 use Rattle.shard_core.specs.Closings.{serials_of, left_of, without_subs}
 use Rattle.shard_core.specs.Owed.{Walk, whole_walk, walk_with_entry, due_entry, first_step, slow_consumer, after_walk, sub_with_count, candidate_of, after_claim, after_try, reaches}
-use Rattle.shard_core.specs.ShardEvents.{Event, Attach, Subscribe, Unsubscribe, Reply, Shut, Detach, Take, Begin, Claim, End, DropJob, Collect}
+use Rattle.shard_core.specs.ShardEvents.{Event, Attach, Subscribe, Unsubscribe, Reply, Shut, Detach, Take, Begin, Claim, End, DropJob, Drain, Collect}
 use Rattle.shard_core.specs.ShardSteps.{sub_called, is_full, new_sub, after_subscribe, ended_now, after_unsubscribe, answer_fits, done_with, shard_refusal, shard_after}
 use Rattle.shard_core.specs.Lines.{first_of}
 use Rattle.route_values.specs.declared.bodies.Body.{Body}
@@ -134,6 +134,7 @@ is_collect (Begin job) = false
 is_collect (Claim index won) = false
 is_collect End = false
 is_collect (DropJob waiting) = false
+is_collect Drain = false
 is_collect Collect = true
 
 done_told : (few small : ℕ) (ks : List Key) (s : State) (job : Option Job) → ShardTold few small ks s → ShardTold few small ks (done_with s job)
@@ -142,7 +143,7 @@ done_told few small ks s (Some job) t = record { base = t.base; fits = t.fits; r
 
 shard_told : (ks : List Key) (s : State) (e : Event) → Distinct (serials_of s.subs) → shard_refusal s e ≡ None → is_collect e ≡ false → ShardTold (SUBSCRIPTIONS / s.shards) (SUBSCRIPTION_BYTES / s.shards) ks s → ShardTold (SUBSCRIPTIONS / s.shards) (SUBSCRIPTION_BYTES / s.shards) ks (shard_after s e)
 shard_told ks s Attach apart cause told_not t = record { base = t.base; fits = t.fits; replays = t.replays }
-shard_told ks s (Subscribe conn key sid) apart cause told_not t = go (sub_called conn sid s.subs) (no_cause (not (is_open conn s.clients)) NoConn _ cause).1
+shard_told ks s (Subscribe conn key sid) apart cause told_not t = go (sub_called conn sid s.subs) (no_cause s.draining Draining _ (no_cause (not (is_open conn s.clients)) NoConn _ cause).1).1
   where
     go : (o : Option Subscription) → (if is_some o then None else (if is_full s key then Some TooManySubs else (if nat_le MAX_SERIAL s.opened then Some Used else None))) ≡ None → ShardTold (SUBSCRIPTIONS / s.shards) (SUBSCRIPTION_BYTES / s.shards) ks (after_subscribe s (new_sub s conn key sid) o)
     go (Some u) f = t
@@ -184,6 +185,7 @@ shard_told ks s (Claim index won) apart cause told_not t = go s.hand (candidate_
     go (Some job) (Some u) true = walk_told _ _ ks (after_try s) (walk_with_entry (due_entry s.shard job u.key.queue u) u (first_step s.clients)) (ended u (reaches u.max (u.delivered + 1))) (record { base = t.base; fits = t.fits; replays = t.replays })
 shard_told ks s End apart cause told_not t = done_told _ _ ks s s.hand t
 shard_told ks s (DropJob waiting) apart cause told_not t = done_told _ _ ks s (option_or s.hand waiting) t
+shard_told ks s Drain apart cause told_not t = record { base = t.base; fits = t.fits; replays = t.replays }
 shard_told ks s Collect apart cause told_not t = absurd (true≢false told_not)
 
 -- ---- all lines
@@ -421,6 +423,7 @@ work_tells_not of_node.DropJob won line e is = go line.shard.hand (first_of line
     go None None g = absurd (none-some e g)
     go None (Some job) g = ap is_collect (sym (same_Some (DropJob (Some job)) e g))
     go (Some job) f g = ap is_collect (sym (same_Some (DropJob None) e g))
+work_tells_not of_node.DrainShard won line e is = ap is_collect (sym (same_Some Drain e is))
 
 -- ---- at the start
 
@@ -507,6 +510,7 @@ module _ (law : IsCounting) (stays : StaysWithin) (server : ServerIdentity) wher
       go : (o : Option ShardWithJobs) → shard_line a shard ≡ o → Told server.shards (SUBSCRIPTIONS / server.shards) (SUBSCRIPTION_BYTES / server.shards) (counts_told a.hub.counts (deltas_at o)) (set_line a.lines (shard - 1) (line_after Collect) o)
       go None at = t
       go (Some line) at = (collected_told a (shard - 1) line (found (nat_eq shard 0) (slice_get a.lines (shard - 1)) line at) t).1
+  step_told a (Own of_node.Drain) won race sound cause t = t
   step_told a (Own (of_node.Dial q)) won race sound cause t = t
   step_told a (Own of_node.Accept) won race sound cause t = t
   step_told a (Own (of_node.CutSession session)) won race sound cause t = subst (λ counts. Told server.shards (SUBSCRIPTIONS / server.shards) (SUBSCRIPTION_BYTES / server.shards) counts a.lines) (sym (same (peer_of_session session a.sessions.standing))) t

@@ -10,7 +10,7 @@ use Rattle.sub_table.specs.declared.Subscription.{Subscription}
 use Rattle.shard_core.specs.Shards.{State}
 use Rattle.shard_core.specs.Closings.{serials_of}
 use Rattle.shard_core.specs.Owed.{first_step, is_due, candidate_of}
-use Rattle.shard_core.specs.ShardEvents.{Event, Attach, Subscribe, Unsubscribe, Reply, Shut, Detach, Take, Begin, Claim, End, DropJob, Collect}
+use Rattle.shard_core.specs.ShardEvents.{Event, Attach, Subscribe, Unsubscribe, Reply, Shut, Detach, Take, Begin, Claim, End, DropJob, Drain, Collect}
 use Rattle.shard_core.specs.AsLaw.{given_by, given_by_claim}
 use Rattle.shard_core.proofs.Steps.LawEvents.{walk_gives}
 use Rattle.node_law.specs.State.{ShardWithJobs, Node}
@@ -44,6 +44,7 @@ given_apart s (Claim index won) apart = go s.hand (candidate_of s s.hand index) 
     go (Some job) (Some u) false = tt
 given_apart s End apart = tt
 given_apart s (DropJob waiting) apart = tt
+given_apart s Drain apart = tt
 given_apart s Collect apart = tt
 
 at_apart : (server : ServerIdentity) (a : Node) (place : ℕ) (event : ShardWithJobs → Option Event) (o : Option ShardWithJobs) → SoundNode server a → ((line : ShardWithJobs) → o ≡ Some line → slice_get a.lines place ≡ Some line) → Apart (given_at (part_at place event o))
@@ -59,6 +60,7 @@ part_apart server a (Own (of_node.OfConn conn event)) won sound = at_apart serve
 part_apart server a (Own (of_node.AtShard shard work)) won sound = at_apart server a (shard - 1) (work_event work won) (shard_line a shard) sound (λ line e. found (nat_eq shard 0) (slice_get a.lines (shard - 1)) line e)
 part_apart server a (Own (of_node.Publish p)) won sound = tt
 part_apart server a (Own (of_node.Collect shard)) won sound = tt
+part_apart server a (Own of_node.Drain) won sound = tt
 part_apart server a (Own (of_node.Dial q)) won sound = tt
 part_apart server a (Own of_node.Accept) won sound = tt
 part_apart server a (Own (of_node.CutSession session)) won sound = tt

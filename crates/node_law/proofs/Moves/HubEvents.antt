@@ -25,7 +25,7 @@ use Rattle.hub_core.specs.State as hub
 use Rattle.hub_core.specs.State.{Peer, seen_of}
 use Rattle.hub_core.specs.Publishing.{Publication, publish_refusal, after_publish, own_job, frames_of}
 use Rattle.hub_core.specs.Receiving.{receive_refusal, after_receive, routed_job}
-use Rattle.hub_core.specs.Telling.{collect_refusal, after_collect, collect_frames, changes_of}
+use Rattle.hub_core.specs.Telling.{collect_refusal, after_collect, collect_frames, changes_of, drain_refusal, after_drain, drain_frames, clearing}
 use Rattle.hub_core.specs.Peers.{up, snapshot_to}
 use Rattle.hub_core.specs.AsLaw.{hub_of, id_of, frame_of, IsPublished}
 use Rattle.hub_core.proofs.Choices.Places.{named}
@@ -33,7 +33,7 @@ use Rattle.hub_core.proofs.Steps.Rooms.{map_none}
 use Rattle.hub_core.proofs.Neighbours.Known.{set_length}
 use Rattle.hub_core.proofs.Steps.Publishes.{publishes_in_law}
 use Rattle.hub_core.proofs.Steps.Receives.{receives_in_law, meets_in_law}
-use Rattle.hub_core.proofs.Steps.Announces.{announces_in_law}
+use Rattle.hub_core.proofs.Steps.Announces.{announces_in_law, drains_in_law}
 use Rattle.route_session.specs.State as sessions
 use Rattle.route_session.specs.State.{Session, kept_for}
 use Rattle.route_session.specs.Steps.{duplicate_fault, info_offer, connect_offer, info_fault, info_refusal, connect_fault, connect_refusal}
@@ -172,6 +172,26 @@ collect_steps server now shard a (Some line) sessions is sound at cause =
             out_is = refl;
             after = λ i. record (node_of server a) { hub = hub_of (after_collect server a.hub line.shard.deltas); shards = map_set_same (line_of server) a.lines (shard - 1) line (line_after of_shard.Collect line) there refl i };
           }) refl (sym (numbered_seen server (collect_frames server a.hub line.shard.deltas))) refl refl refl refl,
+    )
+
+-- ---- drain
+
+pub drain_steps : (server : ServerIdentity) (now : ℕ) (a : Node) (sessions : sessions.State)
+    → IsListed server → SoundNode server a → drain_refusal a.hub ≡ None
+    → (x : law.NodeEvent) × IsOwn x × Steps server now a (record { hub = after_drain server a.hub; sessions = sessions; race = a.race; lines = a.lines }) x [] (map (sent_of server) (map route.Numbered (drain_frames server a.hub))) clearing [] [] []
+drain_steps server now a sessions is sound cause =
+    let r = drains_in_law (law_at server) server a.hub is sound.peers cause in (
+      law.Announce _,
+      tt,
+      hub_steps server now a _ _ _ [] _ clearing [] (λ place serial. refl)
+          (record { issued = sound.issued; size = sound.size; lines = sound.lines; peers = r.peers; counts = sound.counts })
+          (record {
+            hub = hub_of (after_drain server a.hub);
+            frames = map (frame_of server) (drain_frames server a.hub);
+            announces = r.announces;
+            out_is = refl;
+            after = λ i. record (node_of server a) { hub = hub_of (after_drain server a.hub) };
+          }) refl (sym (numbered_seen server (drain_frames server a.hub))) refl refl refl refl,
     )
 
 -- ---- sessions

@@ -21,7 +21,7 @@ use Rattle.shard_core.proofs.Steps.LawEvents.{shards_follow_the_law}
 use Rattle.node_law.specs.declared.faults.NodeFault.TheVariants.{Shard}
 use Rattle.node_law.specs.Race.{race_of}
 use Rattle.node_law.specs.State.{ShardWithJobs, Node}
-use Rattle.node_law.specs.Events.{ConnEvent, Subscribe, Unsubscribe, Reply, Shut, Detach, Take, ShardWork, Attach, Begin, Claim, End, DropJob}
+use Rattle.node_law.specs.Events.{ConnEvent, Subscribe, Unsubscribe, Reply, Shut, Detach, Take, ShardWork, Attach, Begin, Claim, End, DropJob, DrainShard}
 use Rattle.node_law.specs.Steps.{conn_place, conn_line, shard_line, conn_event, begin_of, drop_of, work_event, conn_refusal, event_refusal, work_refusal, ClaimRace, WorkRace, line_after, line_after_if, set_line}
 use Rattle.node_law.specs.Sound.{SoundNode}
 use Rattle.node_law.specs.AsLaw.{law_at, part_if, part_at, given_at, placements_at, conn_lives}
@@ -93,6 +93,7 @@ work_ready shard DropJob line won old new h e is = go line.shard.hand refl (firs
     go None in_hand None at g = absurd (none-some e g)
     go None in_hand (Some job) at g = subst (λ x. Ready line x old new) (same_Some (of_shard.DropJob (Some job)) e g) (record { has = subst (λ m. HasJob m (of_shard.DropJob (Some job)) line.waiting) (sym in_hand) (job, refl, at); moves = races_follow_the_law.finishes old shard (line.shard.finished + 1) new h; issued = h.issued })
     go (Some job) in_hand f at g = subst (λ x. Ready line x old new) (same_Some (of_shard.DropJob None) e g) (record { has = subst (λ m. HasJob m (of_shard.DropJob None) line.waiting) (sym in_hand) refl; moves = races_follow_the_law.finishes old shard (line.shard.finished + 1) new h; issued = h.issued })
+work_ready shard DrainShard line won old new h e is = subst (λ x. Ready line x old new) (same_Some of_shard.Drain e is) (record { has = tt; moves = subst (λ r. Keeps WINDOW (race_of old) (race_of r)) (sym h) (same_race old); issued = ap (λ (r : RaceState). r.issued) h })
 
 no_lives : (work : ShardWork) (line : ShardWithJobs) (won : Bool) (e : of_shard.Event) → work_event work won line ≡ Some e → (n inc now place : ℕ) → lives_by n inc now place line.shard e ≡ []
 no_lives Attach line won e is n inc now place = subst (λ x. lives_by n inc now place line.shard x ≡ []) (same_Some of_shard.Attach e is) refl
@@ -109,6 +110,7 @@ no_lives DropJob line won e is n inc now place = go line.shard.hand (first_of li
     go None None g = absurd (none-some e g)
     go None (Some job) g = subst (λ x. lives_by n inc now place line.shard x ≡ []) (same_Some (of_shard.DropJob (Some job)) e g) refl
     go (Some job) f g = subst (λ x. lives_by n inc now place line.shard x ≡ []) (same_Some (of_shard.DropJob None) e g) refl
+no_lives DrainShard line won e is n inc now place = subst (λ x. lives_by n inc now place line.shard x ≡ []) (same_Some of_shard.Drain e is) refl
 
 -- whether a claim is won does not decide whether it is refused
 pub same_refusal : (work : ShardWork) (line : ShardWithJobs) (won : Bool) → event_refusal line (work_event work false line) ≡ event_refusal line (work_event work won line)
@@ -117,6 +119,7 @@ same_refusal Begin line won = refl
 same_refusal (Claim index) line won = refl
 same_refusal End line won = refl
 same_refusal DropJob line won = refl
+same_refusal DrainShard line won = refl
 
 pub work_steps : (server : ServerIdentity) (now shard : ℕ) (a : Node) (work : ShardWork) (won : Bool) (o : Option ShardWithJobs) (race : RaceState) (subs : List Subscription)
     → SoundNode server a → shard_line a shard ≡ o → work_refusal work o ≡ None → WorkRace a.race shard work o won race → AreThese (given_at (part_at (shard - 1) (work_event work won) o)) subs

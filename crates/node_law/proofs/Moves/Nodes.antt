@@ -9,6 +9,7 @@ use Rattle.claim_race.specs.Race.{RaceState}
 use Rattle.hub_core.specs.State as hub
 use Rattle.hub_core.specs.Publishing.{publish_refusal}
 use Rattle.hub_core.specs.Receiving.{receive_refusal}
+use Rattle.hub_core.specs.Telling.{drain_refusal}
 use Rattle.hub_core.specs.Peers.{after_take, snapshot_to}
 use Rattle.hub_core.specs.AsLaw.{hub_of, frame_of, HasPeers}
 use Rattle.hub_core.proofs.Steps.Rooms.{map_none}
@@ -18,7 +19,7 @@ use Rattle.route_session.specs.Steps.{info_refusal, connect_refusal}
 use Rattle.shard_core.specs.AsLaw.{AreThese}
 use Rattle.node_law.specs.declared.faults.NodeFault.TheVariants.{Hub, Session}
 use Rattle.node_law.specs.State.{Node, finished_turns}
-use Rattle.node_law.specs.Events.{OfConn, AtShard, Publish, Collect, Dial, Accept, CutSession, TakeFrames, NodeEvent, Own, Receive, OnInfo, OnConnect}
+use Rattle.node_law.specs.Events.{OfConn, AtShard, Publish, Collect, Drain, Dial, Accept, CutSession, TakeFrames, NodeEvent, Own, Receive, OnInfo, OnConnect}
 use Rattle.node_law.specs.Steps.{conn_line, shard_line, seen_name, node_refusal, NodeRace, node_after, cut_if, node_frames}
 use Rattle.node_law.specs.Sound.{SoundNode}
 use Rattle.node_law.specs.AsLaw.{Shown, given_at, part_of, publications_by, sent_of, changes_by, jobs_by, lives_at, placements_at, Moves, NodeFollows, StaysSound}
@@ -27,7 +28,7 @@ use Rattle.node_law.proofs.Moves.LineEvents.{conn_steps, work_steps}
 use Rattle.node_law.proofs.Moves.Hubs.{told_steps}
 use Rattle.node_law.proofs.Moves.GivenApart.{part_apart}
 use Rattle.node_law.proofs.Claims.Raced.{raced_after}
-use Rattle.node_law.proofs.Moves.HubEvents.{publish_steps, receive_steps, collect_steps, info_greets, connect_greets, up_steps, greeted, snapshot_told}
+use Rattle.node_law.proofs.Moves.HubEvents.{publish_steps, receive_steps, collect_steps, drain_steps, info_greets, connect_greets, up_steps, greeted, snapshot_told}
 
 abbrev NodeSteps : ServerIdentity → ℕ → Node → NodeEvent → Bool → Node → List Subscription → Type 0
 NodeSteps server now a e won b subs =
@@ -50,6 +51,7 @@ node_steps server now a (Own (OfConn conn event)) won race subs is sound cause m
 node_steps server now a (Own (AtShard shard work)) won race subs is sound cause moves these = work_steps server now shard a work won (shard_line a shard) race subs sound refl cause moves these
 node_steps server now a (Own (Publish p)) won race subs is sound cause moves these = (law.Publish (content_of p.publication.message), tt, publish_steps server now a p race is sound (map_none Hub (publish_refusal server a.hub p (finished_turns a.lines)) cause) moves)
 node_steps server now a (Own (Collect shard)) won race subs is sound cause moves these = collect_steps server now shard a (shard_line a shard) _ is sound refl cause
+node_steps server now a (Own Drain) won race subs is sound cause moves these = drain_steps server now a _ is sound (map_none Hub (drain_refusal a.hub) cause)
 node_steps server now a (Own (Dial q)) won race subs is sound cause moves these = (law.Announce [], tt, told_steps server now a a.hub _ a.race [] sound refl refl refl sound.peers refl (λ f i. absurd i))
 node_steps server now a (Own Accept) won race subs is sound cause moves these = (law.Announce [], tt, told_steps server now a a.hub _ a.race _ sound refl refl refl sound.peers refl (each_one _ _ (greeted server is (hub_of a.hub) (hub_of a.hub))))
 node_steps server now a (Own (CutSession session)) won race subs is sound cause moves these =

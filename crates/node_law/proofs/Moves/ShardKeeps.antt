@@ -12,7 +12,7 @@ use Rattle.subj.specs.declared.jobs.Job.{Job}
 use Rattle.shard_core.specs.Shards.{State}
 use Rattle.shard_core.specs.Closings.{serials_of}
 use Rattle.shard_core.specs.Owed.{candidate_of, after_claim, after_put, after_try}
-use Rattle.shard_core.specs.ShardEvents.{Event, Attach, Subscribe, Unsubscribe, Reply, Shut, Detach, Take, Begin, Claim, End, DropJob, Collect}
+use Rattle.shard_core.specs.ShardEvents.{Event, Attach, Subscribe, Unsubscribe, Reply, Shut, Detach, Take, Begin, Claim, End, DropJob, Drain, Collect}
 use Rattle.shard_core.specs.ShardSteps.{sub_called, new_sub, after_subscribe, ended_now, after_unsubscribe, answer_fits, done_with, shard_after}
 use Rattle.shard_core.specs.AsLaw.{is_open_serial, opened_by, lives_by}
 
@@ -57,6 +57,7 @@ keeps_number s (DropJob waiting) = go (option_or s.hand waiting)
     go : (hand : Option Job) → Same s (done_with s hand)
     go None = record { shard = refl; shards = refl }
     go (Some job) = record { shard = refl; shards = refl }
+keeps_number s Drain = record { shard = refl; shards = refl }
 keeps_number s Collect = record { shard = refl; shards = refl }
 
 -- a life of this shard that is open
@@ -87,4 +88,5 @@ lives_open n inc now place s (Begin job) = λ life i. absurd i
 lives_open n inc now place s (Claim index won) = λ life i. absurd i
 lives_open n inc now place s End = λ life i. absurd i
 lives_open n inc now place s (DropJob waiting) = λ life i. absurd i
+lives_open n inc now place s Drain = λ life i. absurd i
 lives_open n inc now place s Collect = λ life i. absurd i

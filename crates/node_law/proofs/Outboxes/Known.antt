@@ -17,7 +17,7 @@ use Rattle.shard_core.specs.ShardEvents as of_shard
 use Rattle.shard_core.specs.ShardSteps.{shard_refusal}
 use Rattle.node_law.specs.declared.faults.NodeFault.TheVariants.{NoShard, Shard}
 use Rattle.node_law.specs.AsLaw.{part_if, part_at, part_of, waits_in, waits_at}
-use Rattle.node_law.specs.Events.{ConnEvent, ShardWork, OfConn, AtShard, Publish, Collect, Dial, Accept, CutSession, TakeFrames, NodeEvent, Own, Receive, OnInfo, OnConnect}
+use Rattle.node_law.specs.Events.{ConnEvent, ShardWork, OfConn, AtShard, Publish, Collect, Drain, Dial, Accept, CutSession, TakeFrames, NodeEvent, Own, Receive, OnInfo, OnConnect}
 use Rattle.node_law.specs.State.{ShardWithJobs, Node, lines_from}
 use Rattle.node_law.specs.Steps.{conn_place, conn_line, shard_line, conn_event, work_event, conn_refusal, no_job, event_refusal, work_refusal, line_after, line_after_if, set_line, line_with_job, lines_after_body, node_refusal, node_after}
 use Rattle.node_law.specs.Outboxes.{History, no_history, after_event, after_part, history_of, shut_in, is_shut_at, IsKnown, OutboxesAreKnown}
@@ -95,6 +95,7 @@ module _ (place conn : ℕ) (x : History) where
   step_known server a (Own (AtShard shard work)) won race cause known = work_known a shard work won (shard_line a shard) refl cause known
   step_known server a (Own (Publish p)) won race cause known = queued_known (own_job server a.hub p) a.lines known
   step_known server a (Own (Collect shard)) won race cause known = collected_known a.lines (shard - 1) (shard_line a shard) (λ line e. found (nat_eq shard 0) (slice_get a.lines (shard - 1)) line e) known
+  step_known server a (Own Drain) won race cause known = known
   step_known server a (Own (Dial q)) won race cause known = known
   step_known server a (Own Accept) won race cause known = known
   step_known server a (Own (CutSession session)) won race cause known = known

@@ -14,7 +14,7 @@ use Rattle.sub_table.specs.declared.Subscription.{Subscription}
 use Rattle.shard_core.specs.Shards.{State, Client, client_at, is_open, takes_events, with_outbox, clients_with_change, without_client, fits, entries_of, waits_for}
 use Rattle.shard_core.specs.Owed.{Walk, walk, whole_walk, is_due, first_step, walk_after_put, walk_with_entry, walk_with_shut, due_entry, placed_for, slow_consumer, candidate_of, candidate_named, after_claim}
 use Rattle.shard_core.specs.Puts.{put_line, put_by, put_by_claim, entries_for, kept_of}
-use Rattle.shard_core.specs.ShardEvents.{Event, Attach, Subscribe, Unsubscribe, Reply, Shut, Detach, Take, Begin, Claim, End, DropJob, Collect}
+use Rattle.shard_core.specs.ShardEvents.{Event, Attach, Subscribe, Unsubscribe, Reply, Shut, Detach, Take, Begin, Claim, End, DropJob, Drain, Collect}
 use Rattle.shard_core.specs.ShardSteps.{sub_called, new_client, new_sub, after_subscribe, ended_now, after_unsubscribe, answer_fits, was_shut, done_with, shard_refusal, shard_after}
 use Rattle.shard_core.proofs.Steps.LawEvents.{candidate_is}
 use Rattle.shard_core.proofs.Clients.Outboxes.{changed_here, changed_there, gone, stays, entries_append, entries_here, entries_there, are_put}
@@ -202,6 +202,7 @@ event_gets s (Claim index won) cause k here = go s.hand (candidate_of s s.hand i
     go (Some job) (Some u) is = by job u is won
 event_gets s End cause k here = done_gets s s.hand k
 event_gets s (DropJob waiting) cause k here = done_gets s (option_or s.hand waiting) k
+event_gets s Drain cause k here = nothing _ _ refl
 event_gets s Collect cause k here = nothing _ _ refl
 
 -- what is put are the replies and messages, and then the last lines
@@ -221,6 +222,7 @@ puts_are s (Begin job) k = entries_append k (map (placed_for s.shard job None) (
 puts_are s (Claim index won) k = sym (append_nil _)
 puts_are s End k = refl
 puts_are s (DropJob waiting) k = refl
+puts_are s Drain k = refl
 puts_are s Collect k = refl
 
 -- what is taken stood in front of what is kept
@@ -240,6 +242,7 @@ takes (Begin job) k waits here = refl
 takes (Claim index won) k waits here = refl
 takes End k waits here = refl
 takes (DropJob waiting) k waits here = refl
+takes Drain k waits here = refl
 takes Collect k waits here = refl
 
 -- ---- what was known stays so
@@ -292,6 +295,7 @@ event_known s e cause k x known = go (is_detach k e) refl
     gone_now (Claim index won) f = absurd (true≢false (sym f))
     gone_now End f = absurd (true≢false (sym f))
     gone_now (DropJob waiting) f = absurd (true≢false (sym f))
+    gone_now Drain f = absurd (true≢false (sym f))
     gone_now Collect f = absurd (true≢false (sym f))
 
     go : (b : Bool) → is_detach k e ≡ b → IsKnown (cond b no_history (record { due = x.due ++ entries_for k (due_by s e); last = x.last ++ entries_for k (last_by s e); taken = x.taken ++ taken_by e k (waits_for k s.clients) })) (waits_for k (shard_after s e).clients) (is_shut k (shard_after s e).clients)

@@ -25,7 +25,7 @@ use Rattle.shard_core.proofs.Clients.Limits.{limits_kept, numbers_kept, first_nu
 use Rattle.node_law.specs.declared.faults.NodeFault.TheVariants.{NoShard, Shard}
 use Rattle.node_law.specs.AsLaw.{Part, part_if, part_at, part_of}
 use Rattle.node_law.specs.EachShard.{ShardsStayHeld}
-use Rattle.node_law.specs.Events.{ConnEvent, ShardWork, OfConn, AtShard, Publish, Collect, Dial, Accept, CutSession, TakeFrames, NodeEvent, Own, Receive, OnInfo, OnConnect}
+use Rattle.node_law.specs.Events.{ConnEvent, ShardWork, OfConn, AtShard, Publish, Collect, Drain, Dial, Accept, CutSession, TakeFrames, NodeEvent, Own, Receive, OnInfo, OnConnect}
 use Rattle.node_law.specs.Runs.{Done, Ran}
 use Rattle.node_law.specs.State.{ShardWithJobs, Node, lines_from, new_line}
 use Rattle.node_law.specs.Steps.{conn_place, conn_line, shard_line, conn_event, work_event, conn_refusal, no_job, event_refusal, work_refusal, line_after, line_after_if, set_line, line_with_job, lines_after_body, node_refusal, node_after, NodeStep}
@@ -104,6 +104,7 @@ module _ (place : ℕ) where
   after_goes server a (Own (AtShard shard work)) won race cause = work_goes a shard work won (shard_line a shard) refl cause
   after_goes server a (Own (Publish p)) won race cause = queued_goes (own_job server a.hub p) a.lines
   after_goes server a (Own (Collect shard)) won race cause = collected_goes a.lines (shard - 1) (shard_line a shard) (λ line e. found (nat_eq shard 0) (slice_get a.lines (shard - 1)) line e)
+  after_goes server a (Own Drain) won race cause = nothing (slice_get a.lines place) (slice_get a.lines place) refl
   after_goes server a (Own (Dial q)) won race cause = nothing (slice_get a.lines place) (slice_get a.lines place) refl
   after_goes server a (Own Accept) won race cause = nothing (slice_get a.lines place) (slice_get a.lines place) refl
   after_goes server a (Own (CutSession session)) won race cause = nothing (slice_get a.lines place) (slice_get a.lines place) refl

@@ -13,7 +13,7 @@ use Rattle.hub_core.specs.State.{IsSound, seen_of}
 use Rattle.hub_core.specs.Events as of_hub
 use Rattle.hub_core.specs.Publishing.{publish_refusal}
 use Rattle.hub_core.specs.Receiving.{receive_refusal}
-use Rattle.hub_core.specs.Telling.{slow_peers, after_collect, collect_refusal}
+use Rattle.hub_core.specs.Telling.{slow_peers, after_collect, collect_refusal, drain_refusal, peers_too_slow}
 use Rattle.hub_core.specs.Peers.{take_refusal}
 use Rattle.hub_core.specs.Steps as hub_steps
 use Rattle.hub_core.proofs.Steps.Rooms.{map_none}
@@ -23,7 +23,7 @@ use Rattle.route_session.specs.State.{Session, session_at, peer_of_session}
 use Rattle.route_session.specs.Steps.{info_offer, connect_offer, info_refusal, connect_refusal, is_not_of_peer, is_another, without_peer, without_peers, kept_at, after_completion, after_info}
 use Rattle.node_law.specs.declared.faults.NodeFault.TheVariants.{Hub, Session as OfSession, NoShard}
 use Rattle.node_law.specs.State.{ShardWithJobs, Node, finished_turns}
-use Rattle.node_law.specs.Events.{OfConn, AtShard, Publish, Collect, Dial, Accept, CutSession, TakeFrames, NodeEvent, Own, Receive, OnInfo, OnConnect}
+use Rattle.node_law.specs.Events.{OfConn, AtShard, Publish, Collect, Drain, Dial, Accept, CutSession, TakeFrames, NodeEvent, Own, Receive, OnInfo, OnConnect}
 use Rattle.node_law.specs.Steps.{shard_line, deltas_at, collect_refusal_at, cut_if, seen_name, node_refusal, node_after}
 use Rattle.node_law.specs.Runs.{Done, Ran}
 use Rattle.node_law.specs.HubsSound.{IsSpelt, HubsStaySound}
@@ -95,6 +95,7 @@ module _ (law : hub_steps.StaysSound) (server : ServerIdentity) (listed : IsList
       go : (o : Option ShardWithJobs) → collect_refusal_at a.hub o ≡ None → IsSound server (after_collect server a.hub (deltas_at o))
       go None f = absurd (none-some NoShard (sym f))
       go (Some line) f = done a.hub (of_hub.Collect shard line.shard.deltas) tt (map_none Hub (collect_refusal a.hub line.shard.deltas) f) s.sound
+  step_sound a (Own Drain) won race spelt cause s = record { sound = done a.hub of_hub.Drain tt (map_none Hub (drain_refusal a.hub) cause) s.sound; others = all_others server (peers_too_slow a.hub) a.sessions s.others }
   step_sound a (Own (Dial q)) won race spelt cause s = record { sound = s.sound; others = more_others server a.sessions.standing (record { number = a.sessions.numbers + 1; dialed = Some q; serial = a.sessions.dials + 1; kept = None }) refl s.others }
   step_sound a (Own Accept) won race spelt cause s = record { sound = s.sound; others = more_others server a.sessions.standing (record { number = a.sessions.numbers + 1; dialed = None; serial = 0; kept = None }) refl s.others }
   step_sound a (Own (CutSession session)) won race spelt cause s = record { sound = go (peer_of_session session a.sessions.standing) refl; others = filter_others server (is_another session) a.sessions.standing s.others }

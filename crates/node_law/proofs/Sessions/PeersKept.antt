@@ -18,7 +18,7 @@ use Rattle.hub_core.specs.State as hub
 use Rattle.hub_core.specs.State.{Peer, unknown_peer, peer_of, seen_of, peer_in_life, changed_in}
 use Rattle.hub_core.specs.Publishing.{frames_of, with_frames}
 use Rattle.hub_core.specs.Receiving.{body_fault, origin_fault, receive_refusal, told_by}
-use Rattle.hub_core.specs.Telling.{count_of_changes, has_room_for, is_slow, slow_from, collect_frames, without_slow}
+use Rattle.hub_core.specs.Telling.{count_of_changes, has_room_for, is_slow, slow_from, collect_frames, without_slow, drain_frames, peers_too_slow}
 use Rattle.hub_core.specs.Peers.{snapshot_to, up}
 use Rattle.hub_core.specs.declared.faults.HubFault.TheVariants.{NotMe, OtherMe, NotInCluster, StaleOrigin}
 use Rattle.hub_core.proofs.Steps.Rooms.{map_none}
@@ -28,7 +28,7 @@ use Rattle.route_session.specs.Steps.{info_offer, connect_offer, info_fault, inf
 use Rattle.route_session.specs.declared.faults.SessionFault.TheVariants.{UnknownSession}
 use Rattle.node_law.specs.declared.faults.NodeFault.TheVariants.{Hub, Session as OfSession}
 use Rattle.node_law.specs.State.{Node, new_node, finished_turns}
-use Rattle.node_law.specs.Events.{OfConn, AtShard, Publish, Collect, Dial, Accept, CutSession, TakeFrames, NodeEvent, Own, Receive, OnInfo, OnConnect}
+use Rattle.node_law.specs.Events.{OfConn, AtShard, Publish, Collect, Drain, Dial, Accept, CutSession, TakeFrames, NodeEvent, Own, Receive, OnInfo, OnConnect}
 use Rattle.node_law.specs.Steps.{shard_line, deltas_at, seen_name, sessions_after_frame, node_refusal, node_after}
 use Rattle.node_law.specs.Runs.{Done, Ran}
 use Rattle.node_law.specs.Sound.{SoundNode}
@@ -200,6 +200,10 @@ step_kept server a (Own (Collect shard)) won race seen sound cause k = go (delta
     go deltas = same_all (map (without_slow (count_of_changes a.hub deltas)) a.hub.peers) _ (without_peers (slow_from (count_of_changes a.hub deltas) 0 a.hub.peers) a.sessions) seen
         (frames_same server (collect_frames server a.hub deltas) 0 (map (without_slow (count_of_changes a.hub deltas)) a.hub.peers))
         (slow_kept (count_of_changes a.hub deltas) a.hub.peers a.sessions seen k)
+step_kept server a (Own Drain) won race seen sound cause k =
+    same_all (map (without_slow 1) a.hub.peers) _ (without_peers (peers_too_slow a.hub) a.sessions) seen
+    (frames_same server (drain_frames server a.hub) 0 (map (without_slow 1) a.hub.peers))
+    (slow_kept 1 a.hub.peers a.sessions seen k)
 step_kept server a (Own (Dial q)) won race seen sound cause k = added a.hub.peers a.sessions (a.sessions.dials + 1) seen (record { number = a.sessions.numbers + 1; dialed = Some q; serial = a.sessions.dials + 1; kept = None }) refl refl k
 step_kept server a (Own Accept) won race seen sound cause k = added a.hub.peers a.sessions a.sessions.dials seen (record { number = a.sessions.numbers + 1; dialed = None; serial = 0; kept = None }) refl refl k
 step_kept server a (Own (CutSession session)) won race seen sound cause k = cut_kept a.hub a.sessions seen session (map_none OfSession (cut_refusal (session_at session a.sessions.standing)) cause) k

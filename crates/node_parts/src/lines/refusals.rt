@@ -64,6 +64,7 @@ impl<T: SubTable> ShardWithJobs<T> {
             ShardWork::Claim { index } => Some(NodeFault::Shard(self.shard.claim_fault(index)?)),
             ShardWork::End => Some(NodeFault::Shard(self.shard.end_fault()?)),
             ShardWork::DropJob => self.drop_fault(),
+            ShardWork::DrainShard => Some(NodeFault::Shard(self.shard.drain_fault()?)),
         }
     }
 }

@@ -1,5 +1,5 @@
 -- What a hub at work does, event by event.
-use Rattle.std.proofs.Common.{◌≡◌, ℕ, ◌+◌, List, [], ◌∷◌, ◌++◌, Option, Some, None, Result, Ok, Err, refl, sym, ap, ◌∙◌, subst, append-nil}
+use Rattle.std.proofs.Common.{◌≡◌, ℕ, List, [], ◌∷◌, ◌++◌, Option, Some, None, Result, Ok, Err, refl, sym, ap, ◌∙◌, subst, append-nil}
 use Rattle.subj.specs.Answers.{IsAnswered, IsDecided}
 use Rattle.subj.specs.Servers.{IsListed}
 use Rattle.subj.specs.declared.failures.Failure.{Failure}
@@ -87,3 +87,6 @@ does_decided shards w new e answer cause (Err why) q i h = record { keeps = subs
 
 pub quiet_collect : (s : HubWithSessions) (shard : ℕ) (deltas : List Delta) → Quiet s (ByHub (of_hub.Collect shard deltas))
 quiet_collect s shard deltas = record { jobs = refl; issued = refl }
+
+pub quiet_drain : (s : HubWithSessions) → Quiet s (ByHub of_hub.Drain)
+quiet_drain s = record { jobs = refl; issued = refl }

@@ -5,7 +5,7 @@ use Rattle.hub_core.specs.Telling.{collect_refusal}
 use Rattle.hub_core.specs.State as hub
 use Rattle.hub_core.proofs.Steps.Rooms.{map_none}
 use Rattle.node_law.specs.declared.faults.NodeFault.TheVariants.{NoShard, Hub, Session}
-use Rattle.node_law.specs.Events.{Own, OfConn, AtShard, Publish, Collect, Dial, Accept, CutSession, TakeFrames, Receive, OnInfo, OnConnect}
+use Rattle.node_law.specs.Events.{Own, OfConn, AtShard, Publish, Collect, Drain, Dial, Accept, CutSession, TakeFrames, Receive, OnInfo, OnConnect}
 use Rattle.node_law.specs.State.{ShardWithJobs}
 use Rattle.node_law.specs.Steps.{collect_refusal_at, shard_line, deltas_at}
 use Rattle.node_threads.specs.Parts.{side_at, SidesAreParts}
@@ -19,6 +19,7 @@ sides_are_parts server a (Own (OfConn conn event)) won race b step = λ k. side_
 sides_are_parts server a (Own (AtShard shard work)) won race b step = λ k. side_at server (step.after k)
 sides_are_parts server a (Own (Publish p)) won race b step = record { free = map_none Hub _ step.cause; asked = tt; answered = refl; after = λ k. side_at server (step.after k) }
 sides_are_parts server a (Own (Collect shard)) won race b step = record { free = of_line a.hub (shard_line a shard) step.cause; asked = tt; answered = refl; after = λ k. side_at server (step.after k) }
+sides_are_parts server a (Own Drain) won race b step = record { free = map_none Hub _ step.cause; asked = tt; answered = refl; after = λ k. side_at server (step.after k) }
 sides_are_parts server a (Own (Dial q)) won race b step = record { free = map_none Session _ step.cause; asked = tt; answered = refl; after = λ k. side_at server (step.after k) }
 sides_are_parts server a (Own Accept) won race b step = record { free = map_none Session _ step.cause; asked = tt; answered = refl; after = λ k. side_at server (step.after k) }
 sides_are_parts server a (Own (CutSession session)) won race b step = record { free = map_none Session _ step.cause; asked = tt; answered = refl; after = λ k. side_at server (step.after k) }

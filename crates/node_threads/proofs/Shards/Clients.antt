@@ -8,7 +8,7 @@ use Rattle.subj.specs.declared.failures.Failure.{Failure}
 use Rattle.subj.specs.declared.failures.Failure.TheVariants.{Refused, OutOfMemory}
 use Rattle.shard_core.specs.Answers as of_shard
 use Rattle.shard_core.specs.Held.{Held, DoesStep, IsLeft}
-use Rattle.shard_core.specs.ShardEvents.{Event, Attach, Subscribe, Unsubscribe, Reply, Shut, Detach, Take, Begin, Claim, End, DropJob, Collect, Answer, Taken}
+use Rattle.shard_core.specs.ShardEvents.{Event, Attach, Subscribe, Unsubscribe, Reply, Shut, Detach, Take, Begin, Claim, End, DropJob, Drain, Collect, Answer, Taken}
 use Rattle.shard_core.specs.ShardSteps.{IsAsked, sub_called, new_sub, after_subscribe, ended_now, after_unsubscribe, answer_fits, shard_refusal, shard_answer, shard_after}
 use Rattle.shard_core.specs.Shards.{State, waits_for}
 use Rattle.shard_core.specs.declared.faults.ShardFault.{ShardFault}
@@ -30,6 +30,7 @@ is_client (Begin job) = false
 is_client (Claim index won) = false
 is_client End = false
 is_client (DropJob waiting) = false
+is_client Drain = true
 is_client Collect = true
 
 record Quiet (s : State) (e : Event) : Type 0 where
@@ -49,6 +50,7 @@ quiet s (Begin job) c = absurd (true≢false (sym c))
 quiet s (Claim index won) c = absurd (true≢false (sym c))
 quiet s End c = absurd (true≢false (sym c))
 quiet s (DropJob waiting) c = absurd (true≢false (sym c))
+quiet s Drain c = record { jobs = refl; claims = λ b. refl; asked = tt }
 quiet s Collect c = record { jobs = refl; claims = λ b. refl; asked = tt }
 
 -- the job in hand, its next index and the finished turn stay
@@ -84,6 +86,7 @@ rests s (Begin job) c = absurd (true≢false (sym c))
 rests s (Claim index won) c = absurd (true≢false (sym c))
 rests s End c = absurd (true≢false (sym c))
 rests s (DropJob waiting) c = absurd (true≢false (sym c))
+rests s Drain c = still s _ refl refl refl
 rests s Collect c = still s _ refl refl refl
 
 -- the shard's step alone

@@ -1,5 +1,5 @@
 -- What is tested is so.
-use Rattle.std.proofs.Common.{◌≡◌, ◌≢◌, ℕ, zero, suc, ◌+◌, ◌<◌, ◌≤◌, Bool, true, false, true≢false, cond, ◌&&◌, ◌||◌, nat_eq, nat_lt, nat_le, List, [], ◌∷◌, length, Option, Some, None, refl, sym, ap, ◌∙◌, subst, inl, inr, ⊎_elim, arith}
+use Rattle.std.proofs.Common.{◌≡◌, ◌≢◌, ℕ, zero, suc, ◌+◌, ◌<◌, ◌≤◌, Bool, true, false, true≢false, cond, not, ◌&&◌, ◌||◌, nat_eq, nat_lt, nat_le, List, [], ◌∷◌, length, Option, Some, None, refl, sym, ap, ◌∙◌, subst, inl, inr, ⊎_elim, arith}
 use Rattle.std.specs.Prelude.{slice_get, sum_by, is_none, unwrap_or, All}
 use Rattle.std.specs.List.{list_any, list_all}
 use Rattle.std.specs.List.Sorted.{IsStrictlySortedBy}
@@ -13,7 +13,7 @@ use Rattle.std.proofs.lemmas.Option.{none-some, same_Some, slice_get_within}
 use Rattle.list_laws.specs.Lists.{In, Each, Pairs, is_empty}
 use Rattle.list_laws.proofs.Lists.{in_map, in_read, get_some}
 use Rattle.list_laws.proofs.Changes.{in_mapped}
-use Rattle.list_laws.proofs.Tests.{false_eq, eq_true, and_true, lt_true, le_true, same_bytes}
+use Rattle.list_laws.proofs.Tests.{false_eq, eq_true, and_true, not_true, lt_true, le_true, same_bytes}
 use Rattle.outbox.specs.Views.{size_of}
 use Rattle.sub_table.specs.declared.Subscription.{Subscription}
 use Rattle.subj.specs.Messages.{Content}
@@ -165,10 +165,12 @@ module _ (c : Cluster) (cluster : IsCluster c) (w : World) (size : length w.node
 
   node_settled : (a : Running) → is_node_settled a.node ≡ true → NodeIsSettled a
   node_settled a e =
-      let h = and_true (list_all is_line_settled a.node.lines) (nat_lt a.node.hub.issued MAX_COUNTER && nat_lt a.node.hub.published MAX_COUNTER) e in
-      let g = and_true (nat_lt a.node.hub.issued MAX_COUNTER) (nat_lt a.node.hub.published MAX_COUNTER) h.1 in
+      let h = and_true (list_all is_line_settled a.node.lines) (not a.node.hub.draining && (nat_lt a.node.hub.issued MAX_COUNTER && nat_lt a.node.hub.published MAX_COUNTER)) e in
+      let l = and_true (not a.node.hub.draining) (nat_lt a.node.hub.issued MAX_COUNTER && nat_lt a.node.hub.published MAX_COUNTER) h.1 in
+      let g = and_true (nat_lt a.node.hub.issued MAX_COUNTER) (nat_lt a.node.hub.published MAX_COUNTER) l.1 in
       record {
         lines = λ place line at. line_settled line (all_in is_line_settled a.node.lines h.0 line (in_read a.node.lines place line at));
+        lasting = not_true a.node.hub.draining l.0;
         issued = lt_true a.node.hub.issued MAX_COUNTER g.0;
         published = lt_true a.node.hub.published MAX_COUNTER g.1;
       }

@@ -1,5 +1,5 @@
 -- What is so is told by the tests.
-use Rattle.std.proofs.Common.{◌≡◌, ◌≢◌, ℕ, suc, ◌+◌, ◌<◌, Bool, true, false, ◌&&◌, ◌||◌, nat_eq, List, [], ◌∷◌, length, Option, Some, None, refl, sym, ap, ◌∙◌, subst, inl, inr, ⊎_elim, arith}
+use Rattle.std.proofs.Common.{◌≡◌, ◌≢◌, ℕ, suc, ◌+◌, ◌<◌, Bool, true, false, not, ◌&&◌, ◌||◌, nat_eq, List, [], ◌∷◌, length, Option, Some, None, refl, sym, ap, ◌∙◌, subst, inl, inr, ⊎_elim, arith}
 use Rattle.std.specs.Prelude.{slice_get, is_none, take}
 use Rattle.std.specs.List.{list_any, AllByRecursion}
 use Rattle.std.specs.List.Sorted.{IsStrictlySortedBy}
@@ -18,7 +18,7 @@ use Rattle.interest.specs.Counts.{Counts, told_weight}
 use Rattle.interest.specs.KeyOrder.{key_order_total}
 use Rattle.interest.specs.Views.{View, told_view, view_with_change, view_after, view_at, same_views}
 use Rattle.interest.specs.declared.changes.Change.{Change}
-use Rattle.interest.specs.declared.changes.Change.TheVariants.{Up, Gone}
+use Rattle.interest.specs.declared.changes.Change.TheVariants.{Up, Gone, Clear}
 use Rattle.interest.proofs.Counting.Places.{sorted_inserted, sorted_removed}
 use Rattle.route_session.specs.State.{Session, is_kept_at, has_session}
 use Rattle.hub_core.specs.Choice.{queue_names}
@@ -91,15 +91,16 @@ same_self : (xs : View) → same_views xs xs ≡ true
 same_self [] = refl
 same_self (x ∷ xs) = λ i. (is_self x.0 i && true_eq x.1 x.1 refl i) && same_self xs i
 
+no_view : Rises []
+unfolding IsStrictlySortedBy
+no_view = tt
+
 -- what was told rises
 rises_after : (changes : List Change) (view : View) → Rises view → Rises (view_after changes view)
 rises_after [] view r = r
 rises_after (Up weighted ∷ changes) view r = rises_after changes (view_with_change (Up weighted) view) (sorted_inserted key_order_total weighted.0 view weighted.1 r)
 rises_after (Gone key ∷ changes) view r = rises_after changes (view_with_change (Gone key) view) (sorted_removed key_order_total key view r)
-
-no_view : Rises []
-unfolding IsStrictlySortedBy
-no_view = tt
+rises_after (Clear ∷ changes) view r = rises_after changes [] no_view
 
 pub view_rises : (changes : List Change) (count : ℕ) → Rises (view_at changes count)
 view_rises changes count = rises_after (take count changes) [] no_view
@@ -126,7 +127,7 @@ module _ (c : Cluster) (cluster : IsCluster c) (w : World) (size : length w.node
   node_told n a at =
       let s = settled.quiet.nodes n a at in
       let lines = all_so is_line_settled a.node.lines (λ line i. let k = in_at a.node.lines line i in line_told line (s.lines k.0 line k.1)) in
-      λ i. lines i && (is_less a.node.hub.issued MAX_COUNTER s.issued i && is_less a.node.hub.published MAX_COUNTER s.published i)
+      λ i. lines i && (not (s.lasting i) && (is_less a.node.hub.issued MAX_COUNTER s.issued i && is_less a.node.hub.published MAX_COUNTER s.published i))
 
   peer_told : (m q : ℕ) (a b : Running) → m ≢ q → slice_get w.nodes m ≡ Some (Some a) → slice_get w.nodes q ≡ Some (Some b) → is_peer_settled a.node b.node b.inc q ≡ true
   peer_told m q a b apart at at2 =

@@ -13,7 +13,7 @@ use Rattle.subj.specs.declared.jobs.Job.{Job}
 use Rattle.shard_core.specs.declared.faults.ShardFault.{ShardFault}
 use Rattle.shard_core.specs.Shards.{State, Client, new_shard, has_number, client_at, is_open, with_outbox, clients_with_change, without_client, fits}
 use Rattle.shard_core.specs.Owed.{Walk, walk, is_due, first_step, walk_after_put, walk_with_entry, walk_with_shut, due_entry, slow_consumer, candidate_of, after_claim}
-use Rattle.shard_core.specs.ShardEvents.{Event, Attach, Subscribe, Unsubscribe, Reply, Shut, Detach, Take, Begin, Claim, End, DropJob, Collect, Answer}
+use Rattle.shard_core.specs.ShardEvents.{Event, Attach, Subscribe, Unsubscribe, Reply, Shut, Detach, Take, Begin, Claim, End, DropJob, Drain, Collect, Answer}
 use Rattle.shard_core.specs.ShardSteps.{sub_called, new_client, new_sub, after_subscribe, ended_now, after_unsubscribe, answer_fits, done_with, shard_after, IsStep}
 use Rattle.shard_core.specs.Limits.{HasLimits, LimitsStay}
 use Rattle.shard_core.specs.Causes.{IsOwn, HasOwnNumbers, NumbersTellShards}
@@ -88,6 +88,7 @@ module _ (Q : List Client → Type 0) (changes : (change : Backlog → Backlog) 
       go : (hand : Option Job) → Q (done_with s hand).clients
       go None = h
       go (Some job) = h
+  keeps s Drain new h = h
   keeps s Collect new h = h
 
 keeps_each : (P : Client → Type 0) → ((change : Backlog → Backlog) (x : Client) → P x → P (with_outbox change x)) → (s : State) (e : Event) → (e ≡ Attach → P (new_client s.next_conn)) → Each P s.clients → Each P (shard_after s e).clients

@@ -15,7 +15,7 @@ use Rattle.shard_core.specs.declared.calls.Placed.{Placed}
 use Rattle.shard_core.specs.declared.faults.ShardFault.{ShardFault}
 use Rattle.shard_core.specs.Shards.{State, Client, has_number, client_at, takes_events, is_open, with_outbox, clients_with_change, without_client, fits, entries_of, waits_for}
 use Rattle.shard_core.specs.Owed.{Walk, walk, whole_walk, is_due, first_step, walk_after_put, walk_with_entry, walk_with_shut, due_entry, placed_for, slow_consumer, candidate_of, candidate_named, after_claim}
-use Rattle.shard_core.specs.ShardEvents.{Event, Attach, Subscribe, Unsubscribe, Reply, Shut, Detach, Take, Begin, Claim, End, DropJob, Collect}
+use Rattle.shard_core.specs.ShardEvents.{Event, Attach, Subscribe, Unsubscribe, Reply, Shut, Detach, Take, Begin, Claim, End, DropJob, Drain, Collect}
 use Rattle.shard_core.specs.ShardSteps.{sub_called, new_client, new_sub, after_subscribe, ended_now, after_unsubscribe, answer_fits, was_shut, done_with, shard_refusal, shard_after}
 use Rattle.shard_core.specs.Puts.{put_line, put_by, put_by_claim, entries_for, kept_of, ArePut}
 use Rattle.shard_core.proofs.Steps.LawEvents.{candidate_is}
@@ -299,6 +299,7 @@ puts s (Claim index won) cause k = go s.hand (candidate_of s s.hand index) refl
     go (Some job) (Some u) is = by job u is won
 puts s End cause k = done_puts s s.hand k
 puts s (DropJob waiting) cause k = done_puts s (option_or s.hand waiting) k
+puts s Drain cause k = quiet k s.clients
 puts s Collect cause k = quiet k s.clients
 
 pub are_put : (s : State) (e : Event) (k : ℕ) → ArePut s e k

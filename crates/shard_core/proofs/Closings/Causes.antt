@@ -25,7 +25,7 @@ use Rattle.shard_core.specs.Shards.{State, Client, takes_events, is_open, client
 use Rattle.shard_core.specs.Closings.{id_of, serials_of, is_left, left_of, without_subs, ended_ids}
 use Rattle.shard_core.specs.Owed.{Walk, walk, whole_walk, first_step, walk_after_put, walk_with_entry, walk_with_shut, slow_consumer, due_entry, reaches, ended_by, is_due, sub_with_count, candidate_of, candidate_named, is_candidate, after_claim}
 use Rattle.shard_core.specs.Opened.{AreRising, AreApart}
-use Rattle.shard_core.specs.ShardEvents.{Event, Attach, Subscribe, Unsubscribe, Reply, Shut, Detach, Take, Begin, Claim, End, DropJob, Collect, Answer}
+use Rattle.shard_core.specs.ShardEvents.{Event, Attach, Subscribe, Unsubscribe, Reply, Shut, Detach, Take, Begin, Claim, End, DropJob, Drain, Collect, Answer}
 use Rattle.shard_core.specs.ShardSteps.{sub_called, new_sub, after_subscribe, subscribe_answer, ended_now, after_unsubscribe, answer_fits, was_shut, done_with, ended_by_unsubscribe, ended_by_reply, claim_answer, shard_refusal, shard_after, shard_answer, shut_by, ended_of, IsStep}
 use Rattle.shard_core.specs.AsLaw.{given_by, given_by_claim, is_open_serial}
 use Rattle.shard_core.specs.Causes.{AreHeld, SubsStayHeld, given_to, max_after, sub_after, IsOpening, SubsGoOn, Closes, ClosingsAreTold, Leaves, IsSpent, HasEnough, IsUnsubscribed, HasCause, ClosesByCause, IsDetached}
@@ -372,6 +372,7 @@ becomes s (Begin job) held = inl (giving s (Begin job) (whole_walk s job) refl r
 becomes s (Claim index won) held = inl (claims s index won held.rising s.hand (candidate_of s s.hand index) won refl refl refl)
 becomes s End held = inl (quiet s End (done_subs s s.hand) refl refl (λ u i. refl))
 becomes s (DropJob waiting) held = inl (quiet s (DropJob waiting) (done_subs s (option_or s.hand waiting)) refl refl (λ u i. refl))
+becomes s Drain held = inl (quiet s Drain refl refl refl (λ u i. refl))
 becomes s Collect held = inl (quiet s Collect refl refl refl (λ u i. refl))
 
 -- ---- what goes on
@@ -438,6 +439,7 @@ told_is s (Claim index won) = go s.hand (candidate_of s s.hand index) won
     go (Some job) (Some u) false = refl
 told_is s End = refl
 told_is s (DropJob waiting) = refl
+told_is s Drain = refl
 told_is s Collect = refl
 
 ended_once : (s : State) (e : Event) → AreRising s.subs → AreApart (serials_ended s e)
@@ -474,6 +476,7 @@ ended_once s (Claim index won) rising = go s.hand (candidate_of s s.hand index) 
     go (Some job) (Some u) false = tt
 ended_once s End rising = tt
 ended_once s (DropJob waiting) rising = tt
+ended_once s Drain rising = tt
 ended_once s Collect rising = tt
 
 pub closings_are_told : ClosingsAreTold
@@ -618,6 +621,7 @@ why s (Begin job) held cause sub i = with_walk s (Begin job) held sub i (whole_w
 why s (Claim index won) held cause sub i = claim_why s index won held sub i s.hand (candidate_of s s.hand index) won refl refl refl refl
 why s End held cause sub i = (λ j. absurd j, λ x. absurd (nothing s End held sub i (λ k d. d) (λ k j. j) refl (λ un. un) x))
 why s (DropJob waiting) held cause sub i = (λ j. absurd j, λ x. absurd (nothing s (DropJob waiting) held sub i (λ k d. d) (λ k j. j) refl (λ un. un) x))
+why s Drain held cause sub i = (λ j. absurd j, λ x. absurd (nothing s Drain held sub i (λ k d. d) (λ k j. j) refl (λ un. un) x))
 why s Collect held cause sub i = (λ j. absurd j, λ x. absurd (nothing s Collect held sub i (λ k d. d) (λ k j. j) refl (λ un. un) x))
 
 pub closes_by_cause : ClosesByCause
@@ -676,6 +680,7 @@ fixed s (DropJob waiting) = go (option_or s.hand waiting)
     go : (o : Option Job) → Fixed s (done_with s o)
     go None = same_fixed s s.clients s.subs
     go (Some job) = record { shard = refl; shards = refl; next = inl refl; opened = omega arith }
+fixed s Drain = record { shard = refl; shards = refl; next = inl refl; opened = omega arith }
 fixed s Collect = record { shard = refl; shards = refl; next = inl refl; opened = omega arith }
 
 module _ (s : State) (e : Event) (held : AreHeld s) (cause : shard_refusal s e ≡ None) where
@@ -719,6 +724,7 @@ module _ (s : State) (e : Event) (held : AreHeld s) (cause : shard_refusal s e �
       by (Claim index won) is le = inl (m, is, le)
       by End is le = inl (m, is, le)
       by (DropJob waiting) is le = inl (m, is, le)
+      by Drain is le = inl (m, is, le)
       by Collect is le = inl (m, is, le)
 
   record IsNew (new : Subscription) : Type 0 where

@@ -14,7 +14,7 @@ use Rattle.subj.specs.declared.jobs.Job.{Job}
 use Rattle.shard_core.specs.Shards.{State, Client, client_at, takes_events, is_open, with_outbox, clients_with_change, fits}
 use Rattle.shard_core.specs.Owed.{Walk, walk, whole_walk, first_step, walk_after_put, walk_with_entry, walk_with_shut, slow_consumer, due_entry, placed_for, is_due, candidate_of, after_claim}
 use Rattle.shard_core.specs.Puts.{entries_for}
-use Rattle.shard_core.specs.ShardEvents.{Event, Attach, Subscribe, Unsubscribe, Reply, Shut, Detach, Take, Begin, Claim, End, DropJob, Collect}
+use Rattle.shard_core.specs.ShardEvents.{Event, Attach, Subscribe, Unsubscribe, Reply, Shut, Detach, Take, Begin, Claim, End, DropJob, Drain, Collect}
 use Rattle.shard_core.specs.ShardSteps.{sub_called, new_client, new_sub, after_subscribe, ended_now, after_unsubscribe, answer_fits, was_shut, done_with, shard_refusal, shard_after, shut_by}
 use Rattle.shard_core.specs.Causes.{Leaves, with_entries, with_given, IsDetached, ConnectionsLeave, GivesAll, RoomDecides}
 use Rattle.shard_core.proofs.Steps.LawEvents.{walk_gives}
@@ -235,6 +235,7 @@ stays_after s (Begin job) k o not none = go (is_open k (whole_walk s job).client
 stays_after s (Claim index won) k o not none = claimed_open s s.hand (candidate_of s s.hand index) won k o
 stays_after s End k o not none = same_open s.clients _ (done_clients s s.hand) k o
 stays_after s (DropJob waiting) k o not none = same_open s.clients _ (done_clients s (option_or s.hand waiting)) k o
+stays_after s Drain k o not none = o
 stays_after s Collect k o not none = o
 
 leave : (s : State) (e : Event) → shard_refusal s e ≡ None → ConnectionsLeave s e
@@ -284,6 +285,7 @@ leave s (Begin job) cause = record {
 leave s (Claim index won) cause = quiet s (Claim index won) (λ k o. stays_after s (Claim index won) k o (λ x. x) (λ x. x)) (λ k x. x) refl
 leave s End cause = quiet s End (λ k o. stays_after s End k o (λ x. x) (λ x. x)) (λ k x. x) refl
 leave s (DropJob waiting) cause = quiet s (DropJob waiting) (λ k o. stays_after s (DropJob waiting) k o (λ x. x) (λ x. x)) (λ k x. x) refl
+leave s Drain cause = quiet s Drain (λ k o. stays_after s Drain k o (λ x. x) (λ x. x)) (λ k x. x) refl
 leave s Collect cause = quiet s Collect (λ k o. stays_after s Collect k o (λ x. x) (λ x. x)) (λ k x. x) refl
 
 pub room_decides : RoomDecides

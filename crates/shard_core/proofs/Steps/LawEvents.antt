@@ -24,7 +24,7 @@ use Rattle.outbox.specs.Views.{with_entry, reply_entry}
 use Rattle.shard_core.specs.Shards.{State, Client, client_at, is_open, fits, clients_with_change}
 use Rattle.shard_core.specs.Closings.{serials_of, is_left, left_of, without_subs}
 use Rattle.shard_core.specs.Owed.{Walk, walk, whole_walk, walk_with_entry, walk_with_shut, first_step, is_due, is_plain, is_wanted, is_permitted, due_entry, after_walk, sub_with_count, after_try, after_claim, candidate_of, candidate_named, is_candidate, slow_consumer}
-use Rattle.shard_core.specs.ShardEvents.{Attach, Subscribe, Unsubscribe, Reply, Shut, Detach, Take, Begin, Claim, End, DropJob, Collect}
+use Rattle.shard_core.specs.ShardEvents.{Attach, Subscribe, Unsubscribe, Reply, Shut, Detach, Take, Begin, Claim, End, DropJob, Drain, Collect}
 use Rattle.shard_core.specs.ShardSteps.{sub_called, new_sub, after_subscribe, ended_now, after_unsubscribe, was_shut, answer_fits, done_with, begin_refusal, claim_refusal, end_refusal}
 use Rattle.shard_core.specs.Lines.{Turns, SoundLine, HasJob, waiting_after, first_of, rest_of}
 use Rattle.shard_core.specs.AsLaw.{Naming, job_of, hand_of, sub_of, shard_of, matching, ClaimMoves, given_by_claim, AreThese, opened_by, placements_for, LawStep, ShardFollows}
@@ -62,10 +62,10 @@ none_without : (us : List law.Subscription) → law.subs_without [] us ≡ us
 none_without [] = refl
 none_without (u ∷ us) = ap (λ t. u ∷ t) (none_without us)
 
-quiet : (c : Config) (names : Naming) (n inc now place issued : ℕ) (race after_race : Race) (s : State) (waiting : List Job) (next_conn : ℕ) (clients : List Client) (deltas : List Delta) (us : List Subscription)
+quiet : (c : Config) (names : Naming) (n inc now place issued : ℕ) (race after_race : Race) (s : State) (waiting : List Job) (draining : Bool) (next_conn : ℕ) (clients : List Client) (deltas : List Delta) (us : List Subscription)
     → Keeps c.window race after_race → SoundLine c.window issued s waiting → map sub_of us ≡ map sub_of s.subs → serials_of us ≡ serials_of s.subs
-    → LawStep c names n inc now place issued race after_race s waiting (record s { next_conn = next_conn; clients = clients; deltas = deltas; subs = us }) waiting [] []
-quiet c names n inc now place issued race after_race s waiting next_conn clients deltas us keeps sound same serials = record {
+    → LawStep c names n inc now place issued race after_race s waiting (record s { next_conn = next_conn; clients = clients; draining = draining; deltas = deltas; subs = us }) waiting [] []
+quiet c names n inc now place issued race after_race s waiting draining next_conn clients deltas us keeps sound same serials = record {
   event = law.Close [];
   closed = [];
   steps = (
@@ -334,29 +334,29 @@ refused : {R : Type 0} (why : R) → Some why ≡ None → ⊥
 refused why e = none-some why (sym e)
 
 pub shards_follow_the_law : ShardFollows
-shards_follow_the_law c names n inc now place issued race after_race s waiting Attach subs sound cause job keeps these = quiet c names n inc now place issued race after_race s waiting _ _ s.deltas s.subs keeps sound refl refl
+shards_follow_the_law c names n inc now place issued race after_race s waiting Attach subs sound cause job keeps these = quiet c names n inc now place issued race after_race s waiting s.draining _ _ s.deltas s.subs keeps sound refl refl
 shards_follow_the_law c names n inc now place issued race after_race s waiting (Subscribe conn key sid) subs sound cause job keeps these = go (sub_called conn sid s.subs)
   where
     go : (u : Option Subscription) → LawStep c names n inc now place issued race after_race s waiting (after_subscribe s (new_sub s conn key sid) u) waiting (opened_by n inc now place s conn key sid u) []
-    go (Some u) = quiet c names n inc now place issued race after_race s waiting s.next_conn s.clients s.deltas s.subs keeps sound refl refl
+    go (Some u) = quiet c names n inc now place issued race after_race s waiting s.draining s.next_conn s.clients s.deltas s.subs keeps sound refl refl
     go None = opens c names n inc now place issued race after_race s waiting _ conn key sid keeps sound
 shards_follow_the_law c names n inc now place issued race after_race s waiting (Unsubscribe conn sid max) subs sound cause job keeps these = go (sub_called conn sid s.subs)
   where
     by : (u : Subscription) (b : Bool) → LawStep c names n inc now place issued race after_race s waiting (cond b (without_subs (u.serial ∷ []) s) (record s { subs = with_max u.serial max s.subs })) waiting [] []
     by u true = closing c names n inc now place issued race after_race s waiting s.clients _ (u.serial ∷ []) keeps sound
-    by u false = quiet c names n inc now place issued race after_race s waiting s.next_conn s.clients s.deltas _ keeps sound (max_sub u.serial max s.subs) (max_serials u.serial max s.subs)
+    by u false = quiet c names n inc now place issued race after_race s waiting s.draining s.next_conn s.clients s.deltas _ keeps sound (max_sub u.serial max s.subs) (max_serials u.serial max s.subs)
 
     go : (u : Option Subscription) → LawStep c names n inc now place issued race after_race s waiting (after_unsubscribe s max u) waiting [] []
-    go None = quiet c names n inc now place issued race after_race s waiting s.next_conn s.clients s.deltas s.subs keeps sound refl refl
+    go None = quiet c names n inc now place issued race after_race s waiting s.draining s.next_conn s.clients s.deltas s.subs keeps sound refl refl
     go (Some u) = by u (ended_now max u)
 shards_follow_the_law c names n inc now place issued race after_race s waiting (Reply conn frame) subs sound cause job keeps these = go (answer_fits s conn (reply_line frame))
   where
     go : (b : Bool) → LawStep c names n inc now place issued race after_race s waiting (cond b (record s { clients = clients_with_change (with_entry (reply_entry (reply_line frame))) conn s.clients }) (was_shut s conn slow_consumer)) waiting [] []
-    go true = quiet c names n inc now place issued race after_race s waiting s.next_conn _ s.deltas s.subs keeps sound refl refl
+    go true = quiet c names n inc now place issued race after_race s waiting s.draining s.next_conn _ s.deltas s.subs keeps sound refl refl
     go false = closing c names n inc now place issued race after_race s waiting _ _ (left_of conn [] s.subs) keeps sound
 shards_follow_the_law c names n inc now place issued race after_race s waiting (Shut conn text) subs sound cause job keeps these = closing c names n inc now place issued race after_race s waiting _ _ (left_of conn [] s.subs) keeps sound
 shards_follow_the_law c names n inc now place issued race after_race s waiting (Detach conn) subs sound cause job keeps these = closing c names n inc now place issued race after_race s waiting _ _ (left_of conn [] s.subs) keeps sound
-shards_follow_the_law c names n inc now place issued race after_race s waiting (Take conn count) subs sound cause job keeps these = quiet c names n inc now place issued race after_race s waiting s.next_conn _ s.deltas s.subs keeps sound refl refl
+shards_follow_the_law c names n inc now place issued race after_race s waiting (Take conn count) subs sound cause job keeps these = quiet c names n inc now place issued race after_race s waiting s.draining s.next_conn _ s.deltas s.subs keeps sound refl refl
 shards_follow_the_law c names n inc now place issued race after_race s waiting (Begin job) subs sound cause first keeps these = go s.hand waiting sound cause first these
   where
     go : (hand : Option Job) (line : List Job) → SoundLine c.window issued (record s { hand = hand }) line → begin_refusal (record s { hand = hand }) job ≡ None → first_of line ≡ Some job → AreThese (whole_walk s job).given subs
@@ -382,4 +382,5 @@ shards_follow_the_law c names n inc now place issued race after_race s waiting (
         subst (λ x. LawStep c names n inc now place issued race after_race (record s { hand = None }) (j ∷ rest) (done_with (record s { hand = None }) (option_or None x)) rest [] []) (sym (has.1 ∙ sym has.2))
         (drops c names n inc now place issued race after_race s None (j ∷ rest) rest j keeps so.turns.0 (inr (refl, refl))
         (let turn = so.turns.0 in record { hand = λ k f. absurd (none-some k f); turns = subst (λ m. Turns m rest issued) (sym turn) so.turns.1; room = let m = so.room in omega arith; apart = so.apart; below = so.below }))
-shards_follow_the_law c names n inc now place issued race after_race s waiting Collect subs sound cause job keeps these = quiet c names n inc now place issued race after_race s waiting s.next_conn s.clients [] s.subs keeps sound refl refl
+shards_follow_the_law c names n inc now place issued race after_race s waiting Drain subs sound cause job keeps these = quiet c names n inc now place issued race after_race s waiting true s.next_conn s.clients s.deltas s.subs keeps sound refl refl
+shards_follow_the_law c names n inc now place issued race after_race s waiting Collect subs sound cause job keeps these = quiet c names n inc now place issued race after_race s waiting s.draining s.next_conn s.clients [] s.subs keeps sound refl refl

@@ -3,7 +3,7 @@
 ghost use Rattle.std.specs.Prelude.{◌≡◌, ⊤, false};
 ghost use Rattle.subj.specs.Answers.{IsDecided};
 ghost use Rattle.shard_core.specs.Answers.{Opens};
-ghost use Rattle.shard_core.specs.ShardEvents.{Attach, Subscribe, Begin, Claim, End};
+ghost use Rattle.shard_core.specs.ShardEvents.{Attach, Subscribe, Begin, Claim, End, Drain};
 ghost use Rattle.shard_core.specs.ShardSteps.{shard_refusal, open_refusal, known_refusal, sub_called as call};
 
 use super::{Shard, is_full};
@@ -32,6 +32,9 @@ impl<T: SubTable> Shard<T> {
         if !self.conns.is_open(conn) {
             return Err(ShardFault::NoConn);
         }
+        if self.draining {
+            return Err(ShardFault::Draining);
+        }
         let table = self.openings.table();
         if table.find(conn, sid).is_some() {
             return Ok(None);
@@ -53,6 +56,13 @@ impl<T: SubTable> Shard<T> {
             Ok(_) => None,
             Err(fault) => Some(fault),
         }
+    }
+
+    /// Why [`Shard::drain`] refuses.
+    pub fn drain_fault(&self) -> Option<ShardFault>
+        ensures { result ≡ shard_refusal self.now.state Drain }
+    {
+        self.draining.then_some(ShardFault::Draining)
     }
 
     /// Why a call for a connection is refused that must be there and not shut: [`Shard::unsubscribe`],

@@ -91,6 +91,7 @@ node_adds c n now a (of_node.Own (of_node.OfConn conn event)) won race = inl (re
 node_adds c n now a (of_node.Own (of_node.AtShard shard work)) won race = inl (refl, refl)
 node_adds c n now a (of_node.Own (of_node.Publish p)) won race = inr (publication (server_at c n a.inc) now a.node p, refl, refl, refl, refl, refl)
 node_adds c n now a (of_node.Own (of_node.Collect shard)) won race = inl (refl, refl)
+node_adds c n now a (of_node.Own of_node.Drain) won race = inl (refl, refl)
 node_adds c n now a (of_node.Own (of_node.Dial q)) won race = inl (refl, refl)
 node_adds c n now a (of_node.Own of_node.Accept) won race = inl (refl, refl)
 node_adds c n now a (of_node.Own (of_node.CutSession session)) won race = inl (refl, go (peer_of_session session a.node.sessions.standing))

@@ -55,6 +55,7 @@ frames_told server a (of_node.Own (of_node.OfConn conn event)) some f i = absurd
 frames_told server a (of_node.Own (of_node.AtShard shard work)) some f i = absurd i
 frames_told server a (of_node.Own (of_node.Publish p)) some f i = all_numbered (frames_of server a.hub p) f i
 frames_told server a (of_node.Own (of_node.Collect shard)) some f i = all_numbered _ f i
+frames_told server a (of_node.Own of_node.Drain) some f i = all_numbered _ f i
 frames_told server a (of_node.Own (of_node.Dial q)) some f i = absurd i
 frames_told server a (of_node.Own of_node.Accept) some f i = ⊎_elim (λ e. one_told _ f some e) (λ j. absurd j) i
 frames_told server a (of_node.Own (of_node.CutSession session)) some f i = absurd i

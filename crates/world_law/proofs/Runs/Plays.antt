@@ -25,8 +25,8 @@ use Rattle.node_law.specs.declared.faults.NodeFault.{NodeFault}
 use Rattle.node_law.specs.AsLaw.{Part, part_at, part_if, part_of}
 use Rattle.node_law.specs.Answers.{Nothing}
 use Rattle.node_law.specs.declared.events.ShardWork.{ShardWork}
-use Rattle.node_law.specs.declared.events.ShardWork.TheVariants.{Attach, Begin, Claim, End, DropJob}
-use Rattle.node_law.specs.Events.{OfConn, AtShard, Publish, Collect, Dial, Accept, CutSession, TakeFrames, NodeEvent, Own, Receive, OnInfo, OnConnect}
+use Rattle.node_law.specs.declared.events.ShardWork.TheVariants.{Attach, Begin, Claim, End, DropJob, DrainShard}
+use Rattle.node_law.specs.Events.{OfConn, AtShard, Publish, Collect, Drain, Dial, Accept, CutSession, TakeFrames, NodeEvent, Own, Receive, OnInfo, OnConnect}
 use Rattle.node_law.specs.State.{ShardWithJobs, Node}
 use Rattle.node_law.specs.Steps.{NodeStep, NodeRace, WorkRace, ClaimRace, BodyRace, conn_line, conn_place, shard_line, conn_event, work_event, node_refusal}
 use Rattle.world_law.specs.declared.faults.WorldFault.{WorldFault}
@@ -102,6 +102,7 @@ work_moves race shard Begin (Some line) = refl
 work_moves race shard (Claim index) (Some line) = claim_moves race shard index line.shard.hand (candidate_of line.shard line.shard.hand index)
 work_moves race shard End (Some line) = finishes race shard (line.shard.finished + 1)
 work_moves race shard DropJob (Some line) = finishes race shard (line.shard.finished + 1)
+work_moves race shard DrainShard (Some line) = refl
 
 body_moves : (a : Node) (body : Body) → NoneAhead a.race → BodyRace a body (race_after_body a.race body)
 body_moves a (Plus weighted) ahead = refl
@@ -114,6 +115,7 @@ node_moves a (Own (OfConn conn event)) ahead = refl
 node_moves a (Own (AtShard shard work)) ahead = work_moves a.race shard work (shard_line a shard)
 node_moves a (Own (Publish p)) ahead = issues a.race ahead
 node_moves a (Own (Collect shard)) ahead = refl
+node_moves a (Own Drain) ahead = refl
 node_moves a (Own (Dial q)) ahead = refl
 node_moves a (Own Accept) ahead = refl
 node_moves a (Own (CutSession session)) ahead = refl
@@ -156,6 +158,7 @@ puts_are server a (Own (OfConn conn event)) won = put_in (conn_place server conn
 puts_are server a (Own (AtShard shard work)) won = put_in (shard - 1) (work_event work won) (shard_line a shard)
 puts_are server a (Own (Publish p)) won = refl
 puts_are server a (Own (Collect shard)) won = refl
+puts_are server a (Own Drain) won = refl
 puts_are server a (Own (Dial q)) won = refl
 puts_are server a (Own Accept) won = refl
 puts_are server a (Own (CutSession session)) won = refl

@@ -14,8 +14,8 @@ use Rattle.route_values.specs.declared.bodies.Body.TheVariants.{Plus, Minus, Sna
 use Rattle.shard_core.specs.Lines.{Turns, begun_turn}
 use Rattle.shard_core.specs.Owed.{candidate_of}
 use Rattle.node_law.specs.declared.events.ShardWork.{ShardWork}
-use Rattle.node_law.specs.declared.events.ShardWork.TheVariants.{Attach, Begin, Claim, End, DropJob}
-use Rattle.node_law.specs.Events.{OfConn, AtShard, Publish, Collect, Dial, Accept, CutSession, TakeFrames, NodeEvent, Own, Receive, OnInfo, OnConnect}
+use Rattle.node_law.specs.declared.events.ShardWork.TheVariants.{Attach, Begin, Claim, End, DropJob, DrainShard}
+use Rattle.node_law.specs.Events.{OfConn, AtShard, Publish, Collect, Drain, Dial, Accept, CutSession, TakeFrames, NodeEvent, Own, Receive, OnInfo, OnConnect}
 use Rattle.node_law.specs.Sound.{SoundNode}
 use Rattle.node_law.proofs.Moves.LineEvents.{found}
 use Rattle.node_law.specs.State.{ShardWithJobs, Node, new_race}
@@ -81,6 +81,7 @@ work_ahead race after shard Begin (Some line) won le r ahead = subst NoneAhead (
 work_ahead race after shard (Claim index) (Some line) won le r ahead = claim_ahead race after shard index line.shard.hand (candidate_of line.shard line.shard.hand index) won (le line refl) r ahead
 work_ahead race after shard End (Some line) won le r ahead = ahead_finished race after shard (line.shard.finished + 1) r ahead
 work_ahead race after shard DropJob (Some line) won le r ahead = ahead_finished race after shard (line.shard.finished + 1) r ahead
+work_ahead race after shard DrainShard (Some line) won le r ahead = subst NoneAhead (sym r) ahead
 
 body_ahead : (a : Node) (after : RaceState) (body : Body) → BodyRace a body after → NoneAhead a.race → NoneAhead after
 body_ahead a after (Plus weighted) r ahead = subst NoneAhead (sym r) ahead
@@ -93,6 +94,7 @@ after_ahead server a (Own (OfConn conn event)) won race sound r ahead = ahead
 after_ahead server a (Own (AtShard shard work)) won race sound r ahead = work_ahead a.race race shard work (shard_line a shard) won (hand_issued server a sound shard) r ahead
 after_ahead server a (Own (Publish p)) won race sound r ahead = ahead_issued a.race race r ahead
 after_ahead server a (Own (Collect shard)) won race sound r ahead = ahead
+after_ahead server a (Own Drain) won race sound r ahead = ahead
 after_ahead server a (Own (Dial q)) won race sound r ahead = ahead
 after_ahead server a (Own Accept) won race sound r ahead = ahead
 after_ahead server a (Own (CutSession session)) won race sound r ahead = ahead

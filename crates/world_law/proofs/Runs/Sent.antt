@@ -16,10 +16,10 @@ use Rattle.hub_core.specs.State as hub
 use Rattle.hub_core.specs.State.{Peer, unknown_peer, peer_in_life, is_new_life, changed_in, changed_at}
 use Rattle.hub_core.specs.Publishing.{frames_of, is_to, with_frames}
 use Rattle.hub_core.specs.Receiving.{told_by}
-use Rattle.hub_core.specs.Telling.{collect_frames, count_of_changes, without_slow}
+use Rattle.hub_core.specs.Telling.{collect_frames, count_of_changes, without_slow, drain_frames}
 use Rattle.hub_core.specs.Peers.{snapshot_to, outbox_of}
 use Rattle.route_session.specs.State.{peer_of_session}
-use Rattle.node_law.specs.Events.{OfConn, AtShard, Publish, Collect, Dial, Accept, CutSession, TakeFrames, NodeEvent, Own, Receive, OnInfo, OnConnect}
+use Rattle.node_law.specs.Events.{OfConn, AtShard, Publish, Collect, Drain, Dial, Accept, CutSession, TakeFrames, NodeEvent, Own, Receive, OnInfo, OnConnect}
 use Rattle.node_law.specs.State.{Node}
 use Rattle.node_law.specs.Steps.{node_after, node_frames, deltas_at, shard_line, cut_if}
 use Rattle.world_law.specs.declared.faults.WorldFault.{WorldFault}
@@ -100,6 +100,10 @@ after_waits sent server a (Own (Collect shard)) won race h =
     let frames = collect_frames server a.hub deltas in
     framed_waits (sent ++ map route.Numbered frames) server frames (all_new sent frames) 0 (map (without_slow (count_of_changes a.hub deltas)) a.hub.peers)
     (λ x i. let m = in_map (without_slow (count_of_changes a.hub deltas)) a.hub.peers x i in subst (Out (sent ++ map route.Numbered frames)) (sym m.2) (more_sent sent (map route.Numbered frames) a.hub.peers h m.0 m.1))
+after_waits sent server a (Own Drain) won race h =
+    let frames = drain_frames server a.hub in
+    framed_waits (sent ++ map route.Numbered frames) server frames (all_new sent frames) 0 (map (without_slow 1) a.hub.peers)
+    (λ x i. let m = in_map (without_slow 1) a.hub.peers x i in subst (Out (sent ++ map route.Numbered frames)) (sym m.2) (more_sent sent (map route.Numbered frames) a.hub.peers h m.0 m.1))
 after_waits sent server a (Own (Dial q)) won race h = more_sent sent [] a.hub.peers h
 after_waits sent server a (Own Accept) won race h = more_sent sent (node_frames server a (Own Accept)) a.hub.peers h
 after_waits sent server a (Own (CutSession session)) won race h = cut_waits (sent ++ []) a.hub (peer_of_session session a.sessions.standing) (more_sent sent [] a.hub.peers h)

@@ -9,7 +9,7 @@ use Rattle.subj.specs.Servers.{ServerIdentity, IsListed, own_name, name_of, plac
 use Rattle.subj.specs.declared.identities.PubId.{PubId}
 use Rattle.subj.specs.declared.jobs.Job.{Job}
 use Rattle.interest.specs.declared.changes.Change.{Change}
-use Rattle.interest.specs.declared.changes.Change.TheVariants.{Up, Gone}
+use Rattle.interest.specs.declared.changes.Change.TheVariants.{Up, Gone, Clear}
 use Rattle.route_values.specs.Frames.{Frame}
 use Rattle.route_values.specs.declared.bodies.Body.{Body}
 use Rattle.route_values.specs.declared.bodies.Body.TheVariants.{Plus, Minus, Snapshot, Msg}
@@ -20,7 +20,7 @@ use Rattle.hub_core.specs.Publishing as publishing
 use Rattle.hub_core.specs.Publishing.{choice_of, names_of, is_owed, frames_from, next_id}
 use Rattle.hub_core.specs.Receiving.{receive_refusal}
 use Rattle.hub_core.specs.State.{State, Peer}
-use Rattle.hub_core.specs.Telling.{is_told, body_of, frames_of_change, frames_behind, count_of_changes, changes_of}
+use Rattle.hub_core.specs.Telling.{is_told, body_of, frames_of_change, frames_behind, count_of_changes, changes_of, clearing}
 use Rattle.hub_core.proofs.Choices.Names.{for_distinct, names_distinct}
 use Rattle.hub_core.proofs.Choices.Places.{named, not_own}
 use Rattle.hub_core.proofs.Steps.Receives.{from_peer}
@@ -84,6 +84,7 @@ published_made server hub p P made q (peer ∷ peers) m i = go (published_made s
 no_message_of : (frame : Frame) (change : Change) → message_in frame (body_of change) ≡ []
 no_message_of frame (Up weighted) = refl
 no_message_of frame (Gone key) = refl
+no_message_of frame Clear = refl
 
 change_messages : (server : ServerIdentity) (count number : ℕ) (change : Change) (q : ℕ) (peers : List Peer) → messages_in (map route.Numbered (frames_of_change server count number change q peers)) ≡ []
 change_messages server count number change q [] = refl
@@ -113,6 +114,7 @@ node_messages server now a (of_node.Own (of_node.Publish p)) ps m i =
 node_messages server now a (of_node.Own (of_node.Collect shard)) ps m i =
     let deltas = deltas_at (shard_line a shard) in
     absurd (subst (In m) (behind_messages server (count_of_changes a.hub deltas) a.hub.changed (changes_of a.hub deltas) a.hub.peers) i)
+node_messages server now a (of_node.Own of_node.Drain) ps m i = absurd (subst (In m) (behind_messages server 1 a.hub.changed clearing a.hub.peers) i)
 node_messages server now a (of_node.Own (of_node.Dial q)) ps m i = absurd i
 node_messages server now a (of_node.Own of_node.Accept) ps m i = absurd i
 node_messages server now a (of_node.Own (of_node.CutSession session)) ps m i = absurd i
@@ -150,6 +152,7 @@ node_jobs c w n inc now listed a (of_node.Own (of_node.Publish p)) known given c
       own = λ at. (refl, refl);
     })
 node_jobs c w n inc now listed a (of_node.Own (of_node.Collect shard)) known given cause job i = absurd i
+node_jobs c w n inc now listed a (of_node.Own of_node.Drain) known given cause job i = absurd i
 node_jobs c w n inc now listed a (of_node.Own (of_node.Dial q)) known given cause job i = absurd i
 node_jobs c w n inc now listed a (of_node.Own of_node.Accept) known given cause job i = absurd i
 node_jobs c w n inc now listed a (of_node.Own (of_node.CutSession session)) known given cause job i = absurd i

@@ -26,7 +26,7 @@ use Rattle.shard_core.specs.Shards.{State}
 use Rattle.shard_core.specs.ShardEvents as of_shard
 use Rattle.shard_core.proofs.Steps.LawEvents.{walk_gives}
 use Rattle.node_law.specs.AsLaw.{Part, part_at, part_if, part_of, given_at, placements_at, entries_for_job, messages_at, waits_in, is_message_tag, is_message, MessagesAreGiven}
-use Rattle.node_law.specs.Events.{OfConn, AtShard, Publish, Collect, Dial, Accept, CutSession, TakeFrames, NodeEvent, Own, Receive, OnInfo, OnConnect}
+use Rattle.node_law.specs.Events.{OfConn, AtShard, Publish, Collect, Drain, Dial, Accept, CutSession, TakeFrames, NodeEvent, Own, Receive, OnInfo, OnConnect}
 use Rattle.node_law.specs.Sound.{SoundNode}
 use Rattle.node_law.specs.State.{ShardWithJobs, Node}
 use Rattle.node_law.specs.Steps.{NodeStep, conn_place, conn_event, work_event}
@@ -110,6 +110,7 @@ no_job s (of_shard.Begin job) h = absurd (none-some job (sym h))
 no_job s (of_shard.Claim index won) h = ap (λ t. given_by_claim t (candidate_of s t index) won) h
 no_job s of_shard.End h = refl
 no_job s (of_shard.DropJob waiting) h = refl
+no_job s of_shard.Drain h = refl
 no_job s of_shard.Collect h = refl
 
 -- none twice
@@ -136,6 +137,7 @@ given_apart s (of_shard.Begin job) apart =
 given_apart s (of_shard.Claim index won) apart = by_claim s.hand (candidate_of s s.hand index) won
 given_apart s of_shard.End apart = tt
 given_apart s (of_shard.DropJob waiting) apart = tt
+given_apart s of_shard.Drain apart = tt
 given_apart s of_shard.Collect apart = tt
 
 -- ---- the order between connections is open
@@ -226,6 +228,7 @@ part_line server a (Own (OfConn conn event)) won p e = part_line_at a.lines (con
 part_line server a (Own (AtShard shard work)) won p e = part_line_at a.lines (shard - 1) (work_event work won) (nat_eq shard 0) p e
 part_line server a (Own (Publish q)) won p e = absurd (none-some p e)
 part_line server a (Own (Collect shard)) won p e = absurd (none-some p e)
+part_line server a (Own Drain) won p e = absurd (none-some p e)
 part_line server a (Own (Dial q)) won p e = absurd (none-some p e)
 part_line server a (Own Accept) won p e = absurd (none-some p e)
 part_line server a (Own (CutSession session)) won p e = absurd (none-some p e)

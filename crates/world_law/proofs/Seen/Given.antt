@@ -30,7 +30,7 @@ use Rattle.node_law.specs.AsLaw.{Part, part_if, part_at, part_of, entries_for_jo
 use Rattle.world_law.specs.Changes.{entries_at}
 use Rattle.node_law.specs.declared.events.ConnEvent.{ConnEvent}
 use Rattle.node_law.specs.declared.events.ShardWork.{ShardWork}
-use Rattle.node_law.specs.Events.{OfConn, AtShard, Publish, Collect, Dial, Accept, CutSession, TakeFrames, NodeEvent, Own, Receive, OnInfo, OnConnect}
+use Rattle.node_law.specs.Events.{OfConn, AtShard, Publish, Collect, Drain, Dial, Accept, CutSession, TakeFrames, NodeEvent, Own, Receive, OnInfo, OnConnect}
 use Rattle.node_law.specs.State.{ShardWithJobs, Node}
 use Rattle.node_law.specs.Steps.{NodeStep, conn_place, conn_line, shard_line, conn_event, work_event, conn_refusal, no_job, event_refusal, work_refusal, line_after, line_after_if, set_line, line_with_job, node_after, lines_after_body}
 use Rattle.hub_core.specs.Publishing.{own_job}
@@ -122,6 +122,7 @@ shard_messages s (of_shard.Begin job) conn =
 shard_messages s (of_shard.Claim index won) conn = claim_messages s conn s.hand (candidate_of s s.hand index) won
 shard_messages s of_shard.End conn = refl
 shard_messages s (of_shard.DropJob waiting) conn = refl
+shard_messages s of_shard.Drain conn = refl
 shard_messages s of_shard.Collect conn = refl
 
 part_messages : (part : Option Part) (place conn : ℕ) → filter is_message (entries_at part place conn) ≡ messages_at part place conn
@@ -166,6 +167,7 @@ module _ (puts : (s : State) (e : of_shard.Event) (conn : ℕ) → ArePut s e co
   shard_entries s (of_shard.Claim index won) conn cause = more s (of_shard.Claim index won) conn cause refl
   shard_entries s of_shard.End conn cause = more s of_shard.End conn cause refl
   shard_entries s (of_shard.DropJob waiting) conn cause = more s (of_shard.DropJob waiting) conn cause refl
+  shard_entries s of_shard.Drain conn cause = more s of_shard.Drain conn cause refl
   shard_entries s of_shard.Collect conn cause = more s of_shard.Collect conn cause refl
 
   -- ---- an event of a line
@@ -229,6 +231,7 @@ module _ (puts : (s : State) (e : of_shard.Event) (conn : ℕ) → ArePut s e co
   after_entries server a (Own (AtShard shard work)) won race place j step = work_entries a shard work won (shard_line a shard) refl step.cause place j
   after_entries server a (Own (Publish p)) won race place j step = same_entries a.lines _ place j (queued_waits (own_job server a.hub p) a.lines place j)
   after_entries server a (Own (Collect shard)) won race place j step = same_entries a.lines _ place j (collected_waits a.lines (shard - 1) (shard_line a shard) (λ line e. found (nat_eq shard 0) (slice_get a.lines (shard - 1)) line e) place j)
+  after_entries server a (Own Drain) won race place j step = same_entries a.lines a.lines place j refl
   after_entries server a (Own (Dial q)) won race place j step = same_entries a.lines a.lines place j refl
   after_entries server a (Own Accept) won race place j step = same_entries a.lines a.lines place j refl
   after_entries server a (Own (CutSession session)) won race place j step = same_entries a.lines a.lines place j refl

@@ -129,6 +129,7 @@ module _ (server : ServerIdentity) (now : ℕ) where
       go (Some held) job sub is c = candidate_in s held (slice_get held.queues index) sub c
   event_order s of_shard.End = tt
   event_order s (of_shard.DropJob waiting) = tt
+  event_order s of_shard.Drain = tt
   event_order s of_shard.Collect = tt
 
 pub in_lines : (lines : List ShardWithJobs) (place : ℕ) (line : ShardWithJobs) (xs : List SubId) → slice_get lines place ≡ Some line → SubList xs (map (id_of line.shard.shard) (serials_of line.shard.subs)) → SubList xs (open_subs lines)

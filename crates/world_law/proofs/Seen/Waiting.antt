@@ -18,7 +18,7 @@ use Rattle.shard_core.specs.Shards.{State, waits_for}
 use Rattle.hub_core.specs.Publishing.{own_job}
 use Rattle.hub_core.specs.Receiving.{routed_job}
 use Rattle.node_law.specs.AsLaw.{Part, part_of, waits_in}
-use Rattle.node_law.specs.Events.{OfConn, AtShard, Publish, Collect, Dial, Accept, CutSession, TakeFrames, NodeEvent, Own, Receive, OnInfo, OnConnect}
+use Rattle.node_law.specs.Events.{OfConn, AtShard, Publish, Collect, Drain, Dial, Accept, CutSession, TakeFrames, NodeEvent, Own, Receive, OnInfo, OnConnect}
 use Rattle.node_law.specs.State.{ShardWithJobs, Node}
 use Rattle.node_law.specs.Steps.{NodeStep, conn_place, conn_line, shard_line, conn_event, work_event, line_after, line_after_if, set_line, line_with_job, lines_after_body, node_after}
 use Rattle.node_law.proofs.Runs.EachShard.{Goes, step_goes}
@@ -43,6 +43,7 @@ after_length server a (Own (OfConn conn event)) won race = set_line_length a.lin
 after_length server a (Own (AtShard shard work)) won race = set_line_length a.lines _ (λ line. line_after_if (work_event work won line) line) (shard_line a shard)
 after_length server a (Own (Publish p)) won race = map_length (line_with_job (own_job server a.hub p)) a.lines
 after_length server a (Own (Collect shard)) won race = set_line_length a.lines _ (line_after of_shard.Collect) (shard_line a shard)
+after_length server a (Own Drain) won race = refl
 after_length server a (Own (Dial q)) won race = refl
 after_length server a (Own Accept) won race = refl
 after_length server a (Own (CutSession session)) won race = refl

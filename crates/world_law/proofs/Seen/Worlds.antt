@@ -26,7 +26,7 @@ use Rattle.node_law.specs.AsLaw.{Shown, IsOpenAt, NodeFollows, StaysSound, IsSta
 use Rattle.node_law.specs.AsLaw as node
 use Rattle.node_law.specs.declared.events.ConnEvent.{ConnEvent}
 use Rattle.node_law.specs.declared.events.ConnEvent.TheVariants.{Subscribe, Unsubscribe, Reply, Shut, Detach, Take}
-use Rattle.node_law.specs.Events.{OfConn, AtShard, Publish, Collect, Dial, Accept, CutSession, TakeFrames, NodeEvent, Own, Receive, OnInfo, OnConnect}
+use Rattle.node_law.specs.Events.{OfConn, AtShard, Publish, Collect, Drain, Dial, Accept, CutSession, TakeFrames, NodeEvent, Own, Receive, OnInfo, OnConnect}
 use Rattle.node_law.specs.Sound.{SoundNode}
 use Rattle.node_law.specs.State.{ShardWithJobs, Node}
 use Rattle.node_law.specs.Steps.{node_frames, conn_line, conn_place, shard_line}
@@ -234,6 +234,7 @@ new_lives c n inc now a (Own (OfConn conn event)) sound l i =
 new_lives c n inc now a (Own (AtShard shard work)) sound l i = absurd i
 new_lives c n inc now a (Own (Publish p)) sound l i = absurd i
 new_lives c n inc now a (Own (Collect shard)) sound l i = absurd i
+new_lives c n inc now a (Own Drain) sound l i = absurd i
 new_lives c n inc now a (Own (Dial q)) sound l i = absurd i
 new_lives c n inc now a (Own Accept) sound l i = absurd i
 new_lives c n inc now a (Own (CutSession session)) sound l i = absurd i
@@ -265,6 +266,7 @@ lives_are c n inc now a (Own (OfConn conn event)) sound = lives_are_at c n inc n
 lives_are c n inc now a (Own (AtShard shard work)) sound = refl
 lives_are c n inc now a (Own (Publish p)) sound = refl
 lives_are c n inc now a (Own (Collect shard)) sound = refl
+lives_are c n inc now a (Own Drain) sound = refl
 lives_are c n inc now a (Own (Dial q)) sound = refl
 lives_are c n inc now a (Own Accept) sound = refl
 lives_are c n inc now a (Own (CutSession session)) sound = refl
@@ -279,6 +281,7 @@ publications_are c n inc now a (Own (OfConn conn event)) = refl
 publications_are c n inc now a (Own (AtShard shard work)) = refl
 publications_are c n inc now a (Own (Publish p)) = refl
 publications_are c n inc now a (Own (Collect shard)) = refl
+publications_are c n inc now a (Own Drain) = refl
 publications_are c n inc now a (Own (Dial q)) = refl
 publications_are c n inc now a (Own Accept) = refl
 publications_are c n inc now a (Own (CutSession session)) = refl
@@ -293,6 +296,7 @@ new_listed c n inc now is a (Own (OfConn conn event)) p i = absurd i
 new_listed c n inc now is a (Own (AtShard shard work)) p i = absurd i
 new_listed c n inc now is a (Own (Publish x)) p i = ⊎_elim (λ (e : p ≡ publication (server_at c n inc) now a x). subst (λ (y : Publication). place_in y.id.origin c.names < length c.names) (sym e) (subst (λ k. k < length c.names) (sym (named (server_at c n inc) is n is.listed)) is.listed)) (λ k. absurd k) i
 new_listed c n inc now is a (Own (Collect shard)) p i = absurd i
+new_listed c n inc now is a (Own Drain) p i = absurd i
 new_listed c n inc now is a (Own (Dial q)) p i = absurd i
 new_listed c n inc now is a (Own Accept) p i = absurd i
 new_listed c n inc now is a (Own (CutSession session)) p i = absurd i

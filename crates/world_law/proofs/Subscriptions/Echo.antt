@@ -22,7 +22,7 @@ use Rattle.client_frames.specs.Frames.{reply_line}
 use Rattle.node_law.specs.declared.events.ConnEvent.{ConnEvent}
 use Rattle.node_law.specs.declared.events.ConnEvent.TheVariants.{Subscribe, Unsubscribe, Reply, Shut, Detach, Take}
 use Rattle.node_law.specs.declared.events.ShardWork.{ShardWork}
-use Rattle.node_law.specs.declared.events.ShardWork.TheVariants.{Attach, Begin, Claim, End, DropJob}
+use Rattle.node_law.specs.declared.events.ShardWork.TheVariants.{Attach, Begin, Claim, End, DropJob, DrainShard}
 use Rattle.node_law.specs.Events as of_node
 use Rattle.node_law.specs.Events.{NodeEvent, Own, OfConn, AtShard}
 use Rattle.node_law.specs.OneServer.{jobs_of}
@@ -129,6 +129,7 @@ work_gives server now jobs line DropJob won k p i = go line.shard.hand (first_of
     go None None j = absurd j
     go None (Some job) j = absurd j
     go (Some busy) o j = absurd j
+work_gives server now jobs line DrainShard won k p i = absurd i
 
 step_gives : (server : ServerIdentity) (now : ℕ) (a : Node) (e : NodeEvent) (won : Bool) (jobs : List Job) → ((place : ℕ) (line : ShardWithJobs) → slice_get a.lines place ≡ Some line → Known jobs line) → Each (OfSome server jobs) (placements_put server now (puts server a e won))
 step_gives server now a (Own (OfConn conn event)) won jobs known p i = go (conn_line server a conn) i
@@ -143,6 +144,7 @@ step_gives server now a (Own (AtShard shard work)) won jobs known p i = go (shar
     go (Some line) at j = work_gives server now jobs line work won (known (shard - 1) line (found (nat_eq shard 0) (slice_get a.lines (shard - 1)) line at)) p j
 step_gives server now a (Own (of_node.Publish q)) won jobs known p i = absurd i
 step_gives server now a (Own (of_node.Collect shard)) won jobs known p i = absurd i
+step_gives server now a (Own of_node.Drain) won jobs known p i = absurd i
 step_gives server now a (Own (of_node.Dial q)) won jobs known p i = absurd i
 step_gives server now a (Own of_node.Accept) won jobs known p i = absurd i
 step_gives server now a (Own (of_node.CutSession session)) won jobs known p i = absurd i

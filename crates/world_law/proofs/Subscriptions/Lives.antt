@@ -207,6 +207,7 @@ module _ (c : Cluster) (w : World) (n : ℕ) (event : Option NodeEvent) (told : 
       fresh (of_shard.Claim index won) f = f
       fresh of_shard.End f = f
       fresh (of_shard.DropJob waiting) f = f
+      fresh of_shard.Drain f = f
       fresh of_shard.Collect f = f
   same_sub place x y held (inr (rests, apart)) u v i j same =
       let k : In v x.shard.subs = ⊎_elim (λ (f : y.shard ≡ x.shard). subst (λ (t : State). In v t.subs) f j) (λ (f : y.shard ≡ shard_after x.shard of_shard.Collect). subst (λ (t : State). In v t.subs) f j) rests in
@@ -321,6 +322,7 @@ module _ (c : Cluster) (w : World) (n : ℕ) (event : Option NodeEvent) (told : 
   new_open (of_node.Own (of_node.AtShard shard work)) is l i = absurd i
   new_open (of_node.Own (of_node.Publish p)) is l i = absurd i
   new_open (of_node.Own (of_node.Collect shard)) is l i = absurd i
+  new_open (of_node.Own of_node.Drain) is l i = absurd i
   new_open (of_node.Own (of_node.Dial q)) is l i = absurd i
   new_open (of_node.Own of_node.Accept) is l i = absurd i
   new_open (of_node.Own (of_node.CutSession session)) is l i = absurd i

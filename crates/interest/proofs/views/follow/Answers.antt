@@ -1,6 +1,8 @@
+use Rattle.std.proofs.Common.{sym, subst}
 use Rattle.std.specs.BTreeMap.{insert_entry}
 use Rattle.subj.specs.Keys.{key_cmp}
-use Rattle.interest.proofs.News.Hearing.{put_is_heard, less_is_heard, either_heard}
+use Rattle.interest.specs.Heard.{IsHeard}
+use Rattle.interest.proofs.News.Hearing.{no_keys, put_is_heard, less_is_heard, either_heard}
 use Rattle.interest.proofs.views.follow.Goals as goal
 
 pub returns-in-Up-clause-heard : goal.returns-in-Up-clause-heard
@@ -11,3 +13,6 @@ returns-in-Up-clause-heard c =
 
 pub returns-in-Gone-clause-heard : goal.returns-in-Gone-clause-heard
 returns-in-Gone-clause-heard c = rw c.take_away.ensures (less_is_heard c.args.keys.now.items c.in-Gone.key c.requires.heard)
+
+pub returns-in-Clear-clause-heard : goal.returns-in-Clear-clause-heard
+returns-in-Clear-clause-heard c = subst IsHeard (sym c.clear.ensures.items) no_keys

@@ -1,7 +1,7 @@
 use Rattle.std.proofs.Common.{◌∙◌, codes}
 use Rattle.clap.specs.Words.{found_of}
 use Rattle.router_command.proofs.Numbers.{number_if_read, number_read, number_there}
-use Rattle.router_command.proofs.Texts.{text_is, text_there}
+use Rattle.router_command.proofs.Texts.{text_if_there, text_is, text_there}
 use Rattle.router_command.proofs.command.given_in.Goals as goal
 
 pub unwrap-requires : goal.unwrap-requires
@@ -22,6 +22,9 @@ unwrap-requires-5 c = number_there (found_of c.args.values.now) (codes "word") c
 pub unwrap-requires-6 : goal.unwrap-requires-6
 unwrap-requires-6 c = text_there (found_of c.args.values.now) (codes "log-level") c.get_str.result c.get_str.ensures c.requires.log_level
 
+pub unwrap-requires-7 : goal.unwrap-requires-7
+unwrap-requires-7 c = number_there (found_of c.args.values.now) (codes "drain-seconds") c.get_one-7.result c.get_one-7.ensures.none c.get_one-7.ensures.value c.requires.drain_seconds
+
 pub returns : goal.returns
 returns c = let found = found_of c.args.values.now in record {
   written = c.requires;
@@ -32,4 +35,6 @@ returns c = let found = found_of c.args.values.now in record {
   word = number_read found (codes "word") c.get_one-5.result c.get_one-5.ensures.none c.get_one-5.ensures.value c.requires.word ∙ c.unwrap-5.ensures;
   stop_after = number_if_read found (codes "stop-after") c.get_one-6.result c.get_one-6.ensures.none c.get_one-6.ensures.value c.requires.stop_after;
   log_level = text_is found (codes "log-level") c.get_str.result c.unwrap-6.result c.get_str.ensures c.unwrap-6.ensures;
+  drain_seconds = number_read found (codes "drain-seconds") c.get_one-7.result c.get_one-7.ensures.none c.get_one-7.ensures.value c.requires.drain_seconds ∙ c.unwrap-7.ensures;
+  control = text_if_there found (codes "control") c.get_str-2.result c.get_str-2.ensures;
 }

@@ -5,7 +5,7 @@ use Rattle.clap.specs.Simple.{app_of_fields}
 use Rattle.clap.specs.declared.builder.arg.Arg.{Arg}
 use Rattle.clap.specs.declared.builder.command.Command.{Command}
 use Rattle.clap.specs.declared.builder.command.Command.TheOpen.{Command-F}
-use Rattle.router_command.specs.Line.{HasRule, IsLine, match_command, required_rule, program, script_command, serve_command}
+use Rattle.router_command.specs.Line.{HasRule, IsLine, drain_command, match_command, required_rule, program, script_command, serve_command}
 use Rattle.router_command.proofs.Lines.{with_arg, with_command}
 use Rattle.router_command.proofs.command.line.Goals as goal
 
@@ -42,5 +42,6 @@ returns c =
     let two = with_command c.in_ok-subcommand.field-0 c.in_ok-subcommand-2.field-0 c.in_ok-question.question _ match_command one question c.in_ok-subcommand-2.ensures in
     let three = with_command c.in_ok-subcommand-2.field-0 c.in_ok-subcommand-3.field-0 c.in_ok-script_line.field-0 _ script_command two c.in_ok-script_line.ensures c.in_ok-subcommand-3.ensures in
     let four = with_command c.in_ok-subcommand-3.field-0 c.in_ok-subcommand-4.field-0 c.about-audit.result _ (new_app (codes "audit")) three audit c.in_ok-subcommand-4.ensures in
-    IfOk-weaker c.subcommand-5.result _ _
-    (λ command added. with_command c.in_ok-subcommand-4.field-0 command c.in_ok-serve_line.field-0 _ serve_command four c.in_ok-serve_line.ensures added) c.subcommand-5.ensures
+    let five = with_command c.in_ok-subcommand-4.field-0 c.in_ok-subcommand-5.field-0 c.in_ok-serve_line.field-0 _ serve_command four c.in_ok-serve_line.ensures c.in_ok-subcommand-5.ensures in
+    IfOk-weaker c.subcommand-6.result _ _
+    (λ command added. with_command c.in_ok-subcommand-5.field-0 command c.in_ok-drain_line.field-0 _ drain_command five c.in_ok-drain_line.ensures added) c.subcommand-6.ensures

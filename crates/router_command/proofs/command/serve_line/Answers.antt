@@ -5,7 +5,7 @@ use Rattle.clap.specs.Simple.{app_of_fields}
 use Rattle.clap.specs.declared.builder.arg.Arg.{Arg}
 use Rattle.clap.specs.declared.builder.command.Command.{Command}
 use Rattle.clap.specs.declared.builder.command.Command.TheOpen.{Command-F}
-use Rattle.router_command.specs.Line.{IsLine, level_rule, required_rule, number_rule, serve_with_defaults, serve_with_end, with_value}
+use Rattle.router_command.specs.Line.{IsLine, control_rule, level_rule, required_rule, number_rule, seconds_rule, serve_with_defaults, serve_with_end, with_value}
 use Rattle.router_command.proofs.Lines.{same_but, with_arg}
 use Rattle.router_command.proofs.command.serve_line.Goals as goal
 
@@ -30,6 +30,8 @@ returns c =
     let three = with_arg c.in_ok-arg-2.field-0 c.in_ok-arg-3.field-0 c.default_value-shards.result _ (with_value (number_rule (codes "shards")) (codes "2")) two shards c.in_ok-arg-3.ensures in
     let four = with_arg c.in_ok-arg-3.field-0 c.in_ok-arg-4.field-0 c.default_value-inc.result _ (with_value (number_rule (codes "inc")) (codes "1")) three inc c.in_ok-arg-4.ensures in
     let five = with_arg c.in_ok-arg-4.field-0 c.in_ok-arg-5.field-0 c.default_value-word.result _ (with_value (number_rule (codes "word")) (codes "0")) four word c.in_ok-arg-5.ensures in
-    let six = with_arg c.in_ok-arg-5.field-0 c.in_ok-arg-6.field-0 c.number-stop_after.result serve_with_defaults (number_rule (codes "stop-after")) five c.number-stop_after.ensures c.in_ok-arg-6.ensures in
-    IfOk-weaker c.arg-7.result _ _
-    (λ command added. with_arg c.in_ok-arg-6.field-0 command c.log_level.result serve_with_end level_rule six c.log_level.ensures added) c.arg-7.ensures
+    let six = with_arg c.in_ok-arg-5.field-0 c.in_ok-arg-6.field-0 c.stop_after.result serve_with_defaults (number_rule (codes "stop-after")) five c.stop_after.ensures c.in_ok-arg-6.ensures in
+    let seven = with_arg c.in_ok-arg-6.field-0 c.in_ok-arg-7.field-0 c.log_level.result serve_with_end level_rule six c.log_level.ensures c.in_ok-arg-7.ensures in
+    let eight = with_arg c.in_ok-arg-7.field-0 c.in_ok-arg-8.field-0 c.drain_seconds.result _ seconds_rule seven c.drain_seconds.ensures c.in_ok-arg-8.ensures in
+    IfOk-weaker c.arg-9.result _ _
+    (λ command added. with_arg c.in_ok-arg-8.field-0 command c.control.result _ control_rule eight c.control.ensures added) c.arg-9.ensures

@@ -1,6 +1,6 @@
 use Rattle.std.specs.Prelude.{option_to_list}
-use Rattle.std.proofs.Common.{◌+◌, ◌<◌, ◌++◌, length, take, arith, sym, ap, ◌∙◌}
-use Rattle.thread_report.specs.Issued.{issued_by, issued_on, owned_in}
+use Rattle.std.proofs.Common.{◌<◌, ◌++◌, length, take, arith, sym, ap, ◌∙◌}
+use Rattle.thread_report.specs.Issued.{issued_by, issued_on}
 use Rattle.thread_report.proofs.Naming.{issued_more, owned_more}
 use Rattle.thread_report.proofs.issued.issued_on.Goals as goal
 

@@ -12,7 +12,7 @@ use Rattle.hub_core.proofs.hub.Hub.collect.Goals as goal
 pub returns-then-is_empty : goal.returns-then-is_empty
 returns-then-is_empty c = λ shard.
     let i = c.self.inside in
-    let old = hub_of_parts i.server i.issued i.published i.changed i.counts i.peers.items in
+    let old = hub_of_parts i.server i.issued i.published i.changed i.draining i.counts i.peers.items in
     let deltas = c.args.deltas.now in
     let none : deltas ≡ [] = no_items deltas (eq_true (length deltas) 0 (sym c.is_empty.ensures ∙ c.if-is_empty.true)) in
     let Tells : Hub → List Delta → List Change → List ℕ → Type 0 = λ hub deltas changes cut.

@@ -10,7 +10,7 @@ use Rattle.hub_core.proofs.hub.Hub.commit_message.Goals as goal
 pub invariant_of-self : goal.invariant_of-self
 invariant_of-self c =
     let i = c.self.inside in
-    let old = hub_of_parts i.server i.issued i.published i.changed i.counts i.peers.items in
+    let old = hub_of_parts i.server i.issued i.published i.changed i.draining i.counts i.peers.items in
     let frame = c.args.frame.now in
     let cause : receive_refusal old.server old.state c.requires.taken.finished frame ≡ None = subst (λ (h : Hub). receive_refusal h.server h.state c.requires.taken.finished frame ≡ None) (sym c.self.view_is) c.requires.taken.taken in
     let turn : c.unwrap-self-inside.result ≡ (if has_message frame.body then i.issued + 1 else i.issued) = turn_is i.issued c.unwrap-self-inside.result c.next.result frame.body c.requires.message c.next.ensures c.unwrap-self-inside.ensures in
@@ -20,7 +20,7 @@ invariant_of-self c =
 pub returns : goal.returns
 returns c =
     let i = c.self.inside in
-    let old = hub_of_parts i.server i.issued i.published i.changed i.counts i.peers.items in
+    let old = hub_of_parts i.server i.issued i.published i.changed i.draining i.counts i.peers.items in
     let frame = c.args.frame.now in
     let cause : receive_refusal old.server old.state c.requires.taken.finished frame ≡ None = subst (λ (h : Hub). receive_refusal h.server h.state c.requires.taken.finished frame ≡ None) (sym c.self.view_is) c.requires.taken.taken in
     let turn : c.unwrap-self-inside.result ≡ (if has_message frame.body then i.issued + 1 else i.issued) = turn_is i.issued c.unwrap-self-inside.result c.next.result frame.body c.requires.message c.next.ensures c.unwrap-self-inside.ensures in

@@ -10,7 +10,7 @@ use Rattle.hub_core.proofs.hub.Hub.plan_alone.Goals as goal
 pub returns : goal.returns
 returns c = λ word.
     let server = c.self.inside.server in
-    let state : State = record { issued = c.self.inside.issued; published = c.self.inside.published; changed = c.self.inside.changed; counts = c.self.inside.counts; peers = c.self.inside.peers.items } in
+    let state : State = record { issued = c.self.inside.issued; published = c.self.inside.published; changed = c.self.inside.changed; draining = c.self.inside.draining; counts = c.self.inside.counts; peers = c.self.inside.peers.items } in
     let publication = c.args.publication.now in let names = c.args.names.now in
     let p = publication_by c.args.conn publication word in
     let serves = subst (λ (hub : Hub). ServesAlone hub.server hub.state publication.message.subject names) (sym c.self.view_is) c.requires.names in

@@ -16,7 +16,7 @@ use Rattle.hub_core.proofs.hub.Hub.plan_by.Goals as goal
 pub frames_for-requires-clause-split : goal.frames_for-requires-clause-split
 frames_for-requires-clause-split c =
     let server = c.self.inside.server in
-    let state : State = record { issued = c.self.inside.issued; published = c.self.inside.published; changed = c.self.inside.changed; counts = c.self.inside.counts; peers = c.self.inside.peers.items } in
+    let state : State = record { issued = c.self.inside.issued; published = c.self.inside.published; changed = c.self.inside.changed; draining = c.self.inside.draining; counts = c.self.inside.counts; peers = c.self.inside.peers.items } in
     let names = unwrap_or (option_copied c.args.names) [] in let servers = c.args.servers.now in let subject = c.args.publication.now.message.subject in
     let p = publication_by c.args.conn c.args.publication.now c.args.word in
     let served = subst (λ (hub : Hub). IsServed hub.server hub.state p names servers) (sym c.self.view_is) c.requires.servers in
@@ -26,7 +26,7 @@ frames_for-requires-clause-split c =
 pub own_job-requires : goal.own_job-requires
 own_job-requires c =
     let server = c.self.inside.server in
-    let state : State = record { issued = c.self.inside.issued; published = c.self.inside.published; changed = c.self.inside.changed; counts = c.self.inside.counts; peers = c.self.inside.peers.items } in
+    let state : State = record { issued = c.self.inside.issued; published = c.self.inside.published; changed = c.self.inside.changed; draining = c.self.inside.draining; counts = c.self.inside.counts; peers = c.self.inside.peers.items } in
     let names = unwrap_or (option_copied c.args.names) [] in let servers = c.args.servers.now in let subject = c.args.publication.now.message.subject in
     let p = publication_by c.args.conn c.args.publication.now c.args.word in
     let served = subst (λ (hub : Hub). IsServed hub.server hub.state p names servers) (sym c.self.view_is) c.requires.servers in
@@ -39,7 +39,7 @@ frames_for-requires-clause-seen c = λ q peer at up. (c.self.invariant.sound.pee
 pub returns : goal.returns
 returns c =
     let server = c.self.inside.server in
-    let state : State = record { issued = c.self.inside.issued; published = c.self.inside.published; changed = c.self.inside.changed; counts = c.self.inside.counts; peers = c.self.inside.peers.items } in
+    let state : State = record { issued = c.self.inside.issued; published = c.self.inside.published; changed = c.self.inside.changed; draining = c.self.inside.draining; counts = c.self.inside.counts; peers = c.self.inside.peers.items } in
     let names = unwrap_or (option_copied c.args.names) [] in let servers = c.args.servers.now in let subject = c.args.publication.now.message.subject in
     let p = publication_by c.args.conn c.args.publication.now c.args.word in
     let served = subst (λ (hub : Hub). IsServed hub.server hub.state p names servers) (sym c.self.view_is) c.requires.servers in

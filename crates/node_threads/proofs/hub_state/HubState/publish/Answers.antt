@@ -1,4 +1,4 @@
-use Rattle.std.proofs.Common.{◌≡◌, ◌+◌, List, [], ◌∷◌, ◌++◌, true, true≢false, None, refl, sym, ap, ◌∙◌, subst}
+use Rattle.std.proofs.Common.{◌≡◌, List, [], ◌∷◌, ◌++◌, true, true≢false, None, refl, sym, ap, ◌∙◌, subst}
 use Rattle.subj.specs.QueueNames.{are_queue_names}
 use Rattle.subj.specs.declared.jobs.Job.{Job}
 use Rattle.claim_cells.specs.Calls.{ShowsRoom}

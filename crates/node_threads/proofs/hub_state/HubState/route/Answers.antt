@@ -1,4 +1,4 @@
-use Rattle.std.proofs.Common.{◌≡◌, ◌+◌, List, [], ◌∷◌, ◌++◌, None, true≢false, refl, sym, ap, ◌∙◌, subst}
+use Rattle.std.proofs.Common.{◌≡◌, List, [], ◌∷◌, ◌++◌, None, true≢false, refl, sym, ap, ◌∙◌, subst}
 use Rattle.subj.specs.declared.jobs.Job.{Job}
 use Rattle.claim_cells.specs.Calls.{ShowsRoom}
 use Rattle.claim_cells.specs.Seats.{RaceId}

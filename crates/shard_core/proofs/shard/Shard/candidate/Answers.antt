@@ -10,7 +10,7 @@ use Rattle.shard_core.proofs.shard.Shard.candidate.Goals as goal
 
 pub returns : goal.returns
 returns g c =
-    let of : Opened → State = λ o. record { shard = c.self.inside.shard; shards = c.self.inside.shards; next_conn = c.self.inside.next_conn; opened = c.self.inside.opened; finished = c.self.inside.finished; hand = c.self.inside.hand; next_index = c.self.inside.next_index; clients = c.self.inside.conns.shown; subs = o.subs; deltas = o.deltas } in
+    let of : Opened → State = λ o. record { shard = c.self.inside.shard; shards = c.self.inside.shards; next_conn = c.self.inside.next_conn; opened = c.self.inside.opened; finished = c.self.inside.finished; hand = c.self.inside.hand; next_index = c.self.inside.next_index; clients = c.self.inside.conns.shown; subs = o.subs; draining = c.self.inside.draining; deltas = o.deltas } in
     let s : State = of c.note_members_for.new.openings in
     let job = c.in-Some.job in
     let index = c.args.index in
@@ -26,7 +26,7 @@ returns g c =
 
 pub invariant_of-self-2 : goal.invariant_of-self-2
 invariant_of-self-2 g c =
-    let of : Opened → State = λ o. record { shard = c.self.inside.shard; shards = c.self.inside.shards; next_conn = c.self.inside.next_conn; opened = c.self.inside.opened; finished = c.self.inside.finished; hand = c.self.inside.hand; next_index = c.self.inside.next_index; clients = c.self.inside.conns.shown; subs = o.subs; deltas = o.deltas } in
+    let of : Opened → State = λ o. record { shard = c.self.inside.shard; shards = c.self.inside.shards; next_conn = c.self.inside.next_conn; opened = c.self.inside.opened; finished = c.self.inside.finished; hand = c.self.inside.hand; next_index = c.self.inside.next_index; clients = c.self.inside.conns.shown; subs = o.subs; draining = c.self.inside.draining; deltas = o.deltas } in
     let s : State = of c.note_members_for.new.openings in
     let job = c.in-Some.job in
     let index = c.args.index in

@@ -11,14 +11,14 @@ use Rattle.shard_core.proofs.shard.Shard.place.Goals as goal
 
 pub is_last-ends-requires : goal.is_last-ends-requires
 is_last-ends-requires g c =
-    let s : State = record { shard = c.self.inside.shard; shards = c.self.inside.shards; next_conn = c.self.inside.next_conn; opened = c.self.inside.opened; finished = c.self.inside.finished; hand = c.self.inside.hand; next_index = c.self.inside.next_index; clients = c.self.inside.conns.shown; subs = c.self.inside.openings.subs; deltas = c.self.inside.openings.deltas } in
+    let s : State = record { shard = c.self.inside.shard; shards = c.self.inside.shards; next_conn = c.self.inside.next_conn; opened = c.self.inside.opened; finished = c.self.inside.finished; hand = c.self.inside.hand; next_index = c.self.inside.next_index; clients = c.self.inside.conns.shown; subs = c.self.inside.openings.subs; draining = c.self.inside.draining; deltas = c.self.inside.openings.deltas } in
     let found = ap (λ (l : List Subscription). find (has_serial c.in-Some.serial) l) (sym c.table.ensures.subs) ∙ sym c.get.ensures ∙ ap option_copied c.in-Some-get.is in
     let is = sym c.take.ensures.value ∙ c.in-Some.is in
     place_counts s c.self.inside.conns.next c.self.inside.chosen c.in-Some.serial c.in-Some-get.sub.now c.args.self.now c.self.view_is c.requires.hand is found c.self.invariant
 
 pub invariant_of-self : goal.invariant_of-self
 invariant_of-self g c =
-    let s : State = record { shard = c.self.inside.shard; shards = c.self.inside.shards; next_conn = c.self.inside.next_conn; opened = c.self.inside.opened; finished = c.self.inside.finished; hand = c.self.inside.hand; next_index = c.self.inside.next_index; clients = c.self.inside.conns.shown; subs = c.self.inside.openings.subs; deltas = c.self.inside.openings.deltas } in
+    let s : State = record { shard = c.self.inside.shard; shards = c.self.inside.shards; next_conn = c.self.inside.next_conn; opened = c.self.inside.opened; finished = c.self.inside.finished; hand = c.self.inside.hand; next_index = c.self.inside.next_index; clients = c.self.inside.conns.shown; subs = c.self.inside.openings.subs; draining = c.self.inside.draining; deltas = c.self.inside.openings.deltas } in
     let found = ap (λ (l : List Subscription). find (has_serial c.in-Some.serial) l) (sym c.table.ensures.subs) ∙ sym c.get.ensures ∙ ap option_copied c.in-Some-get.is in
     let is = sym c.take.ensures.value ∙ c.in-Some.is in
     place_sound s c.self.inside.conns.next c.self.inside.chosen c.in-Some.serial c.in-Some-get.sub.now c.args.self.now c.self.view_is c.requires.hand is found c.self.invariant
@@ -26,7 +26,7 @@ invariant_of-self g c =
 
 pub returns-then-not-ends-clause-placed : goal.returns-then-not-ends-clause-placed
 returns-then-not-ends-clause-placed g c =
-    let s : State = record { shard = c.self.inside.shard; shards = c.self.inside.shards; next_conn = c.self.inside.next_conn; opened = c.self.inside.opened; finished = c.self.inside.finished; hand = c.self.inside.hand; next_index = c.self.inside.next_index; clients = c.self.inside.conns.shown; subs = c.self.inside.openings.subs; deltas = c.self.inside.openings.deltas } in
+    let s : State = record { shard = c.self.inside.shard; shards = c.self.inside.shards; next_conn = c.self.inside.next_conn; opened = c.self.inside.opened; finished = c.self.inside.finished; hand = c.self.inside.hand; next_index = c.self.inside.next_index; clients = c.self.inside.conns.shown; subs = c.self.inside.openings.subs; draining = c.self.inside.draining; deltas = c.self.inside.openings.deltas } in
     let found = ap (λ (l : List Subscription). find (has_serial c.in-Some.serial) l) (sym c.table.ensures.subs) ∙ sym c.get.ensures ∙ ap option_copied c.in-Some-get.is in
     let is = sym c.take.ensures.value ∙ c.in-Some.is in
     place_done s c.self.inside.conns.next c.self.inside.chosen c.in-Some.serial c.in-Some-get.sub.now c.args.self.now c.self.view_is c.requires.hand is found c.self.invariant
@@ -35,7 +35,7 @@ returns-then-not-ends-clause-placed g c =
 
 pub invariant_of-self-2 : goal.invariant_of-self-2
 invariant_of-self-2 g c =
-    let s : State = record { shard = c.self.inside.shard; shards = c.self.inside.shards; next_conn = c.self.inside.next_conn; opened = c.self.inside.opened; finished = c.self.inside.finished; hand = c.self.inside.hand; next_index = c.self.inside.next_index; clients = c.self.inside.conns.shown; subs = c.self.inside.openings.subs; deltas = c.self.inside.openings.deltas } in
+    let s : State = record { shard = c.self.inside.shard; shards = c.self.inside.shards; next_conn = c.self.inside.next_conn; opened = c.self.inside.opened; finished = c.self.inside.finished; hand = c.self.inside.hand; next_index = c.self.inside.next_index; clients = c.self.inside.conns.shown; subs = c.self.inside.openings.subs; draining = c.self.inside.draining; deltas = c.self.inside.openings.deltas } in
     let found = ap (λ (l : List Subscription). find (has_serial c.in-Some.serial) l) (sym c.table.ensures.subs) ∙ sym c.get.ensures ∙ ap option_copied c.in-Some-get.is in
     let is = sym c.take.ensures.value ∙ c.in-Some.is in
     place_sound s c.self.inside.conns.next c.self.inside.chosen c.in-Some.serial c.in-Some-get.sub.now c.args.self.now c.self.view_is c.requires.hand is found c.self.invariant
@@ -43,7 +43,7 @@ invariant_of-self-2 g c =
 
 pub returns-clause-placed : goal.returns-clause-placed
 returns-clause-placed g c =
-    let s : State = record { shard = c.self.inside.shard; shards = c.self.inside.shards; next_conn = c.self.inside.next_conn; opened = c.self.inside.opened; finished = c.self.inside.finished; hand = c.self.inside.hand; next_index = c.self.inside.next_index; clients = c.self.inside.conns.shown; subs = c.self.inside.openings.subs; deltas = c.self.inside.openings.deltas } in
+    let s : State = record { shard = c.self.inside.shard; shards = c.self.inside.shards; next_conn = c.self.inside.next_conn; opened = c.self.inside.opened; finished = c.self.inside.finished; hand = c.self.inside.hand; next_index = c.self.inside.next_index; clients = c.self.inside.conns.shown; subs = c.self.inside.openings.subs; draining = c.self.inside.draining; deltas = c.self.inside.openings.deltas } in
     let found = ap (λ (l : List Subscription). find (has_serial c.in-Some.serial) l) (sym c.table.ensures.subs) ∙ sym c.get.ensures ∙ ap option_copied c.in-Some-get.is in
     let is = sym c.take.ensures.value ∙ c.in-Some.is in
     let sub = c.in-Some-get.sub.now in
@@ -53,7 +53,7 @@ returns-clause-placed g c =
 
 pub returns-clause-ended : goal.returns-clause-ended
 returns-clause-ended g c =
-    let s : State = record { shard = c.self.inside.shard; shards = c.self.inside.shards; next_conn = c.self.inside.next_conn; opened = c.self.inside.opened; finished = c.self.inside.finished; hand = c.self.inside.hand; next_index = c.self.inside.next_index; clients = c.self.inside.conns.shown; subs = c.self.inside.openings.subs; deltas = c.self.inside.openings.deltas } in
+    let s : State = record { shard = c.self.inside.shard; shards = c.self.inside.shards; next_conn = c.self.inside.next_conn; opened = c.self.inside.opened; finished = c.self.inside.finished; hand = c.self.inside.hand; next_index = c.self.inside.next_index; clients = c.self.inside.conns.shown; subs = c.self.inside.openings.subs; draining = c.self.inside.draining; deltas = c.self.inside.openings.deltas } in
     let found = ap (λ (l : List Subscription). find (has_serial c.in-Some.serial) l) (sym c.table.ensures.subs) ∙ sym c.get.ensures ∙ ap option_copied c.in-Some-get.is in
     let is = sym c.take.ensures.value ∙ c.in-Some.is in
     let sub = c.in-Some-get.sub.now in

@@ -1,0 +1,263 @@
+//! A server that drains: it tells the other servers that it has no interest any more, gives them a while to hear it, and closes each client once
+//! nothing waits for it.
+
+use crate::connection::{Cause, Ending};
+use crate::connections::Connections;
+use crate::limits::DRAIN_PAUSE;
+use crate::server::Server;
+use net_streams::Stream;
+use server_calls::ServerCalls;
+use server_events::Event;
+use std::sync::Wait;
+
+/// How far a server has come with its drain.
+#[derive(Clone, Copy, PartialEq, Eq)]
+enum Stage {
+    /// It was not asked to drain.
+    Serves,
+    /// It is to tell the other servers, for which there was no memory yet.
+    Tells,
+    /// It has told them, and goes on for a while: what they sent before they heard it is on its way.
+    Pauses,
+    /// Its clients are closed, each once nothing waits for it.
+    Closes,
+    /// All its clients are gone.
+    Done,
+}
+
+/// The drain of a server. Times are in milliseconds since the loop began.
+#[derive(Clone, Copy)]
+pub(crate) struct Drain {
+    stage: Stage,
+    /// When clients are closed first; never for the greatest number.
+    closes_at: u64,
+    /// When it is ended, whatever waits; never for the greatest number.
+    deadline: u64,
+    /// Whether its deadline has come, or it was asked to end.
+    is_late: bool,
+    /// How many clients were closed before nothing waited for them.
+    cut_off: u64,
+}
+
+impl Drain {
+    /// The server was not asked to drain.
+    pub fn new() -> Drain {
+        Drain {
+            stage: Stage::Serves,
+            closes_at: u64::MAX,
+            deadline: u64::MAX,
+            is_late: false,
+            cut_off: 0,
+        }
+    }
+
+    /// Whether it was asked for, and there is more to do.
+    pub fn goes_on(&self) -> bool {
+        self.stage != Stage::Serves && self.stage != Stage::Done
+    }
+
+    /// When it goes on although no stream is ready; never for the greatest number.
+    pub fn next(&self) -> u64 {
+        match self.stage {
+            Stage::Serves | Stage::Done => u64::MAX,
+            Stage::Pauses => self.closes_at.min(self.deadline),
+            Stage::Tells | Stage::Closes => self.deadline,
+        }
+    }
+}
+
+impl<S: Stream> Connections<S> {
+    /// From now on, clients that go on are closed once nothing waits for them: each is looked at, and later each that was served or written to.
+    fn begin_draining(&mut self) {
+        self.drains = true;
+        self.looks_at_all = true;
+    }
+
+    /// All clients are gone.
+    fn end_draining(&mut self) {
+        self.drains = false;
+        self.quiet.clear();
+    }
+
+    /// A client that was served or written to may have nothing more that waits for it.
+    pub fn note_quiet(&mut self, key: usize) {
+        if self.drains && self.quiet.push(key).is_err() {
+            self.looks_at_all = true;
+        }
+    }
+
+    /// Whether it is the connection of a client that goes on, of which all that has come was done, and for which nothing waits.
+    fn is_quiet(&self, key: usize) -> bool {
+        match self.table.get(key) {
+            None => false,
+            Some(connection) => connection.is_quiet(),
+        }
+    }
+
+    /// Whether it is the connection of a client that does not go at the end of the turn.
+    fn is_client(&self, key: usize) -> bool {
+        match self.table.get(key) {
+            None => false,
+            Some(connection) => connection.client().is_some()
+                && connection.ending() != Ending::Gone,
+        }
+    }
+
+    /// Closes all clients that are there still, whatever waits for them. Gives how many.
+    fn cut_off(&mut self) -> u64 {
+        let mut count = 0_u64;
+        for key in 0..self.table.capacity() {
+            if self.is_client(key) {
+                self.give_up_for(key, Cause::CutOff);
+                count = count.saturating_add(1);
+            }
+        }
+        count
+    }
+}
+
+impl<S: Stream, C: ServerCalls> Server<S, C> {
+    /// Asks the server to drain within so many seconds, or ends the drain that goes on: then all its clients are closed in the next turn.
+    /// One that has drained stays as it is. The caller takes no more clients.
+    pub fn drain(&mut self, seconds: u64) {
+        match self.drain.stage {
+            Stage::Serves => {
+                let now = self.connections.now;
+                self.drain.stage = Stage::Tells;
+                self.drain.deadline = now.saturating_add(seconds.saturating_mul(1_000));
+                self.connections.tell(Event::DrainAsked { seconds });
+            }
+            Stage::Tells | Stage::Pauses | Stage::Closes => self.drain.deadline = 0,
+            Stage::Done => {}
+        }
+    }
+
+    /// Whether the server was asked to drain.
+    pub fn drains(&self) -> bool {
+        self.drain.stage != Stage::Serves
+    }
+
+    /// Whether the server has drained.
+    pub fn has_drained(&self) -> bool {
+        self.drain.stage == Stage::Done
+    }
+
+    /// Goes on with a drain, once all that came in this turn was worked and written.
+    pub(crate) fn drain_on<R: Wait>(&mut self, rt: &R) {
+        if !self.drain.goes_on() {
+            return;
+        }
+        match self.drain.stage {
+            Stage::Serves | Stage::Done => {}
+            Stage::Tells => self.tell_drain(rt),
+            Stage::Pauses => self.end_pause(),
+            Stage::Closes => {}
+        }
+        if self.drain.stage == Stage::Closes {
+            self.close_quiet(rt);
+        }
+        if self.connections.now >= self.drain.deadline {
+            self.cut_off();
+        }
+    }
+
+    /// Has the hub and the shards drain, and begins the pause. For want of memory it is tried again.
+    fn tell_drain<R: Wait>(&mut self, rt: &R) {
+        match self.node.drain(rt) {
+            Err(_) => self.connections.is_short = true,
+            Ok(cut) => {
+                self.connections.has_told = true;
+                if let Some(cut) = cut {
+                    self.cut_routes(&cut);
+                }
+                self.drain.stage = Stage::Pauses;
+                self.drain.closes_at = self.connections.now.saturating_add(DRAIN_PAUSE);
+            }
+        }
+    }
+
+    /// The pause is over once its time has come: clients are closed from then on.
+    fn end_pause(&mut self) {
+        if self.connections.now >= self.drain.closes_at {
+            self.drain.stage = Stage::Closes;
+            self.connections.begin_draining();
+        }
+    }
+
+    /// Closes the clients for which nothing waits, among those that were served or written to since this was done last. Where shards have
+    /// work left for want of memory, it is done later.
+    fn close_quiet<R: Wait>(&mut self, rt: &R) {
+        if self.unworked > 0 {
+            return;
+        }
+        let looks_at_all = std::mem::replace(&mut self.connections.looks_at_all, false);
+        let quiet = std::mem::replace(&mut self.connections.quiet, Vec::new(self.alloc));
+        if looks_at_all {
+            for key in 0..self.connections.table.capacity() {
+                self.close_if_quiet(rt, key);
+            }
+        } else {
+            for key in quiet {
+                self.close_if_quiet(rt, key);
+            }
+        }
+    }
+
+    /// A client for which nothing waits leaves its shard, and is closed once its last bytes are written. Where there is no memory for that, it is
+    /// tried again.
+    fn close_if_quiet<R: Wait>(&mut self, rt: &R, key: usize) {
+        if !self.connections.is_quiet(key) {
+            return;
+        }
+        if self.leave(rt, key).is_ok() {
+            self.connections.shut(key);
+            self.connections.close_if_written(key);
+        } else {
+            self.connections.is_short = true;
+            self.connections.note_quiet(key);
+        }
+    }
+
+    /// The drain ends now: all clients that are there still are closed at the end of this turn.
+    fn cut_off(&mut self) {
+        self.drain.deadline = u64::MAX;
+        self.drain.is_late = true;
+        self.drain.cut_off = self.connections.cut_off();
+        self.drain.stage = Stage::Closes;
+    }
+
+    /// Notes that the server has drained, where all its clients are gone, and what they published is written to the other servers; a drain that
+    /// is late does not wait for these.
+    pub(crate) fn end_drain(&mut self) {
+        let is_closing = self.drain.stage == Stage::Pauses || self.drain.stage == Stage::Closes;
+        if !is_closing || !self.clients.is_empty() {
+            return;
+        }
+        if !self.drain.is_late && !self.are_routes_written() {
+            return;
+        }
+        self.drain.stage = Stage::Done;
+        self.connections.end_draining();
+        let clients = self.drain.cut_off;
+        self.connections.tell(if self.drain.is_late {
+            Event::DrainedLate { clients }
+        } else {
+            Event::Drained
+        });
+    }
+
+    /// Whether all that waited for other servers is written, as far as they are reached.
+    fn are_routes_written(&self) -> bool {
+        if self.connections.has_told {
+            return false;
+        }
+        for place in 0..self.peers.count() {
+            if let Some(key) = self.peers.kept_connection(place) {
+                if self.connections.backlog(key).unwrap_or(0) > 0 {
+                    return false;
+                }
+            }
+        }
+        true
+    }
+}
