@@ -1,13 +1,18 @@
-"""Builds the programs that are measured, starts servers, and tells what these take."""
+"""Builds the programs that are measured and the one that loads them, starts servers, and tells what these take."""
 import os
 import random
 import re
+import shutil
 import socket
 import subprocess
 import sys
 import time
 
 TOP = os.path.dirname(os.path.dirname(os.path.abspath(__file__)))
+
+# The program that loads servers: its sources, and where it is built.
+LOAD = os.path.join(TOP, "bench", "load")
+LOAD_TARGET = os.path.join(LOAD, "target")
 
 # A line of the launcher that gives a variable to the program, where its environment has none of this name.
 GIVEN = re.compile(r'^export (\w+)="\$\{\1:-(\w+)\}"$', re.MULTILINE)
@@ -46,6 +51,17 @@ def built(name, is_proved=True):
         subprocess.run([sys.executable, os.path.join(TOP, "tools", tool), name], stdin=subprocess.DEVNULL, stdout=sys.stderr, check=True)
         os.utime(path)
     return path
+
+
+def built_load():
+    """The program that loads servers, which is built first where it is missing or older than its sources. It is plain Rust, and nothing of it is
+    proved. Ends this process where it cannot be built."""
+    if shutil.which("cargo") is None:
+        sys.exit(f"bench: cargo is missing, which builds the program that loads servers ({os.path.relpath(LOAD)}): install Rust 1.82 or newer")
+    words = ["cargo", "build", "--release", "--offline", "--quiet", "--manifest-path", os.path.join(LOAD, "Cargo.toml"), "--target-dir", LOAD_TARGET]
+    if subprocess.run(words, stdin=subprocess.DEVNULL, stdout=sys.stderr, check=False).returncode != 0:
+        sys.exit("bench: the program that loads servers cannot be built")
+    return os.path.join(LOAD_TARGET, "release", "nats_load")
 
 
 def given_variables():
@@ -169,5 +185,5 @@ def nats_server(count):
 
 
 def port_words(ports):
-    """What a command line of serve_bench says of where clients come to."""
+    """What a command line of nats_load says of where clients come to."""
     return [word for option, port in zip(["--port", "--second", "--third"], ports) for word in (option, str(port))]
