@@ -1,0 +1,4 @@
+pub mod Digits
+pub mod Files
+pub mod Keeps
+pub mod Rising
