@@ -1,0 +1,35 @@
+//! Reads the file that describes a mesh of servers on several machines.
+//!
+//! ```text
+//! let mesh = MeshFile::read(alloc, text)?;
+//! let place = mesh.place_of(NodeId::read(b"n2")?).ok_or("no such server")?;
+//! let server = mesh.servers()[place];
+//! listen(server.clients, server.routes.port)?;
+//! print!(rt; "{mesh}")?;
+//! ```
+//!
+//! In reading order: [`MeshFile`] (`mesh`) is what a file says, [`MeshServer`] (`servers`) what it says of one server, and [`MeshFault`]
+//! (`faults`) why a text is no such file. `tables` reads the tables of the file, `entries` the keys of a server, `keys` tells unknown keys,
+//! `addresses` and `hosts` read the texts of addresses, and `pairs` compares servers and puts them in order.
+#![tactic(auto)]
+
+mod addresses;
+mod entries;
+mod faults;
+mod hosts;
+mod keys;
+mod mesh;
+mod pairs;
+mod servers;
+mod tables;
+#[cfg(test)]
+mod tests;
+
+pub use addresses::{RouteAddress, RouteHost};
+pub use faults::{
+    KeyText, MAX_KEY_TEXT, MeshFault, Pair, ServerFault, ServerKey, Shared, ValueFault,
+};
+pub use hosts::{HostText, MAX_HOST, MAX_LABEL};
+pub use mesh::MeshFile;
+pub use servers::MeshServer;
+pub use tables::DEFAULT_SHARDS;
