@@ -103,6 +103,7 @@ fn write_refusal<W: Write>(
         RefusalCause::System(cause) => write!(f, "{caller}: {}", SystemText(cause)),
         RefusalCause::NumbersSpent => write!(f, "{caller}: the numbers of clients are used up"),
         RefusalCause::TooManyRoutes => write!(f, "{caller}: too many connections of servers"),
+        RefusalCause::Stranger => write!(f, "{caller}: it came from an address of no server"),
         RefusalCause::Silent => write!(f, "{caller}: it did not tell in time who it is"),
         RefusalCause::OutOfMemory => write!(f, "{caller}: out of memory"),
     }
@@ -117,7 +118,7 @@ impl Display for EventText {
         match self.0 {
             Event::Listening { clients, routes } => write!(
                 f,
-                "listens at 127.0.0.1:{clients} for clients and at 127.0.0.1:{routes} for servers"
+                "listens at {clients} for clients and at {routes} for servers"
             ),
             Event::PeerUp { peer } => write!(f, "{} is reached", peer.text()),
             Event::PeerDown { peer, cause } => {

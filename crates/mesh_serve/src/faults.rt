@@ -1,15 +1,22 @@
 //! Why a mesh is not served, and why none drains.
 
 use event_log::StartFault;
+use incarnation_file::{OpenFault, RaiseFault};
+use mesh_file::MeshFault;
 use std::alloc::{AllocError, AllocFailed};
 use std::fmt::{Display, Formatter, Write};
+use std::net::SocketAddr;
 use std::{fmt, io};
+use subj::{Failure, NodeId};
 
 /// Why a mesh is not served any more.
 #[derive(Drop)]
 pub enum ServeFault {
-    /// The port is not to be had.
-    Port { port: u16, error: io::Error },
+    /// The address is not to be had.
+    Address {
+        address: SocketAddr,
+        error: io::Error,
+    },
     /// The socket where the servers are told to drain is not to be had.
     Control(io::Error),
     /// A socket, or standard output, failed before the servers ran.
@@ -18,10 +25,15 @@ pub enum ServeFault {
     NoCluster,
     /// No thread was to be had for what standard error is told.
     NoLog,
-    /// No thread was to be had for the server of this number, from 1.
-    NoThread { server: u64 },
-    /// The server of this number, from 1, could not go on: a socket, the clock or its memory failed.
-    Stopped { server: u64, error: io::Error },
+    /// No thread was to be had for the server of this name.
+    NoThread {
+        server: NodeId,
+    },
+    /// The server of this name could not go on: a socket, the clock or its memory failed.
+    Stopped {
+        server: NodeId,
+        error: io::Error,
+    },
     /// There was no memory.
     OutOfMemory,
 }
@@ -29,8 +41,8 @@ pub enum ServeFault {
 impl Display for ServeFault {
     fn fmt<W: Write>(&self, f: &mut Formatter<W>) -> fmt::Result {
         match self {
-            ServeFault::Port { port, error } => {
-                write!(f, "port {port} of 127.0.0.1 is not to be had: {error}")
+            ServeFault::Address { address, error } => {
+                write!(f, "{address} is not to be had: {error}")
             }
             ServeFault::Control(error) => {
                 write!(f, "the socket of --control is not to be had: {error}")
@@ -38,8 +50,12 @@ impl Display for ServeFault {
             ServeFault::Failed(error) => write!(f, "{error}"),
             ServeFault::NoCluster => f.write_str("the servers are no cluster"),
             ServeFault::NoLog => f.write_str("no thread for what standard error is told"),
-            ServeFault::NoThread { server } => write!(f, "n{server} cannot run: no thread for it"),
-            ServeFault::Stopped { server, error } => write!(f, "n{server} cannot go on: {error}"),
+            ServeFault::NoThread { server } => {
+                write!(f, "{} cannot run: no thread for it", server.text())
+            }
+            ServeFault::Stopped { server, error } => {
+                write!(f, "{} cannot go on: {error}", server.text())
+            }
             ServeFault::OutOfMemory => f.write_str("out of memory"),
         }
     }
@@ -69,6 +85,109 @@ impl From<StartFault> for ServeFault {
 impl From<io::Error> for ServeFault {
     fn from(error: io::Error) -> ServeFault {
         ServeFault::Failed(error)
+    }
+}
+
+/// Why one server of a mesh is not served. The causes stand in the order in which they are found.
+#[derive(Drop)]
+pub enum NodeFault {
+    /// The file of the mesh cannot be read.
+    Unread(io::Error),
+    /// The file describes no mesh.
+    NoMesh(MeshFault),
+    /// The file names a secret, for which no server asks in this version.
+    SecretFile,
+    /// The file has this server advertise a host, which INFO cannot tell in this version.
+    Advertise(NodeId),
+    /// The file has no server of this name.
+    NotInMesh(NodeId),
+    /// The folder of the server's incarnation is not to be had.
+    Folder(OpenFault),
+    /// The server gets no incarnation.
+    NoIncarnation(RaiseFault),
+    /// The host of this server's routes has no address.
+    Unresolved { server: NodeId, error: io::Error },
+    /// The server is not served any more.
+    Served(ServeFault),
+    /// There was no memory.
+    OutOfMemory,
+}
+
+impl NodeFault {
+    /// Whether the command line or the file of the mesh is to be mended: a further start would end the same way.
+    pub fn is_given(&self) -> bool {
+        matches!(
+            self,
+            NodeFault::Unread(_)
+                | NodeFault::NoMesh(_)
+                | NodeFault::SecretFile
+                | NodeFault::Advertise(_)
+                | NodeFault::NotInMesh(_)
+        )
+    }
+}
+
+impl Display for NodeFault {
+    fn fmt<W: Write>(&self, f: &mut Formatter<W>) -> fmt::Result {
+        match self {
+            NodeFault::Unread(error) => write!(f, "the file of the mesh cannot be read: {error}"),
+            NodeFault::NoMesh(fault) => write!(f, "the file of the mesh: {fault}"),
+            NodeFault::SecretFile => f.write_str(
+                "the file of the mesh: mesh.secret_file: leave it out, since this version knows servers by their addresses alone",
+            ),
+            NodeFault::Advertise(name) => write!(
+                f,
+                "the file of the mesh: advertise of {}: leave it out, since INFO tells the host 127.0.0.1 in this version",
+                name.text()
+            ),
+            NodeFault::NotInMesh(name) => {
+                write!(f, "the file of the mesh has no server {}", name.text())
+            }
+            NodeFault::Folder(fault) => write!(f, "{fault}"),
+            NodeFault::NoIncarnation(fault) => write!(f, "{fault}"),
+            NodeFault::Unresolved { server, error } => {
+                write!(
+                    f,
+                    "the routes of {} have no address: {error}",
+                    server.text()
+                )
+            }
+            NodeFault::Served(fault) => write!(f, "{fault}"),
+            NodeFault::OutOfMemory => f.write_str("out of memory"),
+        }
+    }
+}
+
+impl From<Failure<MeshFault>> for NodeFault {
+    fn from(fault: Failure<MeshFault>) -> NodeFault {
+        match fault {
+            Failure::Refused(fault) => NodeFault::NoMesh(fault),
+            Failure::OutOfMemory => NodeFault::OutOfMemory,
+        }
+    }
+}
+
+impl From<OpenFault> for NodeFault {
+    fn from(fault: OpenFault) -> NodeFault {
+        NodeFault::Folder(fault)
+    }
+}
+
+impl From<RaiseFault> for NodeFault {
+    fn from(fault: RaiseFault) -> NodeFault {
+        NodeFault::NoIncarnation(fault)
+    }
+}
+
+impl From<ServeFault> for NodeFault {
+    fn from(fault: ServeFault) -> NodeFault {
+        NodeFault::Served(fault)
+    }
+}
+
+impl<T: Drop> From<AllocFailed<T>> for NodeFault {
+    fn from(_: AllocFailed<T>) -> NodeFault {
+        NodeFault::OutOfMemory
     }
 }
 

@@ -1,4 +1,4 @@
-//! A mesh of servers in one process: [`serve`] runs it as its options say.
+//! A mesh of servers in one process: [`serve`] runs it as its options say. [`serve_node`] runs one server of a mesh whose others are elsewhere.
 //!
 //! ```text
 //! let given = Given { nodes: 3, port: 4222, shards: 2, inc: 1, word: 0, stop_after: None, log_level: "info", drain_seconds: 30,
@@ -7,14 +7,19 @@
 //! serve(rt, rt.alloc(), &options)?;
 //! ```
 //!
-//! `serving` binds the sockets, tells at which ports servers are reached, and gives each a thread; `control` has both ends of the socket by which
-//! they are told to drain; `faults` are the causes for which a mesh is not served any more, and for which none drains.
+//! `node` reads the file of a mesh and has one server of it served. `planned` says which servers a process has and where they are reached; `serving` binds their sockets and gives each a thread; `control` has
+//! both ends of the socket by which they are told to drain; `faults` are the causes for which a mesh is not served any more, and for which none
+//! drains.
 #![tactic(auto)]
 
 mod control;
 mod faults;
+mod node;
+mod planned;
 mod serving;
 
 pub use control::ask_drain;
-pub use faults::{DrainFault, ServeFault};
-pub use serving::{ready_line, serve};
+pub use faults::{DrainFault, NodeFault, ServeFault};
+pub use node::{check_mesh, serve_node};
+pub use planned::ready_line;
+pub use serving::serve;

@@ -1,4 +1,5 @@
-//! The program: `serve` serves a mesh on sockets, `drain` has its servers drain, `pipe` serves one client on standard input and output, `match`
+//! The program: `serve` serves a mesh on sockets, `node` one server of a mesh that a file describes, `check` tells what such a file means, `drain` has
+//! servers drain, `pipe` serves one client on standard input and output, `match`
 //! answers one question of matching, `script` plays what is done in a cluster, and `audit` audits a log of what was done in one.
 //!
 //! ```text
@@ -12,11 +13,11 @@ use command_line::{status_of, tell_line, words};
 use mesh_audit::{audit_run, script_audit_run};
 use mesh_pipe::{pipe_complaint, pipe_run, pipe_status};
 use mesh_script::{match_run, script_run};
-use mesh_serve::{ask_drain, serve};
-use router_command::{Command, Given, Options, command_of};
+use mesh_serve::{NodeFault, ask_drain, check_mesh, serve, serve_node};
+use router_command::{Command, Given, NodeGiven, NodeOptions, Options, command_of};
 use std::alloc::Global;
 use std::fmt::Display;
-use std::fs::Files;
+use std::fs::{File, Files};
 use std::io;
 use std::net::{Net, TcpListener, TcpStream};
 use std::process::ExitCode;
@@ -111,6 +112,42 @@ where
     }
 }
 
+/// Tells on standard error why a server of a mesh is not served, or what its file is not. Gives the exit status.
+fn report_node<R: Eprint>(rt: &R, ended: Result<(), NodeFault>) -> u8 {
+    match ended {
+        Err(fault) if fault.is_given() => {
+            let _ = eprintln!(rt; "nats_mesh: {fault}");
+            BAD_LINE
+        }
+        ended => report(rt, ended),
+    }
+}
+
+/// Serves one server of a mesh.
+fn run_node<R>(rt: &R, given: NodeGiven<'_>) -> u8
+where
+    R: Threads
+        + Wait
+        + Net<Listener = TcpListener, Stream = TcpStream>
+        + Files<File = File>
+        + Clock
+        + Print
+        + Eprint
+        + Alloc<A = Global>
+        + Copy
+        + Send
+        + Sync
+        + 'static,
+{
+    match NodeOptions::new(given) {
+        Ok(options) => report_node(rt, serve_node(rt, rt.alloc(), &options)),
+        Err(fault) => {
+            let _ = eprintln!(rt; "nats_mesh: {fault}");
+            BAD_LINE
+        }
+    }
+}
+
 /// Has the servers drain that are told so at this path, or the one of this name.
 fn run_drain<R: Net + Eprint>(rt: &R, path: &str, server: Option<&str>) -> u8 {
     if let Some(name) = server {
@@ -128,7 +165,7 @@ where
     R: Threads
         + Wait
         + Net<Listener = TcpListener, Stream = TcpStream>
-        + Files
+        + Files<File = File>
         + Clock
         + Input
         + Print
@@ -147,6 +184,8 @@ where
         Ok(Command::Audit) => run_audit(rt),
         Ok(Command::Serve(given)) => run_serve(rt, given),
         Ok(Command::Drain { path, server }) => run_drain(rt, path, server),
+        Ok(Command::Node(given)) => run_node(rt, given),
+        Ok(Command::Check { path }) => report_node(rt, check_mesh(rt, path)),
         Err(error) => tell_line(rt, &error),
     }
 }

@@ -14,7 +14,7 @@ use server_calls::ServerCalls;
 use server_events::{Caller, Event, EventSink, RefusalCause, SystemCause};
 use std::alloc::{AllocError, Global};
 use std::io;
-use std::net::{Net, SocketAddr};
+use std::net::{IpAddr, Net, SocketAddr};
 use std::rt::Clock;
 use std::sync::Wait;
 use std::time::{Duration, Instant};
@@ -76,22 +76,39 @@ impl Door {
         self.has_more = false;
     }
 
-    /// The next connection.
-    fn accept(&self) -> Accepted {
+    /// Whether whoever comes from this address is taken: a client from everywhere, another server from
+    /// where one of the cluster's servers is. (Profile.)
+    fn takes(&self, from: SocketAddr, addresses: &[SocketAddr]) -> bool {
+        self.is_for_clients() || is_among(from.ip(), addresses)
+    }
+
+    /// The next connection. The servers of the cluster are at these addresses.
+    fn accept(&self, addresses: &[SocketAddr]) -> Accepted {
         let Some(listener) = &self.listener else {
             return Accepted::Nothing;
         };
         match listener.accept() {
-            Ok((stream, _)) => Accepted::Stream(stream),
+            Ok((stream, from)) if self.takes(from, addresses) => Accepted::Stream(stream),
+            Ok(_) => Accepted::Stranger,
             Err(error) if error.kind() == io::ErrorKind::WouldBlock => Accepted::Nothing,
             Err(error) => Accepted::Failed(SystemCause::of(&error)),
         }
     }
 }
 
+/// Whether one of the addresses is that of this host. One of IPv4 is the same in either form.
+fn is_among(host: IpAddr, addresses: &[SocketAddr]) -> bool {
+    let host = host.to_canonical();
+    addresses
+        .iter()
+        .any(|address| address.ip().to_canonical() == host)
+}
+
 /// What accepting came to.
 enum Accepted {
     Stream(TcpStream),
+    /// Somebody who is not taken, and whose connection is closed.
+    Stranger,
     Nothing,
     Failed(SystemCause),
 }
@@ -115,6 +132,15 @@ struct Rounds {
     heard: u64,
     /// Whether the others know that the server has drained.
     has_finished: bool,
+}
+
+/// The mesh that the server is of.
+#[derive(Clone, Copy)]
+struct Mesh<'a> {
+    /// Where other servers reach each of its servers, in their order.
+    addresses: &'a [SocketAddr],
+    /// When the servers of the process stop.
+    shutdown: &'a Shutdown,
 }
 
 /// Has the sockets tell when connections come in.
@@ -208,7 +234,8 @@ fn refusal_of(fault: AddFault) -> RefusalCause {
 impl<C: ServerCalls> Server<TcpStream, C> {
     /// Serves until all servers of the process stop, or have drained: waits until a socket is ready, takes clients and routes,
     /// dials each other server of the cluster that is not reached at its address, those of all servers in
-    /// their order, and makes a turn. What happens is told to the log. May wait, and for ever.
+    /// their order, and makes a turn. A route is taken from the host of one of these addresses alone. What
+    /// happens is told to the log. May wait, and for ever.
     pub fn run<R: Wait + Net + Clock, L: EventSink>(
         &mut self,
         rt: &R,
@@ -220,7 +247,11 @@ impl<C: ServerCalls> Server<TcpStream, C> {
         self.connections.events.set_filter(log.filter());
         register(&mut sockets)?;
         let mut rounds = Rounds::new(self.alloc, Instant::now(rt)?, sockets);
-        self.run_rounds(rt, &mut rounds, addresses, shutdown, log)
+        let mesh = Mesh {
+            addresses,
+            shutdown,
+        };
+        self.run_rounds(rt, &mut rounds, mesh, log)
     }
 
     /// Serves until all servers of the process stop, over sockets that are registered.
@@ -228,13 +259,12 @@ impl<C: ServerCalls> Server<TcpStream, C> {
         &mut self,
         rt: &R,
         rounds: &mut Rounds,
-        addresses: &[SocketAddr],
-        shutdown: &Shutdown,
+        mesh: Mesh<'_>,
         log: &L,
     ) -> io::Result<()> {
-        rounds.reserve(addresses.len())?;
+        rounds.reserve(mesh.addresses.len())?;
         let mut events = Events::with_capacity(self.alloc, EVENTS)?;
-        self.go_round(rt, rounds, &mut events, addresses, shutdown, log)
+        self.go_round(rt, rounds, &mut events, mesh, log)
     }
 
     /// Goes round, until all servers of the process stop.
@@ -243,17 +273,16 @@ impl<C: ServerCalls> Server<TcpStream, C> {
         rt: &R,
         rounds: &mut Rounds,
         events: &mut Events,
-        addresses: &[SocketAddr],
-        shutdown: &Shutdown,
+        mesh: Mesh<'_>,
         log: &L,
     ) -> io::Result<()> {
         for _round in rt.forever() {
-            if shutdown.is_over() {
+            if mesh.shutdown.is_over() {
                 return Ok(());
             }
-            self.go_once(rt, rounds, addresses, shutdown);
-            self.tell(rt, rounds, shutdown, log);
-            if shutdown.is_over() {
+            self.go_once(rt, rounds, mesh);
+            self.tell(rt, rounds, mesh.shutdown, log);
+            if mesh.shutdown.is_over() {
                 return Ok(());
             }
             self.wait(rt, rounds, events)?;
@@ -262,17 +291,11 @@ impl<C: ServerCalls> Server<TcpStream, C> {
     }
 
     /// Takes clients and routes, dials, and makes a turn for the connections that are ready.
-    fn go_once<R: Wait + Net + Clock>(
-        &mut self,
-        rt: &R,
-        rounds: &mut Rounds,
-        addresses: &[SocketAddr],
-        shutdown: &Shutdown,
-    ) {
-        rounds.hear_operators(self.life.names(), shutdown);
-        self.hear_drain(rounds, shutdown);
-        self.accept_all(rt, rounds, shutdown);
-        self.dial_all(rt, rounds, addresses);
+    fn go_once<R: Wait + Net + Clock>(&mut self, rt: &R, rounds: &mut Rounds, mesh: Mesh<'_>) {
+        rounds.hear_operators(self.life.names(), mesh.shutdown);
+        self.hear_drain(rounds, mesh.shutdown);
+        self.accept_all(rt, rounds, mesh);
+        self.dial_all(rt, rounds, mesh.addresses);
         self.turn(rt, &rounds.ready);
         rounds.ready.clear();
     }
@@ -325,23 +348,17 @@ impl<C: ServerCalls> Server<TcpStream, C> {
     }
 
     /// Takes all clients and routes that wait.
-    fn accept_all<R: Wait>(&mut self, rt: &R, rounds: &mut Rounds, shutdown: &Shutdown) {
+    fn accept_all<R: Wait>(&mut self, rt: &R, rounds: &mut Rounds, mesh: Mesh<'_>) {
         let had_failed = rounds.has_failed;
         let clients_fail = self.accept_from(
             rt,
             &rounds.poll,
             &mut rounds.clients,
-            shutdown,
+            mesh,
             had_failed,
         );
         let has_failed = had_failed || clients_fail;
-        let routes_fail = self.accept_from(
-            rt,
-            &rounds.poll,
-            &mut rounds.routes,
-            shutdown,
-            has_failed,
-        );
+        let routes_fail = self.accept_from(rt, &rounds.poll, &mut rounds.routes, mesh, has_failed);
         rounds.has_failed = clients_fail || routes_fail;
     }
 
@@ -351,15 +368,18 @@ impl<C: ServerCalls> Server<TcpStream, C> {
         rt: &R,
         poll: &Poll,
         door: &mut Door,
-        shutdown: &Shutdown,
+        mesh: Mesh<'_>,
         had_failed: bool,
     ) -> bool {
         for _accept in 0..ACCEPTS {
             if !door.has_more {
                 return false;
             }
-            match door.accept() {
-                Accepted::Stream(stream) => self.take_in(rt, poll, &*door, shutdown, stream),
+            match door.accept(mesh.addresses) {
+                Accepted::Stream(stream) => {
+                    self.take_in(rt, poll, &*door, mesh.shutdown, stream);
+                }
+                Accepted::Stranger => self.tell_refused(door.side, RefusalCause::Stranger),
                 Accepted::Nothing => door.has_more = false,
                 Accepted::Failed(cause) => {
                     self.tell_failed(&*door, cause, had_failed);

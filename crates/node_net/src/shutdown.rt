@@ -44,11 +44,13 @@ pub struct Shutdown {
     drained: AtomicU64,
     has_failed: AtomicBool,
     servers: Vec<ServerControl>,
+    /// The place in the cluster of the first of them; the others follow it.
+    first_place: usize,
 }
 
 impl Shutdown {
-    /// Servers that have taken nobody, in their order. They stop once they have taken so many clients, and all that they took are gone;
-    /// for None they go on, until all have drained. A drain may take half a minute.
+    /// Servers that have taken nobody, in their order, from the first place of the cluster on. They stop once they have taken so many clients,
+    /// and all that they took are gone; for None they go on, until all have drained. A drain may take half a minute.
     pub fn new(stops_after: Option<u64>, servers: Vec<ServerControl>) -> Shutdown {
         Shutdown {
             stops_after,
@@ -58,7 +60,18 @@ impl Shutdown {
             drained: AtomicU64::new(0),
             has_failed: AtomicBool::new(false),
             servers,
+            first_place: 0,
         }
+    }
+
+    /// The first of the servers stands at this place of the cluster, counted from 0: servers before it are of other processes.
+    pub fn set_first_place(&mut self, place: usize) {
+        self.first_place = place;
+    }
+
+    /// What the server at this place of the cluster is told, where it is one of these.
+    fn server_at(&self, place: usize) -> Option<&ServerControl> {
+        self.servers.get(place.checked_sub(self.first_place)?)
     }
 
     /// A drain may take so many seconds from now on.
@@ -93,10 +106,10 @@ impl Shutdown {
         self.wake_all();
     }
 
-    /// Asks the server at this place, counted from 0, to drain, and wakes it. One that drains already ends its drain at once. Whether there is
+    /// Asks the server at this place of the cluster, counted from 0, to drain, and wakes it. One that drains already ends its drain at once. Whether there is
     /// such a server.
     pub fn ask_drain(&self, place: usize) -> bool {
-        match self.servers.get(place) {
+        match self.server_at(place) {
             None => false,
             Some(server) => {
                 server.ask();
@@ -114,7 +127,7 @@ impl Shutdown {
 
     /// How often the server at this place was asked to drain; never where there is no such one.
     pub fn asks(&self, place: usize) -> u64 {
-        match self.servers.get(place) {
+        match self.server_at(place) {
             None => 0,
             Some(server) => server.asks.load(Ordering::SeqCst),
         }

@@ -16,8 +16,8 @@ use Rattle.clap.specs.declared.error.kind.ErrorKind.{ErrorKind}
 use Rattle.clap.specs.declared.error.kind.ErrorKind.TheVariants as kind
 use Rattle.clap.specs.declared.builder.value_parser.ValueParser.TheVariants as vp
 use Rattle.clap.proofs.ValueTestLemmas.{accepts-Accepts}
-use Rattle.router_command.specs.Line.{control_rule, greatest_number, level_rule, number_rule, required_rule, router, with_value}
-use Rattle.router_command.specs.Command.{AreOptions, AreWords, HasNumber, IsNumber, IsWhole}
+use Rattle.router_command.specs.Line.{control_rule, greatest_number, level_rule, number_rule, required_rule, router, text_rule, with_value}
+use Rattle.router_command.specs.Command.{AreNodeOptions, AreOptions, AreWords, HasNumber, IsNumber, IsWhole}
 use Rattle.router_command.proofs.Walks.{Each, IsNoHelp, Keeps, KeepsDefault, both_pass, level_keeps, walk_stops}
 use Rattle.router_command.proofs.Rows.{Passes, Reads, RowFits, default_comes, default_keeps, defaults_stay, given_found, help_keeps, one_value, row_found, row_of_rule, text_of_row, value_keeps}
 
@@ -27,12 +27,12 @@ abbrev whole_line : App
 whole_line = built router
 
 -- an argument that is a text, as it is built
-abbrev text_rule : Rule → Rule
-text_rule a = record (one_value a) { parser = Some vp.String }
+abbrev as_text : Rule → Rule
+as_text a = record (one_value a) { parser = Some vp.String }
 
 -- a word at its place
 abbrev word_rule : ℕ → Text → Rule
-word_rule place name = record (text_rule (required_rule (new_rule name))) { index = Some place }
+word_rule place name = record (as_text (required_rule (new_rule name))) { index = Some place }
 
 -- an option that is a number, as it is built
 abbrev option_rule : Text → Rule
@@ -57,13 +57,13 @@ abbrev end_rule : Rule
 end_rule = option_rule (codes "stop-after")
 
 abbrev log_rule : Rule
-log_rule = text_rule level_rule
+log_rule = as_text level_rule
 
 abbrev time_rule : Rule
 time_rule = with_value (option_rule (codes "drain-seconds")) (codes "30")
 
 abbrev socket_rule : Rule
-socket_rule = text_rule control_rule
+socket_rule = as_text control_rule
 
 abbrev pattern_rule : Rule
 pattern_rule = word_rule 1 (codes "PATTERN")
@@ -76,7 +76,22 @@ path_rule = word_rule 1 (codes "PATH")
 
 -- a word that need not be there
 abbrev server_rule : Rule
-server_rule = record (text_rule (new_rule (codes "NAME"))) { index = Some 2 }
+server_rule = record (as_text (new_rule (codes "NAME"))) { index = Some 2 }
+
+abbrev name_rule : Rule
+name_rule = word_rule 1 (codes "NAME")
+
+abbrev mesh_rule : Rule
+mesh_rule = as_text (required_rule (text_rule (codes "mesh")))
+
+abbrev state_rule : Rule
+state_rule = with_value (as_text (text_rule (codes "state"))) (codes ".")
+
+abbrev first_rule : Rule
+first_rule = option_rule (codes "least-inc")
+
+abbrev file_rule : Rule
+file_rule = word_rule 1 (codes "FILE")
 
 -- the flag that each command has
 abbrev flag_rule : Rule
@@ -102,6 +117,13 @@ serve_shape = built_of (codes "serve")
 
 abbrev drain_shape : Shape
 drain_shape = built_of (codes "drain") (path_rule ∷ server_rule ∷ flag_rule ∷ [])
+
+abbrev node_shape : Shape
+node_shape = built_of (codes "node")
+    (name_rule ∷ mesh_rule ∷ state_rule ∷ first_rule ∷ log_rule ∷ time_rule ∷ socket_rule ∷ flag_rule ∷ [])
+
+abbrev check_shape : Shape
+check_shape = built_of (codes "check") (file_rule ∷ flag_rule ∷ [])
 
 -- ---- small steps
 
@@ -153,6 +175,15 @@ word_found : (a : Rule) (o : Option Row) → IfSome o (Reads a) → is_some o �
 word_found a None h e = absurd (true≢false (sym e))
 word_found a (Some r) h e = ap (λ (o : Option Text). is_some o) (text_of_row a r h).1
 
+-- an argument of a command that has a row: a number where it is one, and a text
+has_number : (s : Shape) (name : Text) (a : Rule) (rows : List Row) → arg_by_id s.rules name ≡ Some (numeric a) → Each (RowFits s.rules) rows
+    → is_some (find (λ r. bytes_eq r.id name) rows) ≡ true → HasNumber name rows
+has_number s name a rows own fit there = number_found a (find (λ r. bytes_eq r.id name) rows) (row_of_rule s.rules name (numeric a) rows own fit) there
+
+has_text : (s : Shape) (name : Text) (a : Rule) (rows : List Row) → arg_by_id s.rules name ≡ Some a → Each (RowFits s.rules) rows
+    → is_some (find (λ r. bytes_eq r.id name) rows) ≡ true → IsSome (first_of name rows)
+has_text s name a rows own fit there = word_found a (find (λ r. bytes_eq r.id name) rows) (row_of_rule s.rules name a rows own fit) there
+
 -- ---- `match`
 
 match_keeps : Each (Keeps match_shape.args_override_self (Each (RowFits match_shape.rules))) match_shape.rules
@@ -176,18 +207,14 @@ match_defaults = (
 match_needs : (rows : List Row) → check_fault match_shape rows false ≡ [] → (is_given (codes "PATTERN") rows ≡ true) × (is_given (codes "SUBJECT") rows ≡ true)
 match_needs rows e = both_given (is_given (codes "PATTERN") rows) (is_given (codes "SUBJECT") rows) e
 
-match_word : (name : Text) (a : Rule) (rows : List Row) → arg_by_id match_shape.rules name ≡ Some a → Each (RowFits match_shape.rules) rows
-    → is_given name rows ≡ true → IsSome (first_of name rows)
-match_word name a rows own fit given = word_found a (find (λ r. bytes_eq r.id name) rows) (row_of_rule match_shape.rules name a rows own fit) (given_found name rows given)
-
 match_whole : (words : List Text) → level_fault match_shape [] nothing_held words false [] ≡ [] → AreWords (rows_after match_shape.rules [] words)
 match_whole words e =
     let rows = rows_after match_shape.rules [] words in
     let kept = level_keeps match_shape (Each (RowFits match_shape.rules)) match_keeps [] nothing_held words false [] match_defaults e tt in
     let given = match_needs rows kept.1 in
     record {
-      pattern = match_word (codes "PATTERN") pattern_rule rows refl kept.0 given.0;
-      subject = match_word (codes "SUBJECT") subject_rule rows refl kept.0 given.1;
+      pattern = has_text match_shape (codes "PATTERN") pattern_rule rows refl kept.0 (given_found (codes "PATTERN") rows given.0);
+      subject = has_text match_shape (codes "SUBJECT") subject_rule rows refl kept.0 (given_found (codes "SUBJECT") rows given.1);
     }
 
 -- ---- `serve`
@@ -255,11 +282,6 @@ serve_defaults = (
 serve_needs : (rows : List Row) → check_fault serve_shape rows false ≡ [] → (is_given (codes "nodes") rows ≡ true) × (is_given (codes "port") rows ≡ true)
 serve_needs rows e = both_given (is_given (codes "nodes") rows) (is_given (codes "port") rows) e
 
-serve_number : (name : Text) (a : Rule) (rows : List Row) → arg_by_id serve_shape.rules name ≡ Some (numeric a) → Each (RowFits serve_shape.rules) rows
-    → is_some (find (λ r. bytes_eq r.id name) rows) ≡ true → HasNumber name rows
-serve_number name a rows own fit there =
-    number_found a (find (λ r. bytes_eq r.id name) rows) (row_of_rule serve_shape.rules name (numeric a) rows own fit) there
-
 -- the options that have defaults
 shards_there : (rows : List Row) → has_row (codes "shards") (fold with_default rows serve_shape.rules) ≡ true
 shards_there rows =
@@ -303,17 +325,15 @@ serve_whole words e =
     let given = serve_needs rows kept.1 in
     let used = (settled serve_shape.rules (walk serve_shape.rules [] nothing_held words).held).rows in
     record {
-      nodes = serve_number (codes "nodes") nodes_rule rows refl kept.0 (given_found (codes "nodes") rows given.0);
-      port = serve_number (codes "port") port_rule rows refl kept.0 (given_found (codes "port") rows given.1);
-      shards = serve_number (codes "shards") shards_rule rows refl kept.0 (row_found (codes "shards") rows (shards_there used));
-      inc = serve_number (codes "inc") inc_rule rows refl kept.0 (row_found (codes "inc") rows (inc_there used));
-      word = serve_number (codes "word") seed_rule rows refl kept.0 (row_found (codes "word") rows (word_there used));
+      nodes = has_number serve_shape (codes "nodes") nodes_rule rows refl kept.0 (given_found (codes "nodes") rows given.0);
+      port = has_number serve_shape (codes "port") port_rule rows refl kept.0 (given_found (codes "port") rows given.1);
+      shards = has_number serve_shape (codes "shards") shards_rule rows refl kept.0 (row_found (codes "shards") rows (shards_there used));
+      inc = has_number serve_shape (codes "inc") inc_rule rows refl kept.0 (row_found (codes "inc") rows (inc_there used));
+      word = has_number serve_shape (codes "word") seed_rule rows refl kept.0 (row_found (codes "word") rows (word_there used));
       stop_after = number_if_found end_rule (find (λ r. bytes_eq r.id (codes "stop-after")) rows)
           (row_of_rule serve_shape.rules (codes "stop-after") end_rule rows refl kept.0);
-      log_level = word_found log_rule (find (λ r. bytes_eq r.id (codes "log-level")) rows)
-          (row_of_rule serve_shape.rules (codes "log-level") log_rule rows refl kept.0)
-          (row_found (codes "log-level") rows (level_there used));
-      drain_seconds = serve_number (codes "drain-seconds") time_rule rows refl kept.0 (row_found (codes "drain-seconds") rows (seconds_there used));
+      log_level = has_text serve_shape (codes "log-level") log_rule rows refl kept.0 (row_found (codes "log-level") rows (level_there used));
+      drain_seconds = has_number serve_shape (codes "drain-seconds") time_rule rows refl kept.0 (row_found (codes "drain-seconds") rows (seconds_there used));
     }
 
 -- ---- `drain`
@@ -344,9 +364,121 @@ drain_whole : (words : List Text) → level_fault drain_shape [] nothing_held wo
 drain_whole words e =
     let rows = rows_after drain_shape.rules [] words in
     let kept = level_keeps drain_shape (Each (RowFits drain_shape.rules)) drain_keeps [] nothing_held words false [] drain_defaults e tt in
-    word_found path_rule (find (λ r. bytes_eq r.id (codes "PATH")) rows)
-    (row_of_rule drain_shape.rules (codes "PATH") path_rule rows refl kept.0)
-    (given_found (codes "PATH") rows (drain_needs rows kept.1))
+    has_text drain_shape (codes "PATH") path_rule rows refl kept.0 (given_found (codes "PATH") rows (drain_needs rows kept.1))
+
+-- ---- `node`
+
+node_keeps : Each (Keeps node_shape.args_override_self (Each (RowFits node_shape.rules))) node_shape.rules
+node_keeps = (
+  value_keeps false node_shape.rules name_rule refl,
+  (
+    value_keeps false node_shape.rules mesh_rule refl,
+    (
+      value_keeps false node_shape.rules state_rule refl,
+      (
+        value_keeps false node_shape.rules first_rule refl,
+        (
+          value_keeps false node_shape.rules log_rule refl,
+          (
+            value_keeps false node_shape.rules time_rule refl,
+            (
+              value_keeps false node_shape.rules socket_rule refl,
+              (help_keeps false (Each (RowFits node_shape.rules)) flag_rule, tt),
+            ),
+          ),
+        ),
+      ),
+    ),
+  ),
+)
+
+node_defaults : Each (KeepsDefault (Each (RowFits node_shape.rules))) node_shape.rules
+node_defaults = (
+  default_keeps node_shape.rules name_rule refl,
+  (
+    default_keeps node_shape.rules mesh_rule refl,
+    (
+      default_keeps node_shape.rules state_rule refl,
+      (
+        default_keeps node_shape.rules first_rule refl,
+        (
+          default_keeps node_shape.rules log_rule refl,
+          (
+            default_keeps node_shape.rules time_rule refl,
+            (
+              default_keeps node_shape.rules socket_rule refl,
+              (default_keeps node_shape.rules flag_rule refl, tt),
+            ),
+          ),
+        ),
+      ),
+    ),
+  ),
+)
+
+node_needs : (rows : List Row) → check_fault node_shape rows false ≡ [] → (is_given (codes "NAME") rows ≡ true) × (is_given (codes "mesh") rows ≡ true)
+node_needs rows e = both_given (is_given (codes "NAME") rows) (is_given (codes "mesh") rows) e
+
+-- the options that have defaults
+state_there : (rows : List Row) → has_row (codes "state") (fold with_default rows node_shape.rules) ≡ true
+state_there rows =
+    let before = with_default (with_default rows name_rule) mesh_rule in
+    defaults_stay (codes "state") (drop 3 node_shape.rules) (with_default before state_rule)
+    (default_comes state_rule (codes ".") before)
+
+node_level_there : (rows : List Row) → has_row (codes "log-level") (fold with_default rows node_shape.rules) ≡ true
+node_level_there rows =
+    let early = with_default (with_default rows name_rule) mesh_rule in
+    let before = with_default (with_default early state_rule) first_rule in
+    defaults_stay (codes "log-level") (drop 5 node_shape.rules) (with_default before log_rule)
+    (default_comes log_rule (codes "info") before)
+
+node_seconds_there : (rows : List Row) → has_row (codes "drain-seconds") (fold with_default rows node_shape.rules) ≡ true
+node_seconds_there rows =
+    let early = with_default (with_default rows name_rule) mesh_rule in
+    let before = with_default (with_default (with_default early state_rule) first_rule) log_rule in
+    defaults_stay (codes "drain-seconds") (drop 6 node_shape.rules) (with_default before time_rule)
+    (default_comes time_rule (codes "30") before)
+
+node_whole : (words : List Text) → level_fault node_shape [] nothing_held words false [] ≡ [] → AreNodeOptions (rows_after node_shape.rules [] words)
+node_whole words e =
+    let rows = rows_after node_shape.rules [] words in
+    let kept = level_keeps node_shape (Each (RowFits node_shape.rules)) node_keeps [] nothing_held words false [] node_defaults e tt in
+    let given = node_needs rows kept.1 in
+    let used = (settled node_shape.rules (walk node_shape.rules [] nothing_held words).held).rows in
+    record {
+      name = has_text node_shape (codes "NAME") name_rule rows refl kept.0 (given_found (codes "NAME") rows given.0);
+      mesh = has_text node_shape (codes "mesh") mesh_rule rows refl kept.0 (given_found (codes "mesh") rows given.1);
+      state = has_text node_shape (codes "state") state_rule rows refl kept.0 (row_found (codes "state") rows (state_there used));
+      least_inc = number_if_found first_rule (find (λ r. bytes_eq r.id (codes "least-inc")) rows)
+          (row_of_rule node_shape.rules (codes "least-inc") first_rule rows refl kept.0);
+      log_level = has_text node_shape (codes "log-level") log_rule rows refl kept.0 (row_found (codes "log-level") rows (node_level_there used));
+      drain_seconds = has_number node_shape (codes "drain-seconds") time_rule rows refl kept.0 (row_found (codes "drain-seconds") rows (node_seconds_there used));
+    }
+
+-- ---- `check`
+
+check_keeps : Each (Keeps check_shape.args_override_self (Each (RowFits check_shape.rules))) check_shape.rules
+check_keeps = (
+  value_keeps false check_shape.rules file_rule refl,
+  (help_keeps false (Each (RowFits check_shape.rules)) flag_rule, tt),
+)
+
+check_defaults : Each (KeepsDefault (Each (RowFits check_shape.rules))) check_shape.rules
+check_defaults = (
+  default_keeps check_shape.rules file_rule refl,
+  (default_keeps check_shape.rules flag_rule refl, tt),
+)
+
+check_needs : (rows : List Row) → check_fault check_shape rows false ≡ [] → is_given (codes "FILE") rows ≡ true
+check_needs rows e = one_given (is_given (codes "FILE") rows) e
+
+check_whole : (words : List Text) → level_fault check_shape [] nothing_held words false [] ≡ []
+    → IsSome (first_of (codes "FILE") (rows_after check_shape.rules [] words))
+check_whole words e =
+    let rows = rows_after check_shape.rules [] words in
+    let kept = level_keeps check_shape (Each (RowFits check_shape.rules)) check_keeps [] nothing_held words false [] check_defaults e tt in
+    has_text check_shape (codes "FILE") file_rule rows refl kept.0 (given_found (codes "FILE") rows (check_needs rows kept.1))
 
 -- ---- the line
 
@@ -386,8 +518,14 @@ each_whole name words plain = (
         (
           (λ _ e. inr (inr (inr (inr (inl (refl, serve_whole words e)))))),
           (
-            (λ _ e. inr (inr (inr (inr (inr (refl, drain_whole words e)))))),
-            ((λ here _. absurd (help_met name here plain)), tt),
+            (λ _ e. inr (inr (inr (inr (inr (inl (refl, drain_whole words e))))))),
+            (
+              (λ _ e. inr (inr (inr (inr (inr (inr (inl (refl, node_whole words e)))))))),
+              (
+                (λ _ e. inr (inr (inr (inr (inr (inr (inr (refl, check_whole words e)))))))),
+                ((λ here _. absurd (help_met name here plain)), tt),
+              ),
+            ),
           ),
         ),
       ),

@@ -6,7 +6,8 @@ use Rattle.clap.specs.Values.{IsUnsignedIn}
 use Rattle.clap.specs.Words.{Row, Text, first_of, one_of, subcommand_of}
 use Rattle.router_command.specs.Line.{greatest_number, router}
 use Rattle.router_command.specs.declared.command.Command.{Command}
-use Rattle.router_command.specs.declared.command.Command.TheVariants.{Pipe, Match, Script, Audit, Serve, Drain}
+use Rattle.router_command.specs.declared.command.Command.TheVariants.{Pipe, Match, Script, Audit, Serve, Drain, Node, Check}
+use Rattle.router_command.specs.declared.node_options.NodeGiven.{NodeGiven}
 use Rattle.router_command.specs.declared.options.Given.{Given}
 
 -- by its word behind the program's name
@@ -17,6 +18,8 @@ name_of (Script audit) = codes "script"
 name_of Audit = codes "audit"
 name_of (Serve given) = codes "serve"
 name_of (Drain path server) = codes "drain"
+name_of (Node given) = codes "node"
+name_of (Check path) = codes "check"
 
 -- the number that a text writes in decimal digits, a plus before them or none
 abbrev pub number_of : Text → ℕ
@@ -58,6 +61,26 @@ pub record HasOptions (rows : List Row) (given : Given) : Type 0 where
   pub drain_seconds : number_in (codes "drain-seconds") rows ≡ Some given.drain_seconds
   pub control : first_of (codes "control") rows ≡ option_map (λ text. text.now) given.control
 
+-- the name of a server, the file of its mesh and all its options are there, but for a first incarnation, and where it is told to drain
+pub record AreNodeOptions (rows : List Row) : Type 0 where
+  pub name : IsSome (first_of (codes "NAME") rows)
+  pub mesh : IsSome (first_of (codes "mesh") rows)
+  pub state : IsSome (first_of (codes "state") rows)
+  pub least_inc : IfSome (one_of (codes "least-inc") rows) IsNumber
+  pub log_level : IsSome (first_of (codes "log-level") rows)
+  pub drain_seconds : HasNumber (codes "drain-seconds") rows
+
+-- each text of a server is that of its word or option, and each number is what its option writes, in digits
+pub record HasNodeOptions (rows : List Row) (given : NodeGiven) : Type 0 where
+  pub written : AreNodeOptions rows
+  pub name : first_of (codes "NAME") rows ≡ Some given.name.now
+  pub mesh : first_of (codes "mesh") rows ≡ Some given.mesh.now
+  pub state : first_of (codes "state") rows ≡ Some given.state.now
+  pub least_inc : number_in (codes "least-inc") rows ≡ given.least_inc
+  pub log_level : first_of (codes "log-level") rows ≡ Some given.log_level.now
+  pub drain_seconds : number_in (codes "drain-seconds") rows ≡ Some given.drain_seconds
+  pub control : first_of (codes "control") rows ≡ option_map (λ text. text.now) given.control
+
 -- it is on where its text is `true`, and off where it is `false`
 pub record IsFlag (name : Text) (rows : List Row) (flag : Bool) : Type 0 where
   pub on : one_of name rows ≡ Some (codes "true") → flag ≡ true
@@ -75,6 +98,8 @@ HasValues rows (Serve given) = HasOptions rows given
 HasValues rows (Drain path server) =
     (first_of (codes "PATH") rows ≡ Some path.now)
     × (first_of (codes "NAME") rows ≡ option_map (λ text. text.now) server)
+HasValues rows (Node given) = HasNodeOptions rows given
+HasValues rows (Check path) = first_of (codes "FILE") rows ≡ Some path.now
 
 -- what was found names the command, and has its values
 abbrev pub Names : Option (Text × List Row) → Command → Type 0
@@ -97,3 +122,5 @@ abbrev pub IsWhole : Text × List Row → Type 0
 IsWhole found = (found.0 ≡ codes "pipe") ⊎ ((found.0 ≡ codes "match") × AreWords found.1)
     ⊎ (found.0 ≡ codes "script") ⊎ (found.0 ≡ codes "audit") ⊎ ((found.0 ≡ codes "serve") × AreOptions found.1)
     ⊎ ((found.0 ≡ codes "drain") × IsSome (first_of (codes "PATH") found.1))
+    ⊎ ((found.0 ≡ codes "node") × AreNodeOptions found.1)
+    ⊎ ((found.0 ≡ codes "check") × IsSome (first_of (codes "FILE") found.1))

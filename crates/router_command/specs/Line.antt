@@ -47,19 +47,20 @@ serve_with_defaults = with_rule
 abbrev pub serve_with_end : App
 serve_with_end = with_rule serve_with_defaults (number_rule (codes "stop-after"))
 
--- how grave an event has to be to be told, which is a text
-abbrev pub level_rule : Rule
-level_rule = with_value (record (new_rule (codes "log-level")) {
-  long = Some (codes "log-level");
+-- an option that is a text, under its name
+abbrev pub text_rule : Text → Rule
+text_rule name = record (new_rule name) {
+  long = Some name;
   value_names = 1;
-}) (codes "info")
+}
+
+-- how grave an event has to be to be told
+abbrev pub level_rule : Rule
+level_rule = with_value (text_rule (codes "log-level")) (codes "info")
 
 -- the path where it is told to drain
 abbrev pub control_rule : Rule
-control_rule = record (new_rule (codes "control")) {
-  long = Some (codes "control");
-  value_names = 1;
-}
+control_rule = text_rule (codes "control")
 
 -- how many seconds a drain may take
 abbrev pub seconds_rule : Rule
@@ -74,6 +75,26 @@ abbrev pub drain_command : App
 drain_command = with_rule
     (with_rule (new_app (codes "drain")) (required_rule (new_rule (codes "PATH"))))
     (new_rule (codes "NAME"))
+
+-- the server's name, the file of its mesh, and the folder that keeps its incarnation
+abbrev pub node_with_texts : App
+node_with_texts = with_rule
+    (with_rule
+    (with_rule (new_app (codes "node")) (required_rule (new_rule (codes "NAME"))))
+    (required_rule (text_rule (codes "mesh"))))
+    (with_value (text_rule (codes "state")) (codes "."))
+
+-- a first incarnation
+abbrev pub node_with_incarnation : App
+node_with_incarnation = with_rule node_with_texts (number_rule (codes "least-inc"))
+
+-- `node`, with all its options
+abbrev pub node_command : App
+node_command = with_rule (with_rule (with_rule node_with_incarnation level_rule) seconds_rule) control_rule
+
+-- `check`, with its file
+abbrev pub check_command : App
+check_command = with_rule (new_app (codes "check")) (required_rule (new_rule (codes "FILE")))
 
 -- to write the lists of a run, which is a flag
 abbrev pub audit_rule : Rule
@@ -99,9 +120,11 @@ program = on_top (λ shape. record shape {
   subcommand_required = true;
 }) (new_app (codes "nats_mesh"))
 
--- the program and its six commands
+-- the program and its eight commands
 abbrev pub router : App
 router = with_subcommand
+    (with_subcommand
+    (with_subcommand
     (with_subcommand
     (with_subcommand
     (with_subcommand
@@ -111,7 +134,9 @@ router = with_subcommand
     script_command.top)
     (new_app (codes "audit")).top)
     serve_command.top)
-    drain_command.top
+    drain_command.top)
+    node_command.top)
+    check_command.top
 
 -- ---- what is built of it
 

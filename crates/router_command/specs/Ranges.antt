@@ -1,9 +1,12 @@
--- The ranges of the options of a mesh. (Profile.)
-use Rattle.std.specs.Prelude.{◌≡◌, ℕ, List, length, ◌+◌, ◌-◌, ◌*◌, ◌^◌, ◌≤◌}
+-- The ranges of the options of a mesh, and of one server. (Profile.)
+use Rattle.std.specs.Prelude.{◌≡◌, ℕ, List, length, ◌+◌, ◌-◌, ◌*◌, ◌^◌, ◌≤◌, Some}
 use Rattle.subj.specs.declared.limits.TheConstants.{MAX_INCARNATION, MAX_NODES, MAX_SHARDS}
+use Rattle.router_command.specs.Levels.{level_named}
 use Rattle.router_command.specs.declared.faults.TheConstants.{MOST_DRAIN_SECONDS, MOST_PATH_BYTES}
 use Rattle.router_command.specs.declared.faults.OptionName.{OptionName}
-use Rattle.router_command.specs.declared.faults.OptionName.TheVariants.{Nodes, Port, Shards, Inc, StopAfter, DrainSeconds}
+use Rattle.router_command.specs.declared.faults.OptionName.TheVariants.{Nodes, Port, Shards, Inc, StopAfter, LeastInc, DrainSeconds}
+use Rattle.router_command.specs.declared.node_options.NodeGiven.{NodeGiven}
+use Rattle.router_command.specs.declared.node_options.NodeOptions.{NodeOptions}
 use Rattle.router_command.specs.declared.options.Given.{Given}
 use Rattle.router_command.specs.declared.options.Options.{Options}
 
@@ -14,6 +17,7 @@ range_of Port = (1, 2 ^ 16 - 1)
 range_of Shards = (1, MAX_SHARDS)
 range_of Inc = (1, MAX_INCARNATION)
 range_of StopAfter = (1, 2 ^ 64 - 1)
+range_of LeastInc = (1, MAX_INCARNATION)
 range_of DrainSeconds = (1, MOST_DRAIN_SECONDS)
 
 -- the system takes it as the path of a socket
@@ -40,3 +44,17 @@ pub record AreNumbers (given : Given) (options : Options) : Type 0 where
   pub inc : options.inc ≡ given.inc
   pub word : options.word ≡ given.word
   pub stop_after : options.stop_after ≡ given.stop_after
+
+-- a time that a drain may take
+abbrev pub IsDrainTime : ℕ → Type 0
+IsDrainTime seconds = (1 ≤ seconds) × (seconds ≤ MOST_DRAIN_SECONDS)
+
+-- a server is told what was given: the same texts and numbers, and the level that a text names
+pub record AreNodeValues (given : NodeGiven) (options : NodeOptions) : Type 0 where
+  pub name : options.name ≡ given.name.now
+  pub mesh : options.mesh ≡ given.mesh
+  pub state : options.state ≡ given.state
+  pub least_inc : options.least_inc ≡ given.least_inc
+  pub log_level : level_named given.log_level.now ≡ Some options.log_level
+  pub drain_seconds : options.drain_seconds ≡ given.drain_seconds
+  pub control : options.control ≡ given.control

@@ -1,13 +1,15 @@
--- Why the options of a mesh are refused: each cause, and which of them is told. (Profile.)
-use Rattle.std.specs.Prelude.{ℕ, List, length, Option, Some, None, option_and_then, is_none, nat_lt, ◌||◌, ◌+◌, ◌*◌, if◌then◌else◌}
+-- Why the options of a mesh, or of one server, are refused: each cause, and which of them is told. (Profile.)
+use Rattle.std.specs.Prelude.{ℕ, List, length, Option, Some, None, option_and_then, is_none, is_some, nat_lt, ◌||◌, ◌+◌, ◌*◌, if◌then◌else◌}
 use Rattle.std.specs.Option.{option_or}
+use Rattle.subj.specs.Names.{node_name_fault}
 use Rattle.router_command.specs.Levels.{level_named}
 use Rattle.router_command.specs.Ranges.{range_of}
 use Rattle.router_command.specs.declared.faults.TheConstants.{MOST_PATH_BYTES}
 use Rattle.router_command.specs.declared.faults.OptionFault.{OptionFault}
-use Rattle.router_command.specs.declared.faults.OptionFault.TheVariants.{BadValue, TooManyPorts, NoLevel, BadPath}
+use Rattle.router_command.specs.declared.faults.OptionFault.TheVariants.{BadValue, TooManyPorts, NoLevel, BadPath, BadName}
 use Rattle.router_command.specs.declared.faults.OptionName.{OptionName}
-use Rattle.router_command.specs.declared.faults.OptionName.TheVariants.{Nodes, Port, Shards, Inc, StopAfter, DrainSeconds}
+use Rattle.router_command.specs.declared.faults.OptionName.TheVariants.{Nodes, Port, Shards, Inc, StopAfter, LeastInc, DrainSeconds}
+use Rattle.router_command.specs.declared.node_options.NodeGiven.{NodeGiven}
 use Rattle.router_command.specs.declared.options.Given.{Given}
 
 -- the value of the option is out of its range
@@ -26,7 +28,11 @@ level_fault text = if is_none (level_named text) then Some NoLevel else None
 unfoldable pub path_fault : List ℕ → Option OptionFault
 path_fault path = if nat_lt (length path) 1 || nat_lt MOST_PATH_BYTES (length path) then Some BadPath else None
 
--- the first of these
+-- the text is no name of a server
+unfoldable pub name_fault : List ℕ → Option OptionFault
+name_fault text = if is_some (node_name_fault text) then Some BadName else None
+
+-- the first of these, for a mesh
 abbrev pub given_fault : Given → Option OptionFault
 given_fault given =
     option_or (value_fault Nodes given.nodes)
@@ -38,3 +44,12 @@ given_fault given =
     (option_or (ports_fault given.port given.nodes)
     (option_or (level_fault given.log_level.now)
     (option_and_then (λ path. path_fault path.now) given.control))))))))
+
+-- and for one server
+abbrev pub node_fault : NodeGiven → Option OptionFault
+node_fault given =
+    option_or (name_fault given.name.now)
+    (option_or (option_and_then (value_fault LeastInc) given.least_inc)
+    (option_or (value_fault DrainSeconds given.drain_seconds)
+    (option_or (level_fault given.log_level.now)
+    (option_and_then (λ path. path_fault path.now) given.control))))

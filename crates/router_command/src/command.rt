@@ -2,10 +2,11 @@
 
 ghost use Rattle.std.specs.Prelude.{◌≡◌, IfErr, IfOk, IsSomeAnd, codes, map, true};
 ghost use Rattle.std.specs.String.{string_bytes};
-ghost use Rattle.clap.specs.Words.{FailsBy, fault_of, found_of, kind_of, rows_of, subcommand_rows_of, takes};
-ghost use Rattle.router_command.specs.Command.{AreOptions, AskFor, HasOptions, IsWhole, Names};
-ghost use Rattle.router_command.specs.Line.{HasRule, IsLine, control_rule, drain_command, level_rule, number_rule, router, script_command, seconds_rule, serve_command};
+ghost use Rattle.clap.specs.Words.{FailsBy, fault_of, found_of, kind_of, new_app, rows_of, subcommand_rows_of, takes};
+ghost use Rattle.router_command.specs.Command.{AreNodeOptions, AreOptions, AskFor, HasNodeOptions, HasOptions, IsWhole, Names};
+ghost use Rattle.router_command.specs.Line.{HasRule, IsLine, check_command, control_rule, drain_command, level_rule, match_command, node_command, number_rule, program, required_rule, router, script_command, seconds_rule, serve_command, text_rule, with_value};
 
+use crate::node_options::NodeGiven;
 use crate::options::Given;
 use clap::builder::ValueParser;
 use clap::error::ErrorKind;
@@ -35,6 +36,12 @@ pub enum Command<'a> {
         path: &'a str,
         server: Option<&'a str>,
     },
+    /// To serve one server of the mesh that a file describes.
+    Node(NodeGiven<'a>),
+    /// To tell what the file of a mesh means.
+    Check {
+        path: &'a str,
+    },
 }
 
 /// The option of this name, which is a number.
@@ -45,6 +52,16 @@ fn number<'a>(alloc: Global, name: &'a str, help: &'a str) -> Arg<'a>
         .long(name)
         .value_name("N")
         .value_parser(ValueParser::Unsigned(0, u64::MAX))
+        .help(help)
+}
+
+/// The option of this name, which is a text.
+fn text<'a>(alloc: Global, name: &'a str, value_name: &'a str, help: &'a str) -> Arg<'a>
+    ensures { HasRule result (text_rule name.entry.now) }
+{
+    Arg::new(alloc, name)
+        .long(name)
+        .value_name(value_name)
         .help(help)
 }
 
@@ -75,21 +92,63 @@ fn drain_seconds<'a>(alloc: Global) -> Arg<'a>
 fn log_level<'a>(alloc: Global) -> Arg<'a>
     ensures { HasRule result level_rule }
 {
-    Arg::new(alloc, "log-level")
-        .long("log-level")
-        .value_name("LEVEL")
-        .default_value("info")
-        .help("What standard error tells: error, warn, info or debug")
+    text(
+        alloc,
+        "log-level",
+        "LEVEL",
+        "What standard error tells: error, warn, info or debug",
+    )
+    .default_value("info")
 }
 
-/// The option of the path where a mesh is told to drain.
+/// The option of the path where servers are told to drain.
 fn control<'a>(alloc: Global) -> Arg<'a>
     ensures { HasRule result control_rule }
 {
-    Arg::new(alloc, "control")
-        .long("control")
-        .value_name("PATH")
-        .help("Takes `drain` on a Unix socket at this path")
+    text(
+        alloc,
+        "control",
+        "PATH",
+        "Takes `drain` on a Unix socket at this path",
+    )
+}
+
+/// The option of the file that describes a mesh.
+fn mesh_file<'a>(alloc: Global) -> Arg<'a>
+    ensures { HasRule result (required_rule (text_rule (codes "mesh"))) }
+{
+    text(alloc, "mesh", "FILE", "The file that describes the mesh").required(true)
+}
+
+/// The option of the folder that keeps a server's incarnation.
+fn state_folder<'a>(alloc: Global) -> Arg<'a>
+    ensures { HasRule result (with_value (text_rule (codes "state")) (codes ".")) }
+{
+    text(
+        alloc,
+        "state",
+        "DIR",
+        "The folder that keeps the server's incarnation",
+    )
+    .default_value(".")
+}
+
+/// The option of a first incarnation.
+fn least_inc<'a>(alloc: Global) -> Arg<'a>
+    ensures { HasRule result (number_rule (codes "least-inc")) }
+{
+    number(
+        alloc,
+        "least-inc",
+        "The least incarnation: 1 at the first start, one above all before where DIR was lost",
+    )
+}
+
+/// A command of this name, without arguments.
+fn bare<'a>(alloc: Global, name: &'a str, about: &'a str) -> clap::Command<'a>
+    ensures { IsLine result (new_app name.entry.now) }
+{
+    clap::Command::new(alloc, name).about(about)
 }
 
 /// The command that serves a mesh.
@@ -118,8 +177,7 @@ fn serve_line<'a>(alloc: Global) -> Result<clap::Command<'a>, AllocError>
         "The seed of the words that choose who serves a queue group",
     )
     .default_value("0");
-    clap::Command::new(alloc, "serve")
-        .about("Serves a mesh of servers at 127.0.0.1")
+    bare(alloc, "serve", "Serves a mesh of servers at 127.0.0.1")
         .arg(nodes)?
         .arg(port)?
         .arg(shards)?
@@ -139,10 +197,44 @@ fn drain_line<'a>(alloc: Global) -> Result<clap::Command<'a>, AllocError>
         .required(true)
         .help("The path that the servers were given as --control");
     let server = Arg::new(alloc, "NAME").help("The server that drains alone, as n2");
-    clap::Command::new(alloc, "drain")
-        .about("Has the servers drain that serve with --control PATH, or the one of this name")
-        .arg(path)?
-        .arg(server)
+    bare(
+        alloc,
+        "drain",
+        "Has the servers drain that serve with --control PATH, or the one of this name",
+    )
+    .arg(path)?
+    .arg(server)
+}
+
+/// The command that serves one server of a mesh.
+fn node_line<'a>(alloc: Global) -> Result<clap::Command<'a>, AllocError>
+    ensures { IfOk result (λ command. IsLine command node_command) }
+{
+    let name = Arg::new(alloc, "NAME")
+        .required(true)
+        .help("The server's name in the file");
+    bare(
+        alloc,
+        "node",
+        "Serves one server of the mesh that a file describes",
+    )
+    .arg(name)?
+    .arg(mesh_file(alloc))?
+    .arg(state_folder(alloc))?
+    .arg(least_inc(alloc))?
+    .arg(log_level(alloc))?
+    .arg(drain_seconds(alloc))?
+    .arg(control(alloc))
+}
+
+/// The command that tells what the file of a mesh means.
+fn check_line<'a>(alloc: Global) -> Result<clap::Command<'a>, AllocError>
+    ensures { IfOk result (λ command. IsLine command check_command) }
+{
+    let file = Arg::new(alloc, "FILE")
+        .required(true)
+        .help("The file that describes the mesh");
+    bare(alloc, "check", "Tells what the file of a mesh means").arg(file)
 }
 
 /// The command that plays scripts.
@@ -153,37 +245,61 @@ fn script_line<'a>(alloc: Global) -> Result<clap::Command<'a>, AllocError>
         .long("audit")
         .action(ArgAction::SetTrue)
         .help("Writes what was published, subscribed and placed too, as audit reads it");
-    clap::Command::new(alloc, "script")
-        .about("Plays the script on standard input in a cluster of its own")
-        .arg(audit)
+    bare(
+        alloc,
+        "script",
+        "Plays the script on standard input in a cluster of its own",
+    )
+    .arg(audit)
 }
 
-/// The commands that play scripts and audit logs, that of one question, the pipe, the mesh, and that which has its servers drain.
+/// The command that answers one question of matching.
+fn match_line<'a>(alloc: Global) -> Result<clap::Command<'a>, AllocError>
+    ensures { IfOk result (λ command. IsLine command match_command) }
+{
+    let pattern = Arg::new(alloc, "PATTERN").required(true);
+    let subject = Arg::new(alloc, "SUBJECT").required(true);
+    bare(alloc, "match", "Tells whether a pattern matches a subject")
+        .arg(pattern)?
+        .arg(subject)
+}
+
+/// The program, without its commands.
+fn program<'a>(alloc: Global) -> clap::Command<'a>
+    ensures { IsLine result program }
+{
+    bare(
+        alloc,
+        "nats_mesh",
+        "A NATS router that gives no publication to two members of a queue group",
+    )
+    .version("1.0.0")
+    .subcommand_required(true)
+}
+
+/// The program with its commands.
 fn line<'a>(alloc: Global) -> Result<clap::Command<'a>, AllocError>
     ensures { IfOk result (λ command. IsLine command router) }
 {
-    let pipe = clap::Command::new(alloc, "pipe").about(
+    let pipe = bare(
+        alloc,
+        "pipe",
         "Serves one client on standard input and output",
     );
-    let pattern = Arg::new(alloc, "PATTERN").required(true);
-    let subject = Arg::new(alloc, "SUBJECT").required(true);
-    let question = clap::Command::new(alloc, "match")
-        .about("Tells whether a pattern matches a subject")
-        .arg(pattern)?
-        .arg(subject)?;
-    let audit = clap::Command::new(alloc, "audit").about(
+    let audit = bare(
+        alloc,
+        "audit",
         "Tells the first placement of the log on standard input that breaks the clause",
     );
-    clap::Command::new(alloc, "nats_mesh")
-        .about("A NATS router that gives no publication to two members of a queue group")
-        .version("1.0.0")
-        .subcommand_required(true)
+    program(alloc)
         .subcommand(pipe)?
-        .subcommand(question)?
+        .subcommand(match_line(alloc)?)?
         .subcommand(script_line(alloc)?)?
         .subcommand(audit)?
         .subcommand(serve_line(alloc)?)?
-        .subcommand(drain_line(alloc)?)
+        .subcommand(drain_line(alloc)?)?
+        .subcommand(node_line(alloc)?)?
+        .subcommand(check_line(alloc)?)
 }
 
 /// What the line says of a mesh.
@@ -198,6 +314,22 @@ fn given_in<'a>(values: &ArgMatches<'a>) -> Given<'a>
         inc: values.get_one("inc").unwrap(),
         word: values.get_one("word").unwrap(),
         stop_after: values.get_one("stop-after"),
+        log_level: values.get_str("log-level").unwrap(),
+        drain_seconds: values.get_one("drain-seconds").unwrap(),
+        control: values.get_str("control"),
+    }
+}
+
+/// What the line says of one server of a mesh.
+fn node_given_in<'a>(values: &ArgMatches<'a>) -> NodeGiven<'a>
+    requires { AreNodeOptions (rows_of (found_of values.now)) }
+    ensures { HasNodeOptions (rows_of (found_of values.now)) result }
+{
+    NodeGiven {
+        name: values.get_str("NAME").unwrap(),
+        mesh: values.get_str("mesh").unwrap(),
+        state: values.get_str("state").unwrap(),
+        least_inc: values.get_one("least-inc"),
         log_level: values.get_str("log-level").unwrap(),
         drain_seconds: values.get_one("drain-seconds").unwrap(),
         control: values.get_str("control"),
@@ -225,7 +357,11 @@ fn command_in<'a>(found: &ArgMatches<'a>) -> Command<'a>
             path: values.get_str("PATH").unwrap(),
             server: values.get_str("NAME"),
         },
-        // required: the line names one of the six
+        "node" => Command::Node(node_given_in(values)),
+        "check" => Command::Check {
+            path: values.get_str("FILE").unwrap(),
+        },
+        // required: the line names one of the eight
         _ => unreachable!(),
     }
 }

@@ -1,4 +1,4 @@
-//! Why the options of a mesh are none.
+//! Why the options of a mesh, or of one server, are none.
 
 ghost use Rattle.std.specs.Prelude.{◌≡◌};
 ghost use Rattle.router_command.specs.Ranges.{range_of};
@@ -6,7 +6,7 @@ ghost use Rattle.router_command.specs.Ranges.{range_of};
 use std::error::Error;
 use std::fmt;
 use std::fmt::{Display, Formatter, Write};
-use subj::{MAX_INCARNATION, MAX_NODES, MAX_SHARDS};
+use subj::{MAX_INCARNATION, MAX_NODE_NAME, MAX_NODES, MAX_SHARDS};
 
 /// The most seconds that a drain may take.
 pub const MOST_DRAIN_SECONDS: u64 = 3_600;
@@ -22,6 +22,7 @@ pub enum OptionName {
     Shards,
     Inc,
     StopAfter,
+    LeastInc,
     DrainSeconds,
 }
 
@@ -34,6 +35,7 @@ impl OptionName {
             OptionName::Shards => "--shards",
             OptionName::Inc => "--inc",
             OptionName::StopAfter => "--stop-after",
+            OptionName::LeastInc => "--least-inc",
             OptionName::DrainSeconds => "--drain-seconds",
         }
     }
@@ -46,7 +48,7 @@ impl OptionName {
             OptionName::Nodes => MAX_NODES,
             OptionName::Port => u16::MAX as u64,
             OptionName::Shards => MAX_SHARDS,
-            OptionName::Inc => MAX_INCARNATION,
+            OptionName::Inc | OptionName::LeastInc => MAX_INCARNATION,
             OptionName::StopAfter => u64::MAX,
             OptionName::DrainSeconds => MOST_DRAIN_SECONDS,
         };
@@ -65,6 +67,8 @@ pub enum OptionFault {
     NoLevel,
     /// The path of the socket is empty, or has more than [`MOST_PATH_BYTES`].
     BadPath,
+    /// The text is no name of a server.
+    BadName,
 }
 
 impl Display for OptionFault {
@@ -83,6 +87,10 @@ impl Display for OptionFault {
             OptionFault::BadPath => {
                 write!(f, "--control takes a path of 1 to {MOST_PATH_BYTES} bytes")
             }
+            OptionFault::BadName => write!(
+                f,
+                "NAME takes a name of 1 to {MAX_NODE_NAME} ASCII letters, digits, - and _"
+            ),
         }
     }
 }

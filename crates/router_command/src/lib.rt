@@ -1,20 +1,24 @@
-//! What the command line of the router asks for, and the options of a mesh.
+//! What the command line of the router asks for, and the options of a mesh and of one server of a mesh.
 //!
 //! ```text
 //! match command_of(rt.alloc(), &words) {
 //!     Ok(Command::Serve(given)) => serve(rt, rt.alloc(), &Options::new(given)?)?,
+//!     Ok(Command::Node(given)) => serve_node(rt, rt.alloc(), &NodeOptions::new(given)?)?,
 //!     Ok(command) => run(rt, command),
 //!     Err(error) => tell_line(rt, &error),
 //! }
 //! ```
 //!
-//! In reading order: `command` is what the words ask for, `options` what a mesh is told, and `faults` why its options are none.
+//! In reading order: `command` is what the words ask for, `options` what a mesh is told, `node_options` what one server of a mesh is told, and
+//! `faults` why the options are none.
 #![tactic(auto)]
 
 mod command;
 mod faults;
+mod node_options;
 mod options;
 
 pub use command::{Command, command_of};
 pub use faults::{MOST_DRAIN_SECONDS, MOST_PATH_BYTES, OptionFault, OptionName};
+pub use node_options::{NodeGiven, NodeOptions};
 pub use options::{Given, Options};

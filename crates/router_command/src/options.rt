@@ -41,7 +41,7 @@ pub struct Options<'a> {
 }
 
 /// The level that a text names.
-fn level_named(text: &str) -> Option<LevelFilter>
+pub(crate) fn level_named(text: &str) -> Option<LevelFilter>
     ensures { result ≡ level_named text.now }
 {
     if text == "error" {
@@ -59,7 +59,7 @@ fn level_named(text: &str) -> Option<LevelFilter>
 
 /// The value of an option, where it is in its range.
 #[tactic(auto, unfolding(crate::specs::Refusals::value_fault))]
-fn within(value: u64, name: OptionName) -> Result<u64, OptionFault>
+pub(crate) fn within(value: u64, name: OptionName) -> Result<u64, OptionFault>
     ensures range { IfOk result (λ taken. ((range_of name).0 ≤ taken) × (taken ≤ (range_of name).1)) }
     ensures same { IfOk result (λ taken. taken ≡ value) }
     ensures refused { result_err result ≡ value_fault name value }
@@ -96,7 +96,7 @@ fn ports_within(port: u16, nodes: u16) -> Result<(), OptionFault>
 
 /// Refused where there is a path that the system does not take as that of a socket.
 #[tactic(auto, unfolding(crate::specs::Refusals::path_fault))]
-fn control_within(path: Option<&str>) -> Result<(), OptionFault>
+pub(crate) fn control_within(path: Option<&str>) -> Result<(), OptionFault>
     ensures taken { IfOk result (λ _. IfSome path.entry (λ text. IsPath text.now)) }
     ensures refused { result_err result ≡ option_and_then (λ text. path_fault text.now) path.entry }
 {

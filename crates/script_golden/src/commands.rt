@@ -1,12 +1,13 @@
-//! What the words of a command line ask for, the options of a mesh, and how the program ends.
+//! What the words of a command line ask for, the options of a mesh and of one server of a mesh, and how the program ends.
 
 use clap::Error;
 use clap::error::ErrorKind;
 use command_line::{line_status, status_of};
 use golden::{Words, number, shown, text};
 use mesh_pipe::{PipeEnd, PipeFault, pipe_complaint, pipe_status};
-use router_command::{Command, Given, Options, command_of};
+use router_command::{Command, Given, NodeGiven, NodeOptions, Options, command_of};
 use std::alloc::{AllocError, Global};
+use subj::Incarnation;
 
 /// The program's name, and the words of this text, which has none where it is empty.
 fn line_of(alloc: Global, words: &str) -> Result<Vec<String>, AllocError> {
@@ -52,6 +53,21 @@ fn mesh_told(alloc: Global, given: &Given<'_>) -> Result<String, AllocError> {
     )
 }
 
+/// What is asked of one server of a mesh.
+fn node_told(alloc: Global, given: &NodeGiven<'_>) -> Result<String, AllocError> {
+    let least_inc = choice_told(alloc, given.least_inc)?;
+    format!(in alloc;
+        "node '{}' '{}' '{}' {} {} {} {}",
+        given.name,
+        given.mesh,
+        given.state,
+        least_inc.as_str(),
+        given.log_level,
+        given.drain_seconds,
+        given.control.unwrap_or("none")
+    )
+}
+
 /// What the words ask for.
 fn command_told(alloc: Global, command: &Command<'_>) -> Result<String, AllocError> {
     match command {
@@ -66,6 +82,8 @@ fn command_told(alloc: Global, command: &Command<'_>) -> Result<String, AllocErr
             path,
             server: Some(server),
         } => format!(in alloc; "drain '{path}' '{server}'"),
+        Command::Node(given) => node_told(alloc, given),
+        Command::Check { path } => format!(in alloc; "check '{path}'"),
     }
 }
 
@@ -173,17 +191,21 @@ fn choice<'a>(word: &'a str) -> Option<&'a str> {
     (word != "none").then_some(word)
 }
 
+/// A number that may be left out.
+fn number_choice(word: &str) -> Option<u64> {
+    (word != "none").then_some(number(word))
+}
+
 /// What a command line says of a mesh, in the order of `serve`: servers, port, shards, incarnation, word, after how many clients it ends,
 /// what standard error tells, how many seconds a drain may take, and where it is told.
 fn given_of<'a>(words: &Words<'a>) -> Given<'a> {
-    let stop_after = words.at(5);
     Given {
         nodes: words.number(0),
         port: words.number(1),
         shards: words.number(2),
         inc: words.number(3),
         word: words.number(4),
-        stop_after: (stop_after != "none").then_some(number(stop_after)),
+        stop_after: number_choice(words.at(5)),
         log_level: words.at(6),
         drain_seconds: words.number(7),
         control: choice(words.at(8)),
@@ -215,6 +237,43 @@ fn options(alloc: Global, words: &Words<'_>) -> Result<String, AllocError> {
     }
 }
 
+/// What a command line says of one server, in the order of `node`: its name, the file of its mesh, the folder of its
+/// incarnation, a first incarnation, what standard error tells, how many seconds a drain may take, and where it is told.
+fn node_given_of<'a>(words: &Words<'a>) -> NodeGiven<'a> {
+    NodeGiven {
+        name: words.at(0),
+        mesh: words.at(1),
+        state: words.at(2),
+        least_inc: number_choice(words.at(3)),
+        log_level: words.at(4),
+        drain_seconds: words.number(5),
+        control: choice(words.at(6)),
+    }
+}
+
+/// What the options of one server are.
+fn node_options_told(alloc: Global, options: &NodeOptions<'_>) -> Result<String, AllocError> {
+    let least_inc = choice_told(alloc, options.least_inc.map(Incarnation::get))?;
+    format!(in alloc;
+        "{} {} {} {} {} {} {}",
+        options.name.text(),
+        options.mesh,
+        options.state,
+        least_inc.as_str(),
+        options.log_level,
+        options.drain_seconds,
+        options.control.unwrap_or("none")
+    )
+}
+
+/// The options of one server of these texts and numbers.
+fn node_options(alloc: Global, words: &Words<'_>) -> Result<String, AllocError> {
+    match NodeOptions::new(node_given_of(words)) {
+        Ok(options) => node_options_told(alloc, &options),
+        Err(fault) => format!(in alloc; "{fault}"),
+    }
+}
+
 /// The ports of the server at this place, counted from 0, of a mesh with these options.
 fn ports(alloc: Global, words: &Words<'_>) -> Result<String, AllocError> {
     let place = words.number(9).min(u64::from(u16::MAX)) as u16;
@@ -227,8 +286,8 @@ fn ports(alloc: Global, words: &Words<'_>) -> Result<String, AllocError> {
     }
 }
 
-/// `asks WORDS`, `refuses PART|WORDS` (what is told has the part), `tells WORDS` (all that is told), `pipe END`, `end done` or `end failed`, and with
-/// what a mesh is asked for `options GIVEN` and `ports GIVEN|PLACE`.
+/// `asks WORDS`, `refuses PART|WORDS` (what is told has the part), `tells WORDS` (all that is told), `pipe END`, `end done` or `end failed`, with
+/// what a mesh is asked for `options GIVEN` and `ports GIVEN|PLACE`, and with what one server is asked for `node_options GIVEN`.
 pub fn answer(alloc: Global, call: &str, words: &Words<'_>) -> Result<String, AllocError> {
     match call {
         "asks" => asks(alloc, words),
@@ -238,6 +297,7 @@ pub fn answer(alloc: Global, call: &str, words: &Words<'_>) -> Result<String, Al
         "end" => end_told(alloc, words.at(0)),
         "options" => options(alloc, words),
         "ports" => ports(alloc, words),
+        "node_options" => node_options(alloc, words),
         _ => text(alloc, "no such call"),
     }
 }

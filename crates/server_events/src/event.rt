@@ -1,6 +1,7 @@
 //! What happens at a server, and why.
 
 use std::io;
+use std::net::SocketAddr;
 use subj::{ConnId, NodeId};
 
 /// What the system said of a call that failed.
@@ -74,6 +75,8 @@ pub enum RefusalCause {
     NumbersSpent,
     /// So many connections of servers stand that no more is kept.
     TooManyRoutes,
+    /// It came from an address that none of the mesh's servers has.
+    Stranger,
     /// It did not tell in time which server it is.
     Silent,
     /// There was no memory for it.
@@ -83,10 +86,10 @@ pub enum RefusalCause {
 /// What happens at a server. Other servers are told by their names, and clients by the numbers that their server told them.
 #[derive(Clone, Copy)]
 pub enum Event {
-    /// Clients and other servers can connect, at these ports.
+    /// Clients and other servers can connect, at these addresses.
     Listening {
-        clients: u16,
-        routes: u16,
+        clients: SocketAddr,
+        routes: SocketAddr,
     },
     /// Another server is reached.
     PeerUp {

@@ -6,11 +6,17 @@ use golden::{Words, text};
 use server_events::{Caller, Event, RefusalCause, SystemCause};
 use std::alloc::{AllocError, Global};
 use std::io;
+use std::net::{Ipv4Addr, SocketAddr};
 use subj::NodeId;
 
 /// The number, or the greatest one of two bytes where it is above that.
 fn of_two_bytes(number: u64) -> u16 {
     number.min(u64::from(u16::MAX)) as u16
+}
+
+/// The address of this machine with this port.
+fn local(port: u64) -> SocketAddr {
+    SocketAddr::from((Ipv4Addr::LOCALHOST, of_two_bytes(port)))
 }
 
 /// What the system says of the error of this number; of 0 that it had no memory, for which it gives no number.
@@ -35,8 +41,8 @@ fn event_of(call: &str, first: u64, second: u64) -> Option<Event> {
     let cause = system_cause(first);
     Some(match call {
         "listening" => Event::Listening {
-            clients: of_two_bytes(first),
-            routes: of_two_bytes(second),
+            clients: local(first),
+            routes: local(second),
         },
         "drain_asked" => Event::DrainAsked { seconds: first },
         "drained" => Event::Drained,
@@ -45,6 +51,10 @@ fn event_of(call: &str, first: u64, second: u64) -> Option<Event> {
         "failed" => Event::Failed { cause },
         "client_refused" => refused(Caller::Client, cause),
         "server_refused" => refused(Caller::Server, cause),
+        "stranger_refused" => Event::ConnectionRefused {
+            caller: Caller::Server,
+            cause: RefusalCause::Stranger,
+        },
         _ => return None,
     })
 }

@@ -261,3 +261,18 @@ fn a_loop_pauses_where_accepting_fails_and_each_route_is_refused(
     assert!(rt; u128::from(watch.rounds.load(Ordering::SeqCst)) <= milliseconds + 100);
     Ok(())
 }
+
+/// The one server of a process that stands at the third place of its cluster is asked to drain by that place, and no other is.
+#[test]
+fn a_server_is_asked_to_drain_by_its_place_in_the_cluster(rt: HostRuntime) -> Result<(), Fail> {
+    let poll = Poll::new(&rt)?;
+    let mut shutdown = shutdown(&rt, rt.alloc(), &poll);
+    shutdown.set_first_place(2);
+    assert!(rt; !shutdown.ask_drain(0) && !shutdown.ask_drain(1) && !shutdown.ask_drain(3));
+    assert!(rt; shutdown.ask_drain(2));
+    assert_eq!(rt;
+        [shutdown.asks(0), shutdown.asks(1), shutdown.asks(2)],
+        [0, 0, 1]
+    );
+    Ok(())
+}

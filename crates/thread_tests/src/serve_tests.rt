@@ -501,16 +501,22 @@ fn tell_of_themselves<R: Net<Stream = TcpStream> + Clock + Abort>(rt: &R, alloc:
     tells_of_itself(rt, alloc, "n3", 17_452);
 }
 
-/// Each server has a name and ports of its own: what the first line of standard output tells of n1, and what each tells its clients.
-#[test]
-fn servers_have_names_and_ports_of_their_own(rt: HostRuntime) -> Result<(), Fail> {
-    let alloc = rt.alloc();
-    let options = options(&rt, 3, 17_450, 3);
-    let line = ready_line(alloc, &options, 0)?;
+/// The line that standard output has of the first of these servers.
+fn the_first_is_ready(rt: &impl Abort, alloc: Global) {
+    let options = options(rt, 3, 17_450, 3);
+    let line = ready_line(alloc, &options, 0).ok().expect(rt, "a line");
     assert_eq!(rt;
         line.as_str(),
         "n1 clients 127.0.0.1:17450 routes 127.0.0.1:17453"
     );
+}
+
+/// Each server has a name and ports of its own: what the first line of standard output tells of n1, and what each tells its clients.
+#[test]
+fn servers_have_names_and_ports_of_their_own(rt: HostRuntime) -> Result<(), Fail> {
+    let alloc = rt.alloc();
+    the_first_is_ready(&rt, alloc);
+    let options = options(&rt, 3, 17_450, 3);
     let (served, ()) = join(
         &rt,
         || serve(&rt, alloc, &options).is_ok(),
@@ -520,7 +526,7 @@ fn servers_have_names_and_ports_of_their_own(rt: HostRuntime) -> Result<(), Fail
     Ok(())
 }
 
-/// A port that is taken is told by its number: 17,441 is that of the first route, behind one of clients.
+/// An address that is taken is told: port 17,441 is that of the first route, behind one of clients.
 #[test]
 fn a_port_that_is_taken(rt: HostRuntime) -> Result<(), Fail> {
     let alloc = rt.alloc();
@@ -528,6 +534,8 @@ fn a_port_that_is_taken(rt: HostRuntime) -> Result<(), Fail> {
     let address = SocketAddr::from((Ipv4Addr::LOCALHOST, 17_441));
     let _taken = TcpListener::bind(&rt, address)?;
     let refused = serve(&rt, alloc, &options);
-    assert!(rt; matches!(refused, Err(ServeFault::Port { port: 17_441, .. })));
+    assert!(rt;
+        matches!(refused, Err(ServeFault::Address { address: told, .. }) if told == address)
+    );
     Ok(())
 }

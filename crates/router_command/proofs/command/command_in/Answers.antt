@@ -1,6 +1,4 @@
-use Rattle.std.proofs.Common.{rules, ◌≡◌, ◌∙◌, sym, codes, inl, inr, true, false, true≢false, refl, List, Option, Some, subst}
-use Rattle.std.specs.Str.{bytes_eq}
-use Rattle.std.proofs.lemmas.Slice.Eq.{bytes_eq-Decides}
+use Rattle.std.proofs.Common.{rules, ◌≡◌, ◌∙◌, codes, List, Option, Some, subst}
 use Rattle.std.specs.Prelude.{IsSome, IsSomeAnd}
 use Rattle.clap.specs.Words.{Row, Text, first_of, found_of, rows_of, subcommand_rows_of}
 use Rattle.clap.proofs.WalkLemmas.{one_text-rows}
@@ -8,48 +6,31 @@ use Rattle.router_command.specs.Command.{AreWords, IsWhole}
 use Rattle.router_command.proofs.Texts.{text_if_there, text_is, text_there}
 use Rattle.router_command.proofs.command.command_in.Goals as goal
 
--- a command has one word
-differs : (mine name other : Text) → name ≡ mine → name ≡ other → bytes_eq mine other ≡ false → ⊥
-differs mine name other e same apart =
-    let met : bytes_eq mine other ≡ true = (bytes_eq-Decides mine other).1 (sym e ∙ same) in
-    true≢false (sym met ∙ apart)
-
 words_of : (name : Text) (rows : List Row) → name ≡ codes "match" → IsWhole (name, rows) → AreWords rows
-words_of name rows e (inl pipe) = absurd (differs (codes "match") name (codes "pipe") e pipe refl)
-words_of name rows e (inr (inl words)) = words.1
-words_of name rows e (inr (inr (inl script))) = absurd (differs (codes "match") name (codes "script") e script refl)
-words_of name rows e (inr (inr (inr (inl audit)))) = absurd (differs (codes "match") name (codes "audit") e audit refl)
-words_of name rows e (inr (inr (inr (inr (inl serve))))) = absurd (differs (codes "match") name (codes "serve") e serve.0 refl)
-words_of name rows e (inr (inr (inr (inr (inr drain))))) = absurd (differs (codes "match") name (codes "drain") e drain.0 refl)
+words_of name rows e whole = search rules
 
 path_of : (name : Text) (rows : List Row) → name ≡ codes "drain" → IsWhole (name, rows) → IsSome (first_of (codes "PATH") rows)
-path_of name rows e (inl pipe) = absurd (differs (codes "drain") name (codes "pipe") e pipe refl)
-path_of name rows e (inr (inl words)) = absurd (differs (codes "drain") name (codes "match") e words.0 refl)
-path_of name rows e (inr (inr (inl script))) = absurd (differs (codes "drain") name (codes "script") e script refl)
-path_of name rows e (inr (inr (inr (inl audit)))) = absurd (differs (codes "drain") name (codes "audit") e audit refl)
-path_of name rows e (inr (inr (inr (inr (inl serve))))) = absurd (differs (codes "drain") name (codes "serve") e serve.0 refl)
-path_of name rows e (inr (inr (inr (inr (inr drain))))) = drain.1
+path_of name rows e whole = search rules
 
-question : (found : Option (Text × List Row)) (name : Text) (rows : List Row) → found ≡ Some (name, rows) → name ≡ codes "match" → IsSomeAnd found IsWhole → AreWords rows
-question found name rows is e whole = words_of name rows e (subst (λ (o : Option (Text × List Row)). IsSomeAnd o IsWhole) is whole)
+file_of : (name : Text) (rows : List Row) → name ≡ codes "check" → IsWhole (name, rows) → IsSome (first_of (codes "FILE") rows)
+file_of name rows e whole = search rules
 
-path_there : (found : Option (Text × List Row)) (name : Text) (rows : List Row) → found ≡ Some (name, rows) → name ≡ codes "drain" → IsSomeAnd found IsWhole
-    → IsSome (first_of (codes "PATH") rows)
-path_there found name rows is e whole = path_of name rows e (subst (λ (o : Option (Text × List Row)). IsSomeAnd o IsWhole) is whole)
+whole_at : (found : Option (Text × List Row)) (name : Text) (rows : List Row) → found ≡ Some (name, rows) → IsSomeAnd found IsWhole → IsWhole (name, rows)
+whole_at found name rows is whole = subst (λ (o : Option (Text × List Row)). IsSomeAnd o IsWhole) is whole
 
 pub unwrap-requires-in-match : goal.unwrap-requires-in-match
 unwrap-requires-in-match c =
     let rows = rows_of (found_of c.unwrap.result.1.now) in
     let is : subcommand_rows_of c.args.found.now ≡ Some (c.unwrap.result.0.now, rows) = search rules in
     let name : c.unwrap.result.0.now ≡ codes "match" = search rules in
-    text_there (found_of c.unwrap.result.1.now) (codes "PATTERN") c.get_str.result c.get_str.ensures (question _ _ rows is name c.requires).pattern
+    text_there (found_of c.unwrap.result.1.now) (codes "PATTERN") c.get_str.result c.get_str.ensures (words_of _ rows name (whole_at _ _ rows is c.requires)).pattern
 
 pub unwrap-requires-in-match-2 : goal.unwrap-requires-in-match-2
 unwrap-requires-in-match-2 c =
     let rows = rows_of (found_of c.unwrap.result.1.now) in
     let is : subcommand_rows_of c.args.found.now ≡ Some (c.unwrap.result.0.now, rows) = search rules in
     let name : c.unwrap.result.0.now ≡ codes "match" = search rules in
-    text_there (found_of c.unwrap.result.1.now) (codes "SUBJECT") c.get_str-in-match.result c.get_str-in-match.ensures (question _ _ rows is name c.requires).subject
+    text_there (found_of c.unwrap.result.1.now) (codes "SUBJECT") c.get_str-in-match.result c.get_str-in-match.ensures (words_of _ rows name (whole_at _ _ rows is c.requires)).subject
 
 pub returns-in-match : goal.returns-in-match
 returns-in-match c =
@@ -76,7 +57,7 @@ unwrap-requires-in-drain c =
     let rows = rows_of (found_of c.unwrap.result.1.now) in
     let is : subcommand_rows_of c.args.found.now ≡ Some (c.unwrap.result.0.now, rows) = search rules in
     let name : c.unwrap.result.0.now ≡ codes "drain" = search rules in
-    text_there (found_of c.unwrap.result.1.now) (codes "PATH") c.get_str-in-drain.result c.get_str-in-drain.ensures (path_there _ _ rows is name c.requires)
+    text_there (found_of c.unwrap.result.1.now) (codes "PATH") c.get_str-in-drain.result c.get_str-in-drain.ensures (path_of _ rows name (whole_at _ _ rows is c.requires))
 
 pub returns-in-drain : goal.returns-in-drain
 returns-in-drain c =
@@ -90,3 +71,17 @@ returns-in-drain c =
         text_if_there found (codes "NAME") c.get_str-in-drain-2.result c.get_str-in-drain-2.ensures,
       ),
     )
+
+pub unwrap-requires-in-check : goal.unwrap-requires-in-check
+unwrap-requires-in-check c =
+    let rows = rows_of (found_of c.unwrap.result.1.now) in
+    let is : subcommand_rows_of c.args.found.now ≡ Some (c.unwrap.result.0.now, rows) = search rules in
+    let name : c.unwrap.result.0.now ≡ codes "check" = search rules in
+    text_there (found_of c.unwrap.result.1.now) (codes "FILE") c.get_str-in-check.result c.get_str-in-check.ensures (file_of _ rows name (whole_at _ _ rows is c.requires))
+
+pub returns-in-check : goal.returns-in-check
+returns-in-check c =
+    let found = found_of c.unwrap.result.1.now in
+    let rows = rows_of found in
+    let is : subcommand_rows_of c.args.found.now ≡ Some (codes "check", rows) = search rules in
+    (rows, is, text_is found (codes "FILE") c.get_str-in-check.result c.unwrap-in-check.result c.get_str-in-check.ensures c.unwrap-in-check.ensures)

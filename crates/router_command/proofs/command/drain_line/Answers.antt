@@ -1,11 +1,8 @@
-use Rattle.std.proofs.Common.{◌∙◌, ap, codes}
+use Rattle.std.proofs.Common.{ap, codes}
 use Rattle.std.proofs.lemmas.Result.{IfOk-weaker}
 use Rattle.clap.specs.Words.{new_app, new_rule, rule_of}
-use Rattle.clap.specs.Simple.{app_of_fields}
 use Rattle.clap.specs.declared.builder.arg.Arg.{Arg}
-use Rattle.clap.specs.declared.builder.command.Command.{Command}
-use Rattle.clap.specs.declared.builder.command.Command.TheOpen.{Command-F}
-use Rattle.router_command.specs.Line.{HasRule, IsLine, required_rule}
+use Rattle.router_command.specs.Line.{HasRule, required_rule}
 use Rattle.router_command.proofs.Lines.{same_but, with_arg}
 use Rattle.router_command.proofs.command.drain_line.Goals as goal
 
@@ -19,10 +16,6 @@ returns c =
     let bare : HasRule c.new-2.result (new_rule (codes "NAME")) = record { same = c.new-2.ensures.rule; local = c.new-2.ensures.optional.1 } in
     let server = same_but c.new-2.result c.help-server.result (λ r. r) (new_rule (codes "NAME")) bare
     (ap (λ (a : Arg). rule_of a) c.help-server.ensures) (ap (λ (a : Arg). a.global) c.help-server.ensures) in
-    let empty : IsLine c.about.result (new_app (codes "drain")) = record {
-      same = ap app_of_fields c.about.ensures ∙ c.new-3.ensures.app;
-      local = ap (λ (f : Command-F Command). f.has_globals) c.about.ensures ∙ c.new-3.ensures.local;
-    } in
-    let one = with_arg c.about.result c.in_ok-arg.field-0 c.help-path.result (new_app (codes "drain")) (required_rule (new_rule (codes "PATH"))) empty path c.in_ok-arg.ensures in
+    let one = with_arg c.bare.result c.in_ok-arg.field-0 c.help-path.result (new_app (codes "drain")) (required_rule (new_rule (codes "PATH"))) c.bare.ensures path c.in_ok-arg.ensures in
     IfOk-weaker c.arg-2.result _ _
     (λ command added. with_arg c.in_ok-arg.field-0 command c.help-server.result _ (new_rule (codes "NAME")) one server added) c.arg-2.ensures

@@ -1,12 +1,9 @@
-use Rattle.std.proofs.Common.{◌∙◌, ap, codes, Some}
+use Rattle.std.proofs.Common.{ap, codes, Some}
 use Rattle.std.proofs.lemmas.Result.{IfOk-weaker}
 use Rattle.clap.specs.Words.{new_app, new_rule, rule_of}
-use Rattle.clap.specs.Simple.{app_of_fields}
 use Rattle.clap.specs.declared.builder.action.ArgAction.TheVariants.{SetTrue}
 use Rattle.clap.specs.declared.builder.arg.Arg.{Arg}
-use Rattle.clap.specs.declared.builder.command.Command.{Command}
-use Rattle.clap.specs.declared.builder.command.Command.TheOpen.{Command-F}
-use Rattle.router_command.specs.Line.{HasRule, IsLine, audit_rule}
+use Rattle.router_command.specs.Line.{HasRule, audit_rule}
 use Rattle.router_command.proofs.Lines.{same_but, with_arg}
 use Rattle.router_command.proofs.command.script_line.Goals as goal
 
@@ -19,9 +16,5 @@ returns c =
     (ap (λ (a : Arg). rule_of a) c.action.ensures) (ap (λ (a : Arg). a.global) c.action.ensures) in
     let audit = same_but c.action.result c.help-audit.result (λ r. r) audit_rule flag
     (ap (λ (a : Arg). rule_of a) c.help-audit.ensures) (ap (λ (a : Arg). a.global) c.help-audit.ensures) in
-    let empty : IsLine c.about.result (new_app (codes "script")) = record {
-      same = ap app_of_fields c.about.ensures ∙ c.new-2.ensures.app;
-      local = ap (λ (f : Command-F Command). f.has_globals) c.about.ensures ∙ c.new-2.ensures.local;
-    } in
     IfOk-weaker c.arg.result _ _
-    (λ command added. with_arg c.about.result command c.help-audit.result (new_app (codes "script")) audit_rule empty audit added) c.arg.ensures
+    (λ command added. with_arg c.bare.result command c.help-audit.result (new_app (codes "script")) audit_rule c.bare.ensures audit added) c.arg.ensures

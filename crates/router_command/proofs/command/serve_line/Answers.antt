@@ -1,11 +1,8 @@
-use Rattle.std.proofs.Common.{◌∙◌, ap, codes}
+use Rattle.std.proofs.Common.{ap, codes}
 use Rattle.std.proofs.lemmas.Result.{IfOk-weaker}
 use Rattle.clap.specs.Words.{new_app, rule_of}
-use Rattle.clap.specs.Simple.{app_of_fields}
 use Rattle.clap.specs.declared.builder.arg.Arg.{Arg}
-use Rattle.clap.specs.declared.builder.command.Command.{Command}
-use Rattle.clap.specs.declared.builder.command.Command.TheOpen.{Command-F}
-use Rattle.router_command.specs.Line.{IsLine, control_rule, level_rule, required_rule, number_rule, seconds_rule, serve_with_defaults, serve_with_end, with_value}
+use Rattle.router_command.specs.Line.{control_rule, level_rule, required_rule, number_rule, seconds_rule, serve_with_defaults, serve_with_end, with_value}
 use Rattle.router_command.proofs.Lines.{same_but, with_arg}
 use Rattle.router_command.proofs.command.serve_line.Goals as goal
 
@@ -21,11 +18,7 @@ returns c =
     (ap (λ (a : Arg). rule_of a) c.default_value-inc.ensures) (ap (λ (a : Arg). a.global) c.default_value-inc.ensures) in
     let word = same_but c.number-5.result c.default_value-word.result (λ r. with_value r (codes "0")) (number_rule (codes "word")) c.number-5.ensures
     (ap (λ (a : Arg). rule_of a) c.default_value-word.ensures) (ap (λ (a : Arg). a.global) c.default_value-word.ensures) in
-    let empty : IsLine c.about.result (new_app (codes "serve")) = record {
-      same = ap app_of_fields c.about.ensures ∙ c.new.ensures.app;
-      local = ap (λ (f : Command-F Command). f.has_globals) c.about.ensures ∙ c.new.ensures.local;
-    } in
-    let one = with_arg c.about.result c.in_ok-arg.field-0 c.required-nodes.result (new_app (codes "serve")) (required_rule (number_rule (codes "nodes"))) empty nodes c.in_ok-arg.ensures in
+    let one = with_arg c.bare.result c.in_ok-arg.field-0 c.required-nodes.result (new_app (codes "serve")) (required_rule (number_rule (codes "nodes"))) c.bare.ensures nodes c.in_ok-arg.ensures in
     let two = with_arg c.in_ok-arg.field-0 c.in_ok-arg-2.field-0 c.required-port.result _ (required_rule (number_rule (codes "port"))) one port c.in_ok-arg-2.ensures in
     let three = with_arg c.in_ok-arg-2.field-0 c.in_ok-arg-3.field-0 c.default_value-shards.result _ (with_value (number_rule (codes "shards")) (codes "2")) two shards c.in_ok-arg-3.ensures in
     let four = with_arg c.in_ok-arg-3.field-0 c.in_ok-arg-4.field-0 c.default_value-inc.result _ (with_value (number_rule (codes "inc")) (codes "1")) three inc c.in_ok-arg-4.ensures in

@@ -1,0 +1,220 @@
+//! One server of a mesh whose servers are of processes of their own, as a file describes it.
+
+ghost use Rattle.std.specs.Prelude.{◌≡◌, ◌+◌, ◌*◌, ◌%◌, ◌^◌};
+ghost use Rattle.subj.specs.declared.limits.TheConstants.{MAX_NODES};
+
+use crate::faults::{NodeFault, ServeFault};
+use crate::planned::{Ends, Orders, Plan, PlannedServer};
+use crate::serving::serve_plan;
+use incarnation_file::{FileDisk, raise};
+use mesh_file::{MeshFile, MeshServer, RouteAddress, RouteHost};
+use router_command::NodeOptions;
+use std::alloc::{AllocError, Global};
+use std::fs::{File, Files};
+use std::net::{Net, SocketAddr, TcpListener as Listener, TcpStream as Stream, ToSocketAddrs};
+use std::rt::Clock;
+use std::sync::Wait;
+use std::thread::Threads;
+use std::{fs, io};
+use subj::{Incarnation, MAX_NODES, NodeId, ServerIdentity};
+
+/// The file at this path.
+fn read_file<R: Files + Alloc<A = Global>>(rt: &R, path: &str) -> Result<MeshFile, NodeFault> {
+    match fs::read_to_string(rt, path) {
+        Ok(text) => Ok(MeshFile::read(rt.alloc(), &text)?),
+        Err(error) => Err(NodeFault::Unread(error)),
+    }
+}
+
+/// What of the mesh cannot be served by this version: a secret first, then the first host that a server would advertise.
+fn unserved(mesh: &MeshFile) -> Option<NodeFault> {
+    if mesh.secret_file().is_some() {
+        return Some(NodeFault::SecretFile);
+    }
+    for server in mesh.servers() {
+        if server.advertise.is_some() {
+            return Some(NodeFault::Advertise(server.name));
+        }
+    }
+    None
+}
+
+/// The mesh that the file at this path describes, where all of it can be served.
+fn read_mesh<R: Files + Alloc<A = Global>>(rt: &R, path: &str) -> Result<MeshFile, NodeFault> {
+    let mesh = read_file(rt, path)?;
+    match unserved(&mesh) {
+        Some(fault) => Err(fault),
+        None => Ok(mesh),
+    }
+}
+
+/// Tells on standard output what the file at this path means. The error says why it describes no mesh, or that
+/// standard output failed.
+pub fn check_mesh<R: Files + Print + Alloc<A = Global>>(
+    rt: &R,
+    path: &str,
+) -> Result<(), NodeFault> {
+    let mesh = read_mesh(rt, path)?;
+    match print!(rt; "{mesh}") {
+        Ok(()) => Ok(()),
+        Err(error) => Err(NodeFault::Served(ServeFault::Failed(error))),
+    }
+}
+
+/// Where a host's port is. Of several addresses that its name has, the first is taken.
+fn resolved<R: Net>(rt: &R, routes: &RouteAddress) -> io::Result<SocketAddr> {
+    match &routes.host {
+        RouteHost::Ip(ip) => Ok(SocketAddr::new(*ip, routes.port)),
+        RouteHost::Name(name) => match (name.as_str(), routes.port).to_socket_addrs(rt)?.next() {
+            Some(address) => Ok(address),
+            None => Err(io::Error::from(io::ErrorKind::NotFound)),
+        },
+    }
+}
+
+/// Where other servers connect to a server.
+fn routes_of<R: Net>(rt: &R, server: &MeshServer) -> Result<SocketAddr, NodeFault> {
+    match resolved(rt, &server.routes) {
+        Ok(address) => Ok(address),
+        Err(error) => Err(NodeFault::Unresolved {
+            server: server.name,
+            error,
+        }),
+    }
+}
+
+/// Where other servers connect to each server of the mesh, in their order.
+fn addresses_of<R: Net>(
+    rt: &R,
+    alloc: Global,
+    mesh: &MeshFile,
+) -> Result<Vec<SocketAddr>, NodeFault> {
+    let mut all = Vec::new(alloc);
+    for server in mesh.servers() {
+        all.push(routes_of(rt, server)?)?;
+    }
+    Ok(all)
+}
+
+/// The names of the mesh's servers, in their order.
+fn names_of(alloc: Global, mesh: &MeshFile) -> Result<Vec<NodeId>, AllocError> {
+    let mut names = Vec::new(alloc);
+    for server in mesh.servers() {
+        names.push(server.name)?;
+    }
+    Ok(names)
+}
+
+/// The life of the server at this place of the mesh, in this incarnation.
+fn life_at(
+    alloc: Global,
+    mesh: &MeshFile,
+    place: usize,
+    inc: Incarnation,
+) -> Result<ServerIdentity, ServeFault> {
+    let names = names_of(alloc, mesh)?;
+    match ServerIdentity::new(names, place, inc, mesh.shards()) {
+        Some(life) => Ok(life),
+        None => Err(ServeFault::NoCluster),
+    }
+}
+
+/// The seed of the words of the server at this place in this incarnation. Each life of each server has another one, so that no two
+/// of them choose alike.
+fn seed_at(place: usize, inc: Incarnation) -> u64
+    ensures { result ≡ (inc * MAX_NODES + place) % 2 ^ 64 }
+{
+    inc.get().wrapping_mul(MAX_NODES).wrapping_add(place as u64)
+}
+
+/// The server at this place of the mesh, whose servers are at these addresses, alone.
+fn plan_at(
+    alloc: Global,
+    mesh: &MeshFile,
+    place: usize,
+    inc: Incarnation,
+    addresses: Vec<SocketAddr>,
+) -> Result<Plan, ServeFault> {
+    let (Some(server), Some(routes)) = (mesh.servers().get(place), addresses.get(place).copied())
+    else {
+        return Err(ServeFault::NoCluster);
+    };
+    let planned = PlannedServer {
+        life: life_at(alloc, mesh, place, inc)?,
+        ends: Ends {
+            clients: server.clients,
+            routes,
+        },
+        word: seed_at(place, inc),
+    };
+    let mut servers = Vec::new(alloc);
+    servers.push(planned)?;
+    Ok(Plan { servers, addresses })
+}
+
+/// Serves the server at this place of the mesh, in this incarnation.
+fn serve_life<R>(
+    rt: &R,
+    alloc: Global,
+    options: &NodeOptions<'_>,
+    mesh: &MeshFile,
+    place: usize,
+    inc: Incarnation,
+) -> Result<(), NodeFault>
+where
+    R: Threads
+        + Wait
+        + Net<Listener = Listener, Stream = Stream>
+        + Files<File = File>
+        + Clock
+        + Print
+        + Eprint
+        + Copy
+        + Send
+        + Sync
+        + 'static,
+{
+    let addresses = addresses_of(rt, alloc, mesh)?;
+    let plan = plan_at(alloc, mesh, place, inc, addresses)?;
+    Ok(serve_plan(rt, alloc, plan, Orders::of_node(options))?)
+}
+
+/// Tells at the start in which incarnation the server is, and that nothing but their addresses tells its peers from others.
+fn tell_life<R: Print + Eprint>(rt: &R, name: NodeId, inc: Incarnation) -> Result<(), ServeFault> {
+    println!(rt; "{} incarnation {}", name.text(), inc.get())?;
+    eprintln!(rt;
+        "nats_mesh: whoever connects to the routes from a host of the mesh is taken for one of its servers"
+    )?;
+    Ok(())
+}
+
+/// Serves one server of the mesh that the options' file describes, and takes part in the mesh as soon as the others are reached.
+///
+/// The file is read first, and the server's incarnation is raised in its folder before any socket opens; the folder is this process's
+/// until the end. Then standard output tells the incarnation, and where clients and other servers connect. It ends once the server has
+/// drained, which it is told at the path of the options, by [`ask_drain`](crate::ask_drain). The error is the first cause, in the order of
+/// [`NodeFault`]. May wait, and for ever.
+pub fn serve_node<R>(rt: &R, alloc: Global, options: &NodeOptions<'_>) -> Result<(), NodeFault>
+where
+    R: Threads
+        + Wait
+        + Net<Listener = Listener, Stream = Stream>
+        + Files<File = File>
+        + Clock
+        + Print
+        + Eprint
+        + Alloc<A = Global>
+        + Copy
+        + Send
+        + Sync
+        + 'static,
+{
+    let mesh = read_mesh(rt, options.mesh)?;
+    let Some(place) = mesh.place_of(options.name) else {
+        return Err(NodeFault::NotInMesh(options.name));
+    };
+    let mut disk = FileDisk::open(rt, options.state)?;
+    let inc = raise(alloc, &mut disk, options.name, options.least_inc)?;
+    tell_life(rt, options.name, inc)?;
+    serve_life(rt, alloc, options, &mesh, place, inc)
+}
