@@ -3,7 +3,8 @@ use Rattle.std.specs.Prelude.{◌≡◌, ◌≢◌, ℕ, ◌≤◌, ◌⊎◌, B
 use Rattle.std.specs.Char.{to_ascii_lowercase}
 use Rattle.std.specs.List.{position_or_len, before_first, after_first}
 use Rattle.std.specs.Str.{bytes_eq}
-use Rattle.std.specs.Net.Addr.{ipv4_octets, ipv6_segments}
+use Rattle.std.specs.Option.{option_map_or}
+use Rattle.std.specs.Net.Addr.{ipv4_octets, ipv6_segments, low_octets}
 use Rattle.std.specs.Net.Grammar.{IsSocketText, IsIpText}
 use Rattle.std.specs.Net.Socket.{socket_ip, socket_port, socket_scope_id}
 use Rattle.std.specs.declared.net.ip_addr.IpAddr.{IpAddr}
@@ -72,21 +73,41 @@ IsHost text = IsHostName text ⊎ ((ip : IpAddr) × IsIpText text ip)
 
 -- ---- what two addresses share
 
+-- RFC 4291, 2.5.5.2: an IPv4 address in the form of an IPv6 one, as ::ffff:10.0.0.1
+abbrev pub is_mapped : List ℕ → Bool
+is_mapped segments = bytes_eq (take 6 segments) (0 ∷ 0 ∷ 0 ∷ 0 ∷ 0 ∷ 0xffff ∷ [])
+
+-- the octets of an IPv4 address, in either form
+abbrev pub octets_in : IpAddr → Option (List ℕ)
+octets_in (V4 a) = Some (ipv4_octets a)
+octets_in (V6 a) = if is_mapped (ipv6_segments a) then Some (low_octets a) else None
+
+-- the segments of an IPv6 one
+abbrev pub segments_in : IpAddr → List ℕ
+segments_in (V4 a) = []
+segments_in (V6 a) = ipv6_segments a
+
+abbrev pub are_same : Option (List ℕ) → Option (List ℕ) → Bool → Bool
+are_same (Some a) (Some b) otherwise = bytes_eq a b
+are_same None None otherwise = otherwise
+are_same (Some a) None otherwise = false
+are_same None (Some b) otherwise = false
+
+-- an IPv4 address is the same in either form
 abbrev pub is_same_ip : IpAddr → IpAddr → Bool
-is_same_ip (V4 a) (V4 b) = bytes_eq (ipv4_octets a) (ipv4_octets b)
-is_same_ip (V6 a) (V6 b) = bytes_eq (ipv6_segments a) (ipv6_segments b)
-is_same_ip (V4 a) (V6 b) = false
-is_same_ip (V6 a) (V4 b) = false
+is_same_ip a b = are_same (octets_in a) (octets_in b) (bytes_eq (segments_in a) (segments_in b))
 
 -- it stands for all addresses of the machine
 abbrev pub is_wildcard : IpAddr → Bool
-is_wildcard (V4 a) = bytes_eq (ipv4_octets a) (0 ∷ 0 ∷ 0 ∷ 0 ∷ [])
-is_wildcard (V6 a) = bytes_eq (ipv6_segments a) (0 ∷ 0 ∷ 0 ∷ 0 ∷ 0 ∷ 0 ∷ 0 ∷ 0 ∷ [])
+is_wildcard ip =
+    option_map_or (λ octets. bytes_eq octets (0 ∷ 0 ∷ 0 ∷ 0 ∷ [])) (octets_in ip)
+    (bytes_eq (segments_in ip) (0 ∷ 0 ∷ 0 ∷ 0 ∷ 0 ∷ 0 ∷ 0 ∷ 0 ∷ []))
 
 -- each machine has it for itself
 abbrev pub is_loopback : IpAddr → Bool
-is_loopback (V4 a) = bytes_eq (take 1 (ipv4_octets a)) (127 ∷ [])
-is_loopback (V6 a) = bytes_eq (ipv6_segments a) (0 ∷ 0 ∷ 0 ∷ 0 ∷ 0 ∷ 0 ∷ 0 ∷ 1 ∷ [])
+is_loopback ip =
+    option_map_or (λ octets. bytes_eq (take 1 octets) (127 ∷ [])) (octets_in ip)
+    (bytes_eq (segments_in ip) (0 ∷ 0 ∷ 0 ∷ 0 ∷ 0 ∷ 0 ∷ 0 ∷ 1 ∷ []))
 
 -- RFC 4343: the case of a name's letters is ignored
 abbrev pub is_same_name : List ℕ → List ℕ → Bool

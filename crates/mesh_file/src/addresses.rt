@@ -1,15 +1,17 @@
 //! Addresses: where clients and other servers connect.
 
-ghost use Rattle.std.specs.Prelude.{◌≡◌, ◌≤◌, not, nat_eq, MatchOption, IfSome, None};
+ghost use Rattle.std.specs.Prelude.{◌≡◌, ◌≤◌, not, nat_eq, MatchOption, IfSome, None, option_map};
+ghost use Rattle.std.specs.Str.{bytes_eq};
+ghost use Rattle.std.specs.Net.Addr.{ipv4_octets};
 ghost use Rattle.std.specs.Net.Socket.{socket_scope_id};
-ghost use Rattle.mesh_file.specs.Addresses.{IsSocket, IsNoSocket, IsNamed, IsRoute, IsNoRoute, IsHost, named_address as address_named, port_of, is_wildcard as wildcard, is_loopback as loopback, is_same_ip as same_ip, is_same_host as same_host, is_same_route as same_route, is_same_clients as same_clients, is_at as host_is_at, may_clash as clash};
+ghost use Rattle.mesh_file.specs.Addresses.{IsSocket, IsNoSocket, IsNamed, IsRoute, IsNoRoute, IsHost, named_address as address_named, port_of, octets_in, segments_in, is_wildcard as wildcard, is_loopback as loopback, is_same_ip as same_ip, is_same_host as same_host, is_same_route as same_route, is_same_clients as same_clients, is_at as host_is_at, may_clash as clash};
 ghost use Rattle.mesh_file.specs.Entries.{IsNoHost};
 
 use crate::hosts::{HostText, host_name, is_host_name};
 use line_fields::read_digits;
 use std::fmt;
 use std::fmt::{Display, Formatter, Write};
-use std::net::{IpAddr, SocketAddr};
+use std::net::{IpAddr, Ipv4Addr, SocketAddr};
 
 /// The most digits of a port behind a host's name.
 const PORT_DIGITS: usize = 5;
@@ -117,25 +119,53 @@ pub(crate) fn advertised_host(text: &str) -> Option<HostText>
     None
 }
 
+/// The IPv4 address, in its own form or in that of an IPv6 one (`::ffff:10.0.0.1`: RFC 4291, 2.5.5.2). None just where it is another.
+fn ipv4_of(ip: IpAddr) -> Option<Ipv4Addr>
+    ensures { option_map ipv4_octets result ≡ octets_in ip }
+{
+    match ip {
+        IpAddr::V4(ip) => Some(ip),
+        IpAddr::V6(ip) => ip.to_ipv4_mapped(),
+    }
+}
+
 /// Whether the address stands for all of the machine.
 pub(crate) fn is_wildcard(ip: IpAddr) -> bool
     ensures { result ≡ wildcard ip }
 {
-    ip.is_unspecified()
+    match ipv4_of(ip) {
+        Some(ipv4) => ipv4.is_unspecified(),
+        None => ip.is_unspecified(),
+    }
 }
 
 fn is_loopback(ip: IpAddr) -> bool
     ensures { result ≡ loopback ip }
 {
-    ip.is_loopback()
+    match ipv4_of(ip) {
+        Some(ipv4) => ipv4.is_loopback(),
+        None => ip.is_loopback(),
+    }
 }
 
+/// Whether both are the same IPv6 address.
+fn is_same_ipv6(a: IpAddr, b: IpAddr) -> bool
+    requires { (octets_in a ≡ None) × (octets_in b ≡ None) }
+    ensures { result ≡ bytes_eq (segments_in a) (segments_in b) }
+{
+    match (a, b) {
+        (IpAddr::V6(a), IpAddr::V6(b)) => a.segments() == b.segments(),
+        _ => false,
+    }
+}
+
+/// Whether both are the same address; one of IPv4 is the same in either form.
 fn is_same_ip(a: IpAddr, b: IpAddr) -> bool
     ensures { result ≡ same_ip a b }
 {
-    match (a, b) {
-        (IpAddr::V4(a), IpAddr::V4(b)) => a.octets() == b.octets(),
-        (IpAddr::V6(a), IpAddr::V6(b)) => a.segments() == b.segments(),
+    match (ipv4_of(a), ipv4_of(b)) {
+        (Some(a), Some(b)) => a.octets() == b.octets(),
+        (None, None) => is_same_ipv6(a, b),
         _ => false,
     }
 }

@@ -522,6 +522,54 @@ const CASES: &[(&str, &str)] = &[
     ),
 ];
 
+/// The same of texts with addresses of both families.
+const FAMILIES: &[(&str, &str)] = &[
+    // a wildcard of IPv4, in the form of IPv6
+    (
+        "[[server]]\nname = \"n1\"\nclients = \"0.0.0.0:4222\"\nroutes = \"[::ffff:0.0.0.0]:6222\"\n",
+        "server[1].routes: a wildcard address; the one is wanted at which other servers \
+         reach this one",
+    ),
+    // one port, all addresses of both families
+    (
+        "[[server]]\nname = \"n1\"\nclients = \"[::]:4222\"\nroutes = \"10.0.0.1:4222\"\n",
+        "server[1].routes: the port of clients, at an address that may be the same; another \
+         port is wanted",
+    ),
+    // one port, one address in two forms
+    (
+        "[[server]]\nname = \"n1\"\nclients = \"[::ffff:10.0.0.1]:4222\"\nroutes = \"10.0.0.1:4222\"\n",
+        "server[1].routes: the port of clients, at an address that may be the same; another \
+         port is wanted",
+    ),
+    // one address of routes, in two forms
+    (
+        "server = [\n    \
+         { name = \"a\", clients = \"0.0.0.0:1\", routes = \"10.0.0.1:7\" },\n    \
+         { name = \"b\", clients = \"0.0.0.0:1\", routes = \"[::ffff:10.0.0.1]:7\" },\n\
+         ]\n",
+        "server[2].routes: the same as of server[1]; each server wants its own",
+    ),
+    // one address of clients, in two forms
+    (
+        "server = [\n    \
+         { name = \"a\", clients = \"10.0.0.1:1\", routes = \"x:7\" },\n    \
+         { name = \"b\", clients = \"[::ffff:10.0.0.1]:1\", routes = \"y:7\" },\n\
+         ]\n",
+        "server[2].clients: the same as of server[1]; each server wants its own",
+    ),
+    // a loopback address, which each machine has for itself, in the form of IPv6
+    (
+        "server = [\n    \
+         { name = \"a\", clients = \"127.0.0.1:1\", routes = \"x:7\" },\n    \
+         { name = \"b\", clients = \"[::ffff:127.0.0.1]:1\", routes = \"y:7\" },\n\
+         ]\n",
+        "mesh 2 servers, 2 shards, no secret: peers are known by their addresses alone\n\
+         a clients 127.0.0.1:1 routes x:7\n\
+         b clients [::ffff:127.0.0.1]:1 routes y:7\n",
+    ),
+];
+
 /// What is told of a text: its mesh, or why it describes none.
 fn told(alloc: Global, text: &str) -> Result<String, AllocError> {
     match MeshFile::read(alloc, text) {
@@ -533,6 +581,15 @@ fn told(alloc: Global, text: &str) -> Result<String, AllocError> {
 #[test]
 fn files_are_told(rt: HostRuntime) -> Result<(), Fail> {
     for (text, wanted) in CASES {
+        let told = told(rt.alloc(), text)?;
+        assert_eq!(rt; told.as_str(), *wanted, "of {text}");
+    }
+    Ok(())
+}
+
+#[test]
+fn addresses_of_both_families_are_told(rt: HostRuntime) -> Result<(), Fail> {
+    for (text, wanted) in FAMILIES {
         let told = told(rt.alloc(), text)?;
         assert_eq!(rt; told.as_str(), *wanted, "of {text}");
     }
