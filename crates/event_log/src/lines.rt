@@ -10,7 +10,9 @@ use server_events::{
     Caller, ClientCause, Event, EventKind, Level, PeerCause, RefusalCause, SystemCause,
 };
 use std::fmt::{Display, Formatter, Write};
+use std::net::SocketAddr;
 use std::{fmt, io};
+use subj::NodeId;
 
 /// What stands in place of a server's name where a line is about all servers of the process.
 pub const PROCESS: &str = "mesh";
@@ -109,6 +111,19 @@ fn write_refusal<W: Write>(
     }
 }
 
+fn write_resolved<W: Write>(
+    f: &mut Formatter<W>,
+    peer: NodeId,
+    address: SocketAddr,
+    failures: u64,
+) -> fmt::Result {
+    write!(f, "{} is at {address}", peer.text())?;
+    if failures > 0 {
+        write!(f, ", after {failures} look-ups without an address")?;
+    }
+    Ok(())
+}
+
 /// What happened, in words.
 #[derive(Clone, Copy, Drop)]
 pub struct EventText(pub Event);
@@ -149,6 +164,16 @@ impl Display for EventText {
             }
             Event::Stopped => f.write_str("stops"),
             Event::Failed { cause } => write!(f, "cannot go on: {}", SystemText(cause)),
+            Event::PeerUnresolved { peer } => write!(
+                f,
+                "the name of {}'s host has no address: it is looked up again",
+                peer.text()
+            ),
+            Event::PeerResolved {
+                peer,
+                address,
+                failures,
+            } => write_resolved(f, peer, address, failures),
         }
     }
 }
@@ -169,6 +194,8 @@ fn kind_text(kind: EventKind) -> &'static str {
         EventKind::DrainedLate => "servers that have drained too late",
         EventKind::Stopped => "servers that stop",
         EventKind::Failed => "servers that cannot go on",
+        EventKind::PeerUnresolved => "names without an address",
+        EventKind::PeerResolved => "names that have an address",
     }
 }
 

@@ -103,6 +103,8 @@ impl Rates {
                 Rate::new(),
                 Rate::new(),
                 Rate::new(),
+                Rate::new(),
+                Rate::new(),
             ],
         }
     }

@@ -25,6 +25,8 @@ pub enum ServeFault {
     NoCluster,
     /// No thread was to be had for what standard error is told.
     NoLog,
+    /// No thread was to be had for looking up the name of a host.
+    NoNames,
     /// No thread was to be had for the server of this name.
     NoThread {
         server: NodeId,
@@ -50,6 +52,7 @@ impl Display for ServeFault {
             ServeFault::Failed(error) => write!(f, "{error}"),
             ServeFault::NoCluster => f.write_str("the servers are no cluster"),
             ServeFault::NoLog => f.write_str("no thread for what standard error is told"),
+            ServeFault::NoNames => f.write_str("no thread for looking up the name of a host"),
             ServeFault::NoThread { server } => {
                 write!(f, "{} cannot run: no thread for it", server.text())
             }
@@ -187,6 +190,12 @@ impl From<ServeFault> for NodeFault {
 
 impl<T: Drop> From<AllocFailed<T>> for NodeFault {
     fn from(_: AllocFailed<T>) -> NodeFault {
+        NodeFault::OutOfMemory
+    }
+}
+
+impl From<AllocError> for NodeFault {
+    fn from(_: AllocError) -> NodeFault {
         NodeFault::OutOfMemory
     }
 }

@@ -7,13 +7,15 @@
 //! serve(rt, rt.alloc(), &options)?;
 //! ```
 //!
-//! `node` reads the file of a mesh and has one server of it served. `planned` says which servers a process has and where they are reached; `serving` binds their sockets and gives each a thread; `control` has
-//! both ends of the socket by which they are told to drain; `faults` are the causes for which a mesh is not served any more, and for which none
+//! `node` reads the file of a mesh and has one server of it served. `planned` says which servers a process has and where they are reached;
+//! `serving` binds their sockets and gives each a thread; `names` looks up the names of hosts, each in a thread of its own; `control` has both
+//! ends of the socket by which they are told to drain; `faults` are the causes for which a mesh is not served any more, and for which none
 //! drains.
 #![tactic(auto)]
 
 mod control;
 mod faults;
+mod names;
 mod node;
 mod planned;
 mod serving;

@@ -4,18 +4,19 @@ ghost use Rattle.std.specs.Prelude.{◌≡◌, ◌+◌, ◌*◌, ◌%◌, ◌^�
 ghost use Rattle.subj.specs.declared.limits.TheConstants.{MAX_NODES};
 
 use crate::faults::{NodeFault, ServeFault};
-use crate::planned::{Ends, Orders, Plan, PlannedServer};
+use crate::names::{own_address, routes_at};
+use crate::planned::{Ends, Orders, Plan, PlannedServer, host_at};
 use crate::serving::serve_plan;
 use incarnation_file::{FileDisk, raise};
-use mesh_file::{MeshFile, MeshServer, RouteAddress, RouteHost};
+use mesh_file::{HostText, MeshFile, MeshServer, RouteAddress};
 use router_command::NodeOptions;
 use std::alloc::{AllocError, Global};
+use std::fs;
 use std::fs::{File, Files};
-use std::net::{Net, SocketAddr, TcpListener as Listener, TcpStream as Stream, ToSocketAddrs};
+use std::net::{Net, SocketAddr, TcpListener as Listener, TcpStream as Stream};
 use std::rt::Clock;
 use std::sync::Wait;
 use std::thread::Threads;
-use std::{fs, io};
 use subj::{Incarnation, MAX_NODES, NodeId, ServerIdentity};
 
 /// The file at this path.
@@ -61,20 +62,9 @@ pub fn check_mesh<R: Files + Print + Alloc<A = Global>>(
     }
 }
 
-/// Where a host's port is. Of several addresses that its name has, the first is taken.
-fn resolved<R: Net>(rt: &R, routes: &RouteAddress) -> io::Result<SocketAddr> {
-    match &routes.host {
-        RouteHost::Ip(ip) => Ok(SocketAddr::new(*ip, routes.port)),
-        RouteHost::Name(name) => match (name.as_str(), routes.port).to_socket_addrs(rt)?.next() {
-            Some(address) => Ok(address),
-            None => Err(io::Error::from(io::ErrorKind::NotFound)),
-        },
-    }
-}
-
-/// Where other servers connect to a server.
-fn routes_of<R: Net>(rt: &R, server: &MeshServer) -> Result<SocketAddr, NodeFault> {
-    match resolved(rt, &server.routes) {
+/// Where a server is to bind its port for routes.
+fn bound_routes<R: Net>(rt: &R, server: &MeshServer) -> Result<SocketAddr, NodeFault> {
+    match own_address(rt, &server.routes) {
         Ok(address) => Ok(address),
         Err(error) => Err(NodeFault::Unresolved {
             server: server.name,
@@ -83,15 +73,21 @@ fn routes_of<R: Net>(rt: &R, server: &MeshServer) -> Result<SocketAddr, NodeFaul
     }
 }
 
-/// Where other servers connect to each server of the mesh, in their order.
-fn addresses_of<R: Net>(
-    rt: &R,
+/// Where other servers connect to each server of the mesh, in their order; to the one at this place at the address where it binds.
+fn routes_of(
     alloc: Global,
     mesh: &MeshFile,
-) -> Result<Vec<SocketAddr>, NodeFault> {
+    place: usize,
+    bound: SocketAddr,
+) -> Result<Vec<RouteAddress>, AllocError> {
     let mut all = Vec::new(alloc);
-    for server in mesh.servers() {
-        all.push(routes_of(rt, server)?)?;
+    for (other, server) in mesh.servers().iter().enumerate() {
+        let routes = if other == place {
+            routes_at(bound)
+        } else {
+            server.routes
+        };
+        all.push(routes)?;
     }
     Ok(all)
 }
@@ -127,29 +123,52 @@ fn seed_at(place: usize, inc: Incarnation) -> u64
     inc.get().wrapping_mul(MAX_NODES).wrapping_add(place as u64)
 }
 
-/// The server at this place of the mesh, whose servers are at these addresses, alone.
-fn plan_at(
+/// The host that INFO tells the clients of a server: the one that it advertises, or that of the clients' address.
+fn told_host(server: &MeshServer) -> HostText {
+    match server.advertise {
+        Some(host) => host,
+        None => host_at(server.clients),
+    }
+}
+
+/// The server at this place of the mesh, with these ends, alone, and the host that its clients are told.
+fn servers_at(
     alloc: Global,
     mesh: &MeshFile,
     place: usize,
     inc: Incarnation,
-    addresses: Vec<SocketAddr>,
-) -> Result<Plan, ServeFault> {
-    let (Some(server), Some(routes)) = (mesh.servers().get(place), addresses.get(place).copied())
-    else {
-        return Err(ServeFault::NoCluster);
-    };
+    ends: Ends,
+    host: HostText,
+) -> Result<Vec<PlannedServer>, ServeFault> {
     let planned = PlannedServer {
         life: life_at(alloc, mesh, place, inc)?,
-        ends: Ends {
-            clients: server.clients,
-            routes,
-        },
+        ends,
+        host,
         word: seed_at(place, inc),
     };
     let mut servers = Vec::new(alloc);
     servers.push(planned)?;
-    Ok(Plan { servers, addresses })
+    Ok(servers)
+}
+
+/// The server at this place of the mesh, alone, with its ends where the file has them.
+fn plan_at<R: Net>(
+    rt: &R,
+    alloc: Global,
+    mesh: &MeshFile,
+    place: usize,
+    inc: Incarnation,
+) -> Result<Plan, NodeFault> {
+    let Some(server) = mesh.servers().get(place) else {
+        return Err(NodeFault::Served(ServeFault::NoCluster));
+    };
+    let ends = Ends {
+        clients: server.clients,
+        routes: bound_routes(rt, server)?,
+    };
+    let routes = routes_of(alloc, mesh, place, ends.routes)?;
+    let servers = servers_at(alloc, mesh, place, inc, ends, told_host(server))?;
+    Ok(Plan { servers, routes })
 }
 
 /// Serves the server at this place of the mesh, in this incarnation.
@@ -174,8 +193,7 @@ where
         + Sync
         + 'static,
 {
-    let addresses = addresses_of(rt, alloc, mesh)?;
-    let plan = plan_at(alloc, mesh, place, inc, addresses)?;
+    let plan = plan_at(rt, alloc, mesh, place, inc)?;
     Ok(serve_plan(rt, alloc, plan, Orders::of_node(options))?)
 }
 

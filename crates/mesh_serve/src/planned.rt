@@ -5,9 +5,11 @@ ghost use Rattle.router_command.specs.Ranges.{AreWithin};
 
 use crate::faults::ServeFault;
 use log::LevelFilter;
+use mesh_file::{HostText, RouteAddress, RouteHost};
 use router_command::{NodeOptions, Options};
 use std::alloc::{AllocError, Global};
-use std::net::{Ipv4Addr, SocketAddr};
+use std::fmt::Write;
+use std::net::{IpAddr, Ipv4Addr, SocketAddr};
 use subj::{MAX_NODES, NameFault, NodeId, ServerIdentity};
 
 /// Where clients and other servers connect to a server.
@@ -22,6 +24,8 @@ pub(crate) struct Ends {
 pub(crate) struct PlannedServer {
     pub life: ServerIdentity,
     pub ends: Ends,
+    /// The host that its clients are told.
+    pub host: HostText,
     /// The seed of the words by which it chooses who serves a queue group.
     pub word: u64,
 }
@@ -30,7 +34,7 @@ pub(crate) struct PlannedServer {
 #[derive(Drop)]
 pub(crate) struct Plan {
     pub servers: Vec<PlannedServer>,
-    pub addresses: Vec<SocketAddr>,
+    pub routes: Vec<RouteAddress>,
 }
 
 /// What the servers of a process are told beside.
@@ -71,6 +75,23 @@ impl<'a> Orders<'a> {
 /// The address of a port of this machine alone.
 fn local(port: u16) -> SocketAddr {
     SocketAddr::from((Ipv4Addr::LOCALHOST, port))
+}
+
+/// The host of an address, as INFO tells it where nothing else is given: an IPv6 address stands without brackets, and an address for all of the
+/// machine as it is, as nats-server has it.
+pub(crate) fn host_at(address: SocketAddr) -> HostText {
+    let mut host = HostText::new();
+    // an address has fewer bytes than there is room for
+    let _ = write!(host, "{}", address.ip());
+    host
+}
+
+/// A port for routes of this machine alone.
+fn local_routes(port: u16) -> RouteAddress {
+    RouteAddress {
+        host: RouteHost::Ip(IpAddr::V4(Ipv4Addr::LOCALHOST)),
+        port,
+    }
 }
 
 /// Where clients and other servers connect to the server at this place.
@@ -134,9 +155,11 @@ fn planned_server(
     requires place { place < options.now.nodes }
     ensures { IfOk result (λ server. server.word ≡ (options.now.word + place) % 2 ^ 64) }
 {
+    let ends = ends_of(options, place);
     Ok(PlannedServer {
         life: life_of(alloc, options, place)?,
-        ends: ends_of(options, place),
+        ends,
+        host: host_at(ends.clients),
         word: seed_of(options, place),
     })
 }
@@ -151,7 +174,7 @@ fn push_planned(
     requires within { AreWithin options.now }
     requires place { place < options.now.nodes }
 {
-    plan.addresses.push(local(options.route_port(place)))?;
+    plan.routes.push(local_routes(options.route_port(place)))?;
     plan.servers.push(planned_server(alloc, options, place)?)?;
     Ok(())
 }
@@ -162,7 +185,7 @@ pub(crate) fn plan_of(alloc: Global, options: &Options<'_>) -> Result<Plan, Serv
 {
     let mut plan = Plan {
         servers: Vec::new(alloc),
-        addresses: Vec::new(alloc),
+        routes: Vec::new(alloc),
     };
     for place in 0..options.nodes {
         push_planned(&mut plan, alloc, options, place)?;

@@ -5,11 +5,15 @@ ghost use Rattle.router_command.specs.Ranges.{AreWithin};
 
 use crate::control::{bind_control, remove_control};
 use crate::faults::ServeFault;
+use crate::names::{Shared, look_up_names, share};
 use crate::planned::{Ends, Orders, Plan, PlannedServer, plan_of, ready_text};
 use event_log::EventLog;
+use mesh_file::RouteAddress;
 use mio::net::TcpListener;
 use mio::{Poll, Waker};
-use node_net::{Control, Server as Connections, ServerControl, Shutdown, Sockets, WAKER};
+use node_net::{
+    Control, PeerAddresses, Server as Connections, ServerControl, Shutdown, Sockets, WAKER,
+};
 use router_command::Options;
 use server_calls::ServerCalls;
 use server_events::{Event, SystemCause};
@@ -18,7 +22,7 @@ use std::fs::Files;
 use std::marker::Brand;
 use std::net::{Net, SocketAddr, TcpListener as Listener, TcpStream as Stream};
 use std::rt::Clock;
-use std::sync::{OnceLock, Wait};
+use std::sync::{Arc, OnceLock, Wait};
 use std::thread::Threads;
 use std::{io, thread};
 use sub_trie::TrieTable;
@@ -63,7 +67,7 @@ fn sockets<R: Net>(rt: &R, ends: Ends) -> Result<Sockets, ServeFault> {
 #[derive(Clone, Copy)]
 struct Mesh<'a> {
     /// Where other servers connect to each server.
-    addresses: &'a [SocketAddr],
+    addresses: &'a PeerAddresses,
     shutdown: &'a Shutdown,
     /// Why all of them stop, where one could not go on: the first cause.
     cause: &'a OnceLock<ServeFault>,
@@ -95,8 +99,13 @@ fn run_connections<C: ServerCalls, R: Wait + Net<Listener = Listener, Stream = S
     mesh: Mesh<'_>,
 ) -> io::Result<()> {
     let BoundServer { planned, sockets } = server;
-    let port = planned.ends.clients.port();
-    let mut connections = Connections::new(alloc, node, planned.life, port, planned.word)?;
+    let PlannedServer {
+        life,
+        ends,
+        host,
+        word,
+    } = planned;
+    let mut connections = Connections::new(alloc, node, life, host, ends.clients.port(), word)?;
     connections.run(rt, sockets, mesh.addresses, mesh.shutdown, mesh.log)
 }
 
@@ -145,14 +154,13 @@ fn run_all<'m, R: Threads + Wait + Net<Listener = Listener, Stream = Stream> + C
     rt: &R,
     alloc: Global,
     servers: Vec<BoundServer>,
-    addresses: &'m [SocketAddr],
-    shutdown: &'m Shutdown,
+    shared: &'m Shared,
     log: &'m EventLog,
 ) -> Result<(), ServeFault> {
     let cause = OnceLock::new();
     let mesh = Mesh {
-        addresses,
-        shutdown,
+        addresses: &shared.addresses,
+        shutdown: &shared.shutdown,
         cause: &cause,
         log,
     };
@@ -226,8 +234,8 @@ fn controls(alloc: Global, servers: &[BoundServer]) -> Result<Vec<ServerControl>
 #[derive(Drop)]
 struct BoundMesh {
     servers: Vec<BoundServer>,
-    addresses: Vec<SocketAddr>,
-    shutdown: Shutdown,
+    routes: Vec<RouteAddress>,
+    shared: Arc<Shared>,
 }
 
 /// The servers of a process, with their sockets bound, and when they stop, for which each is woken.
@@ -254,12 +262,13 @@ fn bound_mesh<R: Net>(
     plan: Plan,
     orders: Orders<'_>,
 ) -> Result<BoundMesh, ServeFault> {
-    let Plan { servers, addresses } = plan;
+    let Plan { servers, routes } = plan;
     let (servers, shutdown) = servers_to_wake(rt, alloc, servers, orders)?;
+    let shared = share(alloc, &routes, shutdown)?;
     Ok(BoundMesh {
         servers,
-        addresses,
-        shutdown,
+        routes,
+        shared,
     })
 }
 
@@ -331,19 +340,52 @@ where
     ended
 }
 
-/// Tells standard output and the log that the mesh is ready, and runs it, whose sockets are bound.
-fn run_told<R>(rt: &R, alloc: Global, bound: BoundMesh, log: &EventLog) -> Result<(), ServeFault>
+/// Has the names of hosts looked up that the first server dials, which is the only one of its process where there are names.
+fn seek_peers<R>(
+    rt: &R,
+    alloc: Global,
+    bound: &BoundMesh,
+    log: &Arc<EventLog>,
+) -> Result<(), ServeFault>
 where
-    R: Threads + Wait + Net<Listener = Listener, Stream = Stream> + Clock + Print + Sync,
+    R: Threads + Wait + Net + Clock + Copy + Send + 'static,
 {
+    match bound.servers.first() {
+        None => Ok(()),
+        Some(first) => {
+            let life = &first.planned.life;
+            look_up_names(rt, alloc, life, &bound.routes, &bound.shared, log)
+        }
+    }
+}
+
+/// Tells standard output and the log that the mesh is ready, and runs it, whose sockets are bound.
+fn run_told<R>(
+    rt: &R,
+    alloc: Global,
+    bound: BoundMesh,
+    log: &Arc<EventLog>,
+) -> Result<(), ServeFault>
+where
+    R: Threads
+        + Wait
+        + Net<Listener = Listener, Stream = Stream>
+        + Clock
+        + Print
+        + Copy
+        + Send
+        + Sync
+        + 'static,
+{
+    seek_peers(rt, alloc, &bound, log)?;
     let BoundMesh {
         servers,
-        addresses,
-        shutdown,
+        shared,
+        ..
     } = bound;
     tell(rt, alloc, &servers)?;
     tell_log(rt, &servers, log);
-    run_all(rt, alloc, servers, &addresses, &shutdown, log)
+    run_all(rt, alloc, servers, &shared, log)
 }
 
 /// Serves the servers of a plan, each in a thread of its own.

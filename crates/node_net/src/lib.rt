@@ -1,7 +1,7 @@
 //! The connections of a server: streams in, streams out, and between them the calls of the server.
 //!
 //! ```text
-//! let mut server: Server<MemStream, _> = Server::new(alloc, &node, life, 4222, 0)?;
+//! let mut server: Server<MemStream, _> = Server::new(alloc, &node, life, host, 4222, 0)?;
 //! let mut stream = MemStream::new(alloc);
 //! stream.feed(b"PING\r\n")?;
 //! let key = server.add(rt, stream, Side::Client)?;
@@ -13,11 +13,12 @@
 //! In reading order: `client_link` and `route_link` make calls of what was read, and tell what they have come to (`runs`);
 //! `connection` has one of them with its stream; `connections` has all of them, and what is noted of each until it is done; `server` takes them
 //! and lets them go, and finds those of clients (`clients`) and of other servers (`peers`); `turning` and `flushing` are a turn of its loop, by
-//! what was `taken` for clients, `draining` is what a server that drains does, and `running` is the loop, which is told by operators over a
-//! `control` socket. `shutdown` says when the loop ends, and which server drains, the `limits` when and how much of everything, and
-//! `faults` why no stream is taken.
+//! what was `taken` for clients, `draining` is what a server that drains does, and `running` is the loop, which reaches other servers at their
+//! `addresses`, and is told by operators over a `control` socket. `shutdown` says when the loop ends, and which server drains, the `limits`
+//! when and how much of everything, and `faults` why no stream is taken.
 #![tactic(auto)]
 
+mod addresses;
 mod client_link;
 mod clients;
 mod connection;
@@ -37,9 +38,10 @@ mod shutdown;
 mod taken;
 mod turning;
 
+pub use addresses::PeerAddresses;
 pub use control::{Control, DRAIN, DRAINS, NO_SERVER};
 pub use faults::AddFault;
 pub use net_streams::{MemStream, Stream, StreamFault};
 pub use running::{Sockets, WAKER};
-pub use server::{Server, Side, shard_of_client};
+pub use server::{HostText, Server, Side, shard_of_client};
 pub use shutdown::{ServerControl, Shutdown};

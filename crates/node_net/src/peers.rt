@@ -159,6 +159,14 @@ impl Redials {
         }
     }
 
+    /// All servers may be dialed at once, and the pauses begin anew.
+    pub fn hurry(&mut self) {
+        for redial in &mut self.redials {
+            redial.at = 0;
+            redial.pause = FIRST_PAUSE;
+        }
+    }
+
     /// The server at this place is dialed now: the pause before the next time is twice as long.
     pub fn dial(&mut self, place: usize, now: u64) {
         if let Some(redial) = self.redials.get_mut(place) {

@@ -1,5 +1,6 @@
 //! The loop of a server's thread: it polls, accepts, dials, and turns.
 
+use crate::addresses::PeerAddresses;
 use crate::connection::Cause;
 use crate::control::{CONTROL, CONTROL_LINK, Control};
 use crate::faults::AddFault;
@@ -14,7 +15,7 @@ use server_calls::ServerCalls;
 use server_events::{Caller, Event, EventSink, RefusalCause, SystemCause};
 use std::alloc::{AllocError, Global};
 use std::io;
-use std::net::{IpAddr, Net, SocketAddr};
+use std::net::{Net, SocketAddr};
 use std::rt::Clock;
 use std::sync::Wait;
 use std::time::{Duration, Instant};
@@ -78,30 +79,22 @@ impl Door {
 
     /// Whether whoever comes from this address is taken: a client from everywhere, another server from
     /// where one of the cluster's servers is. (Profile.)
-    fn takes(&self, from: SocketAddr, addresses: &[SocketAddr]) -> bool {
-        self.is_for_clients() || is_among(from.ip(), addresses)
+    fn takes<R: Wait>(&self, rt: &R, from: SocketAddr, addresses: &PeerAddresses) -> bool {
+        self.is_for_clients() || addresses.are_at(rt, from.ip())
     }
 
     /// The next connection. The servers of the cluster are at these addresses.
-    fn accept(&self, addresses: &[SocketAddr]) -> Accepted {
+    fn accept<R: Wait>(&self, rt: &R, addresses: &PeerAddresses) -> Accepted {
         let Some(listener) = &self.listener else {
             return Accepted::Nothing;
         };
         match listener.accept() {
-            Ok((stream, from)) if self.takes(from, addresses) => Accepted::Stream(stream),
+            Ok((stream, from)) if self.takes(rt, from, addresses) => Accepted::Stream(stream),
             Ok(_) => Accepted::Stranger,
             Err(error) if error.kind() == io::ErrorKind::WouldBlock => Accepted::Nothing,
             Err(error) => Accepted::Failed(SystemCause::of(&error)),
         }
     }
-}
-
-/// Whether one of the addresses is that of this host. One of IPv4 is the same in either form.
-fn is_among(host: IpAddr, addresses: &[SocketAddr]) -> bool {
-    let host = host.to_canonical();
-    addresses
-        .iter()
-        .any(|address| address.ip().to_canonical() == host)
 }
 
 /// What accepting came to.
@@ -121,6 +114,8 @@ struct Rounds {
     clients: Door,
     routes: Door,
     redials: Redials,
+    /// How often the addresses of servers had changed when they were dialed last.
+    changes: u64,
     /// The connections that are ready.
     ready: Vec<usize>,
     /// Whether accepting failed for another cause than that there is none.
@@ -137,8 +132,8 @@ struct Rounds {
 /// The mesh that the server is of.
 #[derive(Clone, Copy)]
 struct Mesh<'a> {
-    /// Where other servers reach each of its servers, in their order.
-    addresses: &'a [SocketAddr],
+    /// Where other servers reach each of its servers, and whence they come.
+    addresses: &'a PeerAddresses,
     /// When the servers of the process stop.
     shutdown: &'a Shutdown,
 }
@@ -168,6 +163,7 @@ impl Rounds {
             clients: Door::new(clients, Side::Client),
             routes: Door::new(routes, Side::Accepted),
             redials: Redials::new(alloc),
+            changes: 0,
             ready: Vec::new(alloc),
             has_failed: false,
             control,
@@ -187,6 +183,13 @@ impl Rounds {
     fn time<R: Clock>(&self, rt: &R) -> io::Result<u64> {
         let passed = self.start.elapsed(rt)?.as_millis();
         Ok(passed.min(u64::MAX as u128) as u64)
+    }
+
+    /// Has all servers dialed at once whose addresses may have changed so often by now.
+    fn hear_changes(&mut self, changes: u64) {
+        if std::mem::replace(&mut self.changes, changes) != changes {
+            self.redials.hurry();
+        }
     }
 
     /// Whether something may be accepted at once.
@@ -233,14 +236,14 @@ fn refusal_of(fault: AddFault) -> RefusalCause {
 
 impl<C: ServerCalls> Server<TcpStream, C> {
     /// Serves until all servers of the process stop, or have drained: waits until a socket is ready, takes clients and routes,
-    /// dials each other server of the cluster that is not reached at its address, those of all servers in
-    /// their order, and makes a turn. A route is taken from the host of one of these addresses alone. What
+    /// dials each other server of the cluster that is not reached, where its address is known, and makes a turn. A route is taken from the host
+    /// of one of the addresses alone. They may change meanwhile: whoever changes them wakes the loop. What
     /// happens is told to the log. May wait, and for ever.
     pub fn run<R: Wait + Net + Clock, L: EventSink>(
         &mut self,
         rt: &R,
         mut sockets: Sockets,
-        addresses: &[SocketAddr],
+        addresses: &PeerAddresses,
         shutdown: &Shutdown,
         log: &L,
     ) -> io::Result<()> {
@@ -262,7 +265,7 @@ impl<C: ServerCalls> Server<TcpStream, C> {
         mesh: Mesh<'_>,
         log: &L,
     ) -> io::Result<()> {
-        rounds.reserve(mesh.addresses.len())?;
+        rounds.reserve(mesh.addresses.count())?;
         let mut events = Events::with_capacity(self.alloc, EVENTS)?;
         self.go_round(rt, rounds, &mut events, mesh, log)
     }
@@ -375,7 +378,7 @@ impl<C: ServerCalls> Server<TcpStream, C> {
             if !door.has_more {
                 return false;
             }
-            match door.accept(mesh.addresses) {
+            match door.accept(rt, mesh.addresses) {
                 Accepted::Stream(stream) => {
                     self.take_in(rt, poll, &*door, mesh.shutdown, stream);
                 }
@@ -446,20 +449,31 @@ impl<C: ServerCalls> Server<TcpStream, C> {
     }
 
     /// Dials the servers of the cluster that are not reached and are due.
-    fn dial_all<R: Wait + Net>(&mut self, rt: &R, rounds: &mut Rounds, addresses: &[SocketAddr]) {
-        for (place, address) in addresses.iter().enumerate() {
+    fn dial_all<R: Wait + Net>(&mut self, rt: &R, rounds: &mut Rounds, addresses: &PeerAddresses) {
+        rounds.hear_changes(addresses.changes());
+        for place in 0..addresses.count() {
             let is_reached = self.peers.kept_connection(place).is_some();
             let now = self.connections.now;
             rounds.redials.look(place, now, is_reached);
+            addresses.note(place, is_reached);
             if self.is_missing(place) && rounds.redials.is_due(place, now) {
                 rounds.redials.dial(place, now);
-                self.dial(rt, &rounds.poll, place, *address);
+                self.dial(rt, &rounds.poll, place, addresses.dial(rt, place));
             }
         }
     }
 
-    /// Dials the server at this place.
-    fn dial<R: Wait + Net>(&mut self, rt: &R, poll: &Poll, place: usize, address: SocketAddr) {
+    /// Dials the server at this place, where its address is known.
+    fn dial<R: Wait + Net>(
+        &mut self,
+        rt: &R,
+        poll: &Poll,
+        place: usize,
+        address: Option<SocketAddr>,
+    ) {
+        let Some(address) = address else {
+            return;
+        };
         if let Ok(stream) = TcpStream::connect(rt, address) {
             let _is_taken = self.take(rt, poll, stream, Side::Dialed(place));
         }

@@ -13,6 +13,7 @@ use crate::limits::GREETING;
 use crate::peers::Peers;
 use crate::route_link::{RouteLink, Stage, cut};
 use crate::taken::Taken;
+use arrayvec::ArrayString;
 use client_conn::Refusal;
 use net_streams::Stream;
 use rand_core::SeedableRng;
@@ -25,6 +26,9 @@ use shard_core::DirtyConns;
 use std::alloc::{AllocError, Global};
 use std::sync::Wait;
 use subj::{ConnId, Failure, NodeId, ServerIdentity as Life};
+
+/// The text of a host: its name, or an IP address, of at most 253 bytes.
+pub type HostText = ArrayString<253>;
 
 /// Who is at the other end of a stream.
 #[derive(Clone, Copy)]
@@ -105,6 +109,8 @@ pub struct Server<S: Stream, C: ServerCalls> {
     pub(crate) alloc: Global,
     pub(crate) node: C,
     pub(crate) life: Life,
+    /// The host that clients are told.
+    pub(crate) host: HostText,
     pub(crate) port: u16,
     pub(crate) words: Pcg64,
     pub(crate) connections: Connections<S>,
@@ -131,12 +137,13 @@ pub struct Server<S: Stream, C: ServerCalls> {
 }
 
 impl<S: Stream, C: ServerCalls> Server<S, C> {
-    /// The connections of this node, which is this life of a server and tells its clients this port. There
-    /// are none. The seed begins the words that decide which server serves a queue group.
+    /// The connections of this node, which is this life of a server and tells its clients this host and this port.
+    /// There are none. The seed begins the words that decide which server serves a queue group.
     pub fn new(
         alloc: Global,
         node: C,
         life: Life,
+        host: HostText,
         port: u16,
         seed: u64,
     ) -> Result<Server<S, C>, AllocError> {
@@ -145,6 +152,7 @@ impl<S: Stream, C: ServerCalls> Server<S, C> {
             alloc,
             node,
             life,
+            host,
             port,
             words: Pcg64::seed_from_u64(seed),
             connections: Connections::new(alloc),

@@ -160,8 +160,8 @@ impl Shutdown {
         taken >= least && gone >= taken
     }
 
-    /// Wakes all servers.
-    fn wake_all(&self) {
+    /// Wakes all servers: each goes round its loop once more.
+    pub fn wake_all(&self) {
         for server in &self.servers {
             server.wake();
         }

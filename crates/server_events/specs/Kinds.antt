@@ -21,6 +21,8 @@ kind_of event.Drained = kind.Drained
 kind_of (event.DrainedLate clients) = kind.DrainedLate
 kind_of event.Stopped = kind.Stopped
 kind_of (event.Failed cause) = kind.Failed
+kind_of (event.PeerUnresolved peer) = kind.PeerUnresolved
+kind_of (event.PeerResolved peer address failures) = kind.PeerResolved
 
 -- what ends a server is an error, what costs a client or a peer a warning; clients that come and go are for those who look for them
 abbrev pub level_of : EventKind → Level
@@ -37,6 +39,8 @@ level_of kind.Drained = level.Info
 level_of kind.DrainedLate = level.Warn
 level_of kind.Stopped = level.Info
 level_of kind.Failed = level.Error
+level_of kind.PeerUnresolved = level.Warn
+level_of kind.PeerResolved = level.Info
 
 -- where a kind stands among all of them
 abbrev pub place_of : EventKind → ℕ
@@ -53,3 +57,5 @@ place_of kind.Drained = 9
 place_of kind.DrainedLate = 10
 place_of kind.Stopped = 11
 place_of kind.Failed = 12
+place_of kind.PeerUnresolved = 13
+place_of kind.PeerResolved = 14

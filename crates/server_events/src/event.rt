@@ -100,6 +100,17 @@ pub enum Event {
         peer: NodeId,
         cause: PeerCause,
     },
+    /// The name of another server's host has no address: it is looked up again. Told once, until it has one.
+    PeerUnresolved {
+        peer: NodeId,
+    },
+    /// The name of another server's host has this address, beside others maybe, for the first time or again or in place of what it had,
+    /// after so many look-ups without one.
+    PeerResolved {
+        peer: NodeId,
+        address: SocketAddr,
+        failures: u64,
+    },
     /// A client was taken.
     ClientCame {
         client: ConnId,

@@ -7,7 +7,7 @@ use crate::event::Event;
 use log::Level;
 
 /// How many kinds of events there are.
-pub const KINDS: usize = 13;
+pub const KINDS: usize = 15;
 
 /// A kind of events: those of one are as grave as each other, and counted together.
 #[derive(Clone, Copy)]
@@ -25,6 +25,8 @@ pub enum EventKind {
     DrainedLate,
     Stopped,
     Failed,
+    PeerUnresolved,
+    PeerResolved,
 }
 
 impl EventKind {
@@ -43,6 +45,8 @@ impl EventKind {
         EventKind::DrainedLate,
         EventKind::Stopped,
         EventKind::Failed,
+        EventKind::PeerUnresolved,
+        EventKind::PeerResolved,
     ];
 
     /// How grave it is. (Profile.)
@@ -52,12 +56,14 @@ impl EventKind {
         match self {
             EventKind::Failed => Level::Error,
             EventKind::PeerDown
+            | EventKind::PeerUnresolved
             | EventKind::ClientClosed
             | EventKind::ConnectionRefused
             | EventKind::OutOfMemory
             | EventKind::DrainedLate => Level::Warn,
             EventKind::Listening
             | EventKind::PeerUp
+            | EventKind::PeerResolved
             | EventKind::DrainAsked
             | EventKind::Drained
             | EventKind::Stopped => Level::Info,
@@ -84,6 +90,8 @@ impl EventKind {
             EventKind::DrainedLate => 10,
             EventKind::Stopped => 11,
             EventKind::Failed => 12,
+            EventKind::PeerUnresolved => 13,
+            EventKind::PeerResolved => 14,
         }
     }
 }
@@ -107,6 +115,8 @@ impl Event {
             Event::DrainedLate { .. } => EventKind::DrainedLate,
             Event::Stopped => EventKind::Stopped,
             Event::Failed { .. } => EventKind::Failed,
+            Event::PeerUnresolved { .. } => EventKind::PeerUnresolved,
+            Event::PeerResolved { .. } => EventKind::PeerResolved,
         }
     }
 }

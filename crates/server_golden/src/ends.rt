@@ -4,7 +4,7 @@
 
 use event_log::EventText;
 use golden::{Call, Words, bytes_of, call_of, number, shown, text, yes_or_no};
-use node_net::{MemStream, Server, Side};
+use node_net::{HostText, MemStream, Server, Side};
 use server_calls::ServerCalls;
 use server_events::Event;
 use std::alloc::{AllocError, Global};
@@ -120,7 +120,7 @@ impl<C: ServerCalls> End<C> {
         let Some(life) = life else {
             return Err(AllocError);
         };
-        let server = Server::new(alloc, node, life, port, 0)?;
+        let server = Server::new(alloc, node, life, HostText::new(), port, 0)?;
         let known = Vec::new(alloc);
         Ok(End {
             alloc,

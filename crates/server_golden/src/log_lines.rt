@@ -36,6 +36,11 @@ fn refused(caller: Caller, cause: SystemCause) -> Event {
     Event::ConnectionRefused { caller, cause }
 }
 
+/// The other server of which something is told.
+fn peer() -> Option<NodeId> {
+    NodeId::read(b"n2").ok()
+}
+
 /// The event of this name, of which two numbers say more. None where there is no such one.
 fn event_of(call: &str, first: u64, second: u64) -> Option<Event> {
     let cause = system_cause(first);
@@ -54,6 +59,12 @@ fn event_of(call: &str, first: u64, second: u64) -> Option<Event> {
         "stranger_refused" => Event::ConnectionRefused {
             caller: Caller::Server,
             cause: RefusalCause::Stranger,
+        },
+        "unresolved" => Event::PeerUnresolved { peer: peer()? },
+        "resolved" => Event::PeerResolved {
+            peer: peer()?,
+            address: local(first),
+            failures: second,
         },
         _ => return None,
     })

@@ -1,10 +1,13 @@
-//! The loop of a server's thread over sockets, where nobody can be accepted and another server takes no route: it pauses, and tells once.
+//! The loop of a server's thread over sockets, where nobody can be accepted and another server takes no route: it pauses, and tells once. Where the
+//! other server is, it learns late.
 
 ghost use Rattle.std.specs.Prelude.{◌≡◌};
 
 use mio::net::{TcpListener, TcpStream};
 use mio::{Poll, Waker};
-use node_net::{Server as Connections, ServerControl, Shutdown, Sockets, WAKER};
+use node_net::{
+    HostText, PeerAddresses, Server as Connections, ServerControl, Shutdown, Sockets, WAKER,
+};
 use server_calls::ServerCalls;
 use server_events::{Caller, Event, EventSink, Events, LevelFilter, RefusalCause};
 use std::alloc::Global;
@@ -140,13 +143,14 @@ fn run_on<C: ServerCalls, R: Abort + Wait + Net + Clock>(
     alloc: Global,
     node: C,
     sockets: Sockets,
+    addresses: &PeerAddresses,
     shutdown: &Shutdown,
     watch: &Watch,
 ) -> bool {
-    let connections = Connections::new(alloc, node, life(rt, alloc), OWN, 0).ok();
+    let host = HostText::new();
+    let connections = Connections::new(alloc, node, life(rt, alloc), host, OWN, 0).ok();
     let mut connections = connections.expect(rt, "memory");
-    let addresses = [address_of(OWN), address_of(OTHER)];
-    let ran = connections.run(rt, sockets, &addresses, shutdown, watch);
+    let ran = connections.run(rt, sockets, addresses, shutdown, watch);
     assert!(rt; ran.is_ok());
     has_prompt_streams(&connections)
 }
@@ -157,13 +161,14 @@ fn run_named<N: NodeName, R: Abort + Wait + Net + Clock>(
     alloc: Global,
     parts: Parts,
     sockets: Sockets,
+    addresses: &PeerAddresses,
     shutdown: &Shutdown,
     watch: &Watch,
 ) -> bool
     requires { (parts.race ≡ N.race) × (parts.lanes ≡ N.lanes) × (parts.keep ≡ N.keep) }
 {
     let node: ThreadNode<ListTable, N> = ThreadNode::start(alloc, parts).ok().expect(rt, "memory");
-    run_on(rt, alloc, &node, sockets, shutdown, watch)
+    run_on(rt, alloc, &node, sockets, addresses, shutdown, watch)
 }
 
 /// The same of a server that has just started.
@@ -171,12 +176,13 @@ fn run<R: Abort + Wait + Net + Clock>(
     rt: &R,
     alloc: Global,
     sockets: Sockets,
+    addresses: &PeerAddresses,
     shutdown: &Shutdown,
     watch: &Watch,
 ) -> bool {
     let made = Parts::new(alloc, life(rt, alloc), false).ok();
     let (parts, _parkers) = made.expect(rt, "memory");
-    run_named::<Brand, _>(rt, alloc, parts, sockets, shutdown, watch)
+    run_named::<Brand, _>(rt, alloc, parts, sockets, addresses, shutdown, watch)
 }
 
 /// Closes each dial that has come by now. How many there were.
@@ -215,15 +221,40 @@ fn next_dial<R: Clock>(rt: &R, other: &TcpListener) -> Option<TcpStream> {
     None
 }
 
-/// How many dials came that were closed, and how many while one was open.
+/// The addresses of both servers, of which that of the other one is not known yet.
+fn addresses<R: Abort>(rt: &R, alloc: Global) -> PeerAddresses {
+    let known = [Some(address_of(OWN)), None];
+    let addresses = PeerAddresses::new(alloc, &known).ok();
+    addresses.expect(rt, "memory")
+}
+
+/// The other server has its address from now on. Whether that is another one than before.
+fn tell_address<R: Wait + Abort>(rt: &R, alloc: Global, addresses: &PeerAddresses) -> bool {
+    let found = Vec::from_array(alloc, [address_of(OTHER)]).ok();
+    addresses.set(rt, 1, found.expect(rt, "memory"))
+}
+
+/// How many dials came before there was an address, how many that were closed, and how many while one was open.
 #[derive(Clone, Copy)]
 struct Dials {
+    early: u64,
     closed: u64,
     beside: u64,
 }
 
-/// The other server closes each route for a while, and holds one at last; then all servers stop.
-fn refuses_routes<R: Clock>(rt: &R, other: &TcpListener, shutdown: &Shutdown) -> Dials {
+/// The other server has its address after a while, closes each route for another while, and holds one at last; then all servers stop.
+fn refuses_routes<R: Clock + Wait + Abort>(
+    rt: &R,
+    alloc: Global,
+    other: &TcpListener,
+    addresses: &PeerAddresses,
+    shutdown: &Shutdown,
+) -> Dials {
+    thread::sleep(rt, Duration::from_millis(COUNTED));
+    let early = close_dials(other);
+    assert!(rt; tell_address(rt, alloc, addresses));
+    assert!(rt; !tell_address(rt, alloc, addresses));
+    shutdown.wake_all();
     let first = close_first_dials(rt, other, 3);
     thread::sleep(rt, Duration::from_millis(COUNTED));
     let closed = first.saturating_add(close_dials(other));
@@ -232,7 +263,11 @@ fn refuses_routes<R: Clock>(rt: &R, other: &TcpListener, shutdown: &Shutdown) ->
     let beside = close_dials(other);
     shutdown.fail();
     drop(open);
-    Dials { closed, beside }
+    Dials {
+        early,
+        closed,
+        beside,
+    }
 }
 
 #[test]
@@ -243,6 +278,7 @@ fn a_loop_pauses_where_accepting_fails_and_each_route_is_refused(
     let other = listener(&rt, OTHER);
     let sockets = sockets(&rt);
     let shutdown = shutdown(&rt, alloc, &sockets.poll);
+    let addresses = addresses(&rt, alloc);
     let watch = Watch {
         rounds: AtomicU64::new(0),
         refused: AtomicU64::new(0),
@@ -250,11 +286,12 @@ fn a_loop_pauses_where_accepting_fails_and_each_route_is_refused(
     let start = Instant::now(&rt)?;
     let (is_prompt, dials) = join(
         &rt,
-        || run(&rt, alloc, sockets, &shutdown, &watch),
-        || refuses_routes(&rt, &other, &shutdown),
+        || run(&rt, alloc, sockets, &addresses, &shutdown, &watch),
+        || refuses_routes(&rt, alloc, &other, &addresses, &shutdown),
     );
     let milliseconds = start.elapsed(&rt)?.as_millis();
     assert!(rt; is_prompt);
+    assert_eq!(rt; dials.early, 0);
     assert!(rt; dials.closed >= 3 && dials.closed <= 8);
     assert_eq!(rt; dials.beside, 0);
     assert_eq!(rt; watch.refused.load(Ordering::SeqCst), 1);
