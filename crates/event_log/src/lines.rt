@@ -90,24 +90,34 @@ fn peer_cause(cause: PeerCause) -> &'static str {
 
 fn caller_text(caller: Caller) -> &'static str {
     match caller {
-        Caller::Client => "a client is refused",
-        Caller::Server => "a server is refused",
+        Caller::Client => "a client",
+        Caller::Server => "a server",
     }
 }
 
-fn write_refusal<W: Write>(
-    f: &mut Formatter<W>,
-    caller: Caller,
-    cause: RefusalCause,
-) -> fmt::Result {
-    let caller = caller_text(caller);
+fn refusal_cause(cause: RefusalCause) -> &'static str {
     match cause {
-        RefusalCause::System(cause) => write!(f, "{caller}: {}", SystemText(cause)),
-        RefusalCause::NumbersSpent => write!(f, "{caller}: the numbers of clients are used up"),
-        RefusalCause::TooManyRoutes => write!(f, "{caller}: too many connections of servers"),
-        RefusalCause::Stranger => write!(f, "{caller}: it came from an address of no server"),
-        RefusalCause::Silent => write!(f, "{caller}: it did not tell in time who it is"),
-        RefusalCause::OutOfMemory => write!(f, "{caller}: out of memory"),
+        RefusalCause::System(_) => "the system",
+        RefusalCause::NumbersSpent => "the numbers of clients are used up",
+        RefusalCause::TooManyRoutes => "too many connections of servers",
+        RefusalCause::Stranger => "it came from an address of no server",
+        RefusalCause::Silent => "it did not tell in time who it is",
+        RefusalCause::TooManyStrangers => "too many others are to prove still who they are",
+        RefusalCause::Left => "it went before it had proved who it is",
+        RefusalCause::BadGreeting => "it did not greet as a server with a secret does",
+        RefusalCause::OtherServer => "it asked for another server",
+        RefusalCause::UnknownServer => "it named itself as none of the other servers",
+        RefusalCause::WrongProof => "it did not prove that it has the secret",
+        RefusalCause::OtherName => "it told another name than it had proved",
+        RefusalCause::NoWord => "no random word was to be had",
+        RefusalCause::OutOfMemory => "out of memory",
+    }
+}
+
+fn write_refusal<W: Write>(f: &mut Formatter<W>, who: &str, cause: RefusalCause) -> fmt::Result {
+    match cause {
+        RefusalCause::System(cause) => write!(f, "{who} is refused: {}", SystemText(cause)),
+        _ => write!(f, "{who} is refused: {}", refusal_cause(cause)),
     }
 }
 
@@ -153,7 +163,10 @@ impl Display for EventText {
                     "client {client} is closed: {cause}, {waiting} bytes wait for it"
                 )
             }
-            Event::ConnectionRefused { caller, cause } => write_refusal(f, caller, cause),
+            Event::ConnectionRefused { caller, cause } => {
+                write_refusal(f, caller_text(caller), cause)
+            }
+            Event::PeerRefused { peer, cause } => write_refusal(f, peer.text(), cause),
             Event::OutOfMemory => f.write_str(
                 "out of memory: what could not be done is tried again",
             ),

@@ -1,5 +1,6 @@
 //! Why a mesh is not served, and why none drains.
 
+use crate::secret::SecretFileFault;
 use event_log::StartFault;
 use incarnation_file::{OpenFault, RaiseFault};
 use mesh_file::MeshFault;
@@ -98,12 +99,12 @@ pub enum NodeFault {
     Unread(io::Error),
     /// The file describes no mesh.
     NoMesh(MeshFault),
-    /// The file names a secret, for which no server asks in this version.
-    SecretFile,
     /// The file has this server advertise a host, which INFO cannot tell in this version.
     Advertise(NodeId),
     /// The file has no server of this name.
     NotInMesh(NodeId),
+    /// The file of the mesh names one that has no secret that is taken.
+    Secret(SecretFileFault),
     /// The folder of the server's incarnation is not to be had.
     Folder(OpenFault),
     /// The server gets no incarnation.
@@ -123,9 +124,9 @@ impl NodeFault {
             self,
             NodeFault::Unread(_)
                 | NodeFault::NoMesh(_)
-                | NodeFault::SecretFile
                 | NodeFault::Advertise(_)
                 | NodeFault::NotInMesh(_)
+                | NodeFault::Secret(_)
         )
     }
 }
@@ -135,9 +136,6 @@ impl Display for NodeFault {
         match self {
             NodeFault::Unread(error) => write!(f, "the file of the mesh cannot be read: {error}"),
             NodeFault::NoMesh(fault) => write!(f, "the file of the mesh: {fault}"),
-            NodeFault::SecretFile => f.write_str(
-                "the file of the mesh: mesh.secret_file: leave it out, since this version knows servers by their addresses alone",
-            ),
             NodeFault::Advertise(name) => write!(
                 f,
                 "the file of the mesh: advertise of {}: leave it out, since INFO tells the host 127.0.0.1 in this version",
@@ -146,6 +144,7 @@ impl Display for NodeFault {
             NodeFault::NotInMesh(name) => {
                 write!(f, "the file of the mesh has no server {}", name.text())
             }
+            NodeFault::Secret(fault) => write!(f, "the secret_file of the mesh: {fault}"),
             NodeFault::Folder(fault) => write!(f, "{fault}"),
             NodeFault::NoIncarnation(fault) => write!(f, "{fault}"),
             NodeFault::Unresolved { server, error } => {
@@ -167,6 +166,12 @@ impl From<Failure<MeshFault>> for NodeFault {
             Failure::Refused(fault) => NodeFault::NoMesh(fault),
             Failure::OutOfMemory => NodeFault::OutOfMemory,
         }
+    }
+}
+
+impl From<SecretFileFault> for NodeFault {
+    fn from(fault: SecretFileFault) -> NodeFault {
+        NodeFault::Secret(fault)
     }
 }
 

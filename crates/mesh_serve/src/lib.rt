@@ -18,10 +18,12 @@ mod faults;
 mod names;
 mod node;
 mod planned;
+mod secret;
 mod serving;
 
 pub use control::ask_drain;
 pub use faults::{DrainFault, NodeFault, ServeFault};
 pub use node::{check_mesh, serve_node};
 pub use planned::ready_line;
+pub use secret::SecretFileFault;
 pub use serving::serve;

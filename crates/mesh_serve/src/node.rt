@@ -6,14 +6,17 @@ ghost use Rattle.subj.specs.declared.limits.TheConstants.{MAX_NODES};
 use crate::faults::{NodeFault, ServeFault};
 use crate::names::{own_address, routes_at};
 use crate::planned::{Ends, Orders, Plan, PlannedServer, host_at};
+use crate::secret::{SecretFileFault, read_secret};
 use crate::serving::serve_plan;
 use incarnation_file::{FileDisk, raise};
 use mesh_file::{HostText, MeshFile, MeshServer, RouteAddress};
+use peer_proof::Secret;
 use router_command::NodeOptions;
 use std::alloc::{AllocError, Global};
 use std::fs;
 use std::fs::{File, Files};
 use std::net::{Net, SocketAddr, TcpListener as Listener, TcpStream as Stream};
+use std::random::RandomSource;
 use std::rt::Clock;
 use std::sync::Wait;
 use std::thread::Threads;
@@ -27,11 +30,8 @@ fn read_file<R: Files + Alloc<A = Global>>(rt: &R, path: &str) -> Result<MeshFil
     }
 }
 
-/// What of the mesh cannot be served by this version: a secret first, then the first host that a server would advertise.
+/// What of the mesh cannot be served by this version: the first host that a server would advertise.
 fn unserved(mesh: &MeshFile) -> Option<NodeFault> {
-    if mesh.secret_file().is_some() {
-        return Some(NodeFault::SecretFile);
-    }
     for server in mesh.servers() {
         if server.advertise.is_some() {
             return Some(NodeFault::Advertise(server.name));
@@ -145,6 +145,7 @@ fn servers_at(
         ends,
         host,
         word: seed_at(place, inc),
+        secret: None,
     };
     let mut servers = Vec::new(alloc);
     servers.push(planned)?;
@@ -171,6 +172,25 @@ fn plan_at<R: Net>(
     Ok(Plan { servers, routes })
 }
 
+/// The secret of the mesh, where it has one.
+fn secret_of<R: Files<File = File>>(
+    rt: &R,
+    alloc: Global,
+    mesh: &MeshFile,
+) -> Result<Option<Secret>, SecretFileFault> {
+    match mesh.secret_file() {
+        None => Ok(None),
+        Some(path) => Ok(Some(read_secret(rt, alloc, path)?)),
+    }
+}
+
+/// Has the servers of a plan know the others by this secret, where there is one. It has one server.
+fn guard(plan: &mut Plan, secret: Option<Secret>) {
+    if let Some(server) = plan.servers.first_mut() {
+        server.secret = secret;
+    }
+}
+
 /// Serves the server at this place of the mesh, in this incarnation.
 fn serve_life<R>(
     rt: &R,
@@ -179,11 +199,13 @@ fn serve_life<R>(
     mesh: &MeshFile,
     place: usize,
     inc: Incarnation,
+    secret: Option<Secret>,
 ) -> Result<(), NodeFault>
 where
     R: Threads
         + Wait
         + Net<Listener = Listener, Stream = Stream>
+        + RandomSource
         + Files<File = File>
         + Clock
         + Print
@@ -193,13 +215,23 @@ where
         + Sync
         + 'static,
 {
-    let plan = plan_at(rt, alloc, mesh, place, inc)?;
+    let mut plan = plan_at(rt, alloc, mesh, place, inc)?;
+    guard(&mut plan, secret);
     Ok(serve_plan(rt, alloc, plan, Orders::of_node(options))?)
 }
 
-/// Tells at the start in which incarnation the server is, and that nothing but their addresses tells its peers from others.
-fn tell_life<R: Print + Eprint>(rt: &R, name: NodeId, inc: Incarnation) -> Result<(), ServeFault> {
+/// Tells at the start in which incarnation the server is, and, where the mesh has no secret, that nothing but their addresses tells its peers from
+/// others.
+fn tell_life<R: Print + Eprint>(
+    rt: &R,
+    name: NodeId,
+    inc: Incarnation,
+    has_secret: bool,
+) -> Result<(), ServeFault> {
     println!(rt; "{} incarnation {}", name.text(), inc.get())?;
+    if has_secret {
+        return Ok(());
+    }
     eprintln!(rt;
         "nats_mesh: whoever connects to the routes from a host of the mesh is taken for one of its servers"
     )?;
@@ -208,15 +240,16 @@ fn tell_life<R: Print + Eprint>(rt: &R, name: NodeId, inc: Incarnation) -> Resul
 
 /// Serves one server of the mesh that the options' file describes, and takes part in the mesh as soon as the others are reached.
 ///
-/// The file is read first, and the server's incarnation is raised in its folder before any socket opens; the folder is this process's
-/// until the end. Then standard output tells the incarnation, and where clients and other servers connect. It ends once the server has
-/// drained, which it is told at the path of the options, by [`ask_drain`](crate::ask_drain). The error is the first cause, in the order of
-/// [`NodeFault`]. May wait, and for ever.
+/// The file is read first, then that of the secret where there is one, and the server's incarnation is raised in its folder before any socket
+/// opens; the folder is this process's until the end. Then standard output tells the incarnation, and where clients and other servers connect. It
+/// ends once the server has drained, which it is told at the path of the options, by [`ask_drain`](crate::ask_drain). The error is the first cause,
+/// in the order of [`NodeFault`]. May wait, and for ever.
 pub fn serve_node<R>(rt: &R, alloc: Global, options: &NodeOptions<'_>) -> Result<(), NodeFault>
 where
     R: Threads
         + Wait
         + Net<Listener = Listener, Stream = Stream>
+        + RandomSource
         + Files<File = File>
         + Clock
         + Print
@@ -231,8 +264,9 @@ where
     let Some(place) = mesh.place_of(options.name) else {
         return Err(NodeFault::NotInMesh(options.name));
     };
+    let secret = secret_of(rt, alloc, &mesh)?;
     let mut disk = FileDisk::open(rt, options.state)?;
     let inc = raise(alloc, &mut disk, options.name, options.least_inc)?;
-    tell_life(rt, options.name, inc)?;
-    serve_life(rt, alloc, options, &mesh, place, inc)
+    tell_life(rt, options.name, inc, secret.is_some())?;
+    serve_life(rt, alloc, options, &mesh, place, inc, secret)
 }

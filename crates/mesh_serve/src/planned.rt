@@ -6,6 +6,7 @@ ghost use Rattle.router_command.specs.Ranges.{AreWithin};
 use crate::faults::ServeFault;
 use log::LevelFilter;
 use mesh_file::{HostText, RouteAddress, RouteHost};
+use peer_proof::Secret;
 use router_command::{NodeOptions, Options};
 use std::alloc::{AllocError, Global};
 use std::fmt::Write;
@@ -28,6 +29,8 @@ pub(crate) struct PlannedServer {
     pub host: HostText,
     /// The seed of the words by which it chooses who serves a queue group.
     pub word: u64,
+    /// The secret by which it knows the other servers, where the mesh has one.
+    pub secret: Option<Secret>,
 }
 
 /// The servers of a process, and where other servers connect to each server of the mesh, in their order.
@@ -161,6 +164,7 @@ fn planned_server(
         ends,
         host: host_at(ends.clients),
         word: seed_of(options, place),
+        secret: None,
     })
 }
 

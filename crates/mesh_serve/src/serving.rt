@@ -21,6 +21,7 @@ use std::alloc::Global;
 use std::fs::Files;
 use std::marker::Brand;
 use std::net::{Net, SocketAddr, TcpListener as Listener, TcpStream as Stream};
+use std::random::RandomSource;
 use std::rt::Clock;
 use std::sync::{Arc, OnceLock, Wait};
 use std::thread::Threads;
@@ -91,32 +92,30 @@ impl Mesh<'_> {
 }
 
 /// Runs the connections of a server.
-fn run_connections<C: ServerCalls, R: Wait + Net<Listener = Listener, Stream = Stream> + Clock>(
-    rt: &R,
-    alloc: Global,
-    node: C,
-    server: BoundServer,
-    mesh: Mesh<'_>,
-) -> io::Result<()> {
+fn run_connections<
+    C: ServerCalls,
+    R: Wait + Net<Listener = Listener, Stream = Stream> + RandomSource + Clock,
+>(rt: &R, alloc: Global, node: C, server: BoundServer, mesh: Mesh<'_>) -> io::Result<()> {
     let BoundServer { planned, sockets } = server;
     let PlannedServer {
         life,
         ends,
         host,
         word,
+        secret,
     } = planned;
     let mut connections = Connections::new(alloc, node, life, host, ends.clients.port(), word)?;
+    if let Some(secret) = secret {
+        connections.set_secret(secret);
+    }
     connections.run(rt, sockets, mesh.addresses, mesh.shutdown, mesh.log)
 }
 
 /// Runs a server of these parts.
-fn run_named<N: NodeName, R: Wait + Net<Listener = Listener, Stream = Stream> + Clock>(
-    rt: &R,
-    alloc: Global,
-    parts: Parts,
-    server: BoundServer,
-    mesh: Mesh<'_>,
-) -> io::Result<()>
+fn run_named<
+    N: NodeName,
+    R: Wait + Net<Listener = Listener, Stream = Stream> + RandomSource + Clock,
+>(rt: &R, alloc: Global, parts: Parts, server: BoundServer, mesh: Mesh<'_>) -> io::Result<()>
     requires { (parts.race ≡ N.race) × (parts.lanes ≡ N.lanes) × (parts.keep ≡ N.keep) }
 {
     let node: ThreadNode<TrieTable, N> = ThreadNode::start(alloc, parts)?;
@@ -124,7 +123,7 @@ fn run_named<N: NodeName, R: Wait + Net<Listener = Listener, Stream = Stream> + 
 }
 
 /// Runs a server.
-fn run_server<R: Wait + Net<Listener = Listener, Stream = Stream> + Clock>(
+fn run_server<R: Wait + Net<Listener = Listener, Stream = Stream> + RandomSource + Clock>(
     rt: &R,
     alloc: Global,
     server: BoundServer,
@@ -136,7 +135,7 @@ fn run_server<R: Wait + Net<Listener = Listener, Stream = Stream> + Clock>(
 }
 
 /// Runs a server; where it cannot go on, all of them stop.
-fn work<R: Wait + Net<Listener = Listener, Stream = Stream> + Clock>(
+fn work<R: Wait + Net<Listener = Listener, Stream = Stream> + RandomSource + Clock>(
     rt: &R,
     alloc: Global,
     server: BoundServer,
@@ -150,7 +149,10 @@ fn work<R: Wait + Net<Listener = Listener, Stream = Stream> + Clock>(
 }
 
 /// Runs all servers, each in a thread of its own. The error is the first cause for which they stop.
-fn run_all<'m, R: Threads + Wait + Net<Listener = Listener, Stream = Stream> + Clock + Sync>(
+fn run_all<
+    'm,
+    R: Threads + Wait + Net<Listener = Listener, Stream = Stream> + RandomSource + Clock + Sync,
+>(
     rt: &R,
     alloc: Global,
     servers: Vec<BoundServer>,
@@ -297,6 +299,7 @@ where
     R: Threads
         + Wait
         + Net<Listener = Listener, Stream = Stream>
+        + RandomSource
         + Files
         + Clock
         + Print
@@ -326,6 +329,7 @@ where
     R: Threads
         + Wait
         + Net<Listener = Listener, Stream = Stream>
+        + RandomSource
         + Clock
         + Print
         + Eprint
@@ -370,6 +374,7 @@ where
     R: Threads
         + Wait
         + Net<Listener = Listener, Stream = Stream>
+        + RandomSource
         + Clock
         + Print
         + Copy
@@ -399,6 +404,7 @@ where
     R: Threads
         + Wait
         + Net<Listener = Listener, Stream = Stream>
+        + RandomSource
         + Files
         + Clock
         + Print
@@ -424,6 +430,7 @@ where
     R: Threads
         + Wait
         + Net<Listener = Listener, Stream = Stream>
+        + RandomSource
         + Files
         + Clock
         + Print

@@ -21,6 +21,7 @@ use std::fs::{File, Files};
 use std::io;
 use std::net::{Net, TcpListener, TcpStream};
 use std::process::ExitCode;
+use std::random::RandomSource;
 use std::rt::Clock;
 use std::sync::Wait;
 use std::thread::Threads;
@@ -93,6 +94,7 @@ where
     R: Threads
         + Wait
         + Net<Listener = TcpListener, Stream = TcpStream>
+        + RandomSource
         + Files
         + Clock
         + Print
@@ -129,6 +131,7 @@ where
     R: Threads
         + Wait
         + Net<Listener = TcpListener, Stream = TcpStream>
+        + RandomSource
         + Files<File = File>
         + Clock
         + Print
@@ -165,6 +168,7 @@ where
     R: Threads
         + Wait
         + Net<Listener = TcpListener, Stream = TcpStream>
+        + RandomSource
         + Files<File = File>
         + Clock
         + Input

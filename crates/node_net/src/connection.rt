@@ -3,11 +3,14 @@
 ghost use Rattle.std.specs.Prelude.{◌≡◌, ◌-◌, ◌^◌, min};
 
 use crate::client_link::ClientLink;
+use crate::handshake::Proving;
 use crate::limits::{FIRST_READ, IDLE_BYTES, READ_GROWTH};
 use crate::route_link::{RouteLink, Stepped, cut};
 use client_conn::ReadFault;
 use net_streams::{Outgoing, Stream, Wire};
+use peer_proof::Secret;
 use rand_pcg::Pcg64;
+use route_session::SessionId;
 use server_calls::{ServerCalls, ShardCalls};
 use server_events::{ClientCause, Event};
 use std::alloc::{AllocError, Global};
@@ -256,7 +259,7 @@ impl<S: Stream> Connection<S> {
         life: &Life,
         words: &mut Pcg64,
     ) -> Option<Stepped> {
-        if self.ending() != Ending::Open {
+        if self.ending() != Ending::Open || self.is_proving() {
             return None;
         }
         self.is_short = false;
@@ -264,6 +267,48 @@ impl<S: Stream> Connection<S> {
             Link::Client(client) => Stepped::Ran(client.advance(rt, node, words)),
             Link::Route(route) => route.advance(rt, node, life),
         })
+    }
+
+    /// The route at its other end, where that is one.
+    fn route(&self) -> Option<&RouteLink> {
+        match &self.link {
+            Link::Client(_) => None,
+            Link::Route(route) => Some(route),
+        }
+    }
+
+    /// Whether it is a route whose handshake is not over.
+    pub fn is_proving(&self) -> bool {
+        match self.route() {
+            None => false,
+            Some(route) => route.is_proving(),
+        }
+    }
+
+    /// Whether it is one that another server has dialed, or who would be one, which is to prove still which one it is.
+    pub fn is_of_stranger(&self) -> bool {
+        match self.route() {
+            None => false,
+            Some(route) => route.is_of_stranger(),
+        }
+    }
+
+    /// Goes on with the handshake of a route: what the next line comes to.
+    pub fn hear(&mut self, secret: &Secret, life: &Life) -> Proving {
+        if self.ending() != Ending::Open {
+            return Proving::Waits;
+        }
+        match &mut self.link {
+            Link::Client(_) => Proving::Waits,
+            Link::Route(route) => route.hear(secret, life),
+        }
+    }
+
+    /// A route of the server at this place, which dialed and has proved itself, gets this session.
+    pub fn admit(&mut self, place: usize, session: SessionId) {
+        if let Link::Route(route) = &mut self.link {
+            route.admit(place, session);
+        }
     }
 
     /// Whether it goes on, with something to be done although nothing may tell of it.
@@ -433,7 +478,9 @@ impl<S: Stream> Connection<S> {
         match &self.link {
             Link::Client(client) => client.detach(rt, node),
             Link::Route(route) => {
-                cut(rt, node, route.session);
+                if let Some(session) = route.session {
+                    cut(rt, node, session);
+                }
                 Ok(())
             }
         }

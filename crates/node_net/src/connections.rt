@@ -5,11 +5,14 @@
 ghost use Rattle.std.specs.Prelude.{◌≡◌};
 
 use crate::connection::{Cause, Connection, Ending};
+use crate::handshake::Proving;
 use crate::limits::{IDLE, IDLE_STEP, LAST_BYTES, RETRY, ROUTE_STALL};
 use crate::route_link::Stepped;
 use crate::taken::Taken;
 use net_streams::Stream;
+use peer_proof::Secret;
 use rand_pcg::Pcg64;
+use route_session::SessionId;
 use server_calls::ServerCalls;
 use server_events::{Caller, Event, Events, RefusalCause};
 use slab::Slab;
@@ -243,6 +246,21 @@ impl<S: Stream> Connections<S> {
         match self.table.get_mut(key) {
             None => None,
             Some(connection) => connection.step(rt, node, life, words),
+        }
+    }
+
+    /// Goes on with the handshake of a route: what the next line comes to.
+    pub fn hear(&mut self, key: usize, secret: &Secret, life: &Life) -> Proving {
+        match self.table.get_mut(key) {
+            None => Proving::Waits,
+            Some(connection) => connection.hear(secret, life),
+        }
+    }
+
+    /// A route of the server at this place, which dialed and has proved itself, gets this session.
+    pub fn admit(&mut self, key: usize, place: usize, session: SessionId) {
+        if let Some(connection) = self.table.get_mut(key) {
+            connection.admit(place, session);
         }
     }
 

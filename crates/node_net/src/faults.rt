@@ -12,6 +12,10 @@ pub enum AddFault {
     Client(Refusal),
     /// The route is refused.
     Route(SessionFault),
+    /// As many as there are places for have dialed, and are to prove still which servers they are.
+    TooManyStrangers,
+    /// The route begins with a proof, and no random word was drawn for it.
+    NoWord,
     /// There was no memory.
     OutOfMemory,
 }

@@ -10,7 +10,8 @@
 //!
 //! The server is whatever makes the calls of `server_calls`.
 //!
-//! In reading order: `client_link` and `route_link` make calls of what was read, and tell what they have come to (`runs`);
+//! In reading order: `client_link` and `route_link` make calls of what was read, and tell what they have come to (`runs`); a `handshake` is what a
+//! route begins with where the mesh has a secret, and `proving` is what the server does of it;
 //! `connection` has one of them with its stream; `connections` has all of them, and what is noted of each until it is done; `server` takes them
 //! and lets them go, and finds those of clients (`clients`) and of other servers (`peers`); `turning` and `flushing` are a turn of its loop, by
 //! what was `taken` for clients, `draining` is what a server that drains does, and `running` is the loop, which reaches other servers at their
@@ -27,9 +28,11 @@ mod control;
 mod draining;
 mod faults;
 mod flushing;
+mod handshake;
 mod limits;
 mod peers;
 mod placing;
+mod proving;
 mod route_link;
 mod running;
 mod runs;

@@ -26,6 +26,9 @@ pub(crate) const CONTROL_LINKS: usize = 8;
 /// How long the session of a route may take to be complete, in milliseconds.
 pub(crate) const GREETING: u64 = 5_000;
 
+/// The most connections that others have dialed and whose other ends are to prove still which servers they are, where the mesh has a secret.
+pub(crate) const STRANGERS: usize = 16;
+
 /// The first pause between two dials of one server, in milliseconds.
 pub(crate) const FIRST_PAUSE: u64 = 25;
 

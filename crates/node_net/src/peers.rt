@@ -58,6 +58,16 @@ impl Peers {
         None
     }
 
+    /// The place of the server that this connection dials.
+    pub fn dialed_place(&self, key: usize) -> Option<usize> {
+        for (place, link) in self.links.iter().enumerate() {
+            if is_at(link.dialed, key) {
+                return Some(place);
+            }
+        }
+        None
+    }
+
     /// Whether the server at this place is reached, or is being dialed.
     pub fn is_reached(&self, place: usize) -> bool {
         match self.links.get(place) {

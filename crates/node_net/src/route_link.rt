@@ -1,12 +1,15 @@
 //! A route: a connection to another server, cut into frames.
 
+use crate::handshake::{Handshake, Proving};
 use crate::placing::put;
 use crate::runs::{Ran, RunOutcome, cost_of};
 use bytes::Bytes;
 use hub_core::HubFault;
+use peer_proof::{Acceptor, HANDSHAKE_LINE, Secret};
 use route_frames::{Body, Numbered, RouteConnect, RouteFrame, RouteInfo, RouteLine, Unjoined};
 use route_session::{SessionFault, SessionId};
 use server_calls::{HubCalls, ServerCalls};
+use server_events::RefusalCause;
 use std::alloc::Global;
 use std::sync::Wait;
 use subj::{Failure, Incarnation, MAX_SNAPSHOT, ROUTE_LINE, ServerIdentity as Life, WINDOW};
@@ -17,8 +20,8 @@ use wire_cut::{Cutter, FillFault, Piece, Source};
 pub(crate) enum Stage {
     /// This server dialed the one at this place, and waits for its `INFO`.
     Dialed(usize),
-    /// Another server dialed, and is to send its `CONNECT`.
-    Accepted,
+    /// Another server dialed, and is to send its `CONNECT`: the one at this place, where it has proved that.
+    Accepted(Option<usize>),
     /// The session is kept with the server at this place, in that life.
     Kept { peer: usize, inc: Incarnation },
 }
@@ -57,8 +60,26 @@ pub(crate) struct RouteLink {
     unjoined: Option<(RouteLine, Bytes)>,
     /// A frame that is to be taken next.
     ahead: Option<RouteFrame>,
-    pub session: SessionId,
+    /// The handshake that is not over, where the route began with one.
+    proof: Option<Box<Handshake>>,
+    /// None while another server is to prove itself that has dialed.
+    pub session: Option<SessionId>,
     pub stage: Stage,
+}
+
+/// How many bytes stand behind a line: CR LF.
+const LINE_END: usize = 2;
+
+/// The most bytes that are read of a handshake's line, with its end.
+const HANDSHAKE_BYTES: usize = HANDSHAKE_LINE + LINE_END;
+
+/// Cuts what a route sends, from the beginning of its handshake or behind it.
+fn cutter_of(alloc: Global, is_proving: bool) -> Cutter {
+    if is_proving {
+        Cutter::new(alloc, HANDSHAKE_LINE, 0)
+    } else {
+        Cutter::new(alloc, ROUTE_LINE, MAX_SNAPSHOT as u64)
+    }
 }
 
 /// What a refusal of a route's frame means, of its hub or its sessions, or want of memory.
@@ -128,17 +149,91 @@ fn heard_of(done: Result<(), Failure<HubFault>>, bytes: usize, is_of_life: bool)
 }
 
 impl RouteLink {
-    /// A route of which nothing was read.
-    pub fn new(alloc: Global, session: SessionId, stage: Stage) -> RouteLink {
+    /// A route of which nothing was read, which begins with this handshake where there is one.
+    pub fn new(
+        alloc: Global,
+        session: Option<SessionId>,
+        stage: Stage,
+        proof: Option<Box<Handshake>>,
+    ) -> RouteLink {
         RouteLink {
             alloc,
-            cutter: Cutter::new(alloc, ROUTE_LINE, MAX_SNAPSHOT as u64),
+            cutter: cutter_of(alloc, proof.is_some()),
             line: None,
             unjoined: None,
             ahead: None,
+            proof,
             session,
             stage,
         }
+    }
+
+    /// Whether its handshake is not over.
+    pub fn is_proving(&self) -> bool {
+        self.proof.is_some()
+    }
+
+    /// Whether another server has dialed, or who would be one, and is to prove still which one it is.
+    pub fn is_of_stranger(&self) -> bool {
+        match &self.proof {
+            None => false,
+            Some(handshake) => handshake.is_of_stranger(),
+        }
+    }
+
+    /// The most bytes that are read at once where so many might be: of a handshake no more than its line can have.
+    fn most_of(&self, most: usize) -> usize {
+        if self.is_proving() {
+            most.min(HANDSHAKE_BYTES.saturating_sub(self.cutter.held()))
+        } else {
+            most
+        }
+    }
+
+    /// What the handshake's next line comes to. Nothing may stand behind it, since the other end has to hear the answer first.
+    fn heard(&self, secret: &Secret, life: &Life) -> Proving {
+        let Some(handshake) = &self.proof else {
+            return Proving::Waits;
+        };
+        match self.cutter.peek() {
+            Ok(None) => Proving::Waits,
+            Ok(Some(Piece::Line(line)))
+                if self.cutter.held() == line.len().saturating_add(LINE_END) => {
+                handshake.hear(secret, life, line)
+            }
+            _ => Proving::Refuses(RefusalCause::BadGreeting),
+        }
+    }
+
+    /// Goes on with its handshake by the next line, where it is whole: what that comes to.
+    pub fn hear(&mut self, secret: &Secret, life: &Life) -> Proving {
+        let proving = self.heard(secret, life);
+        match &proving {
+            Proving::Answers { next, .. } => self.await_proof(*next),
+            Proving::Reached(_) | Proving::Admits(_) => self.end_proof(),
+            Proving::Waits | Proving::Refuses(_) => {}
+        }
+        proving
+    }
+
+    /// The dialer is to prove itself next.
+    fn await_proof(&mut self, next: Acceptor) {
+        if let Some(handshake) = &mut self.proof {
+            **handshake = Handshake::Acceptor(next);
+        }
+        put(&mut self.cutter, cutter_of(self.alloc, true));
+    }
+
+    /// The handshake is over.
+    fn end_proof(&mut self) {
+        put(&mut self.proof, None);
+        put(&mut self.cutter, cutter_of(self.alloc, false));
+    }
+
+    /// The server at this place, which dialed, has proved itself: this is its session.
+    pub fn admit(&mut self, place: usize, session: SessionId) {
+        self.session = Some(session);
+        self.stage = Stage::Accepted(Some(place));
     }
 
     /// Whether its session is kept.
@@ -152,6 +247,7 @@ impl RouteLink {
         source: &mut S,
         most: usize,
     ) -> Result<usize, FillFault> {
+        let most = self.most_of(most);
         self.cutter.read_from(source, most)
     }
 
@@ -159,7 +255,7 @@ impl RouteLink {
     pub fn rest(&mut self) {
         let has_frame = self.line.is_some() || self.unjoined.is_some() || self.ahead.is_some();
         if !has_frame && self.cutter.held() == 0 {
-            let cutter = Cutter::new(self.alloc, ROUTE_LINE, MAX_SNAPSHOT as u64);
+            let cutter = cutter_of(self.alloc, self.is_proving());
             put(&mut self.cutter, cutter);
         }
     }
@@ -298,10 +394,10 @@ impl RouteLink {
 
     /// The server that was dialed has told who it is.
     fn greet_back<C: ServerCalls, R: Wait>(&mut self, rt: &R, node: C, info: RouteInfo) -> Stepped {
-        let Stage::Dialed(peer) = self.stage else {
+        let (Stage::Dialed(peer), Some(session)) = (self.stage, self.session) else {
             return Stepped::Ran(RunOutcome::of(Ran::Refused));
         };
-        match answer_to(rt, node, self.session, &info) {
+        match answer_to(rt, node, session, &info) {
             Ok(answer) => self.keep(peer, info.inc(), Some(answer)),
             Err(fault) => Stepped::Ran(RunOutcome::of(end_of(fault))),
         }
@@ -322,12 +418,23 @@ impl RouteLink {
         life: &Life,
         told: RouteConnect,
     ) -> Stepped {
-        let Some(peer) = life.place(told.server_name()) else {
+        let (Some(peer), Some(session)) = (life.place(told.server_name()), self.session) else {
             return Stepped::Ran(RunOutcome::of(Ran::Refused));
         };
-        match connect(rt, node, self.session, &told) {
+        if self.has_proved_other(peer) {
+            return Stepped::Ran(RunOutcome::of(Ran::Posed));
+        }
+        match connect(rt, node, session, &told) {
             Ok(()) => self.keep(peer, told.inc(), None),
             Err(fault) => Stepped::Ran(RunOutcome::of(end_of(fault))),
+        }
+    }
+
+    /// Whether the other end has proved that it is another server than the one at this place.
+    fn has_proved_other(&self, peer: usize) -> bool {
+        match self.stage {
+            Stage::Accepted(Some(place)) => place != peer,
+            _ => false,
         }
     }
 

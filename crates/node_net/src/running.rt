@@ -11,11 +11,13 @@ use crate::shutdown::Shutdown;
 use mio::event::Event as Ready;
 use mio::net::{TcpListener, TcpStream};
 use mio::{Events, Interest, Poll, Token};
+use peer_proof::WORD;
 use server_calls::ServerCalls;
 use server_events::{Caller, Event, EventSink, RefusalCause, SystemCause};
 use std::alloc::{AllocError, Global};
 use std::io;
 use std::net::{Net, SocketAddr};
+use std::random::RandomSource;
 use std::rt::Clock;
 use std::sync::Wait;
 use std::time::{Duration, Instant};
@@ -52,6 +54,8 @@ struct Door {
     side: Side,
     /// Whether there may be more to accept.
     has_more: bool,
+    /// Whether whoever comes is taken, from wherever.
+    is_open: bool,
 }
 
 impl Door {
@@ -60,6 +64,7 @@ impl Door {
             listener: Some(listener),
             side,
             has_more: true,
+            is_open: matches!(side, Side::Client),
         }
     }
 
@@ -77,10 +82,10 @@ impl Door {
         self.has_more = false;
     }
 
-    /// Whether whoever comes from this address is taken: a client from everywhere, another server from
-    /// where one of the cluster's servers is. (Profile.)
+    /// Whether whoever comes from this address is taken: a client from everywhere, and another server too where the mesh has a secret; without one
+    /// from where one of the cluster's servers is. (Profile.)
     fn takes<R: Wait>(&self, rt: &R, from: SocketAddr, addresses: &PeerAddresses) -> bool {
-        self.is_for_clients() || addresses.are_at(rt, from.ip())
+        self.is_open || addresses.are_at(rt, from.ip())
     }
 
     /// The next connection. The servers of the cluster are at these addresses.
@@ -230,16 +235,18 @@ fn refusal_of(fault: AddFault) -> RefusalCause {
     match fault {
         AddFault::Client(_) => RefusalCause::NumbersSpent,
         AddFault::Route(_) => RefusalCause::TooManyRoutes,
+        AddFault::TooManyStrangers => RefusalCause::TooManyStrangers,
+        AddFault::NoWord => RefusalCause::NoWord,
         AddFault::OutOfMemory => RefusalCause::OutOfMemory,
     }
 }
 
 impl<C: ServerCalls> Server<TcpStream, C> {
     /// Serves until all servers of the process stop, or have drained: waits until a socket is ready, takes clients and routes,
-    /// dials each other server of the cluster that is not reached, where its address is known, and makes a turn. A route is taken from the host
-    /// of one of the addresses alone. They may change meanwhile: whoever changes them wakes the loop. What
-    /// happens is told to the log. May wait, and for ever.
-    pub fn run<R: Wait + Net + Clock, L: EventSink>(
+    /// dials each other server of the cluster that is not reached, where its address is known, and makes a turn. Where the mesh has a secret, a
+    /// route is taken from everywhere, and is that of another server once it has proved that; without one it is taken from the host of one of the
+    /// addresses alone. They may change meanwhile: whoever changes them wakes the loop. What happens is told to the log. May wait, and for ever.
+    pub fn run<R: Wait + Net + Clock + RandomSource, L: EventSink>(
         &mut self,
         rt: &R,
         mut sockets: Sockets,
@@ -250,6 +257,7 @@ impl<C: ServerCalls> Server<TcpStream, C> {
         self.connections.events.set_filter(log.filter());
         register(&mut sockets)?;
         let mut rounds = Rounds::new(self.alloc, Instant::now(rt)?, sockets);
+        rounds.routes.is_open = self.has_secret();
         let mesh = Mesh {
             addresses,
             shutdown,
@@ -258,7 +266,7 @@ impl<C: ServerCalls> Server<TcpStream, C> {
     }
 
     /// Serves until all servers of the process stop, over sockets that are registered.
-    fn run_rounds<R: Wait + Net + Clock, L: EventSink>(
+    fn run_rounds<R: Wait + Net + Clock + RandomSource, L: EventSink>(
         &mut self,
         rt: &R,
         rounds: &mut Rounds,
@@ -271,7 +279,7 @@ impl<C: ServerCalls> Server<TcpStream, C> {
     }
 
     /// Goes round, until all servers of the process stop.
-    fn go_round<R: Wait + Net + Clock, L: EventSink>(
+    fn go_round<R: Wait + Net + Clock + RandomSource, L: EventSink>(
         &mut self,
         rt: &R,
         rounds: &mut Rounds,
@@ -294,7 +302,12 @@ impl<C: ServerCalls> Server<TcpStream, C> {
     }
 
     /// Takes clients and routes, dials, and makes a turn for the connections that are ready.
-    fn go_once<R: Wait + Net + Clock>(&mut self, rt: &R, rounds: &mut Rounds, mesh: Mesh<'_>) {
+    fn go_once<R: Wait + Net + Clock + RandomSource>(
+        &mut self,
+        rt: &R,
+        rounds: &mut Rounds,
+        mesh: Mesh<'_>,
+    ) {
         rounds.hear_operators(self.life.names(), mesh.shutdown);
         self.hear_drain(rounds, mesh.shutdown);
         self.accept_all(rt, rounds, mesh);
@@ -351,7 +364,7 @@ impl<C: ServerCalls> Server<TcpStream, C> {
     }
 
     /// Takes all clients and routes that wait.
-    fn accept_all<R: Wait>(&mut self, rt: &R, rounds: &mut Rounds, mesh: Mesh<'_>) {
+    fn accept_all<R: Wait + RandomSource>(&mut self, rt: &R, rounds: &mut Rounds, mesh: Mesh<'_>) {
         let had_failed = rounds.has_failed;
         let clients_fail = self.accept_from(
             rt,
@@ -366,7 +379,7 @@ impl<C: ServerCalls> Server<TcpStream, C> {
     }
 
     /// Takes all that wait here. Whether accepting failed, which is told where it had not failed before.
-    fn accept_from<R: Wait>(
+    fn accept_from<R: Wait + RandomSource>(
         &mut self,
         rt: &R,
         poll: &Poll,
@@ -394,7 +407,7 @@ impl<C: ServerCalls> Server<TcpStream, C> {
     }
 
     /// Takes a stream that came in here. A client is counted.
-    fn take_in<R: Wait>(
+    fn take_in<R: Wait + RandomSource>(
         &mut self,
         rt: &R,
         poll: &Poll,
@@ -423,8 +436,15 @@ impl<C: ServerCalls> Server<TcpStream, C> {
     }
 
     /// Takes a stream. Whether it is not refused.
-    fn take<R: Wait>(&mut self, rt: &R, poll: &Poll, stream: TcpStream, side: Side) -> bool {
+    fn take<R: Wait + RandomSource>(
+        &mut self,
+        rt: &R,
+        poll: &Poll,
+        stream: TcpStream,
+        side: Side,
+    ) -> bool {
         let _ = stream.set_nodelay(true);
+        self.draw_word(rt, side);
         match self.add(rt, stream, side) {
             Ok(key) => {
                 if !self.watch(poll, key) {
@@ -439,6 +459,17 @@ impl<C: ServerCalls> Server<TcpStream, C> {
         }
     }
 
+    /// Draws a random word where the next connection is a route that needs one. Where the system gives none, the route is refused.
+    fn draw_word<R: RandomSource>(&mut self, rt: &R, side: Side) {
+        if matches!(side, Side::Client) || !self.wants_word() {
+            return;
+        }
+        let mut word = [0; WORD];
+        if rt.fill_bytes(&mut word).is_ok() {
+            self.set_word(word);
+        }
+    }
+
     /// Has the system tell when a connection is ready. Whether it does.
     fn watch(&mut self, poll: &Poll, key: usize) -> bool {
         let both = Interest::READABLE | Interest::WRITABLE;
@@ -449,7 +480,12 @@ impl<C: ServerCalls> Server<TcpStream, C> {
     }
 
     /// Dials the servers of the cluster that are not reached and are due.
-    fn dial_all<R: Wait + Net>(&mut self, rt: &R, rounds: &mut Rounds, addresses: &PeerAddresses) {
+    fn dial_all<R: Wait + Net + RandomSource>(
+        &mut self,
+        rt: &R,
+        rounds: &mut Rounds,
+        addresses: &PeerAddresses,
+    ) {
         rounds.hear_changes(addresses.changes());
         for place in 0..addresses.count() {
             let is_reached = self.peers.kept_connection(place).is_some();
@@ -464,7 +500,7 @@ impl<C: ServerCalls> Server<TcpStream, C> {
     }
 
     /// Dials the server at this place, where its address is known.
-    fn dial<R: Wait + Net>(
+    fn dial<R: Wait + Net + RandomSource>(
         &mut self,
         rt: &R,
         poll: &Poll,

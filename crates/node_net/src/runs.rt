@@ -22,6 +22,8 @@ pub(crate) enum Ran {
     Shut,
     /// What came is refused: the connection is closed.
     Refused,
+    /// Another server told another name than it had proved: the connection is closed.
+    Posed,
 }
 
 /// What a run has done beside what it came to.

@@ -9,8 +9,10 @@ use crate::connection::{Cause, Connection, Link};
 use crate::connections::Connections;
 use crate::draining::Drain;
 use crate::faults::AddFault;
+use crate::handshake::Handshake;
 use crate::limits::GREETING;
 use crate::peers::Peers;
+use crate::proving::Guard;
 use crate::route_link::{RouteLink, Stage, cut};
 use crate::taken::Taken;
 use arrayvec::ArrayString;
@@ -21,7 +23,7 @@ use rand_pcg::Pcg64;
 use route_frames::{RouteFrame, RouteInfo, encode};
 use route_session::{SessionFault, SessionId};
 use server_calls::{HubCalls, ServerCalls};
-use server_events::{Event, Events, PeerCause};
+use server_events::{Caller, Event, Events, PeerCause, RefusalCause};
 use shard_core::DirtyConns;
 use std::alloc::{AllocError, Global};
 use std::sync::Wait;
@@ -66,7 +68,7 @@ fn attach<C: ServerCalls, R: Wait>(
 }
 
 /// A session with a server that has dialed, and what that is told first.
-fn accept<C: ServerCalls, R: Wait>(
+pub(crate) fn accept<C: ServerCalls, R: Wait>(
     rt: &R,
     node: C,
 ) -> Result<(SessionId, RouteInfo), Failure<SessionFault>> {
@@ -85,7 +87,7 @@ fn dial<C: ServerCalls, R: Wait>(
 }
 
 /// Encodes what a server that has dialed is told first.
-fn encode_info(info: RouteInfo, encoded: &mut Vec<u8>) -> Result<(), AllocError> {
+pub(crate) fn encode_info(info: RouteInfo, encoded: &mut Vec<u8>) -> Result<(), AllocError> {
     encode(&RouteFrame::Info(info), encoded)
 }
 
@@ -134,6 +136,8 @@ pub struct Server<S: Stream, C: ServerCalls> {
     pub(crate) encoded: Vec<u8>,
     /// How far it has come with its drain, where it was asked for one.
     pub(crate) drain: Drain,
+    /// What it knows its peers by, where the mesh has a secret.
+    pub(crate) guard: Guard,
 }
 
 impl<S: Stream, C: ServerCalls> Server<S, C> {
@@ -167,6 +171,7 @@ impl<S: Stream, C: ServerCalls> Server<S, C> {
             taken: Taken::new(alloc),
             encoded: Vec::new(alloc),
             drain: Drain::new(),
+            guard: Guard::new(),
         })
     }
 
@@ -216,6 +221,7 @@ impl<S: Stream, C: ServerCalls> Server<S, C> {
         if let Side::Dialed(peer) = side {
             self.peers.dial(peer, key);
         }
+        self.note_stranger(key);
         if let Some(client) = self.client_at(key) {
             self.clients.add(client, key);
             self.connections.tell(Event::ClientCame { client });
@@ -248,6 +254,7 @@ impl<S: Stream, C: ServerCalls> Server<S, C> {
     fn link<R: Wait>(&mut self, rt: &R, side: Side) -> Result<Link, AddFault> {
         match side {
             Side::Client => self.client(rt),
+            Side::Accepted if self.has_secret() => self.stranger(),
             Side::Accepted => self.accepted(rt),
             Side::Dialed(peer) => self.dialed(rt, peer),
         }
@@ -269,18 +276,23 @@ impl<S: Stream, C: ServerCalls> Server<S, C> {
             cut(rt, self.node, session);
             return Err(AddFault::OutOfMemory);
         }
-        Ok(self.route(session, Stage::Accepted))
+        Ok(self.route(session, Stage::Accepted(None), None))
     }
 
     /// The server at this place, which is dialed.
     fn dialed<R: Wait>(&mut self, rt: &R, peer: usize) -> Result<Link, AddFault> {
+        let proof = if self.has_secret() {
+            Some(self.greeting(peer)?)
+        } else {
+            None
+        };
         let session = dial(rt, self.node, peer)?;
-        Ok(self.route(session, Stage::Dialed(peer)))
+        Ok(self.route(session, Stage::Dialed(peer), proof))
     }
 
     /// A route of which nothing was read.
-    fn route(&self, session: SessionId, stage: Stage) -> Link {
-        Link::Route(RouteLink::new(self.alloc, session, stage))
+    fn route(&self, session: SessionId, stage: Stage, proof: Option<Box<Handshake>>) -> Link {
+        Link::Route(RouteLink::new(self.alloc, Some(session), stage, proof))
     }
 
     /// Takes a connection out: a client's is detached, the session of a route is cut. No other connection
@@ -312,7 +324,10 @@ impl<S: Stream, C: ServerCalls> Server<S, C> {
     {
         match connection.client() {
             Some(client) => self.forget_client(client, connection),
-            None => self.forget_route(key, connection.cause),
+            None => {
+                self.forget_stranger(connection);
+                self.forget_route(key, connection.cause);
+            }
         }
     }
 
@@ -337,8 +352,24 @@ impl<S: Stream, C: ServerCalls> Server<S, C> {
         self.peers.lose(key);
     }
 
+    /// The same of somebody who has not proved which server it is, where it is one. That it went of its own accord is told.
+    fn forget_stranger(&mut self, connection: &Connection<S>)
+        ensures { self.new.connections.table ≡ self.old.connections.table }
+    {
+        if !connection.is_of_stranger() {
+            return;
+        }
+        self.guard.lose_stranger();
+        if connection.cause.is_none() {
+            self.connections.tell(Event::ConnectionRefused {
+                caller: Caller::Server,
+                cause: RefusalCause::Left,
+            });
+        }
+    }
+
     /// The name of the server at this place.
-    fn peer_at(&self, place: usize) -> Option<NodeId> {
+    pub(crate) fn peer_at(&self, place: usize) -> Option<NodeId> {
         self.life.names().get(place).copied()
     }
 

@@ -8,7 +8,7 @@ use crate::server::Server;
 use net_streams::Stream;
 use route_frames::{RouteConnect, RouteFrame, encode};
 use server_calls::{HubCalls, NextJob, ServerCalls, ShardCalls};
-use server_events::Event;
+use server_events::{Event, RefusalCause};
 use std::alloc::AllocError;
 use std::sync::Wait;
 
@@ -139,6 +139,7 @@ impl<S: Stream, C: ServerCalls> Server<S, C> {
         if !self.connections.read(key) {
             return;
         }
+        self.prove(rt, key);
         self.apply(rt, key);
         if self.connections.has_ended(key) {
             self.end(rt, key);
@@ -203,6 +204,7 @@ impl<S: Stream, C: ServerCalls> Server<S, C> {
             Ran::Goes | Ran::Busy | Ran::Short => self.connections.postpone(key),
             Ran::Waits | Ran::Shut => {}
             Ran::Refused => self.connections.give_up_for(key, Cause::Refused),
+            Ran::Posed => self.refuse(key, RefusalCause::OtherName),
         }
         false
     }

@@ -15,6 +15,7 @@ kind_of (event.ClientCame client) = kind.ClientCame
 kind_of (event.ClientGone client) = kind.ClientGone
 kind_of (event.ClientClosed client cause waiting) = kind.ClientClosed
 kind_of (event.ConnectionRefused caller cause) = kind.ConnectionRefused
+kind_of (event.PeerRefused peer cause) = kind.ConnectionRefused
 kind_of event.OutOfMemory = kind.OutOfMemory
 kind_of (event.DrainAsked seconds) = kind.DrainAsked
 kind_of event.Drained = kind.Drained

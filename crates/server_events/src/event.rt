@@ -79,6 +79,22 @@ pub enum RefusalCause {
     Stranger,
     /// It did not tell in time which server it is.
     Silent,
+    /// As many as there are places for are to prove still which servers they are.
+    TooManyStrangers,
+    /// It went before it had proved which server it is.
+    Left,
+    /// It sent something else than the line by which a server begins, or proves which one it is.
+    BadGreeting,
+    /// It asked for another server.
+    OtherServer,
+    /// It named itself as none of the other servers.
+    UnknownServer,
+    /// It did not prove that it has the mesh's secret.
+    WrongProof,
+    /// It told another name than it had proved.
+    OtherName,
+    /// No random word was to be had for it.
+    NoWord,
     /// There was no memory for it.
     OutOfMemory,
 }
@@ -128,6 +144,11 @@ pub enum Event {
     /// A connection was not taken.
     ConnectionRefused {
         caller: Caller,
+        cause: RefusalCause,
+    },
+    /// The connection to another server, which was dialed, was not taken.
+    PeerRefused {
+        peer: NodeId,
         cause: RefusalCause,
     },
     /// There was no memory for something, which is tried again.

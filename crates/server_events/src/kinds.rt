@@ -108,7 +108,9 @@ impl Event {
             Event::ClientCame { .. } => EventKind::ClientCame,
             Event::ClientGone { .. } => EventKind::ClientGone,
             Event::ClientClosed { .. } => EventKind::ClientClosed,
-            Event::ConnectionRefused { .. } => EventKind::ConnectionRefused,
+            Event::ConnectionRefused { .. } | Event::PeerRefused { .. } => {
+                EventKind::ConnectionRefused
+            }
             Event::OutOfMemory => EventKind::OutOfMemory,
             Event::DrainAsked { .. } => EventKind::DrainAsked,
             Event::Drained => EventKind::Drained,

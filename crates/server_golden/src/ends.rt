@@ -5,6 +5,7 @@
 use event_log::EventText;
 use golden::{Call, Words, bytes_of, call_of, number, shown, text, yes_or_no};
 use node_net::{HostText, MemStream, Server, Side};
+use peer_proof::{Secret, WORD};
 use server_calls::ServerCalls;
 use server_events::Event;
 use std::alloc::{AllocError, Global};
@@ -34,6 +35,17 @@ fn side_of(word: &str) -> Side {
         "accepted" => Side::Accepted,
         _ => Side::Dialed(number(word) as usize),
     }
+}
+
+/// A word of 32 bytes that count up from this one.
+fn word_from(first: u64) -> [u8; WORD] {
+    let mut word = [0; WORD];
+    let mut next = first as u8;
+    for byte in word.iter_mut() {
+        *byte = next;
+        next = next.wrapping_add(1);
+    }
+    word
 }
 
 /// Sends these bytes so often.
@@ -145,6 +157,29 @@ impl<C: ServerCalls> End<C> {
         self.known.push(Known { key, passed: 0 }).ok()
     }
 
+    /// From now on it knows other servers by this secret.
+    fn guard(&mut self, secret: &[u8]) -> Option<()> {
+        self.server.set_secret(Secret::read(secret).ok()?);
+        Some(())
+    }
+
+    /// Somebody dials, where the next word is that of the bytes from this one. Whether a connection was taken.
+    fn admits<R: Wait>(&mut self, rt: &R, first: u64) -> bool {
+        self.server.set_word(word_from(first));
+        let mut ready = MemStream::new(self.alloc);
+        self.add(rt, &mut ready, Side::Accepted).is_some()
+    }
+
+    /// So many dial.
+    fn add_strangers<R: Wait>(&mut self, rt: &R, count: u64) -> Option<()> {
+        for stranger in 0..count {
+            if !self.admits(rt, stranger) {
+                return None;
+            }
+        }
+        Some(())
+    }
+
     /// A turn in which no connection is ready, where something is to be done.
     fn turn_on<R: Wait>(&mut self, rt: &R) {
         if self.server.goes_on() {
@@ -236,6 +271,9 @@ impl<C: ServerCalls> End<C> {
             "turn_on" => self.turn_on(rt),
             "time" => self.server.set_time(words.number(0)),
             "drain" => self.server.drain(words.number(0)),
+            "secret" => self.guard(bytes)?,
+            "word" => self.server.set_word(word_from(words.number(0))),
+            "add_strangers" => self.add_strangers(rt, words.number(0))?,
             "send" => self.send(rt, key, number as usize, bytes)?,
             "grant_until" => self.grant_until(rt, key, number, bytes)?,
             _ => {
@@ -331,6 +369,7 @@ impl<C: ServerCalls> End<C> {
             "is_there" => yes_or_no(alloc, self.server.stream(key).is_some()),
             "shard" => number_told(alloc, "shard", self.server.shard(key), "none"),
             "told" => self.told(),
+            "admits" => yes_or_no(alloc, self.admits(rt, first)),
             "gains" => self.gains(rt, line),
             "remove" => self.remove(rt, first, second.max(first), words.number(2)),
             "ends" => self.ends(first, first, bytes),
@@ -472,6 +511,7 @@ pub fn is_question(line: &Call<'_>) -> bool {
                 | "is_there"
                 | "shard"
                 | "told"
+                | "admits"
                 | "goes_on"
                 | "has_drained"
                 | "next_turn"

@@ -15,6 +15,7 @@ use std::marker::Brand;
 use std::net::{Ipv4Addr, Net, SocketAddr};
 use std::os::fd::OwnedFd;
 use std::process::Abort;
+use std::random::RandomSource;
 use std::rt::Clock;
 use std::sync::Wait;
 use std::sync::atomic::{AtomicU64, Ordering};
@@ -138,7 +139,7 @@ fn has_prompt_streams<C: ServerCalls>(connections: &Connections<TcpStream, C>) -
 }
 
 /// Runs the loop until its servers stop. Whether its streams are as they are to be then.
-fn run_on<C: ServerCalls, R: Abort + Wait + Net + Clock>(
+fn run_on<C: ServerCalls, R: Abort + Wait + Net + Clock + RandomSource>(
     rt: &R,
     alloc: Global,
     node: C,
@@ -156,7 +157,7 @@ fn run_on<C: ServerCalls, R: Abort + Wait + Net + Clock>(
 }
 
 /// The same of a server of these parts.
-fn run_named<N: NodeName, R: Abort + Wait + Net + Clock>(
+fn run_named<N: NodeName, R: Abort + Wait + Net + Clock + RandomSource>(
     rt: &R,
     alloc: Global,
     parts: Parts,
@@ -172,7 +173,7 @@ fn run_named<N: NodeName, R: Abort + Wait + Net + Clock>(
 }
 
 /// The same of a server that has just started.
-fn run<R: Abort + Wait + Net + Clock>(
+fn run<R: Abort + Wait + Net + Clock + RandomSource>(
     rt: &R,
     alloc: Global,
     sockets: Sockets,

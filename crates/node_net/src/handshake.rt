@@ -1,0 +1,92 @@
+//! What a route begins with where the mesh has a secret: both ends prove that they have it.
+
+use peer_proof::{Acceptor, Answer, Dialer, Heard, Hello, Mac, ProofFault, Secret};
+use server_events::RefusalCause;
+use std::alloc::AllocError;
+use subj::ServerIdentity as Life;
+
+/// This end of a handshake, which waits for the other's next line.
+#[derive(Clone, Copy)]
+pub(crate) enum Handshake {
+    /// This server has dialed.
+    Dialer(Dialer),
+    /// Somebody else has.
+    Acceptor(Acceptor),
+}
+
+/// What the other end's line comes to.
+#[derive(Clone, Copy)]
+pub(crate) enum Proving {
+    /// It is not whole yet.
+    Waits,
+    /// The dialer is told this, and is to prove itself still.
+    Answers { next: Acceptor, answer: Answer },
+    /// The server that was dialed has proved itself, and is told this.
+    Reached(Mac),
+    /// The dialer has proved that it is the server at this place.
+    Admits(usize),
+    /// It is refused for this cause.
+    Refuses(RefusalCause),
+}
+
+/// What this end of a handshake says.
+#[derive(Clone, Copy)]
+pub(crate) enum Said {
+    Hello(Hello),
+    Answer(Answer),
+    Proof(Mac),
+}
+
+impl Said {
+    /// Puts its line behind what stands there.
+    pub fn encode(&self, encoded: &mut Vec<u8>) -> Result<(), AllocError> {
+        match self {
+            Said::Hello(hello) => hello.write(encoded),
+            Said::Answer(answer) => answer.write(encoded),
+            Said::Proof(mac) => mac.write(encoded),
+        }
+    }
+}
+
+/// What is told of a line that is refused for this.
+fn cause_of(fault: ProofFault) -> RefusalCause {
+    match fault {
+        ProofFault::NoHello | ProofFault::NoProof => RefusalCause::BadGreeting,
+        ProofFault::NotForMe => RefusalCause::OtherServer,
+        ProofFault::NotInMesh => RefusalCause::UnknownServer,
+        ProofFault::WrongProof => RefusalCause::WrongProof,
+    }
+}
+
+/// What the acceptor makes of the dialer's next line.
+fn heard_by(acceptor: &Acceptor, secret: &Secret, life: &Life, line: &[u8]) -> Proving {
+    match acceptor.hear(secret, life, line) {
+        Ok(Heard::Hello { next, answer }) => Proving::Answers { next, answer },
+        Ok(Heard::Proved(name)) => match life.place(name) {
+            Some(place) => Proving::Admits(place),
+            None => Proving::Refuses(RefusalCause::UnknownServer),
+        },
+        Err(fault) => Proving::Refuses(cause_of(fault)),
+    }
+}
+
+impl Handshake {
+    /// Whether somebody else has dialed.
+    pub fn is_of_stranger(&self) -> bool {
+        match self {
+            Handshake::Dialer(_) => false,
+            Handshake::Acceptor(_) => true,
+        }
+    }
+
+    /// What this server makes of the other end's next line.
+    pub fn hear(&self, secret: &Secret, life: &Life, line: &[u8]) -> Proving {
+        match self {
+            Handshake::Acceptor(acceptor) => heard_by(acceptor, secret, life, line),
+            Handshake::Dialer(dialer) => match dialer.hear(secret, line) {
+                Ok(mac) => Proving::Reached(mac),
+                Err(fault) => Proving::Refuses(cause_of(fault)),
+            },
+        }
+    }
+}

@@ -1,0 +1,192 @@
+//! How a server comes to know which server is at the other end of a route, where the mesh has a secret: by that alone.
+
+use crate::connection::{Cause, Link};
+use crate::faults::AddFault;
+use crate::handshake::{Handshake, Proving, Said};
+use crate::limits::STRANGERS;
+use crate::route_link::{RouteLink, Stage};
+use crate::server::{Server, accept, encode_info};
+use net_streams::Stream;
+use peer_proof::{Acceptor, Dialer, FreshWord, Secret, WORD};
+use route_session::SessionFault;
+use server_calls::ServerCalls;
+use server_events::{Caller, Event, RefusalCause};
+use std::alloc::Global;
+use std::sync::Wait;
+use subj::{Failure, NodeId};
+
+/// What a server knows its peers by, where the mesh has a secret.
+#[derive(Drop)]
+pub(crate) struct Guard {
+    secret: Option<Secret>,
+    /// The word for the next connection, which nobody was told.
+    word: Option<FreshWord>,
+    /// How many connections others have dialed whose other ends are to prove still which servers they are.
+    strangers: usize,
+}
+
+impl Guard {
+    /// The mesh has no secret.
+    pub fn new() -> Guard {
+        Guard {
+            secret: None,
+            word: None,
+            strangers: 0,
+        }
+    }
+
+    /// One stranger fewer.
+    pub fn lose_stranger(&mut self) {
+        self.strangers = self.strangers.saturating_sub(1);
+    }
+
+    /// The word for a connection. No other one gets it.
+    fn take_word(&mut self) -> Result<FreshWord, AddFault> {
+        match self.word.take() {
+            Some(word) => Ok(word),
+            None => Err(AddFault::NoWord),
+        }
+    }
+
+    /// This end of the handshake with somebody who has dialed, where there is a place for one.
+    fn knocked(&mut self) -> Result<Handshake, AddFault> {
+        if self.strangers >= STRANGERS {
+            return Err(AddFault::TooManyStrangers);
+        }
+        let word = self.take_word()?;
+        Ok(Handshake::Acceptor(Acceptor::AwaitsHello(word)))
+    }
+}
+
+/// A handshake in memory of its own, so that no connection without one takes room for it.
+fn boxed(alloc: Global, handshake: Handshake) -> Result<Box<Handshake>, AddFault> {
+    match Box::new(alloc, handshake) {
+        Ok(handshake) => Ok(handshake),
+        Err(_) => Err(AddFault::OutOfMemory),
+    }
+}
+
+/// Why somebody is not taken who has proved which server it is.
+fn refusal_of(fault: Failure<SessionFault>) -> RefusalCause {
+    match fault {
+        Failure::Refused(_) => RefusalCause::TooManyRoutes,
+        Failure::OutOfMemory => RefusalCause::OutOfMemory,
+    }
+}
+
+impl<S: Stream, C: ServerCalls> Server<S, C> {
+    /// From now on, whoever proves to have this secret is a server of the mesh, and nobody else is. Each route needs a word that was drawn at random
+    /// ([`Server::set_word`]).
+    pub fn set_secret(&mut self, secret: Secret) {
+        self.guard.secret = Some(secret);
+    }
+
+    /// A word for the next route, drawn at random.
+    pub fn set_word(&mut self, word: [u8; WORD]) {
+        self.guard.word = Some(FreshWord(word));
+    }
+
+    /// Whether the mesh has a secret.
+    pub fn has_secret(&self) -> bool {
+        self.guard.secret.is_some()
+    }
+
+    /// Whether a word is to be drawn before the next route.
+    pub fn wants_word(&self) -> bool {
+        self.has_secret() && self.guard.word.is_none()
+    }
+
+    /// A route of which nothing was read, to somebody who has dialed and is to prove which server it is.
+    pub(crate) fn stranger(&mut self) -> Result<Link, AddFault> {
+        let proof = boxed(self.alloc, self.guard.knocked()?)?;
+        let link = RouteLink::new(self.alloc, None, Stage::Accepted(None), Some(proof));
+        Ok(Link::Route(link))
+    }
+
+    /// This end of the handshake with the server at this place, which is dialed and is told what is encoded.
+    pub(crate) fn greeting(&mut self, peer: usize) -> Result<Box<Handshake>, AddFault> {
+        let Some(name) = self.peer_at(peer) else {
+            return Err(AddFault::NoWord);
+        };
+        let dialer = Dialer {
+            me: self.life.name(),
+            peer: name,
+            word: self.guard.take_word()?,
+        };
+        Said::Hello(dialer.hello()).encode(&mut self.encoded)?;
+        boxed(self.alloc, Handshake::Dialer(dialer))
+    }
+
+    /// A connection was taken: a stranger's is counted.
+    pub(crate) fn note_stranger(&mut self, key: usize) {
+        if self.is_of_stranger(key) {
+            self.guard.strangers = self.guard.strangers.saturating_add(1);
+        }
+    }
+
+    /// Whether the connection is of somebody who is to prove still which server it is.
+    fn is_of_stranger(&self, key: usize) -> bool {
+        match self.connections.table.get(key) {
+            None => false,
+            Some(connection) => connection.is_of_stranger(),
+        }
+    }
+
+    /// Goes on with the handshake of a connection, where it is a route in one.
+    pub(crate) fn prove<R: Wait>(&mut self, rt: &R, key: usize) {
+        let Some(secret) = &self.guard.secret else {
+            return;
+        };
+        match self.connections.hear(key, secret, &self.life) {
+            Proving::Waits => {}
+            Proving::Answers { answer, .. } => self.say(key, Said::Answer(answer)),
+            Proving::Reached(mac) => self.say(key, Said::Proof(mac)),
+            Proving::Admits(place) => self.admit(rt, key, place),
+            Proving::Refuses(cause) => self.refuse(key, cause),
+        }
+    }
+
+    /// Tells the other end of a route a line of the handshake.
+    fn say(&mut self, key: usize, said: Said) {
+        self.encoded.clear();
+        let is_whole = said.encode(&mut self.encoded).is_ok();
+        self.connections.send_encoded(key, &self.encoded, is_whole);
+    }
+
+    /// The server at this place has dialed and has proved itself: a session with it stands from now on, and it is told who this server is.
+    fn admit<R: Wait>(&mut self, rt: &R, key: usize, place: usize) {
+        self.guard.lose_stranger();
+        match accept(rt, self.node) {
+            Ok((session, info)) => {
+                self.connections.admit(key, place, session);
+                self.encoded.clear();
+                let is_whole = encode_info(info, &mut self.encoded).is_ok();
+                self.connections.send_encoded(key, &self.encoded, is_whole);
+            }
+            Err(fault) => self.refuse(key, refusal_of(fault)),
+        }
+    }
+
+    /// The route of a connection is refused for this cause, which is told.
+    pub(crate) fn refuse(&mut self, key: usize, cause: RefusalCause) {
+        let event = self.refusal_at(key, cause);
+        self.connections.tell(event);
+        self.connections.give_up_for(key, Cause::Refused);
+    }
+
+    /// What is told of a route that is refused for this cause.
+    fn refusal_at(&self, key: usize, cause: RefusalCause) -> Event {
+        match self.dialed_at(key) {
+            Some(peer) => Event::PeerRefused { peer, cause },
+            None => Event::ConnectionRefused {
+                caller: Caller::Server,
+                cause,
+            },
+        }
+    }
+
+    /// The name of the server that a connection dials.
+    fn dialed_at(&self, key: usize) -> Option<NodeId> {
+        self.peer_at(self.peers.dialed_place(key)?)
+    }
+}
