@@ -41,6 +41,11 @@ class Delivery:
     source: tuple | None
 
 
+def message_of(members):
+    """What a step with these members publishes."""
+    return Message(members["subject"], members.get("reply"), members.get("headers"), members["payload"])
+
+
 class Cluster:
     """Servers by these names, which are all down at first."""
 
@@ -124,7 +129,7 @@ class Cluster:
 
     def deliver(self, place, members):
         """A publish, and the work that is owed of it: by the places of the servers, and by shards. Tells what came of the publish."""
-        message = Message(members["subject"], members.get("reply"), members["payload"])
+        message = message_of(members)
         is_ready = self.is_settled(message.subject) and self.has_room(message)
         sent, placed = len(self.frames), len(self.placed)
         told = self.event("publish", place, members)
@@ -214,7 +219,7 @@ class Cluster:
 
     def on_publish(self, place, members):
         server = self.server(place)
-        message, echo = Message(members["subject"], members.get("reply"), members["payload"]), members.get("echo", True)
+        message, echo = message_of(members), members.get("echo", True)
         turn, frames = server.publish(members["conn"], message, echo, members["word"])
         self.publications[place, server.inc, server.published] = Publication(self.step, message, members["conn"], echo)
         self.frames += frames

@@ -25,7 +25,7 @@ def there(**members):
 def publications_of(cluster):
     for source, made in cluster.publications.items():
         message = made.message
-        members = there(step=made.step, subject=message.subject, reply=message.reply, payload=message.payload)
+        members = there(step=made.step, subject=message.subject, reply=message.reply, headers=message.headers, payload=message.payload)
         yield {"publication": {"id": name_of(cluster, source), **members}}
 
 

@@ -9,6 +9,9 @@ SUBJECTS = ["foo", "foo", "foo", "bar", "foo.x", "foo.x.y", "grün.x"]
 REPLIES = [None, None, "answers", "answers.1"]
 PAYLOADS = ["", "\r\n", "ein Gruß"]
 
+# Header blocks. No more of one is asked than how it begins.
+BLOCKS = ["NATS/1.0\r\n\r\n", "NATS/1.0\r\nA: b\r\n\r\n", "NATS/1.0 503\r\n\r\n", "NATS/1.0", "NATS/1.0\r\nGruß: é\r\nA:\r\n\r\n"]
+
 # The greatest incarnation that there is.
 LAST_INCARNATION = 9_007_199_254_740_991
 
@@ -67,6 +70,10 @@ class Moves:
 
     def sid(self):
         return str(self.draw.up_to(5))
+
+    def headers(self):
+        """A header block, or most often none."""
+        return self.draw.one_of(BLOCKS) if self.draw.is_one_in(4) else None
 
     # ---- servers
 
@@ -186,21 +193,23 @@ class Moves:
     def publish(self, node):
         payload = self.draw.one_of(PAYLOADS) if self.draw.is_one_in(4) else str(len(self.steps))
         echo = self.draw.one_of([None, None, True, False])
-        self.ask("publish", node, conn=self.conn(node), subject=self.draw.one_of(SUBJECTS), reply=self.draw.one_of(REPLIES), payload=payload,
-                 echo=echo, word=self.draw.below(1_000) if not self.draw.is_one_in(20) else 2 ** 64 - 1)
+        self.ask("publish", node, conn=self.conn(node), subject=self.draw.one_of(SUBJECTS), reply=self.draw.one_of(REPLIES), headers=self.headers(),
+                 payload=payload, echo=echo, word=self.draw.below(1_000) if not self.draw.is_one_in(20) else 2 ** 64 - 1)
 
     def deliver(self, node):
         """It is asked whether the cluster is settled for a subject, and something is delivered on it."""
         subject = self.draw.one_of(SUBJECTS)
         self.ask("settled", node, subject=subject)
         echo = False if self.draw.is_one_in(6) else None
-        self.ask("deliver", node, conn=self.conn(node), subject=subject, payload=str(len(self.steps)), echo=echo, word=self.draw.below(1_000))
+        self.ask("deliver", node, conn=self.conn(node), subject=subject, headers=self.headers(), payload=str(len(self.steps)), echo=echo,
+                 word=self.draw.below(1_000))
 
     def deliver_in_any_order(self, node):
         """The same of a publication whose work the script makes step by step, in an order that is drawn. The cluster is settled for it."""
         subject, sent = self.draw.one_of(SUBJECTS), len(self.cluster.frames)
         self.ask("settled", node, subject=subject)
-        self.ask("publish", node, conn=self.conn(node), subject=subject, payload=str(len(self.steps)), word=self.draw.below(1_000))
+        self.ask("publish", node, conn=self.conn(node), subject=subject, headers=self.headers(), payload=str(len(self.steps)),
+                 word=self.draw.below(1_000))
         self.cluster.deliveries.append(Delivery(None, self.server(node).last_publication()))
         self.work_in_any_order(node, sent)
 

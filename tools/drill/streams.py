@@ -3,11 +3,12 @@
 The commands are drawn as values, and how they are spelt is drawn beside: the model never reads a line.
 """
 import json
+from dataclasses import replace
 
 from .judge import Flaw
-from .moves import PATTERNS, QUEUES, REPLIES, SUBJECTS, Draw
+from .moves import BLOCKS, PATTERNS, QUEUES, REPLIES, SUBJECTS, Draw
 from .shard import Shard
-from .values import OUTBOX_ENTRIES, QUEUE_NAMES, SLOW_CONSUMER, Job, Message, Refused, is_match
+from .values import HEADER_START, OUTBOX_ENTRIES, QUEUE_NAMES, SLOW_CONSUMER, Job, Message, Refused, is_match
 
 OTHER_BYTES = "the bytes are not what the pages say"
 
@@ -17,13 +18,20 @@ COMMANDS = 60
 BAD_NAMES = ["foo.", ".foo", "a..b", ">.a", "."]
 PAYLOADS = ["", "hello", "\r\n", "MSG foo 1 2\r\nhi\r\n", "Grüße", "x" * 5_000, "y" * 70_000]
 
+# What stands in the place of a header block, and is none.
+BAD_BLOCKS = ["", "NATS", "NATS/1.", "nats/1.0\r\n\r\n", "NATS/1.1\r\n\r\n", " NATS/1.0\r\n\r\n", "\r\n", "A: b\r\n\r\n"]
+
 # Lines that close the connection, and what is told of them.
 CLOSING = [
     ("FOO", "Unknown Protocol Operation"), ("", "Unknown Protocol Operation"), (" PING", "Unknown Protocol Operation"),
     ("SUB foo", "Parser Error"), ("SUB foo q 1 2", "Parser Error"), ("PUB foo five", "Parser Error"), ("PUB foo 00000000005", "Parser Error"),
     ("UNSUB", "Parser Error"), ("UNSUB 1 x", "Parser Error"), ("CONNECT", "Parser Error"), ("CONNECT {\"echo\":1}", "Parser Error"),
     ("CONNECT []", "Parser Error"), ("PUB foo 2\r\nhixx", "Parser Error"), ("PUB foo 1048577", "Maximum Payload Violation"),
-    ("PING" + " " * 4_093, "Maximum Control Line Exceeded"),
+    ("PING" + " " * 4_093, "Maximum Control Line Exceeded"), ("HPUB foo", "Parser Error"), ("HPUB foo 12", "Parser Error"),
+    ("HPUB foo r 12 14 1", "Parser Error"), ("HPUB foo 21 20", "Parser Error"), ("HPUB foo x 20", "Parser Error"), ("HPUB foo 12 twenty", "Parser Error"),
+    ("HPUB foo 00000000012 14", "Parser Error"), ("HPUB foo 1048578 1048577", "Parser Error"),
+    ("HPUB foo 12 14\r\nNATS/1.0\r\n\r\nhixx", "Parser Error"), ("HPUB foo.* 4 6\r\nNATShixx", "Parser Error"),
+    ("HPUB foo 12 1048577", "Maximum Payload Violation"),
 ]
 
 
@@ -36,6 +44,8 @@ class Client:
         self.is_verbose, self.has_echo, self.turn, self.is_closed = True, True, 0, False
         # What has to be written behind INFO, answer by answer.
         self.pieces = []
+        # Of each message with headers the place among the answers, the message, and the id of the subscription that it is for.
+        self.headed = []
 
     def put(self, text):
         self.pieces.append(text)
@@ -74,7 +84,10 @@ class Client:
         _, shut = self.shard.begin()
         for index in range(0 if shut else len(names)):
             self.shard.claim(index, set())
-        self.pieces += [message.text_for(sub.sid) for _, sub, _ in self.shard.placed]
+        for _, sub, _ in self.shard.placed:
+            if message.headers is not None:
+                self.headed.append((len(self.pieces), message, sub.sid))
+            self.put(message.text_for(sub.sid))
         self.shard.placed = []
         if shut:
             self.put(SLOW_CONSUMER)
@@ -112,10 +125,13 @@ class Stream:
     def digits(self, number):
         return str(number).zfill(self.draw.one_of([1, 1, 1, 4, 10]))
 
-    def say_publication(self, subject, reply, payload):
-        size = self.digits(len(payload.encode()))
-        self.say("PUB", *[field for field in (subject, reply, size) if field is not None])
-        self.lines.append(payload + "\r\n")
+    def say_publication(self, message):
+        """A PUB, or an HPUB where there are headers: the size of these, and that of all that follows the line."""
+        whole = (message.headers or "") + message.payload
+        sizes = [] if message.headers is None else [self.digits(len(message.headers.encode()))]
+        fields = [message.subject, *([] if message.reply is None else [message.reply]), *sizes, self.digits(len(whole.encode()))]
+        self.say("PUB" if message.headers is None else "HPUB", *fields)
+        self.lines.append(whole + "\r\n")
 
     # ---- commands
 
@@ -144,7 +160,8 @@ class Stream:
 
     def draw_connect(self):
         verbose, echo = self.draw.one_of([None, True, False]), self.draw.one_of([None, None, True, False])
-        chosen = {name: value for name, value in (("verbose", verbose), ("lang", "none"), ("echo", echo)) if value is not None}
+        others = [("lang", "none"), ("headers", self.draw.one_of([None, True, False]))]
+        chosen = {name: value for name, value in (("verbose", verbose), *others, ("echo", echo)) if value is not None}
         self.say("CONNECT", json.dumps(chosen))
         self.client.connect(verbose is not False, echo is not False)
 
@@ -163,19 +180,34 @@ class Stream:
         self.say("UNSUB", sid, *([] if maximum is None else [self.digits(maximum)]))
         self.client.unsubscribe(sid, maximum)
 
+    def draw_block(self):
+        """What stands in the place of a header block: most often nothing, and now and then what is none. A block may end anywhere behind its
+        beginning: what is left of it then belongs to the payload. Tells both."""
+        if not self.draw.is_one_in(3):
+            return None, ""
+        if self.draw.is_one_in(6):
+            return self.draw.one_of(BAD_BLOCKS), ""
+        block = self.draw.one_of(BLOCKS)
+        end = len(block) if not self.draw.is_one_in(4) else len(HEADER_START) + self.draw.below(len(block) - len(HEADER_START) + 1)
+        return block[:end], block[end:]
+
     def draw_pub(self):
         subject, reply = self.draw.one_of(SUBJECTS), self.draw.one_of(REPLIES)
-        payload = self.draw.one_of(PAYLOADS) if self.draw.is_one_in(2) else str(len(self.lines))
+        headers, rest = self.draw_block()
+        payload = rest + (self.draw.one_of(PAYLOADS) if self.draw.is_one_in(2) else str(len(self.lines)))
         is_bad = self.draw.is_one_in(16)
         if is_bad and self.draw.is_one_in(2):
             subject = self.draw.one_of(BAD_NAMES + ["foo.*", ">"])
         elif is_bad:
             reply = self.draw.one_of(BAD_NAMES + ["*"])
-        self.say_publication(subject, reply, payload)
+        message = Message(subject, reply, headers, payload)
+        self.say_publication(message)
         if is_bad:
             self.client.complain("Invalid Subject")
+        elif headers is not None and not headers.startswith(HEADER_START):
+            self.client.complain("Bad Headers")
         else:
-            self.client.publish(Message(subject, reply, payload))
+            self.client.publish(message)
 
     def draw_other(self):
         which = self.draw.below(20)
@@ -248,6 +280,20 @@ def reply_lost(stream, info):
     return None
 
 
+def headers_delivered(stream, info):
+    """The first message with headers has them before its payload."""
+    if not stream.client.headed:
+        return None
+    at, message, sid = stream.client.headed[0]
+    return with_piece(stream, info, at, replace(message, payload=message.headers + message.payload).text_for(sid))
+
+
+def bad_headers_taken(stream, info):
+    """What is no header block is confirmed."""
+    at = next((at for at, piece in enumerate(stream.client.pieces) if piece == "-ERR 'Bad Headers'\r\n"), None)
+    return None if at is None else with_piece(stream, info, at, "+OK\r\n")
+
+
 def confirmed_twice(stream, info):
     at = next((at for at, piece in enumerate(stream.client.pieces) if piece.startswith("+OK")), None)
     return None if at is None else with_piece(stream, info, at, "+OK\r\n", "+OK\r\n")
@@ -259,5 +305,7 @@ PLANTS = [
     ("a message does not come", message_lost),
     ("a message has the id of another subscription", other_id),
     ("the reply of a message is left out", reply_lost),
+    ("a message has its headers before its payload", headers_delivered),
+    ("what is no header block is confirmed", bad_headers_taken),
     ("a command is confirmed twice", confirmed_twice),
 ]

@@ -22,6 +22,9 @@ SUBSCRIPTION_COST = 24
 # How many sessions stand at a server.
 SESSIONS = 64
 
+# What a header block begins with.
+HEADER_START = "NATS/1.0"
+
 SLOW_CONSUMER = "-ERR 'Slow Consumer'\r\n"
 
 
@@ -53,10 +56,12 @@ def is_match(pattern, subject):
 class Message:
     subject: str
     reply: str | None
+    # A header block, which begins with HEADER_START; none where the message has no headers.
+    headers: str | None
     payload: str
 
     def text_for(self, sid):
-        """The MSG for a subscription of this id."""
+        """The MSG for a subscription of this id. It has the payload alone."""
         reply = f"{self.reply} " if self.reply is not None else ""
         return f"MSG {self.subject} {sid} {reply}{len(self.payload.encode())}\r\n{self.payload}\r\n"
 

@@ -11,7 +11,7 @@ use Rattle.subj.specs.Names.{pattern_fault, subject_fault, queue_name_fault, sid
 use Rattle.world_law.specs.State.{Life, LifeId, Placement, Publication}
 use Rattle.script_form.specs.Members.{◌>>=◌, whole}
 use Rattle.audit_log.specs.declared.texts.Text.TheVariants as key
-use Rattle.audit_log.specs.Members.{bytes_in, incarnation_in, member, named_in, optional, optional_named_in, server_in}
+use Rattle.audit_log.specs.Members.{bytes_in, incarnation_in, member, named_in, optional, optional_bytes_in, optional_named_in, server_in}
 
 -- ---- names
 
@@ -35,8 +35,9 @@ unfoldable pub message_in : Data → Option Content
 message_in json = do
   subject ← named_in subject_fault key.Subject json
   reply ← optional_named_in subject_fault key.Reply json
+  headers ← optional_bytes_in key.Headers json
   payload ← bytes_in key.Payload json
-  content_of subject reply payload
+  content_of subject reply headers payload
 
 -- who made it, and whether they may get it back, is not told: an audit does not ask
 unfoldable pub publication_in : Data → Option Publication

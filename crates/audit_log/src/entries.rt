@@ -5,14 +5,14 @@ ghost use Rattle.serde_json.specs.View.{view};
 ghost use Rattle.script_form.specs.Members.{MeansBy, MemberMeans, Says, SaysBy};
 ghost use Rattle.cluster_world.specs.InCode.{life_id_of, life_of, publication_of};
 ghost use Rattle.placement_audit.specs.InCode.{placement_of};
-ghost use Rattle.audit_log.specs.Members.{bytes_in};
+ghost use Rattle.audit_log.specs.Members.{bytes_in, optional_bytes_in};
 ghost use Rattle.audit_log.specs.declared.texts.Text.TheVariants as key;
 ghost use Rattle.audit_log.specs.Entries.{key_in, life_id_in, life_in, message_in, mode_of as is_mode_of, placement_in, publication_id_in, publication_in};
 
 use crate::faults::Misfit;
 use crate::members::{
-    incarnation, number, optional_number, part, pattern, queue, read_bytes, reply, server, sid,
-    subject,
+    incarnation, number, optional_bytes, optional_number, part, pattern, queue, read_bytes, reply,
+    server, sid, subject,
 };
 use crate::texts::Text;
 use bytes::Bytes;
@@ -50,6 +50,16 @@ fn life_id(object: &Value, node: usize) -> Result<LifeId, Misfit>
     Ok(LifeId { node, inc, sub })
 }
 
+/// A header block, where the member is there, to be shared.
+fn headers(alloc: Global, object: &Value) -> Result<Option<Bytes>, Failure<Misfit>>
+    ensures { MemberMeans (optional_bytes_in key.Headers (view object.now)) result }
+{
+    match optional_bytes(alloc, object, Text::Headers)? {
+        None => Ok(None),
+        Some(bytes) => Ok(Some(Bytes::from_vec(bytes)?)),
+    }
+}
+
 /// A payload, to be shared.
 fn payload(alloc: Global, object: &Value) -> Result<Bytes, Failure<Misfit>>
     ensures { MemberMeans (bytes_in key.Payload (view object.now)) result }
@@ -66,8 +76,9 @@ fn message(alloc: Global, object: &Value) -> Result<Message, Failure<Misfit>>
 {
     let subject = subject(alloc, object)?;
     let reply = reply(alloc, object)?;
+    let headers = headers(alloc, object)?;
     let payload = payload(alloc, object)?;
-    match Message::new(alloc, subject, reply, payload)? {
+    match Message::new(alloc, subject, reply, headers, payload)? {
         Some(message) => Ok(message),
         None => Err(Failure::Refused(Misfit)),
     }

@@ -110,7 +110,7 @@ fn optional_hex(
 }
 
 /// Bytes, where the member is there. The hex digits are looked at only where there is no text.
-fn optional_bytes(
+pub(crate) fn optional_bytes(
     alloc: Global,
     object: &Value,
     text: Text,

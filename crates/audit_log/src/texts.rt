@@ -8,6 +8,7 @@ ghost use Rattle.audit_log.specs.Texts.{name_of, hex_name_of};
 pub enum Text {
     Subject,
     Reply,
+    Headers,
     Payload,
     Pattern,
     Queue,
@@ -23,6 +24,7 @@ impl Text {
         match self {
             Text::Subject => "subject",
             Text::Reply => "reply",
+            Text::Headers => "headers",
             Text::Payload => "payload",
             Text::Pattern => "pattern",
             Text::Queue => "queue",
@@ -38,6 +40,7 @@ impl Text {
         match self {
             Text::Subject => "subject_hex",
             Text::Reply => "reply_hex",
+            Text::Headers => "headers_hex",
             Text::Payload => "payload_hex",
             Text::Pattern => "pattern_hex",
             Text::Queue => "queue_hex",

@@ -1,5 +1,5 @@
 -- What a connection does to what stands to be asked.
-use Rattle.std.proofs.Common.{◌≡◌, ℕ, Bool, true, false, ◌&&◌, List, [], ◌∷◌, ◌++◌, length, Option, Result, Ok, Err, ◌<◌, ◌⊎◌, ⊎_elim, refl, ap, sym, ◌∙◌, subst, append-nil}
+use Rattle.std.proofs.Common.{◌≡◌, ℕ, Bool, true, false, ◌&&◌, List, [], ◌∷◌, ◌++◌, Option, Result, Ok, Err, ◌<◌, ◌⊎◌, ⊎_elim, refl, ap, sym, ◌∙◌, subst, append-nil}
 use Rattle.std.specs.Prelude.{if◌then◌else◌, OnErr, slice_get}
 use Rattle.wire_cut.specs.Cut.{first_cr_lf}
 use Rattle.wire_cut.specs.Reading.{End, waits, closed, reading_within, with_items}
@@ -14,7 +14,7 @@ use Rattle.client_conn.specs.declared.conn.ItemReader.{ItemReader}
 use Rattle.client_conn.specs.declared.conn.Looked.{Looked}
 use Rattle.client_conn.specs.declared.conn.Looked.TheVariants.{Announced, Told}
 use Rattle.client_conn.specs.Items.{OpenState, first_options, options_behind, item_asks, items_asks, asked_by}
-use Rattle.client_conn.specs.Asks.{Asking, listens, over, asked_before, asking_of, asks_after_bytes, no_asks}
+use Rattle.client_conn.specs.Asks.{Asking, listens, over, asked_before, asking_of, no_asks}
 use Rattle.client_conn.specs.Feeding.{HasRead, ClosedWhere, AnswersClosed}
 use Rattle.client_conn.specs.Streams.{end_of, reading_at, left_of, asking_at, HasTaken, HasNone, HasFilled, HasLooked}
 use Rattle.client_conn.proofs.Telling.{told_before, fed_standing}

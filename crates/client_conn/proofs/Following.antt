@@ -7,7 +7,7 @@ use Rattle.client_frames.specs.Streams.{client_grammar}
 use Rattle.client_conn.specs.declared.ask.ClientAction.{ClientAction}
 use Rattle.client_conn.specs.declared.ask.Refusal.TheVariants.{Busy, TooManySubscriptions, NumbersSpent, TooManyQueueGroups, Draining, Other}
 use Rattle.client_conn.specs.Asks.{Asking, Answer, Onward, listens, over, asked_before, asking_of, read_onward, asks_after_bytes, asks_after_answer, answered_of, answered_first, asks_after_answers, first_asking}
-use Rattle.client_conn.specs.Laws.{Happening, more_bytes, an_answer, after_all, after, bytes_in, answers_in, EachAnswersAnAsk, FollowsBytesAndAnswers, AsksForStreamCommands}
+use Rattle.client_conn.specs.Laws.{Happening, more_bytes, an_answer, after_all, bytes_in, answers_in, EachAnswersAnAsk, FollowsBytesAndAnswers, AsksForStreamCommands}
 use Rattle.client_conn.proofs.Telling.{fed_reading, fed_behind}
 
 -- ---- bytes in two parts

@@ -1,5 +1,6 @@
 mod Telling
 pub mod Following
+mod Bodies
 mod Looking
 pub mod Closing
 mod Answering

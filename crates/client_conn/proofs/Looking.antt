@@ -1,11 +1,11 @@
 -- What a look at a client's stream finds.
 use Rattle.std.proofs.Common.{◌≡◌, ℕ, suc, ◌+◌, ◌<◌, ◌≤◌, Bool, true, false, List, [], ◌∷◌, length, drop, Option, Some, None, Result, Ok, Err, refl, ap, sym, ◌∙◌, subst, arith, append-nil, length-drop}
 use Rattle.std.specs.Prelude.{if◌then◌else◌}
-use Rattle.subj.specs.Messages.{Content}
+use Rattle.subj.specs.Messages.{Content, Body, are_headers}
 use Rattle.subj.specs.declared.failures.Failure.{Failure}
 use Rattle.subj.specs.declared.failures.Failure.TheVariants.{Refused}
 use Rattle.subj.specs.declared.limits.TheConstants.{MAX_PAYLOAD}
-use Rattle.wire_cut.specs.Cut.{Answer, CutterState, StreamPiece, line, payload, bytes_of, cut_of, after_answer, after_next, after_expect, after_refusal, expect_fault, IsWithinUnread}
+use Rattle.wire_cut.specs.Cut.{Answer, CutterState, StreamPiece, line, bytes_of, cut_of, after_answer, after_next, after_expect, after_refusal, expect_fault, IsWithinUnread}
 use Rattle.wire_cut.specs.declared.faults.CutFault.{CutFault}
 use Rattle.wire_cut.specs.Reading.{End, waits, closed, Reading, reading_of, with_items, last_reading, Told, going_on, ending, Found, nothing, something, the_end, finding, finding_by, finding_before, finding_next, size_fault, reading_by_look, StandsAt}
 use Rattle.wire_cut.proofs.CutLemmas.{cut_of-piece_length}
@@ -18,15 +18,15 @@ use Rattle.client_frames.specs.declared.client_line.ClientLine.{ClientLine}
 use Rattle.client_frames.specs.declared.client_line.ClientLine.TheVariants.{Connect, Pub, PubBad, Sub, Unsub, Ping, Pong}
 use Rattle.client_frames.specs.declared.err_texts.ErrText.{ErrText}
 use Rattle.client_frames.specs.declared.faults.LineFault.{LineFault}
-use Rattle.client_frames.specs.declared.faults.LineFault.TheVariants.{BadSubject}
+use Rattle.client_frames.specs.declared.faults.LineFault.TheVariants.{BadSubject, BadHeader}
 use Rattle.client_frames.specs.ErrTexts.{text_closes, line_fault_text, cut_fault_text}
-use Rattle.client_frames.specs.Streams.{StreamItem, asked, published, refused, unreadable, client_grammar, piece_told, line_told, command_told, refusal_told}
+use Rattle.client_frames.specs.Streams.{StreamItem, asked, published, refused, unreadable, client_grammar, headers_awaited, block_in, payload_in, piece_told, line_told, command_told, refusal_told}
 use Rattle.client_conn.specs.declared.ask.ClientAction.TheVariants.{Publish}
 use Rattle.client_conn.specs.declared.conn.ItemReader.{ItemReader}
 use Rattle.client_conn.specs.declared.conn.Looked.{Looked}
 use Rattle.client_conn.specs.declared.conn.Looked.TheVariants.{Waits, Announced, Told as told_item}
-use Rattle.client_conn.specs.Items.{OpenState, publication_of, with_confirmation, message_of, refusal_asks, asked_by}
-use Rattle.client_conn.specs.Streams.{end_of, reading_at, left_of, IsInStep, IsBehindLine, FoundAlone, TellsFound, Moves, HasMoved, HasLooked, HasTaken, HasNone}
+use Rattle.client_conn.specs.Items.{OpenState, publication_of, with_confirmation, message_of, body_in, refusal_asks, asked_by}
+use Rattle.client_conn.specs.Streams.{end_of, reading_at, left_of, IsInStep, IsBehindLine, message_with, FoundAlone, TellsFound, Moves, HasMoved, HasLooked, HasTaken, HasNone}
 
 -- ---- what a look finds, as what is told
 
@@ -253,23 +253,60 @@ announced s r cutter awaited size behind fits is =
 
 -- ---- payloads
 
-pub published_found : (s t : OpenState) (head : PubHead) (awaited : Awaited) (bytes rest : List ℕ) (message : Content) (new : End Awaited) → awaited ≡ awaits.Payload head → message ≡ message_of head bytes
+-- the item that the bytes tell, whether their header block is good or not
+abbrev item_by : Bool → PubHead → List ℕ → StreamItem
+item_by good head bytes = if good then published head bytes else refused BadHeader
+
+item_found : (good : Bool) (head : PubHead) (awaited : Awaited) (bytes rest : List ℕ) → awaited ≡ awaits.Payload head → are_headers (block_in (headers_awaited awaited) bytes) ≡ good
+    → finding_before client_grammar rest (piece_told awaited bytes) ≡ something (item_by good head bytes ∷ []) awaits.Line rest
+item_found good head awaited bytes rest due is =
+    ap (λ a. finding_before client_grammar rest (piece_told a bytes)) due
+    ∙ ap (λ b. let f : Found Awaited StreamItem = something (item_by b head bytes ∷ []) awaits.Line rest in f)
+    (ap (λ a. are_headers (block_in (headers_awaited a) bytes)) (sym due) ∙ is)
+
+abbrev body_by : Bool → Option ℕ → List ℕ → Option Body
+body_by good headers bytes = if good then Some (record { headers = block_in headers bytes; payload = payload_in headers bytes }) else None
+
+-- there is a body just where the header block is good, and it is what the bytes are
+body_tells : (good : Bool) (headers : Option ℕ) (bytes : List ℕ) (body : Body) → Some body ≡ body_by good headers bytes
+    → (good ≡ true) × (body ≡ record { headers = block_in headers bytes; payload = payload_in headers bytes })
+body_tells true headers bytes body is = (refl, cc)
+body_tells false headers bytes body is = absurd (cc)
+
+no_body_tells : (good : Bool) (headers : Option ℕ) (bytes : List ℕ) → None ≡ body_by good headers bytes → good ≡ false
+no_body_tells true headers bytes is = absurd (cc)
+no_body_tells false headers bytes is = refl
+
+pub published_found : (s t : OpenState) (head : PubHead) (awaited : Awaited) (bytes rest : List ℕ) (body : Body) (message : Content) (new : End Awaited) → awaited ≡ awaits.Payload head
+    → Some body ≡ body_in (headers_awaited awaited) bytes → message ≡ message_with head body
     → t ≡ record s { asks = with_confirmation s.options (Publish (publication_of message s.options) ∷ []) } → new ≡ waits awaits.Line rest → TellsFound told_item s t (finding_before client_grammar rest (piece_told awaited bytes)) new
-published_found s t head awaited bytes rest message new due is stands there =
-    goes_on_with s t (published head bytes) _ rest new (ap (λ a. finding_before client_grammar rest (piece_told a bytes)) due)
-    (stands ∙ ap (λ m. let r : OpenState = record s { asks = with_confirmation s.options (Publish (publication_of m s.options) ∷ []) } in r) is) there
+published_found s t head awaited bytes rest body message new due made is stands there =
+    let tells = body_tells _ (headers_awaited awaited) bytes body made in
+    let whole : message ≡ message_of head bytes =
+    is ∙ ap (message_with head) tells.1
+    ∙ ap (λ a. let m : Content = record { subject = head.subject; reply = head.reply; headers = block_in (headers_awaited a) bytes; payload = payload_in (headers_awaited a) bytes } in m) due in
+    goes_on_with s t (published head bytes) _ rest new (item_found true head awaited bytes rest due tells.0)
+    (stands ∙ ap (λ m. let r : OpenState = record s { asks = with_confirmation s.options (Publish (publication_of m s.options) ∷ []) } in r) whole) there
+
+-- a header block that is none
+pub bad_headers_found : (looks : Looked) (s t : OpenState) (head : PubHead) (awaited : Awaited) (bytes rest : List ℕ) (new : End Awaited) → looks ≡ told_item → awaited ≡ awaits.Payload head → None ≡ body_in (headers_awaited awaited) bytes
+    → t ≡ record s { asks = refusal_asks (line_fault_text BadHeader) } → new ≡ waits awaits.Line rest → TellsFound looks s t (finding_before client_grammar rest (piece_told awaited bytes)) new
+bad_headers_found looks s t head awaited bytes rest new tells due none stands there =
+    subst (λ l. TellsFound l s t (finding_before client_grammar rest (piece_told awaited bytes)) new) (sym tells)
+    (goes_on_with s t (refused BadHeader) _ rest new (item_found false head awaited bytes rest due (no_body_tells _ (headers_awaited awaited) bytes none)) stands there)
 
 -- the payload of a publication that is refused
-pub lost_found : (s t : OpenState) (size : ℕ) (awaited : Awaited) (bytes rest : List ℕ) (text : ErrText) (new : End Awaited) → awaited ≡ awaits.LostPayload size → text ≡ line_fault_text BadSubject
-    → t ≡ record s { asks = refusal_asks text } → new ≡ waits awaits.Line rest → TellsFound told_item s t (finding_before client_grammar rest (piece_told awaited bytes)) new
-lost_found s t size awaited bytes rest text new due told stands there =
-    goes_on_with s t (refused BadSubject) _ rest new (ap (λ a. finding_before client_grammar rest (piece_told a bytes)) due) (refused_asked s t BadSubject text told stands) there
+pub lost_found : (looks : Looked) (s t : OpenState) (size : ℕ) (awaited : Awaited) (bytes rest : List ℕ) (new : End Awaited) → looks ≡ told_item → awaited ≡ awaits.LostPayload size
+    → t ≡ record s { asks = refusal_asks (line_fault_text BadSubject) } → new ≡ waits awaits.Line rest → TellsFound looks s t (finding_before client_grammar rest (piece_told awaited bytes)) new
+lost_found looks s t size awaited bytes rest new tells due stands there =
+    subst (λ l. TellsFound l s t (finding_before client_grammar rest (piece_told awaited bytes)) new) (sym tells)
+    (goes_on_with s t (refused BadSubject) _ rest new (ap (λ a. finding_before client_grammar rest (piece_told a bytes)) due) stands there)
 
 pub is_in_step : (r : ItemReader) → IsBehindLine r → IsInStep r
 is_in_step r behind = record { stands = λ reads. behind.stands }
 
 -- a line is due behind a piece that was used up
-pub line_due : (old new : CutterState) (ended : Bool) → ended ≡ false → new ≡ after_next old
+line_due : (old new : CutterState) (ended : Bool) → ended ≡ false → new ≡ after_next old
     → (let e : End Awaited = if ended then closed else waits awaits.Line new.unread in e) ≡ waits awaits.Line (after_next old).unread
 line_due old new ended reads is =
     ap (λ b. let e : End Awaited = if b then closed else waits awaits.Line new.unread in e) reads
@@ -279,3 +316,7 @@ pub line_due_behind : (old new : CutterState) (ended : Bool) (awaited : Awaited)
     → (let e : End Awaited = if ended then closed else waits awaited new.unread in e) ≡ waits awaits.Line (after_next old).unread
 line_due_behind old new ended awaited reads due is =
     ap (λ a. let e : End Awaited = if ended then closed else waits a new.unread in e) due ∙ line_due old new ended reads is
+
+-- a line is due behind what was passed over
+pub passed : (old new : ItemReader) → old.ended ≡ false → new ≡ record old { cutter = after_next old.cutter; awaited = awaits.Line } → end_of new ≡ waits awaits.Line (after_next old.cutter).unread
+passed old new reads is = ap end_of is ∙ line_due old.cutter (after_next old.cutter) old.ended reads refl

@@ -1,8 +1,8 @@
 -- What one client's stream asks of a server, item by item, where each ask is done.
 -- NATS documentation, "Client Protocol": what each operation asks for, and that `+OK` answers a well-formed one in verbose mode.
 -- The order of the asks, and which refusal ends a connection, are this project's profile.
-use Rattle.std.specs.Prelude.{ℕ, true, List, [], ◌∷◌, ◌++◌, if◌then◌else◌}
-use Rattle.subj.specs.Messages.{Content}
+use Rattle.std.specs.Prelude.{ℕ, true, List, [], ◌∷◌, ◌++◌, Option, Some, None, if◌then◌else◌}
+use Rattle.subj.specs.Messages.{Content, Body, are_headers}
 use Rattle.subj.specs.declared.messages.Pub.{Pub}
 use Rattle.client_frames.specs.declared.client_line.Options.{Options}
 use Rattle.client_frames.specs.declared.client_line.ClientLine.{ClientLine}
@@ -11,7 +11,7 @@ use Rattle.client_frames.specs.declared.client_line.PubHead.{PubHead}
 use Rattle.client_frames.specs.declared.err_texts.ErrText.{ErrText}
 use Rattle.client_frames.specs.declared.server_frames.ReplyFrame.TheVariants as reply
 use Rattle.client_frames.specs.ErrTexts.{text_closes, line_fault_text, cut_fault_text}
-use Rattle.client_frames.specs.Streams.{StreamItem, asked, published, refused, unreadable}
+use Rattle.client_frames.specs.Streams.{StreamItem, asked, published, refused, unreadable, block_in, payload_in}
 use Rattle.client_conn.specs.declared.ask.ClientAction.{ClientAction}
 use Rattle.client_conn.specs.declared.ask.ClientAction.TheVariants.{Reply, Shut, Subscribe, Unsubscribe, Publish}
 
@@ -33,7 +33,7 @@ options_by line.Pong options = options
 
 abbrev pub options_behind : StreamItem → Options → Options
 options_behind (asked command) options = options_by command options
-options_behind (published head payload) options = options
+options_behind (published head bytes) options = options
 options_behind (refused fault) options = options
 options_behind (unreadable fault) options = options
 
@@ -62,8 +62,14 @@ command_asks options (line.Unsub sid max) = with_confirmation options (Unsubscri
 command_asks options line.Ping = Reply reply.Pong ∷ []
 command_asks options line.Pong = []
 
+-- the bytes that a line announces: the header block, where there is one, and behind it the payload
 abbrev pub message_of : PubHead → List ℕ → Content
-message_of head payload = record { subject = head.subject; reply = head.reply; payload = payload }
+message_of head bytes = record { subject = head.subject; reply = head.reply; headers = block_in head.headers bytes; payload = payload_in head.headers bytes }
+
+-- the same without its subject; nothing where the header block is none
+abbrev pub body_in : Option ℕ → List ℕ → Option Body
+body_in headers bytes =
+    if are_headers (block_in headers bytes) then Some (record { headers = block_in headers bytes; payload = payload_in headers bytes }) else None
 
 -- whether the client's own subscriptions may get it is as the options say by then
 abbrev pub publication_of : Content → Options → Pub
@@ -71,7 +77,7 @@ publication_of message options = record { message = message; echo = options.echo
 
 abbrev pub item_asks : Options → StreamItem → List ClientAction
 item_asks options (asked command) = command_asks options command
-item_asks options (published head payload) = with_confirmation options (Publish (publication_of (message_of head payload) options) ∷ [])
+item_asks options (published head bytes) = with_confirmation options (Publish (publication_of (message_of head bytes) options) ∷ [])
 item_asks options (refused fault) = refusal_asks (line_fault_text fault)
 item_asks options (unreadable fault) = refusal_asks (cut_fault_text fault)
 

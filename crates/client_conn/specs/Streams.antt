@@ -1,7 +1,7 @@
 -- A client's stream, read item by item.
-use Rattle.std.specs.Prelude.{◌≡◌, ℕ, suc, ◌<◌, ◌≤◌, true, false, List, [], ◌∷◌, ◌++◌, length, Option, None, if◌then◌else◌}
+use Rattle.std.specs.Prelude.{◌≡◌, ℕ, suc, ◌<◌, ◌≤◌, true, false, List, [], ◌∷◌, ◌++◌, length, Option, if◌then◌else◌}
 use Rattle.std.specs.Io.KnownBytes.{Consumes, IsAtEnd}
-use Rattle.subj.specs.Messages.{Content}
+use Rattle.subj.specs.Messages.{Content, Body}
 use Rattle.wire_cut.specs.Reading.{End, waits, closed, Reading, reading_of, with_items, last_reading, StandsAt, Found, nothing, something, the_end, finding}
 use Rattle.client_frames.specs.declared.client_line.Awaited.{Awaited}
 use Rattle.client_frames.specs.declared.client_line.Awaited.TheVariants as awaits
@@ -10,7 +10,7 @@ use Rattle.client_frames.specs.Streams.{StreamItem, client_grammar}
 use Rattle.client_conn.specs.declared.conn.ItemReader.{ItemReader}
 use Rattle.client_conn.specs.declared.conn.Looked.{Looked}
 use Rattle.client_conn.specs.declared.conn.Looked.TheVariants.{Waits, Announced, Told}
-use Rattle.client_conn.specs.Items.{OpenState, message_of, asked_by}
+use Rattle.client_conn.specs.Items.{OpenState, asked_by}
 use Rattle.client_conn.specs.Asks.{Asking, asked_before, asking_of}
 
 -- how far a reader has read
@@ -41,9 +41,12 @@ pub record IsBehindLine (r : ItemReader) : Type 0 where
 abbrev pub AwaitsPayload : Awaited → Type 0
 AwaitsPayload awaited = (head : PubHead) × (awaited ≡ awaits.Payload head)
 
--- the message of the head that is awaited, with this payload
-abbrev pub IsMessageOf : Awaited → List ℕ → Content → Type 0
-IsMessageOf awaited payload message = (head : PubHead) × (awaited ≡ awaits.Payload head) × (message ≡ message_of head payload)
+abbrev pub message_with : PubHead → Body → Content
+message_with head body = record { subject = head.subject; reply = head.reply; headers = body.headers; payload = body.payload }
+
+-- the message of the head that is awaited, with this body
+abbrev pub IsMessageOf : Awaited → Body → Content → Type 0
+IsMessageOf awaited body message = (head : PubHead) × (awaited ≡ awaits.Payload head) × (message ≡ message_with head body)
 
 abbrev pub AwaitsLostPayload : Awaited → Type 0
 AwaitsLostPayload awaited = (size : ℕ) × (awaited ≡ awaits.LostPayload size)

@@ -5,10 +5,12 @@ ghost use Rattle.client_conn.specs.declared.ask.ClientAction.TheVariants as ask;
 ghost use Rattle.client_frames.specs.declared.client_line.Awaited.TheVariants as awaits;
 ghost use Rattle.client_conn.specs.declared.conn.Looked.TheVariants as looks;
 ghost use Rattle.std.specs.Prelude.{◌≡◌, ◌∷◌, ◌++◌, List, [], drop, is_some, not, slice_get, option_copied, option_to_list, ◌≤◌, length, false, true, None, Some, IfOk, OnOk, OnErr, IsSome, IsOkAnd, Err, if◌then◌else◌};
-ghost use Rattle.client_frames.specs.Streams.{asked, client_grammar, command_told, refusal_told};
+ghost use Rattle.client_frames.specs.Streams.{asked, client_grammar, command_told, refusal_told, headers_awaited};
+ghost use Rattle.client_frames.specs.ErrTexts.{line_fault_text};
 ghost use Rattle.client_conn.specs.declared.ask.ClientAction.{ClientAction};
 ghost use Rattle.client_conn.specs.Asks.{no_asks, first_asking, asks_after_bytes, asks_after_answer, is_finished};
-ghost use Rattle.client_conn.specs.Items.{asked_by, with_confirmation, first_options, publication_of, refusal_asks};
+ghost use Rattle.client_conn.specs.Items.{asked_by, with_confirmation, first_options, publication_of, refusal_asks, body_in};
+ghost use Rattle.wire_cut.specs.Cut.{cut_of, piece_length, after_next};
 ghost use Rattle.wire_cut.specs.Reading.{waits, finding_before};
 ghost use Rattle.std.specs.Io.KnownBytes.{Keeps};
 ghost use Rattle.subj.specs.declared.limits.TheConstants.{MAX_PAYLOAD};
@@ -19,7 +21,6 @@ ghost use Rattle.client_conn.specs.Shown.{Stays};
 
 use crate::ask::{ClientAction, Refusal};
 use crate::faults::ReadFault;
-use bytes::Bytes;
 use client_frames::{
     Awaited, ClientLine, ErrText, InfoData, LineFault, Options, PubHead, ReplyFrame, SharedTexts,
     decode_line,
@@ -27,7 +28,10 @@ use client_frames::{
 use std::alloc::{AllocError, AllocFailed, Global};
 use std::marker::Model;
 use std::mem;
-use subj::{CLIENT_LINE, Failure, Key, MAX_PAYLOAD, Message, MessageParts, Pub, Subject};
+use subj::{
+    CLIENT_LINE, Failure, Key, MAX_PAYLOAD, Message, MessageBody, MessageParts, Pub, Subject,
+    is_header_block,
+};
 use wire_cut::{Cutter, FeedFault, FillFault, Piece, Source};
 
 /// The asks of one item that are not answered yet, of which there are at most two, and the options by which the next
@@ -219,11 +223,35 @@ pub enum Looked {
     Told,
 }
 
-/// The message of the head that is awaited, with this payload; a line is awaited behind it. Want of memory leaves the head.
-fn message_with(alloc: Global, awaited: &mut Awaited, payload: Bytes) -> Result<Message, AllocError>
+/// A copy of the bytes behind a line that announces so many bytes of headers, or none. None where the headers do not begin with
+/// `NATS/1.0`, which takes no memory.
+fn copy_body(
+    texts: &mut SharedTexts,
+    headers: Option<u64>,
+    bytes: &[u8],
+) -> Result<Option<MessageBody>, AllocError>
+    requires { length bytes.now ≤ MAX_PAYLOAD }
+    ensures body { IfOk result (λ body. body ≡ body_in headers bytes.now) }
+    ensures err { OnErr result (is_some (body_in headers bytes.now) ≡ true) }
+{
+    let Some(size) = headers else {
+        return Ok(Some(MessageBody::plain(texts.copy(bytes)?)));
+    };
+    let size = (size as usize).min(bytes.len());
+    if !is_header_block(&bytes[..size]) {
+        return Ok(None);
+    }
+    MessageBody::split(texts.copy(bytes)?, size)
+}
+
+/// The message of the head that is awaited, with this body; a line is awaited behind it. Want of memory leaves the head.
+fn message_with(
+    alloc: Global,
+    awaited: &mut Awaited,
+    body: MessageBody,
+) -> Result<Message, AllocError>
     requires due { AwaitsPayload awaited.old }
-    requires fits { length payload ≤ MAX_PAYLOAD }
-    ensures ok { IfOk result (λ message. IsMessageOf awaited.old payload message × (awaited.new ≡ awaits.Line)) }
+    ensures ok { IfOk result (λ message. IsMessageOf awaited.old body message × (awaited.new ≡ awaits.Line)) }
     ensures err { OnErr result (awaited.new ≡ awaited.old) }
 {
     let Awaited::Payload(head) = mem::replace(awaited, Awaited::Line) else {
@@ -233,12 +261,13 @@ fn message_with(alloc: Global, awaited: &mut Awaited, payload: Bytes) -> Result<
     let PubHead {
         subject,
         reply,
+        headers,
         size,
     } = head;
     let parts = MessageParts {
         subject,
         reply,
-        payload,
+        body,
     };
     match Message::from_parts(alloc, parts) {
         Ok(message) => Ok(message),
@@ -247,6 +276,7 @@ fn message_with(alloc: Global, awaited: &mut Awaited, payload: Bytes) -> Result<
             *awaited = Awaited::Payload(PubHead {
                 subject,
                 reply,
+                headers,
                 size,
             });
             Err(AllocError)
@@ -445,7 +475,20 @@ impl ItemReader {
         Looked::Told
     }
 
-    /// Looks at the payload of a publication, and copies it.
+    /// Passes over what a publication has announced, and tells the client why it is refused.
+    fn lose(&mut self, size: usize, fault: LineFault, open_asks: &mut OpenAsks) -> Looked
+        requires { piece_length (cut_of self.old.cutter) ≡ Some size }
+        ensures told { result ≡ looks.Told }
+        ensures asks { open_asks.new ≡ record open_asks.old { asks = refusal_asks (line_fault_text fault) } }
+        ensures passed { self.new ≡ record self.old { cutter = after_next self.old.cutter; awaited = awaits.Line } }
+    {
+        self.cutter.consume(size);
+        self.awaited = Awaited::Line;
+        open_asks.refuse(ErrText::of_line(fault));
+        Looked::Told
+    }
+
+    /// Looks at what a publication has announced, and copies it.
     fn publication(&mut self, open_asks: &mut OpenAsks) -> Result<Looked, AllocError>
         requires step { IsInStep self.old }
         requires reads { self.old.ended ≡ false }
@@ -454,20 +497,26 @@ impl ItemReader {
         ensures err { OnErr result ((self.new ≡ self.old) × (open_asks.new ≡ open_asks.old)) }
         ensures step { IsInStep self.new }
     {
-        let (size, payload) = match self.cutter.peek() {
+        let headers = self.awaited.headers();
+        let (size, body) = match self.cutter.peek() {
             Ok(None) => return Ok(Looked::Waits),
-            Ok(Some(Piece::Payload(payload))) => (payload.len(), self.texts.copy(payload)?),
+            Ok(Some(Piece::Payload(bytes))) => {
+                (bytes.len(), copy_body(&mut self.texts, headers, bytes)?)
+            }
             // a line comes only where no payload was announced
             Ok(Some(Piece::Line(_))) => unreachable!(),
             Err(fault) => return Ok(self.end_with(ErrText::of_cut(fault), open_asks)),
         };
-        let message = message_with(self.alloc, &mut self.awaited, payload)?;
+        let Some(body) = body else {
+            return Ok(self.lose(size, LineFault::BadHeader, open_asks));
+        };
+        let message = message_with(self.alloc, &mut self.awaited, body)?;
         self.cutter.consume(size);
         open_asks.ask_publication(message);
         Ok(Looked::Told)
     }
 
-    /// Looks at the payload of a publication that is refused.
+    /// Looks at what a publication has announced that is refused.
     fn lost_publication(&mut self, open_asks: &mut OpenAsks) -> Looked
         requires step { IsInStep self.old }
         requires reads { self.old.ended ≡ false }
@@ -482,10 +531,7 @@ impl ItemReader {
             Ok(Some(Piece::Line(_))) => unreachable!(),
             Err(fault) => return self.end_with(ErrText::of_cut(fault), open_asks),
         };
-        self.cutter.consume(size);
-        self.awaited = Awaited::Line;
-        open_asks.refuse(ErrText::of_line(LineFault::BadSubject));
-        Looked::Told
+        self.lose(size, LineFault::BadSubject, open_asks)
     }
 }
 

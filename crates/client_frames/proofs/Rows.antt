@@ -5,12 +5,15 @@ use Rattle.wire_cut.specs.Cut.{first_cr_lf}
 use Rattle.wire_cut.specs.declared.faults.CutFault.TheVariants.{PayloadTooLong, NoCrLfAfterPayload}
 use Rattle.client_frames.specs.declared.client_line.ClientLine.TheVariants.{Sub, Unsub, Ping}
 use Rattle.client_frames.specs.declared.client_line.PubHead.{PubHead}
-use Rattle.client_frames.specs.declared.faults.LineFault.TheVariants.{UnknownOp, BadArgs, BadSubject}
+use Rattle.client_frames.specs.declared.faults.LineFault.TheVariants.{UnknownOp, BadArgs, BadSubject, BadHeader}
 use Rattle.wire_cut.specs.Reading.{reading_within}
 use Rattle.client_frames.specs.Streams.{asked, published, refused, unreadable, stream_commands}
 
 abbrev head : List ℕ → Option (List ℕ) → ℕ → PubHead
-head subject reply size = record { subject = subject; reply = reply; size = size }
+head subject reply size = record { subject = subject; reply = reply; headers = None; size = size }
+
+abbrev headed : List ℕ → Option (List ℕ) → ℕ → ℕ → PubHead
+headed subject reply block size = record { subject = subject; reply = reply; headers = Some block; size = size }
 
 -- a subscription and a publication
 first_message : stream_commands (codes "SUB foo 1\r\nPUB foo 5\r\nhello\r\n") ≡ asked (Sub (codes "foo") None (codes "1")) ∷ published (head (codes "foo") None 5) (codes "hello") ∷ []
@@ -66,3 +69,27 @@ queue_group = refl
 no_text : stream_commands (codes "UNSUB 1\r\nCONNECT\r\nPING\r\n") ≡ asked (Unsub (codes "1") None) ∷ refused BadArgs ∷ []
 unfolding reading_within first_cr_lf
 no_text = refl
+
+-- a header block with nothing behind it, and one before a payload
+headers_alone : stream_commands (codes "HPUB foo 8 8\r\nNATS/1.0\r\n") ≡ published (headed (codes "foo") None 8 8) (codes "NATS/1.0") ∷ []
+unfolding reading_within first_cr_lf
+headers_alone = refl
+
+headers_and_payload : stream_commands (codes "HPUB foo r 12 14\r\nNATS/1.0\r\n\r\nhi\r\n") ≡ published (headed (codes "foo") (Some (codes "r")) 12 14) (codes "NATS/1.0\r\n\r\nhi") ∷ []
+unfolding reading_within first_cr_lf
+headers_and_payload = refl
+
+-- a header block that is none is told, and the stream goes on
+bad_headers : stream_commands (codes "HPUB foo 4 6\r\nNATShi\r\nPING\r\n") ≡ refused BadHeader ∷ asked Ping ∷ []
+unfolding reading_within first_cr_lf
+bad_headers = refl
+
+-- a block that is larger than all that comes
+block_above_the_whole : stream_commands (codes "HPUB foo 21 20\r\nPING\r\n") ≡ refused BadArgs ∷ []
+unfolding reading_within first_cr_lf
+block_above_the_whole = refl
+
+-- a bad subject comes before bad headers
+subject_before_headers : stream_commands (codes "HPUB foo.* 0 2\r\nhi\r\nPING\r\n") ≡ refused BadSubject ∷ asked Ping ∷ []
+unfolding reading_within first_cr_lf
+subject_before_headers = refl

@@ -2,13 +2,13 @@
 use Rattle.std.specs.Prelude.{◌≡◌, ℕ, true, List, [], Option, None, Err, is_some}
 use Rattle.subj.specs.Names.{pattern_fault}
 use Rattle.client_frames.specs.declared.decoding.Operation.{Operation}
-use Rattle.client_frames.specs.declared.decoding.Operation.TheVariants.{Connect, Pub, Sub, Unsub, Ping, Pong}
+use Rattle.client_frames.specs.declared.decoding.Operation.TheVariants.{Connect, Pub, Hpub, Sub, Unsub, Ping, Pong}
 use Rattle.client_frames.specs.declared.client_line.ClientLine.{ClientLine}
 use Rattle.client_frames.specs.declared.faults.LineFault.{LineFault}
-use Rattle.client_frames.specs.declared.faults.LineFault.TheVariants.{UnknownOp, BadArgs, BadJson, BadSubject}
+use Rattle.client_frames.specs.declared.faults.LineFault.TheVariants.{UnknownOp, BadArgs, BadJson, BadSubject, BadHeader}
 use Rattle.client_frames.specs.Choices.{options_of}
 use Rattle.client_frames.specs.Lines.{line_meaning}
-use Rattle.client_frames.specs.Spelling.{SpellsPub, SpellsSub, SpellsUnsub, IsOperationOn, Spells}
+use Rattle.client_frames.specs.Spelling.{SpellsPub, SpellsHpub, SpellsSub, SpellsUnsub, IsOperationOn, Spells}
 
 -- ---- what stands behind an operation that a line begins with
 
@@ -16,6 +16,7 @@ use Rattle.client_frames.specs.Spelling.{SpellsPub, SpellsSub, SpellsUnsub, IsOp
 abbrev pub HasBadArgs : Operation → List (List ℕ) → Type 0
 HasBadArgs Connect arguments = arguments ≡ []
 HasBadArgs Pub arguments = (subject : List ℕ) (reply : Option (List ℕ)) (size : ℕ) → ¬ (SpellsPub arguments subject reply size)
+HasBadArgs Hpub arguments = (subject : List ℕ) (reply : Option (List ℕ)) (block size : ℕ) → ¬ (SpellsHpub arguments subject reply block size)
 HasBadArgs Sub arguments = (pattern : List ℕ) (queue : Option (List ℕ)) (sid : List ℕ) → ¬ (SpellsSub arguments pattern queue sid)
 HasBadArgs Unsub arguments = (sid : List ℕ) (max : Option ℕ) → ¬ (SpellsUnsub arguments sid max)
 HasBadArgs Ping arguments = ⊥
@@ -46,6 +47,8 @@ TextIsRefused UnknownOp operation text arguments = ⊥
 TextIsRefused BadArgs operation text arguments = HasBadArgs operation arguments
 TextIsRefused BadJson operation text arguments = (operation ≡ Connect) × HasBadJson text arguments
 TextIsRefused BadSubject operation text arguments = (operation ≡ Sub) × HasBadPattern arguments
+-- what is told behind a line is no cause of the line
+TextIsRefused BadHeader operation text arguments = ⊥
 
 pub record IsRefusedBehind (line : List ℕ) (fault : LineFault) : Type 0 where
   pub named : Operation
@@ -60,6 +63,7 @@ HasCause line UnknownOp = NamesNoOperation line
 HasCause line BadArgs = IsRefusedBehind line BadArgs
 HasCause line BadJson = IsRefusedBehind line BadJson
 HasCause line BadSubject = IsRefusedBehind line BadSubject
+HasCause line BadHeader = ⊥
 
 -- ---- a line is refused just for its cause
 

@@ -3,11 +3,11 @@ use Rattle.std.specs.Prelude.{ℕ, Bool, true, false, List, ◌++◌, codes}
 use Rattle.wire_cut.specs.declared.faults.CutFault.{CutFault}
 use Rattle.wire_cut.specs.declared.faults.CutFault.TheVariants.{LineTooLong, PayloadTooLong, NoCrLfAfterPayload}
 use Rattle.client_frames.specs.declared.faults.LineFault.{LineFault}
-use Rattle.client_frames.specs.declared.faults.LineFault.TheVariants.{UnknownOp, BadArgs, BadJson, BadSubject}
+use Rattle.client_frames.specs.declared.faults.LineFault.TheVariants.{UnknownOp, BadArgs, BadJson, BadSubject, BadHeader}
 use Rattle.client_frames.specs.declared.err_texts.ErrText.{ErrText}
-use Rattle.client_frames.specs.declared.err_texts.ErrText.TheVariants.{MaximumControlLineExceeded, MaximumPayloadViolation, ParserError, UnknownProtocolOperation, SlowConsumer, InvalidSubject, TooManyQueueGroups, TooManySubscriptions, NumbersSpent, Draining}
+use Rattle.client_frames.specs.declared.err_texts.ErrText.TheVariants.{MaximumControlLineExceeded, MaximumPayloadViolation, ParserError, UnknownProtocolOperation, SlowConsumer, InvalidSubject, BadHeaders, TooManyQueueGroups, TooManySubscriptions, NumbersSpent, Draining}
 
--- NATS documentation, "Client Protocol", "+OK/ERR"; the last four are this project's own
+-- NATS documentation, "Client Protocol", "+OK/ERR"; the last five are this project's own
 abbrev pub err_text : ErrText → List ℕ
 err_text MaximumControlLineExceeded = codes "Maximum Control Line Exceeded"
 err_text MaximumPayloadViolation = codes "Maximum Payload Violation"
@@ -15,6 +15,7 @@ err_text ParserError = codes "Parser Error"
 err_text UnknownProtocolOperation = codes "Unknown Protocol Operation"
 err_text SlowConsumer = codes "Slow Consumer"
 err_text InvalidSubject = codes "Invalid Subject"
+err_text BadHeaders = codes "Bad Headers"
 err_text TooManyQueueGroups = codes "Too Many Queue Groups"
 err_text TooManySubscriptions = codes "Too Many Subscriptions"
 err_text NumbersSpent = codes "Numbers Spent"
@@ -32,6 +33,7 @@ text_closes ParserError = true
 text_closes UnknownProtocolOperation = true
 text_closes SlowConsumer = true
 text_closes InvalidSubject = false
+text_closes BadHeaders = false
 text_closes TooManyQueueGroups = false
 text_closes TooManySubscriptions = false
 text_closes NumbersSpent = false
@@ -43,6 +45,7 @@ line_fault_text UnknownOp = UnknownProtocolOperation
 line_fault_text BadArgs = ParserError
 line_fault_text BadJson = ParserError
 line_fault_text BadSubject = InvalidSubject
+line_fault_text BadHeader = BadHeaders
 
 abbrev pub cut_fault_text : CutFault → ErrText
 cut_fault_text LineTooLong = MaximumControlLineExceeded

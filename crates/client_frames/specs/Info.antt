@@ -1,13 +1,14 @@
--- What a server tells of itself.
+-- What a server tells a client first.
 use Rattle.std.specs.Prelude.{ℕ, false, List, ◌++◌, codes, decimal}
 use Rattle.serde_json.specs.Data.{Data, number, unsigned, string, boolean, object, member, no_members}
 use Rattle.serde_json.specs.Written.{compact_text}
 use Rattle.subj.specs.declared.limits.TheConstants.{MAX_PAYLOAD}
 use Rattle.client_frames.specs.declared.info.InfoData.{InfoData}
+use Rattle.client_frames.specs.ServerFacts.{ServerFacts}
 
 -- the server's name, `-`, its incarnation (profile)
-abbrev pub server_id : InfoData → List ℕ
-server_id info = info.name ++ (codes "-" ++ decimal info.inc)
+abbrev pub server_id : ServerFacts → List ℕ
+server_id server = server.name ++ (codes "-" ++ decimal server.inc)
 
 abbrev pub number_data : ℕ → Data
 number_data n = number (unsigned n)
@@ -17,12 +18,12 @@ abbrev pub info_data : InfoData → Data
 info_data info = object (
     member (codes "client_id") (number_data info.client_id) (
     member (codes "headers") (boolean false) (
-    member (codes "host") (string (codes "127.0.0.1")) (
+    member (codes "host") (string info.server.host) (
     member (codes "max_payload") (number_data MAX_PAYLOAD) (
-    member (codes "port") (number_data info.port) (
+    member (codes "port") (number_data info.server.port) (
     member (codes "proto") (number_data 1) (
-    member (codes "server_id") (string (server_id info)) (
-    member (codes "server_name") (string info.name) (
+    member (codes "server_id") (string (server_id info.server)) (
+    member (codes "server_name") (string info.server.name) (
     member (codes "version") (string (codes "1.0.0")) no_members)))))))))
 
 -- as JSON without a blank

@@ -6,11 +6,13 @@ pub mod Operations
 pub mod Choices
 -- client spelling: what a control line of a client asks for, or why it is refused
 pub mod Lines
--- the numbers 20 to 23 of the refusals
+-- the numbers 20 to 24 of the refusals
 pub mod Faults
 -- the texts of `-ERR`, and which of them end a connection
 pub mod ErrTexts
--- what a server tells of itself
+-- what a server tells all its clients of itself
+pub mod ServerFacts
+-- what a server tells a client first
 pub mod Info
 -- message bytes: what a subscriber is due of a publication
 pub mod Messages

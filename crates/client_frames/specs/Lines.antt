@@ -1,6 +1,6 @@
 -- Client spelling: what a control line of a client asks for, or why it is refused.
 -- NATS documentation, "Client Protocol": the operations and their fields. The refusals are this project's profile.
-use Rattle.std.specs.Prelude.{◌≡◌, ℕ, Bool, true, false, IsTrue, List, [], ◌∷◌, length, drop, Option, Some, None, Result, Ok, Err, is_some, if◌then◌else◌}
+use Rattle.std.specs.Prelude.{◌≡◌, ℕ, nat_le, Bool, true, false, IsTrue, List, [], ◌∷◌, length, drop, Option, Some, None, Result, Ok, Err, is_some, if◌then◌else◌}
 use Rattle.std.specs.Option.{option_or}
 use Rattle.subj.specs.Names.{subject_fault, pattern_fault, queue_name_fault, sid_fault}
 use Rattle.subj.specs.declared.faults.NameFault.{NameFault}
@@ -9,12 +9,13 @@ use Rattle.subj.specs.declared.failures.Failure.TheVariants.{Refused, OutOfMemor
 use Rattle.line_fields.specs.Fields.{line_fields}
 use Rattle.client_frames.specs.declared.decoding.Operation.{Operation}
 use Rattle.client_frames.specs.declared.decoding.Operation.TheVariants as operation
+use Rattle.client_frames.specs.declared.decoding.Sizes.{Sizes}
 use Rattle.client_frames.specs.declared.client_line.ClientLine.{ClientLine}
 use Rattle.client_frames.specs.declared.client_line.ClientLine.TheVariants.{Connect, Pub, PubBad, Sub, Unsub, Ping, Pong}
 use Rattle.client_frames.specs.declared.client_line.Options.{Options}
 use Rattle.client_frames.specs.declared.faults.LineFault.{LineFault}
-use Rattle.client_frames.specs.declared.faults.LineFault.TheVariants.{UnknownOp, BadArgs, BadJson, BadSubject}
-use Rattle.client_frames.specs.Arguments.{Arguments, two_or_three, count_of}
+use Rattle.client_frames.specs.declared.faults.LineFault.TheVariants.{UnknownOp, BadArgs, BadJson, BadSubject, BadHeader}
+use Rattle.client_frames.specs.Arguments.{Arguments, two_or_three, HeadedArguments, three_or_four, count_of}
 use Rattle.client_frames.specs.Operations.{operation_of}
 use Rattle.client_frames.specs.Choices.{options_of}
 
@@ -42,19 +43,35 @@ reply_fault (Some reply) = subject_fault reply
 abbrev pub publication_fault : List ℕ → Option (List ℕ) → Option NameFault
 publication_fault subject reply = option_or (reply_fault reply) (subject_fault subject)
 
--- a bad subject or reply is told once the payload was read, whose size the line has told
-abbrev pub publication : Arguments → ℕ → ClientLine
-publication a size =
-    if is_some (publication_fault a.first a.between) then PubBad size
-    else Pub (record { subject = a.first; reply = a.between; size = size })
+-- a bad subject or reply is told once all was read that follows, whose size the line has told
+abbrev pub publication : List ℕ → Option (List ℕ) → Option ℕ → ℕ → ClientLine
+publication subject reply headers size =
+    if is_some (publication_fault subject reply) then PubBad size
+    else Pub (record { subject = subject; reply = reply; headers = headers; size = size })
 
 abbrev pub publication_sized : Arguments → Option ℕ → Meaning
 publication_sized a None = Err BadArgs
-publication_sized a (Some size) = Ok (publication a size)
+publication_sized a (Some size) = Ok (publication a.first a.between None size)
 
 abbrev pub publication_of : Option Arguments → Meaning
 publication_of None = Err BadArgs
 publication_of (Some a) = publication_sized a (count_of a.last)
+
+-- ---- HPUB <subject> [reply] <#header bytes> <#total bytes>
+
+-- the header block is a part of the whole
+abbrev pub sizes_of : Option ℕ → Option ℕ → Option Sizes
+sizes_of None whole = None
+sizes_of (Some block) None = None
+sizes_of (Some block) (Some whole) = if nat_le block whole then Some (record { block = block; whole = whole }) else None
+
+abbrev pub headed_publication : HeadedArguments → Option Sizes → Meaning
+headed_publication a None = Err BadArgs
+headed_publication a (Some sizes) = Ok (publication a.first a.between (Some sizes.block) sizes.whole)
+
+abbrev pub headed_publication_of : Option HeadedArguments → Meaning
+headed_publication_of None = Err BadArgs
+headed_publication_of (Some a) = headed_publication a (sizes_of (count_of a.block) (count_of a.whole))
 
 -- ---- SUB <subject> [queue group] <sid>
 
@@ -103,6 +120,7 @@ abbrev pub operation_meaning : Option Operation → List ℕ → List (List ℕ)
 operation_meaning None text arguments = Err UnknownOp
 operation_meaning (Some operation.Connect) text arguments = connection_of text arguments
 operation_meaning (Some operation.Pub) text arguments = publication_of (two_or_three arguments)
+operation_meaning (Some operation.Hpub) text arguments = headed_publication_of (three_or_four arguments)
 operation_meaning (Some operation.Sub) text arguments = subscription_of (two_or_three arguments)
 operation_meaning (Some operation.Unsub) text arguments = unsubscription_of arguments
 operation_meaning (Some operation.Ping) text arguments = Ok Ping
@@ -134,6 +152,7 @@ takes_memory (Err UnknownOp) = false
 takes_memory (Err BadArgs) = false
 takes_memory (Err BadJson) = true
 takes_memory (Err BadSubject) = false
+takes_memory (Err BadHeader) = false
 
 -- a reader answers what a line means, and want of memory only where reading takes any
 abbrev pub ClientLineMeans : Meaning → Result ClientLine (Failure LineFault) → Type 0

@@ -1,5 +1,5 @@
 -- Client spelling as a grammar: how the bytes of a line are put together for a command.
-use Rattle.std.specs.Prelude.{◌≡◌, ℕ, true, false, List, [], ◌∷◌, ◌++◌, Option, Some, None, Ok, is_some}
+use Rattle.std.specs.Prelude.{◌≡◌, ℕ, ◌≤◌, true, false, List, [], ◌∷◌, ◌++◌, Option, Some, None, Ok, is_some}
 use Rattle.std.specs.Option.{option_to_list}
 use Rattle.subj.specs.Names.{pattern_fault, sid_fault}
 use Rattle.line_fields.specs.Fields.{is_word}
@@ -30,10 +30,30 @@ pub record SpellsPub (arguments : List (List ℕ)) (subject : List ℕ) (reply :
   pub are : arguments ≡ outer_fields subject reply digits
   pub is_size : count_of digits ≡ Some size
 
-pub record SpellsBadPub (arguments : List (List ℕ)) (size : ℕ) : Type 0 where
+-- the size of the header block comes before that of the whole, of which it is a part
+pub record SpellsHpub (arguments : List (List ℕ)) (subject : List ℕ) (reply : Option (List ℕ)) (block size : ℕ) : Type 0 where
+  pub block_digits : List ℕ
+  pub digits : List ℕ
+  pub are : arguments ≡ outer_fields subject reply block_digits ++ (digits ∷ [])
+  pub is_block : count_of block_digits ≡ Some block
+  pub is_size : count_of digits ≡ Some size
+  pub is_part : block ≤ size
+
+-- the operation of a publication with headers, and of one without
+abbrev pub publishing : Option ℕ → Operation
+publishing None = operation.Pub
+publishing (Some block) = operation.Hpub
+
+abbrev pub SpellsPublication : List (List ℕ) → List ℕ → Option (List ℕ) → Option ℕ → ℕ → Type 0
+SpellsPublication arguments subject reply None size = SpellsPub arguments subject reply size
+SpellsPublication arguments subject reply (Some block) size = SpellsHpub arguments subject reply block size
+
+pub record SpellsBadPub (named : Operation) (arguments : List (List ℕ)) (size : ℕ) : Type 0 where
+  pub headers : Option ℕ
+  pub publishes : named ≡ publishing headers
   pub subject : List ℕ
   pub reply : Option (List ℕ)
-  pub spelt : SpellsPub arguments subject reply size
+  pub spelt : SpellsPublication arguments subject reply headers size
   pub bad : is_some (publication_fault subject reply) ≡ true
 
 -- a pattern, good or bad, the name of a queue group, where there is one, and a subscription id
@@ -54,24 +74,16 @@ pub record SpellsUnsub (arguments : List (List ℕ)) (sid : List ℕ) (max : Opt
 
 -- ---- commands
 
-abbrev pub operation_for : ClientLine → Operation
-operation_for (Connect options) = operation.Connect
-operation_for (Pub head) = operation.Pub
-operation_for (PubBad size) = operation.Pub
-operation_for (Sub pattern queue sid) = operation.Sub
-operation_for (Unsub sid max) = operation.Unsub
-operation_for Ping = operation.Ping
-operation_for Pong = operation.Pong
-
--- the text behind the operation of a command, which has these fields, spells the command
-abbrev pub TextSpells : List ℕ → List (List ℕ) → ClientLine → Type 0
-TextSpells text arguments (Connect options) = SpellsConnect text arguments options
-TextSpells text arguments (Pub head) = SpellsPub arguments head.subject head.reply head.size × (is_some (publication_fault head.subject head.reply) ≡ false)
-TextSpells text arguments (PubBad size) = SpellsBadPub arguments size
-TextSpells text arguments (Sub pattern queue sid) = SpellsSub arguments pattern queue sid × (is_some (pattern_fault pattern) ≡ false)
-TextSpells text arguments (Unsub sid max) = SpellsUnsub arguments sid max
-TextSpells text arguments Ping = Unit {0}
-TextSpells text arguments Pong = Unit {0}
+-- an operation, and the text behind it, which has these fields, spell a command
+abbrev pub TextSpells : Operation → List ℕ → List (List ℕ) → ClientLine → Type 0
+TextSpells named text arguments (Connect options) = (named ≡ operation.Connect) × SpellsConnect text arguments options
+TextSpells named text arguments (Pub head) =
+    (named ≡ publishing head.headers) × SpellsPublication arguments head.subject head.reply head.headers head.size × (is_some (publication_fault head.subject head.reply) ≡ false)
+TextSpells named text arguments (PubBad size) = SpellsBadPub named arguments size
+TextSpells named text arguments (Sub pattern queue sid) = (named ≡ operation.Sub) × SpellsSub arguments pattern queue sid × (is_some (pattern_fault pattern) ≡ false)
+TextSpells named text arguments (Unsub sid max) = (named ≡ operation.Unsub) × SpellsUnsub arguments sid max
+TextSpells named text arguments Ping = named ≡ operation.Ping
+TextSpells named text arguments Pong = named ≡ operation.Pong
 
 -- a line is a field that names an operation, and a text with these fields
 pub record IsOperationOn (operation : Operation) (text : List ℕ) (arguments : List (List ℕ)) (line : List ℕ) : Type 0 where
@@ -82,10 +94,11 @@ pub record IsOperationOn (operation : Operation) (text : List ℕ) (arguments : 
 
 -- the bytes of a line spell a command
 pub record Spells (line : List ℕ) (command : ClientLine) : Type 0 where
+  pub named : Operation
   pub text : List ℕ
   pub arguments : List (List ℕ)
-  pub operation : IsOperationOn (operation_for command) text arguments line
-  pub spelt : TextSpells text arguments command
+  pub operation : IsOperationOn named text arguments line
+  pub spelt : TextSpells named text arguments command
 
 -- ---- what a line means is what it spells
 

@@ -1,6 +1,7 @@
 -- Stream commands: what a stream of a client's bytes asks for and what of it is refused, in order.
-use Rattle.std.specs.Prelude.{ℕ, List, [], ◌∷◌, Option, Some, None, Ok, Err, if◌then◌else◌}
+use Rattle.std.specs.Prelude.{ℕ, List, [], ◌∷◌, take, drop, Option, Some, None, Ok, Err, if◌then◌else◌}
 use Rattle.subj.specs.declared.limits.TheConstants.{CLIENT_LINE, MAX_PAYLOAD}
+use Rattle.subj.specs.Messages.{are_headers}
 use Rattle.wire_cut.specs.declared.faults.CutFault.{CutFault}
 use Rattle.wire_cut.specs.Reading.{Told, going_on, ending, Grammar, Reading, reading_of}
 use Rattle.client_frames.specs.declared.client_line.Awaited.{Awaited}
@@ -9,7 +10,7 @@ use Rattle.client_frames.specs.declared.client_line.PubHead.{PubHead}
 use Rattle.client_frames.specs.declared.client_line.ClientLine.{ClientLine}
 use Rattle.client_frames.specs.declared.client_line.ClientLine.TheVariants.{Connect, Pub, PubBad, Sub, Unsub, Ping, Pong}
 use Rattle.client_frames.specs.declared.faults.LineFault.{LineFault}
-use Rattle.client_frames.specs.declared.faults.LineFault.TheVariants.{BadSubject}
+use Rattle.client_frames.specs.declared.faults.LineFault.TheVariants.{BadSubject, BadHeader}
 use Rattle.client_frames.specs.Lines.{Meaning, line_meaning}
 use Rattle.client_frames.specs.ErrTexts.{text_closes, line_fault_text}
 
@@ -17,25 +18,45 @@ use Rattle.client_frames.specs.ErrTexts.{text_closes, line_fault_text}
 pub data StreamItem : Type 0 where
   -- a command without a payload
   asked : ClientLine → StreamItem
-  -- a publication, once its payload is there
+  -- a publication, once all is there that its line announces
   published : PubHead → List ℕ → StreamItem
-  -- a line that is refused, or a publication with a bad subject or reply, once its payload is there
+  -- a line that is refused, or a publication with a bad subject, a bad reply or bad headers, once all is there
   refused : LineFault → StreamItem
   -- what is no line and no payload
   unreadable : CutFault → StreamItem
 
--- the size of the payload that has to come next, or nothing where a line has to
+-- how many bytes have to come next that are no line, or nothing where a line has to
 abbrev pub size_awaited : Awaited → Option ℕ
 size_awaited Line = None
 size_awaited (Payload head) = Some head.size
 size_awaited (LostPayload size) = Some size
+
+-- how many of these are the header block of a publication, where it has one
+abbrev pub headers_awaited : Awaited → Option ℕ
+headers_awaited Line = None
+headers_awaited (Payload head) = head.headers
+headers_awaited (LostPayload size) = None
+
+-- ---- NATS documentation, "Client Protocol", "HPUB": the bytes that a line announces are the header block, and behind it the payload
+
+abbrev pub block_in : Option ℕ → List ℕ → Option (List ℕ)
+block_in None bytes = None
+block_in (Some size) bytes = Some (take size bytes)
+
+abbrev pub payload_in : Option ℕ → List ℕ → List ℕ
+payload_in None bytes = bytes
+payload_in (Some size) bytes = drop size bytes
+
+-- profile: a header block that is none is told, and nothing is published
+abbrev pub item_of : PubHead → List ℕ → StreamItem
+item_of head bytes = if are_headers (block_in head.headers bytes) then published head bytes else refused BadHeader
 
 -- ---- what a piece tells: NATS documentation, "Client Protocol"; when a refusal closes is this project's profile
 
 abbrev pub told_at_once : ClientLine → Told Awaited StreamItem
 told_at_once command = going_on (asked command ∷ []) Line
 
--- a publication is told once its payload is there
+-- a publication is told once all is there that it announces
 abbrev pub command_told : ClientLine → Told Awaited StreamItem
 command_told (Pub head) = going_on [] (Payload head)
 command_told (PubBad size) = going_on [] (LostPayload size)
@@ -55,8 +76,8 @@ line_told (Err fault) = refusal_told fault
 
 abbrev pub piece_told : Awaited → List ℕ → Told Awaited StreamItem
 piece_told Line line = line_told (line_meaning line)
-piece_told (Payload head) payload = going_on (published head payload ∷ []) Line
-piece_told (LostPayload size) payload = going_on (refused BadSubject ∷ []) Line
+piece_told (Payload head) bytes = going_on (item_of head bytes ∷ []) Line
+piece_told (LostPayload size) bytes = going_on (refused BadSubject ∷ []) Line
 
 -- ---- the stream
 

@@ -1,7 +1,7 @@
 //! What a control line of a client asks for, and what has to come next in its stream.
 
 ghost use Rattle.std.specs.Prelude.{◌≡◌};
-ghost use Rattle.client_frames.specs.Streams.{size_awaited};
+ghost use Rattle.client_frames.specs.Streams.{size_awaited, headers_awaited};
 
 use subj::{Pattern, QueueName, Reply, Sid, Subject};
 
@@ -14,12 +14,14 @@ pub struct Options {
     pub echo: bool,
 }
 
-/// The line of a publication, whose payload follows.
+/// The line of a publication, whose header block and payload follow.
 #[derive(Drop)]
 pub struct PubHead {
     pub subject: Subject,
     pub reply: Option<Reply>,
-    /// The bytes of the payload, up to ten digits; it may be above the limit of a payload.
+    /// The bytes of the header block, where there is one: at most `size`.
+    pub headers: Option<u64>,
+    /// The bytes of all that follows, up to ten digits; it may be above the limit of a payload.
     pub size: u64,
 }
 
@@ -28,9 +30,9 @@ pub struct PubHead {
 pub enum ClientLine {
     /// `CONNECT`: all options of the connection, of which those before count no more.
     Connect(Options),
-    /// `PUB`, whose payload follows.
+    /// `PUB` or `HPUB`, whose payload follows, behind its header block where there is one.
     Pub(PubHead),
-    /// `PUB` with a bad subject or reply: its payload follows too and is dropped, and then
+    /// `PUB` or `HPUB` with a bad subject or reply: so many bytes follow too and are dropped, and then
     /// `BadSubject` is answered. (Profile.)
     PubBad {
         size: u64,
@@ -57,14 +59,14 @@ pub enum ClientLine {
 pub enum Awaited {
     /// A control line.
     Line,
-    /// The payload of a publication.
+    /// The header block and the payload of a publication.
     Payload(PubHead),
-    /// The payload of a publication with a bad subject or reply, which is dropped.
+    /// The same of a publication with a bad subject or reply, which is dropped.
     LostPayload { size: u64 },
 }
 
 impl Awaited {
-    /// How many bytes the payload has that has to come. None where a line has to.
+    /// How many bytes have to come that are no line. None where a line has to.
     pub fn size(&self) -> Option<u64>
         ensures { result ≡ size_awaited self.now }
     {
@@ -72,6 +74,16 @@ impl Awaited {
             Awaited::Line => None,
             Awaited::Payload(head) => Some(head.size),
             Awaited::LostPayload { size } => Some(*size),
+        }
+    }
+
+    /// How many of these bytes are the header block of a publication. None where it has none.
+    pub fn headers(&self) -> Option<u64>
+        ensures { result ≡ headers_awaited self.now }
+    {
+        match self {
+            Awaited::Payload(head) => head.headers,
+            Awaited::Line | Awaited::LostPayload { .. } => None,
         }
     }
 }

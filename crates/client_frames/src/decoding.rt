@@ -4,12 +4,12 @@ ghost use Rattle.std.specs.Prelude.{◌≡◌, None, Some, MatchOption, IfOk, op
 ghost use Rattle.client_frames.specs.Operations.{operation_of};
 ghost use Rattle.std.specs.Option.{option_copied};
 ghost use Rattle.line_fields.specs.Fields.{fields};
-ghost use Rattle.client_frames.specs.Arguments.{two_or_three};
+ghost use Rattle.client_frames.specs.Arguments.{two_or_three, three_or_four, count_of};
 ghost use Rattle.serde_json.specs.Find.{get};
 ghost use Rattle.serde_json.specs.View.{view};
 ghost use Rattle.client_frames.specs.Choices.{json_of, options_in, options_of, truth_of};
 ghost use Rattle.subj.specs.Names.{subject_fault, sid_fault};
-ghost use Rattle.client_frames.specs.Lines.{ClientLineMeans, line_meaning, operation_meaning, connection_of, publication_of, subscription_of, unsubscription_of, maximum_of, reply_fault, queue_fault};
+ghost use Rattle.client_frames.specs.Lines.{ClientLineMeans, line_meaning, operation_meaning, connection_of, publication, publication_of, sizes_of, headed_publication_of, subscription_of, unsubscription_of, maximum_of, reply_fault, queue_fault};
 
 use crate::client_line::{ClientLine, Options, PubHead};
 use crate::faults::LineFault;
@@ -25,6 +25,7 @@ use subj::{Failure, NameFault, Pattern, QueueName, Reply, Sid, Subject};
 pub(crate) enum Operation {
     Connect,
     Pub,
+    Hpub,
     Sub,
     Unsub,
     Ping,
@@ -38,6 +39,9 @@ impl Operation {
     {
         if is_word(b"PUB", field) {
             return Some(Operation::Pub);
+        }
+        if is_word(b"HPUB", field) {
+            return Some(Operation::Hpub);
         }
         if is_word(b"SUB", field) {
             return Some(Operation::Sub);
@@ -86,6 +90,44 @@ impl<'a> Arguments<'a> {
                 first,
                 between: Some(second),
                 last: third,
+            }),
+            Some(_) => None,
+        }
+    }
+}
+
+/// Three fields, and perhaps one behind the first.
+#[derive(Clone, Copy)]
+pub(crate) struct HeadedArguments<'a> {
+    pub(crate) first: &'a [u8],
+    pub(crate) between: Option<&'a [u8]>,
+    pub(crate) block: &'a [u8],
+    pub(crate) whole: &'a [u8],
+}
+
+impl<'a> HeadedArguments<'a> {
+    /// The fields of a text, where these are three or four.
+    pub(crate) fn read(text: &'a [u8]) -> Option<HeadedArguments<'a>>
+        ensures { MatchOption result (three_or_four (fields text.now) ≡ None) (λ a. three_or_four (fields text.now)
+            ≡ Some (record { first = a.first.now; between = option_copied a.between; block = a.block.now; whole = a.whole.now })) }
+    {
+        let (first, behind) = split_field(text)?;
+        let (second, behind) = split_field(behind)?;
+        let (third, behind) = split_field(behind)?;
+        let Some((fourth, behind)) = split_field(behind) else {
+            return Some(HeadedArguments {
+                first,
+                between: None,
+                block: second,
+                whole: third,
+            });
+        };
+        match split_field(behind) {
+            None => Some(HeadedArguments {
+                first,
+                between: Some(second),
+                block: third,
+                whole: fourth,
             }),
             Some(_) => None,
         }
@@ -232,8 +274,8 @@ const COUNT_DIGITS: usize = 10;
 ///
 /// Refused just where the line means no command, and by what it means. `UnknownOp`: it is empty, begins
 /// with a blank or names no operation. `BadArgs`: too few or too many fields, a size or a maximum that
-/// is not one to ten digits, a bad subscription id or the bad name of a queue group, and a `CONNECT`
-/// without text. `BadJson`: the text of a `CONNECT` is no JSON object, or its `verbose` or `echo` is no
+/// is not one to ten digits, a header block larger than all that follows, a bad subscription id or the
+/// bad name of a queue group, and a `CONNECT` without text. `BadJson`: the text of a `CONNECT` is no JSON object, or its `verbose` or `echo` is no
 /// truth value. `BadSubject`: nothing but the pattern of a `SUB` is bad. (Profile.)
 ///
 /// Want of memory comes only for a command that keeps names, and for the JSON of a `CONNECT`, good or
@@ -258,6 +300,7 @@ fn decode_behind(
     match operation {
         None => Err(Failure::Refused(LineFault::UnknownOp)),
         Some(Operation::Pub) => decode_pub(texts, text),
+        Some(Operation::Hpub) => decode_hpub(texts, text),
         Some(Operation::Sub) => decode_sub(texts.alloc, text),
         Some(Operation::Ping) => Ok(ClientLine::Ping),
         Some(Operation::Pong) => Ok(ClientLine::Pong),
@@ -296,6 +339,31 @@ fn read_reply(texts: &mut SharedTexts, reply: Option<&[u8]>) -> Result<Option<Re
     }
 }
 
+/// What a line asks for that publishes on this subject: so many bytes follow it, of which so many are its header block.
+fn decode_publication(
+    texts: &mut SharedTexts,
+    subject: &[u8],
+    reply: Option<&[u8]>,
+    headers: Option<u64>,
+    size: u64,
+) -> Result<ClientLine, Failure<LineFault>>
+    ensures { ClientLineMeans (Ok (publication subject.now (option_copied reply.entry) headers size)) result }
+{
+    if fault_of_reply(reply).is_some() {
+        return Ok(ClientLine::PubBad { size });
+    }
+    let Some(subject) = texts.subject(subject)? else {
+        return Ok(ClientLine::PubBad { size });
+    };
+    let reply = read_reply(texts, reply)?;
+    Ok(ClientLine::Pub(PubHead {
+        subject,
+        reply,
+        headers,
+        size,
+    }))
+}
+
 fn decode_pub(texts: &mut SharedTexts, text: &[u8]) -> Result<ClientLine, Failure<LineFault>>
     ensures { ClientLineMeans (publication_of (two_or_three (fields text.now))) result }
 {
@@ -305,18 +373,45 @@ fn decode_pub(texts: &mut SharedTexts, text: &[u8]) -> Result<ClientLine, Failur
     let Some(size) = read_digits(arguments.last, COUNT_DIGITS) else {
         return Err(Failure::Refused(LineFault::BadArgs));
     };
-    if fault_of_reply(arguments.between).is_some() {
-        return Ok(ClientLine::PubBad { size });
+    decode_publication(texts, arguments.first, arguments.between, None, size)
+}
+
+/// How many bytes a header block has, and how many it and the payload have together.
+#[derive(Clone, Copy)]
+pub(crate) struct Sizes {
+    pub(crate) block: u64,
+    pub(crate) whole: u64,
+}
+
+/// The sizes that two fields tell. None where one is no number, or where the block is larger than the whole.
+fn read_sizes(block: &[u8], whole: &[u8]) -> Option<Sizes>
+    ensures { result ≡ sizes_of (count_of block.now) (count_of whole.now) }
+{
+    let block = read_digits(block, COUNT_DIGITS)?;
+    let whole = read_digits(whole, COUNT_DIGITS)?;
+    if block > whole {
+        return None;
     }
-    let Some(subject) = texts.subject(arguments.first)? else {
-        return Ok(ClientLine::PubBad { size });
+    Some(Sizes { block, whole })
+}
+
+fn decode_hpub(texts: &mut SharedTexts, text: &[u8]) -> Result<ClientLine, Failure<LineFault>>
+    ensures { ClientLineMeans (headed_publication_of (three_or_four (fields text.now))) result }
+{
+    let Some(arguments) = HeadedArguments::read(text) else {
+        return Err(Failure::Refused(LineFault::BadArgs));
     };
-    let reply = read_reply(texts, arguments.between)?;
-    Ok(ClientLine::Pub(PubHead {
-        subject,
-        reply,
-        size,
-    }))
+    let Some(sizes) = read_sizes(arguments.block, arguments.whole) else {
+        return Err(Failure::Refused(LineFault::BadArgs));
+    };
+    let Sizes { block, whole } = sizes;
+    decode_publication(
+        texts,
+        arguments.first,
+        arguments.between,
+        Some(block),
+        whole,
+    )
 }
 
 /// Why the name of a queue group is none.

@@ -7,7 +7,7 @@ use crate::faults::LineFault;
 use subj::LAST_LINE;
 use wire_cut::CutFault;
 
-/// What `-ERR` tells a client. (NATS documentation, "Client Protocol"; the last four are this project's own.)
+/// What `-ERR` tells a client. (NATS documentation, "Client Protocol"; the last five are this project's own.)
 #[derive(Clone, Copy, PartialEq, Eq)]
 pub enum ErrText {
     /// A control line is longer than its limit.
@@ -22,6 +22,8 @@ pub enum ErrText {
     SlowConsumer,
     /// A pattern, a subject or a reply that is none.
     InvalidSubject,
+    /// A header block that is none.
+    BadHeaders,
     /// A publication would reach more queue groups than one may.
     TooManyQueueGroups,
     /// There is no place for one more subscription.
@@ -41,6 +43,7 @@ impl ErrText {
             LineFault::UnknownOp => ErrText::UnknownProtocolOperation,
             LineFault::BadArgs | LineFault::BadJson => ErrText::ParserError,
             LineFault::BadSubject => ErrText::InvalidSubject,
+            LineFault::BadHeader => ErrText::BadHeaders,
         }
     }
 
@@ -67,6 +70,7 @@ impl ErrText {
             ErrText::UnknownProtocolOperation => b"-ERR 'Unknown Protocol Operation'",
             ErrText::SlowConsumer => b"-ERR 'Slow Consumer'",
             ErrText::InvalidSubject => b"-ERR 'Invalid Subject'",
+            ErrText::BadHeaders => b"-ERR 'Bad Headers'",
             ErrText::TooManyQueueGroups => b"-ERR 'Too Many Queue Groups'",
             ErrText::TooManySubscriptions => b"-ERR 'Too Many Subscriptions'",
             ErrText::NumbersSpent => b"-ERR 'Numbers Spent'",
@@ -85,6 +89,7 @@ impl ErrText {
             | ErrText::UnknownProtocolOperation
             | ErrText::SlowConsumer => true,
             ErrText::InvalidSubject
+            | ErrText::BadHeaders
             | ErrText::TooManyQueueGroups
             | ErrText::TooManySubscriptions
             | ErrText::NumbersSpent

@@ -9,7 +9,7 @@
 //! ```
 //!
 //! In reading order: `decoding` reads a line, as a `client_line` or one of the `faults`; `err_texts` says what is told of these.
-//! `server_frames` are what is sent, which `info` and `encoding` write.
+//! `server_frames` are what is sent, which `server_info`, `info` and `encoding` write.
 #![tactic(auto)]
 
 mod client_line;
@@ -20,6 +20,7 @@ mod faults;
 mod info;
 mod laws;
 mod server_frames;
+mod server_info;
 
 pub use client_line::{Awaited, ClientLine, Options, PubHead};
 pub use decoding::{SharedTexts, decode_line};
@@ -29,3 +30,4 @@ pub use faults::LineFault;
 pub use info::{InfoData, info_text};
 pub use laws::{line_has_one_meaning, stream_is_read_in_parts};
 pub use server_frames::{Delivery, ReplyFrame, ServerFrame};
+pub use server_info::ServerInfo;

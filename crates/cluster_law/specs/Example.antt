@@ -19,7 +19,7 @@ abbrev pub two_nodes : Config
 two_nodes = record { nodes = 2; shards = 2; window = 4; queue_names = 2; matches = same_bytes; follow = λ change view. view }
 
 abbrev pub greeting : Content
-greeting = record { subject = 1 ∷ []; reply = None; payload = 2 ∷ [] }
+greeting = record { subject = 1 ∷ []; reply = None; headers = None; payload = 2 ∷ [] }
 
 abbrev pub workers : Bytes
 workers = 7 ∷ []

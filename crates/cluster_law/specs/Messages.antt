@@ -7,6 +7,7 @@ use Rattle.cluster_law.specs.Interest.{Change, View}
 pub record Content : Type 0 where
   pub subject : Bytes
   pub reply : Option Bytes
+  pub headers : Option Bytes
   pub payload : Bytes
 
 -- A publish that a node accepted, with the step of that event.

@@ -5,7 +5,8 @@ use crate::words::number;
 use bytes::Bytes;
 use std::alloc::{AllocError, Global};
 use subj::{
-    Incarnation, Key, Message, NodeId, Pattern, QueueName, QueueNames, ServerIdentity, Sid, Subject,
+    Incarnation, Key, Message, NodeId, Pattern, QueueName, QueueNames, Reply, ServerIdentity, Sid,
+    Subject,
 };
 
 /// The pattern that a word is.
@@ -75,15 +76,34 @@ pub fn queues_of(alloc: Global, text: &str) -> Option<Option<QueueNames>> {
     QueueNames::from_names(alloc, names).ok()
 }
 
+/// The subject that an answer is awaited on, or none where the word is empty.
+fn reply_of(alloc: Global, word: &str) -> Option<Option<Reply>> {
+    match word {
+        "" => Some(None),
+        name => Some(Some(subject_of(alloc, name)?)),
+    }
+}
+
 /// The message on a subject, with one that an answer is awaited on, or none where that word is empty.
 pub fn message_of(alloc: Global, subject: &str, reply: &str, payload: &str) -> Option<Message> {
     let payload = payload_of(alloc, payload)?;
     let subject = subject_of(alloc, subject)?;
-    let reply = match reply {
-        "" => None,
-        name => Some(subject_of(alloc, name)?),
-    };
-    Message::new(alloc, subject, reply, payload).ok()?
+    let reply = reply_of(alloc, reply)?;
+    Message::new(alloc, subject, reply, None, payload).ok()?
+}
+
+/// The same with a header block before its payload; none of them where the block is none, or both are too long.
+pub fn headed_message_of(
+    alloc: Global,
+    subject: &str,
+    reply: &str,
+    block: &str,
+    payload: &str,
+) -> Option<Option<Message>> {
+    let (block, payload) = (payload_of(alloc, block)?, payload_of(alloc, payload)?);
+    let subject = subject_of(alloc, subject)?;
+    let reply = reply_of(alloc, reply)?;
+    Message::new(alloc, subject, reply, Some(block), payload).ok()
 }
 
 /// A server in one of its lives.

@@ -59,7 +59,7 @@ abbrev pub hub : Counts → Peer → Peer → State
 hub counts second third = record { issued = 0; published = 0; changed = 0; draining = false; counts = counts; peers = unknown_peer ∷ second ∷ third ∷ [] }
 
 abbrev pub hello_on : List ℕ → Content
-hello_on subject = record { subject = subject; reply = None; payload = codes "hello" }
+hello_on subject = record { subject = subject; reply = None; headers = None; payload = codes "hello" }
 
 abbrev pub hello : Content
 hello = hello_on foo

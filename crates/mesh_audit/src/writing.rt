@@ -128,6 +128,9 @@ impl<'a> Lines<'a> {
         if let Some(reply) = message.reply() {
             self.put_bytes(Text::Reply, reply.bytes())?;
         }
+        if let Some(block) = message.headers() {
+            self.put_bytes(Text::Headers, block)?;
+        }
         self.put_bytes(Text::Payload, message.payload())?;
         self.put("}}\n")
     }

@@ -7,11 +7,12 @@ ghost use Rattle.std.specs.Net.Socket.{socket_scope_id};
 ghost use Rattle.mesh_file.specs.Addresses.{IsSocket, IsNoSocket, IsNamed, IsRoute, IsNoRoute, IsHost, named_address as address_named, port_of, octets_in, segments_in, is_wildcard as wildcard, is_loopback as loopback, is_same_ip as same_ip, is_same_host as same_host, is_same_route as same_route, is_same_clients as same_clients, is_at as host_is_at, may_clash as clash};
 ghost use Rattle.mesh_file.specs.Entries.{IsNoHost};
 
-use crate::hosts::{HostText, host_name, is_host_name};
+use crate::hosts::{host_name, is_host_name};
 use line_fields::read_digits;
 use std::fmt;
 use std::fmt::{Display, Formatter, Write};
 use std::net::{IpAddr, Ipv4Addr, SocketAddr};
+use subj::HostText;
 
 /// The most digits of a port behind a host's name.
 const PORT_DIGITS: usize = 5;
@@ -104,7 +105,7 @@ pub(crate) fn route_address(text: &str) -> Option<RouteAddress>
     }
 }
 
-/// A host's name, or an IP address without brackets. None just where the text is neither, or has more than [`MAX_HOST`](crate::MAX_HOST)
+/// A host's name, or an IP address without brackets. None just where the text is neither, or has more than [`MAX_HOST`](subj::MAX_HOST)
 /// bytes.
 pub(crate) fn advertised_host(text: &str) -> Option<HostText>
     ensures { MatchOption result (IsNoHost text.now)

@@ -12,13 +12,12 @@ use crate::addresses::{
     RouteAddress, RouteHost, advertised_host, is_wildcard, may_clash, route_address, socket_address,
 };
 use crate::faults::{MeshFault, ServerFault, ServerKey, ValueFault};
-use crate::hosts::HostText;
 use crate::keys::{TableKind, unknown_key, value_of};
 use crate::servers::MeshServer;
 use std::alloc::{AllocError, Global};
 use std::net::SocketAddr;
 use std::slice;
-use subj::{Failure, NodeId};
+use subj::{Failure, HostText, NodeId};
 use toml::{Table, Value};
 
 /// The string of a key, where the key is there.

@@ -5,17 +5,10 @@ ghost use Rattle.std.specs.List.{list_all};
 ghost use Rattle.subj.specs.Names.{tokens};
 ghost use Rattle.mesh_file.specs.Hosts.{is_label_byte as label_byte, is_label as label_of_name, is_host_name as name_of_host, IsHostName, has_letter as some_letter};
 
-use arrayvec::ArrayString;
-use subj::split_token;
-
-/// The most bytes of a host's name. (RFC 1123, 2.1; RFC 1035, 2.3.4.)
-pub const MAX_HOST: usize = 253;
+use subj::{HostText, MAX_HOST, split_token};
 
 /// The most bytes of a label of a host's name: of a part between its dots. (RFC 1035, 2.3.4.)
 pub const MAX_LABEL: usize = 63;
-
-/// The text of a host: its name, or an IP address.
-pub type HostText = ArrayString<MAX_HOST>;
 
 /// Whether a label may have the byte.
 fn is_label_byte(byte: u8) -> bool

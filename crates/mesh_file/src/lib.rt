@@ -29,7 +29,7 @@ pub use addresses::{RouteAddress, RouteHost};
 pub use faults::{
     KeyText, MAX_KEY_TEXT, MeshFault, Pair, ServerFault, ServerKey, Shared, ValueFault,
 };
-pub use hosts::{HostText, MAX_HOST, MAX_LABEL};
+pub use hosts::MAX_LABEL;
 pub use mesh::MeshFile;
 pub use servers::MeshServer;
 pub use tables::DEFAULT_SHARDS;

@@ -2,11 +2,10 @@
 
 use crate::addresses::{RouteAddress, is_same_clients, is_same_route};
 use crate::faults::Shared;
-use crate::hosts::HostText;
 use std::fmt;
 use std::fmt::{Display, Formatter, Write};
 use std::net::SocketAddr;
-use subj::NodeId;
+use subj::{HostText, NodeId};
 
 /// A server of the mesh: its name, where its clients connect, where the other servers do, and the host that INFO tells, where that is
 /// not the address of `clients`. (Profile.)

@@ -26,7 +26,7 @@ use Rattle.shard_core.specs.ShardSteps.{after_attach, shard_refusal, shard_after
 
 -- node `n1` in its first life takes one client, by no port
 unfoldable pub pipe_info : InfoData
-pipe_info = record { name = codes "n1"; inc = 1; client_id = 1; port = 0 }
+pipe_info = record { server = record { name = codes "n1"; inc = 1; host = codes "127.0.0.1"; port = 0 }; client_id = 1 }
 
 -- what an answer depends on: the open subscriptions in order of opening, how many were opened, and how many jobs were made
 pub record Served : Type 0 where

@@ -47,8 +47,9 @@ pub fn pipe_run<R: Race, S: Source, W: Sink>(
     ensures reads { CountsReads result (S.reads source.old) (S.reads source.new) (S.failures source.old) (S.failures source.new) }
     ensures writes { CountsFailedWrites result (W.failures sink.old) (W.failures sink.new) }
 {
-    let mut conn = Conn::new(alloc, info());
+    let told = info(alloc)?;
     let mut server: PipeServer<R> = PipeServer::new(alloc)?;
+    let mut conn = Conn::new(alloc, told);
     serve(&mut conn, &mut server, source, sink)
 }
 

@@ -3,7 +3,7 @@
 
 ghost use Rattle.client_frames.specs.declared.server_frames.ReplyFrame.TheVariants as reply_frame;
 ghost use Rattle.client_frames.specs.declared.server_frames.ServerFrame.TheVariants as server_frame;
-ghost use Rattle.std.specs.Prelude.{◌≡◌, ◌≤◌, ◌++◌, [], true, not, length, None, IfOk, OnOk, is_some};
+ghost use Rattle.std.specs.Prelude.{◌≡◌, ◌≤◌, ◌++◌, [], true, not, length, codes, None, IfOk, OnOk, is_some};
 ghost use Rattle.client_frames.specs.Frames.{frame_bytes, reply_line};
 ghost use Rattle.subj.specs.declared.limits.TheConstants.{MAX_QUEUE_NAMES};
 ghost use Rattle.shard_core.specs.ShardEvents.{Subscribe, Unsubscribe, Reply, Shut, Take, Claim, End, Collect};
@@ -15,7 +15,7 @@ ghost use Rattle.mesh_pipe.specs.PipeStates.{outcome_by, served_state, IsNew, Is
 
 use claim_race::Race;
 use client_conn::{ClientAction, Refusal};
-use client_frames::{ErrText, InfoData, ReplyFrame, ServerFrame, encode, reply_line};
+use client_frames::{ErrText, InfoData, ReplyFrame, ServerFrame, ServerInfo, encode, reply_line};
 use client_refusals::{refusal_of_hub, refusal_of_shard};
 use hub_core::queue_names_are_wanted;
 use line_fields::{CR_LF, append_reserved};
@@ -23,7 +23,9 @@ use node_core::{Node, NodeFault, ShardWithJobs, counts_are_open};
 use std::alloc::{AllocError, Global};
 use std::marker::Model;
 use sub_trie::TrieTable;
-use subj::{ConnId, Failure, Incarnation, Key, NodeId, OUTBOX_BYTES, Pub, ServerIdentity, Sid};
+use subj::{
+    ConnId, Failure, HostText, Incarnation, Key, NodeId, OUTBOX_BYTES, Pub, ServerIdentity, Sid,
+};
 
 /// `+OK` with its line end, put together once, since in verbose mode each command is answered by it.
 #[derive(Drop)]
@@ -66,34 +68,56 @@ type PipeNode<R> = Node<TrieTable, R>;
 /// The number of its shard.
 const SHARD: u64 = 1;
 
-/// What the client is told first.
-pub fn info() -> InfoData
-    ensures { result ≡ pipe_info }
+/// The name of the server.
+fn name() -> NodeId
+    ensures { result ≡ codes "n1" }
 {
-    let Ok(name) = NodeId::read(b"n1") else {
+    match NodeId::read(b"n1") {
+        Ok(name) => name,
         // `n1` is a name
-        unreachable!()
-    };
-    let Some(inc) = Incarnation::new(1) else {
-        // 1 is an incarnation
-        unreachable!()
-    };
-    InfoData {
-        name,
-        inc,
-        client_id: ConnId::new(1),
-        port: 0,
+        Err(_) => unreachable!(),
     }
+}
+
+/// Its first life.
+fn first_life() -> Incarnation
+    ensures { result ≡ 1 }
+{
+    match Incarnation::new(1) {
+        Some(inc) => inc,
+        // 1 is an incarnation
+        None => unreachable!(),
+    }
+}
+
+/// The host that it tells.
+fn host() -> HostText
+    ensures { result.bytes ≡ codes "127.0.0.1" }
+{
+    match HostText::from("127.0.0.1") {
+        Ok(host) => host,
+        // a host's text may be as long
+        Err(_) => unreachable!(),
+    }
+}
+
+/// What the client is told first.
+pub fn info(alloc: Global) -> Result<InfoData, AllocError>
+    ensures { IfOk result (λ info. info ≡ pipe_info) }
+{
+    Ok(InfoData {
+        server: ServerInfo::new(alloc, name(), first_life(), host(), 0)?,
+        client_id: ConnId::new(1),
+    })
 }
 
 /// Node `n1`, alone in its cluster, in its first life, with one shard.
 fn only_server(alloc: Global) -> Result<ServerIdentity, AllocError>
     ensures { IfOk result (λ server. server ≡ pipe_server) }
 {
-    let info = info();
     let mut names = Vec::new(alloc);
-    names.push(info.name)?;
-    match ServerIdentity::new(names, 0, info.inc, SHARD) {
+    names.push(name())?;
+    match ServerIdentity::new(names, 0, first_life(), SHARD) {
         Some(server) => Ok(server),
         // one name, the first place and one shard are a server
         None => unreachable!(),

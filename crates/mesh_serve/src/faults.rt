@@ -99,8 +99,6 @@ pub enum NodeFault {
     Unread(io::Error),
     /// The file describes no mesh.
     NoMesh(MeshFault),
-    /// The file has this server advertise a host, which INFO cannot tell in this version.
-    Advertise(NodeId),
     /// The file has no server of this name.
     NotInMesh(NodeId),
     /// The file of the mesh names one that has no secret that is taken.
@@ -124,7 +122,6 @@ impl NodeFault {
             self,
             NodeFault::Unread(_)
                 | NodeFault::NoMesh(_)
-                | NodeFault::Advertise(_)
                 | NodeFault::NotInMesh(_)
                 | NodeFault::Secret(_)
         )
@@ -136,11 +133,6 @@ impl Display for NodeFault {
         match self {
             NodeFault::Unread(error) => write!(f, "the file of the mesh cannot be read: {error}"),
             NodeFault::NoMesh(fault) => write!(f, "the file of the mesh: {fault}"),
-            NodeFault::Advertise(name) => write!(
-                f,
-                "the file of the mesh: advertise of {}: leave it out, since INFO tells the host 127.0.0.1 in this version",
-                name.text()
-            ),
             NodeFault::NotInMesh(name) => {
                 write!(f, "the file of the mesh has no server {}", name.text())
             }

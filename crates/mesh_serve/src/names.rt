@@ -3,17 +3,17 @@
 
 use crate::faults::ServeFault;
 use event_log::EventLog;
-use mesh_file::{HostText, RouteAddress, RouteHost};
+use mesh_file::{RouteAddress, RouteHost};
 use node_net::{PeerAddresses, Shutdown};
 use server_events::Event;
 use std::alloc::{AllocError, Global};
-use std::net::{IpAddr, Net, SocketAddr, ToSocketAddrs};
+use std::net::{IpAddr, Net, SocketAddr, TcpListener, TcpStream, ToSocketAddrs};
 use std::rt::Clock;
 use std::sync::{Arc, Wait};
 use std::thread::Threads;
 use std::time::Duration;
 use std::{io, thread};
-use subj::{NodeId, ServerIdentity};
+use subj::{HostText, NodeId, ServerIdentity};
 
 /// For how many seconds nothing is looked up where the server is reached and nobody else came.
 const LONGEST_PAUSE: u64 = 30;
@@ -222,13 +222,22 @@ impl NamedPeer {
     }
 
     /// Begins a thread that looks the name up. It ends with the process, and nobody waits for it.
-    fn start<R: Threads + Wait + Net + Clock + Copy + Send + 'static>(
+    fn start<R>(
         self,
         rt: &R,
         alloc: Global,
         shared: Arc<Shared>,
         log: Arc<EventLog>,
-    ) -> Result<(), ServeFault> {
+    ) -> Result<(), ServeFault>
+    where
+        R: Threads
+            + Wait
+            + Net<Listener = TcpListener, Stream = TcpStream>
+            + Clock
+            + Copy
+            + Send
+            + 'static,
+    {
         let own = *rt;
         match thread::spawn(rt, move || self.look_on(&own, alloc, &shared, &log)) {
             Ok(_) => Ok(()),
@@ -255,14 +264,23 @@ fn named_peer(life: &ServerIdentity, place: usize, routes: &RouteAddress) -> Opt
 /// Has the name of each host looked up, for as long as the process runs, in a thread of its own: at once, and behind a look-up that gave no
 /// address after a second; behind one that gave one after a second where its server is not reached or somebody came from an address of no
 /// server, and after half a minute else. Addresses that a name had stay while it has none. What comes of it is told at this server.
-pub(crate) fn look_up_names<R: Threads + Wait + Net + Clock + Copy + Send + 'static>(
+pub(crate) fn look_up_names<R>(
     rt: &R,
     alloc: Global,
     life: &ServerIdentity,
     routes: &[RouteAddress],
     shared: &Arc<Shared>,
     log: &Arc<EventLog>,
-) -> Result<(), ServeFault> {
+) -> Result<(), ServeFault>
+where
+    R: Threads
+        + Wait
+        + Net<Listener = TcpListener, Stream = TcpStream>
+        + Clock
+        + Copy
+        + Send
+        + 'static,
+{
     for (place, routes) in routes.iter().enumerate() {
         if let Some(peer) = named_peer(life, place, routes) {
             let shared = Arc::try_clone(shared)?;

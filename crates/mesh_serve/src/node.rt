@@ -9,7 +9,7 @@ use crate::planned::{Ends, Orders, Plan, PlannedServer, host_at};
 use crate::secret::{SecretFileFault, read_secret};
 use crate::serving::serve_plan;
 use incarnation_file::{FileDisk, raise};
-use mesh_file::{HostText, MeshFile, MeshServer, RouteAddress};
+use mesh_file::{MeshFile, MeshServer, RouteAddress};
 use peer_proof::Secret;
 use router_command::NodeOptions;
 use std::alloc::{AllocError, Global};
@@ -20,32 +20,13 @@ use std::random::RandomSource;
 use std::rt::Clock;
 use std::sync::Wait;
 use std::thread::Threads;
-use subj::{Incarnation, MAX_NODES, NodeId, ServerIdentity};
+use subj::{HostText, Incarnation, MAX_NODES, NodeId, ServerIdentity};
 
-/// The file at this path.
-fn read_file<R: Files + Alloc<A = Global>>(rt: &R, path: &str) -> Result<MeshFile, NodeFault> {
+/// The mesh that the file at this path describes.
+fn read_mesh<R: Files + Alloc<A = Global>>(rt: &R, path: &str) -> Result<MeshFile, NodeFault> {
     match fs::read_to_string(rt, path) {
         Ok(text) => Ok(MeshFile::read(rt.alloc(), &text)?),
         Err(error) => Err(NodeFault::Unread(error)),
-    }
-}
-
-/// What of the mesh cannot be served by this version: the first host that a server would advertise.
-fn unserved(mesh: &MeshFile) -> Option<NodeFault> {
-    for server in mesh.servers() {
-        if server.advertise.is_some() {
-            return Some(NodeFault::Advertise(server.name));
-        }
-    }
-    None
-}
-
-/// The mesh that the file at this path describes, where all of it can be served.
-fn read_mesh<R: Files + Alloc<A = Global>>(rt: &R, path: &str) -> Result<MeshFile, NodeFault> {
-    let mesh = read_file(rt, path)?;
-    match unserved(&mesh) {
-        Some(fault) => Err(fault),
-        None => Ok(mesh),
     }
 }
 
@@ -240,10 +221,10 @@ fn tell_life<R: Print + Eprint>(
 
 /// Serves one server of the mesh that the options' file describes, and takes part in the mesh as soon as the others are reached.
 ///
-/// The file is read first, then that of the secret where there is one, and the server's incarnation is raised in its folder before any socket
-/// opens; the folder is this process's until the end. Then standard output tells the incarnation, and where clients and other servers connect. It
-/// ends once the server has drained, which it is told at the path of the options, by [`ask_drain`](crate::ask_drain). The error is the first cause,
-/// in the order of [`NodeFault`]. May wait, and for ever.
+/// The file is read first, then that of the secret where there is one, and the server's incarnation is raised in its folder before any socket opens; the folder is this process's
+/// until the end. Then standard output tells the incarnation, and where clients and other servers connect. It ends once the server has
+/// drained, which it is told at the path of the options, by [`ask_drain`](crate::ask_drain). The error is the first cause, in the order of
+/// [`NodeFault`]. May wait, and for ever.
 pub fn serve_node<R>(rt: &R, alloc: Global, options: &NodeOptions<'_>) -> Result<(), NodeFault>
 where
     R: Threads

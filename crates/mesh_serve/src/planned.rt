@@ -5,13 +5,13 @@ ghost use Rattle.router_command.specs.Ranges.{AreWithin};
 
 use crate::faults::ServeFault;
 use log::LevelFilter;
-use mesh_file::{HostText, RouteAddress, RouteHost};
+use mesh_file::{RouteAddress, RouteHost};
 use peer_proof::Secret;
 use router_command::{NodeOptions, Options};
 use std::alloc::{AllocError, Global};
 use std::fmt::Write;
 use std::net::{IpAddr, Ipv4Addr, SocketAddr};
-use subj::{MAX_NODES, NameFault, NodeId, ServerIdentity};
+use subj::{HostText, MAX_NODES, NameFault, NodeId, ServerIdentity};
 
 /// Where clients and other servers connect to a server.
 #[derive(Clone, Copy)]
@@ -178,7 +178,8 @@ fn push_planned(
     requires within { AreWithin options.now }
     requires place { place < options.now.nodes }
 {
-    plan.routes.push(local_routes(options.route_port(place)))?;
+    let routes = [local_routes(options.route_port(place))];
+    plan.routes.extend_from_slice(&routes)?;
     plan.servers.push(planned_server(alloc, options, place)?)?;
     Ok(())
 }

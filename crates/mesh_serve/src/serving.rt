@@ -352,7 +352,7 @@ fn seek_peers<R>(
     log: &Arc<EventLog>,
 ) -> Result<(), ServeFault>
 where
-    R: Threads + Wait + Net + Clock + Copy + Send + 'static,
+    R: Threads + Wait + Net<Listener = Listener, Stream = Stream> + Clock + Copy + Send + 'static,
 {
     match bound.servers.first() {
         None => Ok(()),

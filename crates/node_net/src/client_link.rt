@@ -13,7 +13,9 @@ use server_calls::{HubCalls, ServerCalls, ShardCalls};
 use std::alloc::{AllocError, Global};
 use std::collections::BTreeSet;
 use std::sync::Wait;
-use subj::{ConnId, Failure, Key, Pub, SUBSCRIPTIONS, ServerIdentity as Life, Sid, WINDOW};
+use subj::{
+    ConnId, Failure, HostText, Key, Pub, SUBSCRIPTIONS, ServerIdentity as Life, Sid, WINDOW,
+};
 use wire_cut::Source;
 
 /// What a client calls its open subscriptions, but for those that end by themselves (`UNSUB` with a maximum), and those for which there was
@@ -281,15 +283,16 @@ fn served_of(served: Result<Served, AllocError>) -> Served {
 
 impl ClientLink {
     /// A new client of this shard, which is held: one of whom nothing was read, and who is told first of this life
-    /// of a server with this port.
+    /// of a server with this host and this port.
     pub fn attach<S: ShardCalls>(
         alloc: Global,
         shard: &mut S,
         life: &Life,
+        host: HostText,
         port: u16,
     ) -> Result<ClientLink, Failure<Refusal>> {
         let number = shard.shard();
-        match Calls::attach(alloc, shard, life.name(), life.inc(), port) {
+        match Calls::attach(alloc, shard, life.name(), life.inc(), host, port) {
             Ok(calls) => Ok(ClientLink {
                 alloc,
                 calls,

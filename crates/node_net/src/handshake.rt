@@ -3,7 +3,7 @@
 use peer_proof::{Acceptor, Answer, Dialer, Heard, Hello, Mac, ProofFault, Secret};
 use server_events::RefusalCause;
 use std::alloc::AllocError;
-use subj::ServerIdentity as Life;
+use subj::{NodeId, ServerIdentity as Life};
 
 /// This end of a handshake, which waits for the other's next line.
 #[derive(Clone, Copy)]
@@ -58,14 +58,31 @@ fn cause_of(fault: ProofFault) -> RefusalCause {
     }
 }
 
+/// The dialer has proved that it is the server of this name.
+fn proved(life: &Life, name: NodeId) -> Proving {
+    match life.place(name) {
+        Some(place) => Proving::Admits(place),
+        None => Proving::Refuses(RefusalCause::UnknownServer),
+    }
+}
+
+/// The dialer is told this, and is to prove itself still.
+fn answered(next: Acceptor, answer: Answer) -> Proving {
+    Proving::Answers { next, answer }
+}
+
+/// What a line comes to that is not refused.
+fn taken(life: &Life, heard: &Heard) -> Proving {
+    match heard {
+        Heard::Hello { next, answer } => answered(*next, *answer),
+        Heard::Proved(name) => proved(life, *name),
+    }
+}
+
 /// What the acceptor makes of the dialer's next line.
 fn heard_by(acceptor: &Acceptor, secret: &Secret, life: &Life, line: &[u8]) -> Proving {
     match acceptor.hear(secret, life, line) {
-        Ok(Heard::Hello { next, answer }) => Proving::Answers { next, answer },
-        Ok(Heard::Proved(name)) => match life.place(name) {
-            Some(place) => Proving::Admits(place),
-            None => Proving::Refuses(RefusalCause::UnknownServer),
-        },
+        Ok(heard) => taken(life, &heard),
         Err(fault) => Proving::Refuses(cause_of(fault)),
     }
 }

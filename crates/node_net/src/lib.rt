@@ -46,5 +46,5 @@ pub use control::{Control, DRAIN, DRAINS, NO_SERVER};
 pub use faults::AddFault;
 pub use net_streams::{MemStream, Stream, StreamFault};
 pub use running::{Sockets, WAKER};
-pub use server::{HostText, Server, Side, shard_of_client};
+pub use server::{Server, Side, shard_of_client};
 pub use shutdown::{ServerControl, Shutdown};

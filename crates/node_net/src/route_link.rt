@@ -208,12 +208,17 @@ impl RouteLink {
     /// Goes on with its handshake by the next line, where it is whole: what that comes to.
     pub fn hear(&mut self, secret: &Secret, life: &Life) -> Proving {
         let proving = self.heard(secret, life);
-        match &proving {
+        self.go_on(&proving);
+        proving
+    }
+
+    /// What is awaited behind a line that comes to this.
+    fn go_on(&mut self, proving: &Proving) {
+        match proving {
             Proving::Answers { next, .. } => self.await_proof(*next),
             Proving::Reached(_) | Proving::Admits(_) => self.end_proof(),
             Proving::Waits | Proving::Refuses(_) => {}
         }
-        proving
     }
 
     /// The dialer is to prove itself next.

@@ -15,7 +15,6 @@ use crate::peers::Peers;
 use crate::proving::Guard;
 use crate::route_link::{RouteLink, Stage, cut};
 use crate::taken::Taken;
-use arrayvec::ArrayString;
 use client_conn::Refusal;
 use net_streams::Stream;
 use rand_core::SeedableRng;
@@ -27,10 +26,7 @@ use server_events::{Caller, Event, Events, PeerCause, RefusalCause};
 use shard_core::DirtyConns;
 use std::alloc::{AllocError, Global};
 use std::sync::Wait;
-use subj::{ConnId, Failure, NodeId, ServerIdentity as Life};
-
-/// The text of a host: its name, or an IP address, of at most 253 bytes.
-pub type HostText = ArrayString<253>;
+use subj::{ConnId, Failure, HostText, NodeId, ServerIdentity as Life};
 
 /// Who is at the other end of a stream.
 #[derive(Clone, Copy)]
@@ -52,18 +48,19 @@ pub fn shard_of_client(client: u64, shards: u64) -> u64
     client.saturating_sub(1) % shards + 1
 }
 
-/// The next client of this shard, who is told first of this life of a server with this port.
+/// The next client of this shard, who is told first of this life of a server with this host and this port.
 fn attach<C: ServerCalls, R: Wait>(
     rt: &R,
     node: C,
     alloc: Global,
     shard: u64,
     life: &Life,
+    host: HostText,
     port: u16,
 ) -> Result<ClientLink, AddFault> {
     match node.shard(rt, shard) {
         None => Err(AddFault::Client(Refusal::Other)),
-        Some(mut shard) => Ok(ClientLink::attach(alloc, &mut shard, life, port)?),
+        Some(mut shard) => Ok(ClientLink::attach(alloc, &mut shard, life, host, port)?),
     }
 }
 
@@ -264,7 +261,9 @@ impl<S: Stream, C: ServerCalls> Server<S, C> {
     fn client<R: Wait>(&mut self, rt: &R) -> Result<Link, AddFault> {
         let number = self.came.saturating_add(1);
         let shard = shard_of_client(number, self.life.shards());
-        let link = attach(rt, self.node, self.alloc, shard, &self.life, self.port)?;
+        let link = attach(
+            rt, self.node, self.alloc, shard, &self.life, self.host, self.port,
+        )?;
         self.came = number;
         Ok(Link::Client(link))
     }

@@ -4,19 +4,19 @@ use crate::names::{message_in, named};
 use client_conn::{ClientAction, Conn, Refusal};
 use client_frames::{
     ClientLine, Delivery, ErrText, InfoData, LineFault, MessageLines, PubHead, ReplyFrame,
-    ServerFrame, SharedTexts, decode_line, encode, info_text, message_line, reply_line,
+    ServerFrame, ServerInfo, SharedTexts, decode_line, encode, info_text, message_line, reply_line,
 };
 use golden::{
-    Words, bytes_of, life_in, number, push_key, push_shown, put, sid_of, tell, tell_bytes,
-    tell_number, tell_refusal,
+    Words, bytes_of, headed_message_of, life_in, number, push_key, push_shown, put, sid_of, tell,
+    tell_bytes, tell_number, tell_refusal,
 };
 use std::alloc::Global;
 use std::fmt::Write;
-use subj::{ConnId, Failure, Key, Pattern, Pub, QueueName, Sid};
+use subj::{ConnId, Failure, HostText, Key, Message, Pattern, Pub, QueueName, Reply, Sid};
 use wire_cut::CutFault;
 
 /// The texts by their names.
-static TEXTS: [(&str, ErrText); 10] = [
+static TEXTS: [(&str, ErrText); 11] = [
     (
         "MaximumControlLineExceeded",
         ErrText::MaximumControlLineExceeded,
@@ -29,6 +29,7 @@ static TEXTS: [(&str, ErrText); 10] = [
     ),
     ("SlowConsumer", ErrText::SlowConsumer),
     ("InvalidSubject", ErrText::InvalidSubject),
+    ("BadHeaders", ErrText::BadHeaders),
     ("TooManyQueueGroups", ErrText::TooManyQueueGroups),
     ("TooManySubscriptions", ErrText::TooManySubscriptions),
     ("Draining", ErrText::Draining),
@@ -66,6 +67,7 @@ pub fn fault_call(answer: &mut String, call: &str, name: &str) -> Option<()> {
         "BadArgs" => line_fault(answer, LineFault::BadArgs),
         "BadJson" => line_fault(answer, LineFault::BadJson),
         "BadSubject" => line_fault(answer, LineFault::BadSubject),
+        "BadHeader" => line_fault(answer, LineFault::BadHeader),
         "LineTooLong" => cut_fault(answer, CutFault::LineTooLong),
         "PayloadTooLong" => cut_fault(answer, CutFault::PayloadTooLong),
         "NoCrLfAfterPayload" => cut_fault(answer, CutFault::NoCrLfAfterPayload),
@@ -73,28 +75,34 @@ pub fn fault_call(answer: &mut String, call: &str, name: &str) -> Option<()> {
     }
 }
 
-/// What a server tells of itself: its name and incarnation, the number of the connection, and the port.
-fn info_of(word: &str) -> Option<InfoData> {
-    let (life, rest) = word.split_once(", ")?;
-    let (conn, port) = rest.split_once(", ")?;
+/// What a server tells all its clients of itself: its name and incarnation, its port, and its host where that is another than 127.0.0.1.
+fn server_info(alloc: Global, life: &str, rest: &str) -> Option<ServerInfo> {
+    let (port, host) = rest.split_once(", ").unwrap_or((rest, "127.0.0.1"));
     let life = life_in(life)?;
+    let host = HostText::from(host).ok()?;
+    ServerInfo::new(alloc, life.name, life.inc, host, port.parse().ok()?).ok()
+}
+
+/// What a server tells a client first: its name and incarnation, the number of the connection, the port and perhaps the host.
+fn info_of(alloc: Global, word: &str) -> Option<InfoData> {
+    let (life, rest) = word.split_once(", ")?;
+    let (conn, rest) = rest.split_once(", ")?;
+    let server = server_info(alloc, life, rest)?;
     Some(InfoData {
-        name: life.name,
-        inc: life.inc,
+        server,
         client_id: ConnId::new(number(conn)),
-        port: port.parse().ok()?,
     })
 }
 
 /// The reply that a word is: `pong`, `ok`, `err` and the name of its text, or `info` and
-/// what a server tells of itself, as in `info n1 1, 1, 4222`.
-pub fn reply_of(word: &str) -> Option<ReplyFrame> {
+/// what a server tells of itself, as in `info n1 1, 1, 4222` or `info n1 1, 1, 4222, n1.example.com`.
+pub fn reply_of(alloc: Global, word: &str) -> Option<ReplyFrame> {
     let (kind, rest) = word.split_once(' ').unwrap_or((word, ""));
     match kind {
         "pong" => Some(ReplyFrame::Pong),
         "ok" => Some(ReplyFrame::Ok),
         "err" => Some(ReplyFrame::Err(err_text(rest)?)),
-        "info" => Some(ReplyFrame::Info(info_of(rest)?)),
+        "info" => Some(ReplyFrame::Info(info_of(alloc, rest)?)),
         _ => None,
     }
 }
@@ -125,24 +133,33 @@ fn line_of_reply(answer: &mut String, alloc: Global, reply: &ReplyFrame) -> Opti
 
 /// Makes a call of a reply.
 pub fn reply_call(answer: &mut String, alloc: Global, call: &str, word: &str) -> Option<()> {
-    let reply = reply_of(word)?;
+    let reply = reply_of(alloc, word)?;
     match call {
         "line" => line_of_reply(answer, alloc, &reply),
         "bytes" => frame_told(answer, alloc, &ServerFrame::Reply(reply)),
+        "copy" => line_of_reply(answer, alloc, &reply.try_clone().ok()?),
         _ => None,
     }
 }
 
 /// Tells the text of what a server tells of itself.
 pub fn info_call(answer: &mut String, alloc: Global, word: &str) -> Option<()> {
-    let told = info_text(alloc, &info_of(word)?).ok()?;
+    let told = info_text(alloc, &info_of(alloc, word)?).ok()?;
     tell(answer, told.as_str())
+}
+
+/// The message that the words are, with the header block that the fifth is, or with none where there is no fifth.
+fn headed_in(alloc: Global, words: &Words<'_>) -> Option<Message> {
+    match words.at(4) {
+        "" => message_in(alloc, words),
+        block => headed_message_of(alloc, words.at(0), words.at(1), block, words.at(2))?,
+    }
 }
 
 /// The delivery of a message to a subscription, which is the fourth word.
 fn delivery_of(alloc: Global, words: &Words<'_>) -> Option<Delivery> {
     let sid = sid_of(alloc, words.at(3))?;
-    let message = message_in(alloc, words)?;
+    let message = headed_in(alloc, words)?;
     Some(Delivery { message, sid })
 }
 
@@ -164,7 +181,7 @@ fn delivery_told(answer: &mut String, alloc: Global, delivery: Delivery) -> Opti
     frame_told(answer, alloc, &ServerFrame::Msg(delivery))
 }
 
-/// Makes a call of the delivery of a message: its subject, its reply, its payload and the subscription.
+/// Makes a call of the delivery of a message: its subject, its reply, its payload, the subscription and perhaps a header block.
 pub fn delivery_call(
     answer: &mut String,
     alloc: Global,
@@ -185,13 +202,32 @@ fn on_or_off(option: bool) -> &'static str {
     if option { "on" } else { "off" }
 }
 
-/// Tells what is published, but for its payload. A bar stands where there is no reply.
-fn head_told(answer: &mut String, head: &PubHead) -> Option<()> {
-    tell_bytes(answer, "pub ", head.subject.bytes())?;
-    match &head.reply {
-        None => tell(answer, " |")?,
-        Some(reply) => tell_bytes(answer, " ", reply.bytes())?,
+/// Tells where an answer is awaited. A bar stands where it is nowhere.
+fn reply_place_told(answer: &mut String, reply: Option<&Reply>) -> Option<()> {
+    match reply {
+        None => tell(answer, " |"),
+        Some(reply) => tell_bytes(answer, " ", reply.bytes()),
     }
+}
+
+/// Tells the size of a header block, where there is one.
+fn headers_told(answer: &mut String, headers: Option<u64>) -> Option<()> {
+    match headers {
+        None => Some(()),
+        Some(size) => tell_number(answer, " ", size),
+    }
+}
+
+/// Tells what is published, but for its headers and its payload.
+fn head_told(answer: &mut String, head: &PubHead) -> Option<()> {
+    let operation = if head.headers.is_some() {
+        "hpub "
+    } else {
+        "pub "
+    };
+    tell_bytes(answer, operation, head.subject.bytes())?;
+    reply_place_told(answer, head.reply.as_ref())?;
+    headers_told(answer, head.headers)?;
     tell_number(answer, " ", head.size)
 }
 
@@ -305,6 +341,17 @@ fn subscription_told(answer: &mut String, key: &Key, sid: &Sid) -> Option<()> {
     tell_bytes(answer, " ", sid.bytes())
 }
 
+/// Tells where an answer to a message is awaited, its header block and its payload, where it has such a block.
+fn headed_told(answer: &mut String, message: &Message) -> Option<()> {
+    let Some(block) = message.headers() else {
+        return Some(());
+    };
+    reply_place_told(answer, message.reply())?;
+    tell_bytes(answer, " [", block)?;
+    tell_bytes(answer, "] [", message.payload())?;
+    tell(answer, "]")
+}
+
 /// Tells of a publication to be made, and whether the client's own subscriptions may get it.
 fn publication_told(answer: &mut String, publication: &Pub) -> Option<()> {
     let what = if publication.echo {
@@ -312,7 +359,8 @@ fn publication_told(answer: &mut String, publication: &Pub) -> Option<()> {
     } else {
         "publish to others "
     };
-    tell_bytes(answer, what, publication.message.subject().bytes())
+    tell_bytes(answer, what, publication.message.subject().bytes())?;
+    headed_told(answer, &publication.message)
 }
 
 /// Tells what is asked.
@@ -413,14 +461,14 @@ fn greeted_beginnings(
 
 /// The same of a stream on a connection of its own.
 fn first_beginnings(answer: &mut String, alloc: Global, word: &str) -> Option<()> {
-    let told = info_of("n1 1, 1, 0")?;
+    let told = info_of(alloc, "n1 1, 1, 0")?;
     let mut conn = Conn::new(alloc, told);
     greeted_beginnings(answer, &mut conn, alloc, word)
 }
 
 /// A connection of a client that is told this first takes the place of the one that stands.
 fn renew(answer: &mut String, conn: &mut Option<Conn>, alloc: Global, word: &str) -> Option<()> {
-    put(conn, Some(Conn::new(alloc, info_of(word)?)));
+    put(conn, Some(Conn::new(alloc, info_of(alloc, word)?)));
     tell(answer, "ok")
 }
 

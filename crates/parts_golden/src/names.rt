@@ -2,9 +2,9 @@
 
 use bytes::Bytes;
 use golden::{
-    Words, bytes_of, key_in, life_of, message_of, pattern_of, payload_of, push_key, push_shown,
-    queues_of, server_of, subject_of, tell, tell_bytes, tell_choice, tell_number, tell_refusal,
-    tell_whether,
+    Words, bytes_of, headed_message_of, key_in, life_of, message_of, pattern_of, payload_of,
+    push_key, push_shown, queues_of, server_of, subject_of, tell, tell_bytes, tell_choice,
+    tell_number, tell_refusal, tell_whether,
 };
 use line_fields::{MAX_DIGITS, fields, is_word, read_digits, split_line};
 use std::alloc::Global;
@@ -339,12 +339,25 @@ fn message_copy(answer: &mut String, alloc: Global, words: &Words<'_>) -> Option
     tell_bytes(answer, " ", copy.payload().as_slice())
 }
 
+/// Tells the header block, the payload and both together of a copy of a message whose header block is the third word.
+fn headed_copy(answer: &mut String, alloc: Global, words: &Words<'_>) -> Option<()> {
+    let (subject, reply) = (words.at(0), words.at(1));
+    let Some(message) = headed_message_of(alloc, subject, reply, words.at(2), words.at(3))? else {
+        return tell(answer, "none");
+    };
+    let copy = message.try_clone().ok()?;
+    tell_bytes(answer, "[", copy.headers()?)?;
+    tell_bytes(answer, "] [", copy.payload())?;
+    tell_bytes(answer, "] [", copy.whole())?;
+    tell(answer, "]")
+}
+
 /// A publication on `foo` with a payload of so many bytes, of which there are at most two more than the limit.
 fn sized_of(alloc: Global, size: u64) -> Option<Option<Pub>> {
     let size = (size as usize).min(MAX_PAYLOAD + 2);
     let payload = Bytes::from_vec(vec![in alloc; b'x'; size].ok()?).ok()?;
     let subject = subject_of(alloc, "foo")?;
-    Pub::new(alloc, subject, None, payload, true).ok()
+    Pub::new(alloc, subject, None, None, payload, true).ok()
 }
 
 /// Tells whether a payload of so many bytes can be published.
@@ -406,6 +419,7 @@ pub fn message_call(
 ) -> Option<()> {
     match call {
         "copy" => message_copy(answer, alloc, words),
+        "headed" => headed_copy(answer, alloc, words),
         "sized" => sized(answer, alloc, words.number(0)),
         "job" => job_copy(answer, alloc, words),
         _ => None,

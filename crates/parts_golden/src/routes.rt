@@ -3,8 +3,8 @@
 use crate::client::reply_of;
 use bytes::Bytes;
 use golden::{
-    Life, Words, bytes_of, key_in, life_in, message_of, number, push_key, push_shown, put,
-    queues_of, sid_of, tell, tell_bytes, tell_number, tell_refusal,
+    Life, Words, bytes_of, headed_message_of, key_in, life_in, message_of, number, push_key,
+    push_shown, put, queues_of, sid_of, tell, tell_bytes, tell_number, tell_refusal,
 };
 use route_frames::{
     Body, Numbered, RouteConnect, RouteFault, RouteFrame, RouteInfo, RouteLine, SnapshotKeys,
@@ -80,10 +80,17 @@ fn message_in(alloc: Global, word: &str) -> Option<Message> {
     message_of(alloc, subject, reply, payload)
 }
 
+/// The same with a header block in front of the payload.
+fn headed_message_in(alloc: Global, word: &str) -> Option<Message> {
+    let (subject, rest) = word.split_once(',')?;
+    let (reply, rest) = rest.split_once(',')?;
+    let (block, payload) = rest.split_once(',')?;
+    headed_message_of(alloc, subject, reply, block, payload)?
+}
+
 /// The publication of a message for these queue names.
-fn publication_of(alloc: Global, queues: &str, message: &str) -> Option<Body> {
+fn publication_of(alloc: Global, queues: &str, message: Message) -> Option<Body> {
     let queues = queues_of(alloc, queues)??;
-    let message = message_in(alloc, message)?;
     Some(Body::Msg { message, queues })
 }
 
@@ -108,7 +115,8 @@ fn body_of(alloc: Global, kind: &str, words: &Words<'_>) -> Option<Body> {
         "plus" => plus_of(alloc, words.at(3)),
         "minus" => minus_of(alloc, words.at(3)),
         "snapshot" => keys_of(alloc, words.at(3)),
-        "msg" => publication_of(alloc, words.at(3), words.at(4)),
+        "msg" => publication_of(alloc, words.at(3), message_in(alloc, words.at(4))?),
+        "hmsg" => publication_of(alloc, words.at(3), headed_message_in(alloc, words.at(4))?),
         _ => None,
     }
 }
@@ -253,11 +261,14 @@ fn names_told(answer: &mut String, names: &[QueueName]) -> Option<()> {
     Some(())
 }
 
-/// Tells the subject of a message, that of the answer where one is awaited, and the payload.
+/// Tells the subject of a message, that of the answer where one is awaited, the header block where there is one, and the payload.
 fn message_told(answer: &mut String, message: &Message) -> Option<()> {
     tell_bytes(answer, "on ", message.subject().bytes())?;
     if let Some(reply) = message.reply() {
         tell_bytes(answer, ", answers to ", reply.bytes())?;
+    }
+    if let Some(block) = message.headers() {
+        tell_bytes(answer, ", headers ", block)?;
     }
     tell_bytes(answer, ": ", message.payload().as_slice())
 }
@@ -662,6 +673,11 @@ fn same_messages(alloc: Global, a: &str, b: &str) -> Option<bool> {
     Some(is_same_message(&a, &b))
 }
 
+fn same_headed(alloc: Global, a: &str, b: &str) -> Option<bool> {
+    let (a, b) = (headed_message_in(alloc, a)?, headed_message_in(alloc, b)?);
+    Some(is_same_message(&a, &b))
+}
+
 fn same_pubs(alloc: Global, a: &str, b: &str) -> Option<bool> {
     let (a, b) = (pub_of(alloc, a)?, pub_of(alloc, b)?);
     Some(is_same_pub(&a, &b))
@@ -688,8 +704,8 @@ fn same_sids(alloc: Global, a: &str, b: &str) -> Option<bool> {
     Some(is_same_sid(&a, &b))
 }
 
-fn same_answers(a: &str, b: &str) -> Option<bool> {
-    let (a, b) = (reply_of(a)?, reply_of(b)?);
+fn same_answers(alloc: Global, a: &str, b: &str) -> Option<bool> {
+    let (a, b) = (reply_of(alloc, a)?, reply_of(alloc, b)?);
     Some(is_same_answer(&a, &b))
 }
 
@@ -721,9 +737,10 @@ fn are_same_values(alloc: Global, kind: &str, text: &str) -> Option<bool> {
         "sid" => same_sids(alloc, a, b),
         "key" => same_keys(alloc, a, b),
         "message" => same_messages(alloc, a, b),
+        "headed" => same_headed(alloc, a, b),
         "pub" => same_pubs(alloc, a, b),
         "frame" => same_frames(alloc, a, b),
-        "answer" => same_answers(a, b),
+        "answer" => same_answers(alloc, a, b),
         "sid_copy" => sid_and_copy(alloc, text),
         "key_copy" => key_and_copy(alloc, text),
         "frame_copy" => frame_and_copy(alloc, text),

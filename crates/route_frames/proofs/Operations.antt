@@ -35,6 +35,7 @@ each_is_found operation.Plus = refl
 each_is_found operation.Minus = refl
 each_is_found operation.Snapshot = refl
 each_is_found operation.Msg = refl
+each_is_found operation.HeaderMsg = refl
 
 same_letters : (o : Operation) (field : List ℕ) → is_word (word_of o) field ≡ true → lower field ≡ lower (word_of o)
 same_letters o field named = (bytes_eq-Decides (lower field) (lower (word_of o))).0 named
@@ -64,6 +65,7 @@ letters_are_field operation.Plus = (refl, refl)
 letters_are_field operation.Minus = (refl, refl)
 letters_are_field operation.Snapshot = (refl, refl)
 letters_are_field operation.Msg = (refl, refl)
+letters_are_field operation.HeaderMsg = (refl, refl)
 
 pub word_is_field : (o : Operation) (field : List ℕ) → is_word (word_of o) field ≡ true → IsField field
 word_is_field o field named =

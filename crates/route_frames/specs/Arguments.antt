@@ -1,5 +1,6 @@
--- The fields behind the five common ones, by their number. NATS documentation, "Cluster Protocol"; the number of queue names and snapshots: profile.
-use Rattle.std.specs.Prelude.{ℕ, List, [], ◌∷◌, codes, Option, Some, None, if◌then◌else◌}
+-- The fields behind the five common ones, by their number. NATS documentation, "Cluster Protocol"; the number of queue names, snapshots and
+-- `RHMSG`: profile.
+use Rattle.std.specs.Prelude.{ℕ, List, [], ◌∷◌, codes, Option, Some, None, option_map, if◌then◌else◌}
 use Rattle.std.specs.Str.{bytes_eq}
 
 -- ---- RS+ <account> <pattern> [<queue> <weight>]
@@ -49,6 +50,8 @@ pub record Form : Type 0 where
 pub record MessageFields : Type 0 where
   pub account : List ℕ
   pub subject : List ℕ
+  -- the size of the header block, where there is one
+  pub headers : Option (List ℕ)
   pub form : Form
 
 abbrev pub in_front : List ℕ → List (List ℕ) × List ℕ → List (List ℕ) × List ℕ
@@ -93,9 +96,26 @@ form_of (first ∷ others) = form_split first (split_last others)
 
 abbrev pub message_form : List ℕ → List ℕ → Option Form → Option MessageFields
 message_form account subject None = None
-message_form account subject (Some form) = Some (record { account = account; subject = subject; form = form })
+message_form account subject (Some form) = Some (record { account = account; subject = subject; headers = None; form = form })
 
 abbrev pub message_fields : List (List ℕ) → Option MessageFields
 message_fields [] = None
 message_fields (account ∷ []) = None
 message_fields (account ∷ subject ∷ others) = message_form account subject (form_of others)
+
+-- ---- RHMSG: the fields of an RMSG, with two sizes in place of the one: that of the header block, and behind it that of block and payload together
+
+abbrev pub with_total : List ℕ → MessageFields → MessageFields
+with_total total fields = record {
+  account = fields.account;
+  subject = fields.subject;
+  headers = Some fields.form.size;
+  form = record { reply = fields.form.reply; names = fields.form.names; size = total };
+}
+
+abbrev pub total_behind : Option (List (List ℕ) × List ℕ) → Option MessageFields
+total_behind None = None
+total_behind (Some split) = option_map (with_total split.1) (message_fields split.0)
+
+abbrev pub header_fields : List (List ℕ) → Option MessageFields
+header_fields all = total_behind (split_last all)

@@ -3,6 +3,7 @@ use Rattle.std.specs.Prelude.{ℕ, List, [], ◌∷◌, ◌++◌, length, codes,
 use Rattle.std.specs.List.{flat_map}
 use Rattle.std.specs.Option.{option_to_list}
 use Rattle.line_fields.specs.LineEnd.{payload_bytes}
+use Rattle.subj.specs.Messages.{body_of}
 use Rattle.serde_json.specs.Data.{Data, number, unsigned, string, object, member, no_members}
 use Rattle.serde_json.specs.Written.{compact_text}
 use Rattle.route_values.specs.declared.bodies.Body.{Body}
@@ -39,11 +40,16 @@ connect_json connect = object (
 abbrev pub fields_with_spaces : List (List ℕ) → List ℕ
 fields_with_spaces fields = flat_map (λ field. 32 ∷ field) fields
 
+-- a publication with headers has an operation of its own
+abbrev pub message_operation : Option (List ℕ) → Operation
+message_operation None = operation.Msg
+message_operation (Some block) = operation.HeaderMsg
+
 abbrev pub operation_for : Body → Operation
 operation_for (Plus key) = operation.Plus
 operation_for (Minus key) = operation.Minus
 operation_for (Snapshot keys) = operation.Snapshot
-operation_for (Msg message queues) = operation.Msg
+operation_for (Msg message queues) = message_operation message.headers
 
 abbrev pub operation_word : Body → List ℕ
 operation_word body = word_of (operation_for body)
@@ -63,11 +69,16 @@ form_fields (Some reply) [] = reply ∷ []
 form_fields None (name ∷ names) = codes "|" ∷ name ∷ names
 form_fields (Some reply) (name ∷ names) = codes "+" ∷ reply ∷ name ∷ names
 
+-- the size of the header block, where there is one, and that of all that follows the line
+abbrev pub size_fields : Option (List ℕ) → ℕ → List (List ℕ)
+size_fields None size = decimal size ∷ []
+size_fields (Some block) size = decimal (length block) ∷ decimal size ∷ []
+
 abbrev pub body_fields : Body → List (List ℕ)
 body_fields (Plus weighted) = codes "$G" ∷ weighted.0.pattern ∷ member_fields weighted.0.queue weighted.1
 body_fields (Minus key) = codes "$G" ∷ key.pattern ∷ option_to_list key.queue
 body_fields (Snapshot keys) = decimal (length (snapshot_text keys)) ∷ []
-body_fields (Msg message queues) = codes "$G" ∷ message.subject ∷ (form_fields message.reply queues ++ decimal (length message.payload) ∷ [])
+body_fields (Msg message queues) = codes "$G" ∷ message.subject ∷ (form_fields message.reply queues ++ size_fields message.headers (length (body_of message)))
 
 unfoldable pub numbered_line : Frame → List ℕ
 numbered_line frame = operation_word frame.body ++ (fields_with_spaces (common_of frame) ++ fields_with_spaces (body_fields frame.body))
@@ -84,7 +95,7 @@ abbrev pub body_payload : Body → Option (List ℕ)
 body_payload (Plus key) = None
 body_payload (Minus key) = None
 body_payload (Snapshot keys) = Some (snapshot_text keys)
-body_payload (Msg message queues) = Some message.payload
+body_payload (Msg message queues) = Some (body_of message)
 
 abbrev pub canonical_payload : RouteFrame → Option (List ℕ)
 canonical_payload (frame.Info info) = None

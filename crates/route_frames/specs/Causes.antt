@@ -2,11 +2,12 @@
 -- fields, or marks among them, that no form has, or a text that is no JSON object; too many queue names; a field that has
 -- to be a number and is no digits, or too many; a number out of its range. All else is `BadArgs`: so is a member that is
 -- missing or is no whole number.
-use Rattle.std.specs.Prelude.{ℕ, Bool, true, false, not, nat_lt, List, [], ◌∷◌, ◌++◌, length, drop, codes, is_some, Option, Some, None, if◌then◌else◌}
+use Rattle.std.specs.Prelude.{ℕ, Bool, true, false, not, nat_lt, List, [], ◌∷◌, ◌++◌, length, drop, codes, is_some, unwrap_or, Option, Some, None, if◌then◌else◌}
 use Rattle.std.specs.List.{list_all, list_any}
 use Rattle.serde_json.specs.Data.{Num, unsigned, negative, float, Data}
 use Rattle.serde_json.specs.Find.{get, as_object, as_number}
 use Rattle.std.specs.Option.{option_and_then}
+use Rattle.subj.specs.Messages.{header_start}
 use Rattle.subj.specs.Names.{is_between}
 use Rattle.subj.specs.declared.limits.TheConstants.{MAX_INCARNATION, MAX_COUNTER, MAX_QUEUE_NAMES, MAX_WEIGHT, MAX_SNAPSHOT, MAX_PAYLOAD}
 use Rattle.line_fields.specs.Fields.{line_fields, number_of}
@@ -18,7 +19,7 @@ use Rattle.route_frames.specs.declared.line_reading.Operation.{Operation}
 use Rattle.route_frames.specs.declared.line_reading.Operation.TheVariants as operation
 use Rattle.route_frames.specs.Operations.{operation_of}
 use Rattle.route_frames.specs.CommonFields.{CommonFields, common_fields}
-use Rattle.route_frames.specs.Arguments.{PlusFields, MinusFields, MessageFields, plus_fields, minus_fields, snapshot_field, message_fields}
+use Rattle.route_frames.specs.Arguments.{PlusFields, MinusFields, MessageFields, plus_fields, minus_fields, snapshot_field, message_fields, header_fields}
 use Rattle.route_frames.specs.Greetings.{json_of}
 
 -- ---- the numbers of a line
@@ -57,6 +58,11 @@ abbrev pub weight_numbers : Option (List ℕ) → List NumberField
 weight_numbers None = []
 weight_numbers (Some weight) = number_field WEIGHT_DIGITS 1 MAX_WEIGHT weight ∷ []
 
+-- a header block has as many bytes as it has to begin with, and no more than follow the line
+abbrev pub header_numbers : Option (List ℕ) → List ℕ → List NumberField
+header_numbers None size = []
+header_numbers (Some headers) size = record { value = number_of SIZE_DIGITS headers; least = length header_start; most = unwrap_or (number_of SIZE_DIGITS size) 0 } ∷ []
+
 -- ---- numbered frames, by the fields that stand where they have the right number
 
 abbrev pub plus_cause : CommonFields → Option PlusFields → Option RouteFault
@@ -75,7 +81,7 @@ abbrev pub message_cause : CommonFields → Option MessageFields → Option Rout
 message_cause common None = Some BadArgs
 message_cause common (Some fields) =
     if nat_lt MAX_QUEUE_NAMES (length fields.form.names) then Some TooManyQueues
-    else numbers_cause (common_numbers 1 common ++ number_field SIZE_DIGITS 0 MAX_PAYLOAD fields.form.size ∷ [])
+    else numbers_cause (common_numbers 1 common ++ number_field SIZE_DIGITS 0 MAX_PAYLOAD fields.form.size ∷ header_numbers fields.headers fields.form.size)
 
 abbrev pub common_cause : (CommonFields → List (List ℕ) → Option RouteFault) → Option (CommonFields × List (List ℕ)) → Option RouteFault
 common_cause behind None = Some BadArgs
@@ -116,6 +122,7 @@ operation_cause (Some operation.Plus) text fields = common_cause (λ common behi
 operation_cause (Some operation.Minus) text fields = common_cause (λ common behind. minus_cause common (minus_fields behind)) (common_fields fields)
 operation_cause (Some operation.Snapshot) text fields = common_cause (λ common behind. snapshot_cause common (snapshot_field behind)) (common_fields fields)
 operation_cause (Some operation.Msg) text fields = common_cause (λ common behind. message_cause common (message_fields behind)) (common_fields fields)
+operation_cause (Some operation.HeaderMsg) text fields = common_cause (λ common behind. message_cause common (header_fields behind)) (common_fields fields)
 
 abbrev pub fields_cause : List ℕ → List (List ℕ) → Option RouteFault
 fields_cause line [] = Some UnknownOp

@@ -9,9 +9,9 @@ use Rattle.subj.specs.declared.limits.TheConstants.{MAX_COUNTER, MAX_INCARNATION
 use Rattle.subj.specs.Numbers.{incarnation_of}
 use Rattle.route_values.specs.Records.{Info, Connect, connect_of}
 use Rattle.route_frames.specs.declared.faults.RouteFault.TheVariants.{BadArgs, BadNumber}
-use Rattle.route_frames.specs.declared.reading.Dial.{Dial}
-use Rattle.route_frames.specs.declared.reading.Whole.{Whole}
-use Rattle.route_frames.specs.declared.reading.Whole.TheVariants.{Other, Negative, Number}
+use Rattle.route_frames.specs.declared.greetings.Dial.{Dial}
+use Rattle.route_frames.specs.declared.greetings.Whole.{Whole}
+use Rattle.route_frames.specs.declared.greetings.Whole.TheVariants.{Other, Negative, Number}
 use Rattle.route_frames.specs.Meaning.{Meaning, ◌>>=◌}
 use Rattle.route_frames.specs.CommonFields.{name_of}
 use Rattle.subj.specs.Names.{node_name_fault}

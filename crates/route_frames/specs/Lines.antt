@@ -12,7 +12,7 @@ use Rattle.route_frames.specs.declared.reading.RouteLine.TheVariants.{Info, Conn
 use Rattle.route_frames.specs.Meaning.{Meaning, ◌>>=◌}
 use Rattle.route_frames.specs.Operations.{operation_of}
 use Rattle.route_frames.specs.CommonFields.{CommonFields, common_fields}
-use Rattle.route_frames.specs.NumberedLines.{plus_line, minus_line, snapshot_line, message_line}
+use Rattle.route_frames.specs.NumberedLines.{plus_line, minus_line, snapshot_line, message_line, header_line}
 use Rattle.route_frames.specs.Greetings.{info_of, connect_text_of}
 use Rattle.route_frames.specs.declared.reading.LineBody.{LineBody}
 use Rattle.route_frames.specs.declared.reading.LineBody.TheVariants.{Plus, Minus, Snapshot, Msg}
@@ -33,6 +33,7 @@ operation_meaning (Some operation.Plus) text fields = line_of_fields plus_line f
 operation_meaning (Some operation.Minus) text fields = line_of_fields minus_line fields
 operation_meaning (Some operation.Snapshot) text fields = line_of_fields snapshot_line fields
 operation_meaning (Some operation.Msg) text fields = line_of_fields message_line fields
+operation_meaning (Some operation.HeaderMsg) text fields = line_of_fields header_line fields
 
 abbrev pub fields_meaning : List ℕ → List (List ℕ) → Meaning RouteLine
 fields_meaning line [] = Err UnknownOp
@@ -48,9 +49,21 @@ abbrev pub body_size : LineBody → Option ℕ
 body_size (Plus key) = None
 body_size (Minus key) = None
 body_size (Snapshot size) = Some size
-body_size (Msg subject reply queues size) = Some size
+body_size (Msg subject reply queues headers size) = Some size
 
 abbrev pub announced_size : RouteLine → Option ℕ
 announced_size (Info info) = None
 announced_size (Connect connect) = None
 announced_size (Numbered line) = body_size line.body
+
+-- how many of these are a header block, where there is one
+abbrev pub body_headers : LineBody → Option ℕ
+body_headers (Plus key) = None
+body_headers (Minus key) = None
+body_headers (Snapshot size) = None
+body_headers (Msg subject reply queues headers size) = headers
+
+abbrev pub announced_headers : RouteLine → Option ℕ
+announced_headers (Info info) = None
+announced_headers (Connect connect) = None
+announced_headers (Numbered line) = body_headers line.body

@@ -5,6 +5,7 @@ use Rattle.std.specs.Option.{ok_or}
 use Rattle.std.specs.Str.{bytes_eq}
 use Rattle.subj.specs.declared.keys.Key.{Key}
 use Rattle.subj.specs.declared.limits.TheConstants.{MAX_QUEUE_NAMES, MAX_WEIGHT, MAX_SNAPSHOT, MAX_PAYLOAD}
+use Rattle.subj.specs.Messages.{header_start}
 use Rattle.subj.specs.Names.{pattern_fault, subject_fault, queue_name_fault, node_name_fault}
 use Rattle.subj.specs.QueueNames.{queue_names_of}
 use Rattle.route_values.specs.Snapshots.{weighted_key}
@@ -14,7 +15,7 @@ use Rattle.route_frames.specs.declared.reading.LineBody.TheVariants.{Plus, Minus
 use Rattle.route_frames.specs.declared.reading.NumberedLine.{NumberedLine}
 use Rattle.route_frames.specs.Meaning.{Meaning, ◌>>=◌}
 use Rattle.route_frames.specs.CommonFields.{CommonFields, digits_of, within, numbers_of, numbers_in_range, name_of}
-use Rattle.route_frames.specs.Arguments.{MessageFields, plus_fields, minus_fields, snapshot_field, message_fields}
+use Rattle.route_frames.specs.Arguments.{MessageFields, plus_fields, minus_fields, snapshot_field, message_fields, header_fields}
 
 -- ---- fields that are no numbers
 
@@ -97,27 +98,49 @@ snapshot_line common fields = do
   to ← name_of node_name_fault common.to
   Ok (record { from = from; to = to; numbers = numbers; body = Snapshot size })
 
--- ---- RMSG
+-- ---- RMSG and RHMSG, by the fields that stand where they have the right number
 
 abbrev pub few_names : MessageFields → Meaning MessageFields
 few_names fields = if nat_lt MAX_QUEUE_NAMES (length fields.form.names) then Err TooManyQueues else Ok fields
 
-unfoldable pub message_fields_in : List (List ℕ) → Meaning MessageFields
-message_fields_in fields = do
-  fields ← ok_or (message_fields fields) BadArgs
+unfoldable pub few_fields : Option MessageFields → Meaning MessageFields
+few_fields found = do
+  fields ← ok_or found BadArgs
   few_names fields
 
-unfoldable pub message_line : CommonFields → List (List ℕ) → Meaning NumberedLine
-message_line common fields = do
-  fields ← message_fields_in fields
+-- the size of the header block, where there is one
+abbrev pub header_digits : Option (List ℕ) → Meaning (Option ℕ)
+header_digits None = Ok None
+header_digits (Some field) = do
+  headers ← digits_of SIZE_DIGITS field
+  Ok (Some headers)
+
+-- it has as many bytes as it has to begin with, and no more than follow the line
+abbrev pub headers_within : ℕ → Option ℕ → Meaning (Option ℕ)
+headers_within size None = Ok None
+headers_within size (Some headers) = do
+  headers ← within (length header_start) size headers
+  Ok (Some headers)
+
+unfoldable pub publication_line : CommonFields → Option MessageFields → Meaning NumberedLine
+publication_line common found = do
+  fields ← few_fields found
   digits ← numbers_of common
   size ← digits_of SIZE_DIGITS fields.form.size
+  headers ← header_digits fields.headers
   numbers ← numbers_in_range 1 digits
   size ← within 0 MAX_PAYLOAD size
+  headers ← headers_within size headers
   account ← account_of fields.account
   from ← name_of node_name_fault common.from
   to ← name_of node_name_fault common.to
   subject ← name_of subject_fault fields.subject
   reply ← optional (name_of subject_fault) fields.form.reply
   queues ← queue_names_in fields.form.names
-  Ok (record { from = from; to = to; numbers = numbers; body = Msg subject reply queues size })
+  Ok (record { from = from; to = to; numbers = numbers; body = Msg subject reply queues headers size })
+
+abbrev pub message_line : CommonFields → List (List ℕ) → Meaning NumberedLine
+message_line common fields = publication_line common (message_fields fields)
+
+abbrev pub header_line : CommonFields → List (List ℕ) → Meaning NumberedLine
+header_line common fields = publication_line common (header_fields fields)

@@ -2,7 +2,7 @@
 use Rattle.std.specs.Prelude.{ℕ, Bool, true, false, List, [], ◌∷◌, codes, Option, Some, None, if◌then◌else◌}
 use Rattle.line_fields.specs.Fields.{is_word, line_fields}
 use Rattle.route_frames.specs.declared.line_reading.Operation.{Operation}
-use Rattle.route_frames.specs.declared.line_reading.Operation.TheVariants.{Info, Connect, Plus, Minus, Snapshot, Msg}
+use Rattle.route_frames.specs.declared.line_reading.Operation.TheVariants.{Info, Connect, Plus, Minus, Snapshot, Msg, HeaderMsg}
 
 -- NATS documentation, "Cluster Protocol"; `RSS` is this project's own
 abbrev pub word_of : Operation → List ℕ
@@ -12,10 +12,11 @@ word_of Plus = codes "RS+"
 word_of Minus = codes "RS-"
 word_of Snapshot = codes "RSS"
 word_of Msg = codes "RMSG"
+word_of HeaderMsg = codes "RHMSG"
 
 -- all of them; no two have one word
 abbrev pub operations : List Operation
-operations = Msg ∷ Plus ∷ Minus ∷ Snapshot ∷ Info ∷ Connect ∷ []
+operations = Msg ∷ HeaderMsg ∷ Plus ∷ Minus ∷ Snapshot ∷ Info ∷ Connect ∷ []
 
 -- the first of these whose word the field is, whatever the case of its letters
 abbrev pub operation_among : List Operation → List ℕ → Option Operation
@@ -34,6 +35,7 @@ has_json (Some Plus) = false
 has_json (Some Minus) = false
 has_json (Some Snapshot) = false
 has_json (Some Msg) = false
+has_json (Some HeaderMsg) = false
 
 abbrev pub fields_have_json : List (List ℕ) → Bool
 fields_have_json [] = false

@@ -1,13 +1,14 @@
 -- Route spelling: which lines and payloads spell which frame, by cases on what the frame says. The lines are those that a
 -- cutter gives, which hold no CR LF.
 -- NATS documentation, "Cluster Protocol": INFO, CONNECT, RS+, RS- and RMSG, the account, the marks in front of queue names.
--- RSS, the common fields, the digits and the ranges are this project's profile.
-use Rattle.std.specs.Prelude.{◌≡◌, ◌≤◌, ℕ, true, false, List, [], ◌∷◌, ◌++◌, length, codes, Option, Some, None}
+-- RSS, RHMSG, the common fields, the digits and the ranges are this project's profile.
+use Rattle.std.specs.Prelude.{◌≡◌, ◌≤◌, ℕ, true, false, List, [], ◌∷◌, ◌++◌, length, codes, Option, Some, None, option_map}
 use Rattle.std.specs.Option.{option_to_list}
 use Rattle.serde_json.specs.Data.{Data, string}
 use Rattle.serde_json.specs.Find.{get}
 use Rattle.line_fields.specs.Fields.{fields, begins_with_field, is_word, number_of}
 use Rattle.subj.specs.declared.limits.TheConstants.{MAX_SNAPSHOT}
+use Rattle.subj.specs.Messages.{Content, body_of}
 use Rattle.route_values.specs.declared.bodies.Body.{Body}
 use Rattle.route_values.specs.declared.bodies.Body.TheVariants.{Plus, Minus, Snapshot, Msg}
 use Rattle.route_values.specs.declared.frames.RouteFrame.{RouteFrame}
@@ -51,13 +52,25 @@ SpellsPlus weighted all = (behind : List (List ℕ)) × (all ≡ codes "$G" ∷ 
 abbrev pub SpellsSize : List (List ℕ) → ℕ → List (List ℕ) → Type 0
 SpellsSize front size behind = (digits : List ℕ) × (behind ≡ front ++ digits ∷ []) × IsNumber SIZE_DIGITS digits size
 
+-- the same, and in front of it the size of the header block, where there is one
+abbrev pub SpellsSizes : List (List ℕ) → Option ℕ → ℕ → List (List ℕ) → Type 0
+SpellsSizes front None size behind = SpellsSize front size behind
+SpellsSizes front (Some headers) size behind = (block_digits digits : List ℕ) × (behind ≡ front ++ block_digits ∷ digits ∷ []) × IsNumber SIZE_DIGITS block_digits headers × IsNumber SIZE_DIGITS digits size
+
+abbrev pub header_size : Content → Option ℕ
+header_size message = option_map (λ block. length block) message.headers
+
+-- RMSG, and RHMSG for a publication with headers
+abbrev pub SpellsMessage : Content → List (List ℕ) → List (List ℕ) → Type 0
+SpellsMessage message queues behind = SpellsSizes (codes "$G" ∷ message.subject ∷ form_fields message.reply queues) (header_size message) (length (body_of message)) behind
+
 -- What the fields behind the common ones say, and the size that they announce. The line of a snapshot says nothing of its
 -- keys; zeros in front of weights may make its payload longer than it has to be.
 abbrev pub SpellsBody : Body → Option ℕ → List (List ℕ) → Type 0
 SpellsBody (Plus weighted) size behind = (size ≡ None) × SpellsPlus weighted behind
 SpellsBody (Minus key) size behind = (size ≡ None) × (behind ≡ codes "$G" ∷ key.pattern ∷ option_to_list key.queue)
 SpellsBody (Snapshot keys) size behind = (bytes : ℕ) × (size ≡ Some bytes) × (bytes ≤ MAX_SNAPSHOT) × SpellsSize [] bytes behind
-SpellsBody (Msg message queues) size behind = (size ≡ Some (length message.payload)) × SpellsSize (codes "$G" ∷ message.subject ∷ form_fields message.reply queues) (length message.payload) behind
+SpellsBody (Msg message queues) size behind = (size ≡ Some (length (body_of message))) × SpellsMessage message queues behind
 
 abbrev pub SpellsNumbered : Frame → Option ℕ → List (List ℕ) → Type 0
 SpellsNumbered frame size all = (behind : List (List ℕ)) × HasCommon frame all behind × SpellsBody frame.body size behind
@@ -114,7 +127,7 @@ abbrev pub SpellsBehind : Body → List ℕ → Type 0
 SpellsBehind (Plus weighted) payload = payload ≡ []
 SpellsBehind (Minus key) payload = payload ≡ []
 SpellsBehind (Snapshot keys) payload = SpellsKeys keys payload
-SpellsBehind (Msg message queues) payload = payload ≡ message.payload
+SpellsBehind (Msg message queues) payload = payload ≡ body_of message
 
 -- and the size of it that the line announces
 abbrev pub body_announces : Body → List ℕ → Option ℕ

@@ -42,7 +42,7 @@ abbrev pub form_view : Form → arguments.Form
 form_view form = record { reply = option_copied form.reply; names = names_view form.names; size = form.size.now }
 
 abbrev pub message_view : MessageFields → arguments.MessageFields
-message_view message = record { account = message.account.now; subject = message.subject.now; form = form_view message.form }
+message_view message = record { account = message.account.now; subject = message.subject.now; headers = option_copied message.headers; form = form_view message.form }
 
 -- ---- what they say
 
@@ -56,7 +56,7 @@ abbrev pub body_view : BodyText → LineBody
 body_view (Plus weighted) = body.Plus (weighted_view weighted)
 body_view (Minus key) = body.Minus (key_view key)
 body_view (Snapshot size) = body.Snapshot size
-body_view (Msg subject reply names size) = body.Msg subject.now (option_copied reply) (names_view names) size
+body_view (Msg subject reply names headers size) = body.Msg subject.now (option_copied reply) (names_view names) headers size
 
 abbrev pub numbered_view : NumberedText → NumberedLine
 numbered_view numbered = record {

@@ -6,8 +6,10 @@ ghost use Rattle.route_values.specs.declared.frames.RouteFrame.TheVariants.{Info
 ghost use Rattle.route_values.specs.declared.frames.RouteFrame.TheVariants as route;
 ghost use Rattle.route_values.specs.declared.bodies.Body.TheVariants.{Plus, Minus, Snapshot, Msg};
 ghost use Rattle.route_values.specs.Snapshots.{snapshot_text, line_end};
-ghost use Rattle.route_frames.specs.Canonical.{info_json, connect_json, fields_with_spaces, operation_word, common_of, form_fields, body_fields, numbered_line, canonical_line, frame_bytes};
+ghost use Rattle.route_frames.specs.Canonical.{info_json, connect_json, fields_with_spaces, message_operation as operation_of_headers, operation_word, common_of, form_fields, size_fields, body_fields, numbered_line, canonical_line, frame_bytes};
 ghost use Rattle.std.specs.Option.{option_copied};
+ghost use Rattle.route_frames.specs.Operations.{word_of};
+ghost use Rattle.subj.specs.Messages.{body_of};
 
 use crate::line_reading::{ACCOUNT, NAMES_MARK, REPLY_MARK};
 use itoa::Buffer;
@@ -154,13 +156,23 @@ fn put_form(
     put_names(line, names)
 }
 
+/// Appends the size of the header block, where there is one, and that of all that follows the line.
+fn put_sizes(line: &mut Vec<u8>, message: &Message) -> Result<(), AllocError>
+    ensures { OnOk result (line.new.items ≡ line.old.items ++ fields_with_spaces (size_fields message.now.headers (length (body_of message.now)))) }
+{
+    if let Some(block) = message.headers() {
+        put_number(line, block.len() as u64)?;
+    }
+    put_number(line, message.whole().len() as u64)
+}
+
 fn put_message(line: &mut Vec<u8>, message: &Message, queues: &QueueNames) -> Result<(), AllocError>
     ensures { OnOk result (line.new.items ≡ line.old.items ++ fields_with_spaces (body_fields (Msg message.now queues.now))) }
 {
     put_field(line, ACCOUNT)?;
     put_field(line, message.subject().bytes())?;
     put_form(line, message.reply(), queues.as_slice())?;
-    put_number(line, message.payload().len() as u64)
+    put_sizes(line, message)
 }
 
 /// Appends a line and its CR LF.
@@ -199,6 +211,17 @@ fn append_snapshot(line: &[u8], keys: &SnapshotKeys, out: &mut Vec<u8>) -> Resul
     Ok(())
 }
 
+/// The operation of a publication, with headers or without.
+fn message_operation(message: &Message) -> &'static [u8]
+    ensures { result.now ≡ word_of (operation_of_headers message.now.headers) }
+{
+    if message.headers().is_some() {
+        b"RHMSG"
+    } else {
+        b"RMSG"
+    }
+}
+
 fn operation(body: &Body) -> &'static [u8]
     ensures { result.now ≡ operation_word body.now }
 {
@@ -206,7 +229,7 @@ fn operation(body: &Body) -> &'static [u8]
         Body::Plus(_) => b"RS+",
         Body::Minus(_) => b"RS-",
         Body::Snapshot(_) => b"RSS",
-        Body::Msg { .. } => b"RMSG",
+        Body::Msg { message, .. } => message_operation(message),
     }
 }
 
@@ -242,14 +265,15 @@ fn encode_numbered(frame: &Numbered, out: &mut Vec<u8>) -> Result<(), AllocError
         }
         Body::Msg { message, queues } => {
             put_message(&mut line, message, queues)?;
-            append_frame(&line, message.payload().as_slice(), out)
+            append_frame(&line, message.whole().as_slice(), out)
         }
     }
 }
 
 /// Appends the canonical spelling of a frame: upper case, one space between fields, no leading zeros,
-/// compact JSON with its keys in the order of their bytes; the line and, where there is one, the
-/// payload are each ended by CR LF. After want of memory the bytes are as they were. (NATS
+/// compact JSON with its keys in the order of their bytes, `RHMSG` just for a publication with headers;
+/// the line and, where there is one, the payload are each ended by CR LF. After want of memory the bytes
+/// are as they were. (NATS
 /// documentation, "Cluster Protocol"; profile.)
 pub fn encode(frame: &RouteFrame, out: &mut Vec<u8>) -> Result<(), AllocError>
     ensures { out.new.items

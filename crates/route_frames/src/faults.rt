@@ -15,7 +15,8 @@ pub enum RouteFault {
     #[error("the line begins with no known operation of a route")]
     UnknownOp = 30,
     /// Too few or too many fields, a field that is not what its place asks for, a text that is not the
-    /// JSON that it has to be, a snapshot that is none, or a payload of another length than announced.
+    /// JSON that it has to be, a snapshot or a header block that is none, or a payload of another length
+    /// than announced.
     #[error("the operation has other fields than it takes, or another payload than it announced")]
     BadArgs = 31,
     /// A number is out of its range.

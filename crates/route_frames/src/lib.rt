@@ -8,15 +8,18 @@
 //! encode(&frame, &mut out)?;
 //! ```
 //!
-//! In reading order: `line_reading` splits a line and judges it as it stands there, the lines of snapshots too; `reading` copies
-//! what a line says, keeps it until its payload comes, and reads whole frames; `encoding` writes them; `faults` has the refusals.
+//! In reading order: `line_reading` splits a line and judges it as it stands there; `snapshot_reading` and `greetings` read the texts
+//! of snapshots, and of `INFO` and `CONNECT`; `reading` copies what a line says, keeps it until its payload comes, and reads whole
+//! frames; `encoding` writes them; `faults` has the refusals.
 #![tactic(auto)]
 
 mod encoding;
 mod faults;
+mod greetings;
 mod laws;
 mod line_reading;
 mod reading;
+mod snapshot_reading;
 
 pub use encoding::encode;
 pub use faults::RouteFault;

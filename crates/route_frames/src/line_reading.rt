@@ -1,33 +1,30 @@
-//! Judging the lines of numbered frames and the texts of snapshots, without memory: the operations, the five fields behind them,
-//! the fields behind those, and what they say.
+//! Judging the lines of numbered frames, without memory: the operations, the five fields behind them, the fields behind those, and
+//! what they say.
 
-ghost use Rattle.std.specs.Prelude.{◌≡◌, ◌≤◌, None, Some, MatchOption, IfOk, ◌∷◌, [], length, option_map, true, nat_eq, position};
+ghost use Rattle.std.specs.Prelude.{◌≡◌, ◌≤◌, None, Some, MatchOption, IfOk, ◌∷◌, [], length, option_map};
 ghost use Rattle.route_frames.specs.Operations.{operation_of};
 ghost use Rattle.std.specs.Option.{ok_or, option_copied};
 ghost use Rattle.line_fields.specs.Fields.{fields};
 ghost use Rattle.subj.specs.Names.{node_name_fault, pattern_fault, subject_fault, queue_name_fault};
 ghost use Rattle.route_frames.specs.CommonFields.{CommonFields, common_fields, digits_of, within as in_range, name_of, numbers_of, numbers_in_range};
 ghost use Rattle.route_frames.specs.TextViews.{names_view, common_view, message_view, key_view, weighted_view, numbered_view};
-ghost use Rattle.route_frames.specs.Arguments.{plus_fields, minus_fields, snapshot_field, form_of, form_by_mark as marked_form, message_fields as fields_of_message, split_last as last_split_off};
+ghost use Rattle.route_frames.specs.Arguments.{plus_fields, minus_fields, snapshot_field, form_of, form_by_mark as marked_form, message_fields as fields_of_message, header_fields as fields_with_headers, split_last as last_split_off};
 ghost use Rattle.std.specs.List.{list_all};
 ghost use Rattle.subj.specs.QueueNames.{is_before_first as before_first, are_rising as rising};
 ghost use Rattle.route_values.specs.Snapshots.{weighted_key};
 ghost use Rattle.route_frames.specs.declared.faults.RouteFault.TheVariants.{BadArgs};
-ghost use Rattle.route_frames.specs.Meaning.{Says, Checks, RouteMeans, MeansBy};
-ghost use Rattle.route_frames.specs.NumberedLines.{account_of, optional as optionally, key_of, queue_names_in, is_queue_name, weight_digits, plus_line, minus_line, snapshot_line, message_line, message_fields_in};
-ghost use Rattle.route_frames.specs.SnapshotTexts.{pieces, plain_key, queue_key, weighted_of, before_cr as before_the_cr, key_line_of, keys_in, snapshot_in};
+ghost use Rattle.route_frames.specs.Meaning.{Says, Checks};
+ghost use Rattle.route_frames.specs.NumberedLines.{account_of, optional as optionally, key_of, queue_names_in, is_queue_name, weight_digits, plus_line, minus_line, snapshot_line, few_fields, header_digits, headers_within, publication_line};
 
 use crate::faults::RouteFault;
 use crate::reading::{BodyText, KeyText, NumberedText, WeightedText};
 use line_fields::{MAX_DIGITS, is_word, read_digits, split_field};
-use route_values::{SnapshotKeys, WeightedKey};
-use std::alloc::Global;
 use subj::{
-    Failure, Incarnation, MAX_COUNTER, MAX_PAYLOAD, MAX_QUEUE_NAMES, MAX_SNAPSHOT, MAX_WEIGHT,
+    HEADER_START, Incarnation, MAX_COUNTER, MAX_PAYLOAD, MAX_QUEUE_NAMES, MAX_SNAPSHOT, MAX_WEIGHT,
     NameFault, NodeId, Pattern, QueueName, Subject,
 };
 
-/// The first field of a route's line. (NATS documentation, "Cluster Protocol"; snapshots: profile.)
+/// The first field of a route's line. (NATS documentation, "Cluster Protocol"; snapshots and `RHMSG`: profile.)
 #[derive(Clone, Copy)]
 pub(crate) enum Operation {
     Info,
@@ -36,6 +33,7 @@ pub(crate) enum Operation {
     Minus,
     Snapshot,
     Msg,
+    HeaderMsg,
 }
 
 impl Operation {
@@ -45,6 +43,9 @@ impl Operation {
     {
         if is_word(b"RMSG", field) {
             return Some(Operation::Msg);
+        }
+        if is_word(b"RHMSG", field) {
+            return Some(Operation::HeaderMsg);
         }
         if is_word(b"RS+", field) {
             return Some(Operation::Plus);
@@ -214,6 +215,15 @@ impl<'a> Names<'a> {
         }
     }
 
+    /// All fields of a text.
+    #[tactic(auto, using(crate::proofs::Meaning::Forms::all_fields))]
+    pub(crate) fn all(text: &'a [u8]) -> Names<'a>
+        ensures { names_view result ≡ fields text.now }
+    {
+        let count = text.len() + 1;
+        Names { text, count }
+    }
+
     /// The first of them, and the others.
     pub(crate) fn split_first(self) -> Option<(&'a [u8], Names<'a>)>
         ensures { MatchOption result (names_view self.entry ≡ []) (λ split. names_view self.entry ≡ split.0.now ∷ names_view split.1) }
@@ -333,19 +343,20 @@ pub(crate) fn size_alone(text: &[u8]) -> Option<&[u8]>
     }
 }
 
-/// All fields of a text but the last, and the last.
-#[tactic(auto, using(crate::proofs::Meaning::Forms::last_at, crate::proofs::Meaning::Forms::drop_more, crate::proofs::Meaning::Forms::count_at, crate::proofs::Meaning::Forms::few_fields))]
-fn split_last(text: &[u8]) -> Option<(Names<'_>, &[u8])>
-    ensures { MatchOption result (last_split_off (fields text.now) ≡ None)
-        (λ split. last_split_off (fields text.now) ≡ Some (names_view split.0, split.1.now)) }
+/// All fields but the last, and the last.
+#[tactic(auto, using(crate::proofs::Meaning::Forms::last_at, crate::proofs::Meaning::Forms::drop_more, crate::proofs::Meaning::Forms::count_at, crate::proofs::Meaning::Forms::few_names, crate::proofs::Meaning::Forms::first_of_first))]
+fn split_last(fields: Names<'_>) -> Option<(Names<'_>, &[u8])>
+    ensures { MatchOption result (last_split_off (names_view fields.entry) ≡ None)
+        (λ split. last_split_off (names_view fields.entry) ≡ Some (names_view split.0, split.1.now)) }
 {
-    let (mut last, mut rest) = split_field(text)?;
+    let (mut last, mut rest) = fields.split_first()?;
     let mut count = 0;
-    while let Some((field, behind)) = split_field(rest) {
+    while let Some((field, others)) = rest.split_first() {
         last = field;
-        rest = behind;
+        rest = others;
         count += 1;
     }
+    let text = fields.text;
     Some((Names { text, count }, last))
 }
 
@@ -383,11 +394,11 @@ impl<'a> Form<'a> {
         })
     }
 
-    /// The form that the fields of a text have, where they have one.
-    pub(crate) fn read(text: &'a [u8]) -> Option<Form<'a>>
-        ensures { option_map form_view result ≡ form_of (fields text.now) }
+    /// The form that the fields have, where they have one.
+    pub(crate) fn read(fields: Names<'a>) -> Option<Form<'a>>
+        ensures { option_map form_view result ≡ form_of (names_view fields.entry) }
     {
-        let (first, behind) = split_field(text)?;
+        let (first, behind) = fields.split_first()?;
         let Some((between, size)) = split_last(behind) else {
             return Some(Form {
                 reply: None,
@@ -406,28 +417,57 @@ impl<'a> Form<'a> {
     }
 }
 
-/// What stands behind `RMSG` and the common fields.
+/// What stands behind `RMSG` or `RHMSG` and the common fields.
 #[derive(Clone, Copy)]
 pub(crate) struct MessageFields<'a> {
     pub(crate) account: &'a [u8],
     pub(crate) subject: &'a [u8],
+    /// The size of the header block, where there is one.
+    pub(crate) headers: Option<&'a [u8]>,
     pub(crate) form: Form<'a>,
 }
 
 impl<'a> MessageFields<'a> {
     ghost use Rattle.route_frames.specs.TextViews.{message_view};
 
-    /// The fields of a text, where their number is that of one of the forms.
-    pub(crate) fn read(text: &'a [u8]) -> Option<MessageFields<'a>>
-        ensures { option_map message_view result ≡ fields_of_message (fields text.now) }
+    /// Those of an `RMSG`, where their number is that of one of the forms.
+    pub(crate) fn read(fields: Names<'a>) -> Option<MessageFields<'a>>
+        ensures { option_map message_view result ≡ fields_of_message (names_view fields.entry) }
     {
-        let (account, behind) = split_field(text)?;
-        let (subject, behind) = split_field(behind)?;
+        let (account, behind) = fields.split_first()?;
+        let (subject, behind) = behind.split_first()?;
         let form = Form::read(behind)?;
         Some(MessageFields {
             account,
             subject,
+            headers: None,
             form,
+        })
+    }
+
+    /// Those of an `RHMSG`: of an `RMSG` that has the size of the header block for its size, and behind them the size of all that
+    /// follows the line.
+    pub(crate) fn read_with_headers(fields: Names<'a>) -> Option<MessageFields<'a>>
+        ensures { option_map message_view result ≡ fields_with_headers (names_view fields.entry) }
+    {
+        let (front, size) = split_last(fields)?;
+        let message = MessageFields::read(front)?;
+        let MessageFields {
+            account,
+            subject,
+            form,
+            ..
+        } = message;
+        let Form {
+            reply,
+            names,
+            size: headers,
+        } = form;
+        Some(MessageFields {
+            account,
+            subject,
+            headers: Some(headers),
+            form: Form { reply, names, size },
         })
     }
 }
@@ -631,31 +671,53 @@ fn check_names(names: Names<'_>) -> Result<(), RouteFault>
     }
 }
 
-/// The fields behind `RMSG` and the common fields, of which not too many are queue names.
-#[tactic(auto, unfolding(crate::specs::NumberedLines::message_fields_in))]
-fn message_fields(text: &[u8]) -> Result<MessageFields<'_>, RouteFault>
-    ensures { Says message_view (message_fields_in (fields text.now)) result }
+/// The fields, of which not too many are queue names.
+#[tactic(auto, unfolding(crate::specs::NumberedLines::few_fields))]
+fn with_few_names(found: Option<MessageFields<'_>>) -> Result<MessageFields<'_>, RouteFault>
+    ensures { Says message_view (few_fields (option_map message_view found.entry)) result }
 {
-    let message = MessageFields::read(text).ok_or(RouteFault::BadArgs)?;
+    let message = found.ok_or(RouteFault::BadArgs)?;
     if message.form.names.len() as u64 > MAX_QUEUE_NAMES {
         return Err(RouteFault::TooManyQueues);
     }
     Ok(message)
 }
 
-/// `RMSG`, behind the common fields.
-#[tactic(auto, unfolding(crate::specs::NumberedLines::message_line))]
+/// The size of a header block, as it is spelt.
+fn spelt_headers(field: Option<&[u8]>) -> Result<Option<u64>, RouteFault>
+    ensures { result ≡ header_digits (option_copied field.entry) }
+{
+    match field {
+        None => Ok(None),
+        Some(field) => Ok(Some(spelt_number(field, SIZE_DIGITS)?)),
+    }
+}
+
+/// The same, in its range.
+fn headers_in_range(size: u64, headers: Option<u64>) -> Result<Option<u64>, RouteFault>
+    ensures { result ≡ headers_within size headers }
+{
+    match headers {
+        None => Ok(None),
+        Some(headers) => Ok(Some(within(HEADER_START.len() as u64, size, headers)?)),
+    }
+}
+
+/// `RMSG` or `RHMSG`, behind the common fields, by the fields that it has there.
+#[tactic(auto, unfolding(crate::specs::NumberedLines::publication_line))]
 pub(crate) fn read_message<'a>(
     common: Common<'a>,
-    text: &'a [u8],
+    found: Option<MessageFields<'a>>,
 ) -> Result<NumberedText<'a>, RouteFault>
-    ensures { Says numbered_view (message_line (common_view common.entry) (fields text.now)) result }
+    ensures { Says numbered_view (publication_line (common_view common.entry) (option_map message_view found.entry)) result }
 {
-    let message = message_fields(text)?;
+    let message = with_few_names(found)?;
     let digits = common.digits()?;
     let size = spelt_number(message.form.size, SIZE_DIGITS)?;
+    let headers = spelt_headers(message.headers)?;
     let _numbers = digits.in_range(1)?;
     let size = within(0, MAX_PAYLOAD as u64, size)?;
+    let headers = headers_in_range(size, headers)?;
     check_account(message.account)?;
     let _from = node(common.from)?;
     let _to = node(common.to)?;
@@ -670,115 +732,8 @@ pub(crate) fn read_message<'a>(
             subject,
             reply,
             names: message.form.names,
+            headers,
             size,
         },
     })
-}
-
-fn first_of(text: &[u8], byte: u8) -> Option<usize>
-    ensures { result ≡ position (λ b. nat_eq b byte) text.now }
-{
-    text.iter().position(|b| *b == byte)
-}
-
-/// What stands before the first such byte of a text, and behind it.
-fn split_at_byte(text: &[u8], byte: u8) -> Option<(&[u8], &[u8])>
-    ensures { MatchOption result (pieces byte text.now ≡ text.now ∷ [])
-        (λ split. pieces byte text.now ≡ split.0.now ∷ pieces byte split.1.now) }
-{
-    let Some(place) = first_of(text, byte) else {
-        return None;
-    };
-    let (piece, _) = text.split_at(place);
-    let (_, behind) = text.split_at(place + 1);
-    Some((piece, behind))
-}
-
-#[tactic(auto, unfolding(crate::specs::SnapshotTexts::plain_key))]
-fn plain(pattern: &[u8]) -> Result<WeightedText<'_>, RouteFault>
-    ensures { Says weighted_view (plain_key pattern.now) result }
-{
-    let key = key(pattern, None)?;
-    weighted_text(key, 1)
-}
-
-#[tactic(auto, unfolding(crate::specs::SnapshotTexts::queue_key))]
-fn with_queue<'a>(
-    pattern: &'a [u8],
-    queue: &'a [u8],
-    weight: &[u8],
-) -> Result<WeightedText<'a>, RouteFault>
-    ensures { Says weighted_view (queue_key pattern.now queue.now weight.now) result }
-{
-    let weight = spelt_number(weight, WEIGHT_DIGITS)?;
-    let key = key(pattern, Some(queue))?;
-    weighted_text(key, weight)
-}
-
-/// The key of a line without its CR LF.
-fn read_weighted(line: &[u8]) -> Result<WeightedText<'_>, RouteFault>
-    ensures { Says weighted_view (weighted_of (pieces 32 line.now)) result }
-{
-    let Some((pattern, behind)) = split_at_byte(line, b' ') else {
-        return plain(line);
-    };
-    let Some((queue, weight)) = split_at_byte(behind, b' ') else {
-        return Err(RouteFault::BadArgs);
-    };
-    match split_at_byte(weight, b' ') {
-        None => with_queue(pattern, queue, weight),
-        Some(_) => Err(RouteFault::BadArgs),
-    }
-}
-
-/// What stands before the CR at the end.
-fn before_cr(text: &[u8]) -> Option<&[u8]>
-    ensures { option_copied result ≡ before_the_cr text.now }
-{
-    let (line, end) = text.split_at(text.len().saturating_sub(1));
-    if end == b"\r".as_slice() {
-        Some(line)
-    } else {
-        None
-    }
-}
-
-/// The key of a line with its CR.
-#[tactic(auto, unfolding(crate::specs::SnapshotTexts::key_line_of))]
-fn read_key_line(text: &[u8]) -> Result<WeightedText<'_>, RouteFault>
-    ensures { Says weighted_view (key_line_of text.now) result }
-{
-    let line = before_cr(text).ok_or(RouteFault::BadArgs)?;
-    read_weighted(line)
-}
-
-/// The keys of all lines of a text.
-fn read_keys(alloc: Global, text: &[u8]) -> Result<Vec<WeightedKey>, Failure<RouteFault>>
-    ensures { MeansBy (λ keys. keys.items) true (keys_in (pieces 10 text.now)) result }
-{
-    let mut keys = Vec::new(alloc);
-    let mut rest = text;
-    while let Some((line, behind)) = split_at_byte(rest, b'\n') {
-        let read = read_key_line(line)?;
-        let key = read.copy(alloc)?;
-        keys.push(key)?;
-        rest = behind;
-    }
-    if !rest.is_empty() {
-        return Err(Failure::Refused(RouteFault::BadArgs));
-    }
-    Ok(keys)
-}
-
-/// The keys of the text of a snapshot.
-#[tactic(auto, unfolding(crate::specs::SnapshotTexts::snapshot_in))]
-pub(crate) fn read_snapshot_keys(
-    alloc: Global,
-    text: &[u8],
-) -> Result<SnapshotKeys, Failure<RouteFault>>
-    ensures { RouteMeans true (snapshot_in text.now) result }
-{
-    let keys = read_keys(alloc, text)?;
-    let keys = SnapshotKeys::from_keys(keys).ok_or(RouteFault::BadArgs)?;
-    Ok(keys)
 }

@@ -1,38 +1,36 @@
-//! Reading the frames of a route: what a line says alone, a line as it stands there, the texts of `INFO` and `CONNECT`, and
-//! whole frames. A line is judged without memory, and then its parts are copied.
+//! Reading the frames of a route: what a line says alone, a line as it stands there, and whole frames. A line is judged without
+//! memory, and then its parts are copied.
 
 ghost use Rattle.route_frames.specs.declared.line_reading.Operation.TheVariants as operation;
 ghost use Rattle.route_frames.specs.declared.reading.RouteLine.TheVariants as route_line;
 ghost use Rattle.std.specs.Prelude.{◌≡◌, Ok, IfOk, true, ℕ, false, List, is_ok};
-ghost use Rattle.route_frames.specs.Lines.{announced_size, body_size, line_of_fields, line_meaning};
+ghost use Rattle.route_frames.specs.Lines.{announced_size, announced_headers, body_size, body_headers, line_of_fields, line_meaning};
 ghost use Rattle.std.specs.Option.{option_copied, ok_or};
 ghost use Rattle.route_frames.specs.TextViews.{names_view, key_view, weighted_view, body_view, numbered_view, is_json, text_meaning, size_in, joined_text, Judges};
 ghost use Rattle.route_frames.specs.Meaning.{RouteMeans, MeansBy, Says};
-ghost use Rattle.serde_json.specs.View.{view};
-ghost use Rattle.route_frames.specs.Greetings.{json_of, object_of, whole_at, whole_in_range, whole_number, incarnation_in, node_at, info_in, dial_in, connect_in, info_of, connect_text_of};
 ghost use Rattle.route_frames.specs.declared.faults.RouteFault.TheVariants.{BadArgs};
-ghost use Rattle.subj.specs.Messages.{content_of};
 ghost use Rattle.line_fields.specs.Fields.{fields};
 ghost use Rattle.route_frames.specs.Operations.{is_json_line};
-ghost use Rattle.route_frames.specs.Decoding.{size_meaning, payload_meaning, frame_of_body as framed_by, frame_behind, frame_of_line, body_has_payload, line_has_payload, frame_meaning, takes_memory, JoinsBy, Joins, failure_of};
-ghost use Rattle.route_frames.specs.NumberedLines.{plus_line, minus_line, snapshot_line, message_line};
+ghost use Rattle.route_frames.specs.Decoding.{size_meaning, payload_meaning, block_meaning, fits_meaning, body_fits, body_in, content_in, message_meaning, frame_of_body as framed_by, frame_behind, frame_of_line, body_has_payload, line_has_payload, frame_meaning, takes_memory, JoinsBy, Joins, failure_of};
+ghost use Rattle.route_frames.specs.NumberedLines.{plus_line, minus_line, snapshot_line, message_line, header_line};
 ghost use Rattle.route_frames.specs.Refusals.{IsSizeOf, IsReadOf, IsFrameOf};
 
 use crate::faults::RouteFault;
+use crate::greetings::{read_connect, read_info};
 use crate::line_reading::{
-    Common, Digits, Names, Numbers, Operation, node, read_message, read_minus, read_plus,
-    read_snapshot, read_snapshot_keys,
+    Common, Digits, MessageFields, Names, Numbers, Operation, read_message, read_minus, read_plus,
+    read_snapshot,
 };
+use crate::snapshot_reading::read_snapshot_keys;
 use bytes::Bytes;
 use line_fields::split_line;
 use route_values::{Body, Numbered, RouteConnect, RouteFrame, RouteInfo, WeightedKey};
-use serde_json::Value;
 use std::alloc::{AllocError, Global};
 use std::fmt;
 use std::fmt::{Debug, Formatter, Write};
 use subj::{
-    Failure, Incarnation, Key, MAX_COUNTER, MAX_INCARNATION, MAX_PAYLOAD, Message, NameFault,
-    NodeId, Pattern, QueueName, QueueNames, Reply, Subject,
+    Failure, HEADER_START, Incarnation, Key, MAX_PAYLOAD, Message, MessageBody, MessageParts,
+    NameFault, NodeId, Pattern, QueueName, QueueNames, Reply, Subject,
 };
 use thiserror::Error;
 
@@ -43,11 +41,12 @@ pub(crate) enum LineBody {
     Minus(Key),
     /// A snapshot of so many bytes follows.
     Snapshot(u64),
-    /// A payload of so many bytes follows.
+    /// A payload of so many bytes follows, of which the first are the header block, where there is one.
     Msg {
         subject: Subject,
         reply: Option<Reply>,
         queues: QueueNames,
+        headers: Option<u64>,
         size: u64,
     },
 }
@@ -121,6 +120,19 @@ impl RouteLine {
             },
         }
     }
+
+    /// How many of these bytes are a header block, where there is one.
+    fn header_size(&self) -> Option<u64>
+        ensures { result ≡ announced_headers self.now }
+    {
+        match self {
+            RouteLine::Info(_) | RouteLine::Connect(_) => None,
+            RouteLine::Numbered(line) => match &line.body {
+                LineBody::Plus(_) | LineBody::Minus(_) | LineBody::Snapshot(_) => None,
+                LineBody::Msg { headers, .. } => *headers,
+            },
+        }
+    }
 }
 
 /// A key.
@@ -144,11 +156,12 @@ pub(crate) enum BodyText<'a> {
     Minus(KeyText<'a>),
     /// A snapshot of so many bytes follows.
     Snapshot(u64),
-    /// A payload of so many bytes follows.
+    /// A payload of so many bytes follows, of which the first are the header block, where there is one.
     Msg {
         subject: &'a [u8],
         reply: Option<&'a [u8]>,
         names: Names<'a>,
+        headers: Option<u64>,
         size: u64,
     },
 }
@@ -235,6 +248,7 @@ impl BodyText<'_> {
                 subject,
                 reply,
                 names,
+                headers,
                 size,
             } => {
                 let subject = name_copy(Subject::read(alloc, subject))?;
@@ -244,6 +258,7 @@ impl BodyText<'_> {
                     subject,
                     reply,
                     queues,
+                    headers,
                     size,
                 })
             }
@@ -260,6 +275,16 @@ impl NumberedText<'_> {
             BodyText::Plus(_) | BodyText::Minus(_) => None,
             BodyText::Snapshot(size) => Some(size),
             BodyText::Msg { size, .. } => Some(size),
+        }
+    }
+
+    /// How many of these bytes are a header block, where there is one.
+    fn header_size(self) -> Option<u64>
+        ensures { result ≡ body_headers (body_view self.entry.body) }
+    {
+        match self.body {
+            BodyText::Plus(_) | BodyText::Minus(_) | BodyText::Snapshot(_) => None,
+            BodyText::Msg { headers, .. } => headers,
         }
     }
 
@@ -313,175 +338,6 @@ impl LineText<'_> {
     }
 }
 
-/// What a member of an object is, as a whole number.
-#[derive(Clone, Copy)]
-pub(crate) enum Whole {
-    /// It is absent, or no whole number.
-    Other,
-    /// A whole number below 0.
-    Negative,
-    /// Another whole number.
-    Number(u64),
-}
-
-/// The JSON that a text is.
-fn read_json(alloc: Global, text: &[u8]) -> Result<Value, Failure<RouteFault>>
-    ensures { MeansBy view true (ok_or (json_of text.now) BadArgs) result }
-{
-    match Value::from_slice(alloc, text) {
-        Ok(value) => Ok(value),
-        Err(error) => {
-            if error.is_memory() {
-                return Err(Failure::OutOfMemory);
-            }
-            Err(Failure::Refused(RouteFault::BadArgs))
-        }
-    }
-}
-
-/// The JSON object that a text is.
-#[tactic(auto, unfolding(crate::specs::Greetings::object_of))]
-fn read_object(alloc: Global, text: &[u8]) -> Result<Value, Failure<RouteFault>>
-    ensures { MeansBy view true (object_of text.now) result }
-{
-    let value = read_json(alloc, text)?;
-    if value.is_object() {
-        return Ok(value);
-    }
-    Err(Failure::Refused(RouteFault::BadArgs))
-}
-
-/// The member of this name as a whole number.
-fn read_whole(object: &Value, name: &str) -> Whole
-    ensures { result ≡ whole_at name.now (view object.now) }
-{
-    let Some(number) = object.get(name).and_then(Value::as_number) else {
-        return Whole::Other;
-    };
-    if let Some(number) = number.as_u64() {
-        return Whole::Number(number);
-    }
-    if number.is_i64() {
-        return Whole::Negative;
-    }
-    Whole::Other
-}
-
-impl Whole {
-    /// The same, where it is no whole number out of the range from 1.
-    fn in_range(self, most: u64) -> Result<Whole, RouteFault>
-        ensures { result ≡ whole_in_range most self }
-    {
-        match self {
-            Whole::Other => Ok(Whole::Other),
-            Whole::Negative => Err(RouteFault::BadNumber),
-            Whole::Number(number) => {
-                if 1 <= number && number <= most {
-                    Ok(Whole::Number(number))
-                } else {
-                    Err(RouteFault::BadNumber)
-                }
-            }
-        }
-    }
-
-    fn number(self) -> Result<u64, RouteFault>
-        ensures { result ≡ whole_number self }
-    {
-        match self {
-            Whole::Other | Whole::Negative => Err(RouteFault::BadArgs),
-            Whole::Number(number) => Ok(number),
-        }
-    }
-
-    #[tactic(auto, unfolding(crate::specs::Greetings::incarnation_in))]
-    fn incarnation(self) -> Result<Incarnation, RouteFault>
-        ensures { result ≡ incarnation_in self }
-    {
-        let number = self.number()?;
-        Incarnation::new(number).ok_or(RouteFault::BadNumber)
-    }
-}
-
-/// The member of this name as a server's name.
-#[tactic(auto, unfolding(crate::specs::Greetings::node_at))]
-fn read_node(object: &Value, name: &str) -> Result<NodeId, RouteFault>
-    ensures { result ≡ node_at name.now (view object.now) }
-{
-    let text = object
-        .get(name)
-        .and_then(Value::as_str)
-        .ok_or(RouteFault::BadArgs)?;
-    node(text.as_bytes())
-}
-
-/// What the object of an `INFO` tells.
-#[tactic(auto, unfolding(crate::specs::Greetings::info_in))]
-fn info_from(object: &Value) -> Result<RouteInfo, RouteFault>
-    ensures { result ≡ info_in (view object.now) }
-{
-    let inc = read_whole(object, "inc").in_range(MAX_INCARNATION)?;
-    let inc = inc.incarnation()?;
-    let server_name = read_node(object, "server_name")?;
-    Ok(RouteInfo::new(server_name, inc))
-}
-
-/// The numbers of a `CONNECT`.
-#[derive(Clone, Copy)]
-struct Dial {
-    inc: Incarnation,
-    to_inc: Incarnation,
-    serial: u64,
-}
-
-#[tactic(auto, unfolding(crate::specs::Greetings::dial_in))]
-fn dial_from(object: &Value) -> Result<Dial, RouteFault>
-    ensures { result ≡ dial_in (view object.now) }
-{
-    let inc = read_whole(object, "inc").in_range(MAX_INCARNATION)?;
-    let to_inc = read_whole(object, "to_inc").in_range(MAX_INCARNATION)?;
-    let serial = read_whole(object, "serial").in_range(MAX_COUNTER)?;
-    let inc = inc.incarnation()?;
-    let to_inc = to_inc.incarnation()?;
-    let serial = serial.number()?;
-    Ok(Dial {
-        inc,
-        to_inc,
-        serial,
-    })
-}
-
-/// What the object of a `CONNECT` tells.
-#[tactic(auto, unfolding(crate::specs::Greetings::connect_in))]
-fn connect_from(object: &Value) -> Result<RouteConnect, RouteFault>
-    ensures { result ≡ connect_in (view object.now) }
-{
-    let dial = dial_from(object)?;
-    let server_name = read_node(object, "server_name")?;
-    let to = read_node(object, "to")?;
-    RouteConnect::new(server_name, dial.inc, to, dial.to_inc, dial.serial).ok_or(
-        RouteFault::BadNumber,
-    )
-}
-
-/// What stands behind `INFO`.
-pub(crate) fn read_info(alloc: Global, text: &[u8]) -> Result<RouteInfo, Failure<RouteFault>>
-    ensures { RouteMeans true (info_of text.now) result }
-{
-    let object = read_object(alloc, text)?;
-    let info = info_from(&object)?;
-    Ok(info)
-}
-
-/// What stands behind `CONNECT`.
-pub(crate) fn read_connect(alloc: Global, text: &[u8]) -> Result<RouteConnect, Failure<RouteFault>>
-    ensures { RouteMeans true (connect_text_of text.now) result }
-{
-    let object = read_object(alloc, text)?;
-    let connect = connect_from(&object)?;
-    Ok(connect)
-}
-
 fn plus(text: &[u8]) -> Result<NumberedText<'_>, RouteFault>
     ensures { Says (λ line. route_line.Numbered (numbered_view line)) (line_of_fields plus_line (fields text.now)) result }
 {
@@ -507,7 +363,14 @@ fn message(text: &[u8]) -> Result<NumberedText<'_>, RouteFault>
     ensures { Says (λ line. route_line.Numbered (numbered_view line)) (line_of_fields message_line (fields text.now)) result }
 {
     let (common, behind) = Common::read(text).ok_or(RouteFault::BadArgs)?;
-    read_message(common, behind)
+    read_message(common, MessageFields::read(Names::all(behind)))
+}
+
+fn header_message(text: &[u8]) -> Result<NumberedText<'_>, RouteFault>
+    ensures { Says (λ line. route_line.Numbered (numbered_view line)) (line_of_fields header_line (fields text.now)) result }
+{
+    let (common, behind) = Common::read(text).ok_or(RouteFault::BadArgs)?;
+    read_message(common, MessageFields::read_with_headers(Names::all(behind)))
 }
 
 /// What a line says, as it stands there.
@@ -526,6 +389,7 @@ fn read_text(line: &[u8]) -> Result<LineText<'_>, RouteFault>
         Some(Operation::Minus) => Ok(LineText::Numbered(minus(text)?)),
         Some(Operation::Snapshot) => Ok(LineText::Numbered(snapshot(text)?)),
         Some(Operation::Msg) => Ok(LineText::Numbered(message(text)?)),
+        Some(Operation::HeaderMsg) => Ok(LineText::Numbered(header_message(text)?)),
     }
 }
 
@@ -544,6 +408,31 @@ fn check_size(size: Option<u64>, payload: &[u8]) -> Result<(), RouteFault>
     }
 }
 
+/// Whether a payload begins with a header block of this size, where there is to be one.
+fn check_block(headers: Option<u64>, payload: &[u8]) -> Result<(), RouteFault>
+    ensures { result ≡ block_meaning headers payload.now }
+{
+    let begins = match headers {
+        None => true,
+        Some(headers) => {
+            headers <= payload.len() as u64 && payload[..headers as usize].starts_with(HEADER_START)
+        }
+    };
+    if begins {
+        Ok(())
+    } else {
+        Err(RouteFault::BadArgs)
+    }
+}
+
+/// Whether a payload has the announced size, and begins as it has to.
+fn check_payload(size: Option<u64>, headers: Option<u64>, payload: &[u8]) -> Result<(), RouteFault>
+    ensures { result ≡ fits_meaning size headers payload.now }
+{
+    check_size(size, payload)?;
+    check_block(headers, payload)
+}
+
 fn reply_copy(reply: &Option<Reply>) -> Result<Option<Reply>, AllocError>
     ensures { IfOk result (λ copy. copy ≡ reply.now) }
 {
@@ -553,25 +442,56 @@ fn reply_copy(reply: &Option<Reply>) -> Result<Option<Reply>, AllocError>
     }
 }
 
-/// The message of a line and the payload behind it; copies share their bytes.
+/// A header block of this size, where there is one, and the payload behind it; they share the bytes.
+fn body_of(headers: Option<u64>, bytes: &Bytes) -> Result<MessageBody, Failure<RouteFault>>
+    ensures { RouteMeans false (ok_or (body_in headers bytes.now) BadArgs) result }
+{
+    if bytes.len() > MAX_PAYLOAD {
+        return Err(Failure::Refused(RouteFault::BadArgs));
+    }
+    check_block(headers, bytes)?;
+    let bytes = bytes.clone()?;
+    match headers {
+        None => Ok(MessageBody::plain(bytes)),
+        Some(headers) => match MessageBody::split(bytes, headers as usize)? {
+            Some(body) => Ok(body),
+            // the block begins as it has to
+            None => unreachable!(),
+        },
+    }
+}
+
+/// The message of a line and what stands behind it; copies share their bytes.
+fn message_with(
+    alloc: Global,
+    subject: &Subject,
+    reply: &Option<Reply>,
+    body: MessageBody,
+) -> Result<Message, AllocError>
+    ensures { IfOk result (λ message. message ≡ content_in subject.now reply.now body) }
+{
+    let subject = subject.try_clone()?;
+    let reply = reply_copy(reply)?;
+    let parts = MessageParts {
+        subject,
+        reply,
+        body,
+    };
+    Ok(Message::from_parts(alloc, parts)?)
+}
+
+/// The same, of the bytes of what stands behind it.
 fn message_of(
     alloc: Global,
     subject: &Subject,
     reply: &Option<Reply>,
-    payload: &Bytes,
+    headers: Option<u64>,
+    bytes: &Bytes,
 ) -> Result<Message, Failure<RouteFault>>
-    ensures { RouteMeans false (ok_or (content_of subject.now reply.now payload.now) BadArgs) result }
+    ensures { RouteMeans false (message_meaning subject.now reply.now headers bytes.now) result }
 {
-    if payload.len() > MAX_PAYLOAD {
-        return Err(Failure::Refused(RouteFault::BadArgs));
-    }
-    let subject = subject.try_clone()?;
-    let reply = reply_copy(reply)?;
-    match Message::new(alloc, subject, reply, payload.clone()?)? {
-        Some(message) => Ok(message),
-        // the payload is within the limit
-        None => unreachable!(),
-    }
+    let body = body_of(headers, bytes)?;
+    Ok(message_with(alloc, subject, reply, body)?)
 }
 
 /// The frame of a line and what it says, with what the payload says.
@@ -618,8 +538,9 @@ fn join_numbered(alloc: Global, line: NumberedLine, payload: Bytes) -> Result<Ro
             subject,
             reply,
             queues,
+            headers,
             size,
-        } => match message_of(alloc, &subject, &reply, &payload) {
+        } => match message_of(alloc, &subject, &reply, headers, &payload) {
             Ok(message) => Body::Msg { message, queues },
             Err(Failure::Refused(fault)) => return Err(Unjoined::Refused(fault)),
             Err(Failure::OutOfMemory) => {
@@ -627,6 +548,7 @@ fn join_numbered(alloc: Global, line: NumberedLine, payload: Bytes) -> Result<Ro
                     subject,
                     reply,
                     queues,
+                    headers,
                     size,
                 };
                 let line = RouteLine::Numbered(NumberedLine {
@@ -664,15 +586,15 @@ fn joined_frame(joined: Result<RouteFrame, Unjoined>) -> Result<RouteFrame, Fail
     }
 }
 
-/// The frame of a numbered line. The size of the payload is judged before the parts are copied.
+/// The frame of a numbered line. The size of the payload and how it begins are judged before the parts are copied.
 fn decode_numbered(
     alloc: Global,
     line: NumberedText<'_>,
     payload: Bytes,
 ) -> Result<RouteFrame, Failure<RouteFault>>
-    ensures { MeansBy (λ frame. frame) (is_ok (payload_meaning (body_size (body_view line.entry.body)) payload)) (frame_of_line (route_line.Numbered (numbered_view line.entry)) payload) result }
+    ensures { MeansBy (λ frame. frame) (is_ok (body_fits (body_view line.entry.body) payload)) (frame_of_line (route_line.Numbered (numbered_view line.entry)) payload) result }
 {
-    check_size(line.payload_size(), payload.as_slice())?;
+    check_payload(line.payload_size(), line.header_size(), payload.as_slice())?;
     let line = RouteLine::Numbered(line.copy(alloc)?);
     joined_frame(line.into_frame(alloc, payload))
 }
@@ -715,15 +637,17 @@ impl RouteLine {
     /// The frame of the line and the payload behind it, which has no CR LF and is shared, not copied.
     /// Where the line announces none, the payload has to be empty.
     ///
-    /// Refused by `BadArgs`: for a payload of another size than announced, and for one that is not the
-    /// text of a snapshot behind `RSS`. Want of memory comes only where a payload of the announced size
-    /// is read as a snapshot or shared as a message, and gives the line and the payload back. (Profile.)
+    /// Refused by `BadArgs`: for a payload of another size than announced, for one that is not the text of
+    /// a snapshot behind `RSS`, and for a header block that is none behind `RHMSG`. Want of memory comes
+    /// only where a payload of the announced size is read as a snapshot or shared as a message, and gives
+    /// the line and the payload back. (Profile.)
     pub fn into_frame(self, alloc: Global, payload: Bytes) -> Result<RouteFrame, Unjoined>
         ensures spelt { (line : List ℕ) → line_meaning line ≡ Ok self → IsFrameOf line payload (failure_of result) }
         ensures means { Joins self payload result }
     {
         let size = self.payload_size();
-        check_size(size, payload.as_slice())?;
+        let headers = self.header_size();
+        check_payload(size, headers, payload.as_slice())?;
         join(alloc, self, payload)
     }
 }

@@ -1,7 +1,7 @@
 -- Frames that hold only what can be spelt, as the values of the types do.
 use Rattle.std.specs.Prelude.{◌≡◌, ℕ, ◌≤◌, true, List, [], ◌∷◌, length, Option, Some, None}
 use Rattle.subj.specs.declared.limits.TheConstants.{MAX_INCARNATION, MAX_PAYLOAD}
-use Rattle.subj.specs.Messages.{Content}
+use Rattle.subj.specs.Messages.{Content, are_headers, body_of}
 use Rattle.subj.specs.Names.{node_name_fault, subject_fault, queue_name_fault}
 use Rattle.subj.specs.QueueNames.{are_queue_names}
 use Rattle.route_values.specs.declared.bodies.Body.{Body}
@@ -24,7 +24,8 @@ IsReply (Some reply) = subject_fault reply ≡ None
 pub record IsMessage (message : Content) (queues : List (List ℕ)) : Type 0 where
   pub subject : subject_fault message.subject ≡ None
   pub reply : IsReply message.reply
-  pub payload : length message.payload ≤ MAX_PAYLOAD
+  pub headers : are_headers message.headers ≡ true
+  pub body : length (body_of message) ≤ MAX_PAYLOAD
   pub names : AreNames queues
   pub ordered : are_queue_names queues ≡ true
 

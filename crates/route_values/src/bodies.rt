@@ -7,7 +7,7 @@ use std::alloc::{AllocError, Global};
 use subj::{Key, Message, QueueNames};
 
 /// What a numbered frame says. (NATS documentation, "Cluster Protocol": `RS+`, `RS-`, `RMSG`;
-/// snapshots: profile.)
+/// snapshots, and `RHMSG` for a publication with headers: profile.)
 #[derive(Debug, Drop)]
 pub enum Body {
     /// A key is there, or has another weight now.

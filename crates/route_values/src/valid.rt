@@ -38,7 +38,8 @@ fn is_message(message: &Message, queues: &QueueNames)
 {
     let _subject = message.subject().bytes();
     is_reply(message.reply());
-    let _payload = message.payload();
+    let _headers = message.headers();
+    let _whole = message.whole();
     let _names = queues.as_slice();
 }
 

@@ -87,9 +87,10 @@ unfoldable pub publication_in : Data → Option Pub
 publication_in json = do
   subject ← name_at subject_fault key.Subject json
   reply ← optional_name_at subject_fault key.Reply json
+  headers ← optional text key.Headers json
   payload ← member text key.Payload json
   echo ← optional truth key.Echo json
-  new_publication subject reply payload (unwrap_or echo true)
+  new_publication subject reply headers payload (unwrap_or echo true)
 
 -- a publish, or one that is delivered
 unfoldable pub publish_in : (ℕ → Pub → ℕ → Act) → Data → Option Act

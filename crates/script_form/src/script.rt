@@ -1,14 +1,16 @@
 //! Reading scripts: the members of JSON objects, the steps, and the whole.
 
-ghost use Rattle.std.specs.Prelude.{◌≡◌, Option, Some, None, is_some, option_map, ⊤, if◌then◌else◌, nat_lt};
+ghost use Rattle.std.specs.Prelude.{◌≡◌, Option, Some, None, is_some, option_map, ⊤, if◌then◌else◌, nat_lt, IfOk};
 ghost use Rattle.std.specs.Option.{option_copied};
 ghost use Rattle.serde_json.specs.View.{view, items_view};
 ghost use Rattle.subj.specs.declared.faults.NameFault.{NameFault as Cause};
 ghost use Rattle.subj.specs.Answers.{IsAnswered};
 ghost use Rattle.subj.specs.Names.{node_name_fault, pattern_fault, subject_fault, queue_name_fault, sid_fault};
+ghost use Rattle.subj.specs.Publications.{new_publication};
 ghost use Rattle.script_form.specs.Members.{MemberMeans, Says, SaysBy, member as there, optional, whole, text as is_text, truth as is_truth, node as is_node, name_at, optional_name_at, MeansBy};
 ghost use Rattle.script_form.specs.Acts.{start_in, attach_in, key_in, sub_in, unsub_in, publication_in, publish_in, settled_in, claim_in, take_entries_in, take_frames_in, take_in, act_in, verb_in, step_in, shard, peer, session, frame, conn};
 ghost use Rattle.script_form.specs.declared.steps.Act.TheVariants.{Publish, Deliver};
+ghost use Rattle.script_form.specs.declared.steps.Member.TheVariants.{Headers as HeadersMember, Payload as PayloadMember};
 ghost use Rattle.serde_json.specs.Find.{as_array};
 ghost use Rattle.script_form.specs.Form.{each, count_of, script_in, Reads, ReadsJson};
 
@@ -16,7 +18,7 @@ use crate::faults::{Misfit, Place, ScriptError, ScriptFault};
 use crate::steps::{Act, Member, Step, Verb};
 use bytes::Bytes;
 use serde_json::Value;
-use std::alloc::Global;
+use std::alloc::{AllocError, Global};
 use std::marker::Model;
 use subj::{
     ConnId, Failure, Incarnation, Key, NameFault, NodeId, Pattern, Pub, QueueName, SCRIPT_BYTES,
@@ -269,6 +271,47 @@ fn read_unsub(alloc: Global, object: &Value) -> Result<Act, Failure<Misfit>>
     Ok(Act::Unsub { conn, sid, max })
 }
 
+/// The bytes of a text, where there is one.
+fn bytes_where_there(alloc: Global, text: Option<&str>) -> Result<Option<Bytes>, AllocError>
+    ensures { IfOk result (λ bytes. bytes ≡ option_copied text.entry) }
+{
+    match text {
+        None => Ok(None),
+        Some(text) => Ok(Some(Bytes::copy_from_slice(alloc, text.as_bytes())?)),
+    }
+}
+
+/// Which member is wrong where headers and payload make no publication: the headers, where there are any.
+fn wrong_member(headers: Option<&str>) -> Member
+    ensures { result ≡ (if is_some headers.entry then HeadersMember else PayloadMember) }
+{
+    match headers {
+        Some(_) => Member::Headers,
+        None => Member::Payload,
+    }
+}
+
+/// The publication of these texts.
+fn publication_of(
+    alloc: Global,
+    subject: Subject,
+    reply: Option<Subject>,
+    headers: Option<&str>,
+    payload: &str,
+    echo: bool,
+) -> Result<Pub, Failure<Misfit>>
+    ensures { MemberMeans (new_publication subject reply (option_copied headers.entry) payload.now echo) result }
+{
+    let block = bytes_where_there(alloc, headers)?;
+    let payload = Bytes::copy_from_slice(alloc, payload.as_bytes())?;
+    match Pub::new(alloc, subject, reply, block, payload, echo)? {
+        Some(publication) => Ok(publication),
+        None => Err(Failure::Refused(Misfit {
+            member: wrong_member(headers),
+        })),
+    }
+}
+
 /// What is published.
 #[tactic(auto, unfolding(crate::specs::Acts::publication_in))]
 fn read_publication(alloc: Global, object: &Value) -> Result<Pub, Failure<Misfit>>
@@ -276,16 +319,10 @@ fn read_publication(alloc: Global, object: &Value) -> Result<Pub, Failure<Misfit
 {
     let subject = subject(alloc, object, Member::Subject)?;
     let reply = optional_subject(alloc, object, Member::Reply)?;
+    let headers = optional_text(object, Member::Headers)?;
     let payload = text(object, Member::Payload)?;
     let echo = optional_truth(object, Member::Echo)?.unwrap_or(true);
-    let payload = Bytes::copy_from_slice(alloc, payload.as_bytes())?;
-    let publication = Pub::new(alloc, subject, reply, payload, echo)?;
-    match publication {
-        Some(publication) => Ok(publication),
-        None => Err(Failure::Refused(Misfit {
-            member: Member::Payload,
-        })),
-    }
+    publication_of(alloc, subject, reply, headers, payload, echo)
 }
 
 #[tactic(auto, unfolding(crate::specs::Acts::publish_in))]

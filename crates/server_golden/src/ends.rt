@@ -4,14 +4,14 @@
 
 use event_log::EventText;
 use golden::{Call, Words, bytes_of, call_of, number, shown, text, yes_or_no};
-use node_net::{HostText, MemStream, Server, Side};
+use node_net::{MemStream, Server, Side};
 use peer_proof::{Secret, WORD};
 use server_calls::ServerCalls;
 use server_events::Event;
 use std::alloc::{AllocError, Global};
 use std::fmt::Write;
 use std::sync::Wait;
-use subj::ServerIdentity as Life;
+use subj::{HostText, ServerIdentity as Life};
 
 /// What is known of a connection: its key, and how much of what was written to it came to its other end.
 #[derive(Clone, Copy)]
@@ -40,7 +40,7 @@ fn side_of(word: &str) -> Side {
 /// A word of 32 bytes that count up from this one.
 fn word_from(first: u64) -> [u8; WORD] {
     let mut word = [0; WORD];
-    let mut next = first as u8;
+    let mut next = (first & 0xff) as u8;
     for byte in word.iter_mut() {
         *byte = next;
         next = next.wrapping_add(1);
@@ -121,6 +121,11 @@ fn push_event(told: &mut String, event: Event) -> Result<(), AllocError> {
     write!(told, "{}", EventText(event))
 }
 
+/// The host that clients are told.
+fn host() -> HostText {
+    HostText::from("127.0.0.1").unwrap_or(HostText::new())
+}
+
 impl<C: ServerCalls> End<C> {
     /// This life of a server, without connections.
     pub fn new(
@@ -132,7 +137,7 @@ impl<C: ServerCalls> End<C> {
         let Some(life) = life else {
             return Err(AllocError);
         };
-        let server = Server::new(alloc, node, life, HostText::new(), port, 0)?;
+        let server = Server::new(alloc, node, life, host(), port, 0)?;
         let known = Vec::new(alloc);
         Ok(End {
             alloc,

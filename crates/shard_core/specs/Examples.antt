@@ -64,7 +64,7 @@ shard first second third subs = record {
 
 -- `hi` under `foo` for the members of q, published by connection 1 unless that gets nothing back
 abbrev pub job_of : ℕ → Bool → Job
-job_of turn echo = record { turn = turn; id = record { origin = codes "n1"; inc = 1; number = turn }; message = record { subject = codes "foo"; reply = None; payload = codes "hi" }; publisher = Some 1; echo = echo; queues = codes "q" ∷ [] }
+job_of turn echo = record { turn = turn; id = record { origin = codes "n1"; inc = 1; number = turn }; message = record { subject = codes "foo"; reply = None; headers = None; payload = codes "hi" }; publisher = Some 1; echo = echo; queues = codes "q" ∷ [] }
 
 abbrev pub job : ℕ → Job
 job turn = job_of turn true

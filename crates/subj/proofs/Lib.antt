@@ -4,5 +4,6 @@ mod Matches
 mod Padded
 mod Fits
 mod Apart
+mod JoinedBodies
 pub mod NameBytes
 pub mod Rising

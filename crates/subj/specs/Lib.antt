@@ -14,6 +14,8 @@ pub mod Numbers
 pub mod Padding
 -- the content of a publication
 pub mod Messages
+-- a header block and the payload behind it, which share one piece of memory
+pub mod Bodies
 -- a publication as a client hands it in
 pub mod Publications
 -- lists of queue names

@@ -7,12 +7,14 @@
 //! ```
 //!
 //! In reading order: `limits` has every limit by its name; `names` and `scans` judge bytes, which `subjects`, `patterns`,
-//! `queue_names`, `sids` and `node_ids` keep; `keys`, `messages`, `identities`, `turns` and `jobs` are what the crates hand to one
+//! `queue_names`, `sids` and `node_ids` keep; `keys`, `bodies`, `messages`, `identities`, `turns` and `jobs` are what the crates hand to one
 //! another; `servers` is who is in the cluster; `failures` is how a call fails, and `faults` why bytes are no name.
 #![tactic(auto)]
 
+mod bodies;
 mod failures;
 mod faults;
+mod hosts;
 mod identities;
 mod jobs;
 mod keys;
@@ -28,8 +30,10 @@ mod sids;
 mod subjects;
 mod turns;
 
+pub use bodies::{HEADER_START, MessageBody, is_header_block};
 pub use failures::Failure;
 pub use faults::NameFault;
+pub use hosts::{HostText, MAX_HOST};
 pub use identities::{ConnId, Incarnation, PubId, SubId};
 pub use jobs::{Job, QueueNames};
 pub use keys::{Delta, Key};

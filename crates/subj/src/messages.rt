@@ -1,10 +1,11 @@
 //! Publications as clients hand them in.
 
-ghost use Rattle.std.specs.Prelude.{◌≡◌, ◌≤◌, length, IfErr, IfOk, OnErr};
+ghost use Rattle.std.specs.Prelude.{◌≡◌, ◌≤◌, true, length, IfErr, IfOk, OnErr};
 ghost use Rattle.std.specs.Option.{option_copied};
-ghost use Rattle.subj.specs.Messages.{content_of};
+ghost use Rattle.subj.specs.Messages.{are_headers, body_bytes, content_of, is_body};
 ghost use Rattle.subj.specs.Publications.{new_publication};
 
+use crate::bodies::MessageBody;
 use crate::limits::MAX_PAYLOAD;
 use crate::subjects::{Reply, Subject};
 use bytes::Bytes;
@@ -17,7 +18,7 @@ use std::sync::Arc;
 pub struct MessageParts {
     pub subject: Subject,
     pub reply: Option<Reply>,
-    pub payload: Bytes,
+    pub body: MessageBody,
 }
 
 impl Model for MessageParts {
@@ -25,13 +26,13 @@ impl Model for MessageParts {
 
     ghost Value = { Content };
 
-    ghost view = { λ parts. record { subject = parts.subject; reply = parts.reply; payload = parts.payload } };
+    ghost view = { λ parts. record { subject = parts.subject; reply = parts.reply; headers = parts.body.headers; payload = parts.body.payload } };
 }
 
-/// The content of a publication: its subject, the subject that an answer is awaited on, and its
-/// payload. (NATS documentation, "Client Protocol": `PUB`.) A copy shares all of it, behind one count, and takes no memory.
+/// The content of a publication: its subject, the subject that an answer is awaited on, its header block where it has one, and its
+/// payload. (NATS documentation, "Client Protocol": `PUB`, `HPUB`.) A copy shares all of it, behind one count, and takes no memory.
 ///
-/// The payload has at most [`MAX_PAYLOAD`] bytes. (Profile.)
+/// Header block and payload together have at most [`MAX_PAYLOAD`] bytes. (Profile.)
 #[derive(Debug, Drop)]
 pub struct Message {
     shared: Arc<MessageParts, Global>,
@@ -40,34 +41,33 @@ pub struct Message {
 impl Model for Message {
     ghost use Rattle.subj.specs.Messages.{Content};
     ghost use Rattle.std.specs.Arc.{arc_value};
-    ghost use Rattle.std.specs.Prelude.{◌≤◌, length};
-    ghost use Rattle.subj.specs.declared.limits.TheConstants.{MAX_PAYLOAD};
 
     ghost Value = { Content };
 
     ghost view = { λ message. arc_value message.shared };
-
-    ghost invariant = { λ message. length (arc_value message.shared).payload ≤ MAX_PAYLOAD };
 }
 
 impl Message {
-    /// None just where the payload has more than [`MAX_PAYLOAD`] bytes. Want of memory comes only where it has not.
+    /// None just where the header block does not begin with [`HEADER_START`](crate::HEADER_START), or it and the payload have more than
+    /// [`MAX_PAYLOAD`] bytes together. Want of memory comes only where there is a message. A header block is copied, together with the
+    /// payload.
     pub fn new(
         alloc: Global,
         subject: Subject,
         reply: Option<Reply>,
+        headers: Option<Bytes>,
         payload: Bytes,
     ) -> Result<Option<Message>, AllocError>
-        ensures message { IfOk result (λ message. message ≡ content_of subject reply payload) }
-        ensures err { OnErr result (length payload ≤ MAX_PAYLOAD) }
+        ensures message { IfOk result (λ message. message ≡ content_of subject reply headers payload) }
+        ensures err { OnErr result (is_body headers payload ≡ true) }
     {
-        if payload.len() > MAX_PAYLOAD {
+        let Some(body) = MessageBody::new(alloc, headers, payload)? else {
             return Ok(None);
-        }
+        };
         let parts = MessageParts {
             subject,
             reply,
-            payload,
+            body,
         };
         Ok(Some(Message::from_parts(alloc, parts)?))
     }
@@ -77,7 +77,6 @@ impl Message {
         alloc: Global,
         parts: MessageParts,
     ) -> Result<Message, AllocFailed<MessageParts>>
-        requires { length parts.payload ≤ MAX_PAYLOAD }
         ensures ok { IfOk result (λ message. message ≡ parts) }
         ensures err { IfErr result (λ failed. failed.value ≡ parts) }
     {
@@ -99,12 +98,28 @@ impl Message {
         self.shared.reply.as_ref()
     }
 
-    /// The bytes that were published.
+    /// The header block, where it has one.
+    pub fn headers(&self) -> Option<&[u8]>
+        ensures same { option_copied result ≡ self.now.headers }
+        ensures begun { are_headers self.now.headers ≡ true }
+    {
+        self.shared.body.headers()
+    }
+
+    /// The bytes that were published, without the header block.
     pub fn payload(&self) -> &Bytes
         ensures same { result.now ≡ self.now.payload }
         ensures fits { length result.now ≤ MAX_PAYLOAD }
     {
-        &self.shared.payload
+        self.shared.body.payload()
+    }
+
+    /// The payload, with the header block before it where it has one.
+    pub fn whole(&self) -> &Bytes
+        ensures same { result.now ≡ body_bytes self.now.headers self.now.payload }
+        ensures fits { length result.now ≤ MAX_PAYLOAD }
+    {
+        self.shared.body.whole()
     }
 
     /// What it is made of, where no copy of it is left; else it comes back. Takes no memory.
@@ -137,18 +152,20 @@ pub struct Pub {
 }
 
 impl Pub {
-    /// None just where the payload has more than [`MAX_PAYLOAD`] bytes. Want of memory comes only where it has not.
+    /// None just where the header block does not begin with [`HEADER_START`](crate::HEADER_START), or it and the payload have more than
+    /// [`MAX_PAYLOAD`] bytes together. Want of memory comes only where there is a publication.
     pub fn new(
         alloc: Global,
         subject: Subject,
         reply: Option<Reply>,
+        headers: Option<Bytes>,
         payload: Bytes,
         echo: bool,
     ) -> Result<Option<Pub>, AllocError>
-        ensures publication { IfOk result (λ publication. publication ≡ new_publication subject reply payload echo) }
-        ensures err { OnErr result (length payload ≤ MAX_PAYLOAD) }
+        ensures publication { IfOk result (λ publication. publication ≡ new_publication subject reply headers payload echo) }
+        ensures err { OnErr result (is_body headers payload ≡ true) }
     {
-        let message = Message::new(alloc, subject, reply, payload)?;
+        let message = Message::new(alloc, subject, reply, headers, payload)?;
         Ok(message.map(|message| Pub { message, echo }))
     }
 }

@@ -4,7 +4,7 @@ ghost use Rattle.std.specs.Prelude.{◌≡◌, ◌∷◌, List, [], IfSome, leng
 ghost use Rattle.subj.specs.declared.keys.Delta.{Delta};
 ghost use Rattle.node_threads.specs.Tapes.{Grows, entry, told_of};
 ghost use Rattle.node_threads.specs.declared.shard_entries.ShardEvent.{ShardEvent};
-ghost use Rattle.node_threads.specs.declared.shard_entries.ShardEvent.TheVariants.{Collect, Subscribe, Unsubscribe};
+ghost use Rattle.node_threads.specs.declared.shard_entries.ShardEvent.TheVariants.{Collect, Reply, Subscribe, Unsubscribe};
 ghost use Rattle.node_threads.specs.declared.shard_entries.ShardTold.TheVariants.{Work};
 ghost use Rattle.thread_node.specs.HubTapes.{hub_entry, of_received};
 ghost use Rattle.thread_node.specs.declared.hub_entries.HubEvent.{HubEvent};
@@ -12,6 +12,7 @@ ghost use Rattle.thread_node.specs.declared.hub_entries.HubEvent.TheVariants.{Co
 ghost use Rattle.shard_core.specs.Answers.{answer_of};
 
 use crate::hub_entries::{HubEntry, HubEvent, HubTold};
+use client_frames::ReplyFrame;
 use node_parts::Received;
 use node_threads::{Deltas, ShardEntry, ShardEvent, ShardTold, Tape};
 use route_values::Numbered;
@@ -78,6 +79,23 @@ pub(crate) fn unsubscribe_event(
         return None;
     };
     Some(ShardEvent::Unsubscribe { conn, sid, max })
+}
+
+/// An answer, where it is to be written down and there is memory for it.
+pub(crate) fn reply_event(
+    tape: &Tape<ShardEntry>,
+    conn: ConnId,
+    frame: &ReplyFrame,
+) -> Option<ShardEvent>
+    ensures { IfSome result (λ event. event ≡ Reply conn frame.now) }
+{
+    if !tape.is_kept() {
+        return None;
+    }
+    let Ok(frame) = frame.try_clone() else {
+        return None;
+    };
+    Some(ShardEvent::Reply { conn, frame })
 }
 
 /// A copy of what a client said, where there is memory for it.

@@ -12,7 +12,8 @@ ghost use Rattle.node_threads.specs.Tapes.{IsTape};
 ghost use Rattle.node_threads.specs.Turns.{Drops, Turns};
 
 use crate::keeping::{
-    count_of, length_of, note_shard, subscribe_event, told_subscribed, unsubscribe_event,
+    count_of, length_of, note_shard, reply_event, subscribe_event, told_subscribed,
+    unsubscribe_event,
 };
 use claim_cells::Cells;
 use client_frames::{ErrText, ReplyFrame};
@@ -134,15 +135,12 @@ impl<T: SubTable, N: NodeName> LockedShard<T, N> {
         ensures { IsAnswered (shard_refusal self.old.state (Reply conn frame.now)) (λ closed. Does self.old (Reply conn frame.now) (Replied closed.shut closed.ended.items) self.new) (self.new ≡ self.old) result }
     {
         let closed = self.state.reply(conn, frame)?;
-        let event = ShardEvent::Reply {
-            conn,
-            frame: *frame,
-        };
+        let event = reply_event(&self.tape, conn, frame);
         let told = ShardTold::Replied {
             shut: closed.shut,
             ended: length_of(&closed.ended),
         };
-        note_shard(&mut self.tape, Some(event), told);
+        note_shard(&mut self.tape, event, told);
         Ok(closed)
     }
 

@@ -1,10 +1,11 @@
 //! What callers ask, as the events that their passes keep: copies, where calls are written down.
 
 ghost use Rattle.std.specs.Prelude.{◌≡◌, Some, None, cond, IfOk};
-ghost use Rattle.node_law.specs.declared.events.ConnEvent.TheVariants.{Subscribe, Unsubscribe};
+ghost use Rattle.node_law.specs.declared.events.ConnEvent.TheVariants.{Reply, Subscribe, Unsubscribe};
 ghost use Rattle.node_law.specs.declared.events.NodeEvent.TheVariants.{Own, Receive};
 ghost use Rattle.node_law.specs.declared.events.OwnEvent.TheVariants.{OfConn, Publish};
 
+use client_frames::ReplyFrame;
 use node_law::{ConnEvent, NodeEvent, OwnEvent};
 use route_values::Numbered;
 use std::alloc::{AllocError, Global};
@@ -23,6 +24,21 @@ pub(crate) fn conn_event_if(keep: bool, conn: ConnId, event: ConnEvent) -> Optio
     ensures { result ≡ cond keep (Some (Own (OfConn conn event))) None }
 {
     event_if(keep, NodeEvent::Own(OwnEvent::OfConn { conn, event }))
+}
+
+/// An answer, where calls are written down.
+pub(crate) fn reply_event(
+    keep: bool,
+    conn: ConnId,
+    frame: &ReplyFrame,
+) -> Result<Option<NodeEvent>, AllocError>
+    ensures { IfOk result (λ event. event ≡ cond keep (Some (Own (OfConn conn (Reply frame.now)))) None) }
+{
+    if !keep {
+        return Ok(None);
+    }
+    let frame = frame.try_clone()?;
+    Ok(conn_event_if(keep, conn, ConnEvent::Reply { frame }))
 }
 
 /// A publication, where calls are written down.

@@ -16,7 +16,8 @@ ghost use Rattle.thread_node.specs.Refusing.{AnswersAt, has_conn, has_shard};
 ghost use Rattle.thread_node.specs.declared.hub_entries.HubTold.TheVariants as hub_told;
 
 use crate::asking::{
-    conn_event_if, event_if, publish_event, receive_event, subscribe_event, unsubscribe_event,
+    conn_event_if, event_if, publish_event, receive_event, reply_event, subscribe_event,
+    unsubscribe_event,
 };
 use crate::order::are_rising;
 use client_frames::{ErrText, ReplyFrame};
@@ -631,6 +632,7 @@ impl<N: NodeName> Pass<N> {
     {
         let keep = node.keeps_tapes();
         let (mut locked, place) = self.enter_conn(rt, node, shard, conn)?;
+        let event = reply_event(keep, conn, frame)?;
         let done = locked.reply(conn, frame);
         drop(locked);
         let closed = answered_by_shard(done)?;
@@ -638,7 +640,6 @@ impl<N: NodeName> Pass<N> {
             shut: closed.shut,
             ended: length_of(&closed.ended),
         };
-        let event = conn_event_if(keep, conn, ConnEvent::Reply { frame: *frame });
         self.tell_shard(keep, shard, place, event, told);
         Ok(closed)
     }

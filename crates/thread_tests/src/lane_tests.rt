@@ -21,6 +21,7 @@ fn message(rt: &impl Abort, alloc: Global, number: u64) -> Message {
         alloc,
         subject.expect(rt, "a subject"),
         None,
+        None,
         payload.expect(rt, "memory"),
     );
     message.ok().expect(rt, "memory").expect(rt, "a message")

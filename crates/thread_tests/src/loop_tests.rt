@@ -5,9 +5,7 @@ ghost use Rattle.std.specs.Prelude.{◌≡◌};
 
 use mio::net::{TcpListener, TcpStream};
 use mio::{Poll, Waker};
-use node_net::{
-    HostText, PeerAddresses, Server as Connections, ServerControl, Shutdown, Sockets, WAKER,
-};
+use node_net::{PeerAddresses, Server as Connections, ServerControl, Shutdown, Sockets, WAKER};
 use server_calls::ServerCalls;
 use server_events::{Caller, Event, EventSink, Events, LevelFilter, RefusalCause};
 use std::alloc::Global;
@@ -24,7 +22,7 @@ use std::thread;
 use std::thread::join;
 use std::time::{Duration, Instant};
 use sub_table::ListTable;
-use subj::{Incarnation, NodeId, ServerIdentity};
+use subj::{HostText, Incarnation, NodeId, ServerIdentity};
 use thread_node::{NodeName, Parts, ThreadNode};
 
 /// Where the server's own routes come in, and where the other server is to be reached.

@@ -35,7 +35,7 @@ fn server(rt: &impl Abort, alloc: Global, shards: u64) -> ServerIdentity {
 /// `hello` on `foo`, as a client says it.
 fn hello(rt: &impl Abort, alloc: Global) -> Pub {
     let subject = Subject::read(alloc, b"foo").ok().expect(rt, "a subject");
-    let message = Message::new(alloc, subject, None, Bytes::from_static(b"hello")).ok();
+    let message = Message::new(alloc, subject, None, None, Bytes::from_static(b"hello")).ok();
     Pub {
         message: message.expect(rt, "memory").expect(rt, "a message"),
         echo: true,

@@ -3,21 +3,28 @@
 
 ghost use Rattle.std.specs.Prelude.{◌≡◌, ◌↔◌, IsTrue};
 
-use client_frames::{InfoData, ReplyFrame};
+use client_frames::{InfoData, ReplyFrame, ServerInfo};
 use route_values::{RouteConnect, RouteInfo};
 
 /// Whether it is the same life of a server.
-fn is_same_life(a: &InfoData, b: &InfoData) -> bool
+fn is_same_life(a: &ServerInfo, b: &ServerInfo) -> bool
     ensures { IsTrue result ↔ ((a.now.name ≡ b.now.name) × (a.now.inc ≡ b.now.inc)) }
 {
-    a.inc.get() == b.inc.get() && a.name.bytes() == b.name.bytes()
+    a.inc().get() == b.inc().get() && a.name().bytes() == b.name().bytes()
+}
+
+/// Whether a server tells all its clients the same of itself.
+fn is_same_server(a: &ServerInfo, b: &ServerInfo) -> bool
+    ensures { IsTrue result ↔ (a.now ≡ b.now) }
+{
+    a.port() == b.port() && a.host().as_bytes() == b.host().as_bytes() && is_same_life(a, b)
 }
 
 /// Whether a server tells a client the same of itself.
 fn is_same_data(a: &InfoData, b: &InfoData) -> bool
     ensures { IsTrue result ↔ (a.now ≡ b.now) }
 {
-    a.port == b.port && a.client_id.get() == b.client_id.get() && is_same_life(a, b)
+    a.client_id.get() == b.client_id.get() && is_same_server(&a.server, &b.server)
 }
 
 /// Whether it is the same answer to a client.

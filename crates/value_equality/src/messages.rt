@@ -16,12 +16,23 @@ fn is_same_reply(a: Option<&Reply>, b: Option<&Reply>) -> bool
     }
 }
 
-/// Whether the messages have the same subject, the same reply and the same bytes.
+/// Whether it is the same header block, or none twice.
+fn is_same_block(a: Option<&[u8]>, b: Option<&[u8]>) -> bool
+    ensures { IsTrue result ↔ (option_copied a.entry ≡ option_copied b.entry) }
+{
+    match (a, b) {
+        (Some(a), Some(b)) => a == b,
+        _ => a.is_none() && b.is_none(),
+    }
+}
+
+/// Whether the messages have the same subject, the same reply, the same header block and the same payload.
 pub fn is_same_message(a: &Message, b: &Message) -> bool
     ensures { IsTrue result ↔ (a.now ≡ b.now) }
 {
     a.subject().bytes() == b.subject().bytes()
         && is_same_reply(a.reply(), b.reply())
+        && is_same_block(a.headers(), b.headers())
         && a.payload().as_slice() == b.payload().as_slice()
 }
 

@@ -42,7 +42,7 @@ subscribe n conn queue sid = At n (OfConn conn (Subscribe (record { pattern = co
 
 -- `hi` under `foo`, by connection 1
 abbrev pub hi : Publication
-hi = record { conn = 1; publication = record { message = record { subject = codes "foo"; reply = None; payload = codes "hi" }; echo = true }; word = 0 }
+hi = record { conn = 1; publication = record { message = record { subject = codes "foo"; reply = None; headers = None; payload = codes "hi" }; echo = true }; word = 0 }
 
 abbrev pub attach : ℕ → ℕ → Event
 attach n shard = At n (AtShard shard Attach)

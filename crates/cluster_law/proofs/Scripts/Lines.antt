@@ -31,7 +31,7 @@ abbrev pub peer : World → ℕ → ℕ → Peer
 peer w n o = nth (node w n).hub.peers o (new_peer 0)
 
 abbrev pub no_job : Job
-no_job = record { node = 0; inc = 0; turn = 0; id = record { origin = 0; inc = 0; number = 0 }; content = record { subject = []; reply = None; payload = [] }; names = [] }
+no_job = record { node = 0; inc = 0; turn = 0; id = record { origin = 0; inc = 0; number = 0 }; content = record { subject = []; reply = None; headers = None; payload = [] }; names = [] }
 
 -- the job in hand
 abbrev pub in_hand : Option Job → Job
@@ -64,7 +64,7 @@ pub data Line : Type 0 where
 
 -- all messages of a script are alike
 abbrev pub hello : Content
-hello = record { subject = 1 ∷ []; reply = None; payload = 2 ∷ [] }
+hello = record { subject = 1 ∷ []; reply = None; headers = None; payload = 2 ∷ [] }
 
 abbrev pub event_of : Line → Event
 event_of (Starts n inc) = Start n inc

@@ -33,7 +33,7 @@ payload_short : (body : Body) → IsBody body → IsShort (body_payload body)
 payload_short (Plus weighted) is = tt
 payload_short (Minus key) is = tt
 payload_short (Snapshot keys) is = snapshot_fits (length (snapshot_text keys)) _ is.ordered
-payload_short (Msg message queues) is = let short = is.payload in omega arith
+payload_short (Msg message queues) is = let short = is.body in omega arith
 
 pub are_payloads : ArePayloads
 are_payloads (Info info) is = tt

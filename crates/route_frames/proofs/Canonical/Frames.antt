@@ -5,7 +5,8 @@ use Rattle.std.proofs.Common.{◌≡◌, ℕ, ◌≤◌, List, [], ◌∷◌, �
 use Rattle.std.specs.Prelude.{decimal, codes, unwrap_or}
 use Rattle.line_fields.specs.Fields.{fields, is_word}
 use Rattle.line_fields.proofs.SpellingFields.{fields_follow}
-use Rattle.subj.specs.declared.limits.TheConstants.{MAX_COUNTER}
+use Rattle.subj.specs.declared.limits.TheConstants.{MAX_COUNTER, MAX_PAYLOAD}
+use Rattle.subj.specs.Messages.{body_bytes}
 use Rattle.route_values.specs.declared.bodies.Body.{Body}
 use Rattle.route_values.specs.declared.bodies.Body.TheVariants.{Plus, Minus, Snapshot, Msg}
 use Rattle.route_values.specs.declared.frames.RouteFrame.TheVariants as route
@@ -14,12 +15,13 @@ use Rattle.route_values.specs.Snapshots.{Weighted, queue_fields, key_line, snaps
 use Rattle.route_values.specs.Valid.{IsWeighted, AreWeighted, IsBody, IsFrame}
 use Rattle.route_frames.specs.declared.line_reading.TheConstants.{INCARNATION_DIGITS, NUMBER_DIGITS}
 use Rattle.route_frames.specs.declared.line_reading.TheConstants.{WEIGHT_DIGITS, SIZE_DIGITS}
-use Rattle.route_frames.specs.Canonical.{fields_with_spaces, operation_word, common_of, member_fields, body_fields, numbered_line, body_payload, info_json, connect_json}
-use Rattle.route_frames.specs.Spelling.{HasCommon, SpellsWeight, SpellsBody, SpellsKey, SpellsKeys, SpellsBehind, body_announces, Spells, SpellsNumbered}
+use Rattle.route_frames.specs.Operations.{word_of}
+use Rattle.route_frames.specs.Canonical.{fields_with_spaces, message_operation, operation_word, common_of, member_fields, form_fields, size_fields, body_fields, numbered_line, body_payload, info_json, connect_json}
+use Rattle.route_frames.specs.Spelling.{HasCommon, SpellsWeight, SpellsMessage, SpellsBody, SpellsKey, SpellsKeys, SpellsBehind, body_announces, Spells, SpellsNumbered}
 use Rattle.route_frames.specs.Laws.{CanonicalIsSpelt}
 use Rattle.route_frames.proofs.Canonical.Fields.{follow_spaced, append_fields, number_again}
 use Rattle.route_frames.proofs.Meaning.Lines.{queue_weight}
-use Rattle.route_frames.proofs.Canonical.Numbered.{spaced-append, common_are, snapshot_fits, body_are}
+use Rattle.route_frames.proofs.Canonical.Numbered.{spaced-append, common_are, snapshot_fits, block_short, body_are}
 use Rattle.route_frames.proofs.Again.Greetings.{info_is_json, connect_is_json}
 
 -- ---- a body
@@ -29,15 +31,22 @@ weight_spelt pattern None weight is = refl
 weight_spelt pattern (Some queue) weight is =
     let fits = queue_weight weight is.weight in (decimal weight, refl, number_again WEIGHT_DIGITS weight (omega arith) (omega arith) (omega arith))
 
+message_spelt : (subject : List ℕ) (reply headers : Option (List ℕ)) (payload : List ℕ) (queues : List (List ℕ)) → length (body_bytes headers payload) ≤ MAX_PAYLOAD
+    → SpellsMessage (record { subject = subject; reply = reply; headers = headers; payload = payload }) queues (codes "$G" ∷ subject ∷ (form_fields reply queues ++ size_fields headers (length (body_bytes headers payload))))
+message_spelt subject reply None payload queues short =
+    let size = length payload in (decimal size, refl, number_again SIZE_DIGITS size (omega arith) (omega arith) (omega arith))
+message_spelt subject reply (Some block) payload queues short =
+    let size = length (block ++ payload) in
+    let within = block_short block payload in
+    (decimal (length block), decimal size, refl, number_again SIZE_DIGITS (length block) (omega arith) (omega arith) (omega arith), number_again SIZE_DIGITS size (omega arith) (omega arith) (omega arith))
+
 body_spelt : (body : Body) → IsBody body → SpellsBody body (body_announces body (unwrap_or (body_payload body) [])) (body_fields body)
 body_spelt (Plus weighted) is = (refl, (member_fields weighted.0.queue weighted.1, refl, weight_spelt weighted.0.pattern weighted.0.queue weighted.1 is))
 body_spelt (Minus key) is = (refl, refl)
 body_spelt (Snapshot keys) is =
     let size = length (snapshot_text keys) in
     let short = snapshot_fits size (are_rising keys) is.ordered in (size, refl, short, (decimal size, refl, number_again SIZE_DIGITS size (omega arith) (omega arith) (omega arith)))
-body_spelt (Msg message queues) is =
-    let size = length message.payload in
-    let short = is.payload in (refl, (decimal size, refl, number_again SIZE_DIGITS size (omega arith) (omega arith) (omega arith)))
+body_spelt (Msg message queues) is = (refl, message_spelt message.subject message.reply message.headers message.payload queues is.body)
 
 -- ---- the text of a snapshot
 
@@ -84,11 +93,15 @@ fields_of_text frame is most =
     ap fields (sym (spaced-append (common_of frame) (body_fields frame.body)))
     ∙ (fields_follow (common_of frame ++ body_fields frame.body) _ (follow_spaced (common_of frame ++ body_fields frame.body) (append_fields (common_of frame) (body_fields frame.body) (common_are frame is most) (body_are frame.body is.body)))).0
 
+message_named : (headers : Option (List ℕ)) → is_word (word_of (message_operation headers)) (word_of (message_operation headers)) ≡ true
+message_named None = refl
+message_named (Some block) = refl
+
 named : (body : Body) → is_word (operation_word body) (operation_word body) ≡ true
 named (Plus weighted) = refl
 named (Minus key) = refl
 named (Snapshot keys) = refl
-named (Msg message queues) = refl
+named (Msg message queues) = message_named message.headers
 
 numbered_spelt : (frame : Frame) → IsFrame frame → Spells (route.Numbered frame) (numbered_line frame) (unwrap_or (body_payload frame.body) [])
 unfolding numbered_line

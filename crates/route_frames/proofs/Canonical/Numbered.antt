@@ -1,16 +1,16 @@
 -- The fields of the canonical spelling of a numbered frame.
-use Rattle.std.proofs.Common.{◌≡◌, ℕ, ◌≤◌, Bool, true, ◌&&◌, List, [], ◌∷◌, ◌++◌, length, refl, ap, sym, ◌∙◌, arith, append_assoc, Option, Some, None}
-use Rattle.std.specs.Prelude.{nat_le, decimal, codes}
+use Rattle.std.proofs.Common.{◌≡◌, ℕ, ◌≤◌, Bool, true, ◌&&◌, List, [], ◌∷◌, ◌++◌, length, length-append, refl, ap, sym, ◌∙◌, arith, append_assoc, Option, Some, None}
+use Rattle.std.specs.Prelude.{nat_le, codes}
 use Rattle.std.specs.Option.{option_to_list}
 use Rattle.std.proofs.lemmas.Bool.Decides.{nat_tests}
-use Rattle.subj.specs.declared.limits.TheConstants.{MAX_COUNTER, MAX_WEIGHT, MAX_SNAPSHOT}
-use Rattle.subj.specs.Messages.{Content}
+use Rattle.subj.specs.declared.limits.TheConstants.{MAX_COUNTER, MAX_WEIGHT, MAX_SNAPSHOT, MAX_PAYLOAD}
+use Rattle.subj.specs.Messages.{Content, body_bytes, body_of}
 use Rattle.route_values.specs.declared.bodies.Body.{Body}
 use Rattle.route_values.specs.declared.bodies.Body.TheVariants.{Plus, Minus, Snapshot, Msg}
 use Rattle.route_values.specs.Frames.{Frame}
 use Rattle.route_values.specs.Snapshots.{are_rising, snapshot_text}
 use Rattle.route_values.specs.Valid.{IsKey, IsWeighted, AreNames, IsReply, IsMessage, IsFrame, IsBody}
-use Rattle.route_frames.specs.Canonical.{fields_with_spaces, common_of, member_fields, form_fields, body_fields}
+use Rattle.route_frames.specs.Canonical.{fields_with_spaces, common_of, member_fields, form_fields, size_fields, body_fields}
 use Rattle.route_frames.proofs.Canonical.Fields.{AreFields, append_fields, queue_is_field, subject_is_field, pattern_is_field, node_is_field, number_is_field}
 
 -- ---- the fields of a line
@@ -49,10 +49,19 @@ form_are (Some reply) [] is are = (subject_is_field reply is, tt)
 form_are None (name ∷ names) is are = ((refl, refl), names_are (name ∷ names) are)
 form_are (Some reply) (name ∷ names) is are = ((refl, refl), (subject_is_field reply is, names_are (name ∷ names) are))
 
+-- a header block is no longer than it is with the payload behind it
+pub block_short : (block payload : List ℕ) → length block ≤ length (block ++ payload)
+block_short block payload = let len = length-append block payload in omega (arith, len)
+
+sizes_are : (headers : Option (List ℕ)) (payload : List ℕ) → length (body_bytes headers payload) ≤ MAX_PAYLOAD → AreFields (size_fields headers (length (body_bytes headers payload)))
+sizes_are None payload short = (number_is_field (length payload) (omega arith), tt)
+sizes_are (Some block) payload short =
+    let within = block_short block payload in
+    (number_is_field (length block) (omega arith), (number_is_field (length (block ++ payload)) (omega arith), tt))
+
 message_are : (message : Content) (queues : List (List ℕ)) → IsMessage message queues → AreFields (body_fields (Msg message queues))
 message_are message queues is =
-    let short = is.payload in
-    ((refl, refl), (subject_is_field message.subject is.subject, append_fields (form_fields message.reply queues) (decimal (length message.payload) ∷ []) (form_are message.reply queues is.reply is.names) (number_is_field (length message.payload) (omega arith), tt)))
+    ((refl, refl), (subject_is_field message.subject is.subject, append_fields (form_fields message.reply queues) (size_fields message.headers (length (body_of message))) (form_are message.reply queues is.reply is.names) (sizes_are message.headers message.payload is.body)))
 
 pub snapshot_fits : (len : ℕ) (rising : Bool) → (nat_le len MAX_SNAPSHOT && rising) ≡ true → len ≤ MAX_SNAPSHOT
 snapshot_fits len rising is = grind (arith, nat_tests)

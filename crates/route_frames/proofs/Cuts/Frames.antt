@@ -7,9 +7,9 @@ use Rattle.std.specs.Char.{is_ascii_digit}
 use Rattle.std.proofs.lemmas.Bool.{le-leb}
 use Rattle.std.proofs.lemmas.Bool.Decides.{nat_tests}
 use Rattle.std.proofs.lemmas.Fmt.{length-decimal-le}
-use Rattle.subj.specs.declared.limits.TheConstants.{MAX_COUNTER, MAX_QUEUE_NAMES, MAX_SUBJECT, MAX_QUEUE_NAME, MAX_NODE_NAME, ROUTE_LINE}
+use Rattle.subj.specs.declared.limits.TheConstants.{MAX_COUNTER, MAX_PAYLOAD, MAX_QUEUE_NAMES, MAX_SUBJECT, MAX_QUEUE_NAME, MAX_NODE_NAME, ROUTE_LINE}
 use Rattle.subj.specs.Names as names
-use Rattle.subj.specs.Messages.{Content}
+use Rattle.subj.specs.Messages.{Content, body_bytes, body_of}
 use Rattle.subj.specs.QueueNames.{are_rising}
 use Rattle.wire_cut.specs.Cut.{line, payload, first_cr_lf, begins_with_cr_lf, cr_lf_at, cut_line, cut_line_at, cut_long_line, cut_payload_at}
 use Rattle.wire_cut.proofs.SearchLemmas.{begins_with_cr_lf-no}
@@ -18,11 +18,12 @@ use Rattle.route_values.specs.declared.bodies.Body.TheVariants.{Plus, Minus, Sna
 use Rattle.route_values.specs.Frames.{Frame}
 use Rattle.route_values.specs.Snapshots.{snapshot_text}
 use Rattle.route_values.specs.Valid.{IsKey, IsWeighted, AreNames, IsReply, IsMessage, IsBody, IsFrame}
-use Rattle.route_frames.specs.Canonical.{fields_with_spaces, operation_word, common_of, member_fields, form_fields, body_fields, numbered_line}
+use Rattle.route_frames.specs.Operations.{word_of}
+use Rattle.route_frames.specs.Canonical.{fields_with_spaces, operation_word, common_of, member_fields, form_fields, size_fields, message_operation, body_fields, numbered_line}
 use Rattle.route_frames.specs.Laws.{IsPayloadCutAgain}
 use Rattle.route_frames.proofs.Cuts.Behind.{drop_front}
 use Rattle.route_frames.proofs.Canonical.Fields.{all_digits, queue_plain, pattern_plain, subject_plain, subject_short, pattern_short, queue_short, node_short, node_without_cr}
-use Rattle.route_frames.proofs.Canonical.Numbered.{spaced-append, weight_fits, snapshot_fits}
+use Rattle.route_frames.proofs.Canonical.Numbered.{spaced-append, weight_fits, snapshot_fits, block_short}
 use Rattle.route_frames.proofs.Cuts.Spaces.{none_of_two, lacks, digits_lack, none_in_both, take_front}
 
 abbrev pub is_cr : ℕ → Bool
@@ -160,14 +161,22 @@ form_short None (name ∷ names) is are fits = one_more 1 5900 6000 (codes "|") 
 form_short (Some reply) (name ∷ names) is are fits =
     one_more 1 5900 6000 (codes "+") (reply ∷ name ∷ names) refl (omega arith) (reply_short reply (length (name ∷ names) * suc MAX_QUEUE_NAME) 5900 (name ∷ names) is (names_short (name ∷ names) are) (omega arith)) (omega arith)
 
+size_short : (size rest all : ℕ) (fields : List (List ℕ)) → size ≤ MAX_PAYLOAD → AreShort rest fields → 8 + rest ≤ all → AreShort all (decimal size ∷ fields)
+size_short size rest all fields short are fits = one_more 7 rest all (decimal size) fields (number_plain size (omega arith)) (length-decimal-le 7 size (omega arith) (omega arith) (omega arith)) are (omega arith)
+
+sizes_short : (headers : Option (List ℕ)) (behind : List ℕ) → length (body_bytes headers behind) ≤ MAX_PAYLOAD → AreShort 16 (size_fields headers (length (body_bytes headers behind)))
+sizes_short None behind short = size_short (length behind) 0 16 [] short (none_short 0) (omega arith)
+sizes_short (Some block) behind short =
+    let within = block_short block behind in
+    size_short (length block) 8 16 (decimal (length (block ++ behind)) ∷ []) (omega arith) (size_short (length (block ++ behind)) 0 8 [] short (none_short 0) (omega arith)) (omega arith)
+
 message_short : (message : Content) (queues : List (List ℕ)) → IsMessage message queues → AreShort 8000 (body_fields (Msg message queues))
 message_short message queues is =
-    let short = is.payload in
     let fits = few (length queues) (are_rising queues) is.ordered in
     one_more 2 7900 8000 (codes "$G") _ refl (omega arith) (
     one_more MAX_SUBJECT 6100 7900 message.subject _ (lacks is_cr no_cr message.subject (subject_plain message.subject is.subject)) (subject_short message.subject is.subject) (
-    both_short 6000 8 6100 (form_fields message.reply queues) (decimal (length message.payload) ∷ []) (form_short message.reply queues is.reply is.names fits)
-    (one_more 7 0 8 (decimal (length message.payload)) [] (number_plain (length message.payload) (omega arith)) (length-decimal-le 7 (length message.payload) (omega arith) (omega arith) (omega arith)) (none_short 0) (omega arith)) (omega arith)) (omega arith)) (omega arith)
+    both_short 6000 16 6100 (form_fields message.reply queues) (size_fields message.headers (length (body_of message))) (form_short message.reply queues is.reply is.names fits)
+    (sizes_short message.headers message.payload is.body) (omega arith)) (omega arith)) (omega arith)
 
 body_short : (body : Body) → IsBody body → AreShort 8000 (body_fields body)
 body_short (Plus weighted) is = plus_short weighted.0.pattern weighted.0.queue weighted.1 is
@@ -181,13 +190,17 @@ body_short (Msg message queues) is = message_short message queues is
 
 pub record IsShortWord (word : List ℕ) : Type 0 where
   pub plain : list_any is_cr word ≡ false
-  pub short : length word ≤ 4
+  pub short : length word ≤ 5
+
+message_word : (headers : Option (List ℕ)) → IsShortWord (word_of (message_operation headers))
+message_word None = record { plain = refl; short = omega arith }
+message_word (Some block) = record { plain = refl; short = omega arith }
 
 word_short : (body : Body) → IsShortWord (operation_word body)
 word_short (Plus weighted) = record { plain = refl; short = omega arith }
 word_short (Minus key) = record { plain = refl; short = omega arith }
 word_short (Snapshot keys) = record { plain = refl; short = omega arith }
-word_short (Msg message queues) = record { plain = refl; short = omega arith }
+word_short (Msg message queues) = message_word message.headers
 
 counted : (n : ℕ) (other : Bool) → (nat_le n MAX_COUNTER && other) ≡ true → n ≤ MAX_COUNTER
 counted n other is = grind (arith, nat_tests)

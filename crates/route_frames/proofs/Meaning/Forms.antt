@@ -1,7 +1,7 @@
 -- The form of a message, whose last field is taken off first.
-use Rattle.std.proofs.Common.{◌≡◌, ℕ, ◌+◌, ◌<◌, ◌≤◌, List, [], ◌∷◌, ◌++◌, length, take, drop, take-append-drop, length-append, refl, ap, sym, ◌∙◌, arith, Some, not}
+use Rattle.std.proofs.Common.{◌≡◌, ℕ, zero, suc, ◌+◌, ◌<◌, ◌≤◌, List, [], ◌∷◌, ◌++◌, length, take, drop, take-append-drop, length-append, refl, ap, sym, ◌∙◌, arith, Some, not}
 use Rattle.std.specs.List.{slice_split}
-use Rattle.std.proofs.lemmas.List.{length-drop, drop-drop}
+use Rattle.std.proofs.lemmas.List.{length-drop, drop-drop, take_all}
 use Rattle.std.proofs.lemmas.List.Splits.{length-slice_split}
 use Rattle.std.proofs.lemmas.List.Sums.{length-filter, count_by-le-length}
 use Rattle.list_laws.specs.Lists.{is_empty}
@@ -37,3 +37,15 @@ few_fields text =
 
 pub few_names : (count : ℕ) (text : List ℕ) → length (take count (fields text)) ≤ length text + 1
 few_names count text = let few = few_fields text in let whole = ap length (take-append-drop count (fields text)) in let parts = length-append (take count (fields text)) (drop count (fields text)) in omega (arith, few, whole, parts)
+
+-- so these are all
+pub all_fields : (text : List ℕ) → take (length text + 1) (fields text) ≡ fields text
+all_fields text = take_all (length text + 1) (fields text) (few_fields text)
+
+-- the first of those that come first
+pub first_of_first : (all : List (List ℕ)) (n m : ℕ) → n < length (take m all) → take n (take m all) ≡ take n all
+first_of_first [] n zero below = absurd (omega arith)
+first_of_first [] n (suc m) below = absurd (omega arith)
+first_of_first (x ∷ all) n zero below = absurd (omega arith)
+first_of_first (x ∷ all) zero (suc m) below = refl
+first_of_first (x ∷ all) (suc n) (suc m) below = ap (λ l. x ∷ l) (first_of_first all n m (omega arith))

@@ -10,7 +10,7 @@ use Rattle.subj.specs.Names.{node_name_fault}
 use Rattle.route_values.specs.Records.{Info, Connect}
 use Rattle.route_values.specs.Valid.{IsIncarnation, IsInfo, IsConnect}
 use Rattle.route_frames.specs.declared.faults.RouteFault.TheVariants.{BadArgs, BadNumber}
-use Rattle.route_frames.specs.declared.reading.Whole.TheVariants as whole
+use Rattle.route_frames.specs.declared.greetings.Whole.TheVariants as whole
 use Rattle.route_frames.specs.Meaning.{◌>>=◌}
 use Rattle.route_frames.specs.Canonical.{number_data}
 use Rattle.route_frames.specs.Greetings.{json_of, object_of, whole_of, whole_at, whole_in_range, incarnation_in, node_at, info_in, dial_in, connect_in, info_of, connect_text_of}

@@ -1,12 +1,12 @@
 -- The fields of a numbered frame that are spelt mean what they spell.
-use Rattle.std.proofs.Common.{◌≡◌, ℕ, ◌≤◌, List, [], ◌∷◌, ◌++◌, length, refl, ap, arith, Option, Some, None, Ok, true, ◌&&◌, nat_eq}
+use Rattle.std.proofs.Common.{◌≡◌, ℕ, ◌≤◌, List, [], ◌∷◌, length, refl, ap, sym, ◌∙◌, arith, Option, Some, None, Ok, true, ◌&&◌, nat_eq}
 use Rattle.std.specs.Prelude.{nat_le, nat_eq, codes}
 use Rattle.std.specs.Option.{ok_or, option_to_list}
 use Rattle.std.proofs.lemmas.Bool.Decides.{nat_tests}
 use Rattle.subj.specs.declared.limits.TheConstants.{MAX_WEIGHT, MAX_SNAPSHOT, MAX_PAYLOAD, MAX_COUNTER}
 use Rattle.subj.specs.declared.keys.Key.{Key}
 use Rattle.subj.specs.Names.{node_name_fault, subject_fault}
-use Rattle.subj.specs.Messages.{Content}
+use Rattle.subj.specs.Messages.{Content, body_of}
 use Rattle.route_values.specs.Snapshots.{Weighted}
 use Rattle.route_values.specs.Valid.{IsKey, IsWeighted, IsMessage, IsIncarnation}
 use Rattle.route_frames.specs.declared.faults.RouteFault.TheVariants.{BadArgs}
@@ -16,11 +16,12 @@ use Rattle.route_frames.specs.declared.reading.LineBody.{LineBody}
 use Rattle.route_frames.specs.declared.reading.LineBody.TheVariants as said
 use Rattle.route_frames.specs.declared.reading.NumberedLine.{NumberedLine}
 use Rattle.route_frames.specs.CommonFields.{CommonFields, digits_of, numbers_of}
-use Rattle.route_frames.specs.NumberedLines.{plus_line, minus_line, snapshot_line, message_line}
-use Rattle.route_frames.specs.Canonical.{form_fields}
-use Rattle.route_frames.specs.Spelling.{IsNumber, SpellsWeight}
+use Rattle.route_frames.specs.Meaning.{◌>>=◌}
+use Rattle.route_frames.specs.Arguments.{MessageFields}
+use Rattle.route_frames.specs.NumberedLines.{plus_line, minus_line, snapshot_line, header_digits, publication_line}
+use Rattle.route_frames.specs.Spelling.{IsNumber, SpellsWeight, header_size}
 use Rattle.route_frames.proofs.Meaning.Parts.{digits_spelt, numbers_spelt, within_again, in_range_again, key_again, weighted_again, name_again}
-use Rattle.route_frames.proofs.Meaning.Messages.{fields_again, reply_again, queues_again}
+use Rattle.route_frames.proofs.Meaning.Messages.{fields_spelt, few_again, headers_again, reply_again, queues_again}
 
 -- what the ends of a frame have to be
 pub record AreEnds (from to : List ℕ) (inc to_inc number : ℕ) : Type 0 where
@@ -98,11 +99,21 @@ unfolding snapshot_line
 snapshot_means from to inc to_inc number are digits size ends short spelt =
     rw (numbers_mean from to inc to_inc number are, digits_mean SIZE_DIGITS digits size spelt, in_range_again 0 inc to_inc number ends.life ends.other_life (omega arith) ends.most, within_again 0 MAX_SNAPSHOT size (omega arith) short, name_again node_name_fault from ends.sender, name_again node_name_fault to ends.receiver) refl
 
--- ---- RMSG
+-- ---- RMSG and RHMSG
 
-pub message_means : (from to : List ℕ) (inc to_inc number : ℕ) (are : AreDigits inc to_inc number) (digits : List ℕ) (message : Content) (queues : List (List ℕ)) → AreEnds from to inc to_inc number → 1 ≤ number → IsMessage message queues → IsNumber SIZE_DIGITS digits (length message.payload)
-    → message_line (common_with from to inc to_inc number are) (codes "$G" ∷ message.subject ∷ (form_fields message.reply queues ++ digits ∷ [])) ≡ Ok (line_spelt from to inc to_inc number (said.Msg message.subject message.reply queues (length message.payload)))
-unfolding message_line
-message_means from to inc to_inc number are digits message queues ends some is spelt =
-    let size = length message.payload in
-    rw (fields_again (codes "$G") message.subject message.reply queues digits is.ordered, numbers_mean from to inc to_inc number are, digits_mean SIZE_DIGITS digits size spelt, in_range_again 1 inc to_inc number ends.life ends.other_life some ends.most, within_again 0 MAX_PAYLOAD size (omega arith) is.payload, name_again node_name_fault from ends.sender, name_again node_name_fault to ends.receiver, name_again subject_fault message.subject is.subject, reply_again message.reply is.reply, queues_again queues is.names is.ordered) refl
+-- the digits of the size of the header block, where there is one
+abbrev pub HeadersAre : Option (List ℕ) → Option ℕ → Type 0
+HeadersAre None headers = headers ≡ None
+HeadersAre (Some digits) headers = (n : ℕ) × (headers ≡ Some n) × IsNumber SIZE_DIGITS digits n
+
+headers_mean : (digits : Option (List ℕ)) (headers : Option ℕ) → HeadersAre digits headers → header_digits digits ≡ Ok headers
+headers_mean None headers is = ap (λ headers. Ok headers) (sym is)
+headers_mean (Some digits) headers is = ap (λ read. read >>= λ n. Ok (Some n)) (digits_mean SIZE_DIGITS digits is.0 is.2) ∙ ap (λ headers. Ok headers) (sym is.1)
+
+pub publication_means : (from to : List ℕ) (inc to_inc number : ℕ) (are : AreDigits inc to_inc number) (found : Option MessageFields) (headers : Option (List ℕ)) (digits : List ℕ) (message : Content) (queues : List (List ℕ)) → AreEnds from to inc to_inc number → 1 ≤ number → IsMessage message queues
+    → found ≡ Some (fields_spelt (codes "$G") message.subject message.reply queues headers digits) → HeadersAre headers (header_size message) → IsNumber SIZE_DIGITS digits (length (body_of message))
+    → publication_line (common_with from to inc to_inc number are) found ≡ Ok (line_spelt from to inc to_inc number (said.Msg message.subject message.reply queues (header_size message) (length (body_of message))))
+unfolding publication_line
+publication_means from to inc to_inc number are found headers digits message queues ends some is fields_are headers_are spelt =
+    let size = length (body_of message) in
+    rw (few_again found (fields_spelt (codes "$G") message.subject message.reply queues headers digits) fields_are is.ordered, numbers_mean from to inc to_inc number are, digits_mean SIZE_DIGITS digits size spelt, headers_mean headers (header_size message) headers_are, in_range_again 1 inc to_inc number ends.life ends.other_life some ends.most, within_again 0 MAX_PAYLOAD size (omega arith) is.body, headers_again message.headers message.payload is.headers, name_again node_name_fault from ends.sender, name_again node_name_fault to ends.receiver, name_again subject_fault message.subject is.subject, reply_again message.reply is.reply, queues_again queues is.names is.ordered) refl

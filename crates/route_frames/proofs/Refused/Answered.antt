@@ -1,6 +1,6 @@
 -- What a reader answers is spelt, or refused for its cause.
 use Rattle.route_frames.specs.declared.reading.RouteLine.{RouteLine}
-use Rattle.route_frames.specs.Lines.{body_size, announced_size, line_meaning}
+use Rattle.route_frames.specs.Lines.{announced_size, line_meaning}
 use Rattle.route_frames.specs.TextViews.{is_json, text_meaning, size_in, joined_text}
 use Rattle.route_frames.specs.declared.reading.LineText.TheVariants as said
 use Rattle.std.specs.Borrow.{Bor}
@@ -15,7 +15,7 @@ use Rattle.route_values.specs.declared.frames.RouteFrame.{RouteFrame}
 use Rattle.route_frames.specs.declared.faults.RouteFault.{RouteFault}
 use Rattle.route_frames.specs.declared.faults.RouteFault.TheVariants.{BadArgs}
 use Rattle.route_frames.specs.Meaning.{Meaning, RouteMeans, MeansBy, ◌>>=◌}
-use Rattle.route_frames.specs.Decoding.{size_meaning, frame_meaning, payload_meaning, frame_of_line, takes_memory, is_snapshot_body, is_snapshot_behind, body_has_payload, line_has_payload, frame_behind, JoinsBy, Joins, failure_of}
+use Rattle.route_frames.specs.Decoding.{size_meaning, frame_meaning, body_fits, line_fits, frame_of_line, takes_memory, is_snapshot_body, is_snapshot_behind, body_has_payload, line_has_payload, frame_behind, JoinsBy, Joins, failure_of}
 use Rattle.route_frames.specs.Operations.{is_json_line}
 use Rattle.route_frames.specs.declared.reading.Unjoined.{Unjoined}
 use Rattle.route_frames.specs.declared.reading.Unjoined.TheVariants as back
@@ -104,11 +104,11 @@ or_true false = refl
 
 -- ---- a numbered line, whose size is judged before its parts are copied
 
-sized_answers : (line payload : List ℕ) (numbered : NumberedLine) (is_snapshot : Bool) → is_snapshot_body numbered.body ≡ is_snapshot → line_meaning line ≡ Ok (route_line.Numbered numbered) → payload_meaning (body_size numbered.body) payload ≡ Ok tt
+sized_answers : (line payload : List ℕ) (numbered : NumberedLine) (is_snapshot : Bool) → is_snapshot_body numbered.body ≡ is_snapshot → line_meaning line ≡ Ok (route_line.Numbered numbered) → body_fits numbered.body payload ≡ Ok tt
     → (takes_memory line payload || is_ok (frame_meaning line payload)) ≡ true
 sized_answers line payload numbered true kind is fits =
     let memory : takes_memory line payload ≡ true = ap (λ read. is_json_line line || is_snapshot_behind read payload) is
-    ∙ ap (λ b. is_json_line line || (b && is_ok (payload_meaning (body_size numbered.body) payload))) kind
+    ∙ ap (λ b. is_json_line line || (b && is_ok (body_fits numbered.body payload))) kind
     ∙ ap (λ fits. is_json_line line || (true && is_ok fits)) fits ∙ or_true (is_json_line line) in
     ap (λ memory. memory || is_ok (frame_meaning line payload)) memory
 sized_answers line payload numbered false kind is fits =
@@ -120,11 +120,11 @@ is_done (Ok done) e = refl
 is_done (Err fault) e = absurd (true≢false (sym e))
 
 pub numbered_means : (line payload : List ℕ) (numbered : NumberedLine) (answer : Result RouteFrame (Failure RouteFault)) → line_meaning line ≡ Ok (route_line.Numbered numbered)
-    → MeansBy (λ frame. frame) (is_ok (payload_meaning (body_size numbered.body) payload)) (frame_of_line (route_line.Numbered numbered) payload) answer → RouteMeans (takes_memory line payload) (frame_meaning line payload) answer
+    → MeansBy (λ frame. frame) (is_ok (body_fits numbered.body payload)) (frame_of_line (route_line.Numbered numbered) payload) answer → RouteMeans (takes_memory line payload) (frame_meaning line payload) answer
 unfolding frame_meaning
 numbered_means line payload numbered (Ok frame) is means = ap (λ read. read >>= λ read. frame_of_line read payload) is ∙ means
 numbered_means line payload numbered (Err (Refused fault)) is means = ap (λ read. read >>= λ read. frame_of_line read payload) is ∙ means
-numbered_means line payload numbered (Err OutOfMemory) is means = sized_answers line payload numbered (is_snapshot_body numbered.body) refl is (is_done (payload_meaning (body_size numbered.body) payload) means)
+numbered_means line payload numbered (Err OutOfMemory) is means = sized_answers line payload numbered (is_snapshot_body numbered.body) refl is (is_done (body_fits numbered.body payload) means)
 
 pub greeting_means : (line payload : List ℕ) (text : LineText) (answer : Result RouteFrame (Failure RouteFault)) → line_meaning line ≡ text_meaning text → is_json_line line ≡ true
     → MeansBy (λ frame. frame) true (joined_text text payload) answer → RouteMeans (takes_memory line payload) (frame_meaning line payload) answer
@@ -144,7 +144,7 @@ and_right true b e = e
 and_right false b e = absurd (true≢false (sym e))
 
 -- a payload of the size that a line announces is joined with it as the rest of the meaning says
-pub fitting_joins : (read : RouteLine) (payload : List ℕ) (answer : Result RouteFrame Unjoined) → payload_meaning (announced_size read) payload ≡ Ok tt
+pub fitting_joins : (read : RouteLine) (payload : List ℕ) (answer : Result RouteFrame Unjoined) → line_fits read payload ≡ Ok tt
     → JoinsBy (line_has_payload read) (frame_behind read payload) read payload answer → Joins read payload answer
 fitting_joins read payload (Ok frame) fits joins = ap (λ fits. fits >>= λ fits. frame_behind read payload) fits ∙ joins
 fitting_joins read payload (Err (back.Refused fault)) fits joins = ap (λ fits. fits >>= λ fits. frame_behind read payload) fits ∙ joins
@@ -159,19 +159,19 @@ joined_answered line payload read (Err (back.Refused fault)) is joins = frame_an
 joined_answered line payload (route_line.Info info) (Err (back.OutOfMemory other bytes)) is joins = absurd (true≢false (sym joins.2))
 joined_answered line payload (route_line.Connect connect) (Err (back.OutOfMemory other bytes)) is joins = absurd (true≢false (sym joins.2))
 joined_answered line payload (route_line.Numbered numbered) (Err (back.OutOfMemory other bytes)) is joins =
-    let fits = is_done (payload_meaning (body_size numbered.body) payload) (and_right (body_has_payload numbered.body) (is_ok (payload_meaning (body_size numbered.body) payload)) joins.2) in
+    let fits = is_done (body_fits numbered.body payload) (and_right (body_has_payload numbered.body) (is_ok (body_fits numbered.body payload)) joins.2) in
     frame_answered line payload (Err OutOfMemory) (sized_answers line payload numbered (is_snapshot_body numbered.body) refl is fits)
 
-told_means : (read : RouteLine) (payload : List ℕ) (answer : Result RouteFrame Unjoined) → Joins read payload answer → MeansBy (λ frame. frame) (is_ok (payload_meaning (announced_size read) payload)) (frame_of_line read payload) (failure_of answer)
+told_means : (read : RouteLine) (payload : List ℕ) (answer : Result RouteFrame Unjoined) → Joins read payload answer → MeansBy (λ frame. frame) (is_ok (line_fits read payload)) (frame_of_line read payload) (failure_of answer)
 told_means read payload (Ok frame) joins = joins
 told_means read payload (Err (back.Refused fault)) joins = joins
-told_means read payload (Err (back.OutOfMemory line bytes)) joins = and_right (line_has_payload read) (is_ok (payload_meaning (announced_size read) payload)) joins.2
+told_means read payload (Err (back.OutOfMemory line bytes)) joins = and_right (line_has_payload read) (is_ok (line_fits read payload)) joins.2
 
 pub numbered_told : (numbered copy : NumberedLine) (payload : List ℕ) (answer : Result RouteFrame Unjoined) (told : Result RouteFrame (Failure RouteFault)) → copy ≡ numbered → told ≡ failure_of answer → Joins (route_line.Numbered copy) payload answer
-    → MeansBy (λ frame. frame) (is_ok (payload_meaning (body_size numbered.body) payload)) (frame_of_line (route_line.Numbered numbered) payload) told
+    → MeansBy (λ frame. frame) (is_ok (body_fits numbered.body payload)) (frame_of_line (route_line.Numbered numbered) payload) told
 numbered_told numbered copy payload answer told same is joins =
-    subst (λ told. MeansBy (λ frame. frame) (is_ok (payload_meaning (body_size numbered.body) payload)) (frame_of_line (route_line.Numbered numbered) payload) told) (sym is)
-    (subst (λ numbered. MeansBy (λ frame. frame) (is_ok (payload_meaning (body_size numbered.body) payload)) (frame_of_line (route_line.Numbered numbered) payload) (failure_of answer)) same (told_means (route_line.Numbered copy) payload answer joins))
+    subst (λ told. MeansBy (λ frame. frame) (is_ok (body_fits numbered.body payload)) (frame_of_line (route_line.Numbered numbered) payload) told) (sym is)
+    (subst (λ numbered. MeansBy (λ frame. frame) (is_ok (body_fits numbered.body payload)) (frame_of_line (route_line.Numbered numbered) payload) (failure_of answer)) same (told_means (route_line.Numbered copy) payload answer joins))
 
 greeting_told_by : (text : LineText) (read : RouteLine) (payload : List ℕ) (answer : Result RouteFrame Unjoined) → text_meaning text ≡ Ok read → Joins read payload answer → MeansBy (λ frame. frame) true (joined_text text payload) (failure_of answer)
 greeting_told_by text read payload (Ok frame) is joins = ap (λ read. read >>= λ read. frame_of_line read payload) is ∙ joins

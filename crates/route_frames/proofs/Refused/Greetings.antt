@@ -9,9 +9,9 @@ use Rattle.subj.specs.declared.limits.TheConstants.{MAX_INCARNATION, MAX_COUNTER
 use Rattle.route_values.specs.Records.{Info, is_serial, connect_of}
 use Rattle.route_frames.specs.declared.faults.RouteFault.{RouteFault}
 use Rattle.route_frames.specs.declared.faults.RouteFault.TheVariants.{BadArgs, BadNumber}
-use Rattle.route_frames.specs.declared.reading.Dial.{Dial}
-use Rattle.route_frames.specs.declared.reading.Whole.{Whole}
-use Rattle.route_frames.specs.declared.reading.Whole.TheVariants.{Other, Negative, Number}
+use Rattle.route_frames.specs.declared.greetings.Dial.{Dial}
+use Rattle.route_frames.specs.declared.greetings.Whole.{Whole}
+use Rattle.route_frames.specs.declared.greetings.Whole.TheVariants.{Other, Negative, Number}
 use Rattle.route_frames.specs.Meaning.{Meaning, ◌>>=◌}
 use Rattle.route_frames.specs.Greetings.{json_of, object_in, object_of, whole_of, whole_in_range, whole_number, incarnation_in, node_at, info_in, dial_in, connect_in, info_of, connect_text_of}
 use Rattle.route_frames.specs.Causes.{is_beyond, is_member_beyond, members_cause, info_members, connect_members}

@@ -1,10 +1,11 @@
 -- The lines of numbered frames are refused just for their causes.
 use Rattle.std.proofs.Common.{◌≡◌, ℕ, Bool, true, false, not, ◌&&◌, ◌||◌, cond, List, [], ◌∷◌, ◌++◌, refl, ap, ◌∙◌, arith, Option, Some, None, Ok, Err}
-use Rattle.std.specs.Prelude.{nat_le, nat_lt, nat_eq, length, is_some, codes}
+use Rattle.std.specs.Prelude.{nat_le, nat_lt, nat_eq, length, is_some, unwrap_or, codes}
 use Rattle.std.specs.Option.{ok_or}
 use Rattle.std.specs.Str.{bytes_eq}
 use Rattle.std.proofs.lemmas.Bool.Decides.{nat_tests}
 use Rattle.subj.specs.declared.limits.TheConstants.{MAX_INCARNATION, MAX_COUNTER, MAX_QUEUE_NAMES, MAX_WEIGHT, MAX_SNAPSHOT, MAX_PAYLOAD}
+use Rattle.subj.specs.Messages.{header_start}
 use Rattle.subj.specs.Names.{node_name_fault, pattern_fault, subject_fault, queue_name_fault}
 use Rattle.subj.specs.Numbers.{incarnation_of}
 use Rattle.subj.specs.QueueNames.{queue_names_of}
@@ -16,14 +17,15 @@ use Rattle.route_frames.specs.declared.line_reading.TheConstants.{INCARNATION_DI
 use Rattle.route_frames.specs.declared.line_reading.TheConstants.{WEIGHT_DIGITS, SIZE_DIGITS}
 use Rattle.route_frames.specs.declared.line_reading.Numbers.{Numbers}
 use Rattle.route_frames.specs.declared.line_reading.Digits.{Digits}
-use Rattle.route_frames.specs.declared.reading.LineBody.TheVariants.{Plus, Msg}
+use Rattle.route_frames.specs.declared.reading.LineBody.TheVariants.{Plus}
 use Rattle.route_frames.specs.declared.reading.NumberedLine.{NumberedLine}
 use Rattle.route_frames.specs.Meaning.{Meaning, ◌>>=◌}
 use Rattle.route_frames.specs.CommonFields.{CommonFields, within, numbers_of, numbers_in_range, name_of}
-use Rattle.route_frames.specs.Arguments.{PlusFields, MessageFields, plus_fields, minus_fields, snapshot_field, message_fields}
-use Rattle.route_frames.specs.NumberedLines.{account_of, optional, key_of, are_names, queue_names_in, weight_digits, plus_line, minus_line, snapshot_line, few_names, message_fields_in, message_line}
-use Rattle.route_frames.specs.Causes.{NumberField, numbers_cause, common_numbers, weight_numbers, plus_cause, minus_cause, snapshot_cause, message_cause}
+use Rattle.route_frames.specs.Arguments.{PlusFields, MessageFields, plus_fields, minus_fields, snapshot_field}
+use Rattle.route_frames.specs.NumberedLines.{account_of, optional, key_of, are_names, queue_names_in, weight_digits, plus_line, minus_line, snapshot_line, few_names, few_fields, header_digits, headers_within, publication_line}
+use Rattle.route_frames.specs.Causes.{NumberField, numbers_cause, common_numbers, weight_numbers, header_numbers, plus_cause, minus_cause, snapshot_cause, message_cause}
 use Rattle.route_frames.proofs.Meaning.Parts.{digits_spelt, numbers_spelt}
+use Rattle.route_frames.proofs.Spelt.Messages.{message_behind}
 use Rattle.route_frames.proofs.Refused.Agreement.{Agrees, agrees_then, ok_or_agrees, refused_where, refused_unless, fields_agree}
 use Rattle.subj.specs.declared.faults.NameFault.{NameFault}
 
@@ -78,7 +80,16 @@ four_gates true true false d inc to_inc number more next others = refl
 four_gates true true true false inc to_inc number more next others = refl
 four_gates true true true true inc to_inc number more next others = others
 
--- the numbers of a line with three of them, and with one more
+five_gates : {B : Type 0} (a b c d e : Bool) (inc to_inc number more last : ℕ) (next : Numbers → ℕ → ℕ → Meaning B) → Agrees None (next (numbers_spelt inc to_inc number) more last)
+    → Agrees (cond (not (a && (b && (c && (d && (e && true)))))) (Some BadNumber) None) (gates a b c inc to_inc number >>= λ numbers. gate d more >>= λ more. gate e last >>= λ last. next numbers more last)
+five_gates false b c d e inc to_inc number more last next others = refl
+five_gates true false c d e inc to_inc number more last next others = refl
+five_gates true true false d e inc to_inc number more last next others = refl
+five_gates true true true false e inc to_inc number more last next others = refl
+five_gates true true true true false inc to_inc number more last next others = refl
+five_gates true true true true true inc to_inc number more last next others = others
+
+-- the numbers of a line with three of them, and with one more, and with two more
 abbrev may_be : ℕ → ℕ → Option ℕ → NumberField
 may_be least most value = record { value = value; least = least; most = most }
 
@@ -105,6 +116,37 @@ four_agree least low high (Some inc) (Some to_inc) None more next others = refl
 four_agree least low high (Some inc) (Some to_inc) (Some number) None next others = refl
 four_agree least low high (Some inc) (Some to_inc) (Some number) (Some more) next others =
     rw (in_range_by least (digits_spelt inc to_inc number)) (four_gates (is_within 1 MAX_INCARNATION inc) (is_within 1 MAX_INCARNATION to_inc) (is_within least MAX_COUNTER number) (is_within low high more) inc to_inc number more next (others (numbers_spelt inc to_inc number) more))
+
+-- a range that ends with a number that is in its own
+gate_then : {B : Type 0} (test : Bool) (bottom more last : ℕ) (next : ℕ → ℕ → Meaning B)
+    → (gate test more >>= λ more. within bottom more last >>= λ last. next more last) ≡ (gate test more >>= λ n. gate (is_within bottom more last) last >>= λ last. next n last)
+gate_then true bottom more last next = refl
+gate_then false bottom more last next = refl
+
+last_in_range : {B : Type 0} (low high bottom more last : ℕ) (before : Meaning Numbers) (next : Numbers → ℕ → ℕ → Meaning B)
+    → (before >>= λ numbers. within low high more >>= λ more. within bottom more last >>= λ last. next numbers more last)
+    ≡ (before >>= λ numbers. gate (is_within low high more) more >>= λ n. gate (is_within bottom more last) last >>= λ last. next numbers n last)
+last_in_range low high bottom more last (Ok numbers) next = gate_then (is_within low high more) bottom more last (next numbers)
+last_in_range low high bottom more last (Err fault) next = refl
+
+five_in_range : {B : Type 0} (least low high bottom inc to_inc number more last : ℕ) (next : Numbers → ℕ → ℕ → Meaning B) → Agrees None (next (numbers_spelt inc to_inc number) more last)
+    → Agrees (cond (not (is_within 1 MAX_INCARNATION inc && (is_within 1 MAX_INCARNATION to_inc && (is_within least MAX_COUNTER number && (is_within low high more && (is_within bottom more last && true)))))) (Some BadNumber) None)
+    (gates (is_within 1 MAX_INCARNATION inc) (is_within 1 MAX_INCARNATION to_inc) (is_within least MAX_COUNTER number) inc to_inc number >>= λ numbers. within low high more >>= λ more. within bottom more last >>= λ last. next numbers more last)
+five_in_range least low high bottom inc to_inc number more last next others =
+    rw (last_in_range low high bottom more last (gates (is_within 1 MAX_INCARNATION inc) (is_within 1 MAX_INCARNATION to_inc) (is_within least MAX_COUNTER number) inc to_inc number) next)
+    (five_gates (is_within 1 MAX_INCARNATION inc) (is_within 1 MAX_INCARNATION to_inc) (is_within least MAX_COUNTER number) (is_within low high more) (is_within bottom more last) inc to_inc number more last next others)
+
+-- the last is at most the one before it
+five_agree : {B : Type 0} (least low high bottom : ℕ) (inc to_inc number more last : Option ℕ) (next : Numbers → ℕ → ℕ → Meaning B) → ((numbers : Numbers) (more last : ℕ) → Agrees None (next numbers more last))
+    → Agrees (numbers_cause (may_be 1 MAX_INCARNATION inc ∷ may_be 1 MAX_INCARNATION to_inc ∷ may_be least MAX_COUNTER number ∷ may_be low high more ∷ may_be bottom (unwrap_or more 0) last ∷ []))
+    (all_digits inc to_inc number >>= λ digits. ok_or more BadArgs >>= λ more. ok_or last BadArgs >>= λ last. numbers_in_range least digits >>= λ numbers. within low high more >>= λ more. within bottom more last >>= λ last. next numbers more last)
+five_agree least low high bottom None to_inc number more last next others = refl
+five_agree least low high bottom (Some inc) None number more last next others = refl
+five_agree least low high bottom (Some inc) (Some to_inc) None more last next others = refl
+five_agree least low high bottom (Some inc) (Some to_inc) (Some number) None last next others = refl
+five_agree least low high bottom (Some inc) (Some to_inc) (Some number) (Some more) None next others = refl
+five_agree least low high bottom (Some inc) (Some to_inc) (Some number) (Some more) (Some last) next others =
+    rw (in_range_by least (digits_spelt inc to_inc number)) (five_in_range least low high bottom inc to_inc number more last next (others (numbers_spelt inc to_inc number) more last))
 
 -- ---- what stands behind the numbers
 
@@ -187,14 +229,8 @@ queues_agree : (fields : List (List ℕ)) → Agrees None (queue_names_in fields
 unfolding queue_names_in
 queues_agree fields = agrees_then None (are_names fields) _ (names_agree fields) (λ names. ok_or_agrees (queue_names_of names))
 
-abbrev message_behind : CommonFields → MessageFields → Numbers → ℕ → Meaning NumberedLine
-message_behind common fields numbers size =
-    account_of fields.account >>= λ account. name_of node_name_fault common.from >>= λ from. name_of node_name_fault common.to >>= λ to.
-    name_of subject_fault fields.subject >>= λ subject. optional (name_of subject_fault) fields.form.reply >>= λ reply. queue_names_in fields.form.names >>= λ queues.
-    Ok (record { from = from; to = to; numbers = numbers; body = Msg subject reply queues size })
-
-message_behind_agrees : (common : CommonFields) (fields : MessageFields) (numbers : Numbers) (size : ℕ) → Agrees None (message_behind common fields numbers size)
-message_behind_agrees common fields numbers size =
+message_behind_agrees : (common : CommonFields) (fields : MessageFields) (numbers : Numbers) (size : ℕ) (headers : Option ℕ) → Agrees None (message_behind common fields numbers size headers)
+message_behind_agrees common fields numbers size headers =
     agrees_then None (account_of fields.account) _ (account_agrees fields.account) (λ account.
     ends_agree common _ (λ from to.
     agrees_then None (name_of subject_fault fields.subject) _ (name_agrees subject_fault fields.subject) (λ subject.
@@ -210,8 +246,45 @@ form_agrees : {B : Type 0} (cause : Option MessageFields → Option RouteFault) 
 form_agrees cause None next none each = rw none refl
 form_agrees cause (Some fields) next none each = each fields
 
-pub message_agrees : (common : CommonFields) (behind : List (List ℕ)) → Agrees (message_cause common (message_fields behind)) (message_line common behind)
-unfolding message_line message_fields_in numbers_of
-message_agrees common behind = form_agrees (message_cause common) (message_fields behind) _ refl (λ fields.
+-- a size of a header block that is there is read by its digits and its range
+abbrev digits_then : {B : Type 0} → Meaning Digits → Option ℕ → Option ℕ → (Numbers → ℕ → Option ℕ → Meaning B) → Meaning B
+digits_then digits size headers next =
+    digits >>= λ digits. ok_or size BadArgs >>= λ size. ok_or headers BadArgs >>= λ headers. numbers_in_range 1 digits >>= λ numbers. within 0 MAX_PAYLOAD size >>= λ size. within (length header_start) size headers >>= λ headers. next numbers size (Some headers)
+
+headers_then : {B : Type 0} (least most n : ℕ) (next : Option ℕ → Meaning B) → ((within least most n >>= λ headers. Ok (Some headers)) >>= next) ≡ (within least most n >>= λ headers. next (Some headers))
+headers_then least most n next = by_test (is_within least most n) where
+  by_test : (test : Bool) → ((gate test n >>= λ headers. Ok (Some headers)) >>= next) ≡ (gate test n >>= λ headers. next (Some headers))
+  by_test true = refl
+  by_test false = refl
+
+some_headers : {B : Type 0} (digits : Meaning Digits) (size headers : Option ℕ) (next : Numbers → ℕ → Option ℕ → Meaning B)
+    → (digits >>= λ digits. ok_or size BadArgs >>= λ size. (ok_or headers BadArgs >>= λ headers. Ok (Some headers)) >>= λ headers. numbers_in_range 1 digits >>= λ numbers. within 0 MAX_PAYLOAD size >>= λ size. headers_within size headers >>= λ headers. next numbers size headers)
+    ≡ digits_then digits size headers next
+some_headers (Err fault) size headers next = refl
+some_headers (Ok digits) None headers next = refl
+some_headers (Ok digits) (Some size) None next = refl
+some_headers (Ok digits) (Some size) (Some headers) next = behind_numbers (numbers_in_range 1 digits) where
+  behind_size : (numbers : Numbers) (read : Meaning ℕ) → (read >>= λ size. headers_within size (Some headers) >>= λ headers. next numbers size headers) ≡ (read >>= λ size. within (length header_start) size headers >>= λ headers. next numbers size (Some headers))
+  behind_size numbers (Ok size) = headers_then (length header_start) size headers (next numbers size)
+  behind_size numbers (Err fault) = refl
+
+  behind_numbers : (read : Meaning Numbers) → (read >>= λ numbers. within 0 MAX_PAYLOAD size >>= λ size. headers_within size (Some headers) >>= λ headers. next numbers size headers) ≡ (read >>= λ numbers. within 0 MAX_PAYLOAD size >>= λ size. within (length header_start) size headers >>= λ headers. next numbers size (Some headers))
+  behind_numbers (Ok numbers) = behind_size numbers (within 0 MAX_PAYLOAD size)
+  behind_numbers (Err fault) = refl
+
+-- the sizes: of all that follows the line, and of the header block where there is one
+sizes_agree : {B : Type 0} (common : CommonFields) (size : List ℕ) (headers : Option (List ℕ)) (next : Numbers → ℕ → Option ℕ → Meaning B) → ((numbers : Numbers) (size : ℕ) (headers : Option ℕ) → Agrees None (next numbers size headers))
+    → Agrees (numbers_cause (common_numbers 1 common ++ may_be 0 MAX_PAYLOAD (number_of SIZE_DIGITS size) ∷ header_numbers headers size))
+    (numbers_of common >>= λ digits. ok_or (number_of SIZE_DIGITS size) BadArgs >>= λ size. header_digits headers >>= λ headers. numbers_in_range 1 digits >>= λ numbers. within 0 MAX_PAYLOAD size >>= λ size. headers_within size headers >>= λ headers. next numbers size headers)
+unfolding numbers_of
+sizes_agree common size None next others =
+    four_agree 1 0 MAX_PAYLOAD (inc_of common) (to_inc_of common) (frame_number_of common) (number_of SIZE_DIGITS size) (λ numbers size. next numbers size None) (λ numbers size. others numbers size None)
+sizes_agree common size (Some headers) next others =
+    rw (some_headers (numbers_of common) (number_of SIZE_DIGITS size) (number_of SIZE_DIGITS headers) next)
+    (five_agree 1 0 MAX_PAYLOAD (length header_start) (inc_of common) (to_inc_of common) (frame_number_of common) (number_of SIZE_DIGITS size) (number_of SIZE_DIGITS headers) (λ numbers size headers. next numbers size (Some headers)) (λ numbers size headers. others numbers size (Some headers)))
+
+pub message_agrees : (common : CommonFields) (found : Option MessageFields) → Agrees (message_cause common found) (publication_line common found)
+unfolding publication_line few_fields
+message_agrees common found = form_agrees (message_cause common) found _ refl (λ fields.
     few_agree (nat_lt MAX_QUEUE_NAMES (length fields.form.names)) fields _ _ (
-    four_agree 1 0 MAX_PAYLOAD (inc_of common) (to_inc_of common) (frame_number_of common) (number_of SIZE_DIGITS fields.form.size) (message_behind common fields) (message_behind_agrees common fields)))
+    sizes_agree common fields.form.size fields.headers (message_behind common fields) (message_behind_agrees common fields)))

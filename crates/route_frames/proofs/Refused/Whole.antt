@@ -1,10 +1,10 @@
 -- What a line and its payload mean agrees with the causes of the line: the first of them is told, and where there is none a refusal is `BadArgs`.
-use Rattle.std.proofs.Common.{ℕ, List, [], ◌∷◌, length, drop, refl, Option, Some, None}
-use Rattle.std.specs.Prelude.{nat_eq}
+use Rattle.std.proofs.Common.{ℕ, ◌&&◌, List, [], ◌∷◌, length, take, drop, refl, Option, Some, None}
+use Rattle.std.specs.Prelude.{nat_eq, nat_le}
 use Rattle.std.specs.Option.{ok_or}
 use Rattle.list_laws.specs.Lists.{is_empty}
 use Rattle.line_fields.specs.Fields.{line_fields, number_of}
-use Rattle.subj.specs.Messages.{content_of}
+use Rattle.subj.specs.Messages.{is_block}
 use Rattle.route_values.specs.Frames.{frame_of}
 use Rattle.route_values.specs.Snapshots.{weighted_key, snapshot_of}
 use Rattle.route_frames.specs.declared.faults.RouteFault.{RouteFault}
@@ -20,12 +20,12 @@ use Rattle.route_frames.specs.declared.reading.RouteLine.TheVariants as line
 use Rattle.route_frames.specs.Meaning.{Meaning}
 use Rattle.route_frames.specs.Operations.{operation_of}
 use Rattle.route_frames.specs.CommonFields.{CommonFields, common_fields}
-use Rattle.route_frames.specs.Arguments.{plus_fields, minus_fields, snapshot_field, message_fields}
-use Rattle.route_frames.specs.NumberedLines.{key_of, plus_line, minus_line, snapshot_line, message_line}
+use Rattle.route_frames.specs.Arguments.{plus_fields, minus_fields, snapshot_field, message_fields, header_fields}
+use Rattle.route_frames.specs.NumberedLines.{key_of, plus_line, minus_line, snapshot_line, message_line, header_line}
 use Rattle.route_frames.specs.Greetings.{json_of, info_of, connect_text_of}
-use Rattle.route_frames.specs.Lines.{line_of_fields, operation_meaning, fields_meaning, line_meaning, announced_size}
+use Rattle.route_frames.specs.Lines.{line_of_fields, operation_meaning, fields_meaning, line_meaning, announced_size, announced_headers}
 use Rattle.route_frames.specs.SnapshotTexts.{pieces, plain_key, queue_key, weighted_of, before_cr, key_line_of, keys_in, snapshot_in}
-use Rattle.route_frames.specs.Decoding.{size_meaning, payload_meaning, body_meaning, numbered_meaning, frame_behind, frame_meaning}
+use Rattle.route_frames.specs.Decoding.{size_meaning, payload_meaning, block_meaning, fits_meaning, line_fits, body_in, message_meaning, body_meaning, numbered_meaning, frame_behind, frame_meaning}
 use Rattle.route_frames.specs.Causes.{plus_cause, minus_cause, snapshot_cause, message_cause, common_cause, members_cause, info_members, connect_members, operation_cause, fields_cause, line_cause}
 use Rattle.route_frames.proofs.Refused.Agreement.{Agrees, agrees_then, ok_or_agrees, refused_unless, fields_agree}
 use Rattle.route_frames.proofs.Refused.Numbered.{key_agrees, plus_agrees, minus_agrees, snapshot_agrees, message_agrees}
@@ -45,7 +45,8 @@ operation_agrees (Some operation.Connect) text fields = agrees_then (members_cau
 operation_agrees (Some operation.Plus) text fields = numbered_agrees plus_line (λ common behind. plus_cause common (plus_fields behind)) fields plus_agrees
 operation_agrees (Some operation.Minus) text fields = numbered_agrees minus_line (λ common behind. minus_cause common (minus_fields behind)) fields minus_agrees
 operation_agrees (Some operation.Snapshot) text fields = numbered_agrees snapshot_line (λ common behind. snapshot_cause common (snapshot_field behind)) fields snapshot_agrees
-operation_agrees (Some operation.Msg) text fields = numbered_agrees message_line (λ common behind. message_cause common (message_fields behind)) fields message_agrees
+operation_agrees (Some operation.Msg) text fields = numbered_agrees message_line (λ common behind. message_cause common (message_fields behind)) fields (λ common behind. message_agrees common (message_fields behind))
+operation_agrees (Some operation.HeaderMsg) text fields = numbered_agrees header_line (λ common behind. message_cause common (header_fields behind)) fields (λ common behind. message_agrees common (header_fields behind))
 
 fields_of_line_agree : (line : List ℕ) (fields : List (List ℕ)) → Agrees (fields_cause line fields) (fields_meaning line fields)
 fields_of_line_agree line [] = refl
@@ -95,11 +96,21 @@ sized_agrees : (size : Option ℕ) (payload : List ℕ) → Agrees None (payload
 sized_agrees None payload = refused_unless (is_empty payload) tt
 sized_agrees (Some size) payload = refused_unless (nat_eq (length payload) size) tt
 
+block_agrees : (headers : Option ℕ) (payload : List ℕ) → Agrees None (block_meaning headers payload)
+block_agrees None payload = tt
+block_agrees (Some headers) payload = refused_unless (nat_le headers (length payload) && is_block (take headers payload)) tt
+
+fits_agree : (size headers : Option ℕ) (payload : List ℕ) → Agrees None (fits_meaning size headers payload)
+fits_agree size headers payload = agrees_then None (payload_meaning size payload) _ (sized_agrees size payload) (λ sized. block_agrees headers payload)
+
+message_meaning_agrees : (subject : List ℕ) (reply : Option (List ℕ)) (headers : Option ℕ) (payload : List ℕ) → Agrees None (message_meaning subject reply headers payload)
+message_meaning_agrees subject reply headers payload = agrees_then None (ok_or (body_in headers payload) BadArgs) _ (ok_or_agrees (body_in headers payload)) (λ body. tt)
+
 body_agrees : (said : LineBody) (payload : List ℕ) → Agrees None (body_meaning said payload)
 body_agrees (body.Plus key) payload = tt
 body_agrees (body.Minus key) payload = tt
 body_agrees (body.Snapshot size) payload = agrees_then None (snapshot_in payload) _ (snapshot_in_agrees payload) (λ keys. tt)
-body_agrees (body.Msg subject reply queues size) payload = agrees_then None (ok_or (content_of subject reply payload) BadArgs) _ (ok_or_agrees (content_of subject reply payload)) (λ message. tt)
+body_agrees (body.Msg subject reply queues headers size) payload = agrees_then None (message_meaning subject reply headers payload) _ (message_meaning_agrees subject reply headers payload) (λ message. tt)
 
 numbered_frame_agrees : (line_of_fields : NumberedLine) (payload : List ℕ) → Agrees None (numbered_meaning line_of_fields payload)
 unfolding numbered_meaning
@@ -116,4 +127,4 @@ behind_agrees (line.Numbered line_of_fields) payload = agrees_then None (numbere
 pub frame_agrees : (line payload : List ℕ) → Agrees (line_cause line) (frame_meaning line payload)
 unfolding frame_meaning
 frame_agrees line payload = agrees_then (line_cause line) (line_meaning line) _ (line_agrees line) (λ read.
-    agrees_then None (payload_meaning (announced_size read) payload) _ (sized_agrees (announced_size read) payload) (λ fits. behind_agrees read payload))
+    agrees_then None (line_fits read payload) _ (fits_agree (announced_size read) (announced_headers read) payload) (λ fits. behind_agrees read payload))

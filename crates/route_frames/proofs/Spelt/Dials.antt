@@ -5,7 +5,7 @@ use Rattle.std.specs.Option.{ok_or}
 use Rattle.serde_json.specs.Data.{Data}
 use Rattle.route_values.specs.Records.{connect_of}
 use Rattle.route_frames.specs.declared.faults.RouteFault.TheVariants.{BadNumber}
-use Rattle.route_frames.specs.declared.reading.Dial.{Dial}
+use Rattle.route_frames.specs.declared.greetings.Dial.{Dial}
 use Rattle.route_frames.specs.Meaning.{◌>>=◌}
 use Rattle.route_frames.specs.Greetings.{dial_in, node_at, connect_in}
 

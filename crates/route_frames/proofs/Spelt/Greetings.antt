@@ -9,9 +9,9 @@ use Rattle.subj.specs.Names.{node_name_fault}
 use Rattle.route_values.specs.Records.{Info, Connect, is_serial, connect_of}
 use Rattle.route_values.specs.Valid.{IsIncarnation, IsInfo, IsConnect}
 use Rattle.route_frames.specs.declared.faults.RouteFault.TheVariants.{BadArgs, BadNumber}
-use Rattle.route_frames.specs.declared.reading.Dial.{Dial}
-use Rattle.route_frames.specs.declared.reading.Whole.{Whole}
-use Rattle.route_frames.specs.declared.reading.Whole.TheVariants as whole
+use Rattle.route_frames.specs.declared.greetings.Dial.{Dial}
+use Rattle.route_frames.specs.declared.greetings.Whole.{Whole}
+use Rattle.route_frames.specs.declared.greetings.Whole.TheVariants as whole
 use Rattle.route_frames.specs.Canonical.{number_data}
 use Rattle.route_frames.specs.Greetings.{json_of, object_of, whole_of, whole_at, whole_in_range, whole_number, incarnation_in, node_at, info_in, dial_in, connect_in, info_of, connect_text_of}
 use Rattle.route_frames.specs.Spelling.{HasInfo, HasConnect}

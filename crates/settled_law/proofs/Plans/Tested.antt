@@ -253,14 +253,14 @@ module _ (c : Cluster) (cluster : IsCluster c) (w : World) (size : length w.node
     }
 
     publication : Publication
-    publication = record { conn = 0; publication = record { message = record { subject = subject; reply = None; payload = [] }; echo = true }; word = 0 }
+    publication = record { conn = 0; publication = record { message = record { subject = subject; reply = None; headers = None; payload = [] }; echo = true }; word = 0 }
 
     is_few : (names : List (List ℕ)) → Pairs (λ x y. x ≢ y) names → Each (IsWantedName w subject) names → length names ≤ MAX_QUEUE_NAMES
     is_few [] apart wanted = omega arith
     is_few (name ∷ names) apart wanted =
         let x = wanted name (inl refl) in
         let lt : x.node < length c.names = (let s = size in let l = slice_get_within w.nodes x.node (Some x.a) x.up in omega (arith, s, l)) in
-        let f = fewer (name ∷ names) (queue_names (server_at c x.node x.a.inc) x.a.node.hub subject) apart (λ y i. wanted_is_named c cluster w x.node x.a (record { conn = 0; publication = record { message = record { subject = subject; reply = None; payload = [] }; echo = true }; word = 0 }) lt x.up sound counted is_quiet y (wanted y i)) in
+        let f = fewer (name ∷ names) (queue_names (server_at c x.node x.a.inc) x.a.node.hub subject) apart (λ y i. wanted_is_named c cluster w x.node x.a (record { conn = 0; publication = record { message = record { subject = subject; reply = None; headers = None; payload = [] }; echo = true }; word = 0 }) lt x.up sound counted is_quiet y (wanted y i)) in
         let g = le_true (length (queue_names (server_at c x.node x.a.inc) x.a.node.hub subject)) MAX_QUEUE_NAMES (here x.node x.a x.up).few in
         omega (arith, f, g)
 

@@ -160,7 +160,7 @@ module _ (c : Cluster) (cluster : IsCluster c) (w : World) (size : length w.node
   few_told : (n : ℕ) (a : Running) → n < length c.names → slice_get w.nodes n ≡ Some (Some a) → has_few_names (server_at c n a.inc) a.node.hub subject ≡ true
   few_told n a lt at = is_at_most (length (queue_names (server_at c n a.inc) a.node.hub subject)) MAX_QUEUE_NAMES
       (settled.few (queue_names (server_at c n a.inc) a.node.hub subject) (names_distinct (server_at c n a.inc) a.node.hub subject)
-      (λ name i. name_is_wanted c cluster w n a (record { conn = 0; publication = record { message = record { subject = subject; reply = None; payload = [] }; echo = true }; word = 0 }) lt at sound counted settled.quiet name i))
+      (λ name i. name_is_wanted c cluster w n a (record { conn = 0; publication = record { message = record { subject = subject; reply = None; headers = None; payload = [] }; echo = true }; word = 0 }) lt at sound counted settled.quiet name i))
 
   all_told : (q : ℕ) (nodes : List (Option Running)) → ((k j : ℕ) → k ≡ q + j → j < length nodes → (k < length c.names) × ((b : Running) × (slice_get nodes j ≡ Some (Some b)) × (slice_get w.nodes k ≡ Some (Some b)))) → are_settled c subject w.nodes q nodes ≡ true
   all_told q [] each = refl

@@ -48,7 +48,7 @@ abbrev pub life_of : Life → history.Life
 life_of l = record { id = law_id l.id; connection = l.conn; sid = l.sid; pattern = l.key.pattern; queue = l.key.queue; opened = l.opened }
 
 abbrev pub own_content : messages.Content → Content
-own_content content = record { subject = content.subject; reply = content.reply; payload = content.payload }
+own_content content = record { subject = content.subject; reply = content.reply; headers = content.headers; payload = content.payload }
 
 -- its bytes are those of the content and the sid
 pub record SeesPlacement (c : Cluster) (p : Placement) (q : history.Placement) : Type 0 where

@@ -1,10 +1,10 @@
-use Rattle.std.proofs.Common.{◌≡◌}
+use Rattle.std.proofs.Common.{◌∙◌}
+use Rattle.client_frames.specs.ServerFacts.{ServerFacts}
 use Rattle.mesh_pipe.specs.PipeText.{pipe_info}
 use Rattle.mesh_pipe.proofs.pipe_server.info.Goals as goal
 
 pub returns : goal.returns
 unfolding pipe_info
 returns c =
-    let inc : c.in-Some.inc ≡ 1 = cc (c.in-Some.ensures) in
-    let name = c.in-Ok.ensures.1 in
-    λ k. record { name = name k; inc = inc k; client_id = c.new-2.ensures k; port = 0 }
+    let server = c.in_ok-new.ensures ∙ (λ k. let s : ServerFacts = record { name = c.name.ensures k; inc = c.first_life.ensures k; host = c.host.ensures k; port = 0 } in s) in
+    λ k. record { server = server k; client_id = c.new-2.ensures k }

@@ -1,6 +1,5 @@
-use Rattle.std.proofs.Common.{◌≡◌, true, Err, ap, ◌∙◌}
+use Rattle.std.proofs.Common.{◌≡◌, true, ap, ◌∙◌}
 use Rattle.std.proofs.lemmas.Result.{err_from_is_err_and}
-use Rattle.subj.specs.declared.failures.Failure.TheVariants.{Refused}
 use Rattle.route_frames.specs.TextViews.{numbered_view, text_meaning, is_json}
 use Rattle.route_frames.proofs.Refused.Answered.{bad_line_means, numbered_means, greeting_means, greeting_is_json, frame_answered}
 use Rattle.route_frames.proofs.reading.decode.Goals as goal

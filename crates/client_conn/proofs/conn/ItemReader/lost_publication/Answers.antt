@@ -1,7 +1,6 @@
 use Rattle.std.proofs.Common.{sym}
 use Rattle.wire_cut.specs.Cut.{payload}
-use Rattle.client_conn.specs.declared.conn.Looked.TheVariants as looks
-use Rattle.client_conn.proofs.Looking.{moved, lost_found, line_due, unread_moved}
+use Rattle.client_conn.proofs.Looking.{moved, lost_found, passed, unread_moved}
 use Rattle.client_conn.proofs.conn.ItemReader.lost_publication.Goals as goal
 
 pub returns-in-Err-clause-looked : goal.returns-in-Err-clause-looked
@@ -13,6 +12,6 @@ returns-in-Err-clause-looked c =
 pub returns-clause-looked : goal.returns-clause-looked
 returns-clause-looked c =
     let cut = rw (c.in-Ok-Some-Payload.field-0-is, c.in-Ok-Some-Payload.field-0-0-is) at c.in-Ok-Some-Payload.ensures.answer in
-    moved looks.Told c.args.open_asks.now c.refuse.new.self c.args.self.now (payload c.in-Ok-Some-Payload.payload.now) _ c.requires.step c.requires.reads (sym cut)
-    (lost_found c.args.open_asks.now c.refuse.new.self c.requires.due.0 c.args.self.now.awaited c.in-Ok-Some-Payload.payload.now _ c.of_line.result _ c.requires.due.1 c.of_line.ensures c.refuse.ensures
-    (line_due c.args.self.now.cutter c.consume.new.self c.args.self.now.ended c.requires.reads c.consume.ensures))
+    moved c.lose.result c.args.open_asks.now c.lose.new.open_asks c.args.self.now (payload c.in-Ok-Some-Payload.payload.now) _ c.requires.step c.requires.reads (sym cut)
+    (lost_found c.lose.result c.args.open_asks.now c.lose.new.open_asks c.requires.due.0 c.args.self.now.awaited c.in-Ok-Some-Payload.payload.now _ _ c.lose.ensures.told c.requires.due.1 c.lose.ensures.asks
+    (passed c.args.self.now c.lose.new.self c.requires.reads c.lose.ensures.passed))

@@ -2,7 +2,7 @@ use Rattle.std.proofs.Common.{ap, sym, ◌∙◌}
 use Rattle.std.specs.Option.{ok_or}
 use Rattle.route_frames.specs.declared.faults.RouteFault.TheVariants.{BadNumber}
 use Rattle.route_frames.proofs.Spelt.Dials.{dialed}
-use Rattle.route_frames.proofs.reading.connect_from.Goals as goal
+use Rattle.route_frames.proofs.greetings.connect_from.Goals as goal
 
 pub returns : goal.returns
 returns c =

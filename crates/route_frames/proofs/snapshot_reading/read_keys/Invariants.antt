@@ -1,7 +1,7 @@
 use Rattle.std.proofs.Common.{◌≡◌, length}
 use Rattle.route_frames.specs.Meaning.{with_front}
 use Rattle.route_frames.specs.SnapshotTexts.{pieces, keys_in}
-use Rattle.route_frames.proofs.line_reading.read_keys.Given as goal
+use Rattle.route_frames.proofs.snapshot_reading.read_keys.Given as goal
 
 -- the keys so far and those of the rest are all
 abbrev pub invariant-loop-line : goal.invariant-loop-line

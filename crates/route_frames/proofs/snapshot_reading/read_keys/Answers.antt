@@ -1,7 +1,7 @@
 use Rattle.std.proofs.Common.{ap, sym, ◌∙◌, Ok}
 use Rattle.std.proofs.lemmas.Result.{err_from_is_err_and}
 use Rattle.route_frames.proofs.Cuts.Pieces.{one_more_key, bad_key}
-use Rattle.route_frames.proofs.line_reading.read_keys.Goals as goal
+use Rattle.route_frames.proofs.snapshot_reading.read_keys.Goals as goal
 
 pub returns-in_err-read : goal.returns-in_err-read
 returns-in_err-read c =
