@@ -1,5 +1,6 @@
 //! The sockets of mio as streams.
 
+ghost use Rattle.std.specs.Prelude.{⊤};
 ghost use Rattle.std.specs.Io.{ReadsAtMost, WritesAtMost};
 
 use crate::stream::{Stream, StreamFault};
@@ -16,7 +17,13 @@ fn fault_of(error: &io::Error) -> Option<StreamFault> {
     }
 }
 
+/// A socket. Which bytes the kernel took and gave cannot be seen from here: so all that its calls say is that they were made, and that
+/// they took or gave no more than they were asked for. A call that was interrupted is made again.
 impl Stream for TcpStream {
+    ghost gave = { λ _ _ _. ⊤ };
+
+    ghost wrote = { λ _ _ _. ⊤ };
+
     fn read(&mut self, buffer: &mut [u8]) -> Result<usize, StreamFault>
         ensures bound { ReadsAtMost result buffer.new }
     {
