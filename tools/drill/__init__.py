@@ -19,7 +19,8 @@ cluster; each for a subscription that was open at that step and matched, of a pu
 number; without echo none for its publisher. Of a cluster at rest: it is told as settled, and each publication that is delivered there, as one step or
 with its work in an order that is drawn, reaches each subscription that is open and matches once, and each queue name once; where a frame is held back
 it is not told as settled. Judged of the lists of a script: each line, with the bytes of what is placed, and that they pass the audit; and with a flaw
-planted, that the audit tells the placement that breaks the clause first. Judged of a stream: each byte behind INFO, and the status.
+planted, that the line differs, and that the audit tells the placement that breaks the clause first, where the lists alone show it. Judged of a stream:
+what INFO says of payloads and headers, each byte behind it, and the status.
 
 Not judged: the bytes of frames, since no text shows them; what standard error tells; what is refused as no script (90 to 92); refusals that no script meets
 (`tally` names them); threads and sockets (`serve`); times, and want of memory.
@@ -100,8 +101,9 @@ def play_script(program, script, of_kind, of, tally):
         return
     for name, edited, kind in plants.planted(of_kind, plants.Written(script, text)):
         tally.note_plant(name, any(flaw.kind == kind for flaw in flaws_in(script, edited)))
-    for name, edited, number in logs.planted(script):
-        tally.note_plant(name, run(program, ["audit"], edited.encode()) == (f"{number}\n", 1))
+    for name, edited, told in logs.planted(script):
+        is_told = run(program, ["audit"], edited.encode()) == told
+        tally.note_plant(name, is_told and any(logs.flaws_in(script, text, text + edited)))
 
 
 def play_list(program, seed, word, with_plants, tally):

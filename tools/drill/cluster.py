@@ -33,6 +33,20 @@ class Life:
 
 
 @dataclass(frozen=True)
+class Placed:
+    """A message that was placed: the step, the publication, the place of the server, the connection, the subscription's id and queue name, and whether
+    the connection took headers."""
+
+    step: int
+    source: tuple
+    place: int
+    conn: int
+    sid: str
+    queue: str | None
+    takes_headers: bool
+
+
+@dataclass(frozen=True)
 class Delivery:
     """A publication with its work: the place of the line that tells how many messages that placed, where it is one step of the script; and the
     publication, unless nothing follows it."""
@@ -57,8 +71,7 @@ class Cluster:
         self.step = 0
         # Each line: the place of the server and the word; and what is written. A line of no event has no place.
         self.asked, self.lines = [], []
-        # Publications by (place, incarnation, number), and lives by (place, incarnation, shard, serial). What was placed: the step, the
-        # publication, the place of the server, connection, id and queue name.
+        # Publications by (place, incarnation, number), and lives by (place, incarnation, shard, serial).
         self.publications, self.lives, self.placed = {}, {}, []
         self.deliveries = []
 
@@ -158,8 +171,8 @@ class Cluster:
         """Notes what the shards of a server placed and closed in this step."""
         server = self.running.get(place)
         for shard in server.shards if server else []:
-            for source, sub, queue in shard.placed:
-                self.placed.append((self.step, source, place, sub.conn, sub.sid, queue))
+            for source, sub, queue, takes_headers in shard.placed:
+                self.placed.append(Placed(self.step, source, place, sub.conn, sub.sid, queue, takes_headers))
             for sub in shard.closed:
                 self.lives[place, server.inc, shard.number, sub.serial].closed = self.step
             shard.placed, shard.closed = [], []
@@ -211,6 +224,10 @@ class Cluster:
 
     def on_unsub(self, place, members):
         self.server(place).shard_of(members["conn"]).unsubscribe(members["conn"], members["sid"], members.get("max"))
+        return "ok"
+
+    def on_headers(self, place, members):
+        self.server(place).shard_of(members["conn"]).set_headers(members["conn"], members["on"])
         return "ok"
 
     def on_detach(self, place, members):
@@ -292,9 +309,10 @@ class Cluster:
     # ---- what is written
 
     def placed_lines(self):
-        for step, (origin, inc, number), place, conn, sid, queue in self.placed:
-            mode = "-" if queue is None else f"={queue}"
-            yield f"placed {step} {self.names[origin]} {inc} {number} {self.names[place]} {conn} {sid} {mode}"
+        for placed in self.placed:
+            origin, inc, number = placed.source
+            mode = "-" if placed.queue is None else f"={placed.queue}"
+            yield f"placed {placed.step} {self.names[origin]} {inc} {number} {self.names[placed.place]} {placed.conn} {placed.sid} {mode}"
 
     def text(self):
         """All that is written of the steps so far."""

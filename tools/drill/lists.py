@@ -1,8 +1,8 @@
 """Drawn lists of steps: what each begins with, and moves behind that."""
 import json
 
-from .moves import Draw, Moves
-from .values import OUTBOX_ENTRIES, QUEUE_NAMES, ROUTE_FRAMES, SERVERS, SESSIONS, SHARDS, WINDOW
+from .moves import BLOCKS, Draw, Moves
+from .values import OUTBOX_BYTES, OUTBOX_ENTRIES, QUEUE_NAMES, ROUTE_FRAMES, SERVERS, SESSIONS, SHARDS, WINDOW, Message, size_of
 
 # The names of as many servers as a cluster may have.
 NAMES = [[f"n{number}" for number in range(1, SERVERS + 1)], ["b", "a", "Z-1", "x_2", "0"] + [f"y{number}" for number in range(SERVERS - 5)]]
@@ -77,11 +77,34 @@ def fill_bytes(moves):
     """More bytes for one connection than may wait for it."""
     joined(moves)
     node, count = moves.cluster.names[0], moves.draw.up_to(3)
+    moves.ask("headers", node, conn=1, on=moves.draw.is_one_in(2))
     for sid in range(20):
         moves.ask("sub", node, conn=1, pattern="foo", sid=str(sid), queue="q" if sid == 15 else None)
     for _ in range(count):
-        moves.ask("publish", node, conn=1, subject="foo", payload="x" * (900_000 // count - moves.draw.below(9)), word=0)
+        payload = "x" * (900_000 // count - moves.draw.below(9))
+        moves.ask("publish", node, conn=1, subject="foo", headers=moves.headers(), payload=payload, word=0)
         moves.work_off(node)
+
+
+def fill_last_bytes(moves):
+    """A publication with headers, of which one form needs about as many bytes as are left for a connection; which form the connection gets is drawn."""
+    joined(moves)
+    node = moves.cluster.names[0]
+    moves.ask("headers", node, conn=1, on=moves.draw.is_one_in(2))
+    # Both payloads together have to stay below the limit of a script.
+    for sid in range(16):
+        moves.ask("sub", node, conn=1, pattern="foo", sid=str(sid))
+    moves.ask("publish", node, conn=1, subject="foo", payload="x" * 520_000, word=0)
+    moves.work_off(node)
+    moves.ask("sub", node, conn=1, pattern="bar", queue=moves.draw.one_of([None, "q"]), sid="16")
+    moves.collect(node)
+    moves.hear_all()
+    block, left = moves.draw.one_of(BLOCKS), OUTBOX_BYTES - sum(moves.server(node).shard_of(1).outboxes[1].entries)
+    # A payload of as many bytes as are left is too large by what stands around it.
+    around = size_of(Message("bar", None, block, "x" * left).text_for("16", moves.draw.is_one_in(2))) - left
+    payload = "x" * (left - around + 1 - moves.draw.below(3))
+    moves.ask(moves.draw.one_of(["publish", "deliver"]), node, conn=1, subject="bar", headers=block, payload=payload, word=0)
+    moves.work_off(node)
 
 
 def fill_window(moves):
@@ -159,9 +182,9 @@ def fill_share(moves):
 
 
 # Each with how many of a thousand lists begin so, and how many shards the servers have at most.
-BEGINNINGS = [(open_servers, 610, FEW_SHARDS), (open_many, 30, SHARDS), (blind, 120, FEW_SHARDS), (fill_outbox, 80, FEW_SHARDS),
+BEGINNINGS = [(open_servers, 600, FEW_SHARDS), (open_many, 30, SHARDS), (blind, 120, FEW_SHARDS), (fill_outbox, 80, FEW_SHARDS),
               (fill_window, 60, FEW_SHARDS), (fill_sessions, 30, 2), (fill_names, 30, 2), (fill_bytes, 16, FEW_SHARDS), (fill_share, 12, SHARDS),
-              (fill_route, 12, 1)]
+              (fill_route, 12, 1), (fill_last_bytes, 10, FEW_SHARDS)]
 
 
 def beginning_of(draw):
@@ -198,6 +221,8 @@ def prepare(moves):
         moves.ask("start", node, inc=moves.draw.up_to(3))
         for _ in range(moves.draw.up_to(3)):
             moves.ask("attach", node, shard=moves.draw.up_to(moves.cluster.shards))
+            if moves.draw.is_one_in(2):
+                moves.choose_headers(node)
     for is_joined in (False, True):
         for place, node in enumerate(names):
             for _ in range(moves.draw.below(5)):
@@ -227,6 +252,8 @@ def brought_to_rest(seed, is_held_back):
         if node and number != held:
             moves.ask("receive", node, frame=number)
     for _ in range(draw.up_to(4)):
+        if draw.is_one_in(3):
+            moves.choose_headers(moves.node())
         deliver = moves.deliver if is_held_back or draw.is_one_in(2) else moves.deliver_in_any_order
         deliver(moves.node())
     script = Script(seed, moves, "held back" if is_held_back else "at rest")

@@ -1,7 +1,10 @@
 """The lists of a script as lines of JSON (docs/SCRIPTS.md, "A log"): those that have to be written, and flaws that an audit of them has to find."""
 import json
 
-from .judge import ENDED, Flaw, Placement, life_of
+from dataclasses import replace
+
+from .cluster import message_of
+from .judge import ENDED, Flaw, life_of
 
 OTHER_LOG = "a line of the lists is not what the pages say"
 NOT_PASSED = "the lists do not pass the audit"
@@ -36,10 +39,11 @@ def lives_of(cluster):
 
 
 def placements_of(cluster):
-    for step, source, place, conn, sid, queue in cluster.placed:
-        life = life_of(Placement("", step, source, place, conn, sid, queue), cluster.lives)
-        members = there(step=step, conn=conn, queue=queue, bytes=cluster.publications[source].message.text_for(sid))
-        yield {"placement": {"publication": name_of(cluster, source), "life": life_name_of(cluster, life), **members}}
+    for placed in cluster.placed:
+        text = cluster.publications[placed.source].message.text_for(placed.sid, placed.takes_headers)
+        members = there(step=placed.step, conn=placed.conn, queue=placed.queue, headers=placed.takes_headers or None, bytes=text)
+        life = life_name_of(cluster, life_of(placed, cluster.lives))
+        yield {"placement": {"publication": name_of(cluster, placed.source), "life": life, **members}}
 
 
 def entries_of(cluster):
@@ -83,13 +87,17 @@ def placed_again(entries):
     return (entries + [{"placement": placed[0]}], len(placed) + 1) if placed else None
 
 
+def with_members(entries, number, **members):
+    """With other members of the placement of this number, from 1; those that are None are left out."""
+    placed = of_kind(entries, "placement")
+    at = len(entries) - len(placed) + number - 1
+    return [*entries[:at], {"placement": there(**{**placed[number - 1], **members})}, *entries[at + 1:]]
+
+
 def other_payload(entries):
     """The last placement has a byte more."""
     placed = of_kind(entries, "placement")
-    if not placed:
-        return None
-    last = {"placement": {**placed[-1], "bytes": placed[-1]["bytes"] + "x"}}
-    return entries[:-1] + [last], len(placed)
+    return (with_members(entries, len(placed), bytes=placed[-1]["bytes"] + "x"), len(placed)) if placed else None
 
 
 def without(entries, kind, member):
@@ -110,17 +118,75 @@ def never_opened(entries):
     return without(entries, "life", "life")
 
 
+def by_name(entries, kind):
+    """What is of this kind, by its name."""
+    return {tuple(entry["id"].values()): entry for entry in of_kind(entries, kind)}
+
+
+def first_with_headers(entries, takes_headers):
+    """Of the first placement of a publication with headers for a connection that takes them, or that takes none: its number, the message, and the
+    subscription's id. None where there is none."""
+    publications, lives = by_name(entries, "publication"), by_name(entries, "life")
+    for number, placement in enumerate(of_kind(entries, "placement"), 1):
+        made = publications[tuple(placement["publication"].values())]
+        if "headers" in made and placement.get("headers", False) == takes_headers:
+            return number, message_of(made), lives[tuple(placement["life"].values())]["sid"]
+    return None
+
+
+def in_form(entries, found, takes_headers, **members):
+    """The placement that was found has the form of a connection that takes headers, or of one that takes none, and other members."""
+    number, message, sid = found
+    return with_members(entries, number, bytes=message.text_for(sid, takes_headers), **members)
+
+
+def untaken_headers(entries):
+    found = first_with_headers(entries, False)
+    return found and (in_form(entries, found, True), found[0])
+
+
+def untaken_headers_told_as_taken(entries):
+    """No audit can know that the connection takes none."""
+    found = first_with_headers(entries, False)
+    return found and (in_form(entries, found, True, headers=True), None)
+
+
+def taken_headers_left_out(entries):
+    found = first_with_headers(entries, True)
+    return found and (in_form(entries, found, False), found[0])
+
+
+def taken_headers_told_as_untaken(entries):
+    found = first_with_headers(entries, True)
+    return found and (with_members(entries, found[0], headers=None), found[0])
+
+
+def block_in_payload(entries):
+    found = first_with_headers(entries, False)
+    if not found:
+        return None
+    number, message, sid = found
+    return in_form(entries, (number, replace(message, payload=message.headers + message.payload), sid), False), number
+
+
+# Each edits the lists, and says which placement an audit of them has to tell; none where it cannot find what is wrong.
 PLANTS = [
     ("the first placement of the lists stands there once more", placed_again),
     ("the last placement of the lists has other bytes", other_payload),
     ("a publication is left out of the lists", unpublished),
     ("a subscription is left out of the lists", never_opened),
+    ("what is placed for a connection that takes no headers is HMSG", untaken_headers),
+    ("the lists tell of a connection that takes no headers that it takes them, with an HMSG", untaken_headers_told_as_taken),
+    ("what is placed for a connection that takes headers is MSG", taken_headers_left_out),
+    ("the lists do not say that a connection takes headers", taken_headers_told_as_untaken),
+    ("a placed MSG has the header block before its payload", block_in_payload),
 ]
 
 
 def planted(script):
-    """For each of these plants that finds something to edit: its name, the edited lists, and the number of the placement that has to be found."""
+    """For each of these plants that finds something to edit: its name, the edited lists, and what an audit of them has to write, with its status."""
     for name, edit in PLANTS:
         edited = edit(entries_of(script.cluster))
         if edited is not None:
-            yield name, written(edited[0]), edited[1]
+            entries, number = edited
+            yield name, written(entries), ("none\n", 0) if number is None else (f"{number}\n", 1)

@@ -183,6 +183,10 @@ class Moves:
     def unsubscribe(self, node):
         self.ask("unsub", node, conn=self.conn(node), sid=self.sid(), max=self.draw.below(5) if self.draw.is_one_in(2) else None)
 
+    def choose_headers(self, node):
+        """A connection takes headers from now on, or takes none."""
+        self.ask("headers", node, conn=self.conn(node), on=not self.draw.is_one_in(3))
+
     def client(self, node):
         if self.draw.is_one_in(6):
             self.ask("detach", node, conn=self.conn(node))
@@ -280,7 +284,7 @@ class Moves:
     # ---- one move
 
     def client_move(self, node):
-        which = self.draw.below(16)
+        which = self.draw.below(17)
         if which < 2:
             self.attach(node)
         elif which < 7:
@@ -289,6 +293,8 @@ class Moves:
             self.unsubscribe(node)
         elif which < 10:
             self.client(node)
+        elif which < 11:
+            self.choose_headers(node)
         else:
             self.publish(node)
 

@@ -1,9 +1,9 @@
 """The model of a shard: its connections, their subscriptions, and the jobs that it works off (docs/PROTOCOL.md, "Who gets a message")."""
-from .values import OUTBOX_BYTES, OUTBOX_ENTRIES, SLOW_CONSUMER, SUBSCRIPTION_BYTES, SUBSCRIPTION_COST, SUBSCRIPTIONS, Outbox, Sub, is_match, refuse_if
+from .values import OUTBOX_BYTES, OUTBOX_ENTRIES, SLOW_CONSUMER, SUBSCRIPTION_BYTES, SUBSCRIPTION_COST, SUBSCRIPTIONS, Outbox, Sub, is_match, refuse_if, size_of
 
 
 def cost_of(pattern, queue):
-    return len(pattern.encode()) + len((queue or "").encode()) + SUBSCRIPTION_COST
+    return size_of(pattern) + size_of(queue or "") + SUBSCRIPTION_COST
 
 
 def is_wanted(job, sub):
@@ -20,7 +20,8 @@ class Shard:
         self.waiting, self.hand, self.next_index, self.finished = [], None, 0, 0
         # What the hub was not told yet: a key, and whether a subscription of it opened or closed.
         self.deltas = []
-        # What the last events placed and closed, until the cluster notes it.
+        # What the last events placed (the publication, the subscription, the queue name, and whether its connection takes headers) and closed, until
+        # the cluster notes it.
         self.placed, self.closed = [], []
 
     def attach(self):
@@ -69,6 +70,9 @@ class Shard:
         else:
             sub.maximum = maximum
 
+    def set_headers(self, conn, is_on):
+        self.box_of(conn).takes_headers = is_on
+
     def detach(self, conn):
         self.box_of(conn, may_be_shut=True)
         self.close([sub for sub in self.subs if sub.conn == conn])
@@ -86,18 +90,20 @@ class Shard:
 
     def put(self, job, sub, queue):
         """The message is placed for the subscription."""
-        self.outboxes[sub.conn].entries.append(len(job.message.text_for(sub.sid).encode()))
+        box = self.outboxes[sub.conn]
+        box.entries.append(box.size_for(job.message, sub.sid))
         sub.delivered += 1
-        self.placed.append((job.source, sub, queue))
+        self.placed.append((job.source, sub, queue, box.takes_headers))
 
     def has_room(self, job, sub):
-        return self.outboxes[sub.conn].has_room(len(job.message.text_for(sub.sid).encode()))
+        box = self.outboxes[sub.conn]
+        return box.has_room(box.size_for(job.message, sub.sid))
 
     def has_room_for_all(self, message):
         """Whether each connection has room for the messages of all its subscriptions that match."""
         for conn, box in self.outboxes.items():
             subs = [sub for sub in self.subs if sub.conn == conn and is_match(sub.pattern, message.subject)]
-            size = sum(len(message.text_for(sub.sid).encode()) for sub in subs)
+            size = sum(box.size_for(message, sub.sid) for sub in subs)
             if subs and (len(box.entries) + len(subs) > OUTBOX_ENTRIES or sum(box.entries) + size > OUTBOX_BYTES):
                 return False
         return True

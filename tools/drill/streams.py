@@ -3,12 +3,12 @@
 The commands are drawn as values, and how they are spelt is drawn beside: the model never reads a line.
 """
 import json
-from dataclasses import replace
+from dataclasses import dataclass, replace
 
 from .judge import Flaw
 from .moves import BLOCKS, PATTERNS, QUEUES, REPLIES, SUBJECTS, Draw
 from .shard import Shard
-from .values import HEADER_START, OUTBOX_ENTRIES, QUEUE_NAMES, SLOW_CONSUMER, Job, Message, Refused, is_match
+from .values import HEADER_START, OUTBOX_ENTRIES, QUEUE_NAMES, SLOW_CONSUMER, Job, Message, Refused, is_match, size_of
 
 OTHER_BYTES = "the bytes are not what the pages say"
 
@@ -26,13 +26,26 @@ CLOSING = [
     ("FOO", "Unknown Protocol Operation"), ("", "Unknown Protocol Operation"), (" PING", "Unknown Protocol Operation"),
     ("SUB foo", "Parser Error"), ("SUB foo q 1 2", "Parser Error"), ("PUB foo five", "Parser Error"), ("PUB foo 00000000005", "Parser Error"),
     ("UNSUB", "Parser Error"), ("UNSUB 1 x", "Parser Error"), ("CONNECT", "Parser Error"), ("CONNECT {\"echo\":1}", "Parser Error"),
-    ("CONNECT []", "Parser Error"), ("PUB foo 2\r\nhixx", "Parser Error"), ("PUB foo 1048577", "Maximum Payload Violation"),
+    ("CONNECT {\"headers\":1}", "Parser Error"), ("CONNECT {\"headers\":null}", "Parser Error"), ("CONNECT []", "Parser Error"),
+    ("PUB foo 2\r\nhixx", "Parser Error"), ("PUB foo 1048577", "Maximum Payload Violation"),
     ("PING" + " " * 4_093, "Maximum Control Line Exceeded"), ("HPUB foo", "Parser Error"), ("HPUB foo 12", "Parser Error"),
     ("HPUB foo r 12 14 1", "Parser Error"), ("HPUB foo 21 20", "Parser Error"), ("HPUB foo x 20", "Parser Error"), ("HPUB foo 12 twenty", "Parser Error"),
     ("HPUB foo 00000000012 14", "Parser Error"), ("HPUB foo 1048578 1048577", "Parser Error"),
     ("HPUB foo 12 14\r\nNATS/1.0\r\n\r\nhixx", "Parser Error"), ("HPUB foo.* 4 6\r\nNATShixx", "Parser Error"),
     ("HPUB foo 12 1048577", "Maximum Payload Violation"),
 ]
+
+
+@dataclass(frozen=True)
+class Headed:
+    """A message with headers that the client gets: its place among the answers, the message, and the id of the subscription that it is for; whether the
+    client takes headers, and whether the last CONNECT that had this option turned it on."""
+
+    at: int
+    message: Message
+    sid: str
+    takes_headers: bool
+    took_headers: bool
 
 
 class Client:
@@ -42,10 +55,10 @@ class Client:
         self.shard = Shard(1, 1)
         self.conn = self.shard.attach()
         self.is_verbose, self.has_echo, self.turn, self.is_closed = True, True, 0, False
-        # What has to be written behind INFO, answer by answer.
-        self.pieces = []
-        # Of each message with headers the place among the answers, the message, and the id of the subscription that it is for.
-        self.headed = []
+        # What the last CONNECT said of headers that said anything of them.
+        self.took_headers = False
+        # What has to be written behind INFO, answer by answer, and each message with headers among them.
+        self.pieces, self.headed = [], []
 
     def put(self, text):
         self.pieces.append(text)
@@ -58,9 +71,12 @@ class Client:
         self.put(f"-ERR '{text}'\r\n")
         self.is_closed = closes
 
-    def connect(self, verbose, echo):
-        self.is_verbose, self.has_echo = verbose, echo
+    def connect(self, verbose, echo, headers):
+        """A CONNECT with these options; one that is left out is None. Each CONNECT chooses all of them."""
+        self.is_verbose, self.has_echo = verbose is not False, echo is not False
         self.confirm()
+        self.shard.set_headers(self.conn, headers is True)
+        self.took_headers = self.took_headers if headers is None else headers
 
     def subscribe(self, pattern, queue, sid):
         self.confirm()
@@ -84,10 +100,10 @@ class Client:
         _, shut = self.shard.begin()
         for index in range(0 if shut else len(names)):
             self.shard.claim(index, set())
-        for _, sub, _ in self.shard.placed:
+        for _, sub, _, takes_headers in self.shard.placed:
             if message.headers is not None:
-                self.headed.append((len(self.pieces), message, sub.sid))
-            self.put(message.text_for(sub.sid))
+                self.headed.append(Headed(len(self.pieces), message, sub.sid, takes_headers, self.took_headers))
+            self.put(message.text_for(sub.sid, takes_headers))
         self.shard.placed = []
         if shut:
             self.put(SLOW_CONSUMER)
@@ -97,12 +113,24 @@ class Client:
             self.shard.take(self.conn, len(self.shard.outboxes[self.conn].entries))
 
 
+def info_of(line):
+    """What a line tells as INFO; nothing where it is none."""
+    word, _, text = line.partition(" ")
+    try:
+        told = json.loads(text)
+    except ValueError:
+        return {}
+    return told if word == "INFO" and isinstance(told, dict) else {}
+
+
 class Stream:
     """A stream that was drawn: its bytes, and what has to be written of it."""
 
     def __init__(self, seed):
         self.seed, self.draw, self.client = seed, Draw(f"stream {seed}"), Client()
         self.lines = []
+        if self.draw.is_one_in(2):
+            self.draw_connect()
         if self.draw.is_one_in(40):
             self.draw_many(OUTBOX_ENTRIES + 1, None)
         elif self.draw.is_one_in(40):
@@ -128,8 +156,8 @@ class Stream:
     def say_publication(self, message):
         """A PUB, or an HPUB where there are headers: the size of these, and that of all that follows the line."""
         whole = (message.headers or "") + message.payload
-        sizes = [] if message.headers is None else [self.digits(len(message.headers.encode()))]
-        fields = [message.subject, *([] if message.reply is None else [message.reply]), *sizes, self.digits(len(whole.encode()))]
+        sizes = [] if message.headers is None else [self.digits(size_of(message.headers))]
+        fields = [message.subject, *([] if message.reply is None else [message.reply]), *sizes, self.digits(size_of(whole))]
         self.say("PUB" if message.headers is None else "HPUB", *fields)
         self.lines.append(whole + "\r\n")
 
@@ -147,7 +175,7 @@ class Stream:
             self.say("PING")
             return
         which = self.draw.below(40)
-        if which < 2:
+        if which < 3:
             self.draw_connect()
         elif which < 12:
             self.draw_sub()
@@ -160,10 +188,10 @@ class Stream:
 
     def draw_connect(self):
         verbose, echo = self.draw.one_of([None, True, False]), self.draw.one_of([None, None, True, False])
-        others = [("lang", "none"), ("headers", self.draw.one_of([None, True, False]))]
-        chosen = {name: value for name, value in (("verbose", verbose), *others, ("echo", echo)) if value is not None}
-        self.say("CONNECT", json.dumps(chosen))
-        self.client.connect(verbose is not False, echo is not False)
+        headers = self.draw.one_of([None, True, True, False])
+        members = [("verbose", verbose), ("lang", "none"), ("headers", headers), ("echo", echo)]
+        self.say("CONNECT", json.dumps({name: value for name, value in members if value is not None}))
+        self.client.connect(verbose, echo, headers)
 
     def draw_sub(self):
         queue, sid = self.draw.one_of(QUEUES), str(self.draw.up_to(8))
@@ -226,13 +254,9 @@ class Stream:
     def flaws_in(self, text):
         """What is wrong with what was written."""
         info, _, rest = text.partition("\r\n")
-        word, _, told = info.partition(" ")
-        try:
-            is_info = word == "INFO" and json.loads(told).get("max_payload") == 1_048_576
-        except (ValueError, AttributeError):
-            is_info = False
-        if not is_info:
-            yield Flaw(OTHER_BYTES, f"no INFO comes first, but {info[:80]!r}")
+        told = info_of(info)
+        if told.get("max_payload") != 1_048_576 or told.get("headers") is not True:
+            yield Flaw(OTHER_BYTES, f"no INFO of such a server comes first, but {info[:200]!r}")
         if rest != self.wanted:
             at = next((at for at, (one, other) in enumerate(zip(rest, self.wanted)) if one != other), min(len(rest), len(self.wanted)))
             yield Flaw(OTHER_BYTES, f"behind {at} characters: {rest[at:at + 60]!r} (by the pages: {self.wanted[at:at + 60]!r})")
@@ -240,13 +264,23 @@ class Stream:
 
 # ---- what is planted
 
+# How many fields the line of a message with a reply has, by its word.
+FIELDS_WITH_REPLY = {"MSG": 5, "HMSG": 6}
+
+
 def message_at(stream):
     """The place of the first message with a payload, and the message."""
-    return next(((at, piece) for at, piece in enumerate(stream.client.pieces) if piece.startswith("MSG ") and not piece.endswith("\r\n\r\n")), None)
+    found = [(at, piece) for at, piece in enumerate(stream.client.pieces) if piece.partition(" ")[0] in FIELDS_WITH_REPLY]
+    return next(((at, piece) for at, piece in found if not piece.endswith("\r\n\r\n")), None)
+
+
+def with_pieces(stream, info, changed):
+    """What was written, with other answers at these places."""
+    return info + "".join(changed.get(at, piece) for at, piece in enumerate(stream.client.pieces))
 
 
 def with_piece(stream, info, at, *pieces):
-    return info + "".join([*stream.client.pieces[:at], *pieces, *stream.client.pieces[at + 1:]])
+    return with_pieces(stream, info, {at: "".join(pieces)})
 
 
 def payload_changed(stream, info):
@@ -275,17 +309,52 @@ def other_id(stream, info):
 def reply_lost(stream, info):
     for at, piece in enumerate(stream.client.pieces):
         fields = piece.partition("\r\n")[0].split(" ")
-        if fields[0] == "MSG" and len(fields) == 5:
-            return with_piece(stream, info, at, " ".join([*fields[:3], fields[4]]) + "\r\n" + piece.partition("\r\n")[2])
+        if FIELDS_WITH_REPLY.get(fields[0]) == len(fields):
+            return with_piece(stream, info, at, " ".join([*fields[:3], *fields[4:]]) + "\r\n" + piece.partition("\r\n")[2])
     return None
 
 
-def headers_delivered(stream, info):
-    """The first message with headers has them before its payload."""
-    if not stream.client.headed:
+def first_headed(stream, takes_headers):
+    """The first message with headers while the client takes them, or while it takes none; none where there is none."""
+    return next((headed for headed in stream.client.headed if headed.takes_headers == takes_headers), None)
+
+
+def untaken_headers(stream, info):
+    headed = first_headed(stream, False)
+    return headed and with_piece(stream, info, headed.at, headed.message.text_for(headed.sid, True))
+
+
+def taken_headers_left_out(stream, info):
+    headed = first_headed(stream, True)
+    return headed and with_piece(stream, info, headed.at, headed.message.text_for(headed.sid, False))
+
+
+def block_in_payload(stream, info):
+    """The first MSG of a message with headers has them before its payload."""
+    headed = first_headed(stream, False)
+    if not headed:
         return None
-    at, message, sid = stream.client.headed[0]
-    return with_piece(stream, info, at, replace(message, payload=message.headers + message.payload).text_for(sid))
+    message = replace(headed.message, payload=headed.message.headers + headed.message.payload)
+    return with_piece(stream, info, headed.at, message.text_for(headed.sid, False))
+
+
+def option_kept(stream, info):
+    """A CONNECT without the option does not turn it off."""
+    kept = [headed for headed in stream.client.headed if headed.took_headers and not headed.takes_headers]
+    return with_pieces(stream, info, {headed.at: headed.message.text_for(headed.sid, True) for headed in kept}) if kept else None
+
+
+def size_of_payload_alone(stream, info):
+    """The last size of the first HMSG counts the payload alone."""
+    headed = first_headed(stream, True)
+    if not headed:
+        return None
+    line, _, rest = stream.client.pieces[headed.at].partition("\r\n")
+    return with_piece(stream, info, headed.at, f"{line.rpartition(' ')[0]} {size_of(headed.message.payload)}\r\n{rest}")
+
+
+def info_without_headers(stream, info):
+    return f"INFO {json.dumps({**info_of(info), 'headers': False})}\r\n{stream.wanted}"
 
 
 def bad_headers_taken(stream, info):
@@ -305,7 +374,12 @@ PLANTS = [
     ("a message does not come", message_lost),
     ("a message has the id of another subscription", other_id),
     ("the reply of a message is left out", reply_lost),
-    ("a message has its headers before its payload", headers_delivered),
+    ("a client that takes no headers gets HMSG", untaken_headers),
+    ("a client that takes headers gets MSG", taken_headers_left_out),
+    ("a MSG has the header block before its payload", block_in_payload),
+    ("a client takes headers still behind a CONNECT that does not say so", option_kept),
+    ("the last size of an HMSG is that of the payload alone", size_of_payload_alone),
+    ("INFO tells of no headers", info_without_headers),
     ("what is no header block is confirmed", bad_headers_taken),
     ("a command is confirmed twice", confirmed_twice),
 ]

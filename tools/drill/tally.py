@@ -4,7 +4,7 @@ from collections import Counter
 
 # Each kind of answer that a script can get: the word of its event, and what is written without its numbers (docs/SCRIPTS.md).
 ANSWERS = [
-    "start ok", "stop ok", "attach conn", "sub sub", "sub same", "unsub ok", "detach ok", "publish turn frames", "receive turn", "receive view",
+    "start ok", "stop ok", "attach conn", "sub sub", "sub same", "unsub ok", "headers ok", "detach ok", "publish turn frames", "receive turn", "receive view",
     "collect changes frames", "drain changes frames", "drainshard ok", "begin placed closed", "claim won", "claim lost", "claim nobody", "end ok", "drop ok", "dial session",
     "accept session", "info kept", "info kept instead of", "connect kept", "connect kept instead of", "cut ok", "take took", "settled yes", "settled no",
     "delivered",

@@ -52,6 +52,11 @@ def is_match(pattern, subject):
     return len(wanted) == len(given) and all(mine in ("*", other) for mine, other in zip(wanted, given))
 
 
+def size_of(text):
+    """How many bytes a text has."""
+    return len(text.encode())
+
+
 @dataclass(frozen=True)
 class Message:
     subject: str
@@ -60,10 +65,14 @@ class Message:
     headers: str | None
     payload: str
 
-    def text_for(self, sid):
-        """The MSG for a subscription of this id. It has the payload alone."""
+    def text_for(self, sid, takes_headers):
+        """The message for a subscription of this id: HMSG where there are headers and its connection takes them, and else MSG, with the payload alone."""
+        block = self.headers if takes_headers else None
         reply = f"{self.reply} " if self.reply is not None else ""
-        return f"MSG {self.subject} {sid} {reply}{len(self.payload.encode())}\r\n{self.payload}\r\n"
+        if block is None:
+            return f"MSG {self.subject} {sid} {reply}{size_of(self.payload)}\r\n{self.payload}\r\n"
+        body = block + self.payload
+        return f"HMSG {self.subject} {sid} {reply}{size_of(block)} {size_of(body)}\r\n{body}\r\n"
 
 
 @dataclass(frozen=True)
@@ -117,10 +126,15 @@ class Frame:
 
 @dataclass
 class Outbox:
-    """What waits for a connection, as the sizes of its entries."""
+    """What waits for a connection, as the sizes of its entries; and whether the connection takes headers."""
 
     entries: list = field(default_factory=list)
     is_shut: bool = False
+    takes_headers: bool = False
+
+    def size_for(self, message, sid):
+        """How many bytes the message has for a subscription of this id."""
+        return size_of(message.text_for(sid, self.takes_headers))
 
     def has_room(self, size):
         return not self.is_shut and len(self.entries) < OUTBOX_ENTRIES and sum(self.entries) + size <= OUTBOX_BYTES

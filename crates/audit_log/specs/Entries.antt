@@ -1,5 +1,5 @@
 -- What an object in a log tells (profile): a publication, a subscription or a placement. A server is given by its place, which `Logs` says.
-use Rattle.std.specs.Prelude.{ℕ, true, List, codes, Option, Some, None}
+use Rattle.std.specs.Prelude.{ℕ, true, false, List, codes, Option, Some, None, unwrap_or}
 use Rattle.serde_json.specs.Data.{Data}
 use Rattle.serde_json.specs.Find.{get}
 use Rattle.outbox.specs.declared.entries.Mode.{Mode}
@@ -9,7 +9,7 @@ use Rattle.subj.specs.declared.keys.Key.{Key}
 use Rattle.subj.specs.Messages.{Content, content_of}
 use Rattle.subj.specs.Names.{pattern_fault, subject_fault, queue_name_fault, sid_fault}
 use Rattle.world_law.specs.State.{Life, LifeId, Placement, Publication}
-use Rattle.script_form.specs.Members.{◌>>=◌, whole}
+use Rattle.script_form.specs.Members.{◌>>=◌, truth, whole}
 use Rattle.audit_log.specs.declared.texts.Text.TheVariants as key
 use Rattle.audit_log.specs.Members.{bytes_in, incarnation_in, member, named_in, optional, optional_bytes_in, optional_named_in, server_in}
 
@@ -73,6 +73,7 @@ abbrev pub mode_of : Option (List ℕ) → Mode
 mode_of None = Plain
 mode_of (Some name) = Queue name
 
+-- of a connection that takes no headers, where that is not said
 unfoldable pub placement_in : ℕ → Data → Option Placement
 placement_in node json = do
   step ← member whole (codes "step") json
@@ -81,6 +82,7 @@ placement_in node json = do
   life ← get (codes "life") json
   life ← life_id_in node life
   conn ← member whole (codes "conn") json
+  headers ← optional truth (codes "headers") json
   queue ← optional_named_in queue_name_fault key.Queue json
   bytes ← bytes_in key.Bytes json
-  Some (record { step = step; life = life; conn = conn; id = id; mode = mode_of queue; bytes = bytes })
+  Some (record { step = step; life = life; conn = conn; id = id; mode = mode_of queue; bytes = bytes; headers = unwrap_or headers false })

@@ -11,8 +11,8 @@ ghost use Rattle.audit_log.specs.Entries.{key_in, life_id_in, life_in, message_i
 
 use crate::faults::Misfit;
 use crate::members::{
-    incarnation, number, optional_bytes, optional_number, part, pattern, queue, read_bytes, reply,
-    server, sid, subject,
+    incarnation, number, optional_bytes, optional_number, optional_truth, part, pattern, queue,
+    read_bytes, reply, server, sid, subject,
 };
 use crate::texts::Text;
 use bytes::Bytes;
@@ -142,7 +142,7 @@ fn mode_of(queue: Option<QueueName>) -> Mode
     }
 }
 
-/// A placement at a server at this place.
+/// A placement at a server at this place, for a connection that takes no headers where that is not said.
 #[tactic(auto, unfolding(crate::specs::Entries::placement_in))]
 pub(crate) fn placement(
     alloc: Global,
@@ -155,6 +155,7 @@ pub(crate) fn placement(
     let id = publication_id(part(object, "publication")?)?;
     let life = life_id(part(object, "life")?, node)?;
     let number_of_conn = number(object, "conn")?;
+    let headers = optional_truth(object, "headers")?.unwrap_or(false);
     let queue = queue(alloc, object)?;
     let bytes = read_bytes(alloc, object, Text::Bytes)?;
     Ok(Placement {
@@ -164,5 +165,6 @@ pub(crate) fn placement(
         id,
         mode: mode_of(queue),
         bytes,
+        headers,
     })
 }

@@ -6,7 +6,7 @@ ghost use Rattle.serde_json.specs.View.{view};
 ghost use Rattle.subj.specs.Answers.{IsAnswered};
 ghost use Rattle.subj.specs.Names.{pattern_fault, queue_name_fault, sid_fault, subject_fault};
 ghost use Rattle.subj.specs.declared.faults.NameFault.{NameFault as Cause};
-ghost use Rattle.script_form.specs.Members.{whole, text as text_in, MeansBy, MemberMeans, Says, SaysBy};
+ghost use Rattle.script_form.specs.Members.{whole, text as text_in, truth as is_truth, MeansBy, MemberMeans, Says, SaysBy};
 ghost use Rattle.audit_log.specs.Members.{bytes_in, hex_in, incarnation_in, member, named_in, optional, optional_bytes_in, optional_named_in, server_in};
 ghost use Rattle.audit_log.specs.Texts.{hex_name_of};
 ghost use Rattle.audit_log.specs.declared.texts.Text.TheVariants as key;
@@ -40,6 +40,19 @@ pub(crate) fn optional_number(object: &Value, name: &str) -> Result<Option<u64>,
         None => Ok(None),
         Some(value) => match value.as_u64() {
             Some(number) => Ok(Some(number)),
+            None => Err(Misfit),
+        },
+    }
+}
+
+/// A truth value, where the member is there.
+pub(crate) fn optional_truth(object: &Value, name: &str) -> Result<Option<bool>, Misfit>
+    ensures { Says (optional is_truth name.now (view object.now)) result }
+{
+    match object.get(name) {
+        None => Ok(None),
+        Some(value) => match value.as_bool() {
+            Some(truth) => Ok(Some(truth)),
             None => Err(Misfit),
         },
     }

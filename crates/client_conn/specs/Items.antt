@@ -1,7 +1,7 @@
 -- What one client's stream asks of a server, item by item, where each ask is done.
 -- NATS documentation, "Client Protocol": what each operation asks for, and that `+OK` answers a well-formed one in verbose mode.
 -- The order of the asks, and which refusal ends a connection, are this project's profile.
-use Rattle.std.specs.Prelude.{ℕ, true, List, [], ◌∷◌, ◌++◌, Option, Some, None, if◌then◌else◌}
+use Rattle.std.specs.Prelude.{ℕ, true, false, List, [], ◌∷◌, ◌++◌, Option, Some, None, if◌then◌else◌}
 use Rattle.subj.specs.Messages.{Content, Body, are_headers}
 use Rattle.subj.specs.declared.messages.Pub.{Pub}
 use Rattle.client_frames.specs.declared.client_line.Options.{Options}
@@ -13,13 +13,13 @@ use Rattle.client_frames.specs.declared.server_frames.ReplyFrame.TheVariants as 
 use Rattle.client_frames.specs.ErrTexts.{text_closes, line_fault_text, cut_fault_text}
 use Rattle.client_frames.specs.Streams.{StreamItem, asked, published, refused, unreadable, block_in, payload_in}
 use Rattle.client_conn.specs.declared.ask.ClientAction.{ClientAction}
-use Rattle.client_conn.specs.declared.ask.ClientAction.TheVariants.{Reply, Shut, Subscribe, Unsubscribe, Publish}
+use Rattle.client_conn.specs.declared.ask.ClientAction.TheVariants.{Reply, SetHeaders, Shut, Subscribe, Unsubscribe, Publish}
 
 -- ---- options
 
--- a connection begins with both on
+-- a connection begins with `verbose` and `echo` on, and `headers` off
 abbrev pub first_options : Options
-first_options = record { verbose = true; echo = true }
+first_options = record { verbose = true; echo = true; headers = false }
 
 -- CONNECT chooses all options; nothing else changes any
 abbrev pub options_by : ClientLine → Options → Options
@@ -52,9 +52,10 @@ with_confirmation options own = if options.verbose then Reply reply.Ok ∷ own e
 abbrev pub refusal_asks : ErrText → List ClientAction
 refusal_asks text = if text_closes text then Shut text ∷ [] else Reply (reply.Err text) ∷ []
 
--- CONNECT is confirmed by the options that it chooses. A publication asks for nothing before its payload is there.
+-- CONNECT is confirmed by the options that it chooses, and each sets anew whether the client takes headers. A publication asks for nothing before
+-- its payload is there.
 abbrev pub command_asks : Options → ClientLine → List ClientAction
-command_asks options (line.Connect chosen) = with_confirmation chosen []
+command_asks options (line.Connect chosen) = with_confirmation chosen (SetHeaders chosen.headers ∷ [])
 command_asks options (line.Pub head) = []
 command_asks options (line.PubBad size) = []
 command_asks options (line.Sub pattern queue sid) = with_confirmation options (Subscribe (record { pattern = pattern; queue = queue }) sid ∷ [])

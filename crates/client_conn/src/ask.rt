@@ -9,6 +9,8 @@ use thiserror::Error;
 pub enum ClientAction {
     /// To put this line for the client.
     Reply(ReplyFrame),
+    /// To note whether the client takes headers from here on. (NATS documentation, "Client Protocol", "CONNECT": `headers`.)
+    SetHeaders(bool),
     /// To put this text, and to close the connection behind it.
     Shut(ErrText),
     /// To open a subscription, alone or as a member of a queue group.

@@ -86,6 +86,7 @@ impl OpenAsks {
             options: Options {
                 verbose: true,
                 echo: true,
+                headers: false,
             },
             confirmation: None,
             own: Some(ask),
@@ -100,7 +101,7 @@ impl OpenAsks {
             ClientLine::Connect(chosen) => {
                 self.options = chosen;
                 confirm(&mut self.confirmation, self.options);
-                self.own = None;
+                self.own = Some(ClientAction::SetHeaders(chosen.headers));
             }
             ClientLine::Sub {
                 pattern,

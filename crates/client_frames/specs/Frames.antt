@@ -7,7 +7,7 @@ use Rattle.client_frames.specs.declared.server_frames.ServerFrame.{ServerFrame}
 use Rattle.client_frames.specs.declared.server_frames.ServerFrame.TheVariants.{Reply, Msg}
 use Rattle.client_frames.specs.Info.{info_json}
 use Rattle.client_frames.specs.ErrTexts.{err_line}
-use Rattle.client_frames.specs.Messages.{no_headers, due_bytes}
+use Rattle.client_frames.specs.Messages.{due_bytes}
 
 -- NATS documentation, "Client Protocol": the lines that answer a client
 abbrev pub reply_line : ReplyFrame → List ℕ
@@ -18,4 +18,4 @@ reply_line (Err text) = err_line text
 
 abbrev pub frame_bytes : ServerFrame → List ℕ
 frame_bytes (Reply reply) = reply_line reply ++ line_end
-frame_bytes (Msg delivery) = due_bytes delivery.message delivery.sid no_headers
+frame_bytes (Msg delivery) = due_bytes delivery.message delivery.sid delivery.takes_headers

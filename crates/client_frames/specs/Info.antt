@@ -1,5 +1,5 @@
 -- What a server tells a client first.
-use Rattle.std.specs.Prelude.{ℕ, false, List, ◌++◌, codes, decimal}
+use Rattle.std.specs.Prelude.{ℕ, true, List, ◌++◌, codes, decimal}
 use Rattle.serde_json.specs.Data.{Data, number, unsigned, string, boolean, object, member, no_members}
 use Rattle.serde_json.specs.Written.{compact_text}
 use Rattle.subj.specs.declared.limits.TheConstants.{MAX_PAYLOAD}
@@ -17,7 +17,7 @@ number_data n = number (unsigned n)
 abbrev pub info_data : InfoData → Data
 info_data info = object (
     member (codes "client_id") (number_data info.client_id) (
-    member (codes "headers") (boolean false) (
+    member (codes "headers") (boolean true) (
     member (codes "host") (string info.server.host) (
     member (codes "max_payload") (number_data MAX_PAYLOAD) (
     member (codes "port") (number_data info.server.port) (

@@ -1,40 +1,73 @@
 -- Message bytes: what a subscriber is due of a publication.
-use Rattle.std.specs.Prelude.{ℕ, List, [], ◌++◌, length, codes, decimal, Option, Some, None}
+use Rattle.std.specs.Prelude.{ℕ, Bool, true, false, List, [], ◌++◌, length, codes, decimal, Option, Some, None, if◌then◌else◌}
 use Rattle.line_fields.specs.LineEnd.{line_end}
-use Rattle.subj.specs.Messages.{Content}
+use Rattle.subj.specs.Messages.{Content, body_bytes}
 
--- What a connection has said of headers: none can, so far, and each is due the form without them.
-pub data HeaderOption : Type 0 where
-  no_headers : HeaderOption
+-- NATS documentation, "Client Protocol", "CONNECT", `headers`: a header block is due to a connection whose option is on
+abbrev pub headers_due : Content → Bool → Option (List ℕ)
+headers_due content option = if option then content.headers else None
 
--- ---- NATS documentation, "Client Protocol": `MSG <subject> <sid> [reply-to] <#bytes>`
+-- what stands behind the line
+abbrev pub due_body : Content → Bool → List ℕ
+due_body content option = body_bytes (headers_due content option) content.payload
 
--- before the sid, with the blank between; the same for all subscribers
-abbrev pub before_sid : Content → List ℕ
-before_sid content = codes "MSG " ++ (content.subject ++ codes " ")
+-- ---- NATS documentation, "Client Protocol": `MSG <subject> <sid> [reply-to] <#bytes>`, and with a header block
+-- `HMSG <subject> <sid> [reply-to] <#header bytes> <#total bytes>`
+
+abbrev pub operation : Option (List ℕ) → List ℕ
+operation None = codes "MSG "
+operation (Some block) = codes "HMSG "
+
+-- before the sid, with the blank between; the same for all subscribers of one option
+abbrev pub before_sid : Content → Option (List ℕ) → List ℕ
+before_sid content headers = operation headers ++ (content.subject ++ codes " ")
 
 abbrev pub reply_field : Option (List ℕ) → List ℕ
 reply_field None = []
 reply_field (Some reply) = reply ++ codes " "
 
--- behind the sid, with the blank between; the same for all subscribers
-abbrev pub behind_sid : Content → List ℕ
-behind_sid content = codes " " ++ (reply_field content.reply ++ decimal (length content.payload))
+abbrev pub block_field : Option (List ℕ) → List ℕ
+block_field None = []
+block_field (Some block) = decimal (length block) ++ codes " "
+
+-- behind the sid, with the blank between; the same for all subscribers of one option
+abbrev pub behind_sid : Content → Option (List ℕ) → List ℕ
+behind_sid content headers = codes " " ++ (reply_field content.reply ++ (block_field headers ++ decimal (length (body_bytes headers content.payload))))
 
 pub record LineParts : Type 0 where
   pub before : List ℕ
   pub behind : List ℕ
 
-abbrev pub line_parts : Content → LineParts
-line_parts content = record { before = before_sid content; behind = behind_sid content }
+abbrev pub parts_with : Content → Option (List ℕ) → LineParts
+parts_with content headers = record { before = before_sid content headers; behind = behind_sid content headers }
+
+abbrev pub line_parts : Content → Bool → LineParts
+line_parts content option = parts_with content (headers_due content option)
 
 abbrev pub line_around : LineParts → List ℕ → List ℕ
 line_around parts sid = parts.before ++ (sid ++ parts.behind)
 
--- the line in front of the payload
-abbrev pub due_line : Content → List ℕ → HeaderOption → List ℕ
-due_line content sid option = line_around (line_parts content) sid
+-- the line in front of what is due
+abbrev pub due_line : Content → List ℕ → Bool → List ℕ
+due_line content sid option = line_around (line_parts content option) sid
 
 -- the whole message
-abbrev pub due_bytes : Content → List ℕ → HeaderOption → List ℕ
-due_bytes content sid option = due_line content sid option ++ (line_end ++ (content.payload ++ line_end))
+abbrev pub due_bytes : Content → List ℕ → Bool → List ℕ
+due_bytes content sid option = due_line content sid option ++ (line_end ++ (due_body content option ++ line_end))
+
+-- ---- both forms
+
+pub record LineForms : Type 0 where
+  pub plain : LineParts
+  pub headed : LineParts
+
+abbrev pub line_forms : Content → LineForms
+line_forms content = record { plain = line_parts content false; headed = line_parts content true }
+
+-- the second form of a message without a header block is the first
+abbrev pub headed_or : LineParts → Option LineParts → LineParts
+headed_or plain None = plain
+headed_or plain (Some headed) = headed
+
+abbrev pub form_for : LineForms → Bool → LineParts
+form_for forms option = if option then forms.headed else forms.plain

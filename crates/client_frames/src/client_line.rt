@@ -8,10 +8,12 @@ use subj::{Pattern, QueueName, Reply, Sid, Subject};
 /// What a client has chosen for its connection. (NATS documentation, "Client Protocol": `CONNECT`.)
 #[derive(Clone, Copy)]
 pub struct Options {
-    /// Whether each well-formed command is answered by `+OK`.
+    /// Whether each well-formed command is answered by `+OK`: yes where nothing is said of it.
     pub verbose: bool,
-    /// Whether the client's own publications are delivered to its own subscriptions.
+    /// Whether the client's own publications are delivered to its own subscriptions: yes where nothing is said of it.
     pub echo: bool,
+    /// Whether header blocks are delivered to the client: no where nothing is said of it.
+    pub headers: bool,
 }
 
 /// The line of a publication, whose header block and payload follow.

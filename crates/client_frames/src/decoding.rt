@@ -7,7 +7,7 @@ ghost use Rattle.line_fields.specs.Fields.{fields};
 ghost use Rattle.client_frames.specs.Arguments.{two_or_three, three_or_four, count_of};
 ghost use Rattle.serde_json.specs.Find.{get};
 ghost use Rattle.serde_json.specs.View.{view};
-ghost use Rattle.client_frames.specs.Choices.{json_of, options_in, options_of, truth_of};
+ghost use Rattle.client_frames.specs.Choices.{json_of, options_in, options_of, truth_or};
 ghost use Rattle.subj.specs.Names.{subject_fault, sid_fault};
 ghost use Rattle.client_frames.specs.Lines.{ClientLineMeans, line_meaning, operation_meaning, connection_of, publication, publication_of, sizes_of, headed_publication_of, subscription_of, unsubscription_of, maximum_of, reply_fault, queue_fault};
 
@@ -149,12 +149,12 @@ fn read_json(alloc: Global, text: &[u8]) -> Result<Option<Value>, AllocError>
     }
 }
 
-/// Whether an option is on: it is where it is absent. None where it is no truth value.
-fn is_on(json: &Value, name: &str) -> Option<bool>
-    ensures { result ≡ truth_of (get name.now (view json.now)) }
+/// Whether an option is on; one that is absent is as `absent` says. None where it is no truth value.
+fn is_on(json: &Value, name: &str, absent: bool) -> Option<bool>
+    ensures { result ≡ truth_or absent (get name.now (view json.now)) }
 {
     match json.get(name) {
-        None => Some(true),
+        None => Some(absent),
         Some(value) => value.as_bool(),
     }
 }
@@ -166,9 +166,14 @@ fn options_within(json: &Value) -> Option<Options>
     if !json.is_object() {
         return None;
     }
-    let verbose = is_on(json, "verbose")?;
-    let echo = is_on(json, "echo")?;
-    Some(Options { verbose, echo })
+    let verbose = is_on(json, "verbose", true)?;
+    let echo = is_on(json, "echo", true)?;
+    let headers = is_on(json, "headers", false)?;
+    Some(Options {
+        verbose,
+        echo,
+        headers,
+    })
 }
 
 /// The options that the text of a `CONNECT` chooses. None where it is no JSON object, or where one of
@@ -275,8 +280,9 @@ const COUNT_DIGITS: usize = 10;
 /// Refused just where the line means no command, and by what it means. `UnknownOp`: it is empty, begins
 /// with a blank or names no operation. `BadArgs`: too few or too many fields, a size or a maximum that
 /// is not one to ten digits, a header block larger than all that follows, a bad subscription id or the
-/// bad name of a queue group, and a `CONNECT` without text. `BadJson`: the text of a `CONNECT` is no JSON object, or its `verbose` or `echo` is no
-/// truth value. `BadSubject`: nothing but the pattern of a `SUB` is bad. (Profile.)
+/// bad name of a queue group, and a `CONNECT` without text. `BadJson`: the text of a `CONNECT` is no JSON
+/// object, or its `verbose`, `echo` or `headers` is no truth value. `BadSubject`: nothing but the pattern of
+/// a `SUB` is bad. (Profile.)
 ///
 /// Want of memory comes only for a command that keeps names, and for the JSON of a `CONNECT`, good or
 /// bad. All other tests come before the first allocation. The subjects of publications share the memory of the texts.

@@ -44,7 +44,7 @@ fn info_value(alloc: Global, info: &InfoData) -> Result<Value, AllocError>
     let name = server.name();
     json!(in alloc; {
         "client_id": info.client_id.get(),
-        "headers": false,
+        "headers": true,
         "host": server.host(),
         "max_payload": MAX_PAYLOAD,
         "port": server.port(),

@@ -24,7 +24,9 @@ mod server_info;
 
 pub use client_line::{Awaited, ClientLine, Options, PubHead};
 pub use decoding::{SharedTexts, decode_line};
-pub use encoding::{MAX_MESSAGE_LINE, MessageLines, encode, message_len, message_line, reply_line};
+pub use encoding::{
+    MAX_MESSAGE_LINE, MessageLines, encode, message_body, message_len, message_line, reply_line,
+};
 pub use err_texts::ErrText;
 pub use faults::LineFault;
 pub use info::{InfoData, info_text};

@@ -41,11 +41,14 @@ pub struct Delivery {
     pub message: Message,
     /// What the subscriber calls its subscription.
     pub sid: Sid,
+    /// Whether a header block goes with it, where there is one.
+    pub takes_headers: bool,
 }
 
 /// What a server sends to a client.
 #[derive(Drop)]
 pub enum ServerFrame {
     Reply(ReplyFrame),
+    /// A message, by `MSG` or `HMSG`.
     Msg(Delivery),
 }

@@ -7,7 +7,7 @@ use Rattle.subj.specs.declared.identities.SubId.{SubId}
 use Rattle.node_law.specs.Answers as answer
 use Rattle.node_law.specs.Answers.{Answer}
 use Rattle.node_law.specs.declared.events.ConnEvent.{ConnEvent}
-use Rattle.node_law.specs.declared.events.ConnEvent.TheVariants.{Subscribe, Unsubscribe, Reply, Shut, Detach, Take}
+use Rattle.node_law.specs.declared.events.ConnEvent.TheVariants.{Subscribe, Unsubscribe, Reply, SetHeaders, Shut, Detach, Take}
 use Rattle.node_law.specs.Events.{OwnEvent, OfConn, AtShard, Publish, Collect, Drain, Dial, Accept, CutSession, TakeFrames, NodeEvent, Own, Receive, OnInfo, OnConnect}
 use Rattle.cluster_world.specs.declared.lists.Noted.{Noted}
 use Rattle.cluster_world.specs.declared.lists.Opening.{Opening}
@@ -39,6 +39,7 @@ abbrev pub opening_of : ℕ → ConnEvent → Option Opening
 opening_of conn (Subscribe key sid) = Some (record { conn = conn; key = key; sid = sid })
 opening_of conn (Unsubscribe sid max) = None
 opening_of conn (Reply frame) = None
+opening_of conn (SetHeaders on) = None
 opening_of conn (Shut text) = None
 opening_of conn Detach = None
 opening_of conn (Take count) = None

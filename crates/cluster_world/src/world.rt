@@ -147,9 +147,10 @@ impl<T: SubTable, R: Race> World<T, R> {
     ///
     /// - Each publication is placed at most once for a plain subscription, and for a queue name for at most one
     ///   member in the whole cluster: over all servers, incarnations, connections and steps. What is placed is
-    ///   the exact `MSG` of a publication of an earlier step, for a subscription of that connection, id and
-    ///   queue name that matches and was open at that step; and of one subscription the publications of one
-    ///   incarnation come in rising number.
+    ///   the exact `MSG` or `HMSG` of a publication of an earlier step (`HMSG` just where that has headers and the
+    ///   connection took them at that step), for a subscription of that connection, id and queue name that
+    ///   matches and was open at that step; and of one subscription the publications of one incarnation come in
+    ///   rising number.
     /// - No two publications have one name, nor two subscriptions.
     /// - What that rests on holds of the run that ends here.
     /// - Each frame that a take from a peer gives was sent.

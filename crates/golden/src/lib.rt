@@ -39,7 +39,7 @@ pub use texts::{
     tell_whether, text, told, yes_or_no,
 };
 pub use values::{
-    Life, headed_message_of, key_in, key_of, life_in, life_of, message_of, pattern_of, payload_of,
-    push_key, queue_of, queues_of, server_of, sid_of, subject_of,
+    Life, headed_message_of, key_in, key_of, life_in, life_of, message_of, message_with,
+    pattern_of, payload_of, push_key, queue_of, queues_of, server_of, sid_of, subject_of,
 };
 pub use words::{Words, number};

@@ -106,6 +106,20 @@ pub fn headed_message_of(
     Message::new(alloc, subject, reply, Some(block), payload).ok()
 }
 
+/// The message with a header block, or with none where that word is empty.
+pub fn message_with(
+    alloc: Global,
+    subject: &str,
+    reply: &str,
+    block: &str,
+    payload: &str,
+) -> Option<Message> {
+    match block {
+        "" => message_of(alloc, subject, reply, payload),
+        block => headed_message_of(alloc, subject, reply, block, payload)?,
+    }
+}
+
 /// A server in one of its lives.
 #[derive(Clone, Copy)]
 pub struct Life {

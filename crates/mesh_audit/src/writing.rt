@@ -73,6 +73,14 @@ impl<'a> Lines<'a> {
         write!(self.text, ",\"{name}\":{number}")
     }
 
+    /// Puts a member behind others where it is true; one that is absent is false.
+    fn put_truth(&mut self, name: &str, truth: bool) -> Result<(), AllocError> {
+        if !truth {
+            return Ok(());
+        }
+        write!(self.text, ",\"{name}\":true")
+    }
+
     /// Puts a member behind others: bytes, as hex digits.
     fn put_hex(&mut self, text: Text, bytes: &[u8]) -> Result<(), AllocError> {
         let digits = hex::encode(self.alloc, bytes)?;
@@ -159,6 +167,7 @@ impl<'a> Lines<'a> {
         if let Mode::Queue(name) = &placement.mode {
             self.put_bytes(Text::Queue, name.bytes())?;
         }
+        self.put_truth("headers", placement.headers)?;
         self.put_bytes(Text::Bytes, &placement.bytes)?;
         self.put("}}\n")
     }

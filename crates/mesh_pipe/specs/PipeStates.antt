@@ -58,6 +58,7 @@ HasServed Closed said old new = (said.closed ≡ true) × (new.output.items ≡ 
 -- how much an ask leads to, where of a refusal the client is told
 abbrev pub asks_of : ClientAction → ℕ
 asks_of (ask.Reply frame) = 1
+asks_of (ask.SetHeaders on) = 1
 asks_of (ask.Shut text) = 1
 asks_of (ask.Subscribe key sid) = 2
 asks_of (ask.Unsubscribe sid max) = 1

@@ -18,9 +18,9 @@ use Rattle.sub_table.specs.declared.Subscription.{Subscription}
 use Rattle.interest.specs.Matches.{names_in}
 use Rattle.shard_core.specs.declared.faults.ShardFault.{ShardFault}
 use Rattle.shard_core.specs.declared.faults.ShardFault.TheVariants.{TooManySubs, Spent}
-use Rattle.shard_core.specs.ShardEvents.{Event, Subscribe, Unsubscribe, Reply, Shut, Begin, Claim, End}
-use Rattle.shard_core.specs.Shards.{State, new_shard, is_open, waits_for}
-use Rattle.shard_core.specs.ShardSteps.{after_attach, shard_refusal, shard_after}
+use Rattle.shard_core.specs.ShardEvents.{Event, Subscribe, Unsubscribe, Reply, SetHeaders, Shut, Begin, Claim, End}
+use Rattle.shard_core.specs.Shards.{State, new_shard, is_open, takes_headers, with_headers, waits_for}
+use Rattle.shard_core.specs.ShardSteps.{new_client, after_attach, shard_refusal, shard_after}
 
 -- ---- the server of a pipe (profile)
 
@@ -28,18 +28,20 @@ use Rattle.shard_core.specs.ShardSteps.{after_attach, shard_refusal, shard_after
 unfoldable pub pipe_info : InfoData
 pipe_info = record { server = record { name = codes "n1"; inc = 1; host = codes "127.0.0.1"; port = 0 }; client_id = 1 }
 
--- what an answer depends on: the open subscriptions in order of opening, how many were opened, and how many jobs were made
+-- what an answer depends on: the open subscriptions in order of opening, how many were opened, how many jobs were made, and whether
+-- the client takes headers
 pub record Served : Type 0 where
   pub subs : List Subscription
   pub opened : ℕ
   pub jobs : ℕ
+  pub headers : Bool
 
 abbrev pub at_first : Served
-at_first = record { subs = []; opened = 0; jobs = 0 }
+at_first = record { subs = []; opened = 0; jobs = 0; headers = false }
 
 -- its one shard, with its one connection, for which nothing waits
 abbrev pub at_rest : Served → State
-at_rest s = record (after_attach (new_shard 1 1)) { opened = s.opened; finished = s.jobs; subs = s.subs }
+at_rest s = record (after_attach (new_shard 1 1)) { opened = s.opened; finished = s.jobs; clients = with_headers s.headers (new_client 1) ∷ []; subs = s.subs }
 
 -- ---- what is written
 
@@ -61,7 +63,7 @@ abbrev pub and_then : Output → (Served → Output) → Output
 and_then first rest = if first.closed then first else text_before first.text (rest first.served)
 
 abbrev pub served_by : State → Served
-served_by t = record { subs = t.subs; opened = t.opened; jobs = t.finished }
+served_by t = record { subs = t.subs; opened = t.opened; jobs = t.finished; headers = takes_headers 1 t.clients }
 
 -- all that the shard has put for the connection, and whether it was shut
 abbrev pub output_of : State → Output
@@ -125,6 +127,7 @@ output_of_publish p s =
 
 abbrev pub ask_said : ClientAction → Served → Output
 ask_said (ask.Reply frame) s = after_event (Reply 1 frame) s
+ask_said (ask.SetHeaders on) s = after_event (SetHeaders 1 on) s
 ask_said (ask.Shut text) s = after_event (Shut 1 text) s
 ask_said (ask.Subscribe key sid) s = output_of_subscribe key sid s
 ask_said (ask.Unsubscribe sid max) s = after_event (Unsubscribe 1 sid max) s

@@ -6,7 +6,7 @@ ghost use Rattle.client_frames.specs.declared.server_frames.ServerFrame.TheVaria
 ghost use Rattle.std.specs.Prelude.{◌≡◌, ◌≤◌, ◌++◌, [], true, not, length, codes, None, IfOk, OnOk, is_some};
 ghost use Rattle.client_frames.specs.Frames.{frame_bytes, reply_line};
 ghost use Rattle.subj.specs.declared.limits.TheConstants.{MAX_QUEUE_NAMES};
-ghost use Rattle.shard_core.specs.ShardEvents.{Subscribe, Unsubscribe, Reply, Shut, Take, Claim, End, Collect};
+ghost use Rattle.shard_core.specs.ShardEvents.{Subscribe, Unsubscribe, Reply, SetHeaders, Shut, Take, Claim, End, Collect};
 ghost use Rattle.shard_core.specs.ShardSteps.{answer_fits, shard_refusal};
 ghost use Rattle.shard_core.specs.Shards.{is_known, is_open};
 ghost use Rattle.mesh_pipe.specs.PipeText.{pipe_info, at_first, at_rest, after_event, output_of_subscribe, output_of_publish, ask_said};
@@ -165,6 +165,20 @@ fn reply<R: Race>(
         // required: the connection is open
         Err(Failure::Refused(_)) => unreachable!(),
         Err(Failure::OutOfMemory) => Err(AllocError),
+    }
+}
+
+/// Notes whether the client takes headers.
+fn set_headers<R: Race>(node: &mut PipeNode<R>, conn: ConnId, on: bool)
+    requires serving { IsServing node.old }
+    requires conn { conn ≡ 1 }
+    requires open { is_open 1 (shard_in node.old).clients ≡ true }
+    ensures { Steps node.old (SetHeaders 1 on) node.new }
+{
+    match node.set_headers(conn, on) {
+        Ok(()) => {}
+        // required: the connection is open
+        Err(_) => unreachable!(),
     }
 }
 
@@ -432,6 +446,10 @@ impl<R: Race> PipeServer<R> {
     {
         match ask {
             ClientAction::Reply(frame) => Ok(outcome_of(self.reply(frame)?)),
+            ClientAction::SetHeaders(on) => {
+                self.set_headers(*on);
+                Ok(Outcome::Answered(Ok(())))
+            }
             ClientAction::Shut(text) => {
                 self.shut(*text)?;
                 Ok(Outcome::Closed)
@@ -474,6 +492,13 @@ impl<R: Race> PipeServer<R> {
         let shut = reply(&mut self.node, self.conn, frame)?;
         take(&mut self.node, self.conn, &mut self.output)?;
         Ok(shut)
+    }
+
+    fn set_headers(&mut self, on: bool)
+        requires { IsReady self.old }
+        ensures { HasServed (Outcome.Answered (Ok tt)) (after_event (SetHeaders 1 on) (served_state self.old)) self.old self.new }
+    {
+        set_headers(&mut self.node, self.conn, on);
     }
 
     fn shut(&mut self, text: ErrText) -> Result<(), AllocError>

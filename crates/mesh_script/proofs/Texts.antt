@@ -40,12 +40,12 @@ counted_behind (x ∷ first) more = let e = counted_behind first more in omega a
 
 -- ---- lists that are gone over
 
-pub put_dropped : (server : ServerIdentity) (now : ℕ) (xs items : List Placed) (i : ℕ) (x : Placed) → xs ≡ items → i < length xs → x ≡ get_or xs i x → placements_put server now (drop i items) ≡ placement_of server now x.conn x.entry.bytes x.entry.tag ++ placements_put server now (drop (i + 1) items)
+pub put_dropped : (server : ServerIdentity) (now : ℕ) (xs items : List Placed) (i : ℕ) (x : Placed) → xs ≡ items → i < length xs → x ≡ get_or xs i x → placements_put server now (drop i items) ≡ placement_of server now x.conn x.headers x.entry.bytes x.entry.tag ++ placements_put server now (drop (i + 1) items)
 put_dropped server now xs items i x same lt is =
     ap (λ l. placements_put server now (drop i l)) (sym same)
     ∙ at_drop_more (placements_put server now) xs i x lt
-    ∙ ap (λ (y : Placed). placement_of server now y.conn y.entry.bytes y.entry.tag ++ placements_put server now (drop (i + 1) xs)) (sym is)
-    ∙ ap (λ l. placement_of server now x.conn x.entry.bytes x.entry.tag ++ placements_put server now (drop (i + 1) l)) same
+    ∙ ap (λ (y : Placed). placement_of server now y.conn y.headers y.entry.bytes y.entry.tag ++ placements_put server now (drop (i + 1) xs)) (sym is)
+    ∙ ap (λ l. placement_of server now x.conn x.headers x.entry.bytes x.entry.tag ++ placements_put server now (drop (i + 1) l)) same
 
 pub flat_dropped : {A B : Type 0} (f : A → List B) (xs : List A) (i : ℕ) (x : A) → i < length xs → x ≡ get_or xs i x → flat_map f (drop i xs) ≡ f x ++ flat_map f (drop (i + 1) xs)
 flat_dropped f xs i x lt is = at_drop_more (flat_map f) xs i x lt ∙ ap (λ y. f y ++ flat_map f (drop (i + 1) xs)) (sym is)

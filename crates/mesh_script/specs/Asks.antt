@@ -4,7 +4,7 @@ use Rattle.hub_core.specs.Publishing.{Publication}
 use Rattle.subj.specs.Servers.{place_in}
 use Rattle.node_law.specs.Answers.{Answer, OnSession}
 use Rattle.node_law.specs.Events.{OfConn, AtShard, Publish, Collect, Drain, Dial, Accept, CutSession, TakeFrames}
-use Rattle.node_law.specs.declared.events.ConnEvent.TheVariants.{Subscribe, Unsubscribe, Detach, Take}
+use Rattle.node_law.specs.declared.events.ConnEvent.TheVariants.{Subscribe, Unsubscribe, SetHeaders, Detach, Take}
 use Rattle.node_law.specs.declared.events.ShardWork.TheVariants as work
 use Rattle.world_law.specs.Events.{Event, Start, Stop, Receive, OnInfo, OnConnect, At}
 use Rattle.world_law.specs.Outcomes.{Outcome, Refused, Done}
@@ -109,6 +109,7 @@ act_wants names n act.Stop = Once (Stop n)
 act_wants names n (act.Attach shard) = Once (At n (AtShard shard work.Attach))
 act_wants names n (act.Sub conn key sid) = Once (At n (OfConn conn (Subscribe key sid)))
 act_wants names n (act.Unsub conn sid max) = Once (At n (OfConn conn (Unsubscribe sid max)))
+act_wants names n (act.SetHeaders conn on) = Once (At n (OfConn conn (SetHeaders on)))
 act_wants names n (act.Detach conn) = Once (At n (OfConn conn Detach))
 act_wants names n (act.Publish conn publication word) = Once (At n (Publish (record { conn = conn; publication = publication; word = word })))
 act_wants names n (act.Settled subject) = Tells subject

@@ -1,5 +1,5 @@
 -- What the calls put that write placements.
-use Rattle.std.specs.Prelude.{◌≡◌, ℕ, List, [], ◌++◌, length, map}
+use Rattle.std.specs.Prelude.{◌≡◌, ℕ, false, List, [], ◌++◌, length, map}
 use Rattle.cluster_world.specs.InCode.{life_id_of}
 use Rattle.world_law.specs.State.{Cluster, Life, Placement}
 use Rattle.world_law.specs.Written.{placement_line}
@@ -10,9 +10,9 @@ use Rattle.mesh_script.specs.Lines.{lines_text}
 abbrev pub cluster_named : List (List ℕ) → Cluster
 cluster_named names = record { names = names; shards = 0 }
 
--- a placement has bytes, which its line has not
+-- a placement has bytes, and whether its connection took headers, which its line has not
 abbrev pub placement_in : Message → Placement
-placement_in message = record { step = message.step; life = life_id_of message.life; conn = message.conn; id = message.id; mode = message.mode.now; bytes = [] }
+placement_in message = record { step = message.step; life = life_id_of message.life; conn = message.conn; id = message.id; mode = message.mode.now; bytes = []; headers = false }
 
 abbrev pub placements_text : Cluster → List Life → List Placement → List ℕ
 placements_text c lives placements = lines_text (map (placement_line c lives) placements)

@@ -369,7 +369,7 @@ fn put_entry(
     placements: &Placements,
     placed: &Placed,
 ) -> Result<u64, AllocError>
-    ensures { IfOk result (λ count. HasPut count output.old (placements_text (cluster_named known.entry.names.now) (map life_of known.entry.lives.now)) (placement_of (placing_server placements.now.node placements.now.inc) placements.now.step placed.now.conn placed.now.entry.bytes placed.now.entry.tag) output.new) }
+    ensures { IfOk result (λ count. HasPut count output.old (placements_text (cluster_named known.entry.names.now) (map life_of known.entry.lives.now)) (placement_of (placing_server placements.now.node placements.now.inc) placements.now.step placed.now.conn placed.now.headers placed.now.entry.bytes placed.now.entry.tag) output.new) }
 {
     match placed.entry.tag() {
         Tag::Reply => Ok(0),

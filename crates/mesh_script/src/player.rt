@@ -112,6 +112,12 @@ fn unsubscribe(
     Ok(of_conn(node, conn, ConnEvent::Unsubscribe { sid, max }))
 }
 
+fn set_headers(node: usize, conn: ConnId, on: bool) -> ScriptEvents
+    ensures { wants_of result ≡ Once (of_world.At node (of_node.OfConn conn (for_conn.SetHeaders on))) }
+{
+    of_conn(node, conn, ConnEvent::SetHeaders { on })
+}
+
 /// A copy that shares the message.
 fn copy_of(publication: &Pub) -> Result<Pub, AllocError>
     ensures { IfOk result (λ copy. copy ≡ publication.now) }
@@ -233,6 +239,7 @@ fn asked_by(
         Act::Attach { shard } => Ok(at_shard(node, *shard, ShardWork::Attach)),
         Act::Sub { conn, key, sid } => subscribe(alloc, node, *conn, key, sid),
         Act::Unsub { conn, sid, max } => unsubscribe(alloc, node, *conn, sid, *max),
+        Act::SetHeaders { conn, on } => Ok(set_headers(node, *conn, *on)),
         Act::Detach { conn } => Ok(of_conn(node, *conn, ConnEvent::Detach)),
         Act::Publish {
             conn,

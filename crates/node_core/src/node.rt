@@ -4,9 +4,9 @@ ghost use Rattle.std.specs.Prelude.{◌≡◌, ◌≤◌, Some, false, option_to
 ghost use Rattle.subj.specs.Answers.{IsAnswered, IsDecided};
 ghost use Rattle.subj.specs.declared.limits.TheConstants.{MAX_SHARDS};
 ghost use Rattle.shard_core.specs.Answers.{answer_of};
-ghost use Rattle.shard_core.specs.ShardEvents.{Attached, Unsubscribed, Replied, WasShut, Detached, Taken, Finished, Drains};
+ghost use Rattle.shard_core.specs.ShardEvents.{Attached, Unsubscribed, Replied, HeadersSet, WasShut, Detached, Taken, Finished, Drains};
 ghost use Rattle.node_law.specs.Events.{Own, OfConn, AtShard, Dial, Accept, CutSession, TakeFrames, OnInfo, OnConnect, Publish, Collect, Drain, Receive};
-ghost use Rattle.node_law.specs.declared.events.ConnEvent.TheVariants.{Subscribe, Unsubscribe, Reply, Shut, Detach, Take};
+ghost use Rattle.node_law.specs.declared.events.ConnEvent.TheVariants.{Subscribe, Unsubscribe, Reply, SetHeaders, Shut, Detach, Take};
 ghost use Rattle.node_law.specs.declared.events.ShardWork.TheVariants.{Attach, Begin, Claim, End, DropJob, DrainShard};
 ghost use Rattle.node_core.specs.Served.{new_server, of_session_answer, of_session_decision, of_hub_answer, refusal, ConnStep, WorkStep, BeginStep, DialStep, AcceptStep, CutStep, FramesStep, DropStep, ClaimStep, InfoStep, ConnectStep, PublishStep, ReceiveStep, CollectStep, DrainStep};
 ghost use Rattle.node_law.specs.State.{lines_from};
@@ -174,6 +174,17 @@ impl<T: SubTable, R: Race> Node<T, R> {
         };
         let line = &mut self.lines[place];
         line.reply(conn, frame)
+    }
+
+    /// Sets whether a connection takes headers from now on: [`ShardWithJobs::set_headers`]. Takes no memory.
+    pub fn set_headers(&mut self, conn: ConnId, on: bool) -> Result<(), NodeFault>
+        ensures { IsDecided (refusal self.old (Own (OfConn conn (SetHeaders on)))) (λ _. ConnStep self.old conn (SetHeaders on) HeadersSet self.new) (self.new ≡ self.old) result }
+    {
+        let Some(place) = place_of_conn(self.lines.len(), conn) else {
+            return Err(NodeFault::Shard(ShardFault::NoConn));
+        };
+        let line = &mut self.lines[place];
+        line.set_headers(conn, on)
     }
 
     /// Shuts a connection with this text: [`ShardWithJobs::shut`].

@@ -50,6 +50,7 @@ told_of_shard (of_shard.Opened sub) = Opened sub
 told_of_shard of_shard.AlreadyOpen = AlreadyOpen
 told_of_shard (of_shard.Unsubscribed ended) = Nothing
 told_of_shard (of_shard.Replied shut ended) = Nothing
+told_of_shard of_shard.HeadersSet = Nothing
 told_of_shard (of_shard.WasShut ended) = Nothing
 told_of_shard (of_shard.Detached ended) = Nothing
 told_of_shard (of_shard.Taken entries) = TakenEntries entries

@@ -31,9 +31,9 @@ use Rattle.hub_core.specs.Publishing.{Publication, own_job, next_id}
 use Rattle.hub_core.specs.Receiving.{routed_job}
 use Rattle.hub_core.specs.Telling.{changes_of, clearing}
 use Rattle.shard_core.specs.AsLaw.{shard_of, job_of, given_by, job_by, lives_by, placements_for, is_open_serial, AreThese}
-use Rattle.shard_core.specs.Owed.{due_entry}
+use Rattle.shard_core.specs.Owed.{owed_entry}
 use Rattle.shard_core.specs.ShardEvents as of_shard
-use Rattle.shard_core.specs.Shards.{waits_for}
+use Rattle.shard_core.specs.Shards.{Client, waits_for}
 use Rattle.node_law.specs.Race.{race_of}
 use Rattle.node_law.specs.State.{ShardWithJobs, Node, new_node}
 use Rattle.node_law.specs.Events.{ConnEvent, OwnEvent, OfConn, AtShard, Publish, Collect, Drain, Dial, Accept, CutSession, TakeFrames, NodeEvent, Own, Receive, OnInfo, OnConnect}
@@ -102,16 +102,16 @@ abbrev pub placements_at : ServerIdentity → ℕ → Option Part → List Subsc
 placements_at server now None subs = []
 placements_at server now (Some part) subs = placements_for (id_of server) server.me server.inc now part.place (job_by part.line.shard part.event) subs
 
-abbrev pub entries_for_job : ℕ → Option Job → List Subscription → List Written
-entries_for_job shard None subs = []
-entries_for_job shard (Some job) subs = map (λ sub. due_entry shard job sub.key.queue sub) subs
+abbrev pub entries_for_job : ℕ → List Client → Option Job → List Subscription → List Written
+entries_for_job shard clients None subs = []
+entries_for_job shard clients (Some job) subs = map (λ sub. owed_entry shard clients job sub.key.queue sub) subs
 
--- the messages given to a connection of the shard at this place, in order
+-- the messages given to a connection of the shard at this place, in order, in the form that it takes
 abbrev pub messages_at : Option Part → ℕ → ℕ → List Written
 messages_at None place conn = []
 messages_at (Some part) place conn =
     if nat_eq part.place place
-    then entries_for_job part.line.shard.shard (job_by part.line.shard part.event) (filter (is_of conn) (given_by part.line.shard part.event))
+    then entries_for_job part.line.shard.shard part.line.shard.clients (job_by part.line.shard part.event) (filter (is_of conn) (given_by part.line.shard part.event))
     else []
 
 -- ---- what a step adds to the histories

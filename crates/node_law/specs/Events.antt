@@ -5,7 +5,7 @@ use Rattle.route_values.specs.Frames.{Frame}
 use Rattle.route_values.specs.Records.{Info, Connect}
 -- of a connection; and of a shard: its connections are attached, and the first job that waits is begun
 pub use Rattle.node_law.specs.declared.events.ConnEvent.{ConnEvent}
-pub use Rattle.node_law.specs.declared.events.ConnEvent.TheVariants.{Subscribe, Unsubscribe, Reply, Shut, Detach, Take}
+pub use Rattle.node_law.specs.declared.events.ConnEvent.TheVariants.{Subscribe, Unsubscribe, Reply, Shut, SetHeaders, Detach, Take}
 pub use Rattle.node_law.specs.declared.events.ShardWork.{ShardWork}
 pub use Rattle.node_law.specs.declared.events.ShardWork.TheVariants.{Attach, Begin, Claim, End, DropJob, DrainShard}
 

@@ -1,5 +1,5 @@
 -- One server end to end: who wins a queue name of a job, what that puts, and which jobs the shards work off.
-use Rattle.std.specs.Prelude.{◌≡◌, ◌≢◌, ℕ, ◌<◌, ◌-◌, Bool, ◌&&◌, nat_eq, List, [], ◌∷◌, ◌++◌, length, filter, Option, Some, None, is_some, if◌then◌else◌}
+use Rattle.std.specs.Prelude.{◌≡◌, ◌≢◌, ℕ, ◌<◌, ◌-◌, Bool, false, ◌&&◌, nat_eq, List, [], ◌∷◌, ◌++◌, length, filter, Option, Some, None, is_some, if◌then◌else◌}
 use Rattle.std.specs.List.{list_any}
 use Rattle.list_laws.specs.Lists.{In, Each, Pairs}
 use Rattle.subj.specs.Servers.{ServerIdentity, IsListed}
@@ -8,6 +8,7 @@ use Rattle.sub_table.specs.declared.Subscription.{Subscription}
 use Rattle.outbox.specs.Views.{Written}
 use Rattle.claim_race.specs.Race.{RaceState}
 use Rattle.shard_core.specs.Owed.{candidate_of, placed_for}
+use Rattle.shard_core.specs.Shards.{Client, takes_headers}
 use Rattle.shard_core.specs.Puts.{entries_for}
 use Rattle.shard_core.specs.declared.calls.Placed.{Placed}
 use Rattle.node_law.specs.AsLaw.{waits_at, jobs_by}
@@ -21,22 +22,27 @@ use Rattle.node_law.specs.Steps.{shard_line, NodeStep}
 -- ---- claims
 
 -- A Claim that was answered: the number of the shard, its job in hand (whose turn it is), the index of a queue name, the member
--- that the shard would give the message to, which is open, matches, is permitted and has room at that moment, and whether the
--- claim was won, which is read only where there is such a member.
+-- that the shard would give the message to, which is open, matches, is permitted and has room at that moment, whether that
+-- member's connection took headers then, and whether the claim was won; both are read only where there is such a member.
 pub record Claimed : Type 0 where
   pub shard : ℕ
   pub job : Job
   pub index : ℕ
   pub candidate : Option Subscription
+  pub headers : Bool
   pub won : Bool
 
-abbrev pub claimed_with : ℕ → ℕ → Bool → Option Job → Option Subscription → List Claimed
-claimed_with shard index won None sub = []
-claimed_with shard index won (Some job) sub = record { shard = shard; job = job; index = index; candidate = sub; won = won } ∷ []
+abbrev pub option_for : List Client → Option Subscription → Bool
+option_for clients None = false
+option_for clients (Some sub) = takes_headers sub.conn clients
+
+abbrev pub claimed_with : ℕ → ℕ → Bool → List Client → Option Job → Option Subscription → List Claimed
+claimed_with shard index won clients None sub = []
+claimed_with shard index won clients (Some job) sub = record { shard = shard; job = job; index = index; candidate = sub; headers = option_for clients sub; won = won } ∷ []
 
 abbrev pub claimed_at : ℕ → ℕ → Bool → Option ShardWithJobs → List Claimed
 claimed_at shard index won None = []
-claimed_at shard index won (Some line) = claimed_with shard index won line.shard.hand (candidate_of line.shard line.shard.hand index)
+claimed_at shard index won (Some line) = claimed_with shard index won line.shard.clients line.shard.hand (candidate_of line.shard line.shard.hand index)
 
 abbrev pub work_claims : Node → ℕ → ShardWork → Bool → List Claimed
 work_claims a shard Attach won = []
@@ -96,14 +102,15 @@ TurnsAreFresh = (server : ServerIdentity) (h : List Done) (a : Node) → IsListe
 
 -- ---- what a Claim puts
 
--- the message for its candidate where it was won, and nothing where it was lost or had no candidate
-abbrev pub placed_with : ℕ → Job → Option Subscription → Bool → List Placed
-placed_with shard job None won = []
-placed_with shard job (Some sub) won = if won then placed_for shard job sub.key.queue sub ∷ [] else []
+-- the message for its candidate where it was won, in the form that its connection takes, and nothing where it was lost or had no
+-- candidate
+abbrev pub placed_with : ℕ → Bool → Job → Option Subscription → Bool → List Placed
+placed_with shard option job None won = []
+placed_with shard option job (Some sub) won = if won then placed_for shard option job sub.key.queue sub ∷ [] else []
 
 -- for a connection of the shard at this place: shards are counted from 1, and places from 0
 abbrev pub placed_by : Claimed → ℕ → ℕ → List Written
-placed_by x place conn = if nat_eq (x.shard - 1) place then entries_for conn (placed_with x.shard x.job x.candidate x.won) else []
+placed_by x place conn = if nat_eq (x.shard - 1) place then entries_for conn (placed_with x.shard x.headers x.job x.candidate x.won) else []
 
 -- each Claim puts just that, behind what waits, and nothing else goes into any outbox of any shard
 abbrev pub ClaimsPlace : Type 0

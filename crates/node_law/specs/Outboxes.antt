@@ -5,7 +5,7 @@ use Rattle.client_frames.specs.Frames.{reply_line}
 use Rattle.outbox.specs.Views.{Written}
 use Rattle.subj.specs.Servers.{ServerIdentity}
 use Rattle.shard_core.specs.declared.calls.Placed.{Placed}
-use Rattle.shard_core.specs.Owed.{whole_walk, slow_consumer, candidate_of, placed_for}
+use Rattle.shard_core.specs.Owed.{whole_walk, slow_consumer, candidate_of, owed_placed}
 use Rattle.shard_core.specs.Puts.{put_line, put_by_claim, entries_for}
 use Rattle.shard_core.specs.ShardEvents.{Event, Reply, Shut, Detach, Take, Begin, Claim}
 use Rattle.shard_core.specs.ShardSteps.{answer_fits}
@@ -19,7 +19,7 @@ use Rattle.node_law.specs.State.{ShardWithJobs, Node}
 -- the replies that are handed in and have room, and the messages
 abbrev pub due_by : State → Event → List Placed
 due_by s (Reply conn frame) = if answer_fits s conn (reply_line frame) then put_line (reply_line frame) conn ∷ [] else []
-due_by s (Begin job) = map (placed_for s.shard job None) (whole_walk s job).given
+due_by s (Begin job) = map (owed_placed s.shard s.clients job None) (whole_walk s job).given
 due_by s (Claim index won) = put_by_claim s s.hand (candidate_of s s.hand index) won
 due_by s other = []
 

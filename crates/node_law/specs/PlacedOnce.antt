@@ -21,7 +21,7 @@ use Rattle.node_law.specs.State.{Node}
 
 -- what a Claim of this turn and index of a queue name places, and any other Claim not
 abbrev pub placed_of : ℕ → ℕ → Claimed → List Placed
-placed_of turn index x = if is_of_pair turn index x then placed_with x.shard x.job x.candidate x.won else []
+placed_of turn index x = if is_of_pair turn index x then placed_with x.shard x.headers x.job x.candidate x.won else []
 
 -- what the Claims of a run place for them, over all shards, the newest first
 abbrev pub all_placed : ℕ → ℕ → List Done → List Placed

@@ -28,7 +28,7 @@ use Rattle.route_session.specs.Steps.{dial_refusal, room_refusal, info_refusal, 
 use Rattle.node_law.specs.declared.faults.NodeFault.{NodeFault}
 use Rattle.node_law.specs.declared.faults.NodeFault.TheVariants.{NoShard, Shard, Hub, Session}
 use Rattle.node_law.specs.State.{ShardWithJobs, Node, finished_turns}
-use Rattle.node_law.specs.Events.{ConnEvent, Subscribe, Unsubscribe, Reply, Shut, Detach, Take, ShardWork, Attach, Begin, Claim, End, DropJob, DrainShard, OwnEvent, OfConn, AtShard, Publish, Collect, Drain, Dial, Accept, CutSession, TakeFrames, NodeEvent, Own, Receive, OnInfo, OnConnect}
+use Rattle.node_law.specs.Events.{ConnEvent, Subscribe, Unsubscribe, Reply, Shut, SetHeaders, Detach, Take, ShardWork, Attach, Begin, Claim, End, DropJob, DrainShard, OwnEvent, OfConn, AtShard, Publish, Collect, Drain, Dial, Accept, CutSession, TakeFrames, NodeEvent, Own, Receive, OnInfo, OnConnect}
 
 -- ---- which line an event is for, and what it is there
 
@@ -48,6 +48,7 @@ conn_event conn (Unsubscribe sid max) = of_shard.Unsubscribe conn sid max
 conn_event conn (Reply frame) = of_shard.Reply conn frame
 conn_event conn (Shut text) = of_shard.Shut conn text
 conn_event conn Detach = of_shard.Detach conn
+conn_event conn (SetHeaders on) = of_shard.SetHeaders conn on
 conn_event conn (Take count) = of_shard.Take conn count
 
 -- a begin takes the first job that waits

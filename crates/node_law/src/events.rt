@@ -16,6 +16,9 @@ pub enum ConnEvent {
     Unsubscribe { sid: Sid, max: Option<u64> },
     /// Puts an answer to the client.
     Reply { frame: ReplyFrame },
+    /// Sets whether the connection takes headers from now on. (NATS documentation, "Client Protocol": `CONNECT`,
+    /// `headers`.)
+    SetHeaders { on: bool },
     /// Shuts the connection: this text is its last line. (Profile.)
     Shut { text: ErrText },
     /// The connection is gone.

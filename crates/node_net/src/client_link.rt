@@ -6,16 +6,14 @@ use crate::limits::SHARD_RUN;
 use crate::runs::{Ran, RunOutcome, cost_of};
 use client_calls::{ClientCalls, ClientLink as Calls, Outcome, Served};
 use client_conn::{ReadFault, Refusal};
-use client_frames::{ErrText, ReplyFrame};
+use client_frames::{ErrText, ReplyFrame, ServerInfo};
 use rand_core::utils::NextWord;
 use rand_pcg::Pcg64;
 use server_calls::{HubCalls, ServerCalls, ShardCalls};
 use std::alloc::{AllocError, Global};
 use std::collections::BTreeSet;
 use std::sync::Wait;
-use subj::{
-    ConnId, Failure, HostText, Key, Pub, SUBSCRIPTIONS, ServerIdentity as Life, Sid, WINDOW,
-};
+use subj::{ConnId, Failure, Key, Pub, SUBSCRIPTIONS, Sid, WINDOW};
 use wire_cut::Source;
 
 /// What a client calls its open subscriptions, but for those that end by themselves (`UNSUB` with a maximum), and those for which there was
@@ -73,7 +71,7 @@ fn replied_after(replied: usize, outcome: Outcome) -> usize {
 /// As how many bytes a publication counts that came to this; one that was not handed on counts as none.
 fn issued_by(publication: &Pub, outcome: Outcome) -> usize {
     match outcome {
-        Outcome::Done => cost_of(publication.message.payload().len()),
+        Outcome::Done => cost_of(publication.message.whole().len()),
         _ => 0,
     }
 }
@@ -120,6 +118,13 @@ impl<S: ShardCalls> ClientCalls for ShardTally<S> {
 
     fn reply(&mut self, conn: ConnId, frame: &ReplyFrame) -> Outcome {
         let outcome = self.shard.reply(conn, frame);
+        self.so_far.is_empty = false;
+        self.so_far.replied = replied_after(self.so_far.replied, outcome);
+        outcome
+    }
+
+    fn set_headers(&mut self, conn: ConnId, on: bool) -> Outcome {
+        let outcome = self.shard.set_headers(conn, on);
         self.so_far.is_empty = false;
         self.so_far.replied = replied_after(self.so_far.replied, outcome);
         outcome
@@ -193,6 +198,10 @@ impl<H: HubCalls> ClientCalls for HubTally<H> {
     }
 
     fn reply(&mut self, _conn: ConnId, _frame: &ReplyFrame) -> Outcome {
+        Outcome::Elsewhere
+    }
+
+    fn set_headers(&mut self, _conn: ConnId, _on: bool) -> Outcome {
         Outcome::Elsewhere
     }
 
@@ -282,17 +291,14 @@ fn served_of(served: Result<Served, AllocError>) -> Served {
 }
 
 impl ClientLink {
-    /// A new client of this shard, which is held: one of whom nothing was read, and who is told first of this life
-    /// of a server with this host and this port.
+    /// A new client of this shard, which is held: one of whom nothing was read, and who is told first of this server.
     pub fn attach<S: ShardCalls>(
         alloc: Global,
         shard: &mut S,
-        life: &Life,
-        host: HostText,
-        port: u16,
+        server: &ServerInfo,
     ) -> Result<ClientLink, Failure<Refusal>> {
         let number = shard.shard();
-        match Calls::attach(alloc, shard, life.name(), life.inc(), host, port) {
+        match Calls::attach(alloc, shard, server) {
             Ok(calls) => Ok(ClientLink {
                 alloc,
                 calls,

@@ -82,10 +82,10 @@ pub(crate) const ACCEPTS: usize = 256;
 /// The most events that are told of in a turn.
 pub(crate) const EVENTS: usize = 1_024;
 
-/// After how many bytes of payloads what waits for clients is taken before more is read: a client with few
+/// After how many bytes of header blocks and payloads what waits for clients is taken before more is read: a client with few
 /// subscriptions has room for several times as much.
 pub(crate) const TAKEN_EARLY: usize = OUTBOX_BYTES / 8;
 
-/// As how many bytes a message counts beside its payload: so a quarter of the messages that an outbox has
+/// As how many bytes a message counts beside its header block and payload: so a quarter of the messages that an outbox has
 /// room for come to [`TAKEN_EARLY`].
 pub(crate) const MESSAGE_COST: usize = TAKEN_EARLY / (OUTBOX_ENTRIES / 4);

@@ -121,7 +121,7 @@ fn connect<C: ServerCalls, R: Wait>(
 /// As how many bytes a message counts; anything else counts as none.
 fn weight_of(frame: &Numbered) -> usize {
     match frame.body() {
-        Body::Msg { message, .. } => cost_of(message.payload().len()),
+        Body::Msg { message, .. } => cost_of(message.whole().len()),
         _ => 0,
     }
 }

@@ -2,9 +2,9 @@
 
 use crate::limits::MESSAGE_COST;
 
-/// As how many bytes a message with a payload of so many counts; an answer counts as one without.
-pub(crate) fn cost_of(payload: usize) -> usize {
-    payload.saturating_add(MESSAGE_COST)
+/// As how many bytes a message counts whose header block and payload have so many; an answer counts as one of none.
+pub(crate) fn cost_of(body: usize) -> usize {
+    body.saturating_add(MESSAGE_COST)
 }
 
 /// What a run came to. A run is what is done under one hold of a lock.

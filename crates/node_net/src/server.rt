@@ -16,6 +16,7 @@ use crate::proving::Guard;
 use crate::route_link::{RouteLink, Stage, cut};
 use crate::taken::Taken;
 use client_conn::Refusal;
+use client_frames::ServerInfo;
 use net_streams::Stream;
 use rand_core::SeedableRng;
 use rand_pcg::Pcg64;
@@ -48,19 +49,17 @@ pub fn shard_of_client(client: u64, shards: u64) -> u64
     client.saturating_sub(1) % shards + 1
 }
 
-/// The next client of this shard, who is told first of this life of a server with this host and this port.
+/// The next client of this shard, who is told first of this server.
 fn attach<C: ServerCalls, R: Wait>(
     rt: &R,
     node: C,
     alloc: Global,
     shard: u64,
-    life: &Life,
-    host: HostText,
-    port: u16,
+    server: &ServerInfo,
 ) -> Result<ClientLink, AddFault> {
     match node.shard(rt, shard) {
         None => Err(AddFault::Client(Refusal::Other)),
-        Some(mut shard) => Ok(ClientLink::attach(alloc, &mut shard, life, host, port)?),
+        Some(mut shard) => Ok(ClientLink::attach(alloc, &mut shard, server)?),
     }
 }
 
@@ -108,9 +107,8 @@ pub struct Server<S: Stream, C: ServerCalls> {
     pub(crate) alloc: Global,
     pub(crate) node: C,
     pub(crate) life: Life,
-    /// The host that clients are told.
-    pub(crate) host: HostText,
-    pub(crate) port: u16,
+    /// What its clients are told of it.
+    info: ServerInfo,
     pub(crate) words: Pcg64,
     pub(crate) connections: Connections<S>,
     pub(crate) peers: Peers,
@@ -149,12 +147,12 @@ impl<S: Stream, C: ServerCalls> Server<S, C> {
         seed: u64,
     ) -> Result<Server<S, C>, AllocError> {
         let peers = Peers::new(alloc, life.names().len())?;
+        let info = ServerInfo::new(alloc, life.name(), life.inc(), host, port)?;
         Ok(Server {
             alloc,
             node,
             life,
-            host,
-            port,
+            info,
             words: Pcg64::seed_from_u64(seed),
             connections: Connections::new(alloc),
             peers,
@@ -261,9 +259,7 @@ impl<S: Stream, C: ServerCalls> Server<S, C> {
     fn client<R: Wait>(&mut self, rt: &R) -> Result<Link, AddFault> {
         let number = self.came.saturating_add(1);
         let shard = shard_of_client(number, self.life.shards());
-        let link = attach(
-            rt, self.node, self.alloc, shard, &self.life, self.host, self.port,
-        )?;
+        let link = attach(rt, self.node, self.alloc, shard, &self.info)?;
         self.came = number;
         Ok(Link::Client(link))
     }

@@ -11,7 +11,7 @@ use Rattle.sub_table.specs.declared.Subscription.{Subscription}
 use Rattle.claim_race.specs.Race.{RaceState, IsNextIndex, IsClaimed, next_of}
 use Rattle.shard_core.specs.Shards.{State}
 use Rattle.shard_core.specs.Closings.{id_of, ended_ids}
-use Rattle.shard_core.specs.Owed.{candidate_of, after_claim, placed_for, ended_by}
+use Rattle.shard_core.specs.Owed.{candidate_of, after_claim, owed_placed, ended_by}
 use Rattle.shard_core.specs.declared.calls.Candidate.{Candidate}
 use Rattle.shard_core.specs.Held.{Held, Chooses, Stands, ClaimsAreWhole, held_at_rest, after_put_chosen, ended_by_chosen, candidate_told, told_of}
 use Rattle.shard_core.specs.ShardEvents as of_shard
@@ -30,14 +30,14 @@ record HasCandidate (copies : Bool) (s : State) (index : ℕ) (turn : ℕ) (told
   hand : s.hand ≡ Some job
   turn_is : job.turn ≡ turn
   chosen : candidate_of s s.hand index ≡ Some sub
-  told_is : told ≡ candidate_told copies s.shard job sub
+  told_is : told ≡ candidate_told copies s.shard s.clients job sub
 
-candidate : (copies : Bool) (s : State) (index turn : ℕ) (told : Candidate) (job : Job) → s.hand ≡ Some job → job.turn ≡ turn → Some told ≡ told_of copies s.shard s.hand (candidate_of s s.hand index) → HasCandidate copies s index turn told
-candidate copies s index turn told job hand turn_is e = go (candidate_of s s.hand index) refl (e ∙ ap (λ h. told_of copies s.shard h (candidate_of s s.hand index)) hand)
+candidate : (copies : Bool) (s : State) (index turn : ℕ) (told : Candidate) (job : Job) → s.hand ≡ Some job → job.turn ≡ turn → Some told ≡ told_of copies s.shard s.clients s.hand (candidate_of s s.hand index) → HasCandidate copies s index turn told
+candidate copies s index turn told job hand turn_is e = go (candidate_of s s.hand index) refl (e ∙ ap (λ h. told_of copies s.shard s.clients h (candidate_of s s.hand index)) hand)
   where
-    go : (c : Option Subscription) → candidate_of s s.hand index ≡ c → Some told ≡ told_of copies s.shard (Some job) c → HasCandidate copies s index turn told
+    go : (c : Option Subscription) → candidate_of s s.hand index ≡ c → Some told ≡ told_of copies s.shard s.clients (Some job) c → HasCandidate copies s index turn told
     go None is e = absurd (none-some told (sym e))
-    go (Some sub) is e = record { job = job; sub = sub; hand = hand; turn_is = turn_is; chosen = is; told_is = same_Some told (candidate_told copies s.shard job sub) e }
+    go (Some sub) is e = record { job = job; sub = sub; hand = hand; turn_is = turn_is; chosen = is; told_is = same_Some told (candidate_told copies s.shard s.clients job sub) e }
 
 -- ---- before the race
 
@@ -54,7 +54,7 @@ next_index s race shard index job hand names next cause =
 pub chosen_some : (copies : Bool) (old mid : Held) (index : ℕ) (found : Option Candidate) (told : Candidate) → Chooses copies old index found mid → found ≡ Some told → is_some mid.chosen ≡ true
 chosen_some copies old mid index found told chooses is = ap (λ (h : Held). is_some h.chosen) chooses.after ∙ go old.state.hand (candidate_of old.state old.state.hand index) (sym is ∙ chooses.told)
   where
-    go : (hand : Option Job) (c : Option Subscription) → Some told ≡ told_of copies old.state.shard hand c → is_some c ≡ true
+    go : (hand : Option Job) (c : Option Subscription) → Some told ≡ told_of copies old.state.shard old.state.clients hand c → is_some c ≡ true
     go None c e = absurd (none-some told (sym e))
     go (Some job) None e = absurd (none-some told (sym e))
     go (Some job) (Some sub) e = refl
@@ -66,12 +66,12 @@ stands law copies old mid index found told cause chooses is = (law copies old mi
 
 pub claim_nobody : (copies : Bool) (old mid : Held) (waiting : List Job) (index shard : ℕ) (found : Option Candidate) (race : RaceState) (job : Job)
     → old.state.hand ≡ Some job → Chooses copies old index found mid → found ≡ None → LineClaims copies (record { shard = old.state; waiting = waiting }) race shard index Nobody (record { shard = mid.state; waiting = waiting }) race
-claim_nobody copies old mid waiting index shard found race job hand chooses is = go (candidate_of s s.hand index) refl (sym is ∙ chooses.told ∙ ap (λ h. told_of copies s.shard h (candidate_of s s.hand index)) hand)
+claim_nobody copies old mid waiting index shard found race job hand chooses is = go (candidate_of s s.hand index) refl (sym is ∙ chooses.told ∙ ap (λ h. told_of copies s.shard s.clients h (candidate_of s s.hand index)) hand)
   where
     s : State
     s = old.state
 
-    go : (c : Option Subscription) → candidate_of s s.hand index ≡ c → None ≡ told_of copies s.shard (Some job) c → LineClaims copies (record { shard = s; waiting = waiting }) race shard index Nobody (record { shard = mid.state; waiting = waiting }) race
+    go : (c : Option Subscription) → candidate_of s s.hand index ≡ c → None ≡ told_of copies s.shard s.clients (Some job) c → LineClaims copies (record { shard = s; waiting = waiting }) race shard index Nobody (record { shard = mid.state; waiting = waiting }) race
     go (Some sub) at e = absurd (none-some _ e)
     go None at e = record {
       told = λ k. claim_answer s (hand k) (at k) false;
@@ -100,7 +100,7 @@ claim_won law copies old mid new waiting index shard turn found told ended race 
     let h = candidate copies s index turn told job hand turn_is (sym is ∙ chooses.told) in
     let whole = law copies old mid index found cause chooses in
     let shard_is = ap (λ (h : Held). h.state) placed ∙ whole.won (chosen_some copies old mid index found told chooses is) in
-    let entry = placed_for s.shard h.job h.sub.key.queue h.sub in
+    let entry = owed_placed s.shard s.clients h.job h.sub.key.queue h.sub in
     let named : told.sub ≡ id_of s.shard h.sub.serial = ap (λ (c : Candidate). c.sub) h.told_is in
     let ended_is : option_to_list ended ≡ ended_ids s.shard (ended_by h.sub) = closed ∙ ap (λ (m : Held). ended_ids m.state.shard (ended_by_chosen m.chosen)) chooses.after ∙ ap (λ c. ended_ids s.shard (ended_by_chosen c)) h.chosen in
     record {

@@ -5,7 +5,7 @@ ghost use Rattle.subj.specs.Answers.{IsAnswered, IsDecided};
 ghost use Rattle.subj.specs.declared.limits.TheConstants.{MAX_SHARDS, WINDOW};
 ghost use Rattle.shard_core.specs.Answers.{answer_of};
 ghost use Rattle.shard_core.specs.Lines.{first_of};
-ghost use Rattle.shard_core.specs.ShardEvents.{Attach, Subscribe, Unsubscribe, Reply, Shut, Detach, Take, Claim, End, Drain, Collect, Attached, Unsubscribed, Replied, WasShut, Detached, Taken, Drains, Collected};
+ghost use Rattle.shard_core.specs.ShardEvents.{Attach, Subscribe, Unsubscribe, Reply, SetHeaders, Shut, Detach, Take, Claim, End, Drain, Collect, Attached, Unsubscribed, Replied, HeadersSet, WasShut, Detached, Taken, Drains, Collected};
 ghost use Rattle.node_parts.specs.Lines.{LineStep, LineBegins, LineEnds, LineDrops, LineClaims, MayClaim, WaitsNext, of_answer, of_decision};
 ghost use Rattle.node_law.specs.Settled.{is_line_settled, has_room_in};
 ghost use Rattle.node_law.specs.State.{new_line};
@@ -147,6 +147,13 @@ impl<T: SubTable> ShardWithJobs<T> {
         ensures { IsAnswered (event_refusal self.old (Some (Reply conn frame.now))) (λ closed. LineStep self.old (Reply conn frame.now) (Replied closed.shut closed.ended.items) self.new) (self.new ≡ self.old) result }
     {
         shard_answer(self.shard.reply(conn, frame))
+    }
+
+    /// [`Shard::set_headers`].
+    pub fn set_headers(&mut self, conn: ConnId, on: bool) -> Result<(), NodeFault>
+        ensures { IsDecided (event_refusal self.old (Some (SetHeaders conn on))) (λ _. LineStep self.old (SetHeaders conn on) HeadersSet self.new) (self.new ≡ self.old) result }
+    {
+        shard_decision(self.shard.set_headers(conn, on))
     }
 
     /// [`Shard::shut`].

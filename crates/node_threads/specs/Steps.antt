@@ -3,7 +3,7 @@ use Rattle.std.specs.Prelude.{◌≡◌, ℕ, ◌+◌, Bool, not, List, [], ◌�
 use Rattle.sub_table.specs.declared.Subscription.{Subscription}
 use Rattle.subj.specs.declared.jobs.Job.{Job}
 use Rattle.shard_core.specs.Owed.{candidate_of}
-use Rattle.shard_core.specs.ShardEvents.{Event, Attach, Subscribe, Unsubscribe, Reply, Shut, Detach, Take, Begin, Claim, End, DropJob, Drain, Collect, Answer}
+use Rattle.shard_core.specs.ShardEvents.{Event, Attach, Subscribe, Unsubscribe, Reply, SetHeaders, Shut, Detach, Take, Begin, Claim, End, DropJob, Drain, Collect, Answer}
 use Rattle.shard_core.specs.ShardSteps.{IsDone}
 use Rattle.shard_core.specs.Shards.{State}
 
@@ -25,6 +25,7 @@ job_in Attach = []
 job_in (Subscribe conn key sid) = []
 job_in (Unsubscribe conn sid max) = []
 job_in (Reply conn frame) = []
+job_in (SetHeaders conn on) = []
 job_in (Shut conn text) = []
 job_in (Detach conn) = []
 job_in (Take conn count) = []
@@ -50,6 +51,7 @@ claimed_in s Attach as_won = []
 claimed_in s (Subscribe conn key sid) as_won = []
 claimed_in s (Unsubscribe conn sid max) as_won = []
 claimed_in s (Reply conn frame) as_won = []
+claimed_in s (SetHeaders conn on) as_won = []
 claimed_in s (Shut conn text) as_won = []
 claimed_in s (Detach conn) as_won = []
 claimed_in s (Take conn count) as_won = []

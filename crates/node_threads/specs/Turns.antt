@@ -5,7 +5,7 @@ use Rattle.subj.specs.declared.jobs.Job.{Job}
 use Rattle.subj.specs.declared.failures.Failure.{Failure}
 use Rattle.subj.specs.declared.failures.Failure.TheVariants.{Refused, OutOfMemory}
 use Rattle.claim_cells.specs.Seats.{HasTurn}
-use Rattle.shard_core.specs.ShardEvents.{Event, Attach, Subscribe, Unsubscribe, Reply, Shut, Detach, Take, Begin, Claim, End, DropJob, Drain, Collect}
+use Rattle.shard_core.specs.ShardEvents.{Event, Attach, Subscribe, Unsubscribe, Reply, SetHeaders, Shut, Detach, Take, Begin, Claim, End, DropJob, Drain, Collect}
 use Rattle.shard_core.specs.declared.faults.ShardFault.{ShardFault}
 use Rattle.shard_core.specs.declared.faults.ShardFault.TheVariants.{NoJob}
 use Rattle.shard_core.specs.Shards.{State}
@@ -20,6 +20,7 @@ is_work Attach = false
 is_work (Subscribe conn key sid) = false
 is_work (Unsubscribe conn sid max) = false
 is_work (Reply conn frame) = false
+is_work (SetHeaders conn on) = false
 is_work (Shut conn text) = false
 is_work (Detach conn) = false
 is_work (Take conn count) = false

@@ -69,6 +69,11 @@ pub enum ShardEvent {
         conn: ConnId,
         frame: ReplyFrame,
     },
+    /// Whether the connection takes headers from now on.
+    SetHeaders {
+        conn: ConnId,
+        on: bool,
+    },
     /// Shuts the connection with this last line.
     Shut {
         conn: ConnId,
@@ -115,6 +120,8 @@ pub enum ShardTold {
     Unsubscribed(usize),
     /// A reply: whether the connection was shut for want of room, and how many subscriptions closed.
     Replied { shut: bool, ended: usize },
+    /// Whether a connection takes headers was set.
+    HeadersSet,
     /// How many subscriptions closed with a connection that was shut.
     WasShut(usize),
     /// How many subscriptions closed with a connection that is gone.

@@ -5,7 +5,7 @@ ghost use Rattle.subj.specs.Answers.{IsAnswered, IsDecided};
 ghost use Rattle.subj.specs.declared.limits.TheConstants.{MAX_SHARDS};
 ghost use Rattle.claim_cells.specs.Rule.{newcomer};
 ghost use Rattle.shard_core.specs.Answers.{answer_of};
-ghost use Rattle.shard_core.specs.ShardEvents.{Attach, Subscribe, Unsubscribe, Reply, Shut, Detach, Take, Drain, Drains, Collect, Attached, Unsubscribed, Replied, WasShut, Detached, Taken, Collected};
+ghost use Rattle.shard_core.specs.ShardEvents.{Attach, Subscribe, Unsubscribe, Reply, SetHeaders, Shut, Detach, Take, Drain, Drains, Collect, Attached, Unsubscribed, Replied, HeadersSet, WasShut, Detached, Taken, Collected};
 ghost use Rattle.shard_core.specs.Shards.{is_open as opened};
 ghost use Rattle.shard_core.specs.ShardSteps.{shard_refusal};
 ghost use Rattle.node_threads.specs.AtWork.{Does, TakesBytes, at_start, Makes, HasDone};
@@ -138,6 +138,13 @@ impl<T: SubTable, N: NodeName> ShardState<T, N> {
         ensures { IsAnswered (shard_refusal self.old.state (Reply conn frame.now)) (λ closed. Does self.old (Reply conn frame.now) (Replied closed.shut closed.ended.items) self.new) (self.new ≡ self.old) result }
     {
         self.shard.reply(conn, frame)
+    }
+
+    /// [`Shard::set_headers`].
+    pub fn set_headers(&mut self, conn: ConnId, on: bool) -> Result<(), ShardFault>
+        ensures { IsDecided (shard_refusal self.old.state (SetHeaders conn on)) (λ _. Does self.old (SetHeaders conn on) HeadersSet self.new) (self.new ≡ self.old) result }
+    {
+        self.shard.set_headers(conn, on)
     }
 
     /// [`Shard::drain`].

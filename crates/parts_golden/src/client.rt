@@ -1,13 +1,13 @@
 //! Calls of what a client and its server tell each other: refusals, lines of clients, frames of the server, and what a connection asks.
 
-use crate::names::{message_in, named};
+use crate::names::named;
 use client_conn::{ClientAction, Conn, Refusal};
 use client_frames::{
-    ClientLine, Delivery, ErrText, InfoData, LineFault, MessageLines, PubHead, ReplyFrame,
+    ClientLine, Delivery, ErrText, InfoData, LineFault, MessageLines, Options, PubHead, ReplyFrame,
     ServerFrame, ServerInfo, SharedTexts, decode_line, encode, info_text, message_line, reply_line,
 };
 use golden::{
-    Words, bytes_of, headed_message_of, life_in, number, push_key, push_shown, put, sid_of, tell,
+    Words, bytes_of, life_in, message_with, number, push_key, push_shown, put, sid_of, tell,
     tell_bytes, tell_number, tell_refusal,
 };
 use std::alloc::Global;
@@ -148,31 +148,33 @@ pub fn info_call(answer: &mut String, alloc: Global, word: &str) -> Option<()> {
     tell(answer, told.as_str())
 }
 
-/// The message that the words are, with the header block that the fifth is, or with none where there is no fifth.
-fn headed_in(alloc: Global, words: &Words<'_>) -> Option<Message> {
-    match words.at(4) {
-        "" => message_in(alloc, words),
-        block => headed_message_of(alloc, words.at(0), words.at(1), block, words.at(2))?,
-    }
+/// The message that the words are: its subject, its reply and its payload, and its header block, which the fifth is.
+fn message_in(alloc: Global, words: &Words<'_>) -> Option<Message> {
+    message_with(alloc, words.at(0), words.at(1), words.at(4), words.at(2))
 }
 
-/// The delivery of a message to a subscription, which is the fourth word.
+/// The delivery of a message to a subscription, which is the fourth word, of a client that takes headers where the sixth one is `on`.
 fn delivery_of(alloc: Global, words: &Words<'_>) -> Option<Delivery> {
     let sid = sid_of(alloc, words.at(3))?;
-    let message = headed_in(alloc, words)?;
-    Some(Delivery { message, sid })
+    let message = message_in(alloc, words)?;
+    Some(Delivery {
+        message,
+        sid,
+        takes_headers: words.at(5) == "on",
+    })
 }
 
 /// Tells the line of a message, made for this subscription alone.
 fn lone_line(answer: &mut String, alloc: Global, delivery: &Delivery) -> Option<()> {
-    let line = message_line(alloc, &delivery.message, &delivery.sid).ok()?;
+    let (message, takes_headers) = (&delivery.message, delivery.takes_headers);
+    let line = message_line(alloc, message, &delivery.sid, takes_headers).ok()?;
     push_shown(answer, &line).ok()
 }
 
 /// Tells the line of a message, of those made for all its subscriptions.
 fn shared_line(answer: &mut String, alloc: Global, delivery: &Delivery) -> Option<()> {
     let lines = MessageLines::new(alloc, &delivery.message).ok()?;
-    let line = lines.line(&delivery.sid).ok()?;
+    let line = lines.line(&delivery.sid, delivery.takes_headers).ok()?;
     push_shown(answer, &line).ok()
 }
 
@@ -181,7 +183,8 @@ fn delivery_told(answer: &mut String, alloc: Global, delivery: Delivery) -> Opti
     frame_told(answer, alloc, &ServerFrame::Msg(delivery))
 }
 
-/// Makes a call of the delivery of a message: its subject, its reply, its payload, the subscription and perhaps a header block.
+/// Makes a call of the delivery of a message: its subject, its reply, its payload, the subscription, perhaps a header block, and whether
+/// the client takes headers.
 pub fn delivery_call(
     answer: &mut String,
     alloc: Global,
@@ -255,13 +258,17 @@ fn unsub_told(answer: &mut String, before: &str, sid: &Sid, max: Option<u64>) ->
     }
 }
 
+/// Tells which options are on.
+fn options_told(answer: &mut String, options: &Options) -> Option<()> {
+    let (verbose, echo) = (on_or_off(options.verbose), on_or_off(options.echo));
+    let headers = on_or_off(options.headers);
+    write!(answer, "connect {verbose} {echo} {headers}").ok()
+}
+
 /// Tells what a line asks for.
 fn line_told(answer: &mut String, line: &ClientLine) -> Option<()> {
     match line {
-        ClientLine::Connect(options) => {
-            let (verbose, echo) = (on_or_off(options.verbose), on_or_off(options.echo));
-            write!(answer, "connect {verbose} {echo}").ok()
-        }
+        ClientLine::Connect(options) => options_told(answer, options),
         ClientLine::Pub(head) => head_told(answer, head),
         ClientLine::PubBad { size } => tell_number(answer, "bad ", *size),
         ClientLine::Sub {
@@ -367,6 +374,7 @@ fn publication_told(answer: &mut String, publication: &Pub) -> Option<()> {
 fn ask_told(answer: &mut String, ask: &ClientAction) -> Option<()> {
     match ask {
         ClientAction::Reply(reply) => reply_told(answer, reply),
+        ClientAction::SetHeaders(on) => write!(answer, "headers {}", on_or_off(*on)).ok(),
         ClientAction::Shut(told) => tell_bytes(answer, "shut ", told.line()),
         ClientAction::Subscribe { key, sid } => subscription_told(answer, key, sid),
         ClientAction::Unsubscribe { sid, max } => unsub_told(answer, "unsubscribe ", sid, *max),

@@ -11,14 +11,16 @@
 //! ```
 //!
 //! In reading order: `names` makes the calls of names, values and fields; `streams` those of streams; `client` those of a client's lines, frames and
-//! connection; `routes` those of frames of routes, and of values that are the same; and `frames` has what a case has made of all these. `guarded` has what calls may ask for only where something holds; `shards` makes the calls of outboxes, tries, races and
-//! shards; `tables` those of tables of subscriptions; and `hubs` those of interest, hubs and sessions. Here are those of numbers:
+//! connection; `routes` those of frames of routes, and of values that are the same; and `frames` has what a case has made of all these. `guarded` has
+//! what calls may ask for only where something holds; `entries` makes the calls of entries and outboxes; `shards` those of tries, races and shards;
+//! `tables` those of tables of subscriptions; and `hubs` those of interest, hubs and sessions. Here are those of numbers:
 //!
 //! - `refusal.of_hub CAUSE`, `refusal.of_session CAUSE`: the number that the router tells of the refusal
 //! - `id.number N`, `id.same N|M` and `id.differs N|M`: the number of a session, and whether two are one
 #![tactic(auto)]
 
 mod client;
+mod entries;
 mod frames;
 mod guarded;
 mod hubs;
@@ -28,6 +30,7 @@ mod shards;
 mod streams;
 mod tables;
 
+use entries::{entry_call, outbox_call};
 use frames::FrameParts;
 use golden::{Words, put, tell_number, tell_whether, told};
 use guarded::{Course, Opened, Outboxes};
@@ -37,7 +40,7 @@ use interest::{Local, View};
 use outbox::Entry;
 use pattern_trie::PatternTrie;
 use route_session::{SessionFault, SessionId};
-use shards::{Stand, choose, entry_call, outbox_call, patterns_call, race_call, shard_call};
+use shards::{Stand, choose, patterns_call, race_call, shard_call};
 use std::alloc::{AllocError, Global};
 use std::process::ExitCode;
 use sub_table::ListTable;

@@ -325,7 +325,7 @@ pub fn server_call(
 }
 
 /// The message of a subject, a reply and a payload, which the first three words are.
-pub fn message_in(alloc: Global, words: &Words<'_>) -> Option<Message> {
+fn message_in(alloc: Global, words: &Words<'_>) -> Option<Message> {
     message_of(alloc, words.at(0), words.at(1), words.at(2))
 }
 

@@ -8,12 +8,12 @@ use Rattle.world_law.specs.Changes.{placement_of}
 use Rattle.world_law.specs.Play.{placements_put}
 
 pub entry_split : (server : ServerIdentity) (step : ℕ) (xs items : List Placed) (i : ℕ) (x : Placed) → xs ≡ items → i < length xs → x ≡ get_or xs i x
-    → placements_put server step (drop i items) ≡ placement_of server step x.conn x.entry.bytes x.entry.tag ++ placements_put server step (drop (i + 1) items)
+    → placements_put server step (drop i items) ≡ placement_of server step x.conn x.headers x.entry.bytes x.entry.tag ++ placements_put server step (drop (i + 1) items)
 entry_split server step xs items i x same lt is =
     ap (λ l. placements_put server step (drop i l)) (sym same)
     ∙ at_drop_more (placements_put server step) xs i x lt
-    ∙ ap (λ (y : Placed). placement_of server step y.conn y.entry.bytes y.entry.tag ++ placements_put server step (drop (i + 1) xs)) (sym is)
-    ∙ ap (λ l. placement_of server step x.conn x.entry.bytes x.entry.tag ++ placements_put server step (drop (i + 1) l)) same
+    ∙ ap (λ (y : Placed). placement_of server step y.conn y.headers y.entry.bytes y.entry.tag ++ placements_put server step (drop (i + 1) xs)) (sym is)
+    ∙ ap (λ l. placement_of server step x.conn x.headers x.entry.bytes x.entry.tag ++ placements_put server step (drop (i + 1) l)) same
 
 pub step_split : {A B : Type 0} (f : A → List B) (xs : List A) (i : ℕ) (x : A) → i < length xs → x ≡ get_or xs i x → flat_map f (drop i xs) ≡ f x ++ flat_map f (drop (i + 1) xs)
 step_split f xs i x lt is = at_drop_more (flat_map f) xs i x lt ∙ ap (λ y. f y ++ flat_map f (drop (i + 1) xs)) (sym is)

@@ -7,7 +7,7 @@ use Rattle.std.proofs.lemmas.Option.{same_Some, none-some}
 use Rattle.std.proofs.lemmas.Slice.Eq.{bytes_eq-Decides}
 use Rattle.list_laws.proofs.Changes.{in_filter, filter_in}
 use Rattle.list_laws.proofs.Tests.{and_true, eq_true, true_eq, lt_true, le_true, same_bytes}
-use Rattle.client_frames.specs.Messages.{due_bytes, no_headers}
+use Rattle.client_frames.specs.Messages.{due_bytes}
 use Rattle.outbox.specs.declared.entries.Mode.{Mode}
 use Rattle.outbox.specs.declared.entries.Mode.TheVariants.{Plain, Queue}
 use Rattle.shard_core.specs.Owed.{mode_of}
@@ -27,7 +27,7 @@ record IsDue (source : Publication) (life : Life) (p : Placement) : Type 0 where
   conn : life.conn ≡ p.conn
   mode : mode_of life.key.queue ≡ p.mode
   matches : subject_matches life.key.pattern source.message.subject ≡ true
-  bytes : p.bytes ≡ due_bytes source.message life.sid no_headers
+  bytes : p.bytes ≡ due_bytes source.message life.sid p.headers
 
 -- ---- from the test
 
@@ -50,7 +50,7 @@ due_is source life p e =
     let moded = is_mode life.key.queue p.mode && matching in
     let connected = nat_eq life.conn p.conn && moded in
     let opening = is_open life p.step && connected in
-    let whole = and_true (is_for source life p) (bytes_eq (due_bytes source.message life.sid no_headers) p.bytes) e in
+    let whole = and_true (is_for source life p) (bytes_eq (due_bytes source.message life.sid p.headers) p.bytes) e in
     let first = and_true (nat_lt source.step p.step) opening whole.0 in
     let second = and_true (is_open life p.step) connected first.1 in
     let open_so = and_true (nat_lt life.opened p.step) (is_not_before p.step life.closed) second.0 in
@@ -63,7 +63,7 @@ due_is source life p e =
       conn = eq_true life.conn p.conn third.0;
       mode = mode_is life.key.queue p.mode fourth.0;
       matches = fourth.1;
-      bytes = sym (same_bytes (due_bytes source.message life.sid no_headers) p.bytes whole.1);
+      bytes = sym (same_bytes (due_bytes source.message life.sid p.headers) p.bytes whole.1);
     }
 
 pub owed_is : (publications : List Publication) (lives : List Life) (p : Placement) → is_owed publications lives p ≡ true → IsOwed publications lives p
@@ -120,7 +120,7 @@ due_holds source life p d =
     let fits =
     both_hold (nat_lt source.step p.step) (is_open life p.step && connected) (lt_holds source.step p.step d.earlier)
     (both_hold (is_open life p.step) connected open_so (both_hold (nat_eq life.conn p.conn) moded (true_eq life.conn p.conn d.conn) (both_hold (is_mode life.key.queue p.mode) matching mode d.matches))) in
-    both_hold (is_for source life p) (bytes_eq (due_bytes source.message life.sid no_headers) p.bytes) fits (bytes_hold (due_bytes source.message life.sid no_headers) p.bytes (sym d.bytes))
+    both_hold (is_for source life p) (bytes_eq (due_bytes source.message life.sid p.headers) p.bytes) fits (bytes_hold (due_bytes source.message life.sid p.headers) p.bytes (sym d.bytes))
 
 pub owed_holds : (publications : List Publication) (lives : List Life) (p : Placement) → IsOwed publications lives p → is_owed publications lives p ≡ true
 owed_holds publications lives p o =

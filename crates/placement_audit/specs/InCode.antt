@@ -7,7 +7,7 @@ use Rattle.world_law.specs.State as state
 use Rattle.placement_audit.specs.declared.placements.Placement.{Placement}
 
 abbrev pub placement_of : Placement → state.Placement
-placement_of p = record { step = p.step; life = life_id_of p.life; conn = p.conn; id = p.id; mode = p.mode; bytes = p.bytes.items }
+placement_of p = record { step = p.step; life = life_id_of p.life; conn = p.conn; id = p.id; mode = p.mode; bytes = p.bytes.items; headers = p.headers }
 
 abbrev pub lent_publication : Bor Publication → state.Publication
 lent_publication p = publication_of p.now

@@ -2,7 +2,7 @@
 use Rattle.std.specs.Prelude.{ℕ, Bool, true, false, not, ◌&&◌, nat_eq, nat_lt, nat_le, List, filter, Option, Some, None}
 use Rattle.std.specs.List.{list_any}
 use Rattle.std.specs.Str.{bytes_eq}
-use Rattle.client_frames.specs.Messages.{due_bytes, no_headers}
+use Rattle.client_frames.specs.Messages.{due_bytes}
 use Rattle.outbox.specs.declared.entries.Mode.{Mode}
 use Rattle.outbox.specs.declared.entries.Mode.TheVariants.{Plain, Queue}
 use Rattle.subj.specs.Matching.{subject_matches}
@@ -30,7 +30,7 @@ is_for source life p =
     && (is_open life p.step && (nat_eq life.conn p.conn && (is_mode life.key.queue p.mode && subject_matches life.key.pattern source.message.subject)))
 
 abbrev pub is_due : Publication → Life → Placement → Bool
-is_due source life p = is_for source life p && bytes_eq (due_bytes source.message life.sid no_headers) p.bytes
+is_due source life p = is_for source life p && bytes_eq (due_bytes source.message life.sid p.headers) p.bytes
 
 abbrev pub any_due : Publication → Placement → List Life → Bool
 any_due source p lives = list_any (λ (life : Life). is_due source life p) lives

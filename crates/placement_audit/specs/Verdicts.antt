@@ -5,8 +5,9 @@ use Rattle.world_law.specs.Headline.{PlainOnce, OneMember, IsOwed}
 use Rattle.world_law.specs.State.{Publication, Life, Placement}
 
 -- Each publication at most once for a plain subscription, and for a queue name at most once in the whole cluster; and each placement the
--- exact MSG of a publication of an earlier step, for a subscription of that connection, id and queue name that matches and was
--- open at that step. In which order a subscription's publications come is not judged.
+-- exact MSG or HMSG of a publication of an earlier step, for a subscription of that connection, id and queue name that matches and was
+-- open at that step; HMSG just where the publication has headers and the placement says that its connection took them. In which order a
+-- subscription's publications come is not judged.
 pub record IsKept (publications : List Publication) (lives : List Life) (placements : List Placement) : Type 0 where
   pub plain_once : Pairs PlainOnce placements
   pub one_member : Pairs OneMember placements

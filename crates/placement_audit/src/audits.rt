@@ -53,10 +53,12 @@ fn first_breach(
 /// The number, from 1, of the first placement that breaks the clause with those before it; None where none does.
 ///
 /// The clause: of one publication at most one placement is for one plain subscription, and at most one for one queue name, over all servers,
-/// incarnations and connections. And each placement is the exact `MSG` of a publication of an earlier step, for a
+/// incarnations and connections. And each placement is the exact `MSG` or `HMSG` of a publication of an earlier step, for a
 /// subscription of that connection, id and queue name that matches, was opened at an earlier step and did not close at an earlier
-/// one. It is judged by these lists alone, and the order of a subscription's publications is not judged. Placements have to stand in the
-/// order of placing; the two other lists may stand in any, and where several of them have one name, one that fits is enough.
+/// one; it is `HMSG` just where the publication has headers and the placement says that its connection took them. It is judged by these
+/// lists alone: whether a connection said that it takes headers is not judged, nor the order of a subscription's publications. Placements
+/// have to stand in the order of placing; the two other lists may stand in any, and where several of them have one name, one that fits is
+/// enough.
 ///
 /// Of n placements it takes a time that grows as n log n, where no name stands for many entries; it takes memory for the names of all three lists.
 pub fn audit(

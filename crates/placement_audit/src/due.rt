@@ -1,13 +1,13 @@
 //! What a subscription is due of a publication.
 
 ghost use Rattle.std.specs.Prelude.{◌≡◌, map, IfOk};
-ghost use Rattle.client_frames.specs.Messages.{due_bytes as all_due, no_headers};
+ghost use Rattle.client_frames.specs.Messages.{due_bytes as all_due};
 ghost use Rattle.cluster_world.specs.InCode.{publication_of, life_of};
 ghost use Rattle.placement_audit.specs.InCode.{placement_of, lent_life, lent_publication};
 ghost use Rattle.placement_audit.specs.Tests.{is_mode, is_not_before, is_open, is_for as is_right_for, is_due as is_all_due, any_due as any_life, any_owed as any_source};
 
 use crate::placements::Placement;
-use client_frames::message_line;
+use client_frames::{message_body, message_line};
 use cluster_world::{Life, Publication};
 use line_fields::CR_LF;
 use outbox::Mode;
@@ -54,13 +54,18 @@ fn is_for(source: &Publication, life: &Life, placement: &Placement) -> bool
         && life.key.pattern.matches(source.message.subject())
 }
 
-/// All bytes that the subscription is due of the publication.
-fn due_bytes(alloc: Global, source: &Publication, life: &Life) -> Result<Vec<u8>, AllocError>
-    ensures { IfOk result (λ bytes. bytes.items ≡ all_due source.now.message life.now.sid no_headers) }
+/// All bytes that the subscription is due of the publication, at a connection that takes headers or does not.
+fn due_bytes(
+    alloc: Global,
+    source: &Publication,
+    life: &Life,
+    takes_headers: bool,
+) -> Result<Vec<u8>, AllocError>
+    ensures { IfOk result (λ bytes. bytes.items ≡ all_due source.now.message life.now.sid takes_headers) }
 {
-    let mut bytes = message_line(alloc, &source.message, &life.sid)?;
+    let mut bytes = message_line(alloc, &source.message, &life.sid, takes_headers)?;
     bytes.extend_from_slice(CR_LF)?;
-    bytes.extend_from_slice(source.message.payload())?;
+    bytes.extend_from_slice(message_body(&source.message, takes_headers))?;
     bytes.extend_from_slice(CR_LF)?;
     Ok(bytes)
 }
@@ -77,7 +82,7 @@ fn is_due(
     if !is_for(source, life, placement) {
         return Ok(false);
     }
-    let bytes = due_bytes(alloc, source, life)?;
+    let bytes = due_bytes(alloc, source, life, placement.headers)?;
     Ok(bytes.as_slice() == placement.bytes.as_slice())
 }
 

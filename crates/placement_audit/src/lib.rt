@@ -6,8 +6,9 @@
 //!
 //! [`audit`] tells the first placement that, with those before it, breaks the clause that every run of the exact cluster keeps: a
 //! publication is placed at most once for a plain subscription, and for a queue name for at most one member in the whole cluster; and
-//! what is placed is the exact `MSG` of a publication of an earlier step, for a subscription that matches and was open at that
-//! step. It reads the lists alone, and shares no code with the cluster that made them.
+//! what is placed is the exact `MSG` or `HMSG` of a publication of an earlier step (`HMSG` just where that has headers and the
+//! connection took them), for a subscription that matches and was open at that step. It reads the lists alone, and shares no code with
+//! the cluster that made them.
 //!
 //! In reading order: `placements` is a list of placements, one by one; `due` what a subscription is due of a publication; `keys` names
 //! as keys in order, `named` publications and subscriptions by their names, and `seen` what was placed so far; `audits` goes

@@ -27,6 +27,8 @@ pub struct Placement {
     pub mode: Mode,
     /// All bytes that were put.
     pub bytes: Vec<u8>,
+    /// Whether the connection took headers at that step.
+    pub headers: bool,
 }
 
 /// What an entry places: a message, or nothing where it is an answer or a last line.
@@ -35,7 +37,7 @@ fn placement_in(
     put: &Placements,
     placed: &Placed,
 ) -> Result<Option<Placement>, AllocError>
-    ensures { IfOk result (λ found. option_to_list (option_map placement_of found) ≡ of_entry (placing_server put.now.node put.now.inc) put.now.step placed.now.conn placed.now.entry.bytes placed.now.entry.tag) }
+    ensures { IfOk result (λ found. option_to_list (option_map placement_of found) ≡ of_entry (placing_server put.now.node put.now.inc) put.now.step placed.now.conn placed.now.headers placed.now.entry.bytes placed.now.entry.tag) }
 {
     let Tag::Msg { id, sub, mode } = placed.entry.tag() else {
         return Ok(None);
@@ -54,6 +56,7 @@ fn placement_in(
         id: *id,
         mode,
         bytes,
+        headers: placed.headers,
     }))
 }
 

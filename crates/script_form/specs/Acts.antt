@@ -9,7 +9,7 @@ use Rattle.subj.specs.Names.{node_name_fault, pattern_fault, subject_fault, queu
 use Rattle.subj.specs.Numbers.{incarnation_of}
 use Rattle.subj.specs.Publications.{new_publication}
 use Rattle.script_form.specs.declared.steps.Act.{Act}
-use Rattle.script_form.specs.declared.steps.Act.TheVariants.{Start, Stop, Attach, Sub, Unsub, Detach, Publish, Settled, Deliver, Receive, Collect, Drain, DrainShard, Begin, End, DropJob, Claim, Dial, Accept, Info, Connect, Cut, TakeEntries, TakeFrames, Join}
+use Rattle.script_form.specs.declared.steps.Act.TheVariants.{Start, Stop, Attach, Sub, Unsub, SetHeaders, Detach, Publish, Settled, Deliver, Receive, Collect, Drain, DrainShard, Begin, End, DropJob, Claim, Dial, Accept, Info, Connect, Cut, TakeEntries, TakeFrames, Join}
 use Rattle.script_form.specs.declared.steps.Step.{Step}
 use Rattle.script_form.specs.declared.steps.Verb.{Verb}
 use Rattle.script_form.specs.declared.steps.Verb.TheVariants as verb
@@ -76,6 +76,12 @@ unsub_in json = do
   sid ← sid json
   max ← optional whole key.Max json
   Some (Unsub conn sid max)
+
+unfoldable pub headers_in : Data → Option Act
+headers_in json = do
+  conn ← conn json
+  on ← member truth key.On json
+  Some (SetHeaders conn on)
 
 unfoldable pub detach_in : Data → Option Act
 detach_in json = do
@@ -159,6 +165,7 @@ act_in verb.Stop json = Some Stop
 act_in verb.Attach json = attach_in json
 act_in verb.Sub json = sub_in json
 act_in verb.Unsub json = unsub_in json
+act_in verb.Headers json = headers_in json
 act_in verb.Detach json = detach_in json
 act_in verb.Publish json = publish_in Publish json
 act_in verb.Settled json = settled_in json

@@ -8,7 +8,7 @@ use Rattle.subj.specs.declared.failures.Failure.{Failure}
 use Rattle.subj.specs.declared.failures.Failure.TheVariants.{Refused, OutOfMemory}
 use Rattle.subj.specs.Names.{node_name_fault}
 use Rattle.script_form.specs.declared.steps.Member.{Member}
-use Rattle.script_form.specs.declared.steps.Member.TheVariants.{Do, Node, Inc, Conn, Shard, Pattern, Queue, Sid, Max, Subject, Reply, Headers, Payload, Echo, Word, Frame, Session, Peer, Index, Count, Nodes, Shards, Steps}
+use Rattle.script_form.specs.declared.steps.Member.TheVariants.{Do, Node, Inc, Conn, Shard, Pattern, Queue, Sid, Max, Subject, Reply, Headers, Payload, Echo, Word, On, Frame, Session, Peer, Index, Count, Nodes, Shards, Steps}
 
 -- ---- how members are called
 
@@ -28,6 +28,7 @@ name_of Headers = codes "headers"
 name_of Payload = codes "payload"
 name_of Echo = codes "echo"
 name_of Word = codes "word"
+name_of On = codes "on"
 name_of Frame = codes "frame"
 name_of Session = codes "session"
 name_of Peer = codes "peer"

@@ -2,7 +2,7 @@
 use Rattle.std.specs.Prelude.{ℕ, List, [], ◌∷◌, codes, Option, Some, None, if◌then◌else◌}
 use Rattle.std.specs.Str.{bytes_eq}
 use Rattle.script_form.specs.declared.steps.Verb.{Verb}
-use Rattle.script_form.specs.declared.steps.Verb.TheVariants.{Start, Stop, Attach, Sub, Unsub, Detach, Publish, Settled, Deliver, Receive, Collect, Drain, DrainShard, Begin, End, Drop, Claim, Dial, Accept, Info, Connect, Cut, Take, Join}
+use Rattle.script_form.specs.declared.steps.Verb.TheVariants.{Start, Stop, Attach, Sub, Unsub, Headers, Detach, Publish, Settled, Deliver, Receive, Collect, Drain, DrainShard, Begin, End, Drop, Claim, Dial, Accept, Info, Connect, Cut, Take, Join}
 
 abbrev pub word_of : Verb → List ℕ
 word_of Start = codes "start"
@@ -10,6 +10,7 @@ word_of Stop = codes "stop"
 word_of Attach = codes "attach"
 word_of Sub = codes "sub"
 word_of Unsub = codes "unsub"
+word_of Headers = codes "headers"
 word_of Detach = codes "detach"
 word_of Publish = codes "publish"
 word_of Settled = codes "settled"
@@ -33,8 +34,8 @@ word_of Join = codes "join"
 -- all of them; no two have one word
 abbrev pub verbs : List Verb
 verbs =
-    Start ∷ Stop ∷ Attach ∷ Sub ∷ Unsub ∷ Detach ∷ Publish ∷ Settled ∷ Deliver ∷ Receive ∷ Collect ∷ Drain ∷ DrainShard ∷ Begin ∷ End ∷ Drop
-    ∷ Claim ∷ Dial ∷ Accept ∷ Info ∷ Connect ∷ Cut ∷ Take ∷ Join ∷ []
+    Start ∷ Stop ∷ Attach ∷ Sub ∷ Unsub ∷ Headers ∷ Detach ∷ Publish ∷ Settled ∷ Deliver ∷ Receive ∷ Collect ∷ Drain ∷ DrainShard ∷ Begin ∷ End
+    ∷ Drop ∷ Claim ∷ Dial ∷ Accept ∷ Info ∷ Connect ∷ Cut ∷ Take ∷ Join ∷ []
 
 -- the one whose word this is, letter by letter
 abbrev pub verb_among : List Verb → List ℕ → Option Verb

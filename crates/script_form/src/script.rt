@@ -8,7 +8,7 @@ ghost use Rattle.subj.specs.Answers.{IsAnswered};
 ghost use Rattle.subj.specs.Names.{node_name_fault, pattern_fault, subject_fault, queue_name_fault, sid_fault};
 ghost use Rattle.subj.specs.Publications.{new_publication};
 ghost use Rattle.script_form.specs.Members.{MemberMeans, Says, SaysBy, member as there, optional, whole, text as is_text, truth as is_truth, node as is_node, name_at, optional_name_at, MeansBy};
-ghost use Rattle.script_form.specs.Acts.{start_in, attach_in, key_in, sub_in, unsub_in, publication_in, publish_in, settled_in, claim_in, take_entries_in, take_frames_in, take_in, act_in, verb_in, step_in, shard, peer, session, frame, conn};
+ghost use Rattle.script_form.specs.Acts.{start_in, attach_in, key_in, sub_in, unsub_in, headers_in, publication_in, publish_in, settled_in, claim_in, take_entries_in, take_frames_in, take_in, act_in, verb_in, step_in, shard, peer, session, frame, conn};
 ghost use Rattle.script_form.specs.declared.steps.Act.TheVariants.{Publish, Deliver};
 ghost use Rattle.script_form.specs.declared.steps.Member.TheVariants.{Headers as HeadersMember, Payload as PayloadMember};
 ghost use Rattle.serde_json.specs.Find.{as_array};
@@ -46,6 +46,16 @@ fn optional_number(object: &Value, member: Member) -> Result<Option<u64>, Misfit
             None => Err(Misfit { member }),
         },
     }
+}
+
+/// A truth value.
+fn truth(object: &Value, member: Member) -> Result<bool, Misfit>
+    ensures { Says (there is_truth member (view object.now)) result }
+{
+    object
+        .get(member.name())
+        .and_then(Value::as_bool)
+        .ok_or(Misfit { member })
 }
 
 /// A truth value, where the member is there.
@@ -271,6 +281,15 @@ fn read_unsub(alloc: Global, object: &Value) -> Result<Act, Failure<Misfit>>
     Ok(Act::Unsub { conn, sid, max })
 }
 
+#[tactic(auto, unfolding(crate::specs::Acts::headers_in))]
+fn read_headers(object: &Value) -> Result<Act, Misfit>
+    ensures { Says (headers_in (view object.now)) result }
+{
+    let conn = read_conn(object)?;
+    let on = truth(object, Member::On)?;
+    Ok(Act::SetHeaders { conn, on })
+}
+
 /// The bytes of a text, where there is one.
 fn bytes_where_there(alloc: Global, text: Option<&str>) -> Result<Option<Bytes>, AllocError>
     ensures { IfOk result (λ bytes. bytes ≡ option_copied text.entry) }
@@ -410,6 +429,7 @@ fn read_act(alloc: Global, verb: Verb, object: &Value) -> Result<Act, Failure<Mi
         Verb::Attach => Ok(read_attach(object)?),
         Verb::Sub => read_sub(alloc, object),
         Verb::Unsub => read_unsub(alloc, object),
+        Verb::Headers => Ok(read_headers(object)?),
         Verb::Detach => Ok(Act::Detach {
             conn: read_conn(object)?,
         }),

@@ -35,6 +35,12 @@ pub enum Act {
         sid: Sid,
         max: Option<u64>,
     },
+    /// The connection takes headers from now on, or takes none. (NATS documentation, "Client Protocol": `CONNECT`,
+    /// `headers`.)
+    SetHeaders {
+        conn: ConnId,
+        on: bool,
+    },
     /// The connection goes.
     Detach {
         conn: ConnId,
@@ -163,6 +169,7 @@ pub enum Member {
     Payload,
     Echo,
     Word,
+    On,
     Frame,
     Session,
     Peer,
@@ -194,6 +201,7 @@ impl Member {
             Member::Payload => "payload",
             Member::Echo => "echo",
             Member::Word => "word",
+            Member::On => "on",
             Member::Frame => "frame",
             Member::Session => "session",
             Member::Peer => "peer",
@@ -214,6 +222,7 @@ pub(crate) enum Verb {
     Attach,
     Sub,
     Unsub,
+    Headers,
     Detach,
     Publish,
     Settled,
@@ -246,6 +255,7 @@ impl Verb {
             "attach" => Some(Verb::Attach),
             "sub" => Some(Verb::Sub),
             "unsub" => Some(Verb::Unsub),
+            "headers" => Some(Verb::Headers),
             "detach" => Some(Verb::Detach),
             "publish" => Some(Verb::Publish),
             "settled" => Some(Verb::Settled),

@@ -3,19 +3,19 @@
 //!
 //! ```text
 //! attach SHARD   begin SHARD   claim SHARD|INDEX   end SHARD   drop_job SHARD   collect SHARD
-//! subscribe CONN|PATTERN|QUEUE|SID   unsubscribe CONN|SID|MAX   reply CONN   shut CONN   detach CONN   take CONN|COUNT
-//! publish CONN|SUBJECT|PAYLOAD|WORD   publish_no_echo CONN|SUBJECT|PAYLOAD|WORD
+//! subscribe CONN|PATTERN|QUEUE|SID   unsubscribe CONN|SID|MAX   reply CONN   headers CONN|ON   shut CONN   detach CONN   take CONN|COUNT
+//! publish CONN|SUBJECT|PAYLOAD|WORD|BLOCK   publish_no_echo CONN|SUBJECT|PAYLOAD|WORD|BLOCK
 //! dial PEER   accept   cut SESSION   take_frames PEER|COUNT
 //! info SESSION|FROM   connect SESSION|FROM|TO|SERIAL
-//! message FROM|TO|NUMBER|SUBJECT|PAYLOAD|QUEUES   plus FROM|TO|NUMBER|PATTERN|QUEUE|WEIGHT   minus FROM|TO|NUMBER|PATTERN|QUEUE
-//! no_interest FROM|TO|NUMBER
+//! message FROM|TO|NUMBER|SUBJECT|PAYLOAD|QUEUES|BLOCK   plus FROM|TO|NUMBER|PATTERN|QUEUE|WEIGHT
+//! minus FROM|TO|NUMBER|PATTERN|QUEUE   no_interest FROM|TO|NUMBER
 //! ```
 //!
-//! A queue name or a maximum that is empty is none. The word decides which server serves a queue name. The last three lines are frames of
-//! another server.
+//! A queue name, a maximum or a header block that is empty is none. A connection takes headers where `on` stands, and none with `off`. The word
+//! decides which server serves a queue name. The last two lines are frames of another server.
 
 use client_frames::{ErrText, ReplyFrame};
-use golden::{Life, Words, key_of, message_of, number, queues_of, sid_of};
+use golden::{Life, Words, key_of, message_with, number, queues_of, sid_of};
 use node_law::{ConnEvent, NodeEvent, OwnEvent, ShardWork};
 use route_session::SessionId;
 use route_values::{Body, Numbered, RouteConnect, RouteInfo, SnapshotKeys, WeightedKey};
@@ -49,7 +49,7 @@ fn life_of(word: &str) -> Option<Life> {
 
 /// A message for these queue names, with blanks between them.
 fn message(alloc: Global, words: &Words<'_>) -> Option<Body> {
-    let message = message_of(alloc, words.at(3), "", words.at(4))?;
+    let message = message_with(alloc, words.at(3), "", words.at(6), words.at(4))?;
     let queues = queues_of(alloc, words.at(5))??;
     Some(Body::Msg { message, queues })
 }
@@ -158,6 +158,9 @@ fn asked(alloc: Global, name: &str, words: &Words<'_>) -> Option<ConnEvent> {
         "reply" => Some(ConnEvent::Reply {
             frame: ReplyFrame::Pong,
         }),
+        "headers" => Some(ConnEvent::SetHeaders {
+            on: words.at(1) == "on",
+        }),
         "shut" => Some(ConnEvent::Shut {
             text: ErrText::ParserError,
         }),
@@ -176,7 +179,7 @@ fn conn_event(alloc: Global, name: &str, words: &Words<'_>) -> Option<NodeEvent>
 
 /// A publication, and whether its client is to get it too.
 fn publication(alloc: Global, words: &Words<'_>, echo: bool) -> Option<NodeEvent> {
-    let message = message_of(alloc, words.at(1), "", words.at(2))?;
+    let message = message_with(alloc, words.at(1), "", words.at(4), words.at(2))?;
     Some(NodeEvent::Own(OwnEvent::Publish {
         conn: ConnId::new(count(words.at(0))),
         publication: Pub { message, echo },

@@ -12,7 +12,7 @@ use wire_cut::{MemSink, Raw};
 
 /// What the client is told first.
 const INFO: &[u8] =
-    b"INFO {\"client_id\":1,\"headers\":false,\"host\":\"127.0.0.1\",\"max_payload\":1048576,\"port\":0,\"proto\":1,\"server_id\":\"n1-1\",\"server_name\":\"n1\",\"version\":\"1.0.0\"}\r\n";
+    b"INFO {\"client_id\":1,\"headers\":true,\"host\":\"127.0.0.1\",\"max_payload\":1048576,\"port\":0,\"proto\":1,\"server_id\":\"n1-1\",\"server_name\":\"n1\",\"version\":\"1.0.0\"}\r\n";
 
 /// How a pipe ended.
 fn end_word(ended: Result<PipeEnd, PipeFault>) -> &'static str {

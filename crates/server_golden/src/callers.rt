@@ -1,7 +1,7 @@
 //! What clients say, and callers whose passes tell what they asked and were answered.
 
 use client_frames::{ErrText, ReplyFrame};
-use golden::{key_of, message_of, sid_of};
+use golden::{key_of, message_with, sid_of};
 use node_law::NodeFault;
 use route_values::{Body, Numbered, RouteConnect, RouteInfo, SnapshotKeys};
 use std::alloc::Global;
@@ -14,10 +14,10 @@ use thread_report::Pass;
 /// The server.
 pub type Node<N> = ThreadNode<ListTable, N>;
 
-/// `hello` on `foo`, as a client says it.
-pub fn hello(alloc: Global) -> Option<Pub> {
+/// `hello` on `foo`, as a client says it, with a header block or none.
+pub fn hello(alloc: Global, block: &str) -> Option<Pub> {
     Some(Pub {
-        message: message_of(alloc, "foo", "", "hello")?,
+        message: message_with(alloc, "foo", "", block, "hello")?,
         echo: true,
     })
 }
@@ -52,13 +52,14 @@ fn opens_and_ends<N: NodeName, R: Wait>(
     done(pass.unsubscribe(rt, node, 1, conn, &id, None))
 }
 
-/// A client is answered, and its connection is shut.
+/// A client takes headers and is answered, and its connection is shut.
 fn is_answered_and_shut<N: NodeName, R: Wait>(
     rt: &R,
     node: &Node<N>,
     pass: &mut Pass<N>,
     conn: ConnId,
 ) -> Option<()> {
+    done(pass.set_headers(rt, node, 1, conn, true))?;
     done(pass.reply(rt, node, 1, conn, &ReplyFrame::Pong))?;
     done(pass.take(rt, node, 1, conn, 1))?;
     done(pass.shut(rt, node, 1, conn, ErrText::ParserError))
@@ -77,7 +78,7 @@ fn publishes_and_goes<N: NodeName, R: Wait>(
     done(pass.detach(rt, node, 1, conn))
 }
 
-/// Each call of a client: a subscription, an answer, and the end of a connection in both ways.
+/// Each call of a client: a subscription, headers, an answer, and the end of a connection in both ways.
 pub fn serve_clients<N: NodeName, R: Wait>(
     rt: &R,
     alloc: Global,
@@ -87,7 +88,7 @@ pub fn serve_clients<N: NodeName, R: Wait>(
     let conn = pass.attach(rt, node, 1).ok()?;
     opens_and_ends(rt, alloc, node, pass, conn)?;
     is_answered_and_shut(rt, node, pass, conn)?;
-    publishes_and_goes(rt, node, pass, &hello(alloc)?)
+    publishes_and_goes(rt, node, pass, &hello(alloc, "")?)
 }
 
 /// Whether a call was refused for the connection of another shard.
@@ -101,6 +102,7 @@ fn refused_away<X: Drop>(answer: Result<X, Failure<NodeFault>>) -> Option<()> {
 /// A client of the first shard, whose connection the second one is asked for.
 pub fn serve_stray<N: NodeName, R: Wait>(rt: &R, node: &Node<N>, pass: &mut Pass<N>) -> Option<()> {
     let conn = pass.attach(rt, node, 1).ok()?;
+    refused_away(pass.set_headers(rt, node, 2, conn, true))?;
     refused_away(pass.reply(rt, node, 2, conn, &ReplyFrame::Pong))?;
     refused_away(pass.take(rt, node, 2, conn, 1))?;
     refused_away(pass.shut(rt, node, 2, conn, ErrText::ParserError))?;
@@ -133,7 +135,7 @@ fn snapshot(alloc: Global) -> Option<Numbered> {
 /// The first message of n2 to n1.
 fn message(alloc: Global) -> Option<Numbered> {
     let Lives { n1, n2, inc } = first_lives()?;
-    let Pub { message, .. } = hello(alloc)?;
+    let Pub { message, .. } = hello(alloc, "")?;
     let queues = QueueNames::new();
     Numbered::new(n2, inc, n1, inc, 1, Body::Msg { message, queues })
 }

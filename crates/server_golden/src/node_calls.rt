@@ -2,7 +2,7 @@
 
 use crate::callers::{Node, hello, opening};
 use client_frames::{ErrText, ReplyFrame};
-use golden::{Words, sid_of, text, yes_or_no};
+use golden::{Words, shown, sid_of, text, yes_or_no};
 use hub_core::HubFault;
 use node_law::NodeFault;
 use node_parts::Issued;
@@ -34,6 +34,17 @@ fn told<X: Drop>(
     }
 }
 
+/// The same of a call that takes no memory.
+fn decided_told<X: Drop>(
+    alloc: Global,
+    answer: Result<X, NodeFault>,
+) -> Result<String, AllocError> {
+    match answer {
+        Ok(_answer) => text(alloc, "ok"),
+        Err(fault) => failure_told(alloc, Failure::Refused(fault)),
+    }
+}
+
 /// How many entries were taken.
 fn taken_told(
     alloc: Global,
@@ -41,6 +52,26 @@ fn taken_told(
 ) -> Result<String, AllocError> {
     match taken {
         Ok(entries) => format!(in alloc; "entries {}", entries.len()),
+        Err(failure) => failure_told(alloc, failure),
+    }
+}
+
+/// The bytes of these entries.
+fn bytes_told(alloc: Global, entries: &[Entry]) -> Result<String, AllocError> {
+    let mut bytes = Vec::new(alloc);
+    for entry in entries {
+        entry.append_to(&mut bytes)?;
+    }
+    shown(alloc, "", &bytes)
+}
+
+/// The bytes of the entries that were taken.
+fn text_told(
+    alloc: Global,
+    taken: Result<Vec<Entry>, Failure<NodeFault>>,
+) -> Result<String, AllocError> {
+    match taken {
+        Ok(entries) => bytes_told(alloc, &entries),
         Err(failure) => failure_told(alloc, failure),
     }
 }
@@ -102,21 +133,31 @@ fn unsubscribe<N: NodeName, R: Wait>(
     conn: ConnId,
 ) -> Result<String, AllocError> {
     let sid = sid_of(alloc, "1").ok_or(AllocError)?;
-    match node.unsubscribe(rt, shard, conn, &sid, None) {
-        Ok(_ended) => text(alloc, "ok"),
-        Err(fault) => failure_told(alloc, Failure::Refused(fault)),
-    }
+    decided_told(alloc, node.unsubscribe(rt, shard, conn, &sid, None))
 }
 
-/// Publishes `hello` on `foo`.
+/// Publishes `hello` on `foo` for a connection, with a header block or none.
 fn publish<N: NodeName, R: Wait>(
     rt: &R,
     alloc: Global,
     node: &Node<N>,
-    conn: ConnId,
+    words: &Words<'_>,
 ) -> Result<String, AllocError> {
-    let publication = hello(alloc).ok_or(AllocError)?;
+    let publication = hello(alloc, words.at(1)).ok_or(AllocError)?;
+    let conn = ConnId::new(words.number(0));
     published_told(alloc, node.publish(rt, conn, &publication, 0))
+}
+
+/// Whether a connection of a shard takes headers from now on.
+fn set_headers<N: NodeName, R: Wait>(
+    rt: &R,
+    alloc: Global,
+    node: &Node<N>,
+    words: &Words<'_>,
+) -> Result<String, AllocError> {
+    let (shard, conn) = (words.number(0), ConnId::new(words.number(1)));
+    let on = words.at(2) == "on";
+    decided_told(alloc, node.set_headers(rt, shard, conn, on))
 }
 
 /// Hands the shards the jobs that they were not handed for want of memory.
@@ -144,6 +185,7 @@ fn on_conn<N: NodeName, R: Wait>(
         "subscribe" => subscribe(rt, alloc, node, shard, conn),
         "unsubscribe" => unsubscribe(rt, alloc, node, shard, conn),
         "take" => taken_told(alloc, node.take(rt, shard, conn, usize::MAX)),
+        "text" => text_told(alloc, node.take(rt, shard, conn, usize::MAX)),
         "reply" => told(alloc, node.reply(rt, shard, conn, &ReplyFrame::Pong)),
         "shut" => told(alloc, node.shut(rt, shard, conn, ErrText::SlowConsumer)),
         "detach" => told(alloc, node.detach(rt, shard, conn)),
@@ -162,7 +204,8 @@ fn first_answer<N: NodeName, R: Wait>(
     let shard = words.number(0);
     match call {
         "shards" => format!(in alloc; "shards {}", node.shards()),
-        "publish" => publish(rt, alloc, node, ConnId::new(words.number(0))),
+        "publish" => publish(rt, alloc, node, words),
+        "headers" => set_headers(rt, alloc, node, words),
         "push_jobs" => push_jobs(rt, alloc, node),
         "has_shard" => yes_or_no(alloc, node.shard(rt, shard).is_some()),
         "attach" => told(alloc, node.attach(rt, shard)),

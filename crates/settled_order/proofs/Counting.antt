@@ -12,10 +12,10 @@ use Rattle.route_values.specs.Frames.{Frame}
 use Rattle.route_values.specs.declared.bodies.Body.{Body}
 use Rattle.route_values.specs.declared.bodies.Body.TheVariants.{Plus, Minus, Snapshot, Msg}
 use Rattle.shard_core.specs.declared.calls.Placed.{Placed}
-use Rattle.shard_core.specs.Owed.{placed_for, candidate_of, whole_walk, slow_consumer}
+use Rattle.shard_core.specs.Owed.{owed_placed, candidate_of, whole_walk, slow_consumer}
 use Rattle.shard_core.specs.Puts.{put_by, put_by_claim, put_line}
 use Rattle.shard_core.specs.ShardEvents as part
-use Rattle.shard_core.specs.Shards.{State}
+use Rattle.shard_core.specs.Shards.{State, Client}
 use Rattle.shard_core.specs.ShardSteps.{shard_answer, claim_answer, subscribe_answer, answer_fits, sub_called}
 use Rattle.node_law.specs.Answers.{node_answer, told_at, told_of_line, told_of_shard, told_of_hub}
 use Rattle.node_law.specs.Events.{OfConn, AtShard, Publish, Collect, Drain, Dial, Accept, CutSession, TakeFrames, NodeEvent, Own, Receive, OnInfo, OnConnect}
@@ -39,11 +39,11 @@ use Rattle.settled_order.specs.Counted.{placed_by_answer, placed_by}
 module _ (server : ServerIdentity) (now : ℕ) where
   behind : (xs ys : List Placed) → placements_put server now (xs ++ ys) ≡ placements_put server now xs ++ placements_put server now ys
   behind [] ys = refl
-  behind (x ∷ xs) ys = ap (λ l. placement_of server now x.conn x.entry.bytes x.entry.tag ++ l) (behind xs ys) ∙ sym (append_assoc (placement_of server now x.conn x.entry.bytes x.entry.tag) (placements_put server now xs) (placements_put server now ys))
+  behind (x ∷ xs) ys = ap (λ l. placement_of server now x.conn x.headers x.entry.bytes x.entry.tag ++ l) (behind xs ys) ∙ sym (append_assoc (placement_of server now x.conn x.headers x.entry.bytes x.entry.tag) (placements_put server now xs) (placements_put server now ys))
 
-  messages : (of_shard : ℕ) (job : Job) (queue : Option (List ℕ)) (subs : List Subscription) → length (placements_put server now (map (placed_for of_shard job queue) subs)) ≡ length subs
-  messages of_shard job queue [] = refl
-  messages of_shard job queue (sub ∷ subs) = ap suc (messages of_shard job queue subs)
+  messages : (of_shard : ℕ) (clients : List Client) (job : Job) (queue : Option (List ℕ)) (subs : List Subscription) → length (placements_put server now (map (owed_placed of_shard clients job queue) subs)) ≡ length subs
+  messages of_shard clients job queue [] = refl
+  messages of_shard clients job queue (sub ∷ subs) = ap suc (messages of_shard clients job queue subs)
 
   lines : (line : List ℕ) (conns : List ℕ) → placements_put server now (map (put_line line) conns) ≡ []
   lines line [] = refl
@@ -63,18 +63,19 @@ module _ (server : ServerIdentity) (now : ℕ) where
   replied s conn frame true = refl
   replied s conn frame false = refl
 
-  began : (s : State) (job : Job) → length (placements_put server now (put_by s (part.Begin job))) ≡ length (map (placed_for s.shard job None) (whole_walk s job).given)
+  began : (s : State) (job : Job) → length (placements_put server now (put_by s (part.Begin job))) ≡ length (map (owed_placed s.shard s.clients job None) (whole_walk s job).given)
   began s job =
       let w = whole_walk s job in
-      ap length (behind (map (placed_for s.shard job None) w.given) (map (put_line slow_consumer) w.shut) ∙ ap (λ l. placements_put server now (map (placed_for s.shard job None) w.given) ++ l) (lines slow_consumer w.shut))
-      ∙ ap length (append_nil (placements_put server now (map (placed_for s.shard job None) w.given)))
-      ∙ messages s.shard job None w.given ∙ sym (map_length (placed_for s.shard job None) w.given)
+      ap length (behind (map (owed_placed s.shard s.clients job None) w.given) (map (put_line slow_consumer) w.shut) ∙ ap (λ l. placements_put server now (map (owed_placed s.shard s.clients job None) w.given) ++ l) (lines slow_consumer w.shut))
+      ∙ ap length (append_nil (placements_put server now (map (owed_placed s.shard s.clients job None) w.given)))
+      ∙ messages s.shard s.clients job None w.given ∙ sym (map_length (owed_placed s.shard s.clients job None) w.given)
 
   by_shard : (s : State) (event : part.Event) → length (placements_put server now (put_by s event)) ≡ placed_by_answer (told_of_shard (shard_answer s event))
   by_shard s part.Attach = refl
   by_shard s (part.Subscribe conn key sid) = subscribed s (sub_called conn sid s.subs)
   by_shard s (part.Unsubscribe conn sid max) = refl
   by_shard s (part.Reply conn frame) = replied s conn frame (answer_fits s conn (reply_line frame))
+  by_shard s (part.SetHeaders conn on) = refl
   by_shard s (part.Shut conn text) = refl
   by_shard s (part.Detach conn) = refl
   by_shard s (part.Take conn count) = refl

@@ -4,6 +4,8 @@ pub mod Lookups
 pub mod Staging
 pub mod Outboxes
 pub mod Limits
+pub mod Options
+pub mod Forms
 pub mod Messages
 pub mod Rooms
 pub mod Told

@@ -1,6 +1,7 @@
 -- Why subscriptions close, and in which order they stand.
 pub mod Closed
 pub mod Ended
+pub mod Fixed
 pub mod Leaving
 pub mod Opened
 pub mod Serials

@@ -1,4 +1,4 @@
--- A shard and its steps as the cluster law sees them: without outboxes, deltas, limits, maxima and echo.
+-- A shard and its steps as the cluster law sees them: without outboxes, header options, deltas, limits, maxima and echo.
 use Rattle.std.specs.Prelude.{◌≡◌, ◌≢◌, ℕ, ◌+◌, Bool, true, false, nat_eq, List, [], ◌∷◌, map, Option, Some, None}
 use Rattle.std.specs.List.{list_any}
 use Rattle.cluster_law.specs.Config.{Config, every_rule}
@@ -16,7 +16,7 @@ use Rattle.subj.specs.declared.keys.Key.{Key}
 use Rattle.shard_core.specs.Shards.{State}
 use Rattle.shard_core.specs.Closings.{serials_of}
 use Rattle.shard_core.specs.Owed.{whole_walk, candidate_of}
-use Rattle.shard_core.specs.ShardEvents.{Event, Attach, Subscribe, Unsubscribe, Reply, Shut, Detach, Take, Begin, Claim, End, DropJob, Drain, Collect}
+use Rattle.shard_core.specs.ShardEvents.{Event, Attach, Subscribe, Unsubscribe, Reply, SetHeaders, Shut, Detach, Take, Begin, Claim, End, DropJob, Drain, Collect}
 use Rattle.shard_core.specs.ShardSteps.{sub_called, shard_refusal, shard_after}
 use Rattle.shard_core.specs.Lines.{SoundLine, HasJob, waiting_after}
 
@@ -63,6 +63,7 @@ RaceMoves window s Attach race after = Keeps window race after
 RaceMoves window s (Subscribe conn key sid) race after = Keeps window race after
 RaceMoves window s (Unsubscribe conn sid max) race after = Keeps window race after
 RaceMoves window s (Reply conn frame) race after = Keeps window race after
+RaceMoves window s (SetHeaders conn on) race after = Keeps window race after
 RaceMoves window s (Shut conn text) race after = Keeps window race after
 RaceMoves window s (Detach conn) race after = Keeps window race after
 RaceMoves window s (Take conn count) race after = Keeps window race after
@@ -86,6 +87,7 @@ given_by s Attach = []
 given_by s (Subscribe conn key sid) = []
 given_by s (Unsubscribe conn sid max) = []
 given_by s (Reply conn frame) = []
+given_by s (SetHeaders conn on) = []
 given_by s (Shut conn text) = []
 given_by s (Detach conn) = []
 given_by s (Take conn count) = []
@@ -101,6 +103,7 @@ job_by s Attach = None
 job_by s (Subscribe conn key sid) = None
 job_by s (Unsubscribe conn sid max) = None
 job_by s (Reply conn frame) = None
+job_by s (SetHeaders conn on) = None
 job_by s (Shut conn text) = None
 job_by s (Detach conn) = None
 job_by s (Take conn count) = None
@@ -128,6 +131,7 @@ lives_by n inc now place s Attach = []
 lives_by n inc now place s (Subscribe conn key sid) = opened_by n inc now place s conn key sid (sub_called conn sid s.subs)
 lives_by n inc now place s (Unsubscribe conn sid max) = []
 lives_by n inc now place s (Reply conn frame) = []
+lives_by n inc now place s (SetHeaders conn on) = []
 lives_by n inc now place s (Shut conn text) = []
 lives_by n inc now place s (Detach conn) = []
 lives_by n inc now place s (Take conn count) = []

@@ -4,10 +4,11 @@ use Rattle.std.specs.List.{AllPairs, list_any}
 use Rattle.outbox.specs.Views.{Waiting, Backlog, size_of, has_room}
 use Rattle.sub_table.specs.declared.Room.{Room}
 use Rattle.shard_core.specs.declared.connections.Conn.{Conn}
+use Rattle.shard_core.specs.declared.connections.FormLengths.{FormLengths}
 use Rattle.shard_core.specs.declared.connections.Seat.{Seat}
 use Rattle.shard_core.specs.declared.connections.Standing.{Standing}
 use Rattle.shard_core.specs.declared.connections.Standing.TheVariants.{Shut, Full, Ready}
-use Rattle.shard_core.specs.Shards.{Client, client_at, fits_len, has_number, is_open}
+use Rattle.shard_core.specs.Shards.{Client, client_at, fits_len, has_number, is_open, takes_headers}
 
 pub record Clients : Type 0 where
   pub shown : List Client
@@ -26,7 +27,7 @@ IsSettled c = c.next ≡ c.shown
 
 -- one of the two backlogs of a connection
 abbrev pub client_in_view : (Waiting → Backlog) → Conn → Client
-client_in_view backlog conn = record { number = conn.number; outbox = backlog conn.outbox; max_entries = conn.outbox.max_entries; max_bytes = conn.outbox.max_bytes }
+client_in_view backlog conn = record { number = conn.number; outbox = backlog conn.outbox; max_entries = conn.outbox.max_entries; max_bytes = conn.outbox.max_bytes; headers = conn.headers }
 
 abbrev pub shown_backlog : Waiting → Backlog
 shown_backlog box = box.shown
@@ -68,7 +69,7 @@ IsOpenAt place conns = (conn : Conn) → slice_get conns place ≡ Some conn →
 
 -- or it has this change staged
 abbrev pub IsBoxStaged : ℕ → (Backlog → Backlog) → List Conn → List Conn → Type 0
-IsBoxStaged place change old new = (conn : Conn) → slice_get old place ≡ Some conn → new ≡ slice_set old place (record { number = conn.number; outbox = record conn.outbox { next = change conn.outbox.next } })
+IsBoxStaged place change old new = (conn : Conn) → slice_get old place ≡ Some conn → new ≡ slice_set old place (record { number = conn.number; outbox = record conn.outbox { next = change conn.outbox.next }; headers = conn.headers })
 
 -- ---- where a connection stands
 
@@ -79,17 +80,23 @@ IsSeated seat clients = position (has_number seat.conn) clients ≡ Some seat.pl
 pub record IsSeatOf (conn : ℕ) (seat : Seat) (clients : List Client) : Type 0 where
   pub conn_is : seat.conn ≡ conn
   pub seated : IsSeated seat clients
+  pub option : seat.takes_headers ≡ takes_headers conn clients
 
--- a connection that is open stands there, with room for an entry of so many bytes or without
-pub record IsOpenSeat (seat : Seat) (conn len : ℕ) (room : Bool) (clients : List Client) : Type 0 where
+-- how many bytes an entry has, by whether it goes to a connection that takes headers
+abbrev pub form_length : FormLengths → Bool → ℕ
+form_length lengths true = lengths.headed
+form_length lengths false = lengths.plain
+
+-- a connection that is open stands there, with room for the form that it is due or without
+pub record IsOpenSeat (seat : Seat) (conn : ℕ) (lengths : FormLengths) (room : Bool) (clients : List Client) : Type 0 where
   pub seat_is : IsSeatOf conn seat clients
   pub opened : is_open conn clients ≡ true
-  pub fits : fits_len (client_at conn clients) len ≡ room
+  pub fits : fits_len (client_at conn clients) (form_length lengths (takes_headers conn clients)) ≡ room
 
-abbrev pub IsStanding : Standing → ℕ → ℕ → List Client → Type 0
-IsStanding Shut conn len clients = is_open conn clients ≡ false
-IsStanding (Full seat) conn len clients = IsOpenSeat seat conn len false clients
-IsStanding (Ready seat) conn len clients = IsOpenSeat seat conn len true clients
+abbrev pub IsStanding : Standing → ℕ → FormLengths → List Client → Type 0
+IsStanding Shut conn lengths clients = is_open conn clients ≡ false
+IsStanding (Full seat) conn lengths clients = IsOpenSeat seat conn lengths false clients
+IsStanding (Ready seat) conn lengths clients = IsOpenSeat seat conn lengths true clients
 
 -- by whether there is room, and whether it is shut
 abbrev pub standing_of : Seat → Bool → Bool → Standing

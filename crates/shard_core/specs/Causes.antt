@@ -9,7 +9,7 @@ use Rattle.subj.specs.declared.identities.SubId.{SubId}
 use Rattle.subj.specs.declared.jobs.Job.{Job}
 use Rattle.shard_core.specs.declared.faults.ShardFault.{ShardFault}
 use Rattle.shard_core.specs.Shards.{State, Client, new_shard, client_at, is_open, with_outbox, fits}
-use Rattle.shard_core.specs.Owed.{whole_walk, is_due, due_entry, placed_for}
+use Rattle.shard_core.specs.Owed.{whole_walk, is_due, owed_entry, owed_placed}
 use Rattle.shard_core.specs.Opened.{AreRising}
 use Rattle.shard_core.specs.Puts.{entries_for}
 use Rattle.shard_core.specs.ShardEvents.{Event, Subscribe, Unsubscribe, Reply, Shut, Detach, Begin, Answer}
@@ -104,13 +104,13 @@ abbrev pub with_entries : List Written → Backlog → Backlog
 with_entries entries backlog = record backlog { entries = backlog.entries ++ entries }
 
 abbrev pub with_given : State → Job → List Subscription → ℕ → Option Client
-with_given s job given conn = option_map (with_outbox (with_entries (entries_for conn (map (placed_for s.shard job None) given)))) (client_at conn s.clients)
+with_given s job given conn = option_map (with_outbox (with_entries (entries_for conn (map (owed_placed s.shard s.clients job None) given)))) (client_at conn s.clients)
 
 -- there is no room for the answer that is handed in; or, behind what a Begin gives to the connection, for one more message that
 -- it owes there
 abbrev pub LacksRoom : State → Event → ℕ → Type 0
 LacksRoom s (Reply of frame) conn = (conn ≡ of) × (answer_fits s of (reply_line frame) ≡ false)
-LacksRoom s (Begin job) conn = (sub : Subscription) × In sub (filter (is_due job) s.subs) × (sub.conn ≡ conn) × (fits (with_given s job (whole_walk s job).given conn) (due_entry s.shard job None sub) ≡ false)
+LacksRoom s (Begin job) conn = (sub : Subscription) × In sub (filter (is_due job) s.subs) × (sub.conn ≡ conn) × (fits (with_given s job (whole_walk s job).given conn) (owed_entry s.shard s.clients job None sub) ≡ false)
 LacksRoom s other conn = ⊥
 
 abbrev pub IsShut : Event → ℕ → Type 0

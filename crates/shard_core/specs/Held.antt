@@ -9,7 +9,7 @@ use Rattle.shard_core.specs.declared.calls.Candidate.{Candidate}
 use Rattle.shard_core.specs.declared.calls.Placed.{Placed}
 use Rattle.shard_core.specs.Shards.{State, Client, new_shard, clients_with_change}
 use Rattle.shard_core.specs.Closings.{id_of}
-use Rattle.shard_core.specs.Owed.{due_entry, placed_for, after_put, candidate_named, candidate_of, ended_by, after_try}
+use Rattle.shard_core.specs.Owed.{owed_entry, owed_placed, after_put, candidate_named, candidate_of, ended_by, after_try}
 use Rattle.shard_core.specs.ShardEvents.{Event, Answer, Claim}
 use Rattle.shard_core.specs.ShardSteps.{shard_refusal, shard_after, shard_answer}
 
@@ -45,16 +45,16 @@ copy_of true placed = Some placed
 copy_of false placed = None
 
 -- what is told of a candidate: its name, and a copy of the entry that it gets if the claim is won
-abbrev pub candidate_told : Bool → ℕ → Job → Subscription → Candidate
-candidate_told copies shard job sub = record { sub = id_of shard sub.serial; placed = copy_of copies (placed_for shard job sub.key.queue sub) }
+abbrev pub candidate_told : Bool → ℕ → List Client → Job → Subscription → Candidate
+candidate_told copies shard clients job sub = record { sub = id_of shard sub.serial; placed = copy_of copies (owed_placed shard clients job sub.key.queue sub) }
 
-abbrev pub told_of : Bool → ℕ → Option Job → Option Subscription → Option Candidate
-told_of copies shard None chosen = None
-told_of copies shard (Some job) chosen = option_map (candidate_told copies shard job) chosen
+abbrev pub told_of : Bool → ℕ → List Client → Option Job → Option Subscription → Option Candidate
+told_of copies shard clients None chosen = None
+told_of copies shard clients (Some job) chosen = option_map (candidate_told copies shard clients job) chosen
 
 -- the index is tried, and the candidate stands
 pub record Chooses (copies : Bool) (old : Held) (index : ℕ) (candidate : Option Candidate) (new : Held) : Type 0 where
-  pub told : candidate ≡ told_of copies old.state.shard old.state.hand (candidate_of old.state old.state.hand index)
+  pub told : candidate ≡ told_of copies old.state.shard old.state.clients old.state.hand (candidate_of old.state old.state.hand index)
   pub after : new ≡ record { state = after_try old.state; chosen = candidate_of old.state old.state.hand index }
 
 -- the last call chose a candidate for this index
@@ -86,7 +86,7 @@ serial_told candidate = option_map (λ (c : Candidate). c.sub.serial) candidate
 -- what waits once the candidate's entry is shown
 abbrev pub staged_in : Option Job → Subscription → ℕ → List Client → List Client
 staged_in None sub shard clients = clients
-staged_in (Some job) sub shard clients = clients_with_change (with_entry (due_entry shard job sub.key.queue sub)) sub.conn clients
+staged_in (Some job) sub shard clients = clients_with_change (with_entry (owed_entry shard clients job sub.key.queue sub)) sub.conn clients
 
 abbrev pub staged_for : Option Subscription → Option Job → ℕ → List Client → List Client
 staged_for None hand shard clients = clients
@@ -94,7 +94,7 @@ staged_for (Some sub) hand shard clients = staged_in hand sub shard clients
 
 -- the member that a claim chooses by this name, and what waits once its entry is shown
 pub record HasChosen (copies : Bool) (s : State) (job : Job) (name : List ℕ) (candidate : Option Candidate) (next : List Client) : Type 0 where
-  pub told : candidate ≡ option_map (candidate_told copies s.shard job) (candidate_named s job (Some name))
+  pub told : candidate ≡ option_map (candidate_told copies s.shard s.clients job) (candidate_named s job (Some name))
   pub chosen : with_serial (serial_told candidate) s.subs ≡ candidate_named s job (Some name)
   pub staged : next ≡ staged_for (candidate_named s job (Some name)) (Some job) s.shard s.clients
 

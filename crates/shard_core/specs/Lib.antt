@@ -22,7 +22,7 @@ pub mod Answers
 pub mod Puts
 -- a shard together with the jobs that wait for it: what every such line keeps
 pub mod Lines
--- a shard and its steps as the cluster law sees them: without outboxes, deltas, limits, maxima and echo
+-- a shard and its steps as the cluster law sees them: without outboxes, header options, deltas, limits, maxima and echo
 pub mod AsLaw
 -- connections as a shard keeps them: what waits for each, and what will wait once what was staged is shown
 pub mod Boxes
@@ -38,6 +38,8 @@ pub mod Examples
 pub mod Limits
 -- why subscriptions close, and connections; and what every shard keeps of those that are open
 pub mod Causes
+-- whether a connection takes headers: no new one does, and each does as it chose last
+pub mod Options
 -- room for the messages of a publication
 pub mod Room
 -- for which connections something was put

@@ -4,7 +4,7 @@ use Rattle.list_laws.specs.Lists.{Each, Pairs}
 use Rattle.subj.specs.declared.jobs.Job.{Job}
 use Rattle.shard_core.specs.Shards.{State}
 use Rattle.shard_core.specs.Closings.{serials_of}
-use Rattle.shard_core.specs.ShardEvents.{Event, Attach, Subscribe, Unsubscribe, Reply, Shut, Detach, Take, Begin, Claim, End, DropJob, Drain, Collect}
+use Rattle.shard_core.specs.ShardEvents.{Event, Attach, Subscribe, Unsubscribe, Reply, SetHeaders, Shut, Detach, Take, Begin, Claim, End, DropJob, Drain, Collect}
 
 -- the turns of the jobs that wait follow one another, up to the last one issued
 abbrev pub Turns : ℕ → List Job → ℕ → Type 0
@@ -40,6 +40,7 @@ HasJob hand Attach waiting = Unit {0}
 HasJob hand (Subscribe conn key sid) waiting = Unit {0}
 HasJob hand (Unsubscribe conn sid max) waiting = Unit {0}
 HasJob hand (Reply conn frame) waiting = Unit {0}
+HasJob hand (SetHeaders conn on) waiting = Unit {0}
 HasJob hand (Shut conn text) waiting = Unit {0}
 HasJob hand (Detach conn) waiting = Unit {0}
 HasJob hand (Take conn count) waiting = Unit {0}
@@ -56,6 +57,7 @@ waiting_after hand Attach waiting = waiting
 waiting_after hand (Subscribe conn key sid) waiting = waiting
 waiting_after hand (Unsubscribe conn sid max) waiting = waiting
 waiting_after hand (Reply conn frame) waiting = waiting
+waiting_after hand (SetHeaders conn on) waiting = waiting
 waiting_after hand (Shut conn text) waiting = waiting
 waiting_after hand (Detach conn) waiting = waiting
 waiting_after hand (Take conn count) waiting = waiting

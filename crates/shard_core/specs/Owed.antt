@@ -2,7 +2,7 @@
 use Rattle.std.specs.Prelude.{ℕ, ◌+◌, ◌%◌, Bool, false, not, ◌&&◌, ◌||◌, nat_eq, nat_le, List, [], ◌∷◌, ◌++◌, length, filter, map, Option, Some, None, is_none, slice_get, if◌then◌else◌}
 use Rattle.std.specs.List.{list_any}
 use Rattle.client_frames.specs.ErrTexts.{err_line}
-use Rattle.client_frames.specs.Messages.{due_line, no_headers}
+use Rattle.client_frames.specs.Messages.{due_line, due_body}
 use Rattle.client_frames.specs.declared.err_texts.ErrText.TheVariants.{SlowConsumer}
 use Rattle.outbox.specs.Views.{Written, message_entry, with_entry, with_last}
 use Rattle.outbox.specs.declared.entries.Mode.{Mode}
@@ -12,7 +12,7 @@ use Rattle.sub_table.specs.declared.Subscription.{Subscription}
 use Rattle.subj.specs.QueueNames.{is_named}
 use Rattle.subj.specs.declared.jobs.Job.{Job}
 use Rattle.shard_core.specs.declared.calls.Placed.{Placed}
-use Rattle.shard_core.specs.Shards.{State, Client, client_at, is_open, clients_with_change, fits}
+use Rattle.shard_core.specs.Shards.{State, Client, client_at, is_open, takes_headers, clients_with_change, fits}
 use Rattle.shard_core.specs.Closings.{id_of, serials_of, left_of, without_subs}
 
 -- ---- who is owed, and what
@@ -36,12 +36,19 @@ abbrev pub mode_of : Option (List ℕ) → Mode
 mode_of None = Plain
 mode_of (Some name) = Queue name
 
--- the entry of a subscription: the message in the form without headers, and for what it is put
-abbrev pub due_entry : ℕ → Job → Option (List ℕ) → Subscription → Written
-due_entry shard job queue sub = message_entry job.id (id_of shard sub.serial) (mode_of queue) (due_line job.message sub.sid no_headers) job.message.payload
+-- the entry of a subscription: the message, with its header block or without, and for what it is put
+abbrev pub due_entry : ℕ → Bool → Job → Option (List ℕ) → Subscription → Written
+due_entry shard option job queue sub = message_entry job.id (id_of shard sub.serial) (mode_of queue) (due_line job.message sub.sid option) (due_body job.message option)
 
-abbrev pub placed_for : ℕ → Job → Option (List ℕ) → Subscription → Placed
-placed_for shard job queue sub = record { conn = sub.conn; entry = due_entry shard job queue sub }
+abbrev pub placed_for : ℕ → Bool → Job → Option (List ℕ) → Subscription → Placed
+placed_for shard option job queue sub = record { conn = sub.conn; entry = due_entry shard option job queue sub; headers = option }
+
+-- by the option of its connection
+abbrev pub owed_entry : ℕ → List Client → Job → Option (List ℕ) → Subscription → Written
+owed_entry shard clients job queue sub = due_entry shard (takes_headers sub.conn clients) job queue sub
+
+abbrev pub owed_placed : ℕ → List Client → Job → Option (List ℕ) → Subscription → Placed
+owed_placed shard clients job queue sub = placed_for shard (takes_headers sub.conn clients) job queue sub
 
 -- ---- Begin
 
@@ -78,8 +85,8 @@ walk_with_shut subs conn w = record w { clients = clients_with_change (with_last
 abbrev pub walk_after_put : State → Job → Walk → Subscription → Walk
 walk_after_put s job w sub =
     if is_open sub.conn w.clients
-    then (if fits (client_at sub.conn w.clients) (due_entry s.shard job None sub)
-    then walk_with_entry (due_entry s.shard job None sub) sub w
+    then (if fits (client_at sub.conn w.clients) (owed_entry s.shard s.clients job None sub)
+    then walk_with_entry (owed_entry s.shard s.clients job None sub) sub w
     else walk_with_shut s.subs sub.conn w)
     else w
 
@@ -110,7 +117,7 @@ after_begin s job = after_walk (record s { hand = Some job; next_index = 0 }) (w
 -- NATS documentation, "Queue Groups": one member is chosen. Here of those that are open now, match, are permitted and have
 -- room, in order of their serials, the one at the place of the turn among as many (profile).
 abbrev pub is_candidate : State → Job → List ℕ → Subscription → Bool
-is_candidate s job name sub = is_named name sub.key.queue && (is_wanted job sub && fits (client_at sub.conn s.clients) (due_entry s.shard job (Some name) sub))
+is_candidate s job name sub = is_named name sub.key.queue && (is_wanted job sub && fits (client_at sub.conn s.clients) (owed_entry s.shard s.clients job (Some name) sub))
 
 abbrev pub member_for_turn : ℕ → List Subscription → Option Subscription
 member_for_turn turn subs = slice_get subs (turn % length subs)
@@ -129,7 +136,7 @@ after_try s = record s { next_index = s.next_index + 1 }
 
 -- the member gets its entry
 abbrev pub after_put : State → Job → Subscription → State
-after_put s job sub = after_walk s (walk_with_entry (due_entry s.shard job sub.key.queue sub) sub (first_step s.clients))
+after_put s job sub = after_walk s (walk_with_entry (owed_entry s.shard s.clients job sub.key.queue sub) sub (first_step s.clients))
 
 -- only a claim that is won places; without a candidate none is made
 abbrev pub after_claim : State → Option Job → Option Subscription → Bool → State

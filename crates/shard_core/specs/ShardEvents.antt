@@ -15,6 +15,8 @@ pub data Event : Type 0 where
   -- at once, or once so many messages were delivered since the opening
   Unsubscribe : (conn : ℕ) (sid : List ℕ) (max : Option ℕ) → Event
   Reply : (conn : ℕ) (frame : ReplyFrame) → Event
+  -- whether the connection takes headers from here on
+  SetHeaders : (conn : ℕ) (on : Bool) → Event
   Shut : (conn : ℕ) (text : ErrText) → Event
   Detach : (conn : ℕ) → Event
   Take : (conn count : ℕ) → Event
@@ -38,6 +40,7 @@ pub data Answer : Type 0 where
   Unsubscribed : (ended : List SubId) → Answer
   -- whether the connection was shut for want of room
   Replied : (shut : Bool) (ended : List SubId) → Answer
+  HeadersSet : Answer
   WasShut : (ended : List SubId) → Answer
   Detached : (ended : List SubId) → Answer
   Taken : (entries : List Written) → Answer

@@ -1,5 +1,5 @@
 -- A shard's step: why an event is refused, the state after it, and the answer.
-use Rattle.std.specs.Prelude.{◌≡◌, ℕ, ◌+◌, ◌/◌, Bool, true, not, ◌&&◌, ◌||◌, nat_eq, nat_lt, nat_le, List, [], ◌∷◌, ◌++◌, length, map, find, take, Option, Some, None, is_some, Result, Ok, Err, if◌then◌else◌}
+use Rattle.std.specs.Prelude.{◌≡◌, ℕ, ◌+◌, ◌/◌, Bool, true, false, not, ◌&&◌, ◌||◌, nat_eq, nat_lt, nat_le, List, [], ◌∷◌, ◌++◌, length, map, find, take, Option, Some, None, is_some, Result, Ok, Err, if◌then◌else◌}
 use Rattle.std.specs.Option.{option_or}
 use Rattle.client_frames.specs.ErrTexts.{err_line}
 use Rattle.client_frames.specs.Frames.{reply_line}
@@ -13,10 +13,10 @@ use Rattle.subj.specs.declared.keys.Key.{Key}
 use Rattle.subj.specs.declared.limits.TheConstants.{MAX_COUNTER, MAX_SERIAL, SUBSCRIPTIONS, SUBSCRIPTION_BYTES, OUTBOX_ENTRIES, OUTBOX_BYTES}
 use Rattle.shard_core.specs.declared.faults.ShardFault.{ShardFault}
 use Rattle.shard_core.specs.declared.faults.ShardFault.TheVariants.{NoConn, JobInHand, NoJob, WrongTurn, TooManySubs, BadIndex, NotAllTried, Spent, Draining}
-use Rattle.shard_core.specs.Shards.{State, Client, is_open, is_known, client_at, clients_with_change, without_client, fits, waits_for}
+use Rattle.shard_core.specs.Shards.{State, Client, is_open, is_known, client_at, clients_with_change, clients_with_headers, without_client, fits, waits_for}
 use Rattle.shard_core.specs.Closings.{id_of, left_of, without_subs, ended_ids}
-use Rattle.shard_core.specs.Owed.{Walk, whole_walk, after_begin, slow_consumer, candidate_of, after_claim, placed_for, ended_by}
-use Rattle.shard_core.specs.ShardEvents.{Event, Attach, Subscribe, Unsubscribe, Reply, Shut, Detach, Take, Begin, Claim, End, DropJob, Drain, Collect, Answer, Attached, Opened, AlreadyOpen, Unsubscribed, Replied, WasShut, Detached, Taken, Began, Nobody, Lost, Won, Finished, Dropped, Drains, Collected}
+use Rattle.shard_core.specs.Owed.{Walk, whole_walk, after_begin, slow_consumer, candidate_of, after_claim, owed_placed, ended_by}
+use Rattle.shard_core.specs.ShardEvents.{Event, Attach, Subscribe, Unsubscribe, Reply, SetHeaders, Shut, Detach, Take, Begin, Claim, End, DropJob, Drain, Collect, Answer, Attached, Opened, AlreadyOpen, Unsubscribed, Replied, HeadersSet, WasShut, Detached, Taken, Began, Nobody, Lost, Won, Finished, Dropped, Drains, Collected}
 
 -- what the connection calls by this id
 abbrev pub sub_called : ℕ → List ℕ → List Subscription → Option Subscription
@@ -64,6 +64,7 @@ shard_refusal s Attach = if nat_lt MAX_COUNTER s.next_conn then Some Spent else 
 shard_refusal s (Subscribe conn key sid) = subscribe_refusal s conn key sid
 shard_refusal s (Unsubscribe conn sid max) = open_refusal s conn
 shard_refusal s (Reply conn frame) = open_refusal s conn
+shard_refusal s (SetHeaders conn on) = open_refusal s conn
 shard_refusal s (Shut conn text) = open_refusal s conn
 shard_refusal s (Detach conn) = known_refusal s conn
 shard_refusal s (Take conn count) = known_refusal s conn
@@ -77,7 +78,7 @@ shard_refusal s Collect = None
 -- ---- the state after an event that is not refused
 
 abbrev pub new_client : ℕ → Client
-new_client number = record { number = number; outbox = empty_backlog; max_entries = OUTBOX_ENTRIES; max_bytes = OUTBOX_BYTES }
+new_client number = record { number = number; outbox = empty_backlog; max_entries = OUTBOX_ENTRIES; max_bytes = OUTBOX_BYTES; headers = false }
 
 abbrev pub after_attach : State → State
 after_attach s = record s { next_conn = s.next_conn + s.shards; clients = s.clients ++ new_client s.next_conn ∷ [] }
@@ -114,6 +115,10 @@ after_reply s conn line =
     then record s { clients = clients_with_change (with_entry (reply_entry line)) conn s.clients }
     else was_shut s conn slow_consumer
 
+-- NATS documentation, "Client Protocol", "CONNECT", `headers`: the last choice holds
+abbrev pub after_choice : State → ℕ → Bool → State
+after_choice s conn on = record s { clients = clients_with_headers on conn s.clients }
+
 -- a connection goes, and all its subscriptions close
 abbrev pub was_detached : State → ℕ → State
 was_detached s conn = without_subs (left_of conn [] s.subs) (record s { clients = without_client conn s.clients })
@@ -128,6 +133,7 @@ shard_after s Attach = after_attach s
 shard_after s (Subscribe conn key sid) = after_subscribe s (new_sub s conn key sid) (sub_called conn sid s.subs)
 shard_after s (Unsubscribe conn sid max) = after_unsubscribe s max (sub_called conn sid s.subs)
 shard_after s (Reply conn frame) = after_reply s conn (reply_line frame)
+shard_after s (SetHeaders conn on) = after_choice s conn on
 shard_after s (Shut conn text) = was_shut s conn (err_line text)
 shard_after s (Detach conn) = was_detached s conn
 shard_after s (Take conn count) = record s { clients = clients_with_change (without_first count) conn s.clients }
@@ -152,19 +158,20 @@ abbrev pub ended_by_reply : State → ℕ → List ℕ → List ℕ
 ended_by_reply s conn line = if answer_fits s conn line then [] else left_of conn [] s.subs
 
 abbrev pub begin_answer : State → Job → Walk → Answer
-begin_answer s job w = Began (map (placed_for s.shard job None) w.given) w.shut (ended_ids s.shard w.ended)
+begin_answer s job w = Began (map (owed_placed s.shard s.clients job None) w.given) w.shut (ended_ids s.shard w.ended)
 
 abbrev pub claim_answer : State → Option Job → Option Subscription → Bool → Answer
 claim_answer s None sub won = Nobody
 claim_answer s (Some job) None won = Nobody
 claim_answer s (Some job) (Some sub) won =
-    if won then Won (id_of s.shard sub.serial) (placed_for s.shard job sub.key.queue sub) (ended_ids s.shard (ended_by sub)) else Lost
+    if won then Won (id_of s.shard sub.serial) (owed_placed s.shard s.clients job sub.key.queue sub) (ended_ids s.shard (ended_by sub)) else Lost
 
 abbrev pub shard_answer : State → Event → Answer
 shard_answer s Attach = Attached s.next_conn
 shard_answer s (Subscribe conn key sid) = subscribe_answer s (sub_called conn sid s.subs)
 shard_answer s (Unsubscribe conn sid max) = Unsubscribed (ended_ids s.shard (ended_by_unsubscribe max (sub_called conn sid s.subs)))
 shard_answer s (Reply conn frame) = Replied (not (answer_fits s conn (reply_line frame))) (ended_ids s.shard (ended_by_reply s conn (reply_line frame)))
+shard_answer s (SetHeaders conn on) = HeadersSet
 shard_answer s (Shut conn text) = WasShut (ended_ids s.shard (left_of conn [] s.subs))
 shard_answer s (Detach conn) = Detached (ended_ids s.shard (left_of conn [] s.subs))
 shard_answer s (Take conn count) = Taken (take count (waits_for conn s.clients))
@@ -182,6 +189,7 @@ shut_by s Attach = []
 shut_by s (Subscribe conn key sid) = []
 shut_by s (Unsubscribe conn sid max) = []
 shut_by s (Reply conn frame) = if answer_fits s conn (reply_line frame) then [] else conn ∷ []
+shut_by s (SetHeaders conn on) = []
 shut_by s (Shut conn text) = conn ∷ []
 shut_by s (Detach conn) = []
 shut_by s (Take conn count) = []
@@ -198,6 +206,7 @@ ended_of (Opened sub) = []
 ended_of AlreadyOpen = []
 ended_of (Unsubscribed ended) = ended
 ended_of (Replied shut ended) = ended
+ended_of HeadersSet = []
 ended_of (WasShut ended) = ended
 ended_of (Detached ended) = ended
 ended_of (Taken entries) = []
@@ -224,6 +233,7 @@ IsAsked s Attach = Unit {0}
 IsAsked s (Subscribe conn key sid) = Unit {0}
 IsAsked s (Unsubscribe conn sid max) = Unit {0}
 IsAsked s (Reply conn frame) = Unit {0}
+IsAsked s (SetHeaders conn on) = Unit {0}
 IsAsked s (Shut conn text) = Unit {0}
 IsAsked s (Detach conn) = Unit {0}
 IsAsked s (Take conn count) = Unit {0}

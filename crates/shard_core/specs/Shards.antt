@@ -6,12 +6,13 @@ use Rattle.sub_table.specs.declared.Subscription.{Subscription}
 use Rattle.subj.specs.declared.jobs.Job.{Job}
 use Rattle.std.specs.Prelude.{length}
 
--- a connection: its number, what waits for it, and the limits of that
+-- a connection: its number, what waits for it and the limits of that, and whether it takes headers
 pub record Client : Type 0 where
   pub number : ℕ
   pub outbox : Backlog
   pub max_entries : ℕ
   pub max_bytes : ℕ
+  pub headers : Bool
 
 -- A shard of a server (profile): which of how many it is, counted from 1; the number of its next connection; how many
 -- subscriptions it has opened; the last turn that it finished; the job that it works off, and the index of the queue name
@@ -61,6 +62,23 @@ with_outbox change client = record client { outbox = change client.outbox }
 abbrev pub clients_with_change : (Backlog → Backlog) → ℕ → List Client → List Client
 clients_with_change change number [] = []
 clients_with_change change number (client ∷ clients) = if has_number number client then with_outbox change client ∷ clients else client ∷ clients_with_change change number clients
+
+-- NATS documentation, "Client Protocol", "CONNECT", `headers`: a connection that takes them is sent a message with its header block
+-- by `HMSG`; one that is not there takes none
+abbrev pub option_of : Option Client → Bool
+option_of None = false
+option_of (Some client) = client.headers
+
+abbrev pub takes_headers : ℕ → List Client → Bool
+takes_headers number clients = option_of (client_at number clients)
+
+-- the list with another option of the connection
+abbrev pub with_headers : Bool → Client → Client
+with_headers on client = record client { headers = on }
+
+abbrev pub clients_with_headers : Bool → ℕ → List Client → List Client
+clients_with_headers on number [] = []
+clients_with_headers on number (client ∷ clients) = if has_number number client then with_headers on client ∷ clients else client ∷ clients_with_headers on number clients
 
 -- the list without the connection
 abbrev pub without_client : ℕ → List Client → List Client

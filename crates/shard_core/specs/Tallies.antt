@@ -1,17 +1,16 @@
 -- What the code keeps of a walk, and how that follows the walk.
 use Rattle.std.specs.Prelude.{◌≡◌, ℕ, ◌&&◌, Bool, List, [], ◌∷◌, ◌++◌, map, None, if◌then◌else◌}
 use denote.Ref.{Bor}
-use Rattle.outbox.specs.Views.{Written}
 use Rattle.sub_table.specs.declared.Subscription.{Subscription}
 use Rattle.subj.specs.declared.jobs.Job.{Job}
 use Rattle.shard_core.specs.declared.calls.Begun.{Begun}
 use Rattle.shard_core.specs.declared.calls.Placed.{Placed}
-use Rattle.shard_core.specs.Shards.{State, Client}
+use Rattle.shard_core.specs.Shards.{State, Client, takes_headers}
 use Rattle.shard_core.specs.Answers.{copies_of, IsTold}
 use Rattle.shard_core.specs.Boxes.{Clients}
 use Rattle.shard_core.specs.Closings.{serials_of, left_of}
 use Rattle.shard_core.specs.Opened.{Opened, with_counts, with_closings}
-use Rattle.shard_core.specs.Owed.{Walk, whole_walk, walk_after_put, placed_for, slow_consumer, ended_by, is_plain, is_permitted}
+use Rattle.shard_core.specs.Owed.{Walk, whole_walk, walk_after_put, owed_placed, slow_consumer, ended_by, is_plain, is_permitted}
 use Rattle.shard_core.specs.Puts.{put_line}
 
 -- the shard that walks, and whether copies of the entries are asked for; those of the messages, the serials of those who were given an entry,
@@ -27,19 +26,21 @@ pub record Tallied : Type 0 where
 abbrev pub none_tallied : ℕ → Bool → Tallied
 none_tallied shard copies = record { shard = shard; copies = copies; put = []; given = []; shut = []; ended = [] }
 
-abbrev pub with_given : Written → Subscription → Tallied → Tallied
-with_given entry sub t = record t { put = t.put ++ copies_of t.copies (record { conn = sub.conn; entry = entry } ∷ []); given = t.given ++ sub.serial ∷ []; ended = t.ended ++ ended_by sub }
+abbrev pub with_given : Placed → Subscription → Tallied → Tallied
+with_given placed sub t = record t { put = t.put ++ copies_of t.copies (placed ∷ []); given = t.given ++ sub.serial ∷ []; ended = t.ended ++ ended_by sub }
 
 abbrev pub with_shut : List Subscription → ℕ → Tallied → Tallied
 with_shut subs conn t = record t { shut = t.shut ++ conn ∷ []; ended = t.ended ++ left_of conn t.ended subs }
 
 -- what is kept of this walk
-abbrev pub tally_of : ℕ → Bool → Job → Walk → Tallied
-tally_of shard copies job w = record { shard = shard; copies = copies; put = copies_of copies (map (placed_for shard job None) w.given); given = serials_of w.given; shut = w.shut; ended = w.ended }
+abbrev pub tally_of : ℕ → List Client → Bool → Job → Walk → Tallied
+tally_of shard clients copies job w = record { shard = shard; copies = copies; put = copies_of copies (map (owed_placed shard clients job None) w.given); given = serials_of w.given; shut = w.shut; ended = w.ended }
 
 pub record IsTallied (copies : Bool) (s : State) (job : Job) (w : Walk) (clients : List Client) (t : Tallied) : Type 0 where
   pub clients_are : clients ≡ w.clients
-  pub tally_is : t ≡ tally_of s.shard copies job w
+  pub tally_is : t ≡ tally_of s.shard s.clients copies job w
+  -- the options are those from before the walk
+  pub options : (conn : ℕ) → takes_headers conn w.clients ≡ takes_headers conn s.clients
 
 -- behind the messages stand the last lines of the connections that were shut
 abbrev pub with_lines : Tallied → Tallied
@@ -48,7 +49,7 @@ with_lines t = record t { put = t.put ++ copies_of t.copies (map (put_line slow_
 -- what is kept of the whole walk of a job
 pub record IsStaged (copies : Bool) (s : State) (job : Job) (clients : List Client) (t : Tallied) : Type 0 where
   pub clients_are : clients ≡ (whole_walk s job).clients
-  pub tally_is : t ≡ with_lines (tally_of s.shard copies job (whole_walk s job))
+  pub tally_is : t ≡ with_lines (tally_of s.shard s.clients copies job (whole_walk s job))
 
 -- over these open subscriptions the walk goes on by this step
 abbrev pub Follows : List Subscription → Job → (State → Walk → Walk) → List Client → Tallied → List Client → Tallied → Type 0

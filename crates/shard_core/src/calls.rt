@@ -28,6 +28,8 @@ pub struct Closed {
 pub struct Placed {
     pub conn: ConnId,
     pub entry: Entry,
+    /// Whether the connection took headers when a message was put for it; false for an answer or a last line.
+    pub headers: bool,
 }
 
 /// What a begin did.

@@ -2,11 +2,11 @@
 
 ghost use Rattle.std.specs.List.{list_all};
 ghost use Rattle.sub_table.specs.Subscriptions.{is_room, matching_of};
-ghost use Rattle.shard_core.specs.Boxes.{room_left, AreRising, AreConns, IsSettled, IsSettledAt, on_both, on_shown, client_in_view, shown_backlog, next_backlog, number_of, HasRoomAt, IsBoxStaged, IsOpenAt, IsSeated, IsSeatOf, IsStanding, standing_of};
+ghost use Rattle.shard_core.specs.Boxes.{room_left, AreRising, AreConns, IsSettled, IsSettledAt, on_both, on_shown, client_in_view, shown_backlog, next_backlog, number_of, HasRoomAt, IsBoxStaged, IsOpenAt, IsSeated, IsSeatOf, IsStanding, form_length, standing_of};
 ghost use Rattle.std.specs.Prelude.{map, filter, not, nat_le, ◌&&◌, ◌≡◌, ◌==◌, ◌≤◌, ◌+◌, ◌-◌, ◌<◌, ◌^◌, ◌++◌, ◌∷◌, [], true, false, position, take, length, All, IsTrue, IfOk, IfSome, OnOk, OnErr, None, Some};
 ghost use Rattle.std.specs.Option.{option_map, option_copied};
 ghost use Rattle.outbox.specs.Views.{has_room, with_entry, with_last, without_first, size_of, reply_entry, message_entry, bytes_of_all};
-ghost use Rattle.shard_core.specs.Shards.{is_open as opened, is_known as known, client_at, clients_with_change, without_client, fits, fits_len, waits_for};
+ghost use Rattle.shard_core.specs.Shards.{is_open as opened, is_known as known, client_at, clients_with_change, clients_with_headers, takes_headers as headers_taken, without_client, fits, fits_len, waits_for};
 ghost use Rattle.shard_core.specs.Dirty.{AreKept, AreTold, AreToldBut, IsToldAt};
 ghost use Rattle.shard_core.specs.ShardSteps.{new_client};
 
@@ -23,6 +23,8 @@ use subj::{ConnId, OUTBOX_BYTES, OUTBOX_ENTRIES, PubId, SubId, Subject};
 struct Conn {
     number: u64,
     outbox: Outbox,
+    /// Whether header blocks are delivered to it.
+    headers: bool,
 }
 
 /// Where the connection of this number stands.
@@ -125,14 +127,36 @@ fn conn_of(conns: &Vec<Conn>, conn: ConnId) -> Option<&Conn>
     }
 }
 
+/// How many bytes a message has in each of its two forms. Both are the same where it has no header block.
+#[derive(Clone, Copy)]
+pub struct FormLengths {
+    /// At a connection that takes no headers.
+    pub plain: usize,
+    /// At a connection that takes headers.
+    pub headed: usize,
+}
+
+/// How many bytes an entry has at a connection that takes headers or does not.
+fn len_of(lengths: FormLengths, takes_headers: bool) -> usize
+    ensures { result ≡ form_length lengths takes_headers }
+{
+    if takes_headers {
+        lengths.headed
+    } else {
+        lengths.plain
+    }
+}
+
 /// Where a connection stands.
 #[derive(Clone, Copy)]
 pub struct Seat {
     conn: ConnId,
     place: usize,
+    /// Whether the connection takes headers.
+    pub takes_headers: bool,
 }
 
-/// How a connection stands to an entry of so many bytes, once all that was staged is shown.
+/// How a connection stands to an entry of so many bytes in the form that it is due, once all that was staged is shown.
 #[derive(Clone, Copy)]
 pub enum Standing {
     /// It is not there, or it is shut.
@@ -143,17 +167,28 @@ pub enum Standing {
     Ready(Seat),
 }
 
-/// How the connection of this outbox stands to an entry of so many bytes.
-fn standing_at(outbox: &Outbox, seat: Seat, len: usize) -> Standing
-    ensures { result ≡ standing_of seat (has_room outbox.now.max_entries outbox.now.max_bytes len outbox.now.next) outbox.now.next.shut }
+/// How the connection of this outbox stands to an entry of so many bytes in the form that it is due.
+fn standing_at(outbox: &Outbox, seat: Seat, lengths: FormLengths) -> Standing
+    ensures { result ≡ standing_of seat (has_room outbox.now.max_entries outbox.now.max_bytes (form_length lengths seat.takes_headers) outbox.now.next) outbox.now.next.shut }
 {
-    if outbox.room(len) {
+    if outbox.room(len_of(lengths, seat.takes_headers)) {
         return Standing::Ready(seat);
     }
     if outbox.is_closing() {
         Standing::Shut
     } else {
         Standing::Full(seat)
+    }
+}
+
+/// The seat of the connection, which stands at the place.
+fn seat_at(there: &Conn, conn: ConnId, place: usize) -> Seat
+    ensures { result ≡ record { conn = conn; place = place; takes_headers = there.now.headers } }
+{
+    Seat {
+        conn,
+        place,
+        takes_headers: there.headers,
     }
 }
 
@@ -165,18 +200,21 @@ fn seat_in(conns: &Vec<Conn>, near: usize, conn: ConnId) -> Option<Seat>
 {
     match place_near(conns, near, conn) {
         None => None,
-        Some(place) => Some(Seat { conn, place }),
+        Some(place) => Some(seat_at(&conns[place], conn, place)),
     }
 }
 
-/// How the connection, which is looked for at this place first, stands to an entry of so many bytes.
-fn standing_in(conns: &Vec<Conn>, near: usize, conn: ConnId, len: usize) -> Standing
+/// How the connection, which is looked for at this place first, stands to an entry of so many bytes in the form that it is due.
+fn standing_in(conns: &Vec<Conn>, near: usize, conn: ConnId, lengths: FormLengths) -> Standing
     requires { AreRising conns.now.items }
-    ensures { IsStanding result conn len (map (client_in_view next_backlog) conns.now.items) }
+    ensures { IsStanding result conn lengths (map (client_in_view next_backlog) conns.now.items) }
 {
     match place_near(conns, near, conn) {
         None => Standing::Shut,
-        Some(place) => standing_at(&conns[place].outbox, Seat { conn, place }, len),
+        Some(place) => {
+            let there = &conns[place];
+            standing_at(&there.outbox, seat_at(there, conn, place), lengths)
+        }
     }
 }
 
@@ -233,16 +271,16 @@ fn stage_message_at(
     sub: SubId,
     mode: Mode,
     line: &[u8],
-    payload: &Bytes,
+    body: &Bytes,
 ) -> Result<(), AllocError>
     requires within { place < length conns.old.items }
-    requires fits { length line.now + length payload.now + 4 < 2 ^ 64 }
-    requires room { HasRoomAt place (length (message_entry id sub mode line.now payload.now).bytes) conns.old.items }
-    ensures ok { OnOk result (IsBoxStaged place (with_entry (message_entry id sub mode line.now payload.now)) conns.old.items conns.new.items) }
+    requires fits { length line.now + length body.now + 4 < 2 ^ 64 }
+    requires room { HasRoomAt place (length (message_entry id sub mode line.now body.now).bytes) conns.old.items }
+    ensures ok { OnOk result (IsBoxStaged place (with_entry (message_entry id sub mode line.now body.now)) conns.old.items conns.new.items) }
     ensures err { OnErr result (IsBoxStaged place (λ backlog. backlog) conns.old.items conns.new.items) }
 {
     let conn = &mut conns[place];
-    conn.outbox.stage_message(id, sub, mode, line, payload)?;
+    conn.outbox.stage_message(id, sub, mode, line, body)?;
     Ok(())
 }
 
@@ -319,6 +357,7 @@ impl Conns {
         self.conns.push(Conn {
             number: conn.get(),
             outbox,
+            headers: false,
         })?;
         Ok(())
     }
@@ -366,20 +405,21 @@ impl Conns {
         seat_in(&self.conns, self.near(), conn)
     }
 
-    /// How the connection stands to an entry of so many bytes behind all that was put or staged.
-    pub fn standing(&self, conn: ConnId, len: usize) -> Standing
-        ensures { IsStanding result conn len self.now.next }
+    /// How the connection stands to an entry of so many bytes in the form that it is due, behind all that was put or staged.
+    pub fn standing(&self, conn: ConnId, lengths: FormLengths) -> Standing
+        ensures { IsStanding result conn lengths self.now.next }
     {
-        standing_in(&self.conns, self.near(), conn, len)
+        standing_in(&self.conns, self.near(), conn, lengths)
     }
 
-    /// Whether each connection has room for the messages to all its open subscriptions that get the subject. The message has
-    /// so many bytes beside the id of a subscription. Takes no memory.
-    pub fn have_room<T: SubTable>(&self, table: &T, subject: &Subject, len: usize) -> bool
-        ensures { result ≡ list_all (λ client. is_room len (room_left client) (matching_of client.number subject.now (T.contents table.now))) self.now.shown }
+    /// Whether each connection has room for the messages to all its open subscriptions that get the subject. In the form that the
+    /// connection is due a message has so many bytes beside the id of a subscription. Takes no memory.
+    pub fn have_room<T: SubTable>(&self, table: &T, subject: &Subject, lengths: FormLengths) -> bool
+        ensures { result ≡ list_all (λ client. is_room (form_length lengths client.headers) (room_left client) (matching_of client.number subject.now (T.contents table.now))) self.now.shown }
     {
         for conn in &self.conns {
             let number = ConnId::new(conn.number);
+            let len = len_of(lengths, conn.headers);
             if !table.has_room(number, subject, len, room_of(&conn.outbox)) {
                 return false;
             }
@@ -387,18 +427,18 @@ impl Conns {
         true
     }
 
-    /// Whether the connection is there and has room for an entry of so many bytes behind all that was put
-    /// or staged.
-    pub fn has_room(&self, conn: ConnId, len: usize) -> bool
-        ensures { result ≡ fits_len (client_at conn self.now.next) len }
+    /// Whether the connection is there and has room for an entry of so many bytes in the form that it is due, behind all that was
+    /// put or staged.
+    pub fn has_room(&self, conn: ConnId, lengths: FormLengths) -> bool
+        ensures { result ≡ fits_len (client_at conn self.now.next) (form_length lengths (headers_taken conn self.now.next)) }
     {
         match conn_of(&self.conns, conn) {
             None => false,
-            Some(conn) => conn.outbox.room(len),
+            Some(conn) => conn.outbox.room(len_of(lengths, conn.headers)),
         }
     }
 
-    /// Puts a message, for which there is room, unseen: its line and its payload, given without their
+    /// Puts a message, for which there is room, unseen: its line and what stands behind that, given without their
     /// CR LF. Want of memory leaves all as it was.
     pub fn stage_message(
         &mut self,
@@ -407,18 +447,18 @@ impl Conns {
         sub: SubId,
         mode: Mode,
         line: &[u8],
-        payload: &Bytes,
+        body: &Bytes,
     ) -> Result<(), AllocError>
         requires seat { IsSeated seat self.old.next }
-        requires fits { length line.now + length payload.now + 4 < 2 ^ 64 }
-        requires room { IsTrue (fits (client_at seat.conn self.old.next) (message_entry id sub mode line.now payload.now)) }
+        requires fits { length line.now + length body.now + 4 < 2 ^ 64 }
+        requires room { IsTrue (fits (client_at seat.conn self.old.next) (message_entry id sub mode line.now body.now)) }
         ensures shown { self.new.shown ≡ self.old.shown }
-        ensures ok { OnOk result (self.new.next ≡ clients_with_change (with_entry (message_entry id sub mode line.now payload.now)) seat.conn self.old.next) }
+        ensures ok { OnOk result (self.new.next ≡ clients_with_change (with_entry (message_entry id sub mode line.now body.now)) seat.conn self.old.next) }
         ensures err { OnErr result (self.new.next ≡ self.old.next) }
     {
         let place = seat.place;
         note_staged(&mut self.places, seat)?;
-        stage_message_at(&mut self.conns, place, id, sub, mode, line, payload)?;
+        stage_message_at(&mut self.conns, place, id, sub, mode, line, body)?;
         Ok(())
     }
 
@@ -595,6 +635,17 @@ impl Conns {
         let taken = self.take_bytes_shown(conn, count, out)?;
         self.rollback();
         Ok(taken)
+    }
+
+    /// Notes whether the connection, where it is there, takes headers. Takes no memory.
+    pub fn set_headers(&mut self, conn: ConnId, on: bool)
+        ensures { self.new ≡ on_both (clients_with_headers on conn) self.old }
+    {
+        let Some(place) = place_in(&self.conns, conn) else {
+            return;
+        };
+        let conn = &mut self.conns[place];
+        conn.headers = on;
     }
 
     /// The connection goes, with all that waits for it. Takes no memory.

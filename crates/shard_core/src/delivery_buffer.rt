@@ -1,28 +1,28 @@
 //! The walk over the subscriptions that a job is due to.
 
-ghost use Rattle.std.specs.Prelude.{◌≡◌, ℕ, ◌+◌, ◌<◌, ◌^◌, ◌++◌, List, [], Option, None, true, false, filter, length, map, All, IfOk, IsTrue, OnOk, OnErr};
-ghost use Rattle.client_frames.specs.Messages.{line_parts};
+ghost use Rattle.std.specs.Prelude.{◌≡◌, ℕ, ◌+◌, ◌<◌, ◌^◌, ◌++◌, ◌≤◌, Bool, List, [], Option, None, true, false, filter, length, map, All, IfOk, IsTrue, OnOk, OnErr};
+ghost use Rattle.client_frames.specs.Messages.{line_forms, due_bytes};
 ghost use Rattle.outbox.specs.Views.{with_entry, with_last};
-ghost use Rattle.shard_core.specs.Boxes.{IsSeatOf, IsSettled};
+ghost use Rattle.shard_core.specs.Boxes.{IsSeatOf, IsSettled, form_length};
 ghost use Rattle.shard_core.specs.Closings.{ended_ids};
 ghost use Rattle.shard_core.specs.Dirty.{AreTold};
 ghost use Rattle.shard_core.specs.Opened.{AreRising, AreApart};
-ghost use Rattle.shard_core.specs.Owed.{is_due, is_permitted, due_entry as entry_due, mode_of, walk_after_put, walk, reaches, slow_consumer};
+ghost use Rattle.shard_core.specs.Owed.{is_due, is_permitted, due_entry as entry_due, placed_for, mode_of, walk_after_put, walk, reaches, slow_consumer};
 ghost use Rattle.shard_core.specs.Shards.{State, is_open as opened, clients_with_change, client_at, fits};
 ghost use Rattle.shard_core.specs.Puts.{put_line};
 ghost use Rattle.shard_core.specs.Tallies.{lent_subs, is_placed, Follows, HasPlaced, IsStaged, none_tallied, with_given, with_shut, with_lines, put_if_due as put_matching, walk_matching};
 
 use crate::calls::{Begun, Placed};
-use crate::connections::{Conns, Seat, Standing};
+use crate::connections::{Conns, FormLengths, Seat, Standing};
 use crate::dirty_conns::DirtyConns;
 use crate::openings::Openings;
-use client_frames::{ErrText, MessageLines};
+use client_frames::{ErrText, MessageLines, message_body, message_len};
 use outbox::{Entry, Mode};
 use std::alloc::{AllocError, Global};
 use std::marker::Model;
 use std::mem;
 use sub_table::{SubTable, Subscription};
-use subj::{ConnId, Job, SubId};
+use subj::{ConnId, Job, Message, SubId};
 
 /// Whether the subscription may get the job: not where it is the publisher's own, without echo.
 pub fn may_get(job: &Job, sub: &Subscription) -> bool
@@ -60,36 +60,77 @@ pub fn due_mode(alloc: Global, sub: &Subscription) -> Result<Mode, AllocError>
     }
 }
 
-/// The entry that the subscription is owed, in its mode.
-pub fn due_entry(
+/// A copy of the entry that the subscription is owed, in its mode, at a connection that takes headers or does not.
+pub fn due_placed(
     alloc: Global,
     shard: u64,
     job: &Job,
     lines: &MessageLines,
     sub: &Subscription,
-) -> Result<Entry, AllocError>
-    requires { lines.now ≡ line_parts job.now.message }
-    ensures { IfOk result (λ entry. entry ≡ entry_due shard job.now sub.now.key.queue sub.now) }
+    headers: bool,
+) -> Result<Placed, AllocError>
+    requires { lines.now ≡ line_forms job.now.message }
+    ensures { IfOk result (λ placed. placed ≡ placed_for shard headers job.now sub.now.key.queue sub.now) }
 {
-    let line = lines.line(&sub.sid)?;
-    let payload = job.message.payload().clone()?;
+    let line = lines.line(&sub.sid, headers)?;
+    let body = message_body(&job.message, headers).clone()?;
     let mode = due_mode(alloc, sub)?;
     let id = SubId {
         shard,
         serial: sub.serial,
     };
-    Ok(Entry::message(job.id, id, mode, line, payload))
+    let conn = sub.conn;
+    let entry = Entry::message(job.id, id, mode, line, body);
+    Ok(Placed {
+        conn,
+        entry,
+        headers,
+    })
 }
 
-/// The CR LF of a message's line, and that of its payload.
+/// The CR LF of a message's line, and that of what stands behind it.
 const ENDS: usize = 4;
 
-/// How many bytes the entry has that the subscription is owed.
-pub fn due_len(job: &Job, lines: &MessageLines, sub: &Subscription) -> usize
-    requires { lines.now ≡ line_parts job.now.message }
-    ensures { (shard : ℕ) (queue : Option (List ℕ)) → result ≡ length (entry_due shard job.now queue sub.now).bytes }
+/// How many bytes the entry has that the subscription is owed at a connection that takes headers or does not.
+fn due_len(job: &Job, lines: &MessageLines, sub: &Subscription, takes_headers: bool) -> usize
+    requires { lines.now ≡ line_forms job.now.message }
+    ensures { (shard : ℕ) (queue : Option (List ℕ)) → result ≡ length (entry_due shard takes_headers job.now queue sub.now).bytes }
 {
-    lines.line_len(&sub.sid) + job.message.payload().len() + ENDS
+    let body = message_body(&job.message, takes_headers);
+    lines.line_len(&sub.sid, takes_headers) + body.len() + ENDS
+}
+
+/// How many bytes the entry has that the subscription is owed at a connection that takes headers. At one that takes none it has
+/// `plain`, and so it has here where the message has no header block.
+fn headed_len(job: &Job, lines: &MessageLines, sub: &Subscription, plain: usize) -> usize
+    requires lines { lines.now ≡ line_forms job.now.message }
+    requires plain { (shard : ℕ) (queue : Option (List ℕ)) → plain ≡ length (entry_due shard false job.now queue sub.now).bytes }
+    ensures { (shard : ℕ) (queue : Option (List ℕ)) → result ≡ length (entry_due shard true job.now queue sub.now).bytes }
+{
+    match job.message.headers() {
+        None => plain,
+        Some(_) => due_len(job, lines, sub, true),
+    }
+}
+
+/// How many bytes the entry has that the subscription is owed, in each form.
+pub fn due_lengths(job: &Job, lines: &MessageLines, sub: &Subscription) -> FormLengths
+    requires { lines.now ≡ line_forms job.now.message }
+    ensures { (shard : ℕ) (queue : Option (List ℕ)) (option : Bool) → form_length result option ≡ length (entry_due shard option job.now queue sub.now).bytes }
+{
+    let plain = due_len(job, lines, sub, false);
+    let headed = headed_len(job, lines, sub, plain);
+    FormLengths { plain, headed }
+}
+
+/// How many bytes the message has in each form, beside the id of a subscription. Takes no memory.
+pub fn message_lengths(message: &Message) -> FormLengths
+    ensures len { (sid : List ℕ) (option : Bool) → length (due_bytes message.now sid option) ≡ form_length result option + length sid }
+    ensures some { (option : Bool) → 1 ≤ form_length result option }
+{
+    let plain = message_len(message, false);
+    let headed = message_len(message, true);
+    FormLengths { plain, headed }
 }
 
 /// The names of the subscriptions of these serials.
@@ -115,6 +156,7 @@ fn add_lines(alloc: Global, shut: &[ConnId], put: &mut Vec<Placed>) -> Result<()
         put.push(Placed {
             conn: *conn,
             entry: Entry::reply(line),
+            headers: false,
         })?;
     }
     Ok(())
@@ -199,17 +241,15 @@ impl DeliveryBuffer {
         job: &Job,
         lines: &MessageLines,
         sub: &Subscription,
+        headers: bool,
     ) -> Result<(), AllocError>
-        requires lines { lines.now ≡ line_parts job.now.message }
+        requires lines { lines.now ≡ line_forms job.now.message }
         requires counts { sub.now.delivered + 1 < 2 ^ 64 }
-        ensures { OnOk result (self.new ≡ with_given (entry_due self.old.shard job.now sub.now.key.queue sub.now) sub.now self.old) }
+        ensures { OnOk result (self.new ≡ with_given (placed_for self.old.shard headers job.now sub.now.key.queue sub.now) sub.now self.old) }
     {
         if self.copies {
-            let entry = due_entry(self.alloc, self.shard, job, lines, sub)?;
-            self.put.push(Placed {
-                conn: sub.conn,
-                entry,
-            })?;
+            let placed = due_placed(self.alloc, self.shard, job, lines, sub, headers)?;
+            self.put.push(placed)?;
         }
         self.given.push(sub.serial)?;
         if is_last(sub) {
@@ -266,23 +306,23 @@ impl DeliveryBuffer {
         sub: &Subscription,
         seat: Seat,
     ) -> Result<(), AllocError>
-        requires lines { lines.now ≡ line_parts job.now.message }
+        requires lines { lines.now ≡ line_forms job.now.message }
         requires plain { sub.now.key.queue ≡ None }
         requires counts { sub.now.delivered + 1 < 2 ^ 64 }
         requires seat { IsSeatOf sub.now.conn seat conns.old.next }
-        requires room { IsTrue (fits (client_at sub.now.conn conns.old.next) (entry_due self.old.shard job.now None sub.now)) }
+        requires room { IsTrue (fits (client_at sub.now.conn conns.old.next) (entry_due self.old.shard seat.takes_headers job.now None sub.now)) }
         ensures shown { conns.new.shown ≡ conns.old.shown }
-        ensures conns { OnOk result (conns.new.next ≡ clients_with_change (with_entry (entry_due self.old.shard job.now None sub.now)) sub.now.conn conns.old.next) }
-        ensures buffer { OnOk result (self.new ≡ with_given (entry_due self.old.shard job.now None sub.now) sub.now self.old) }
+        ensures conns { OnOk result (conns.new.next ≡ clients_with_change (with_entry (entry_due self.old.shard seat.takes_headers job.now None sub.now)) sub.now.conn conns.old.next) }
+        ensures buffer { OnOk result (self.new ≡ with_given (placed_for self.old.shard seat.takes_headers job.now None sub.now) sub.now self.old) }
     {
-        self.note(job, lines, sub)?;
-        lines.write_line(&sub.sid, &mut self.line)?;
+        self.note(job, lines, sub, seat.takes_headers)?;
+        lines.write_line(&sub.sid, seat.takes_headers, &mut self.line)?;
         let id = SubId {
             shard: self.shard,
             serial: sub.serial,
         };
-        let payload = job.message.payload();
-        conns.stage_message(seat, job.id, id, Mode::Plain, &self.line, payload)?;
+        let body = message_body(&job.message, seat.takes_headers);
+        conns.stage_message(seat, job.id, id, Mode::Plain, &self.line, body)?;
         Ok(())
     }
 
@@ -295,13 +335,13 @@ impl DeliveryBuffer {
         lines: &MessageLines,
         sub: &Subscription,
     ) -> Result<(), AllocError>
-        requires lines { lines.now ≡ line_parts job.now.message }
+        requires lines { lines.now ≡ line_forms job.now.message }
         requires plain { sub.now.key.queue ≡ None }
         requires counts { sub.now.delivered + 1 < 2 ^ 64 }
         ensures shown { conns.new.shown ≡ conns.old.shown }
         ensures ok { OnOk result (Follows openings.now.subs job.now (λ s w. walk_after_put s job.now w sub.now) conns.old.next self.old conns.new.next self.new) }
     {
-        match conns.standing(sub.conn, due_len(job, lines, sub)) {
+        match conns.standing(sub.conn, due_lengths(job, lines, sub)) {
             Standing::Shut => Ok(()),
             Standing::Full(seat) => self.shut(conns, openings, sub.conn, seat),
             Standing::Ready(seat) => self.give(conns, job, lines, sub, seat),
@@ -317,7 +357,7 @@ impl DeliveryBuffer {
         lines: &MessageLines,
         sub: &Subscription,
     ) -> Result<(), AllocError>
-        requires lines { lines.now ≡ line_parts job.now.message }
+        requires lines { lines.now ≡ line_forms job.now.message }
         requires counts { sub.now.delivered + 1 < 2 ^ 64 }
         ensures shown { conns.new.shown ≡ conns.old.shown }
         ensures ok { OnOk result (Follows openings.now.subs job.now (λ s w. put_matching s job.now w sub.now) conns.old.next self.old conns.new.next self.new) }
@@ -337,7 +377,7 @@ impl DeliveryBuffer {
         lines: &MessageLines,
         matching: &[&Subscription],
     ) -> Result<(), AllocError>
-        requires lines { lines.now ≡ line_parts job.now.message }
+        requires lines { lines.now ≡ line_forms job.now.message }
         requires counts { All (λ sub. sub.delivered + 1 < 2 ^ 64) (lent_subs matching.now) }
         ensures shown { conns.new.shown ≡ conns.old.shown }
         ensures ok { OnOk result (Follows openings.now.subs job.now (λ s w. walk_matching s job.now (lent_subs matching.now) w) conns.old.next self.old conns.new.next self.new) }

@@ -1,6 +1,6 @@
 //! What a shard does in closed examples. The calls do nothing: their contracts are the examples.
 
-ghost use Rattle.shard_core.specs.Examples.{ClosesTheSlow, FillsTheRoom, TellsOnce, ChoosesByTurn, ClaimsOnce, KeepsTheMaximum, FillsAnOutbox};
+ghost use Rattle.shard_core.specs.Examples.{ClosesTheSlow, FillsTheRoom, TellsOnce, ChoosesByTurn, ClaimsOnce, KeepsTheMaximum, SendsHeaders, FillsAnOutbox};
 
 /// A connection without room for its message is shut with one last line, and all its subscriptions close.
 pub fn the_slow_are_closed()
@@ -30,6 +30,11 @@ pub fn claims_place_once()
 /// A subscription closes with the message that reaches its maximum, and a later maximum replaces an earlier one.
 pub fn maxima_are_kept()
     ensures { KeepsTheMaximum }
+{}
+
+/// A message goes with its header block to a connection that takes headers, and to no other; its room is reckoned with it.
+pub fn headers_are_sent()
+    ensures { SendsHeaders }
 {}
 
 /// A connection has room for 1,024 messages; at the next one it is shut, and its client takes these and the last line.

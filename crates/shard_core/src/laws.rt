@@ -6,6 +6,7 @@ ghost use Rattle.shard_core.specs.AsLaw.{ShardFollows};
 ghost use Rattle.shard_core.specs.Causes.{SubsStayHeld, SubsGoOn, ClosingsAreTold, ClosesByCause, RoomDecides, NumbersTellShards};
 ghost use Rattle.shard_core.specs.EntryBytes.{EntriesAreMessages};
 ghost use Rattle.shard_core.specs.Limits.{LimitsStay};
+ghost use Rattle.shard_core.specs.Options.{OptionsAreChosen};
 ghost use Rattle.shard_core.specs.Puts.{ArePut};
 ghost use Rattle.shard_core.specs.ShardEvents.{Event};
 ghost use Rattle.shard_core.specs.Shards.{State};
@@ -22,7 +23,7 @@ pub fn entries_are_put()
     ensures { (s : State) (e : Event) (conn : ℕ) → ArePut s e conn }
 {}
 
-/// The bytes of a message's entry are those of the server's frame of that message.
+/// The bytes of a message's entry are those of the server's frame of that message, by the option of the connection.
 pub fn entries_are_messages()
     ensures { EntriesAreMessages }
 {}
@@ -30,6 +31,12 @@ pub fn entries_are_messages()
 /// Each connection has the limits `OUTBOX_ENTRIES` and `OUTBOX_BYTES`, whatever the shard was asked since it started.
 pub fn limits_stay()
     ensures { LimitsStay }
+{}
+
+/// A connection takes headers just where it chose so last: no new one does, no connection changes it for another, and none is left
+/// of one that goes.
+pub fn options_are_chosen()
+    ensures { OptionsAreChosen }
 {}
 
 /// Of every shard, whatever it was asked since it started: the serials of open subscriptions rise; each is of a connection that

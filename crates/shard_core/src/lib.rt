@@ -29,13 +29,14 @@ pub use calls::{BeginFault, Begun, Candidate, Closed, Placed, Subscribed};
 pub use connections::Conns;
 pub use dirty_conns::DirtyConns;
 pub use examples::{
-    an_outbox_is_filled, claims_place_once, maxima_are_kept, members_take_turns, openings_are_told,
-    room_is_filled, the_slow_are_closed,
+    an_outbox_is_filled, claims_place_once, headers_are_sent, maxima_are_kept, members_take_turns,
+    openings_are_told, room_is_filled, the_slow_are_closed,
 };
 pub use faults::ShardFault;
 pub use laws::{
     closings_are_told, entries_are_messages, entries_are_put, limits_stay, numbers_tell_shards,
-    room_decides, shards_follow_the_law, subs_close_by_cause, subs_go_on, subs_stay_held,
+    options_are_chosen, room_decides, shards_follow_the_law, subs_close_by_cause, subs_go_on,
+    subs_stay_held,
 };
 pub use openings::Openings;
 pub use queue_claim::claims_are_whole;

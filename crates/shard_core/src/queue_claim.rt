@@ -1,7 +1,7 @@
 //! The choice of a member of a queue group.
 
 ghost use Rattle.std.specs.Prelude.{◌≡◌, filter, IfOk, IsTrue, OnErr, OnOk};
-ghost use Rattle.client_frames.specs.Messages.{line_parts};
+ghost use Rattle.client_frames.specs.Messages.{line_forms};
 ghost use Rattle.outbox.specs.Views.{with_entry};
 ghost use Rattle.shard_core.specs.Boxes.{IsSeatOf, IsSettled};
 ghost use Rattle.shard_core.specs.Claims.{is_member};
@@ -9,15 +9,15 @@ ghost use Rattle.shard_core.specs.Held.{ClaimsAreWhole, HasChosen, candidate_tol
 ghost use Rattle.shard_core.specs.Opened.{AreRising};
 ghost use Rattle.sub_table.specs.Subscriptions.{gets};
 ghost use Rattle.subj.specs.QueueNames.{is_named as named};
-ghost use Rattle.shard_core.specs.Owed.{due_entry as entry_due, placed_for};
+ghost use Rattle.shard_core.specs.Owed.{due_entry as entry_due, owed_entry, placed_for};
 ghost use Rattle.shard_core.specs.Shards.{client_at, clients_with_change, fits};
 ghost use Rattle.shard_core.specs.Tallies.{lent_subs};
 
 use crate::calls::{Candidate, Placed};
 use crate::connections::{Conns, Seat};
-use crate::delivery_buffer::{due_entry, due_len, due_mode, may_get};
+use crate::delivery_buffer::{due_lengths, due_mode, due_placed, may_get};
 use crate::openings::Openings;
-use client_frames::MessageLines;
+use client_frames::{MessageLines, message_body};
 use std::alloc::{AllocError, Global};
 use sub_table::{SubTable, Subscription};
 use subj::{Job, QueueName, SubId};
@@ -44,15 +44,15 @@ fn is_named(name: &QueueName, sub: &Subscription) -> bool
 
 /// Whether the subscription has room for the entry that it would be owed.
 fn has_room(claim: &QueueClaim, lines: &MessageLines, conns: &Conns, sub: &Subscription) -> bool
-    requires { lines.now ≡ line_parts claim.now.job.now.message }
-    ensures { result ≡ fits (client_at sub.now.conn conns.now.next) (entry_due claim.now.shard claim.now.job.now sub.now.key.queue sub.now) }
+    requires { lines.now ≡ line_forms claim.now.job.now.message }
+    ensures { result ≡ fits (client_at sub.now.conn conns.now.next) (owed_entry claim.now.shard conns.now.next claim.now.job.now sub.now.key.queue sub.now) }
 {
-    conns.has_room(sub.conn, due_len(claim.job, lines, sub))
+    conns.has_room(sub.conn, due_lengths(claim.job, lines, sub))
 }
 
 /// Whether it is a candidate, of those that match.
 fn is_candidate(claim: &QueueClaim, lines: &MessageLines, conns: &Conns, sub: &Subscription) -> bool
-    requires { lines.now ≡ line_parts claim.now.job.now.message }
+    requires { lines.now ≡ line_forms claim.now.job.now.message }
     ensures { result ≡ is_member claim.now.shard conns.now.next claim.now.job.now claim.now.name.now sub.now }
 {
     is_named(claim.name, sub) && may_get(claim.job, sub) && has_room(claim, lines, conns, sub)
@@ -65,7 +65,7 @@ fn candidates<'a>(
     conns: &Conns,
     matching: &[&'a Subscription],
 ) -> Result<Vec<&'a Subscription>, AllocError>
-    requires { lines.now ≡ line_parts claim.now.job.now.message }
+    requires { lines.now ≡ line_forms claim.now.job.now.message }
     ensures { IfOk result (λ subs. lent_subs subs.items ≡ filter (is_member claim.now.shard conns.now.next claim.now.job.now claim.now.name.now) (lent_subs matching.now)) }
 {
     let mut subs = Vec::with_capacity(claim.alloc, matching.len())?;
@@ -77,21 +77,21 @@ fn candidates<'a>(
     Ok(subs)
 }
 
-/// A copy of the entry that the member is owed, where it is asked for.
+/// A copy of the entry that the member is owed at a connection that takes headers or does not, where it is asked for.
 fn copy_for(
     claim: &QueueClaim,
     lines: &MessageLines,
     sub: &Subscription,
+    headers: bool,
 ) -> Result<Option<Placed>, AllocError>
-    requires { lines.now ≡ line_parts claim.now.job.now.message }
-    ensures { IfOk result (λ placed. placed ≡ copy_of claim.now.copies (placed_for claim.now.shard claim.now.job.now sub.now.key.queue sub.now)) }
+    requires { lines.now ≡ line_forms claim.now.job.now.message }
+    ensures { IfOk result (λ placed. placed ≡ copy_of claim.now.copies (placed_for claim.now.shard headers claim.now.job.now sub.now.key.queue sub.now)) }
 {
     if !claim.copies {
         return Ok(None);
     }
-    let entry = due_entry(claim.alloc, claim.shard, claim.job, lines, sub)?;
-    let conn = sub.conn;
-    Ok(Some(Placed { conn, entry }))
+    let placed = due_placed(claim.alloc, claim.shard, claim.job, lines, sub, headers)?;
+    Ok(Some(placed))
 }
 
 /// The candidates among the members of the queue group, in order of opening.
@@ -101,7 +101,7 @@ fn open_candidates<'a, T: SubTable>(
     conns: &Conns,
     openings: &'a Openings<T>,
 ) -> Result<Vec<&'a Subscription>, AllocError>
-    requires { lines.now ≡ line_parts claim.now.job.now.message }
+    requires { lines.now ≡ line_forms claim.now.job.now.message }
     ensures all { IfOk result (λ subs. lent_subs subs.items ≡ filter (is_member claim.now.shard conns.now.next claim.now.job.now claim.now.name.now) (filter (gets claim.now.job.now.message.subject) openings.now.subs)) }
     ensures rising { AreRising openings.now.subs }
 {
@@ -117,21 +117,21 @@ fn stage_due(
     sub: &Subscription,
     seat: Seat,
 ) -> Result<(), AllocError>
-    requires lines { lines.now ≡ line_parts claim.now.job.now.message }
+    requires lines { lines.now ≡ line_forms claim.now.job.now.message }
     requires seat { IsSeatOf sub.now.conn seat conns.old.next }
-    requires room { IsTrue (fits (client_at sub.now.conn conns.old.next) (entry_due claim.now.shard claim.now.job.now sub.now.key.queue sub.now)) }
+    requires room { IsTrue (fits (client_at sub.now.conn conns.old.next) (entry_due claim.now.shard seat.takes_headers claim.now.job.now sub.now.key.queue sub.now)) }
     ensures shown { conns.new.shown ≡ conns.old.shown }
-    ensures staged { OnOk result (conns.new.next ≡ clients_with_change (with_entry (entry_due claim.now.shard claim.now.job.now sub.now.key.queue sub.now)) sub.now.conn conns.old.next) }
+    ensures staged { OnOk result (conns.new.next ≡ clients_with_change (with_entry (entry_due claim.now.shard seat.takes_headers claim.now.job.now sub.now.key.queue sub.now)) sub.now.conn conns.old.next) }
     ensures err { OnErr result (conns.new.next ≡ conns.old.next) }
 {
-    let line = lines.line(&sub.sid)?;
+    let line = lines.line(&sub.sid, seat.takes_headers)?;
     let mode = due_mode(claim.alloc, sub)?;
     let id = SubId {
         shard: claim.shard,
         serial: sub.serial,
     };
-    let payload = claim.job.message.payload();
-    conns.stage_message(seat, claim.job.id, id, mode, &line, payload)?;
+    let body = message_body(&claim.job.message, seat.takes_headers);
+    conns.stage_message(seat, claim.job.id, id, mode, &line, body)?;
     Ok(())
 }
 
@@ -142,18 +142,18 @@ fn stage_chosen(
     conns: &mut Conns,
     sub: &Subscription,
 ) -> Result<Candidate, AllocError>
-    requires lines { lines.now ≡ line_parts claim.now.job.now.message }
-    requires room { IsTrue (fits (client_at sub.now.conn conns.old.next) (entry_due claim.now.shard claim.now.job.now sub.now.key.queue sub.now)) }
+    requires lines { lines.now ≡ line_forms claim.now.job.now.message }
+    requires room { IsTrue (fits (client_at sub.now.conn conns.old.next) (owed_entry claim.now.shard conns.old.next claim.now.job.now sub.now.key.queue sub.now)) }
     ensures shown { conns.new.shown ≡ conns.old.shown }
-    ensures told { IfOk result (λ candidate. candidate ≡ candidate_told claim.now.copies claim.now.shard claim.now.job.now sub.now) }
-    ensures staged { OnOk result (conns.new.next ≡ clients_with_change (with_entry (entry_due claim.now.shard claim.now.job.now sub.now.key.queue sub.now)) sub.now.conn conns.old.next) }
+    ensures told { IfOk result (λ candidate. candidate ≡ candidate_told claim.now.copies claim.now.shard conns.old.next claim.now.job.now sub.now) }
+    ensures staged { OnOk result (conns.new.next ≡ clients_with_change (with_entry (owed_entry claim.now.shard conns.old.next claim.now.job.now sub.now.key.queue sub.now)) sub.now.conn conns.old.next) }
     ensures err { OnErr result (conns.new.next ≡ conns.old.next) }
 {
     let Some(seat) = conns.seat(sub.conn) else {
         // required: it has room
         unreachable!()
     };
-    let placed = copy_for(claim, lines, sub)?;
+    let placed = copy_for(claim, lines, sub, seat.takes_headers)?;
     stage_due(claim, lines, conns, sub, seat)?;
     let sub = SubId {
         shard: claim.shard,
@@ -169,7 +169,7 @@ fn choose_with<T: SubTable>(
     conns: &mut Conns,
     openings: &Openings<T>,
 ) -> Result<Option<Candidate>, AllocError>
-    requires lines { lines.now ≡ line_parts claim.now.job.now.message }
+    requires lines { lines.now ≡ line_forms claim.now.job.now.message }
     requires settled { IsSettled conns.old }
     ensures shown { conns.new.shown ≡ conns.old.shown }
     ensures ok { IfOk result (λ candidate. HasChosen claim.now.copies (shard_with claim.now.shard conns.old.shown openings.now.subs) claim.now.job.now claim.now.name.now candidate conns.new.next) }

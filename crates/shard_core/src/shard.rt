@@ -15,19 +15,19 @@ ghost use Rattle.shard_core.specs.Held.{DoesStep, IsLeft, Chooses, Stands, held_
 ghost use Rattle.shard_core.specs.Opened.{AreApart, AreRising, with_closings};
 ghost use Rattle.shard_core.specs.Room.{has_room_for as room_for_all};
 ghost use Rattle.shard_core.specs.Shards.{new_shard, clients_with_change, client_at, fits, is_open as opened, waits_for};
-ghost use Rattle.shard_core.specs.ShardEvents.{Attach, Subscribe, Unsubscribe, Reply, Shut, Detach, Take, Begin, Claim, End, DropJob, Drain, Drains, Collect, Attached, Unsubscribed, Replied, WasShut, Detached, Taken, Finished, Dropped, Collected};
+ghost use Rattle.shard_core.specs.ShardEvents.{Attach, Subscribe, Unsubscribe, Reply, SetHeaders, HeadersSet, Shut, Detach, Take, Begin, Claim, End, DropJob, Drain, Drains, Collect, Attached, Unsubscribed, Replied, WasShut, Detached, Taken, Finished, Dropped, Collected};
 ghost use Rattle.shard_core.specs.ShardSteps.{shard_refusal, sub_called as call, ended_now, IsHanded};
 
 mod refusals;
 
 use crate::calls::{BeginFault, Begun, Candidate, Closed, Subscribed};
 use crate::connections::Conns;
-use crate::delivery_buffer::{DeliveryBuffer, is_last, place_all, sub_ids};
+use crate::delivery_buffer::{DeliveryBuffer, is_last, message_lengths, place_all, sub_ids};
 use crate::dirty_conns::DirtyConns;
 use crate::faults::ShardFault;
 use crate::openings::Openings;
 use crate::queue_claim::{QueueClaim, choose};
-use client_frames::{ErrText, ReplyFrame, message_len, reply_line};
+use client_frames::{ErrText, ReplyFrame, reply_line};
 use outbox::{Entry, LAST_LINE_TEXT};
 use std::alloc::{AllocError, Global};
 use std::marker::Model;
@@ -397,6 +397,20 @@ impl<T: SubTable> Shard<T> {
         Ok(Closed { shut: true, ended })
     }
 
+    /// Notes whether a connection takes headers: from here on a message is delivered to it with its header block, by `HMSG`, or
+    /// without. Refused with [`ShardFault::NoConn`] where the connection is not there or shut. Takes no memory. (NATS documentation,
+    /// "Client Protocol", "CONNECT": `headers`.)
+    pub fn set_headers(&mut self, conn: ConnId, on: bool) -> Result<(), ShardFault>
+        ensures { IsDecided (shard_refusal self.old.state (SetHeaders conn on)) (λ _. DoesStep self.old (SetHeaders conn on) HeadersSet self.new) (IsLeft self.old self.new) result }
+    {
+        drop_candidate(&mut self.conns, &mut self.chosen);
+        if !self.conns.is_open(conn) {
+            return Err(ShardFault::NoConn);
+        }
+        self.conns.set_headers(conn, on);
+        Ok(())
+    }
+
     /// Shuts a connection with this text: its last line is put, and all its subscriptions close. Gives
     /// those. Refused with [`ShardFault::NoConn`] where the connection is not there or shut already.
     pub fn shut(&mut self, conn: ConnId, text: ErrText) -> Result<Vec<SubId>, Failure<ShardFault>>
@@ -488,7 +502,7 @@ impl<T: SubTable> Shard<T> {
     {
         let table = self.openings.table();
         self.conns
-            .have_room(table, message.subject(), message_len(message))
+            .have_room(table, message.subject(), message_lengths(message))
     }
 
     /// Whether the connections that are told next are to be asked for soon ([`DirtyConns::is_urgent`]).

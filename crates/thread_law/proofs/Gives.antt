@@ -15,13 +15,14 @@ use Rattle.sub_table.specs.declared.Subscription.{Subscription}
 use Rattle.shard_core.specs.Causes.{AreHeld, sub_after, IsOpening}
 use Rattle.shard_core.specs.Closings.{id_of}
 use Rattle.shard_core.specs.Opened.{AreRising}
-use Rattle.shard_core.specs.Owed.{candidate_of, candidate_named, after_claim, first_step, is_due, is_plain, is_wanted, mode_of, placed_for, after_put, after_try, whole_walk}
-use Rattle.shard_core.specs.ShardEvents.{Event, Attach, Subscribe, Unsubscribe, Reply, Shut, Detach, Take, Begin, Claim, End, DropJob, Drain, Collect}
+use Rattle.shard_core.specs.Owed.{candidate_of, candidate_named, after_claim, first_step, is_due, is_plain, is_wanted, mode_of, owed_placed, after_put, after_try, whole_walk}
+use Rattle.shard_core.specs.ShardEvents.{Event, Attach, Subscribe, Unsubscribe, Reply, Shut, SetHeaders, Detach, Take, Begin, Claim, End, DropJob, Drain, Collect}
 use Rattle.shard_core.specs.ShardSteps.{IsAsked, IsHanded, answer_fits, begin_refusal, sub_called, claim_refusal, claim_answer, done_with, end_refusal, ended_now, new_sub, shard_refusal, shard_after, shard_answer, after_subscribe, subscribe_answer, after_unsubscribe}
 use Rattle.shard_core.specs.Shards.{State, new_shard}
 use Rattle.shard_core.specs.declared.calls.Placed.{Placed}
 use Rattle.shard_core.specs.declared.faults.ShardFault.TheVariants.{BadIndex, JobInHand, NoJob, WrongTurn}
-use Rattle.shard_core.proofs.Closings.Causes.{fixed, one, subs_go_on, subs_stay_held}
+use Rattle.shard_core.proofs.Closings.Causes.{one, subs_go_on, subs_stay_held}
+use Rattle.shard_core.proofs.Closings.Fixed.{fixed}
 use Rattle.shard_core.proofs.Steps.LawEvents.{candidate_is, walk_gives}
 use Rattle.node_threads.specs.Steps.{Done, Leads, claimed_in, claims_of, job_in, jobs_of, pair_of}
 use Rattle.thread_law.specs.Once.{placed_in, placed_by}
@@ -51,6 +52,7 @@ gave_in s (Unsubscribe conn sid max) = []
 gave_in s (Reply conn frame) = []
 gave_in s (Shut conn text) = []
 gave_in s (Detach conn) = []
+gave_in s (SetHeaders conn on) = []
 gave_in s (Take conn count) = []
 gave_in s (Begin job) = map (plain_to job) (whole_walk s job).given
 gave_in s (Claim index won) = gave_by_claim s.hand (candidate_of s s.hand index) won
@@ -88,8 +90,9 @@ step_tags s (Unsubscribe conn sid max) = refl
 step_tags s (Reply conn frame) = refl
 step_tags s (Shut conn text) = refl
 step_tags s (Detach conn) = refl
+step_tags s (SetHeaders conn on) = refl
 step_tags s (Take conn count) = refl
-step_tags s (Begin job) = map_map (placed_for s.shard job None) (λ (p : Placed). p.entry.tag) (whole_walk s job).given ∙ sym (map_map (plain_to job) (tag_at s.shard) (whole_walk s job).given)
+step_tags s (Begin job) = map_map (owed_placed s.shard s.clients job None) (λ (p : Placed). p.entry.tag) (whole_walk s job).given ∙ sym (map_map (plain_to job) (tag_at s.shard) (whole_walk s job).given)
 step_tags s (Claim index won) = claim_tags s s.hand (candidate_of s s.hand index) won
 step_tags s End = refl
 step_tags s (DropJob waiting) = refl
@@ -142,6 +145,7 @@ key_after s e g held free low key u i same = ⊎_elim
     opens (Reply conn frame) x = absurd x
     opens (Shut conn text) x = absurd x
     opens (Detach conn) x = absurd x
+    opens (SetHeaders conn on) x = absurd x
     opens (Take conn count) x = absurd x
     opens (Begin job) x = absurd x
     opens (Claim index won) x = absurd x
@@ -427,6 +431,7 @@ module _ (s : State) (gs : List Gave) (jobs : List Job) (wins : List (ℕ × ℕ
   given_step (Reply conn frame) free asked = calm (Reply conn frame) free asked (either s _ _ (answer_fits s conn _) (record { hand = refl; finished = refl; next = refl }) (record { hand = refl; finished = refl; next = refl }))
   given_step (Shut conn text) free asked = calm (Shut conn text) free asked (record { hand = refl; finished = refl; next = refl })
   given_step (Detach conn) free asked = calm (Detach conn) free asked (record { hand = refl; finished = refl; next = refl })
+  given_step (SetHeaders conn on) free asked = calm (SetHeaders conn on) free asked (record { hand = refl; finished = refl; next = refl })
   given_step (Take conn count) free asked = calm (Take conn count) free asked (record { hand = refl; finished = refl; next = refl })
   given_step (Begin job) free asked = begun_given s job gs jobs wins g free
   given_step (Claim index won) free asked = claimed_given s index won gs jobs wins g free apart

@@ -12,7 +12,7 @@ use Rattle.outbox.specs.declared.entries.Tag.TheVariants.{Msg}
 use Rattle.hub_core.specs.Events as of_hub
 use Rattle.node_parts.specs.Sides.{Event, ByHub, BySessions, job_in}
 use Rattle.node_parts.specs.Sides as side
-use Rattle.shard_core.specs.ShardEvents.{Answer, Attached, Opened, AlreadyOpen, Unsubscribed, Replied, WasShut, Detached, Taken, Began, Nobody, Lost, Won, Finished, Dropped, Drains, Collected}
+use Rattle.shard_core.specs.ShardEvents.{Answer, Attached, Opened, AlreadyOpen, Unsubscribed, Replied, HeadersSet, WasShut, Detached, Taken, Began, Nobody, Lost, Won, Finished, Dropped, Drains, Collected}
 use Rattle.shard_core.specs.declared.calls.Placed.{Placed}
 use Rattle.node_threads.specs.Steps.{Done}
 use Rattle.thread_law.specs.Runs.{HubRun, ShardRun, IsLegal}
@@ -52,6 +52,7 @@ placed_in (Opened sub) = []
 placed_in AlreadyOpen = []
 placed_in (Unsubscribed ended) = []
 placed_in (Replied shut ended) = []
+placed_in HeadersSet = []
 placed_in (WasShut ended) = []
 placed_in (Detached ended) = []
 placed_in (Taken entries) = []

@@ -4,7 +4,7 @@ ghost use Rattle.std.specs.Prelude.{◌≡◌, option_to_list};
 ghost use Rattle.std.specs.Arc.{arc_value};
 ghost use Rattle.subj.specs.Answers.{IsAnswered, IsDecided};
 ghost use Rattle.shard_core.specs.Answers.{answer_of};
-ghost use Rattle.shard_core.specs.ShardEvents.{Attach, Subscribe, Unsubscribe, Reply, Shut, Detach, Take, Drain, Drains, Attached, Unsubscribed, Replied, WasShut, Detached, Taken};
+ghost use Rattle.shard_core.specs.ShardEvents.{Attach, Subscribe, Unsubscribe, Reply, SetHeaders, Shut, Detach, Take, Drain, Drains, Attached, Unsubscribed, Replied, HeadersSet, WasShut, Detached, Taken};
 ghost use Rattle.shard_core.specs.Shards.{is_open as opened};
 ghost use Rattle.shard_core.specs.ShardSteps.{shard_refusal};
 ghost use Rattle.node_threads.specs.AtWork.{Does, TakesBytes, at_start};
@@ -142,6 +142,16 @@ impl<T: SubTable, N: NodeName> LockedShard<T, N> {
         };
         note_shard(&mut self.tape, event, told);
         Ok(closed)
+    }
+
+    /// [`ShardState::set_headers`].
+    pub fn set_headers(&mut self, conn: ConnId, on: bool) -> Result<(), ShardFault>
+        ensures { IsDecided (shard_refusal self.old.state (SetHeaders conn on)) (λ _. Does self.old (SetHeaders conn on) HeadersSet self.new) (self.new ≡ self.old) result }
+    {
+        self.state.set_headers(conn, on)?;
+        let event = ShardEvent::SetHeaders { conn, on };
+        note_shard(&mut self.tape, Some(event), ShardTold::HeadersSet);
+        Ok(())
     }
 
     /// [`ShardState::drain`].

@@ -536,6 +536,23 @@ impl<T: SubTable, N: NodeName> ThreadNode<T, N> {
         answered_by_shard(shard.reply(conn, frame))
     }
 
+    /// [`ShardState::set_headers`](node_threads::ShardState::set_headers), of the shard of this number. Refused with
+    /// [`NodeFault::NoShard`] first, where that is not there or the connection is of another. May wait.
+    pub fn set_headers<R: Wait>(
+        &self,
+        rt: &R,
+        shard: u64,
+        conn: ConnId,
+        on: bool,
+    ) -> Result<(), NodeFault>
+        ensures { DecidesAt (has_conn N.race shard conn) result }
+    {
+        let Some(mut shard) = self.shard_of_conn(rt, shard, conn) else {
+            return Err(NodeFault::NoShard);
+        };
+        decided_by_shard(shard.set_headers(conn, on))
+    }
+
     /// [`ShardState::shut`](node_threads::ShardState::shut), of the shard of this number. Refused with
     /// [`NodeFault::NoShard`] first, where that is not there or the connection is of another. May wait.
     pub fn shut<R: Wait>(

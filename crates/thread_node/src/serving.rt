@@ -42,6 +42,14 @@ fn outcome_of<X: Drop>(done: Result<X, Failure<ShardFault>>) -> Outcome {
     }
 }
 
+/// The same of a call that takes no memory.
+fn outcome_of_decision<X: Drop>(done: Result<X, ShardFault>) -> Outcome {
+    match done {
+        Ok(_) => Outcome::Done,
+        Err(fault) => Outcome::Refused(refusal_of_shard(fault)),
+    }
+}
+
 /// Copies of what opens a subscription.
 fn copies_of(alloc: Global, key: &Key, sid: &Sid) -> Result<(Key, Sid), AllocError> {
     let key = key.try_clone(alloc)?;
@@ -103,6 +111,11 @@ impl<'n, T: SubTable, N: NodeName> ClientCalls for HeldShard<'n, T, N> {
         }
     }
 
+    fn set_headers(&mut self, conn: ConnId, on: bool) -> Outcome {
+        let shard = &mut *self.guard;
+        outcome_of_decision(shard.set_headers(conn, on))
+    }
+
     fn shut(&mut self, conn: ConnId, text: ErrText) -> Outcome {
         let shard = &mut *self.guard;
         match shard.shut(conn, text) {
@@ -121,10 +134,7 @@ impl<'n, T: SubTable, N: NodeName> ClientCalls for HeldShard<'n, T, N> {
 
     fn unsubscribe(&mut self, conn: ConnId, sid: &Sid, max: Option<u64>) -> Outcome {
         let shard = &mut *self.guard;
-        match shard.unsubscribe(conn, sid, max) {
-            Ok(_) => Outcome::Done,
-            Err(fault) => Outcome::Refused(refusal_of_shard(fault)),
-        }
+        outcome_of_decision(shard.unsubscribe(conn, sid, max))
     }
 
     fn publish(&mut self, _conn: ConnId, _said: &Pub) -> Outcome {

@@ -4,7 +4,7 @@ use Rattle.std.specs.List.Sorted.{IsPermutation}
 use Rattle.node_law.specs.declared.events.NodeEvent.{NodeEvent}
 use Rattle.node_threads.specs.declared.shard_entries.ShardEntry.{ShardEntry}
 use Rattle.node_threads.specs.declared.shard_entries.ShardTold.{ShardTold}
-use Rattle.node_threads.specs.declared.shard_entries.ShardTold.TheVariants.{Attached, Opened, AlreadyOpen, Unsubscribed, Replied, WasShut, Detached, Taken, Work, Dropped, Drained}
+use Rattle.node_threads.specs.declared.shard_entries.ShardTold.TheVariants.{Attached, Opened, AlreadyOpen, Unsubscribed, Replied, HeadersSet, WasShut, Detached, Taken, Work, Dropped, Drained}
 use Rattle.thread_report.specs.Events.{event_of_hub, event_of_shard}
 use Rattle.thread_node.specs.declared.hub_entries.HubEntry.{HubEntry}
 use Rattle.thread_report.specs.declared.passes.Call.{Call}
@@ -45,6 +45,7 @@ is_told (Opened sub) = true
 is_told AlreadyOpen = true
 is_told (Unsubscribed ended) = true
 is_told (Replied shut ended) = true
+is_told HeadersSet = true
 is_told (WasShut ended) = true
 is_told (Detached ended) = true
 is_told (Taken entries) = true

@@ -1,13 +1,14 @@
 //! Whether an event is what a step that was written down was asked.
 
 ghost use Rattle.std.specs.Prelude.{◌≡◌, ◌↔◌, IsTrue};
+ghost use Rattle.node_law.specs.declared.events.ConnEvent.TheVariants.{Subscribe};
 ghost use Rattle.node_law.specs.declared.events.NodeEvent.TheVariants.{Own};
 ghost use Rattle.node_law.specs.declared.events.OwnEvent.TheVariants.{AtShard, OfConn};
 ghost use Rattle.thread_report.specs.Events.{event_of_hub, event_of_shard};
 
 use node_law::{ConnEvent, NodeEvent, OwnEvent, ShardWork};
 use node_threads::ShardEvent;
-use subj::ConnId;
+use subj::{ConnId, Key, Sid};
 use thread_node::HubEvent;
 use value_equality::{
     is_same_answer, is_same_connect, is_same_frame, is_same_info, is_same_key, is_same_pub,
@@ -91,19 +92,26 @@ pub(crate) fn is_of_shard(event: &NodeEvent, shard: u64, asked: &ShardEvent) -> 
     }
 }
 
+/// Whether a shard was asked for this subscription of this connection.
+fn is_subscribe(conn: ConnId, key: &Key, sid: &Sid, shard: u64, asked: &ShardEvent) -> bool
+    ensures { IsTrue result ↔ (Own (OfConn conn (Subscribe key.now sid.now)) ≡ event_of_shard shard asked.now) }
+{
+    match asked {
+        ShardEvent::Subscribe {
+            conn: by,
+            key: to,
+            sid: named,
+        } => conn == *by && is_same_key(key, to) && is_same_sid(sid, named),
+        _ => false,
+    }
+}
+
 /// Whether it is what a shard was asked for this connection.
 fn is_of_conn(conn: ConnId, event: &ConnEvent, shard: u64, asked: &ShardEvent) -> bool
     ensures { IsTrue result ↔ (Own (OfConn conn event.now) ≡ event_of_shard shard asked.now) }
 {
     match (event, asked) {
-        (
-            ConnEvent::Subscribe { key, sid },
-            ShardEvent::Subscribe {
-                conn: by,
-                key: to,
-                sid: named,
-            },
-        ) => conn == *by && is_same_key(key, to) && is_same_sid(sid, named),
+        (ConnEvent::Subscribe { key, sid }, _) => is_subscribe(conn, key, sid, shard, asked),
         (
             ConnEvent::Unsubscribe { sid, max },
             ShardEvent::Unsubscribe {
@@ -119,6 +127,9 @@ fn is_of_conn(conn: ConnId, event: &ConnEvent, shard: u64, asked: &ShardEvent) -
                 frame: of,
             },
         ) => { conn == *to && is_same_answer(frame, of) }
+        (ConnEvent::SetHeaders { on }, ShardEvent::SetHeaders { conn: of, on: set }) => {
+            conn == *of && on == set
+        }
         (
             ConnEvent::Shut { text },
             ShardEvent::Shut {

@@ -644,6 +644,31 @@ impl<N: NodeName> Pass<N> {
         Ok(closed)
     }
 
+    /// [`ThreadNode::set_headers`]. May wait.
+    pub fn set_headers<T: SubTable, R: Wait>(
+        &mut self,
+        rt: &R,
+        node: &ThreadNode<T, N>,
+        shard: u64,
+        conn: ConnId,
+        on: bool,
+    ) -> Result<(), Failure<NodeFault>>
+        ensures told { IfOk result (λ _. Gains N.keep shard (Own (own.OfConn conn (of_conn.SetHeaders on))) (Shard shard_told.HeadersSet) self.old.calls self.new.calls) }
+        ensures same { OnErr result (self.new.calls ≡ self.old.calls) }
+        ensures answers { AnswersAt (has_conn N.race shard conn) result }
+    {
+        let keep = node.keeps_tapes();
+        let (mut locked, place) = self.enter_conn(rt, node, shard, conn)?;
+        let done = locked.set_headers(conn, on);
+        drop(locked);
+        if let Err(fault) = done {
+            return Err(Failure::Refused(NodeFault::Shard(fault)));
+        }
+        let event = conn_event_if(keep, conn, ConnEvent::SetHeaders { on });
+        self.tell_shard(keep, shard, place, event, ShardTold::HeadersSet);
+        Ok(())
+    }
+
     /// [`ThreadNode::shut`]. May wait.
     pub fn shut<T: SubTable, R: Wait>(
         &mut self,

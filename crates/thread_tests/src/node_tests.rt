@@ -32,10 +32,11 @@ fn server(rt: &impl Abort, alloc: Global, shards: u64) -> ServerIdentity {
     ServerIdentity::new(names, 0, inc, shards).expect(rt, "a server")
 }
 
-/// `hello` on `foo`, as a client says it.
+/// `hello` on `foo` behind a header block, as a client says it.
 fn hello(rt: &impl Abort, alloc: Global) -> Pub {
     let subject = Subject::read(alloc, b"foo").ok().expect(rt, "a subject");
-    let message = Message::new(alloc, subject, None, None, Bytes::from_static(b"hello")).ok();
+    let block = Some(Bytes::from_static(b"NATS/1.0\r\n\r\n"));
+    let message = Message::new(alloc, subject, None, block, Bytes::from_static(b"hello")).ok();
     Pub {
         message: message.expect(rt, "memory").expect(rt, "a message"),
         echo: true,
@@ -263,7 +264,7 @@ fn published_by_two<N: NodeName + Send + Sync, R: Threads + Wait + Sync>(
     published
 }
 
-/// Each publication of two threads reaches one of the two members.
+/// Each publication of two threads reaches one of the two members, of which the second takes headers.
 fn serves_from_four<N: NodeName + Send + Sync, R: Abort + Threads + Wait + Sync>(
     rt: &R,
     alloc: Global,
@@ -271,6 +272,7 @@ fn serves_from_four<N: NodeName + Send + Sync, R: Abort + Threads + Wait + Sync>
 ) {
     let first = member(rt, alloc, node, 1);
     let second = member(rt, alloc, node, 2);
+    assert!(rt; node.set_headers(rt, 2, second, true).is_ok());
     let published = published_by_two(rt, node, &hello(rt, alloc), (first.get(), second.get()));
     assert_eq!(rt; published, (EACH, EACH));
     assert_eq!(rt; all_taken(rt, node, first, second), 2 * EACH);
@@ -529,7 +531,8 @@ fn told_take_count<N: NodeName, R: Abort + Wait>(
     entries.expect(rt, "entries").len() as u64
 }
 
-/// So many publications to a member in the first and one in the last shard, worked by a thread each; then all is taken.
+/// So many publications to a member in the first and one in the last shard, which takes headers, worked by a thread each; then all is
+/// taken.
 fn serve<N: NodeName + Send + Sync, R: Abort + Threads + Wait + Sync>(
     rt: &R,
     alloc: Global,
@@ -539,11 +542,13 @@ fn serve<N: NodeName + Send + Sync, R: Abort + Threads + Wait + Sync>(
     count: u64,
 ) {
     let first = told_member(rt, alloc, node, clients, 1);
-    let last = told_member(rt, alloc, node, clients, node.shards());
+    let shards = node.shards();
+    let last = told_member(rt, alloc, node, clients, shards);
+    assert!(rt; clients.set_headers(rt, node, shards, last, true).is_ok());
     publish_turns(rt, alloc, node, publisher, first, count);
     work_until(rt, node, count, LOOKS);
     let of_first = told_take_count(rt, node, clients, 1, first);
-    let of_last = told_take_count(rt, node, clients, node.shards(), last);
+    let of_last = told_take_count(rt, node, clients, shards, last);
     assert_eq!(rt; of_first.saturating_add(of_last), count);
 }
 

@@ -25,6 +25,11 @@ const PAUSE: u64 = 10;
 
 const PATIENCE: u64 = 20_000;
 
+/// What a client says that wants no `+OK`: one that takes headers, and one that takes none.
+const TAKES_HEADERS: &[u8] = b"CONNECT {\"verbose\":false,\"headers\":true}\r\n";
+
+const TAKES_NONE: &[u8] = b"CONNECT {\"verbose\":false}\r\n";
+
 /// A client of a server of this machine.
 #[derive(Drop)]
 struct Client {
@@ -70,16 +75,26 @@ impl Client {
         }
     }
 
-    /// A client that wants no `+OK`, and that the server has answered.
+    /// A client that says this first, and that the server has answered.
+    fn with_connect<R: Net<Stream = TcpStream> + Clock + Abort>(
+        rt: &R,
+        alloc: Global,
+        port: u16,
+        line: &[u8],
+    ) -> Client {
+        let mut client = Client::connect(rt, alloc, port);
+        client.send(rt, line);
+        let _first = client.bytes_until_pong(rt, alloc);
+        client
+    }
+
+    /// A client that wants no `+OK` and takes no headers, and that the server has answered.
     fn with_greeting<R: Net<Stream = TcpStream> + Clock + Abort>(
         rt: &R,
         alloc: Global,
         port: u16,
     ) -> Client {
-        let mut client = Client::connect(rt, alloc, port);
-        client.send(rt, b"CONNECT {\"verbose\":false}\r\n");
-        let _first = client.bytes_until_pong(rt, alloc);
-        client
+        Client::with_connect(rt, alloc, port, TAKES_NONE)
     }
 
     /// Sends these bytes.
@@ -292,6 +307,75 @@ fn serve_two_nodes(rt: HostRuntime) -> Result<(), Fail> {
     Ok(())
 }
 
+/// A publication with a header block of 12 bytes and a payload of 5.
+const HEADED: &[u8] = b"HPUB foo 12 17\r\nNATS/1.0\r\n\r\nhello\r\n";
+
+/// What is sent of it to a client that takes headers, and to one that takes none.
+const WITH_HEADERS: &[u8] = b"HMSG foo 1 12 17\r\nNATS/1.0\r\n\r\nhello\r\n";
+
+const WITHOUT_HEADERS: &[u8] = b"MSG foo 1 5\r\nhello\r\n";
+
+/// A client says this, to which nothing is answered; then the server has heard it.
+fn is_heard<R: Abort>(rt: &R, alloc: Global, says: &mut Client, line: &[u8]) {
+    says.send(rt, line);
+    assert!(rt; says.bytes_until_pong(rt, alloc).is_empty());
+}
+
+/// A client that says this first, and then subscribes.
+fn subscriber<R: Net<Stream = TcpStream> + Clock + Abort>(
+    rt: &R,
+    alloc: Global,
+    port: u16,
+    line: &[u8],
+) -> Client {
+    let mut hears = Client::with_connect(rt, alloc, port, line);
+    is_heard(rt, alloc, &mut hears, b"SUB foo 1\r\n");
+    hears
+}
+
+/// The next bytes that come to a client are these.
+fn reads_next<R: Abort>(rt: &R, alloc: Global, hears: &mut Client, wanted: &[u8]) {
+    assert!(rt; hears.until(rt, alloc, wanted).is_empty());
+}
+
+/// A publication with a header block comes with it to the first of two clients, and without it to the other one.
+fn both_forms_are_sent<R: Abort>(
+    rt: &R,
+    alloc: Global,
+    says: &mut Client,
+    takes: &mut Client,
+    takes_none: &mut Client,
+) {
+    says.send(rt, HEADED);
+    reads_next(rt, alloc, takes, WITH_HEADERS);
+    reads_next(rt, alloc, takes_none, WITHOUT_HEADERS);
+}
+
+/// Two clients hear a third one, the first with headers and the second without; then each chooses the other form, and they hear it again.
+fn forms_are_chosen<R: Net<Stream = TcpStream> + Clock + Abort>(rt: &R, alloc: Global, port: u16) {
+    let mut first = subscriber(rt, alloc, port, TAKES_HEADERS);
+    let mut second = subscriber(rt, alloc, port, TAKES_NONE);
+    let mut says = Client::with_greeting(rt, alloc, port);
+    both_forms_are_sent(rt, alloc, &mut says, &mut first, &mut second);
+    is_heard(rt, alloc, &mut first, TAKES_NONE);
+    is_heard(rt, alloc, &mut second, TAKES_HEADERS);
+    both_forms_are_sent(rt, alloc, &mut says, &mut second, &mut first);
+}
+
+/// A client is sent header blocks just where its last CONNECT says that it takes them.
+#[test]
+fn header_blocks_go_where_they_are_taken(rt: HostRuntime) -> Result<(), Fail> {
+    let alloc = rt.alloc();
+    let options = options(&rt, 1, 17_470, 3);
+    let (served, ()) = join(
+        &rt,
+        || serve(&rt, alloc, &options).is_ok(),
+        || forms_are_chosen(&rt, alloc, 17_470),
+    );
+    assert!(rt; served);
+    Ok(())
+}
+
 /// The messages that members of a queue group have heard: how many, how often each number, and how many members have heard one.
 #[derive(Drop)]
 struct Heard {
@@ -476,7 +560,7 @@ fn noise(rt: HostRuntime) -> Result<(), Fail> {
 /// The line that a server tells its first client of itself.
 fn info_line<R: Abort>(rt: &R, alloc: Global, name: &str, port: u16) -> String {
     let line = format!(in alloc;
-        "INFO {{\"client_id\":1,\"headers\":false,\"host\":\"127.0.0.1\",\"max_payload\":1048576,\"port\":{port},\"proto\":1,\"server_id\":\"{name}-1\",\"server_name\":\"{name}\",\"version\":\"1.0.0\"}}"
+        "INFO {{\"client_id\":1,\"headers\":true,\"host\":\"127.0.0.1\",\"max_payload\":1048576,\"port\":{port},\"proto\":1,\"server_id\":\"{name}-1\",\"server_name\":\"{name}\",\"version\":\"1.0.0\"}}"
     );
     line.ok().expect(rt, "memory")
 }

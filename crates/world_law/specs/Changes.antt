@@ -11,7 +11,7 @@ use Rattle.subj.specs.Servers.{ServerIdentity}
 use Rattle.hub_core.specs.Publishing as hub
 use Rattle.hub_core.specs.Publishing.{next_id}
 use Rattle.shard_core.specs.Closings.{id_of, serials_of}
-use Rattle.shard_core.specs.Shards.{waits_for}
+use Rattle.shard_core.specs.Shards.{waits_for, takes_headers}
 use Rattle.shard_core.specs.Puts.{put_by, entries_for}
 use Rattle.claim_race.specs.Race.{RaceState}
 use Rattle.node_law.specs.AsLaw.{Part, part_of, waits_at, is_open_in}
@@ -19,7 +19,7 @@ use Rattle.shard_core.specs.ShardSteps.{sub_called}
 use Rattle.node_law.specs.Sound.{SoundNode}
 use Rattle.node_law.specs.State.{ShardWithJobs, Node}
 use Rattle.node_law.specs.declared.events.ConnEvent.{ConnEvent}
-use Rattle.node_law.specs.declared.events.ConnEvent.TheVariants.{Subscribe, Unsubscribe, Reply, Shut, Detach, Take}
+use Rattle.node_law.specs.declared.events.ConnEvent.TheVariants.{Subscribe, Unsubscribe, Reply, Shut, SetHeaders, Detach, Take}
 use Rattle.node_law.specs.Events.{OwnEvent, OfConn, AtShard, Publish, Collect, Drain, Dial, Accept, CutSession, TakeFrames, NodeEvent, Own, Receive, OnInfo, OnConnect}
 use Rattle.node_law.specs.Steps.{NodeStep, conn_line, shard_line}
 use Rattle.world_law.specs.State.{Publication, LifeId, Life, Placement, Running, World}
@@ -59,6 +59,7 @@ conn_lives server now conn (Unsubscribe sid max) (Some line) = []
 conn_lives server now conn (Reply frame) (Some line) = []
 conn_lives server now conn (Shut text) (Some line) = []
 conn_lives server now conn Detach (Some line) = []
+conn_lives server now conn (SetHeaders on) (Some line) = []
 conn_lives server now conn (Take count) (Some line) = []
 
 abbrev pub own_lives : ServerIdentity → ℕ → Node → OwnEvent → List Life
@@ -100,18 +101,29 @@ looked_at now nodes life = if is_none life.closed && not (is_open nodes life.id)
 -- ---- placements: the new messages in the outboxes. A take removes what stood in front, and a connection that goes takes its
 -- outbox along: there is nothing new in either. Else what waited stays, and what is new stands behind it.
 
+-- at one shard
+abbrev pub new_in : ShardWithJobs → ShardWithJobs → ℕ → List Written
+new_in line new conn = drop (length (waits_for conn line.shard.clients)) (waits_for conn new.shard.clients)
+
 abbrev pub new_entries : List ShardWithJobs → List ShardWithJobs → ℕ → List Written
 new_entries [] after conn = []
 new_entries (line ∷ lines) [] conn = []
-new_entries (line ∷ lines) (new ∷ after) conn = drop (length (waits_for conn line.shard.clients)) (waits_for conn new.shard.clients) ++ new_entries lines after conn
+new_entries (line ∷ lines) (new ∷ after) conn = new_in line new conn ++ new_entries lines after conn
 
-abbrev pub placement_of : ServerIdentity → ℕ → ℕ → List ℕ → Tag → List Placement
-placement_of server now conn bytes tag.Reply = []
-placement_of server now conn bytes (tag.Msg id sub mode) = record { step = now; life = record { node = server.me; inc = server.inc; sub = sub }; conn = conn; id = id; mode = mode; bytes = bytes } ∷ []
+-- the placement of an entry, with whether its connection takes headers; an answer or a last line is none
+abbrev pub placement_of : ServerIdentity → ℕ → ℕ → Bool → List ℕ → Tag → List Placement
+placement_of server now conn headers bytes tag.Reply = []
+placement_of server now conn headers bytes (tag.Msg id sub mode) = record { step = now; life = record { node = server.me; inc = server.inc; sub = sub }; conn = conn; id = id; mode = mode; bytes = bytes; headers = headers } ∷ []
 
-abbrev pub placements_of : ServerIdentity → ℕ → ℕ → List Written → List Placement
-placements_of server now conn [] = []
-placements_of server now conn (entry ∷ entries) = placement_of server now conn entry.bytes entry.tag ++ placements_of server now conn entries
+abbrev pub placements_of : ServerIdentity → ℕ → ℕ → Bool → List Written → List Placement
+placements_of server now conn headers [] = []
+placements_of server now conn headers (entry ∷ entries) = placement_of server now conn headers entry.bytes entry.tag ++ placements_of server now conn headers entries
+
+-- of all shards; the option is that from before the step
+abbrev pub new_placements : ServerIdentity → ℕ → List ShardWithJobs → List ShardWithJobs → ℕ → List Placement
+new_placements server now [] after conn = []
+new_placements server now (line ∷ lines) [] conn = []
+new_placements server now (line ∷ lines) (new ∷ after) conn = placements_of server now conn (takes_headers conn line.shard.clients) (new_in line new conn) ++ new_placements server now lines after conn
 
 abbrev pub is_on : ℕ → Placement → Bool
 is_on conn p = nat_eq p.conn conn
@@ -124,7 +136,7 @@ open_subs (line ∷ lines) = map (id_of line.shard.shard) (serials_of line.shard
 -- these are the placements, where the shards' lines were the first and are the second: of each connection the new messages of
 -- its outbox, in their order; and all of them in the order of their subscriptions
 pub record AreGained (server : ServerIdentity) (now : ℕ) (old new : List ShardWithJobs) (gained : List Placement) : Type 0 where
-  pub outboxes : (conn : ℕ) → filter (is_on conn) gained ≡ placements_of server now conn (new_entries old new conn)
+  pub outboxes : (conn : ℕ) → filter (is_on conn) gained ≡ new_placements server now old new conn
   pub order : SubList (map (λ p. p.life.sub) gained) (open_subs old)
 
 -- so there is one such list, where the server is sound

@@ -1,7 +1,7 @@
 -- The headline, in the words of the exact cluster. Pairs are of an older and a newer entry.
 use Rattle.std.specs.Prelude.{◌≡◌, ◌≢◌, ℕ, ◌<◌, ◌≤◌, true, List, Some, slice_get}
 use Rattle.list_laws.specs.Lists.{In, Each, Pairs}
-use Rattle.client_frames.specs.Messages.{due_bytes, no_headers}
+use Rattle.client_frames.specs.Messages.{due_bytes}
 use Rattle.outbox.specs.declared.entries.Mode.TheVariants.{Plain, Queue}
 use Rattle.subj.specs.Matching.{subject_matches}
 use Rattle.subj.specs.Servers.{AreApart}
@@ -27,8 +27,9 @@ OneMember p q = (name : List ℕ) → p.id ≡ q.id → p.mode ≡ Queue name �
 abbrev pub InOrder : Placement → Placement → Type 0
 InOrder p q = p.life ≡ q.life → p.id.origin ≡ q.id.origin → p.id.inc ≡ q.id.inc → p.id.number < q.id.number
 
--- the exact MSG of a publication of an earlier step, for a subscription of that connection, sid and queue name that matches,
--- was opened before that step and did not close before it
+-- the exact MSG or HMSG of a publication of an earlier step, for a subscription of that connection, sid and queue name that matches,
+-- was opened before that step and did not close before it; HMSG just where the publication has headers and the connection took
+-- them at that step
 pub record IsOwed (publications : List Publication) (lives : List Life) (p : Placement) : Type 0 where
   pub source : Publication
   pub source_in : In source publications
@@ -42,7 +43,7 @@ pub record IsOwed (publications : List Publication) (lives : List Life) (p : Pla
   pub matches : subject_matches life.key.pattern source.message.subject ≡ true
   pub opened : life.opened < p.step
   pub still : (k : ℕ) → life.closed ≡ Some k → p.step ≤ k
-  pub bytes : p.bytes ≡ due_bytes source.message life.sid no_headers
+  pub bytes : p.bytes ≡ due_bytes source.message life.sid p.headers
 
 pub record Headline (w : World) : Type 0 where
   pub plain_once : Pairs PlainOnce w.placements

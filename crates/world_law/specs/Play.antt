@@ -137,7 +137,7 @@ puts server a (OnConnect session connect) won = []
 
 abbrev pub placements_put : ServerIdentity → ℕ → List Placed → List Placement
 placements_put server now [] = []
-placements_put server now (put ∷ puts) = placement_of server now put.conn put.entry.bytes put.entry.tag ++ placements_put server now puts
+placements_put server now (put ∷ puts) = placement_of server now put.conn put.headers put.entry.bytes put.entry.tag ++ placements_put server now puts
 
 -- they are what the step adds to the placements
 abbrev pub PutsArePlaced : Type 0

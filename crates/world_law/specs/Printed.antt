@@ -7,7 +7,7 @@ use Rattle.world_law.specs.Events.{Event, Start, Stop, Receive, OnInfo, OnConnec
 use Rattle.world_law.specs.Play.{outcomes_of_events}
 use Rattle.world_law.specs.Steps.{Answers}
 use Rattle.world_law.specs.Written.{lines_of}
-use Rattle.world_law.specs.Scripts.{pair, alone, member, hi, subscribe, attach, begin, claim, end, collect, publish, end_of, a_restart, two_shards, a_full_window, a_lower_incarnation}
+use Rattle.world_law.specs.Scripts.{pair, alone, member, hi, subscribe, attach, begin, claim, end, collect, publish, end_of, a_restart, two_shards, a_full_window, a_lower_incarnation, two_forms}
 
 -- ---- two servers, a member of a group at the other one, and a restart
 pub record WritesARestart : Type 0 where
@@ -186,6 +186,7 @@ pub record ScriptsAreRuns : Type 0 where
   pub restart : IsRun pair a_restart
   pub shards : IsRun alone two_shards
   pub window : IsRun alone a_full_window
+  pub forms : IsRun alone two_forms
   pub lower : IsRun pair a_lower_incarnation
   pub starts : IsRun pair starts_and_stops
   pub dials : IsRun pair crossed_dials

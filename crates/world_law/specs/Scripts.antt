@@ -1,5 +1,5 @@
 -- Closed scripts, with what comes of them.
-use Rattle.std.specs.Prelude.{◌≡◌, ℕ, ◌+◌, true, List, [], ◌∷◌, ◌++◌, codes, map, replicate, Option, Some, None}
+use Rattle.std.specs.Prelude.{◌≡◌, ℕ, ◌+◌, true, false, List, [], ◌∷◌, ◌++◌, codes, map, replicate, Option, Some, None}
 use Rattle.client_frames.specs.declared.server_frames.ReplyFrame.TheVariants.{Pong}
 use Rattle.outbox.specs.declared.entries.Mode.{Mode}
 use Rattle.outbox.specs.declared.entries.Mode.TheVariants.{Plain, Queue}
@@ -8,7 +8,7 @@ use Rattle.hub_core.specs.Publishing.{Publication}
 use Rattle.route_values.specs.declared.bodies.Body.TheVariants.{Plus, Snapshot}
 use Rattle.route_values.specs.declared.frames.RouteFrame.{RouteFrame}
 use Rattle.route_values.specs.declared.frames.RouteFrame.TheVariants as route
-use Rattle.node_law.specs.declared.events.ConnEvent.TheVariants.{Subscribe, Unsubscribe, Reply, Detach, Take}
+use Rattle.node_law.specs.declared.events.ConnEvent.TheVariants.{Subscribe, Unsubscribe, Reply, SetHeaders, Detach, Take}
 use Rattle.node_law.specs.declared.events.ShardWork.TheVariants.{Attach, Begin, Claim, End, DropJob}
 use Rattle.node_law.specs.Events.{OfConn, AtShard, Publish, Collect, Dial, Accept}
 use Rattle.world_law.specs.Faults.{world_fault_number}
@@ -74,6 +74,7 @@ hi_to step n inc shard serial conn origin mode sid origin_inc number = record {
   id = record { origin = origin; inc = origin_inc; number = number };
   mode = mode;
   bytes = codes "MSG foo " ++ (sid ++ codes " 2\r\nhi\r\n");
+  headers = false;
 }
 
 -- ---- two servers: a queue member of the other one gets a message; a repeated frame is late, and after a restart the frame is
@@ -186,3 +187,29 @@ pub record ASnapshot : Type 0 where
   pub outcomes : outcomes pair a_snapshot ≡ done 14 ++ (63 ∷ [])
   pub sent : (end_of pair a_snapshot).sent ≡ a_snapshot_sent
   pub placements : (end_of pair a_snapshot).placements ≡ hi_to 13 1 4 1 1 2 (codes "n2") Plain (codes "a") 4 1 ∷ hi_to 13 1 4 1 2 1 (codes "n2") Plain (codes "b") 4 1 ∷ []
+
+-- ---- headers: a connection that takes them gets the block, and another one at the same step does not; the last choice holds
+
+-- the same with a header block of 12 bytes
+abbrev pub hi_headed : Publication
+hi_headed = record { conn = 1; publication = record { message = record { subject = codes "foo"; reply = None; headers = Some (codes "NATS/1.0\r\n\r\n"); payload = codes "hi" }; echo = true }; word = 0 }
+
+-- connections 1 and 3 are both of shard 1; 3 takes headers, and then does not; there is no connection 5
+abbrev pub two_forms : List Event
+two_forms =
+    Start 0 1 ∷ attach 0 1 ∷ attach 0 1 ∷ subscribe 0 1 None (codes "1") ∷ subscribe 0 3 None (codes "1")
+    ∷ At 0 (OfConn 3 (SetHeaders true)) ∷ At 0 (OfConn 5 (SetHeaders true))
+    ∷ At 0 (Publish hi_headed) ∷ begin 0 1 ∷ end 0 1
+    ∷ At 0 (OfConn 3 (SetHeaders false)) ∷ At 0 (Publish hi_headed) ∷ begin 0 1 ∷ []
+
+-- the HMSG of it in step 9
+abbrev pub headed_hi : Placement
+headed_hi = record (hi_to 9 0 1 1 2 3 (codes "n1") Plain (codes "1") 1 1) { bytes = codes "HMSG foo 1 12 14\r\nNATS/1.0\r\n\r\nhi\r\n"; headers = true }
+
+pub record TwoForms : Type 0 where
+  pub outcomes : outcomes alone two_forms ≡ done 6 ++ (50 ∷ done 6)
+  pub placements :
+      (end_of alone two_forms).placements
+      ≡ hi_to 9 0 1 1 1 1 (codes "n1") Plain (codes "1") 1 1 ∷ headed_hi
+      ∷ hi_to 13 0 1 1 1 1 (codes "n1") Plain (codes "1") 1 2 ∷ hi_to 13 0 1 1 2 3 (codes "n1") Plain (codes "1") 1 2
+      ∷ []

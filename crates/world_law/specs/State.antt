@@ -47,7 +47,7 @@ pub record Life : Type 0 where
   pub opened : ℕ
   pub closed : Option ℕ
 
--- a message that was put into the outbox of a connection, for this subscription
+-- a message that was put into the outbox of a connection, for this subscription; and whether the connection took headers at that step
 pub record Placement : Type 0 where
   pub step : ℕ
   pub life : LifeId
@@ -55,6 +55,7 @@ pub record Placement : Type 0 where
   pub id : PubId
   pub mode : Mode
   pub bytes : List ℕ
+  pub headers : Bool
 
 -- ---- the cluster
 

@@ -16,13 +16,14 @@ ghost use Rattle.world_law.specs.RestsOn.{RunsRestOn, FinishedStays, CameSo};
 ghost use Rattle.world_law.specs.State.{Cluster, World, new_world, server_at};
 ghost use Rattle.world_law.specs.Steps.{Run, WorldStep, Answers, Carried};
 ghost use Rattle.world_law.specs.Printed.{WritesARestart, WritesStartsAndStops, WritesCrossedDials, WritesClaims, WritesOwnMessages, WritesConnections, WritesTwoWords, WritesAStaleMessage, WritesACut, ScriptsAreRuns};
-ghost use Rattle.world_law.specs.Scripts.{ARestart, TwoShards, AFullWindow, ALowerIncarnation, ASnapshot};
+ghost use Rattle.world_law.specs.Scripts.{ARestart, TwoShards, AFullWindow, ALowerIncarnation, ASnapshot, TwoForms};
 
 /// The headline. Over every list of publishes, subscribes, unsubscribes, route deliveries, losses, repeats, late frames,
 /// cuts and restarts, each publication is placed at most once for a plain subscription and, for a queue name, in at most
-/// one member's outbox in the whole cluster; whatever is placed is the exact `MSG` of its publication, for a subscription
-/// that matched and was open at that step; and of one subscription the publications of one incarnation come in rising
-/// number. And it is said of all that servers put: whatever a step puts, for whichever subscriptions, is what that step places,
+/// one member's outbox in the whole cluster; whatever is placed is the exact `MSG` or `HMSG` of its publication (`HMSG` just
+/// where that has headers and the connection took them at that step), for a subscription that matched and was open at that
+/// step; and of one subscription the publications of one incarnation come in rising number. And it is said of all that servers
+/// put: whatever a step puts, for whichever subscriptions, is what that step places,
 /// so that no run is left out.
 pub fn publications_are_placed_once()
     ensures once { (c : Cluster) → IsCluster c → (events : List Event) (w : World) → Run c (new_world c) events w → Headline w }
@@ -243,6 +244,12 @@ pub fn a_lower_incarnation_is_refused()
 /// frame for another server is refused.
 pub fn a_snapshot_tells_what_was_collected()
     ensures { ASnapshot }
+{}
+
+/// Of two subscriptions to one publication with a header block, that of the connection that takes headers gets `HMSG`, and the
+/// other one `MSG`; once the connection takes none any more, both get `MSG`.
+pub fn headers_go_where_they_are_taken()
+    ensures { TwoForms }
 {}
 
 /// What is written of the events of the first script, line by line.

@@ -23,7 +23,7 @@ use Rattle.hub_core.specs.Receiving.{routed_job}
 use Rattle.shard_core.specs.AsLaw.{is_open_serial}
 use Rattle.shard_core.specs.Closings.{serials_of, is_left, left_of, without_subs, ended_ids}
 use Rattle.shard_core.specs.Owed.{whole_walk, sub_with_count, ended_by, candidate_of, after_claim, slow_consumer}
-use Rattle.shard_core.specs.ShardEvents.{Event, Attach, Subscribe, Unsubscribe, Reply, Shut, Detach, Take, Begin, Claim, End, DropJob, Drain, Collect}
+use Rattle.shard_core.specs.ShardEvents.{Event, Attach, Subscribe, Unsubscribe, Reply, SetHeaders, Shut, Detach, Take, Begin, Claim, End, DropJob, Drain, Collect}
 use Rattle.shard_core.specs.ShardSteps.{sub_called, new_sub, after_subscribe, subscribe_answer, ended_now, after_unsubscribe, ended_by_unsubscribe, answer_fits, ended_by_reply, was_shut, done_with, claim_answer, shard_after, shard_answer, ended_of}
 use Rattle.shard_core.specs.Shards.{State, clients_with_change}
 use Rattle.shard_core.proofs.Closings.Closed.{counted_serials, max_serials}
@@ -51,6 +51,7 @@ ended_serials s Attach = []
 ended_serials s (Subscribe conn key sid) = []
 ended_serials s (Unsubscribe conn sid max) = ended_by_unsubscribe max (sub_called conn sid s.subs)
 ended_serials s (Reply conn frame) = ended_by_reply s conn (reply_line frame)
+ended_serials s (SetHeaders conn on) = []
 ended_serials s (Shut conn text) = left_of conn [] s.subs
 ended_serials s (Detach conn) = left_of conn [] s.subs
 ended_serials s (Take conn count) = []
@@ -70,6 +71,7 @@ told s (Subscribe conn key sid) = go (sub_called conn sid s.subs)
     go (Some u) = refl
 told s (Unsubscribe conn sid max) = refl
 told s (Reply conn frame) = refl
+told s (SetHeaders conn on) = refl
 told s (Shut conn text) = refl
 told s (Detach conn) = refl
 told s (Take conn count) = refl
@@ -143,6 +145,7 @@ shard_agrees s (Reply conn frame) = go (answer_fits s conn (reply_line frame))
     go : (b : Bool) → Agrees (cond b [] (left_of conn [] s.subs)) s.subs (cond b (record s { clients = clients_with_change (with_entry (reply_entry (reply_line frame))) conn s.clients }) (was_shut s conn slow_consumer)).subs
     go true = nothing s.subs s.subs refl
     go false = left_agrees (left_of conn [] s.subs) s.subs s.subs refl
+shard_agrees s (SetHeaders conn on) = nothing s.subs s.subs refl
 shard_agrees s (Shut conn text) = left_agrees (left_of conn [] s.subs) s.subs s.subs refl
 shard_agrees s (Detach conn) = left_agrees (left_of conn [] s.subs) s.subs s.subs refl
 shard_agrees s (Take conn count) = nothing s.subs s.subs refl

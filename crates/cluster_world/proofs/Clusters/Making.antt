@@ -17,7 +17,7 @@ use Rattle.shard_core.specs.declared.calls.Placed.{Placed}
 use Rattle.shard_core.specs.ShardSteps.{sub_called, subscribe_answer}
 use Rattle.hub_core.specs.Publishing.{next_id}
 use Rattle.node_law.specs.declared.events.ConnEvent.{ConnEvent}
-use Rattle.node_law.specs.declared.events.ConnEvent.TheVariants.{Subscribe, Unsubscribe, Reply, Shut, Detach, Take}
+use Rattle.node_law.specs.declared.events.ConnEvent.TheVariants.{Subscribe, Unsubscribe, Reply, SetHeaders, Shut, Detach, Take}
 use Rattle.node_law.specs.Answers.{node_answer, told_of_shard, told_at}
 use Rattle.node_law.specs.AsLaw.{Part, part_of}
 use Rattle.node_law.specs.Events.{OfConn, AtShard, Publish, Collect, Drain, Dial, Accept, CutSession, TakeFrames, NodeEvent, Own, Receive, OnInfo, OnConnect}
@@ -74,6 +74,8 @@ opened_at server now conn (Unsubscribe sid max) None = refl
 opened_at server now conn (Unsubscribe sid max) (Some line) = refl
 opened_at server now conn (Reply frame) None = refl
 opened_at server now conn (Reply frame) (Some line) = refl
+opened_at server now conn (SetHeaders on) None = refl
+opened_at server now conn (SetHeaders on) (Some line) = refl
 opened_at server now conn (Shut text) None = refl
 opened_at server now conn (Shut text) (Some line) = refl
 opened_at server now conn Detach None = refl
@@ -151,9 +153,9 @@ placed_alike : (s t : ServerIdentity) (now : ℕ) → s.me ≡ t.me → s.inc �
 placed_alike s t now me inc [] = refl
 placed_alike s t now me inc (p ∷ ps) = (λ i. one p.entry.tag i ++ placed_alike s t now me inc ps i)
   where
-    one : (g : Tag) → placement_of s now p.conn p.entry.bytes g ≡ placement_of t now p.conn p.entry.bytes g
+    one : (g : Tag) → placement_of s now p.conn p.headers p.entry.bytes g ≡ placement_of t now p.conn p.headers p.entry.bytes g
     one tag.Reply = refl
-    one (tag.Msg id sub mode) = (λ i. record { step = now; life = record { node = me i; inc = inc i; sub = sub }; conn = p.conn; id = id; mode = mode; bytes = p.entry.bytes } ∷ [])
+    one (tag.Msg id sub mode) = (λ i. record { step = now; life = record { node = me i; inc = inc i; sub = sub }; conn = p.conn; id = id; mode = mode; bytes = p.entry.bytes; headers = p.headers } ∷ [])
 
 pub put_at_is : (o : Option Part) → of_server.put_at o ≡ put_of o
 put_at_is None = refl

@@ -10,7 +10,7 @@ use Rattle.shard_core.specs.ShardSteps.{shard_refusal}
 use Rattle.shard_core.specs.declared.faults.ShardFault.{ShardFault}
 use Rattle.node_law.specs.declared.faults.NodeFault.TheVariants.{Shard}
 use Rattle.node_law.specs.declared.events.ConnEvent.{ConnEvent}
-use Rattle.node_law.specs.declared.events.ConnEvent.TheVariants.{Subscribe, Unsubscribe, Reply, Shut, Detach, Take}
+use Rattle.node_law.specs.declared.events.ConnEvent.TheVariants.{Subscribe, Unsubscribe, Reply, SetHeaders, Shut, Detach, Take}
 use Rattle.node_law.specs.declared.events.ShardWork.{ShardWork}
 use Rattle.node_law.specs.Events.{OfConn, AtShard, NodeEvent, Own}
 use Rattle.node_core.specs.Served.{Served, DoesStep, refusal}
@@ -99,6 +99,7 @@ conn_tells_not : (event : ConnEvent) → is_collect (conn_event 1 event) ≡ fal
 conn_tells_not (Subscribe key sid) = refl
 conn_tells_not (Unsubscribe sid max) = refl
 conn_tells_not (Reply frame) = refl
+conn_tells_not (SetHeaders on) = refl
 conn_tells_not (Shut text) = refl
 conn_tells_not Detach = refl
 conn_tells_not (Take count) = refl

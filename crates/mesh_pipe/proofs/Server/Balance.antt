@@ -11,8 +11,8 @@ use Rattle.outbox.specs.Views.{with_entry, with_last, reply_entry}
 use Rattle.sub_table.specs.Subscriptions.{with_max}
 use Rattle.sub_table.specs.declared.Subscription.{Subscription}
 use Rattle.shard_core.specs.Closings.{serials_of, is_left, left_of, closing, closings_of, without_subs}
-use Rattle.shard_core.specs.Owed.{Walk, whole_walk, walk_with_entry, due_entry, first_step, slow_consumer, after_walk, sub_with_count, candidate_of, after_claim, after_try, reaches}
-use Rattle.shard_core.specs.ShardEvents.{Event, Attach, Subscribe, Unsubscribe, Reply, Shut, Detach, Take, Begin, Claim, End, DropJob, Drain, Collect}
+use Rattle.shard_core.specs.Owed.{Walk, whole_walk, walk_with_entry, owed_entry, first_step, slow_consumer, after_walk, sub_with_count, candidate_of, after_claim, after_try, reaches}
+use Rattle.shard_core.specs.ShardEvents.{Event, Attach, Subscribe, Unsubscribe, Reply, SetHeaders, Shut, Detach, Take, Begin, Claim, End, DropJob, Drain, Collect}
 use Rattle.shard_core.specs.ShardSteps.{sub_called, is_full, new_sub, after_subscribe, ended_now, after_unsubscribe, answer_fits, done_with, shard_refusal, shard_after}
 use Rattle.shard_core.specs.Shards.{State, is_open, clients_with_change}
 use Rattle.shard_core.specs.declared.faults.ShardFault.TheVariants.{NoConn, Draining, TooManySubs, Spent}
@@ -85,6 +85,7 @@ event_balance s (Reply conn frame) apart cause other few = go (answer_fits s con
     go : (b : Bool) → IsBalanced s (cond b (record s { clients = clients_with_change (with_entry (reply_entry (reply_line frame))) conn s.clients }) (without_subs (left_of conn [] s.subs) (record s { clients = clients_with_change (with_last slow_consumer) conn s.clients })))
     go true = same_balance s (record s { clients = clients_with_change (with_entry (reply_entry (reply_line frame))) conn s.clients }) refl refl refl few
     go false = ended_balance s (record s { clients = clients_with_change (with_last slow_consumer) conn s.clients }) (left_of conn [] s.subs) (left_distinct conn [] s.subs apart) (same_balance s (record s { clients = clients_with_change (with_last slow_consumer) conn s.clients }) refl refl refl few)
+event_balance s (SetHeaders conn on) apart cause other few = same_balance s (shard_after s (SetHeaders conn on)) refl refl refl few
 event_balance s (Shut conn text) apart cause other few = ended_balance s (record s { clients = _ }) (left_of conn [] s.subs) (left_distinct conn [] s.subs apart) (same_balance s (record s { clients = _ }) refl refl refl few)
 event_balance s (Detach conn) apart cause other few = ended_balance s (record s { clients = _ }) (left_of conn [] s.subs) (left_distinct conn [] s.subs apart) (same_balance s (record s { clients = _ }) refl refl refl few)
 event_balance s (Take conn count) apart cause other few = same_balance s (shard_after s (Take conn count)) refl refl refl few
@@ -101,7 +102,7 @@ event_balance s (Claim index won) apart cause other few = go s.hand (candidate_o
     go (Some job) None b = same_balance s (after_try s) refl refl refl few
     go (Some job) (Some u) false = same_balance s (after_try s) refl refl refl few
     go (Some job) (Some u) true =
-        let w = walk_with_entry (due_entry s.shard job u.key.queue u) u (first_step s.clients) in
+        let w = walk_with_entry (owed_entry s.shard s.clients job u.key.queue u) u (first_step s.clients) in
         from_same s (after_try s) (after_walk (after_try s) w) refl refl refl (walk_balance (after_try s) w (ended u (reaches u.max (u.delivered + 1))) few)
 event_balance s End apart cause other few = done_balance s s.hand few
 event_balance s (DropJob waiting) apart cause other few = done_balance s (option_or s.hand waiting) few

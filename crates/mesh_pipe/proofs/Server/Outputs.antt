@@ -13,25 +13,27 @@ use Rattle.outbox.specs.Views.{Written, Backlog, reply_entry, with_entry, with_l
 use Rattle.subj.specs.QueueNames.{is_named}
 use Rattle.sub_table.specs.Subscriptions.{with_max}
 use Rattle.sub_table.specs.declared.Subscription.{Subscription}
-use Rattle.shard_core.specs.Owed.{Walk, walk, whole_walk, walk_after_put, walk_with_shut, is_due, is_wanted, is_candidate, due_entry, slow_consumer, candidate_of, candidate_named, after_claim, after_try, after_put, walk_with_entry, first_step}
+use Rattle.shard_core.specs.Owed.{Walk, walk, whole_walk, walk_after_put, walk_with_shut, is_due, is_wanted, is_candidate, owed_entry, slow_consumer, candidate_of, candidate_named, after_claim, after_try, after_put, walk_with_entry, first_step}
 use Rattle.shard_core.specs.Closings.{without_subs}
-use Rattle.shard_core.specs.ShardEvents.{Take, Begin, Claim, Collect}
+use Rattle.shard_core.specs.ShardEvents.{SetHeaders, Take, Begin, Claim, Collect}
 use Rattle.shard_core.specs.ShardSteps.{new_client, shard_after, was_shut, after_subscribe, after_unsubscribe, ended_now, done_with}
-use Rattle.shard_core.specs.Shards.{State, Client, client_at, is_open, is_known, clients_with_change, fits, with_outbox, takes_events, waits_for}
+use Rattle.shard_core.specs.Shards.{State, Client, client_at, is_open, is_known, takes_headers, clients_with_change, clients_with_headers, fits, with_outbox, takes_events, waits_for}
+use Rattle.shard_core.proofs.Clients.Options.{option_kept}
 use Rattle.mesh_pipe.specs.PipeText.{Served, at_rest, served_by, output_of, after_claims, after_job}
 use Rattle.mesh_pipe.specs.PipeServing.{all_entries, waiting_bytes, has_any}
 
--- the connection, for which these entries wait
-abbrev pub one : List Written → Bool → Client
-one entries shut = record (new_client 1) { outbox = record { entries = entries; shut = shut } }
+-- the connection, which takes headers or does not, and for which these entries wait
+abbrev pub one : Bool → List Written → Bool → Client
+one option entries shut = record (new_client 1) { outbox = record { entries = entries; shut = shut }; headers = option }
 
 -- ---- a shard with that connection alone
 
 pub record IsAlone (t : State) (entries : List Written) (shut : Bool) : Type 0 where
+  pub option : Bool
   pub shard : t.shard ≡ 1
   pub shards : t.shards ≡ 1
   pub next : t.next_conn ≡ 2
-  pub clients : t.clients ≡ one entries shut ∷ []
+  pub clients : t.clients ≡ one option entries shut ∷ []
   pub few : length entries ≤ OUTBOX_ENTRIES + 1
 
 pub output_text : (t : State) (entries : List Written) (shut : Bool) → IsAlone t entries shut → (output_of t).text ≡ bytes_of_all entries
@@ -54,12 +56,17 @@ all_taken t entries shut alone =
 
 pub behind_take : (t : State) (entries : List Written) (shut : Bool) → IsAlone t entries shut → IsAlone (shard_after t (Take 1 all_entries)) [] shut
 behind_take t entries shut alone = record {
+  option = alone.option;
   shard = alone.shard;
   shards = alone.shards;
   next = alone.next;
-  clients = ap (clients_with_change (without_first all_entries) 1) alone.clients ∙ ap (λ (rest : List Written). one rest shut ∷ []) (drops_all entries alone.few);
+  clients = ap (clients_with_change (without_first all_entries) 1) alone.clients ∙ ap (λ (rest : List Written). one alone.option rest shut ∷ []) (drops_all entries alone.few);
   few = omega arith;
 }
+
+-- what is served is as before
+pub taken_served : (t : State) → served_by (shard_after t (Take 1 all_entries)) ≡ served_by t
+taken_served t = λ i. record { subs = t.subs; opened = t.opened; jobs = t.finished; headers = option_kept (without_first all_entries) 1 1 t.clients i }
 
 pub known_there : (t : State) (entries : List Written) (shut : Bool) → IsAlone t entries shut → is_known 1 t.clients ≡ true
 known_there t entries shut alone = ap (is_known 1) alone.clients
@@ -83,14 +90,18 @@ rests t alone settled = λ k. record {
   finished = t.finished;
   hand = settled.hand k;
   next_index = settled.index k;
-  clients = alone.clients k;
+  clients = told k;
   subs = t.subs;
   deltas = settled.deltas k;
   draining = settled.draining k;
-}
+} where
+  -- the option is what the list tells of it
+  told : t.clients ≡ one (takes_headers 1 t.clients) [] false ∷ []
+  told = alone.clients ∙ ap (λ (option : Bool). one option [] false ∷ []) (sym (ap (takes_headers 1) alone.clients))
 
 pub alone_at_rest : (t : State) (s : Served) → t ≡ at_rest s → IsAlone t [] false
 alone_at_rest t s is = record {
+  option = s.headers;
   shard = ap (λ (u : State). u.shard) is;
   shards = ap (λ (u : State). u.shards) is;
   next = ap (λ (u : State). u.next_conn) is;
@@ -107,10 +118,11 @@ settled_at_rest t s is = record { hand = ap (λ (u : State). u.hand) is; index =
 on_one : (t u : State) (entries more : List Written) (shut after : Bool) (change : Backlog → Backlog) → IsAlone t entries shut → u.shard ≡ t.shard → u.shards ≡ t.shards → u.next_conn ≡ t.next_conn → u.clients ≡ clients_with_change change 1 t.clients
     → change (record { entries = entries; shut = shut }) ≡ record { entries = more; shut = after } → length more ≤ OUTBOX_ENTRIES + 1 → IsAlone u more after
 on_one t u entries more shut after change alone shard shards next clients is few = record {
+  option = alone.option;
   shard = shard ∙ alone.shard;
   shards = shards ∙ alone.shards;
   next = next ∙ alone.next;
-  clients = clients ∙ ap (clients_with_change change 1) alone.clients ∙ ap (λ (s : Backlog). (record (new_client 1) { outbox = s }) ∷ []) is;
+  clients = clients ∙ ap (clients_with_change change 1) alone.clients ∙ ap (λ (s : Backlog). (record (new_client 1) { outbox = s; headers = alone.option }) ∷ []) is;
   few = few;
 }
 
@@ -134,7 +146,7 @@ replied_alone t line false alone = record { entries = reply_entry slow_consumer 
 -- ---- the same connection behind other events
 
 pub same_alone : (t u : State) (entries : List Written) (shut : Bool) → IsAlone t entries shut → u.shard ≡ t.shard → u.shards ≡ t.shards → u.next_conn ≡ t.next_conn → u.clients ≡ t.clients → IsAlone u entries shut
-same_alone t u entries shut alone shard shards next clients = record { shard = shard ∙ alone.shard; shards = shards ∙ alone.shards; next = next ∙ alone.next; clients = clients ∙ alone.clients; few = alone.few }
+same_alone t u entries shut alone shard shards next clients = record { option = alone.option; shard = shard ∙ alone.shard; shards = shards ∙ alone.shards; next = next ∙ alone.next; clients = clients ∙ alone.clients; few = alone.few }
 
 pub record IsQuiet (t u : State) : Type 0 where
   pub shard : u.shard ≡ t.shard
@@ -163,6 +175,13 @@ unsubscribe_quiet t max (Some sub) = go (ended_now max sub)
 pub quiet_alone : (t u : State) → IsQuiet t u → IsAlone t [] false → IsAlone u [] false
 quiet_alone t u q alone = same_alone t u [] false alone q.shard q.shards q.next q.clients
 
+-- the option that was chosen
+pub chosen_alone : (t : State) (on : Bool) → IsAlone t [] false → IsAlone (shard_after t (SetHeaders 1 on)) [] false
+chosen_alone t on alone = record { option = on; shard = alone.shard; shards = alone.shards; next = alone.next; clients = ap (clients_with_headers on 1) alone.clients; few = omega arith }
+
+pub chosen_settled : (t : State) (on : Bool) → IsSettled t → IsSettled (shard_after t (SetHeaders 1 on))
+chosen_settled t on settled = record { hand = settled.hand; index = settled.index; deltas = settled.deltas; draining = settled.draining }
+
 -- behind a collect
 pub quiet_settled : (t u : State) → IsQuiet t u → IsSettled t → IsSettled (shard_after u Collect)
 quiet_settled t u q settled = record { hand = q.hand ∙ settled.hand; index = q.index ∙ settled.index; deltas = refl; draining = q.draining ∙ settled.draining }
@@ -177,10 +196,10 @@ not_so : (b : Bool) → not b ≡ true → b ≡ false
 not_so true e = absurd (true≢false (sym e))
 not_so false e = refl
 
-open_here : (conn : ℕ) (entries : List Written) (shut : Bool) → is_open conn (one entries shut ∷ []) ≡ true → IsHere conn shut
-open_here conn entries shut is = go (nat_eq 1 conn) refl is
+open_here : (conn : ℕ) (option : Bool) (entries : List Written) (shut : Bool) → is_open conn (one option entries shut ∷ []) ≡ true → IsHere conn shut
+open_here conn option entries shut is = go (nat_eq 1 conn) refl is
   where
-    go : (b : Bool) → nat_eq 1 conn ≡ b → takes_events (cond b (Some (one entries shut)) None) ≡ true → IsHere conn shut
+    go : (b : Bool) → nat_eq 1 conn ≡ b → takes_events (cond b (Some (one option entries shut)) None) ≡ true → IsHere conn shut
     go true e f = record { here = e; still = not_so shut f }
     go false e f = absurd (true≢false (sym f))
 
@@ -189,67 +208,72 @@ record HasRoom (conn : ℕ) (entries : List Written) (shut : Bool) : Type 0 wher
   at : IsHere conn shut
   room : length entries < OUTBOX_ENTRIES
 
-fits_here : (conn : ℕ) (entries : List Written) (shut : Bool) (entry : Written) → fits (client_at conn (one entries shut ∷ [])) entry ≡ true → HasRoom conn entries shut
-fits_here conn entries shut entry is = go (nat_eq 1 conn) refl is
+fits_here : (conn : ℕ) (option : Bool) (entries : List Written) (shut : Bool) (entry : Written) → fits (client_at conn (one option entries shut ∷ [])) entry ≡ true → HasRoom conn entries shut
+fits_here conn option entries shut entry is = go (nat_eq 1 conn) refl is
   where
-    go : (b : Bool) → nat_eq 1 conn ≡ b → fits (cond b (Some (one entries shut)) None) entry ≡ true → HasRoom conn entries shut
+    go : (b : Bool) → nat_eq 1 conn ≡ b → fits (cond b (Some (one option entries shut)) None) entry ≡ true → HasRoom conn entries shut
     go true e f =
         let parts = and_parts _ _ f in
         let limits = and_parts _ _ parts.1 in
         record { at = record { here = e; still = not_so shut parts.0 }; room = ltb-true _ _ limits.0 }
     go false e f = absurd (true≢false (sym f))
 
-changed_here : (conn : ℕ) (entries : List Written) (shut : Bool) (change : Backlog → Backlog) → nat_eq 1 conn ≡ true → clients_with_change change conn (one entries shut ∷ []) ≡ with_outbox change (one entries shut) ∷ []
-changed_here conn entries shut change here = ap (λ b. cond b (with_outbox change (one entries shut) ∷ []) (one entries shut ∷ [])) here
+changed_here : (conn : ℕ) (option : Bool) (entries : List Written) (shut : Bool) (change : Backlog → Backlog) → nat_eq 1 conn ≡ true → clients_with_change change conn (one option entries shut ∷ []) ≡ with_outbox change (one option entries shut) ∷ []
+changed_here conn option entries shut change here = ap (λ b. cond b (with_outbox change (one option entries shut) ∷ []) (one option entries shut ∷ [])) here
 
 -- ---- a walk
 
-pub data Walked (w : Walk) : Type 0 where
-  open_still : (entries : List Written) → w.clients ≡ one entries false ∷ [] → w.shut ≡ [] → length entries ≤ OUTBOX_ENTRIES → Walked w
-  shut_since : (entries : List Written) → w.clients ≡ one entries true ∷ [] → has_any w.shut ≡ true → length entries ≤ OUTBOX_ENTRIES + 1 → Walked w
+pub data Walked (option : Bool) (w : Walk) : Type 0 where
+  open_still : (entries : List Written) → w.clients ≡ one option entries false ∷ [] → w.shut ≡ [] → length entries ≤ OUTBOX_ENTRIES → Walked option w
+  shut_since : (entries : List Written) → w.clients ≡ one option entries true ∷ [] → has_any w.shut ≡ true → length entries ≤ OUTBOX_ENTRIES + 1 → Walked option w
 
-put_if : (s : State) (job : Job) (w : Walk) (sub : Subscription) (o r : Bool) → is_open sub.conn w.clients ≡ o → fits (client_at sub.conn w.clients) (due_entry s.shard job None sub) ≡ r
-    → walk_after_put s job w sub ≡ cond o (cond r (walk_with_entry (due_entry s.shard job None sub) sub w) (walk_with_shut s.subs sub.conn w)) w
-put_if s job w sub o r e f = λ k. cond (e k) (cond (f k) (walk_with_entry (due_entry s.shard job None sub) sub w) (walk_with_shut s.subs sub.conn w)) w
+put_if : (s : State) (job : Job) (w : Walk) (sub : Subscription) (o r : Bool) → is_open sub.conn w.clients ≡ o → fits (client_at sub.conn w.clients) (owed_entry s.shard s.clients job None sub) ≡ r
+    → walk_after_put s job w sub ≡ cond o (cond r (walk_with_entry (owed_entry s.shard s.clients job None sub) sub w) (walk_with_shut s.subs sub.conn w)) w
+put_if s job w sub o r e f = λ k. cond (e k) (cond (f k) (walk_with_entry (owed_entry s.shard s.clients job None sub) sub w) (walk_with_shut s.subs sub.conn w)) w
 
-put_open : (s : State) (job : Job) (w : Walk) (sub : Subscription) (entries : List Written) → w.clients ≡ one entries false ∷ [] → w.shut ≡ [] → length entries ≤ OUTBOX_ENTRIES
-    → (o : Bool) → is_open sub.conn w.clients ≡ o → (r : Bool) → fits (client_at sub.conn w.clients) (due_entry s.shard job None sub) ≡ r → Walked (walk_after_put s job w sub)
-put_open s job w sub entries is none few false e r f = subst Walked (sym (put_if s job w sub false r e f)) (open_still entries is none few)
-put_open s job w sub entries is none few true e true f =
-    let entry = due_entry s.shard job None sub in
-    let room = fits_here sub.conn entries false entry (ap (λ (cs : List Client). fits (client_at sub.conn cs) (due_entry s.shard job None sub)) (sym is) ∙ f) in
-    subst Walked (sym (put_if s job w sub true true e f))
-    (open_still (entries ++ entry ∷ []) (ap (clients_with_change (with_entry entry) sub.conn) is ∙ changed_here sub.conn entries false (with_entry entry) room.at.here) none (let more = length-append entries (entry ∷ []) in let below = room.room in omega (arith, more, below)))
-put_open s job w sub entries is none few true e false f =
-    let here = open_here sub.conn entries false (ap (is_open sub.conn) (sym is) ∙ e) in
-    subst Walked (sym (put_if s job w sub true false e f))
-    (shut_since (entries ++ reply_entry slow_consumer ∷ []) (ap (clients_with_change (with_last slow_consumer) sub.conn) is ∙ changed_here sub.conn entries false (with_last slow_consumer) here.here)
-    (ap (λ (l : List ℕ). has_any (l ++ sub.conn ∷ [])) none) (let more = length-append entries (reply_entry slow_consumer ∷ []) in omega (arith, more, few)))
+module _ (option : Bool) where
+  put_open : (s : State) (job : Job) (w : Walk) (sub : Subscription) (entries : List Written) → w.clients ≡ one option entries false ∷ [] → w.shut ≡ [] → length entries ≤ OUTBOX_ENTRIES
+      → (o : Bool) → is_open sub.conn w.clients ≡ o → (r : Bool) → fits (client_at sub.conn w.clients) (owed_entry s.shard s.clients job None sub) ≡ r → Walked option (walk_after_put s job w sub)
+  put_open s job w sub entries is none few false e r f = subst (Walked option) (sym (put_if s job w sub false r e f)) (open_still entries is none few)
+  put_open s job w sub entries is none few true e true f =
+      let entry = owed_entry s.shard s.clients job None sub in
+      let room = fits_here sub.conn option entries false entry (ap (λ (cs : List Client). fits (client_at sub.conn cs) (owed_entry s.shard s.clients job None sub)) (sym is) ∙ f) in
+      subst (Walked option) (sym (put_if s job w sub true true e f))
+      (open_still (entries ++ entry ∷ []) (ap (clients_with_change (with_entry entry) sub.conn) is ∙ changed_here sub.conn option entries false (with_entry entry) room.at.here) none (let more = length-append entries (entry ∷ []) in let below = room.room in omega (arith, more, below)))
+  put_open s job w sub entries is none few true e false f =
+      let here = open_here sub.conn option entries false (ap (is_open sub.conn) (sym is) ∙ e) in
+      subst (Walked option) (sym (put_if s job w sub true false e f))
+      (shut_since (entries ++ reply_entry slow_consumer ∷ []) (ap (clients_with_change (with_last slow_consumer) sub.conn) is ∙ changed_here sub.conn option entries false (with_last slow_consumer) here.here)
+      (ap (λ (l : List ℕ). has_any (l ++ sub.conn ∷ [])) none) (let more = length-append entries (reply_entry slow_consumer ∷ []) in omega (arith, more, few)))
 
-put_shut : (s : State) (job : Job) (w : Walk) (sub : Subscription) (entries : List Written) → w.clients ≡ one entries true ∷ [] → has_any w.shut ≡ true → length entries ≤ OUTBOX_ENTRIES + 1
-    → (o : Bool) → is_open sub.conn w.clients ≡ o → (r : Bool) → fits (client_at sub.conn w.clients) (due_entry s.shard job None sub) ≡ r → Walked (walk_after_put s job w sub)
-put_shut s job w sub entries is some few false e r f = subst Walked (sym (put_if s job w sub false r e f)) (shut_since entries is some few)
-put_shut s job w sub entries is some few true e r f = absurd (true≢false ((open_here sub.conn entries true (ap (is_open sub.conn) (sym is) ∙ e)).still))
+  put_shut : (s : State) (job : Job) (w : Walk) (sub : Subscription) (entries : List Written) → w.clients ≡ one option entries true ∷ [] → has_any w.shut ≡ true → length entries ≤ OUTBOX_ENTRIES + 1
+      → (o : Bool) → is_open sub.conn w.clients ≡ o → (r : Bool) → fits (client_at sub.conn w.clients) (owed_entry s.shard s.clients job None sub) ≡ r → Walked option (walk_after_put s job w sub)
+  put_shut s job w sub entries is some few false e r f = subst (Walked option) (sym (put_if s job w sub false r e f)) (shut_since entries is some few)
+  put_shut s job w sub entries is some few true e r f = absurd (true≢false ((open_here sub.conn option entries true (ap (is_open sub.conn) (sym is) ∙ e)).still))
 
-step_walked : (s : State) (job : Job) (w : Walk) (sub : Subscription) → Walked w → Walked (walk_after_put s job w sub)
-step_walked s job w sub (open_still entries is none few) = put_open s job w sub entries is none few (is_open sub.conn w.clients) refl (fits (client_at sub.conn w.clients) (due_entry s.shard job None sub)) refl
-step_walked s job w sub (shut_since entries is some few) = put_shut s job w sub entries is some few (is_open sub.conn w.clients) refl (fits (client_at sub.conn w.clients) (due_entry s.shard job None sub)) refl
+  step_walked : (s : State) (job : Job) (w : Walk) (sub : Subscription) → Walked option w → Walked option (walk_after_put s job w sub)
+  step_walked s job w sub (open_still entries is none few) =
+      put_open s job w sub entries is none few (is_open sub.conn w.clients) refl (fits (client_at sub.conn w.clients) (owed_entry s.shard s.clients job None sub)) refl
+  step_walked s job w sub (shut_since entries is some few) =
+      put_shut s job w sub entries is some few (is_open sub.conn w.clients) refl (fits (client_at sub.conn w.clients) (owed_entry s.shard s.clients job None sub)) refl
 
-all_walked : (s : State) (job : Job) (subs : List Subscription) (w : Walk) → Walked w → Walked (walk s job subs w)
-all_walked s job [] w so_far = so_far
-all_walked s job (sub ∷ subs) w so_far = all_walked s job subs (walk_after_put s job w sub) (step_walked s job w sub so_far)
+  all_walked : (s : State) (job : Job) (subs : List Subscription) (w : Walk) → Walked option w → Walked option (walk s job subs w)
+  all_walked s job [] w so_far = so_far
+  all_walked s job (sub ∷ subs) w so_far = all_walked s job subs (walk_after_put s job w sub) (step_walked s job w sub so_far)
 
 -- the connection alone, with some entries
 pub record IsStill (t : State) (shut : Bool) : Type 0 where
   pub entries : List Written
   pub alone : IsAlone t entries shut
 
-begun_by : (t : State) (job : Job) → IsAlone t [] false → Walked (whole_walk t job) → IsStill (shard_after t (Begin job)) (has_any (whole_walk t job).shut)
-begun_by t job alone (open_still entries is none few) = subst (IsStill (shard_after t (Begin job))) (sym (ap has_any none)) (record { entries = entries; alone = record { shard = alone.shard; shards = alone.shards; next = alone.next; clients = is; few = omega (arith, few) } })
-begun_by t job alone (shut_since entries is some few) = subst (IsStill (shard_after t (Begin job))) (sym some) (record { entries = entries; alone = record { shard = alone.shard; shards = alone.shards; next = alone.next; clients = is; few = few } })
+begun_by : (t : State) (job : Job) (alone : IsAlone t [] false) → Walked alone.option (whole_walk t job) → IsStill (shard_after t (Begin job)) (has_any (whole_walk t job).shut)
+begun_by t job alone (open_still entries is none few) =
+    subst (IsStill (shard_after t (Begin job))) (sym (ap has_any none)) (record { entries = entries; alone = record { option = alone.option; shard = alone.shard; shards = alone.shards; next = alone.next; clients = is; few = omega (arith, few) } })
+begun_by t job alone (shut_since entries is some few) =
+    subst (IsStill (shard_after t (Begin job))) (sym some) (record { entries = entries; alone = record { option = alone.option; shard = alone.shard; shards = alone.shards; next = alone.next; clients = is; few = few } })
 
 pub begun_still : (t : State) (job : Job) → IsAlone t [] false → IsStill (shard_after t (Begin job)) (has_any (whole_walk t job).shut)
-begun_still t job alone = begun_by t job alone (all_walked t job (filter (is_due job) t.subs) (first_step t.clients) (open_still [] alone.clients refl (omega arith)))
+begun_still t job alone = begun_by t job alone (all_walked alone.option t job (filter (is_due job) t.subs) (first_step t.clients) (open_still [] alone.clients refl (omega arith)))
 
 -- ---- claims
 
@@ -258,21 +282,22 @@ candidate_fits t job None sub is = absurd (none-some sub is)
 candidate_fits t job (Some name) sub is =
     let among = in_filter (is_candidate t job name) t.subs sub (in_read (filter (is_candidate t job name) t.subs) _ sub is) in
     let named = and_true (is_named name sub.key.queue) _ among.1 in
-    (due_entry t.shard job (Some name) sub, (and_true (is_wanted job sub) _ named.1).1)
+    (owed_entry t.shard t.clients job (Some name) sub, (and_true (is_wanted job sub) _ named.1).1)
 
 claim_still : (t : State) (n : ℕ) (shut : Bool) → IsStill t shut → IsStill (shard_after t (Claim n true)) shut
 claim_still t n shut still = go t.hand refl (candidate_of t t.hand n) refl
   where
     placed : (job : Job) (sub : Subscription) → HasRoom sub.conn still.entries shut → IsStill (after_put (after_try t) job sub) shut
     placed job sub room =
-        let entry = due_entry t.shard job sub.key.queue sub in
+        let entry = owed_entry t.shard t.clients job sub.key.queue sub in
         record {
           entries = still.entries ++ entry ∷ [];
           alone = record {
+            option = still.alone.option;
             shard = still.alone.shard;
             shards = still.alone.shards;
             next = still.alone.next;
-            clients = ap (clients_with_change (with_entry entry) sub.conn) still.alone.clients ∙ changed_here sub.conn still.entries shut (with_entry entry) room.at.here;
+            clients = ap (clients_with_change (with_entry entry) sub.conn) still.alone.clients ∙ changed_here sub.conn still.alone.option still.entries shut (with_entry entry) room.at.here;
             few = let more = length-append still.entries (entry ∷ []) in let below = room.room in omega (arith, more, below);
           };
         }
@@ -282,7 +307,7 @@ claim_still t n shut still = go t.hand refl (candidate_of t t.hand n) refl
     go (Some job) e None f = subst (λ (h : Option Job). IsStill (after_claim t h (candidate_of t t.hand n) true) shut) (sym e) (subst (λ c. IsStill (after_claim t (Some job) c true) shut) (sym f) (record { entries = still.entries; alone = same_alone t (after_try t) still.entries shut still.alone refl refl refl refl }))
     go (Some job) e (Some sub) f =
         let found = candidate_fits t job (slice_get job.queues n) sub (ap (λ (h : Option Job). candidate_of t h n) (sym e) ∙ f) in
-        let room = fits_here sub.conn still.entries shut found.0 (ap (λ (cs : List Client). fits (client_at sub.conn cs) found.0) (sym still.alone.clients) ∙ found.1) in
+        let room = fits_here sub.conn still.alone.option still.entries shut found.0 (ap (λ (cs : List Client). fits (client_at sub.conn cs) found.0) (sym still.alone.clients) ∙ found.1) in
         subst (λ (h : Option Job). IsStill (after_claim t h (candidate_of t t.hand n) true) shut) (sym e) (subst (λ c. IsStill (after_claim t (Some job) c true) shut) (sym f) (placed job sub room))
 
 pub claimed_still : (n : ℕ) (t : State) (shut : Bool) → IsStill t shut → IsStill (after_claims n t) shut

@@ -17,18 +17,18 @@ use Rattle.outbox.specs.Views.{reply_entry}
 use Rattle.shard_core.specs.declared.faults.ShardFault.{ShardFault}
 use Rattle.shard_core.specs.declared.faults.ShardFault.TheVariants.{TooManySubs, Spent}
 use Rattle.shard_core.specs.Owed.{whole_walk}
-use Rattle.shard_core.specs.ShardEvents.{Event, Subscribe, Unsubscribe, Reply, Shut, Take, Collect}
+use Rattle.shard_core.specs.ShardEvents.{Event, Subscribe, Unsubscribe, Reply, SetHeaders, Shut, Take, Collect}
 use Rattle.shard_core.specs.ShardSteps.{sub_called, is_full, new_sub, answer_fits, shard_refusal, shard_after}
 use Rattle.shard_core.specs.Shards.{State, is_known}
 use Rattle.node_core.specs.Served as of_node
 use Rattle.mesh_pipe.specs.declared.pipe_server.Outcome.{Outcome}
 use Rattle.mesh_pipe.specs.declared.pipe_server.Outcome.TheVariants.{Answered, Closed}
 use Rattle.mesh_pipe.specs.declared.pipe_server.PipeServer.{PipeServer}
-use Rattle.mesh_pipe.specs.PipeText.{Served, Output, at_rest, served_by, output_of, error_told, after_event, output_of_subscribe, opened_or_not, opening_refused, job_of, names_wanted, after_job, output_of_publish}
+use Rattle.mesh_pipe.specs.PipeText.{Served, Output, at_first, at_rest, served_by, output_of, error_told, after_event, output_of_subscribe, opened_or_not, opening_refused, job_of, names_wanted, after_job, output_of_publish}
 use Rattle.mesh_pipe.specs.PipeServing.{IsServing, Steps, HasIssued, HasWorkedOff, shard_in, waiting_in, all_entries, waiting_bytes, placing_refused, has_any}
 use Rattle.client_refusals.specs.Refusals.{refusal_of_shard}
-use Rattle.mesh_pipe.specs.PipeStates.{served_state, outcome_by, IsReady, HasServed, IsTold}
-use Rattle.mesh_pipe.proofs.Server.Outputs.{known_there, IsAlone, IsSettled, IsQuiet, IsStill, all_taken, behind_take, output_text, output_closed, rests, alone_at_rest, settled_at_rest, replied_alone, behind_shut, subscribe_quiet, unsubscribe_quiet, quiet_alone, quiet_settled, worked_still, worked_done}
+use Rattle.mesh_pipe.specs.PipeStates.{served_state, outcome_by, IsReady, IsNew, HasServed, IsTold}
+use Rattle.mesh_pipe.proofs.Server.Outputs.{known_there, IsAlone, IsSettled, IsQuiet, IsStill, all_taken, behind_take, taken_served, output_text, output_closed, rests, alone_at_rest, settled_at_rest, replied_alone, behind_shut, subscribe_quiet, unsubscribe_quiet, quiet_alone, quiet_settled, chosen_alone, chosen_settled, worked_still, worked_done}
 
 -- ---- the server behind an ask
 
@@ -51,6 +51,15 @@ settled_of server ready = settled_at_rest (shard_in server.node) (served_state s
 -- what is put by an event at rest
 output_at : {R : Type 0} (server : PipeServer R) (event : Event) → IsReady server → after_event event (served_state server) ≡ output_of (shard_after (shard_in server.node) event)
 output_at server event ready = ap (λ (t : State). output_of (shard_after t event)) (sym ready.shard)
+
+-- ---- the start
+
+pub is_new : {R : Type 0} (server : PipeServer R) → IsServing server.node → shard_in server.node ≡ at_rest at_first → waiting_in server.node ≡ [] → server.conn ≡ 1 → server.output.items ≡ [] → IsNew server
+is_new server serving shard waiting conn empty = record {
+  ready = record { serving = serving; conn = conn; shard = shard ∙ ap (λ (u : State). at_rest (served_by u)) (sym shard); waiting = waiting };
+  same = ap served_by shard;
+  empty = empty;
+}
 
 -- ---- lines
 
@@ -89,7 +98,7 @@ reply_served old new mid frame shut ready replies is takes put conn = go shut is
         let settled = replied.settled (sym e) (settled_of old ready) in
         let shard : shard_in new.node ≡ shard_after u (Take 1 all_entries) = takes.shard ∙ ap (λ (v : State). shard_after v (Take 1 all_entries)) replies.shard in
         let at = rests_at new (shard_after u (Take 1 all_entries)) takes.serving (conn ∙ ready.conn) (takes.waiting ∙ replies.waiting ∙ ready.waiting) shard alone (record { hand = settled.hand; index = settled.index; deltas = settled.deltas; draining = settled.draining }) in
-        (closed ∙ sym e, record { text = text; ready = at.ready; same = at.same ∙ sym (ap (λ (r : Output). r.served) said_is) })
+        (closed ∙ sym e, record { text = text; ready = at.ready; same = at.same ∙ taken_served u ∙ sym (ap (λ (r : Output). r.served) said_is) })
 
 pub shut_served : {R : Type 0} (old new : PipeServer R) (mid : of_node.Served) (why : ErrText) → IsReady old → Steps old.node (Shut 1 why) mid → new.output.items ≡ old.output.items ++ waiting_bytes (shard_in mid) → HasServed Closed (after_event (Shut 1 why) (served_state old)) old new
 shut_served old new mid why ready shuts put =
@@ -102,16 +111,12 @@ shut_served old new mid why ready shuts put =
 
 -- ---- what puts nothing
 
--- an event that leaves the connection, and then a collect
-quiet_served : {R : Type 0} (old new : PipeServer R) (mid : of_node.Served) (event : Event) → IsReady old → IsQuiet (shard_in old.node) (shard_after (shard_in old.node) event) → Steps old.node event mid → waiting_in mid ≡ waiting_in old.node → Steps mid Collect new.node → new.output.items ≡ old.output.items → new.conn ≡ old.conn
+-- an event behind which nothing waits, and the server rests
+silent_served : {R : Type 0} (old new : PipeServer R) (event : Event) → IsReady old → IsAlone (shard_after (shard_in old.node) event) [] false → Rests new (shard_after (shard_in old.node) event) → new.output.items ≡ old.output.items
     → HasServed (Answered (Ok tt)) (after_event event (served_state old)) old new
-quiet_served old new mid event ready quiet steps waiting collects put conn =
-    let t = shard_in old.node in
-    let u = shard_after t event in
-    let alone = quiet_alone t u quiet (alone_of old ready) in
-    let said_is = output_at old event ready in
-    let shard : shard_in new.node ≡ shard_after u Collect = collects.shard ∙ ap (λ (v : State). shard_after v Collect) steps.shard in
-    let at = rests_at new (shard_after u Collect) collects.serving (conn ∙ ready.conn) (collects.waiting ∙ waiting ∙ ready.waiting) shard (record { shard = alone.shard; shards = alone.shards; next = alone.next; clients = alone.clients; few = alone.few }) (quiet_settled t u quiet (settled_of old ready)) in (
+silent_served old new event ready alone at put =
+    let u = shard_after (shard_in old.node) event in
+    let said_is = output_at old event ready in (
       ap (λ (r : Output). r.closed) said_is ∙ output_closed u [] false alone,
       record {
         text = put ∙ sym (append-nil old.output.items) ∙ ap (λ l. old.output.items ++ l) (sym (ap (λ (r : Output). r.text) said_is ∙ output_text u [] false alone));
@@ -119,6 +124,26 @@ quiet_served old new mid event ready quiet steps waiting collects put conn =
         same = at.same ∙ sym (ap (λ (r : Output). r.served) said_is);
       },
     )
+
+pub headers_served : {R : Type 0} (old new : PipeServer R) (on : Bool) → IsReady old → Steps old.node (SetHeaders 1 on) new.node → new.output.items ≡ old.output.items → new.conn ≡ old.conn
+    → HasServed (Answered (Ok tt)) (after_event (SetHeaders 1 on) (served_state old)) old new
+headers_served old new on ready steps put conn =
+    let t = shard_in old.node in
+    let alone = chosen_alone t on (alone_of old ready) in
+    let settled = chosen_settled t on (settled_of old ready) in
+    silent_served old new (SetHeaders 1 on) ready alone
+    (rests_at new (shard_after t (SetHeaders 1 on)) steps.serving (conn ∙ ready.conn) (steps.waiting ∙ ready.waiting) steps.shard alone settled) put
+
+-- an event that leaves the connection, and then a collect
+quiet_served : {R : Type 0} (old new : PipeServer R) (mid : of_node.Served) (event : Event) → IsReady old → IsQuiet (shard_in old.node) (shard_after (shard_in old.node) event) → Steps old.node event mid → waiting_in mid ≡ waiting_in old.node → Steps mid Collect new.node → new.output.items ≡ old.output.items → new.conn ≡ old.conn
+    → HasServed (Answered (Ok tt)) (after_event event (served_state old)) old new
+quiet_served old new mid event ready quiet steps waiting collects put conn =
+    let t = shard_in old.node in
+    let u = shard_after t event in
+    let alone = quiet_alone t u quiet (alone_of old ready) in
+    let shard : shard_in new.node ≡ shard_after u Collect = collects.shard ∙ ap (λ (v : State). shard_after v Collect) steps.shard in
+    let at = rests_at new (shard_after u Collect) collects.serving (conn ∙ ready.conn) (collects.waiting ∙ waiting ∙ ready.waiting) shard (record { option = alone.option; shard = alone.shard; shards = alone.shards; next = alone.next; clients = alone.clients; few = alone.few }) (quiet_settled t u quiet (settled_of old ready)) in
+    silent_served old new event ready alone (record { ready = at.ready; same = at.same }) put
 
 pub unsubscribe_served : {R : Type 0} (old new : PipeServer R) (mid : of_node.Served) (sid : List ℕ) (max : Option ℕ) → IsReady old → Steps old.node (Unsubscribe 1 sid max) mid → Steps mid Collect new.node → new.output.items ≡ old.output.items → new.conn ≡ old.conn
     → HasServed (Answered (Ok tt)) (after_event (Unsubscribe 1 sid max) (served_state old)) old new
@@ -221,8 +246,8 @@ publish_served old new issued worked counted p shut ready free issues works coun
         let taken = behind_take u still.entries false open_still in
         let done = worked_done job t in
         let shard : shard_in new.node ≡ v = takes.shard ∙ ap (λ (w : State). shard_after w (Take 1 all_entries)) (counts.shard ∙ ap (λ (w : State). shard_after w Collect) worked_is) in
-        let at = rests_at new v takes.serving (conn ∙ ready.conn) (takes.waiting ∙ counts.waiting ∙ works.waiting) shard (record { shard = taken.shard; shards = taken.shards; next = taken.next; clients = taken.clients; few = taken.few }) (record { hand = done.0; index = done.1; deltas = refl; draining = done.2 ∙ (settled_of old ready).draining }) in
-        (closed ∙ sym (e ∙ shut_is), record { text = text; ready = at.ready; same = at.same ∙ sym (ap (λ (r : Output). r.served) said_is) })
+        let at = rests_at new v takes.serving (conn ∙ ready.conn) (takes.waiting ∙ counts.waiting ∙ works.waiting) shard (record { option = taken.option; shard = taken.shard; shards = taken.shards; next = taken.next; clients = taken.clients; few = taken.few }) (record { hand = done.0; index = done.1; deltas = refl; draining = done.2 ∙ (settled_of old ready).draining }) in
+        (closed ∙ sym (e ∙ shut_is), record { text = text; ready = at.ready; same = at.same ∙ taken_served (shard_after u Collect) ∙ sym (ap (λ (r : Output). r.served) said_is) })
 
 pub published_known : {R : Type 0} (old : PipeServer R) (issued worked counted : of_node.Served) (p : Pub) (shut : Bool) → IsReady old → HasIssued p old.node issued → HasWorkedOff issued shut worked → Steps worked Collect counted → is_known 1 (shard_in counted).clients ≡ true
 published_known old issued worked counted p shut ready issues works counts =

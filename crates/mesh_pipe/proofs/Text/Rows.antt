@@ -1,16 +1,21 @@
 -- What the definition of the pipe's text says of whole streams: the wanted bytes were worked out by hand.
-use Rattle.std.proofs.Common.{◌≡◌, ℕ, List, [], true, false, refl}
+use Rattle.std.proofs.Common.{◌≡◌, ℕ, Bool, List, [], ◌∷◌, Some, None, true, false, refl}
 use Rattle.std.specs.Prelude.{codes}
 use Rattle.std.specs.Fmt.{digits}
 use Rattle.wire_cut.specs.Cut.{first_cr_lf}
 use Rattle.wire_cut.specs.Reading.{reading_within}
-use Rattle.client_frames.specs.Streams.{stream_commands}
+use Rattle.client_frames.specs.declared.client_line.ClientLine.TheVariants as line
+use Rattle.client_frames.specs.Streams.{StreamItem, asked, published, stream_commands}
 use Rattle.client_conn.specs.Items.{first_options, items_asks}
 use Rattle.mesh_pipe.specs.PipeText.{Output, at_first, asks_said}
 
 -- what comes behind INFO
 abbrev said : List ℕ → Output
 said bytes = asks_said (items_asks first_options (stream_commands bytes)) at_first
+
+-- the same of what a stream tells
+abbrev told : List StreamItem → Output
+told items = asks_said (items_asks first_options items) at_first
 
 -- `+OK` comes before the message
 first_message : (said (codes "SUB foo 1\r\nPUB foo 5\r\nhello\r\n")).text ≡ codes "+OK\r\n+OK\r\nMSG foo 1 5\r\nhello\r\n"
@@ -38,6 +43,36 @@ groups_in_order : (said (codes "SUB a z 1\r\nSUB a b 2\r\nSUB a 3\r\nPUB a 0\r\n
     ≡ codes "+OK\r\n+OK\r\n+OK\r\n+OK\r\nMSG a 3 0\r\n\r\nMSG a 2 0\r\n\r\nMSG a 1 0\r\n\r\n"
 unfolding asks_said reading_within first_cr_lf digits
 groups_in_order = refl
+
+-- ---- headers
+
+-- without a CONNECT the client takes none
+headers_off : (said (codes "SUB foo 1\r\nHPUB foo 12 14\r\nNATS/1.0\r\n\r\nhi\r\n")).text ≡ codes "+OK\r\n+OK\r\nMSG foo 1 2\r\nhi\r\n"
+unfolding asks_said reading_within first_cr_lf digits
+headers_off = refl
+
+-- CONNECT with this option, quietly
+abbrev connect : Bool → StreamItem
+connect headers = asked (line.Connect (record { verbose = false; echo = true; headers = headers }))
+
+abbrev subscribed : StreamItem
+subscribed = asked (line.Sub (codes "foo") None (codes "1"))
+
+-- a publication with twelve bytes of headers, and one without
+abbrev headed : StreamItem
+headed = published (record { subject = codes "foo"; reply = Some (codes "r"); headers = Some 12; size = 14 }) (codes "NATS/1.0\r\n\r\nhi")
+
+abbrev plain : StreamItem
+plain = published (record { subject = codes "foo"; reply = None; headers = None; size = 2 }) (codes "hi")
+
+headers_on : (told (connect true ∷ subscribed ∷ headed ∷ plain ∷ [])).text ≡ codes "HMSG foo 1 r 12 14\r\nNATS/1.0\r\n\r\nhi\r\nMSG foo 1 2\r\nhi\r\n"
+unfolding asks_said digits
+headers_on = refl
+
+-- the last CONNECT holds
+headers_off_again : (told (connect true ∷ subscribed ∷ connect false ∷ headed ∷ [])).text ≡ codes "MSG foo 1 r 2\r\nhi\r\n"
+unfolding asks_said digits
+headers_off_again = refl
 
 -- a maximum of one
 maximum : (said (codes "SUB foo 1\r\nUNSUB 1 1\r\nPUB foo 1\r\na\r\nPUB foo 1\r\nb\r\n")).text ≡ codes "+OK\r\n+OK\r\n+OK\r\nMSG foo 1 1\r\na\r\n+OK\r\n"

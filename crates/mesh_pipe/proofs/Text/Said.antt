@@ -138,6 +138,7 @@ weigh a rest = sum_by-cons asks_of a rest
 
 pos : (a : ClientAction) → 0 < asks_of a
 pos (ask.Reply frame) = omega arith
+pos (ask.SetHeaders on) = omega arith
 pos (ask.Shut why) = omega arith
 pos (ask.Subscribe key sid) = omega arith
 pos (ask.Unsubscribe sid max) = omega arith

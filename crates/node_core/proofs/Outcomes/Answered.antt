@@ -5,7 +5,7 @@ use Rattle.std.proofs.lemmas.Option.{none-some, same_Some}
 use Rattle.shard_core.specs.ShardEvents as of_shard
 use Rattle.shard_core.specs.Answers.{IsTold}
 use Rattle.shard_core.specs.Lines.{first_of}
-use Rattle.shard_core.specs.Owed.{whole_walk, placed_for}
+use Rattle.shard_core.specs.Owed.{whole_walk, owed_placed}
 use Rattle.shard_core.specs.ShardSteps.{shard_answer}
 use Rattle.shard_core.specs.declared.calls.Begun.{Begun}
 use Rattle.route_values.specs.Frames.{Frame}
@@ -60,7 +60,7 @@ pub claim_answers : (copies : Bool) (old new : Served) (shard index : ℕ) (clai
 claim_answers copies old new shard index claimed d = record { won = is_won claimed; step = d.step; told = told_claim_at copies claimed index (shard_line old.node shard) d.told }
 
 told_begin_of : (copies : Bool) (line : ShardWithJobs) (job : Job) (waits : Option Job) (begun : Begun) → waits ≡ Some job → IsTold copies line.shard job begun → Began begun.given (length begun.closed.items) ≡ told_of_line line (begin_of waits)
-told_begin_of copies line job waits begun is d = (λ k. Began ((d.given ∙ sym (length-map (whole_walk line.shard job).given (placed_for line.shard.shard job None))) k) (length (d.closed k))) ∙ sym (ap (λ o. told_of_line line (begin_of o)) is)
+told_begin_of copies line job waits begun is d = (λ k. Began ((d.given ∙ sym (length-map (whole_walk line.shard job).given (owed_placed line.shard.shard line.shard.clients job None))) k) (length (d.closed k))) ∙ sym (ap (λ o. told_of_line line (begin_of o)) is)
 
 pub told_begin : (copies : Bool) (o : Option ShardWithJobs) (begun : Begun) → IsToldAt copies o begun → Began begun.given (length begun.closed.items) ≡ told_at o (work_event Begin false)
 told_begin copies None begun e = absurd e

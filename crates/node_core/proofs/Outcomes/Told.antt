@@ -27,7 +27,7 @@ use Rattle.node_law.specs.Answers.{Answer, Nothing, Began, told_of_shard, told_a
 use Rattle.node_law.specs.AsLaw.{Part, part_at, part_if, part_of}
 use Rattle.node_law.specs.Events.{NodeEvent, Own, OfConn, AtShard}
 use Rattle.node_law.specs.declared.events.ConnEvent.{ConnEvent}
-use Rattle.node_law.specs.declared.events.ConnEvent.TheVariants.{Subscribe, Unsubscribe, Reply, Shut, Detach, Take}
+use Rattle.node_law.specs.declared.events.ConnEvent.TheVariants.{Subscribe, Unsubscribe, Reply, SetHeaders, Shut, Detach, Take}
 use Rattle.node_law.specs.declared.events.ShardWork.TheVariants.{Attach, Begin, Claim, End, DropJob, DrainShard}
 use Rattle.node_core.specs.declared.node.stepping.ReplyPuts.{ReplyPuts}
 use Rattle.node_core.specs.Outcome.{Answers, Does, Outcome, claim_outcome, ended_told, entries_told, put_at, reply_outcome, shut_at, ended_at}
@@ -71,6 +71,9 @@ conn_does old new conn event answer entries shut puts shuts d =
 pub unsubscribe_does : (old new : Served) (conn : ℕ) (sid : List ℕ) (max : Option ℕ) (ended : List SubId) → ConnStep old conn (Unsubscribe sid max) (of_shard.Unsubscribed ended) new → Does old (Own (OfConn conn (Unsubscribe sid max))) (record { answer = Nothing; entries = []; frames = []; shut = []; ended = ended }) new
 unsubscribe_does old new conn sid max ended d = conn_does old new conn (Unsubscribe sid max) (of_shard.Unsubscribed ended) [] [] (λ line e. refl) (λ line e. refl) d
 
+pub set_headers_does : (old new : Served) (conn : ℕ) (on : Bool) → ConnStep old conn (SetHeaders on) of_shard.HeadersSet new → Does old (Own (OfConn conn (SetHeaders on))) (record { answer = Nothing; entries = []; frames = []; shut = []; ended = [] }) new
+set_headers_does old new conn on d = conn_does old new conn (SetHeaders on) of_shard.HeadersSet [] [] (λ line e. refl) (λ line e. refl) d
+
 pub detach_does : (old new : Served) (conn : ℕ) (ended : List SubId) → ConnStep old conn Detach (of_shard.Detached ended) new → Does old (Own (OfConn conn Detach)) (record { answer = Nothing; entries = []; frames = []; shut = []; ended = ended }) new
 detach_does old new conn ended d = conn_does old new conn Detach (of_shard.Detached ended) [] [] (λ line e. refl) (λ line e. refl) d
 
@@ -85,6 +88,7 @@ was_shut (of_shard.Opened sub) = false
 was_shut of_shard.AlreadyOpen = false
 was_shut (of_shard.Unsubscribed ended) = false
 was_shut (of_shard.Replied shut ended) = shut
+was_shut of_shard.HeadersSet = false
 was_shut (of_shard.WasShut ended) = false
 was_shut (of_shard.Detached ended) = false
 was_shut (of_shard.Taken entries) = false
@@ -164,6 +168,7 @@ placed_of (of_shard.Opened sub) = []
 placed_of of_shard.AlreadyOpen = []
 placed_of (of_shard.Unsubscribed ended) = []
 placed_of (of_shard.Replied shut ended) = []
+placed_of of_shard.HeadersSet = []
 placed_of (of_shard.WasShut ended) = []
 placed_of (of_shard.Detached ended) = []
 placed_of (of_shard.Taken entries) = []

@@ -8,7 +8,7 @@ ghost use Rattle.shard_core.specs.Owed.{slow_consumer};
 ghost use Rattle.shard_core.specs.Puts.{put_line};
 ghost use Rattle.subj.specs.Answers.{IsAnswered};
 ghost use Rattle.node_law.specs.Events.{Own, OfConn, AtShard, OnInfo, OnConnect, Publish, Collect, Drain, Accept, Receive};
-ghost use Rattle.node_law.specs.declared.events.ConnEvent.TheVariants.{Unsubscribe, Reply, Shut, Detach, Subscribe};
+ghost use Rattle.node_law.specs.declared.events.ConnEvent.TheVariants.{Unsubscribe, Reply, SetHeaders, Shut, Detach, Subscribe};
 ghost use Rattle.node_law.specs.declared.events.ShardWork.TheVariants.{Begin, Claim};
 ghost use Rattle.node_core.specs.Outcome.{Does, did_of, Answers, claim_outcome, reply_outcome, told_of_claim};
 ghost use Rattle.node_core.specs.Served.{refusal};
@@ -44,7 +44,11 @@ fn line_for(alloc: Global, conn: ConnId, line: &[u8]) -> Result<Vec<Placed>, All
 {
     let mut put = Vec::with_capacity(alloc, 1)?;
     let entry = Entry::reply(Vec::from_slice(alloc, line)?);
-    put.push_reserved(Placed { conn, entry });
+    put.push_reserved(Placed {
+        conn,
+        entry,
+        headers: false,
+    });
     Ok(put)
 }
 
@@ -204,6 +208,17 @@ impl<T: SubTable, R: Race> Node<T, R> {
         Ok(did_of_reply(alloc, puts, closed))
     }
 
+    /// Sets whether a connection takes headers.
+    #[tactic(auto, using(crate::proofs::Outcomes::Told::set_headers_does))]
+    fn did_set_headers(&mut self, conn: ConnId, on: bool) -> Result<Did, Failure<NodeFault>>
+        ensures { IsAnswered (refusal self.old (Own (OfConn conn (SetHeaders on)))) (λ did. Does self.old (Own (OfConn conn (SetHeaders on))) (did_of did) self.new) (self.new ≡ self.old) result }
+    {
+        match self.set_headers(conn, on) {
+            Ok(()) => Ok(Did::answer_alone(self.alloc, Answer::Nothing)),
+            Err(fault) => Err(Failure::Refused(fault)),
+        }
+    }
+
     /// Shuts a connection.
     #[tactic(auto, using(crate::proofs::Outcomes::Told::shut_does))]
     fn did_shut(&mut self, conn: ConnId, text: ErrText) -> Result<Did, Failure<NodeFault>>
@@ -239,6 +254,7 @@ impl<T: SubTable, R: Race> Node<T, R> {
         match event {
             ConnEvent::Unsubscribe { sid, max } => self.did_unsubscribe(conn, sid, *max),
             ConnEvent::Reply { frame } => self.did_reply(conn, frame),
+            ConnEvent::SetHeaders { on } => self.did_set_headers(conn, *on),
             ConnEvent::Shut { text } => self.did_shut(conn, *text),
             ConnEvent::Detach => self.did_detach(conn),
             ConnEvent::Subscribe { key, sid } => {
@@ -352,6 +368,10 @@ impl<T: SubTable, R: Race> Node<T, R> {
                 self.reply(conn, frame)?;
                 Ok(Answer::Nothing)
             }
+            ConnEvent::SetHeaders { on } => match self.set_headers(conn, *on) {
+                Ok(()) => Ok(Answer::Nothing),
+                Err(fault) => Err(Failure::Refused(fault)),
+            },
             ConnEvent::Shut { text } => {
                 self.shut(conn, *text)?;
                 Ok(Answer::Nothing)

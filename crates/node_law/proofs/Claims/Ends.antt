@@ -24,8 +24,8 @@ use Rattle.shard_core.specs.ShardEvents as of_shard
 use Rattle.shard_core.specs.Shards as shards
 use Rattle.shard_core.specs.ShardSteps.{sub_called, new_sub, after_subscribe, ended_now, after_unsubscribe, answer_fits, done_with, shard_refusal, claim_refusal, end_refusal, shard_after}
 use Rattle.node_law.specs.declared.faults.NodeFault.TheVariants.{Shard}
-use Rattle.node_law.specs.Events.{ConnEvent, Subscribe, Unsubscribe, Reply, Shut, Detach, Take, ShardWork, Attach, Begin, Claim, End, DropJob, DrainShard, OfConn, AtShard, Publish, Collect, Drain, Dial, Accept, CutSession, TakeFrames, NodeEvent, Own, Receive, OnInfo, OnConnect}
-use Rattle.node_law.specs.OneServer.{Claimed, is_of_pair, is_of_shard, claimed_at, claimed_with, work_claims, claims_by, claims_of, Ended, ended_with, ended_at, work_ends, ends_by, ends_of, EndedAll}
+use Rattle.node_law.specs.Events.{ConnEvent, Subscribe, Unsubscribe, Reply, Shut, SetHeaders, Detach, Take, ShardWork, Attach, Begin, Claim, End, DropJob, DrainShard, OfConn, AtShard, Publish, Collect, Drain, Dial, Accept, CutSession, TakeFrames, NodeEvent, Own, Receive, OnInfo, OnConnect}
+use Rattle.node_law.specs.OneServer.{Claimed, is_of_pair, is_of_shard, claimed_at, claimed_with, option_for, work_claims, claims_by, claims_of, Ended, ended_with, ended_at, work_ends, ends_by, ends_of, EndedAll}
 use Rattle.node_law.specs.Runs.{Done, Ran}
 use Rattle.node_law.specs.Sound.{SoundNode}
 use Rattle.node_law.specs.State.{ShardWithJobs, Node, lines_from}
@@ -88,6 +88,7 @@ conn_stays s conn (Unsubscribe sid max) = go (sub_called conn sid s.subs)
 conn_stays s conn (Reply frame) = either s _ _ (answer_fits s conn _) (record { finished = refl; hand = refl; next = refl }) (record { finished = refl; hand = refl; next = refl })
 conn_stays s conn (Shut text) = record { finished = refl; hand = refl; next = refl }
 conn_stays s conn Detach = record { finished = refl; hand = refl; next = refl }
+conn_stays s conn (SetHeaders on) = record { finished = refl; hand = refl; next = refl }
 conn_stays s conn (Take count) = record { finished = refl; hand = refl; next = refl }
 
 stays_counted : (s : ℕ) (old new : shards.State) (claims : List Claimed) (ends : List Ended) → Stays old new → Counted s old.finished old.hand old.next_index claims ends → Counted s new.finished new.hand new.next_index claims ends
@@ -201,18 +202,18 @@ other_turn s t i x apart = go (nat_eq x.shard s)
     go false = refl
 
 -- the count of the index that was next rises
-claim_counted : (s finished : ℕ) (job : Job) (next : ℕ) (u : Option Subscription) (won : Bool) (claims : List Claimed) (ends : List Ended) → job.turn ≡ suc finished → Counted s finished (Some job) next claims ends
-    → Counted s finished (Some job) (suc next) (record { shard = s; job = job; index = next; candidate = u; won = won } ∷ claims) ends
-claim_counted s finished job next u won claims ends turn k = record {
+claim_counted : (s finished : ℕ) (job : Job) (next : ℕ) (u : Option Subscription) (headers won : Bool) (claims : List Claimed) (ends : List Ended) → job.turn ≡ suc finished → Counted s finished (Some job) next claims ends
+    → Counted s finished (Some job) (suc next) (record { shard = s; job = job; index = next; candidate = u; headers = headers; won = won } ∷ claims) ends
+claim_counted s finished job next u headers won claims ends turn k = record {
   now = λ t i lt. ap (λ b. length (cond (b && (nat_eq job.turn t && nat_eq next i)) (x ∷ filter (is_of_shard s t i) claims) (filter (is_of_shard s t i) claims))) (true_eq s s refl) ∙ go t i (nat_eq job.turn t) (nat_eq next i) (nat_lt i next) (nat_lt i (suc next)) refl refl refl refl (k.now t i lt);
   past = k.past;
 }
   where
     x : Claimed
-    x = record { shard = s; job = job; index = next; candidate = u; won = won }
+    x = record { shard = s; job = job; index = next; candidate = u; headers = headers; won = won }
 
     go : (t i : ℕ) (same here below upto : Bool) → nat_eq job.turn t ≡ same → nat_eq next i ≡ here → nat_lt i next ≡ below → nat_lt i (suc next) ≡ upto → length (filter (is_of_shard s t i) claims) ≡ cond (nat_eq job.turn t && nat_lt i next) 1 0
-        → length (cond (same && here) (record { shard = s; job = job; index = next; candidate = u; won = won } ∷ filter (is_of_shard s t i) claims) (filter (is_of_shard s t i) claims)) ≡ cond (nat_eq job.turn t && nat_lt i (suc next)) 1 0
+        → length (cond (same && here) (record { shard = s; job = job; index = next; candidate = u; headers = headers; won = won } ∷ filter (is_of_shard s t i) claims) (filter (is_of_shard s t i) claims)) ≡ cond (nat_eq job.turn t && nat_lt i (suc next)) 1 0
     go t i false here below upto a b d e old = old ∙ ap (λ y. cond (y && nat_lt i next) 1 0) a ∙ sym (ap (λ y. cond (y && nat_lt i (suc next)) 1 0) a)
     go t i true true true upto a b d e old = let p = eq_true next i b in absurd (lemma i next (sym p) d)
       where
@@ -240,13 +241,13 @@ claimed_next sh job (Some u) true = (refl, refl, add-one sh.next_index)
 claimed_next sh job (Some u) false = (refl, refl, add-one sh.next_index)
 
 claim_case : (issued p index : ℕ) (won : Bool) (lines : List ShardWithJobs) (line : ShardWithJobs) (claims : List Claimed) (ends : List Ended) → slice_get lines p ≡ Some line → SoundLine WINDOW issued line.shard line.waiting → claim_refusal line.shard index line.shard.hand ≡ None → Counts lines claims ends
-    → Counts (set lines p (line_after (of_shard.Claim index won) line)) (claimed_with (suc p) index won line.shard.hand (candidate_of line.shard line.shard.hand index) ++ claims) ends
+    → Counts (set lines p (line_after (of_shard.Claim index won) line)) (claimed_with (suc p) index won line.shard.clients line.shard.hand (candidate_of line.shard line.shard.hand index) ++ claims) ends
 claim_case issued p index won lines line claims ends at so cause k = go line.shard.hand (candidate_of line.shard line.shard.hand index) refl refl cause
   where
     s : ℕ
     s = suc p
 
-    go : (hand : Option Job) (u : Option Subscription) → line.shard.hand ≡ hand → candidate_of line.shard line.shard.hand index ≡ u → claim_refusal line.shard index hand ≡ None → Counts (set lines p (line_after (of_shard.Claim index won) line)) (claimed_with (suc p) index won hand u ++ claims) ends
+    go : (hand : Option Job) (u : Option Subscription) → line.shard.hand ≡ hand → candidate_of line.shard line.shard.hand index ≡ u → claim_refusal line.shard index hand ≡ None → Counts (set lines p (line_after (of_shard.Claim index won) line)) (claimed_with (suc p) index won line.shard.clients hand u ++ claims) ends
     go None u is cand e = absurd (none-some _ (sym e))
     go (Some job) u is cand e = record {
       each = read_set (λ t l. CountedLine (suc t) l (x ∷ claims) ends) lines p (line_after (of_shard.Claim index won) line)
@@ -256,7 +257,7 @@ claim_case issued p index won lines line claims ends at so cause k = go line.sha
     }
       where
         x : Claimed
-        x = record { shard = suc p; job = job; index = index; candidate = u; won = won }
+        x = record { shard = suc p; job = job; index = index; candidate = u; headers = option_for line.shard.clients u; won = won }
 
         at_next : index ≡ line.shard.next_index
         at_next = eq_true index line.shard.next_index (and_true (nat_eq index line.shard.next_index) (nat_lt index (length job.queues)) (no_end _ _ e)).0
@@ -270,8 +271,8 @@ claim_case issued p index won lines line claims ends at so cause k = go line.sha
             subst (λ n. Counted s n (after_claim line.shard (Some job) u won).hand (after_claim line.shard (Some job) u won).next_index (x ∷ claims) ends) (sym m.0)
             (subst (λ h. Counted s line.shard.finished h (after_claim line.shard (Some job) u won).next_index (x ∷ claims) ends) (sym (m.1 ∙ is))
             (subst (λ n. Counted s line.shard.finished (Some job) n (x ∷ claims) ends) (sym m.2)
-            (subst (λ n. Counted s line.shard.finished (Some job) (suc line.shard.next_index) (record { shard = s; job = job; index = n; candidate = u; won = won } ∷ claims) ends) (sym at_next)
-            (claim_counted s line.shard.finished job line.shard.next_index u won claims ends (so.hand job is) (subst (λ h. Counted s line.shard.finished h line.shard.next_index claims ends) is (k.each p line at))))))
+            (subst (λ n. Counted s line.shard.finished (Some job) (suc line.shard.next_index) (record { shard = s; job = job; index = n; candidate = u; headers = option_for line.shard.clients u; won = won } ∷ claims) ends) (sym at_next)
+            (claim_counted s line.shard.finished job line.shard.next_index u (option_for line.shard.clients u) won claims ends (so.hand job is) (subst (λ h. Counted s line.shard.finished h line.shard.next_index claims ends) is (k.each p line at))))))
 
         go_other : (y : Ended) → In y ends → (i : ℕ) (b : Bool) → nat_eq s y.shard ≡ b → is_of_shard y.shard y.job.turn i x ≡ false
         go_other y i index' true f = let q0 = (k.each p line at).past y i (sym (eq_true s y.shard f)) in let q = so.hand job is in other_turn y.shard y.job.turn index' x (λ g. absurd (omega arith))
@@ -284,7 +285,7 @@ work_counts server a s Attach won claims ends (Some line) sound at cause k = let
 work_counts server a s Begin won claims ends (Some line) sound at cause k = set_counts a.lines (s - 1) _ claims ends k (begin_counted (suc (s - 1)) line claims ends cause (k.each (s - 1) line (found (nat_eq s 0) (slice_get a.lines (s - 1)) line at)))
 work_counts server a s (Claim index) won claims ends (Some line) sound at cause k =
     subst (λ o. Counts (set a.lines (s - 1) (line_after (of_shard.Claim index won) line)) (claimed_at s index won o ++ claims) ends) (sym at)
-    (subst (λ n. Counts (set a.lines (s - 1) (line_after (of_shard.Claim index won) line)) (claimed_with n index won line.shard.hand (candidate_of line.shard line.shard.hand index) ++ claims) ends) (one_up s (slice_get a.lines (s - 1)) line at)
+    (subst (λ n. Counts (set a.lines (s - 1) (line_after (of_shard.Claim index won) line)) (claimed_with n index won line.shard.clients line.shard.hand (candidate_of line.shard line.shard.hand index) ++ claims) ends) (one_up s (slice_get a.lines (s - 1)) line at)
     (claim_case a.race.issued (s - 1) index won a.lines line claims ends (found (nat_eq s 0) (slice_get a.lines (s - 1)) line at) (line_sound server a sound s line at) (map_none Shard (shard_refusal line.shard (of_shard.Claim index won)) cause) k))
 work_counts server a s End won claims ends (Some line) sound at cause k =
     subst (λ o. Counts (set a.lines (s - 1) (line_after of_shard.End line)) claims (ended_at s o ++ ends)) (sym at)

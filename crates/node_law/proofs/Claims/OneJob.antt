@@ -20,8 +20,8 @@ use Rattle.shard_core.specs.ShardEvents as of_shard
 use Rattle.shard_core.specs.Shards as shards
 use Rattle.shard_core.specs.ShardSteps.{sub_called, new_sub, after_subscribe, ended_now, after_unsubscribe, answer_fits, done_with, shard_after}
 use Rattle.node_law.specs.AsLaw.{jobs_by, body_jobs}
-use Rattle.node_law.specs.Events.{ConnEvent, Subscribe, Unsubscribe, Reply, Shut, Detach, Take, ShardWork, Attach, Begin, Claim, End, DropJob, DrainShard, OfConn, AtShard, Publish, Collect, Drain, Dial, Accept, CutSession, TakeFrames, NodeEvent, Own, Receive, OnInfo, OnConnect}
-use Rattle.node_law.specs.OneServer.{Claimed, claimed_at, claimed_with, work_claims, claims_by, claims_of, Ended, ended_with, ended_at, work_ends, ends_by, ends_of, jobs_of, HasOneJob}
+use Rattle.node_law.specs.Events.{ConnEvent, Subscribe, Unsubscribe, Reply, Shut, SetHeaders, Detach, Take, ShardWork, Attach, Begin, Claim, End, DropJob, DrainShard, OfConn, AtShard, Publish, Collect, Drain, Dial, Accept, CutSession, TakeFrames, NodeEvent, Own, Receive, OnInfo, OnConnect}
+use Rattle.node_law.specs.OneServer.{Claimed, claimed_at, claimed_with, option_for, work_claims, claims_by, claims_of, Ended, ended_with, ended_at, work_ends, ends_by, ends_of, jobs_of, HasOneJob}
 use Rattle.node_law.specs.Runs.{Done, Ran}
 use Rattle.node_law.specs.Sound.{SoundNode}
 use Rattle.node_law.specs.State.{ShardWithJobs, Node, lines_from}
@@ -53,6 +53,7 @@ conn_keeps s conn (Unsubscribe sid max) = go (sub_called conn sid s.subs)
 conn_keeps s conn (Reply frame) = either s _ _ (answer_fits s conn _) refl refl
 conn_keeps s conn (Shut text) = refl
 conn_keeps s conn Detach = refl
+conn_keeps s conn (SetHeaders on) = refl
 conn_keeps s conn (Take count) = refl
 
 claim_keeps : (s : shards.State) (hand : Option Job) (u : Option Subscription) (won : Bool) → KeepsHand s (after_claim s hand u won)
@@ -92,6 +93,7 @@ conn_known jobs conn e line k = record { hand = λ job f. k.hand job (sym (conn_
     same (Reply frame) = refl
     same (Shut text) = refl
     same Detach = refl
+    same (SetHeaders on) = refl
     same (Take count) = refl
 
 work_known : (jobs : List Job) (work : ShardWork) (won : Bool) (line : ShardWithJobs) → Known jobs line → Known jobs (line_after_if (work_event work won line) line)
@@ -134,9 +136,9 @@ more_claims : (s index : ℕ) (won : Bool) (jobs : List Job) (claims : List Clai
 more_claims s index won jobs claims None known k = k
 more_claims s index won jobs claims (Some line) known k = go line.shard.hand (candidate_of line.shard line.shard.hand index) refl
   where
-    go : (hand : Option Job) (u : Option Subscription) → line.shard.hand ≡ hand → Each (λ x. In x.job jobs) (claimed_with s index won hand u ++ claims)
+    go : (hand : Option Job) (u : Option Subscription) → line.shard.hand ≡ hand → Each (λ x. In x.job jobs) (claimed_with s index won line.shard.clients hand u ++ claims)
     go None u is = k
-    go (Some job) u is = λ x i. ⊎_elim (λ (e : x ≡ record { shard = s; job = job; index = index; candidate = u; won = won }). subst (λ (y : Claimed). In y.job jobs) (sym e) ((known line refl).hand job is)) (λ (j : In x claims). k x j) i
+    go (Some job) u is = λ x i. ⊎_elim (λ (e : x ≡ record { shard = s; job = job; index = index; candidate = u; headers = option_for line.shard.clients u; won = won }). subst (λ (y : Claimed). In y.job jobs) (sym e) ((known line refl).hand job is)) (λ (j : In x claims). k x j) i
 
 more_ended : (s : ℕ) (jobs : List Job) (ends : List Ended) (o : Option ShardWithJobs) → ((line : ShardWithJobs) → o ≡ Some line → Known jobs line) → Each (λ x. In x.job jobs) ends → Each (λ x. In x.job jobs) (ended_at s o ++ ends)
 more_ended s jobs ends None known k = k

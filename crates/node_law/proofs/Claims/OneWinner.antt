@@ -20,7 +20,7 @@ use Rattle.node_law.specs.Events.{ShardWork, Attach, Begin, Claim, End, DropJob,
 use Rattle.node_law.specs.Steps.{shard_line, ClaimRace, WorkRace, BodyRace, NodeRace, node_after}
 use Rattle.node_law.specs.Sound.{SoundNode}
 use Rattle.node_law.specs.Runs.{Done, Ran}
-use Rattle.node_law.specs.OneServer.{Claimed, claims_by, claims_of, work_claims, claimed_at, claimed_with, is_tried, is_win, HasOneWinner}
+use Rattle.node_law.specs.OneServer.{Claimed, claims_by, claims_of, work_claims, claimed_at, claimed_with, option_for, is_tried, is_win, HasOneWinner}
 use Rattle.node_law.proofs.Moves.LineEvents.{found}
 use Rattle.node_law.proofs.Runs.Sound.{run_sound}
 use Rattle.node_law.proofs.Claims.Winners.{races_follow_the_law}
@@ -50,12 +50,12 @@ same_says old new claims e w = subst (λ x. Winners (race_of x) claims) (sym e) 
 
 -- ---- one Claim
 
-none_claimed : (race : Race) (s index : ℕ) (won : Bool) (job : Job) (claims : List Claimed) → Winners race claims → Winners race (record { shard = s; job = job; index = index; candidate = None; won = won } ∷ claims)
-none_claimed race s index true job claims w = record { one = w.one; says = w.says }
-none_claimed race s index false job claims w = record { one = w.one; says = w.says }
+none_claimed : (race : Race) (s index : ℕ) (headers won : Bool) (job : Job) (claims : List Claimed) → Winners race claims → Winners race (record { shard = s; job = job; index = index; candidate = None; headers = headers; won = won } ∷ claims)
+none_claimed race s index headers true job claims w = record { one = w.one; says = w.says }
+none_claimed race s index headers false job claims w = record { one = w.one; says = w.says }
 
-lost : (old new : Race) (s index : ℕ) (job : Job) (u : Subscription) (claims : List Claimed) → old.issued < job.turn + WINDOW → Decides old job.turn index false new → Winners old claims → Winners new (record { shard = s; job = job; index = index; candidate = Some u; won = false } ∷ claims)
-lost old new s index job u claims near d w = record {
+lost : (old new : Race) (s index : ℕ) (headers : Bool) (job : Job) (u : Subscription) (claims : List Claimed) → old.issued < job.turn + WINDOW → Decides old job.turn index false new → Winners old claims → Winners new (record { shard = s; job = job; index = index; candidate = Some u; headers = headers; won = false } ∷ claims)
+lost old new s index headers job u claims near d w = record {
   one = λ t i. w.one t i ∙ ap (λ b. cond b 1 0) (sym (tried t i));
   says = λ t i lt. let g = keeps_says old new claims d.1 w in ((λ x. tried t i ∙ (g.says t i lt).0 x), (λ x. (g.says t i lt).1 (sym (tried t i) ∙ x)));
 }
@@ -70,8 +70,8 @@ lost old new s index job u claims near d w = record {
         go true e = let p = and_true (nat_eq job.turn t) (nat_eq index i) e in sym (subst (λ x. list_any (is_tried t x) claims ≡ true) (eq_true index i p.1) (subst (λ x. list_any (is_tried x index) claims ≡ true) (eq_true job.turn t p.0) was))
         go false e = refl
 
-won : (old new : Race) (s index : ℕ) (job : Job) (u : Subscription) (claims : List Claimed) → old.issued < job.turn + WINDOW → Decides old job.turn index true new → Winners old claims → Winners new (record { shard = s; job = job; index = index; candidate = Some u; won = true } ∷ claims)
-won old new s index job u claims near d w = record {
+won : (old new : Race) (s index : ℕ) (headers : Bool) (job : Job) (u : Subscription) (claims : List Claimed) → old.issued < job.turn + WINDOW → Decides old job.turn index true new → Winners old claims → Winners new (record { shard = s; job = job; index = index; candidate = Some u; headers = headers; won = true } ∷ claims)
+won old new s index headers job u claims near d w = record {
   one = λ t i. first t i (nat_eq job.turn t && nat_eq index i) refl;
   says = λ t i lt. ((λ x. there t i lt (nat_eq job.turn t && nat_eq index i) refl x), (λ x. back t i lt (nat_eq job.turn t && nat_eq index i) refl x));
 }
@@ -83,7 +83,7 @@ won old new s index job u claims near d w = record {
     here : (t i : ℕ) → (nat_eq job.turn t && nat_eq index i) ≡ true → (t ≡ job.turn) × (i ≡ index)
     here t i e = let p = and_true (nat_eq job.turn t) (nat_eq index i) e in (sym (eq_true job.turn t p.0), sym (eq_true index i p.1))
 
-    first : (t i : ℕ) (b : Bool) → (nat_eq job.turn t && nat_eq index i) ≡ b → length (cond b (record { shard = s; job = job; index = index; candidate = Some u; won = true } ∷ filter (is_win t i) claims) (filter (is_win t i) claims)) ≡ cond (b || list_any (is_tried t i) claims) 1 0
+    first : (t i : ℕ) (b : Bool) → (nat_eq job.turn t && nat_eq index i) ≡ b → length (cond b (record { shard = s; job = job; index = index; candidate = Some u; headers = headers; won = true } ∷ filter (is_win t i) claims) (filter (is_win t i) claims)) ≡ cond (b || list_any (is_tried t i) claims) 1 0
     first t i true e =
         let at = here t i e in
         ap suc (w.one t i ∙ ap (λ x. cond x 1 0) ((λ k. list_any (is_tried (at.0 k) (at.1 k)) claims) ∙ was_not (list_any (is_tried job.turn index) claims) refl))
@@ -109,11 +109,11 @@ claim_case s index b old new claims (Some line) sound is w = go line.shard.hand 
     near : SoundLine WINDOW old.issued line.shard line.waiting → (job : Job) → line.shard.hand ≡ Some job → old.issued < job.turn + WINDOW
     near so job e = let h = so.hand job e in let r = so.room in omega arith
 
-    go : (hand : Option Job) (u : Option Subscription) (b : Bool) → ((job : Job) → hand ≡ Some job → old.issued < job.turn + WINDOW) → ClaimRace old s index hand u b new → Winners (race_of new) (claimed_with s index b hand u ++ claims)
+    go : (hand : Option Job) (u : Option Subscription) (b : Bool) → ((job : Job) → hand ≡ Some job → old.issued < job.turn + WINDOW) → ClaimRace old s index hand u b new → Winners (race_of new) (claimed_with s index b line.shard.clients hand u ++ claims)
     go None u b lt k = same_says old new claims k w
-    go (Some job) None b lt k = none_claimed (race_of new) s index b job claims (same_says old new claims k w)
-    go (Some job) (Some u) true lt k = won (race_of old) (race_of new) s index job u claims (lt job refl) (races_follow_the_law.claims old s job.turn index true new k) w
-    go (Some job) (Some u) false lt k = lost (race_of old) (race_of new) s index job u claims (lt job refl) (races_follow_the_law.claims old s job.turn index false new k) w
+    go (Some job) None b lt k = none_claimed (race_of new) s index (option_for line.shard.clients None) b job claims (same_says old new claims k w)
+    go (Some job) (Some u) true lt k = won (race_of old) (race_of new) s index (option_for line.shard.clients (Some u)) job u claims (lt job refl) (races_follow_the_law.claims old s job.turn index true new k) w
+    go (Some job) (Some u) false lt k = lost (race_of old) (race_of new) s index (option_for line.shard.clients (Some u)) job u claims (lt job refl) (races_follow_the_law.claims old s job.turn index false new k) w
 
 pub line_sound : (server : ServerIdentity) (a : Node) → SoundNode server a → (shard : ℕ) (line : ShardWithJobs) → shard_line a shard ≡ Some line → SoundLine WINDOW a.race.issued line.shard line.waiting
 line_sound server a sound shard line e = (sound.lines (shard - 1) line (found (nat_eq shard 0) (slice_get a.lines (shard - 1)) line e)).sound
@@ -181,7 +181,7 @@ claim_below : (s index : ℕ) (b : Bool) (issued : ℕ) (claims : List Claimed) 
 claim_below s index b issued claims None sound below = below
 claim_below s index b issued claims (Some line) sound below = go line.shard.hand (candidate_of line.shard line.shard.hand index) (hand_le issued line (sound line refl))
   where
-    go : (hand : Option Job) (u : Option Subscription) → ((job : Job) → hand ≡ Some job → job.turn ≤ issued) → Below issued (claimed_with s index b hand u ++ claims)
+    go : (hand : Option Job) (u : Option Subscription) → ((job : Job) → hand ≡ Some job → job.turn ≤ issued) → Below issued (claimed_with s index b line.shard.clients hand u ++ claims)
     go None u le = below
     go (Some job) None le = below
     go (Some job) (Some u) le = λ t i e. by t i (nat_eq job.turn t && nat_eq index i) refl e

@@ -18,14 +18,14 @@ use Rattle.shard_core.specs.declared.calls.Placed.{Placed}
 use Rattle.shard_core.specs.Shards as shards
 use Rattle.shard_core.specs.AsLaw.{job_by}
 use Rattle.shard_core.specs.Lines.{first_of}
-use Rattle.shard_core.specs.Owed.{whole_walk, slow_consumer, candidate_of, candidate_named, placed_for, mode_of}
+use Rattle.shard_core.specs.Owed.{whole_walk, slow_consumer, candidate_of, candidate_named, owed_placed, mode_of}
 use Rattle.shard_core.specs.Puts.{put_line, put_by, put_by_claim}
 use Rattle.shard_core.specs.ShardEvents as of_shard
 use Rattle.shard_core.proofs.Steps.LawEvents.{candidate_is}
 use Rattle.node_law.specs.AsLaw.{part_if, part_at, part_of}
 use Rattle.node_law.specs.Events as of_node
 use Rattle.node_law.specs.Events.{ConnEvent, ShardWork, NodeEvent, Own, Receive, OnInfo, OnConnect}
-use Rattle.node_law.specs.OneServer.{Claimed, claims_of, claims_by, work_claims, claimed_at, claimed_with, is_of_pair, is_tried, is_win, placed_with}
+use Rattle.node_law.specs.OneServer.{Claimed, claims_of, claims_by, work_claims, claimed_at, claimed_with, option_for, is_of_pair, is_tried, is_win, placed_with}
 use Rattle.node_law.specs.PlacedOnce.{placed_of, all_placed, PlacesOnce, mode_name, is_for, is_of_turn, put_for, entries_put, StandsAt, PutsOnce}
 use Rattle.node_law.specs.Runs.{Done}
 use Rattle.node_law.specs.State.{ShardWithJobs, Node}
@@ -37,7 +37,7 @@ use Rattle.node_law.proofs.Claims.OneJob.{turns_have_one_job}
 places_one : (turn index : ℕ) (x : Claimed) → length (placed_of turn index x) ≡ cond (is_win turn index x) 1 0
 places_one turn index x = go x.candidate x.won (is_of_pair turn index x)
   where
-    go : (candidate : Option Subscription) (won ours : Bool) → length (cond ours (placed_with x.shard x.job candidate won) []) ≡ cond (won && (is_some candidate && ours)) 1 0
+    go : (candidate : Option Subscription) (won ours : Bool) → length (cond ours (placed_with x.shard x.headers x.job candidate won) []) ≡ cond (won && (is_some candidate && ours)) 1 0
     go None true true = refl
     go None true false = refl
     go None false true = refl
@@ -65,9 +65,9 @@ no_line_for : (name line : List ℕ) (conns : List ℕ) → filter (is_for name)
 no_line_for name line [] = refl
 no_line_for name line (conn ∷ conns) = no_line_for name line conns
 
-no_plain_for : (name : List ℕ) (shard : ℕ) (job : Job) (us : List Subscription) → filter (is_for name) (map (placed_for shard job None) us) ≡ []
-no_plain_for name shard job [] = refl
-no_plain_for name shard job (u ∷ us) = no_plain_for name shard job us
+no_plain_for : (name : List ℕ) (shard : ℕ) (clients : List shards.Client) (job : Job) (us : List Subscription) → filter (is_for name) (map (owed_placed shard clients job None) us) ≡ []
+no_plain_for name shard clients job [] = refl
+no_plain_for name shard clients job (u ∷ us) = no_plain_for name shard clients job us
 
 abbrev PutAt : ℕ → List ℕ → shards.State → of_shard.Event → List Placed
 PutAt turn name s e = cond (is_of_turn turn (job_by s e)) (filter (is_for name) (put_by s e)) []
@@ -84,13 +84,14 @@ none_else turn name s (of_shard.Unsubscribe conn sid max) other = refl
 none_else turn name s (of_shard.Reply conn frame) other = refl
 none_else turn name s (of_shard.Shut conn text) other = refl
 none_else turn name s (of_shard.Detach conn) other = refl
+none_else turn name s (of_shard.SetHeaders conn on) other = refl
 none_else turn name s (of_shard.Take conn count) other = refl
 none_else turn name s (of_shard.Begin job) other = go (nat_eq job.turn turn)
   where
     none : filter (is_for name) (put_by s (of_shard.Begin job)) ≡ []
     none =
-        filter_append (is_for name) (map (placed_for s.shard job None) (whole_walk s job).given) (map (put_line slow_consumer) (whole_walk s job).shut)
-        ∙ ap (λ t. t ++ filter (is_for name) (map (put_line slow_consumer) (whole_walk s job).shut)) (no_plain_for name s.shard job (whole_walk s job).given)
+        filter_append (is_for name) (map (owed_placed s.shard s.clients job None) (whole_walk s job).given) (map (put_line slow_consumer) (whole_walk s job).shut)
+        ∙ ap (λ t. t ++ filter (is_for name) (map (put_line slow_consumer) (whole_walk s job).shut)) (no_plain_for name s.shard s.clients job (whole_walk s job).given)
         ∙ no_line_for name slow_consumer (whole_walk s job).shut
 
     go : (b : Bool) → cond b (filter (is_for name) (put_by s (of_shard.Begin job))) [] ≡ []
@@ -107,34 +108,34 @@ abbrev Stands : ℕ → List ℕ → ℕ → Claimed → Type 0
 Stands turn name index x = x.job.turn ≡ turn → StandsAt name index x.job
 
 -- what a Claim puts for the name, its index places
-claim_less : (turn index : ℕ) (name : List ℕ) (shard k : ℕ) (won : Bool) (s : shards.State) (hand : Option Job) (u : Option Subscription) → candidate_of s hand k ≡ u → Each (Stands turn name index) (claimed_with shard k won hand u)
-    → length (cond (is_of_turn turn hand) (filter (is_for name) (put_by_claim s hand u won)) []) ≤ length (flat_map (placed_of turn index) (claimed_with shard k won hand u))
+claim_less : (turn index : ℕ) (name : List ℕ) (shard k : ℕ) (won : Bool) (s : shards.State) (hand : Option Job) (u : Option Subscription) → candidate_of s hand k ≡ u → Each (Stands turn name index) (claimed_with shard k won s.clients hand u)
+    → length (cond (is_of_turn turn hand) (filter (is_for name) (put_by_claim s hand u won)) []) ≤ length (flat_map (placed_of turn index) (claimed_with shard k won s.clients hand u))
 claim_less turn index name shard k won s None u is stands = omega arith
 claim_less turn index name shard k won s (Some job) None is stands = go (nat_eq job.turn turn)
   where
-    go : (b : Bool) → length (cond {A = List Placed} b [] []) ≤ length (flat_map (placed_of turn index) (record { shard = shard; job = job; index = k; candidate = None; won = won } ∷ []))
+    go : (b : Bool) → length (cond {A = List Placed} b [] []) ≤ length (flat_map (placed_of turn index) (record { shard = shard; job = job; index = k; candidate = None; headers = option_for s.clients None; won = won } ∷ []))
     go true = omega arith
     go false = omega arith
 claim_less turn index name shard k false s (Some job) (Some u) is stands = go (nat_eq job.turn turn)
   where
-    go : (b : Bool) → length (cond {A = List Placed} b [] []) ≤ length (flat_map (placed_of turn index) (record { shard = shard; job = job; index = k; candidate = Some u; won = false } ∷ []))
+    go : (b : Bool) → length (cond {A = List Placed} b [] []) ≤ length (flat_map (placed_of turn index) (record { shard = shard; job = job; index = k; candidate = Some u; headers = option_for s.clients (Some u); won = false } ∷ []))
     go true = omega arith
     go false = omega arith
-claim_less turn index name shard k true s (Some job) (Some u) is stands = go (nat_eq job.turn turn) (is_for name (placed_for s.shard job u.key.queue u)) refl refl
+claim_less turn index name shard k true s (Some job) (Some u) is stands = go (nat_eq job.turn turn) (is_for name (owed_placed s.shard s.clients job u.key.queue u)) refl refl
   where
-    named_by : (o : Option (List ℕ)) → slice_get job.queues k ≡ o → candidate_named s job o ≡ Some u → is_for name (placed_for s.shard job u.key.queue u) ≡ true → slice_get job.queues k ≡ Some name
+    named_by : (o : Option (List ℕ)) → slice_get job.queues k ≡ o → candidate_named s job o ≡ Some u → is_for name (owed_placed s.shard s.clients job u.key.queue u) ≡ true → slice_get job.queues k ≡ Some name
     named_by None at f g = absurd (none-some u f)
     named_by (Some other) at f g =
         let q = (candidate_is s job other u f).1 in
         at ∙ ap Some (same_bytes other name (sym (ap (λ o. is_named name (mode_name (mode_of o))) q) ∙ g))
 
-    go : (b c : Bool) → nat_eq job.turn turn ≡ b → is_for name (placed_for s.shard job u.key.queue u) ≡ c
-        → length (cond b (cond c (placed_for s.shard job u.key.queue u ∷ []) []) []) ≤ length (cond (b && nat_eq k index) (placed_for shard job u.key.queue u ∷ []) [] ++ [])
+    go : (b c : Bool) → nat_eq job.turn turn ≡ b → is_for name (owed_placed s.shard s.clients job u.key.queue u) ≡ c
+        → length (cond b (cond c (owed_placed s.shard s.clients job u.key.queue u ∷ []) []) []) ≤ length (cond (b && nat_eq k index) (owed_placed shard s.clients job u.key.queue u ∷ []) [] ++ [])
     go false c e f = omega arith
     go true false e f = omega arith
     go true true e f =
         let here = stands _ (inl refl) (eq_true job.turn turn e) k (named_by (slice_get job.queues k) refl is f) in
-        subst (λ b. 1 ≤ length (cond b (placed_for shard job u.key.queue u ∷ []) [] ++ [])) (sym (true_eq k index here)) (omega arith)
+        subst (λ b. 1 ≤ length (cond b (owed_placed shard s.clients job u.key.queue u ∷ []) [] ++ [])) (sym (true_eq k index here)) (omega arith)
 
 none_less : (xs : List Placed) (n : ℕ) → xs ≡ [] → length xs ≤ n
 none_less xs n e = subst (λ t. length t ≤ n) (sym e) (omega arith)
@@ -145,6 +146,7 @@ not_claimed conn (of_node.Unsubscribe sid max) = refl
 not_claimed conn (of_node.Reply frame) = refl
 not_claimed conn (of_node.Shut text) = refl
 not_claimed conn of_node.Detach = refl
+not_claimed conn (of_node.SetHeaders on) = refl
 not_claimed conn (of_node.Take count) = refl
 
 module _ (turn index : ℕ) (name : List ℕ) where

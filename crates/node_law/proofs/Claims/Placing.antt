@@ -23,10 +23,10 @@ use Rattle.node_law.specs.State.{ShardWithJobs, Node}
 use Rattle.node_law.specs.Events.{Attach, Begin, Claim, End, DropJob, DrainShard, OfConn, AtShard, Publish, Collect, Drain, Dial, Accept, CutSession, TakeFrames, NodeEvent, Own, Receive, OnInfo, OnConnect}
 use Rattle.node_law.specs.Steps.{shard_line, work_refusal, line_after, set_line, node_refusal, node_after}
 use Rattle.node_law.specs.Sound.{SoundNode}
-use Rattle.node_law.specs.OneServer.{Claimed, claims_by, claimed_at, claimed_with, placed_with, placed_by, ClaimsPlace}
+use Rattle.node_law.specs.OneServer.{Claimed, claims_by, claimed_at, claimed_with, option_for, placed_with, placed_by, ClaimsPlace}
 use Rattle.node_law.proofs.Moves.LineEvents.{found}
 
-claim_placed : (s : shards.State) (job : Job) (u : Option Subscription) (won : Bool) → put_by_claim s (Some job) u won ≡ placed_with s.shard job u won
+claim_placed : (s : shards.State) (job : Job) (u : Option Subscription) (won : Bool) → put_by_claim s (Some job) u won ≡ placed_with s.shard (option_for s.clients u) job u won
 claim_placed s job None won = refl
 claim_placed s job (Some u) won = refl
 
@@ -42,26 +42,26 @@ abbrev Placed : ℕ → List ShardWithJobs → List ShardWithJobs → Claimed �
 Placed s old new x = (place conn : ℕ) → waits_in conn (slice_get new place) ≡ waits_in conn (slice_get old place) ++ placed_by x place conn
 
 claim_puts : (s index : ℕ) (won : Bool) (lines : List ShardWithJobs) (line : ShardWithJobs) → slice_get lines (s - 1) ≡ Some line → line.shard.shard ≡ s → shard_refusal line.shard (of_shard.Claim index won) ≡ None
-    → Each (Placed s lines (set lines (s - 1) (line_after (of_shard.Claim index won) line))) (claimed_with s index won line.shard.hand (candidate_of line.shard line.shard.hand index))
+    → Each (Placed s lines (set lines (s - 1) (line_after (of_shard.Claim index won) line))) (claimed_with s index won line.shard.clients line.shard.hand (candidate_of line.shard line.shard.hand index))
 claim_puts s index won lines line at number cause = go line.shard.hand (candidate_of line.shard line.shard.hand index) refl refl
   where
     new : List ShardWithJobs
     new = set lines (s - 1) (line_after (of_shard.Claim index won) line)
 
-    go : (hand : Option Job) (u : Option Subscription) → line.shard.hand ≡ hand → candidate_of line.shard line.shard.hand index ≡ u → Each (Placed s lines new) (claimed_with s index won hand u)
+    go : (hand : Option Job) (u : Option Subscription) → line.shard.hand ≡ hand → candidate_of line.shard line.shard.hand index ≡ u → Each (Placed s lines new) (claimed_with s index won line.shard.clients hand u)
     go None u h is = λ x i. absurd i
-    go (Some job) u h is = λ x i. ⊎_elim (λ (e : x ≡ record { shard = s; job = job; index = index; candidate = u; won = won }). subst (Placed s lines new) (sym e) (λ place conn. by place conn (nat_eq (s - 1) place) refl)) (λ (z : ⊥). absurd z) i
+    go (Some job) u h is = λ x i. ⊎_elim (λ (e : x ≡ record { shard = s; job = job; index = index; candidate = u; headers = option_for line.shard.clients u; won = won }). subst (Placed s lines new) (sym e) (λ place conn. by place conn (nat_eq (s - 1) place) refl)) (λ (z : ⊥). absurd z) i
       where
-        puts : put_by_claim line.shard line.shard.hand (candidate_of line.shard line.shard.hand index) won ≡ placed_with s job u won
-        puts = (λ z. put_by_claim line.shard (h z) (is z) won) ∙ claim_placed line.shard job u won ∙ ap (λ n. placed_with n job u won) number
+        puts : put_by_claim line.shard line.shard.hand (candidate_of line.shard line.shard.hand index) won ≡ placed_with s (option_for line.shard.clients u) job u won
+        puts = (λ z. put_by_claim line.shard (h z) (is z) won) ∙ claim_placed line.shard job u won ∙ ap (λ n. placed_with n (option_for line.shard.clients u) job u won) number
 
-        by : (place conn : ℕ) (b : Bool) → nat_eq (s - 1) place ≡ b → waits_in conn (slice_get new place) ≡ waits_in conn (slice_get lines place) ++ cond b (entries_for conn (placed_with s job u won)) []
+        by : (place conn : ℕ) (b : Bool) → nat_eq (s - 1) place ≡ b → waits_in conn (slice_get new place) ≡ waits_in conn (slice_get lines place) ++ cond b (entries_for conn (placed_with s (option_for line.shard.clients u) job u won)) []
         by place conn true f =
-            subst (λ m. waits_in conn (slice_get new m) ≡ waits_in conn (slice_get lines m) ++ entries_for conn (placed_with s job u won)) (eq_true (s - 1) place f)
+            subst (λ m. waits_in conn (slice_get new m) ≡ waits_in conn (slice_get lines m) ++ entries_for conn (placed_with s (option_for line.shard.clients u) job u won)) (eq_true (s - 1) place f)
             (ap (waits_in conn) (get_set_here lines (s - 1) line (line_after (of_shard.Claim index won) line) at)
             ∙ (are_put line.shard (of_shard.Claim index won) conn).entries cause
             ∙ ap (λ t. waits_for conn line.shard.clients ++ entries_for conn t) puts
-            ∙ ap (λ o. waits_in conn o ++ entries_for conn (placed_with s job u won)) (sym at))
+            ∙ ap (λ o. waits_in conn o ++ entries_for conn (placed_with s (option_for line.shard.clients u) job u won)) (sym at))
         by place conn false f =
             ap (waits_in conn) (get_set_there lines (s - 1) place (line_after (of_shard.Claim index won) line) (λ g. eq_false (s - 1) place f (sym g)))
             ∙ sym (append_nil (waits_in conn (slice_get lines place)))

@@ -25,7 +25,7 @@ use Rattle.shard_core.specs.ShardSteps.{sub_called, new_sub, after_subscribe, en
 use Rattle.shard_core.specs.declared.faults.ShardFault.TheVariants.{JobInHand, WrongTurn, BadIndex}
 use Rattle.node_law.specs.declared.faults.NodeFault.TheVariants.{Shard}
 use Rattle.node_law.specs.State.{ShardWithJobs, Node}
-use Rattle.node_law.specs.Events.{ConnEvent, Subscribe, Unsubscribe, Reply, Shut, Detach, Take, ShardWork, Attach, Begin, Claim, End, DropJob, DrainShard, OfConn, AtShard, Publish, Collect, Drain, Dial, Accept, CutSession, TakeFrames, NodeEvent, Own, Receive, OnInfo, OnConnect}
+use Rattle.node_law.specs.Events.{ConnEvent, Subscribe, Unsubscribe, Reply, Shut, SetHeaders, Detach, Take, ShardWork, Attach, Begin, Claim, End, DropJob, DrainShard, OfConn, AtShard, Publish, Collect, Drain, Dial, Accept, CutSession, TakeFrames, NodeEvent, Own, Receive, OnInfo, OnConnect}
 use Rattle.node_law.specs.Steps.{conn_place, conn_line, shard_line, conn_event, begin_of, drop_of, work_event, conn_refusal, event_refusal, work_refusal, collect_refusal_at, ClaimRace, WorkRace, NodeRace, node_refusal, node_after, line_after, line_after_if, set_line, line_with_job, lines_after_body, BodyRace}
 use Rattle.node_law.specs.Sound.{SoundNode, IsRaced, tried_of}
 use Rattle.node_law.proofs.Moves.LineEvents.{found, same_refusal}
@@ -54,6 +54,7 @@ conn_tracks conn (Unsubscribe sid max) s = go (sub_called conn sid s.subs)
 conn_tracks conn (Reply frame) s = either s _ _ (answer_fits s conn _) (record { finished = refl; hand = refl; next = refl }) (record { finished = refl; hand = refl; next = refl })
 conn_tracks conn (Shut text) s = record { finished = refl; hand = refl; next = refl }
 conn_tracks conn Detach s = record { finished = refl; hand = refl; next = refl }
+conn_tracks conn (SetHeaders on) s = record { finished = refl; hand = refl; next = refl }
 conn_tracks conn (Take count) s = record { finished = refl; hand = refl; next = refl }
 
 -- ---- one line is written

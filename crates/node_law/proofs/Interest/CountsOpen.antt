@@ -29,8 +29,8 @@ use Rattle.outbox.specs.Views.{with_entry, with_last, reply_entry}
 use Rattle.shard_core.specs.declared.faults.ShardFault.TheVariants.{NoConn, Draining, TooManySubs, Spent as Used}
 use Rattle.shard_core.specs.Shards.{State, is_open, clients_with_change}
 use Rattle.shard_core.specs.Closings.{serials_of, left_of, without_subs}
-use Rattle.shard_core.specs.Owed.{Walk, whole_walk, walk_with_entry, due_entry, first_step, slow_consumer, after_walk, sub_with_count, candidate_of, after_claim, after_try, reaches}
-use Rattle.shard_core.specs.ShardEvents.{Event, Attach, Subscribe, Unsubscribe, Reply, Shut, Detach, Take, Begin, Claim, End, DropJob, Drain, Collect}
+use Rattle.shard_core.specs.Owed.{Walk, whole_walk, walk_with_entry, owed_entry, first_step, slow_consumer, after_walk, sub_with_count, candidate_of, after_claim, after_try, reaches}
+use Rattle.shard_core.specs.ShardEvents.{Event, Attach, Subscribe, Unsubscribe, Reply, Shut, SetHeaders, Detach, Take, Begin, Claim, End, DropJob, Drain, Collect}
 use Rattle.shard_core.specs.ShardSteps.{sub_called, is_full, new_sub, after_subscribe, ended_now, after_unsubscribe, answer_fits, done_with, shard_refusal, shard_after}
 use Rattle.shard_core.specs.Lines.{first_of}
 use Rattle.route_values.specs.declared.bodies.Body.{Body}
@@ -129,6 +129,7 @@ is_collect (Unsubscribe conn sid max) = false
 is_collect (Reply conn frame) = false
 is_collect (Shut conn text) = false
 is_collect (Detach conn) = false
+is_collect (SetHeaders conn on) = false
 is_collect (Take conn count) = false
 is_collect (Begin job) = false
 is_collect (Claim index won) = false
@@ -170,6 +171,7 @@ shard_told ks s (Reply conn frame) apart cause told_not t = go (answer_fits s co
     go false = ended_told _ _ ks (record s { clients = _ }) (left_of conn [] s.subs) (left_distinct conn [] s.subs apart) (record { base = t.base; fits = t.fits; replays = t.replays })
 shard_told ks s (Shut conn text) apart cause told_not t = ended_told _ _ ks (record s { clients = _ }) (left_of conn [] s.subs) (left_distinct conn [] s.subs apart) (record { base = t.base; fits = t.fits; replays = t.replays })
 shard_told ks s (Detach conn) apart cause told_not t = ended_told _ _ ks (record s { clients = _ }) (left_of conn [] s.subs) (left_distinct conn [] s.subs apart) (record { base = t.base; fits = t.fits; replays = t.replays })
+shard_told ks s (SetHeaders conn on) apart cause told_not t = record { base = t.base; fits = t.fits; replays = t.replays }
 shard_told ks s (Take conn count) apart cause told_not t = record { base = t.base; fits = t.fits; replays = t.replays }
 shard_told ks s (Begin job) apart cause told_not t = walk_told _ _ ks (record s { hand = Some job; next_index = 0 }) (whole_walk s job) (walked_distinct s job apart) (record { base = t.base; fits = t.fits; replays = t.replays })
 shard_told ks s (Claim index won) apart cause told_not t = go s.hand (candidate_of s s.hand index) won
@@ -182,7 +184,7 @@ shard_told ks s (Claim index won) apart cause told_not t = go s.hand (candidate_
     go None u b = t
     go (Some job) None b = record { base = t.base; fits = t.fits; replays = t.replays }
     go (Some job) (Some u) false = record { base = t.base; fits = t.fits; replays = t.replays }
-    go (Some job) (Some u) true = walk_told _ _ ks (after_try s) (walk_with_entry (due_entry s.shard job u.key.queue u) u (first_step s.clients)) (ended u (reaches u.max (u.delivered + 1))) (record { base = t.base; fits = t.fits; replays = t.replays })
+    go (Some job) (Some u) true = walk_told _ _ ks (after_try s) (walk_with_entry (owed_entry s.shard s.clients job u.key.queue u) u (first_step s.clients)) (ended u (reaches u.max (u.delivered + 1))) (record { base = t.base; fits = t.fits; replays = t.replays })
 shard_told ks s End apart cause told_not t = done_told _ _ ks s s.hand t
 shard_told ks s (DropJob waiting) apart cause told_not t = done_told _ _ ks s (option_or s.hand waiting) t
 shard_told ks s Drain apart cause told_not t = record { base = t.base; fits = t.fits; replays = t.replays }
@@ -406,6 +408,7 @@ conn_tells_not conn (of_node.Unsubscribe sid max) = refl
 conn_tells_not conn (of_node.Reply frame) = refl
 conn_tells_not conn (of_node.Shut text) = refl
 conn_tells_not conn of_node.Detach = refl
+conn_tells_not conn (of_node.SetHeaders on) = refl
 conn_tells_not conn (of_node.Take count) = refl
 
 work_tells_not : (work : ShardWork) (won : Bool) (line : ShardWithJobs) (e : Event) → work_event work won line ≡ Some e → is_collect e ≡ false

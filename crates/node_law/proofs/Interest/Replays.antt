@@ -14,7 +14,7 @@ use Rattle.sub_table.specs.declared.Subscription.{Subscription}
 use Rattle.subj.specs.declared.keys.Delta.{Delta}
 use Rattle.shard_core.specs.Shards.{State, is_open, client_at, clients_with_change, fits}
 use Rattle.shard_core.specs.Closings.{serials_of, is_left, left_of, closing, closings_of}
-use Rattle.shard_core.specs.Owed.{Walk, walk, whole_walk, is_due, first_step, walk_after_put, walk_with_entry, walk_with_shut, reaches, due_entry, slow_consumer}
+use Rattle.shard_core.specs.Owed.{Walk, walk, whole_walk, is_due, first_step, walk_after_put, walk_with_entry, walk_with_shut, reaches, owed_entry, slow_consumer}
 use Rattle.shard_core.proofs.Clients.Outboxes.{shuts, stays_open, stays_shut}
 use Rattle.node_law.specs.CountsOpen.{keys_of}
 use Rattle.outbox.specs.Views.{with_last}
@@ -155,7 +155,7 @@ same_serial : (us : List Subscription) → Apart us → (u v : Subscription) →
 same_serial us p u v i j e = ⊎_elim (λ (x : u ≡ v). x) (λ (x : (u.serial ≢ v.serial) ⊎ (v.serial ≢ u.serial)). ⊎_elim (λ (y : u.serial ≢ v.serial). absurd (y e)) (λ (y : v.serial ≢ u.serial). absurd (y (sym e))) x) (pairs_cases (λ (u v : Subscription). u.serial ≢ v.serial) us p u v i j)
 
 put_closes : (s : State) (job : Job) (u : Subscription) (due : List Subscription) (w : Walk) → Apart s.subs → In u s.subs → Each (λ v. In v s.subs) due → Each (λ (v : Subscription). u.serial ≢ v.serial) due → Closes s.subs (u ∷ due) w → Closes s.subs due (walk_after_put s job w u)
-put_closes s job u due w apart here those other k = go (is_open u.conn w.clients) (fits (client_at u.conn w.clients) (due_entry s.shard job None u)) (reaches u.max (u.delivered + 1)) refl
+put_closes s job u due w apart here those other k = go (is_open u.conn w.clients) (fits (client_at u.conn w.clients) (owed_entry s.shard s.clients job None u)) (reaches u.max (u.delivered + 1)) refl
   where
     quiet : Closes s.subs due w
     quiet = record { distinct = k.distinct; shut = λ v i e. k.shut v (inr i) e }
@@ -163,8 +163,8 @@ put_closes s job u due w apart here those other k = go (is_open u.conn w.clients
     fresh : is_open u.conn w.clients ≡ true → In u.serial w.ended → ⊥
     fresh open_it i = true≢false (sym open_it ∙ k.shut u (inl refl) i)
 
-    kept : (v : Subscription) → is_open v.conn w.clients ≡ false → is_open v.conn (walk_with_entry (due_entry s.shard job None u) u w).clients ≡ false
-    kept v e = stays_open (due_entry s.shard job None u) v.conn u.conn w.clients ∙ e
+    kept : (v : Subscription) → is_open v.conn w.clients ≡ false → is_open v.conn (walk_with_entry (owed_entry s.shard s.clients job None u) u w).clients ≡ false
+    kept v e = stays_open (owed_entry s.shard s.clients job None u) v.conn u.conn w.clients ∙ e
 
     ended : (b : Bool) → is_open u.conn w.clients ≡ true → Distinct (w.ended ++ cond b (u.serial ∷ []) [])
     ended true e = pairs_append (λ i j. i ≢ j) w.ended (u.serial ∷ []) k.distinct ((λ j i. absurd i), tt) (λ x y i j f. ⊎_elim (λ (g : y ≡ u.serial). fresh e (subst (λ n. In n w.ended) (f ∙ g) i)) (λ (z : ⊥). absurd z) j)
@@ -174,7 +174,7 @@ put_closes s job u due w apart here those other k = go (is_open u.conn w.clients
     later true v i j = ⊎_elim (λ (x : In v.serial w.ended). x) (λ (x : In v.serial (u.serial ∷ [])). ⊎_elim (λ (e : v.serial ≡ u.serial). absurd (other v i (sym e))) (λ (z : ⊥). absurd z) x) (in_append v.serial w.ended (u.serial ∷ []) j)
     later false v i j = subst (In v.serial) (append_nil w.ended) j
 
-    go : (o r m : Bool) → is_open u.conn w.clients ≡ o → Closes s.subs due (cond o (cond r (record w { clients = (walk_with_entry (due_entry s.shard job None u) u w).clients; given = w.given ++ u ∷ []; ended = w.ended ++ cond m (u.serial ∷ []) [] }) (walk_with_shut s.subs u.conn w)) w)
+    go : (o r m : Bool) → is_open u.conn w.clients ≡ o → Closes s.subs due (cond o (cond r (record w { clients = (walk_with_entry (owed_entry s.shard s.clients job None u) u w).clients; given = w.given ++ u ∷ []; ended = w.ended ++ cond m (u.serial ∷ []) [] }) (walk_with_shut s.subs u.conn w)) w)
     go false r m e = quiet
     go true true m e = record { distinct = ended m e; shut = λ v i j. kept v (k.shut v (inr i) (later m v i j)) }
     go true false m e = record {

@@ -10,7 +10,7 @@ use Rattle.sub_table.specs.declared.Subscription.{Subscription}
 use Rattle.shard_core.specs.Shards.{State}
 use Rattle.shard_core.specs.Closings.{serials_of}
 use Rattle.shard_core.specs.Owed.{first_step, is_due, candidate_of}
-use Rattle.shard_core.specs.ShardEvents.{Event, Attach, Subscribe, Unsubscribe, Reply, Shut, Detach, Take, Begin, Claim, End, DropJob, Drain, Collect}
+use Rattle.shard_core.specs.ShardEvents.{Event, Attach, Subscribe, Unsubscribe, Reply, Shut, SetHeaders, Detach, Take, Begin, Claim, End, DropJob, Drain, Collect}
 use Rattle.shard_core.specs.AsLaw.{given_by, given_by_claim}
 use Rattle.shard_core.proofs.Steps.LawEvents.{walk_gives}
 use Rattle.node_law.specs.State.{ShardWithJobs, Node}
@@ -31,6 +31,7 @@ given_apart s (Unsubscribe conn sid max) apart = tt
 given_apart s (Reply conn frame) apart = tt
 given_apart s (Shut conn text) apart = tt
 given_apart s (Detach conn) apart = tt
+given_apart s (SetHeaders conn on) apart = tt
 given_apart s (Take conn count) apart = tt
 given_apart s (Begin job) apart =
     let g = walk_gives s job (filter (is_due job) s.subs) (first_step s.clients) in

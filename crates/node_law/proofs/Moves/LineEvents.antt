@@ -21,7 +21,7 @@ use Rattle.shard_core.proofs.Steps.LawEvents.{shards_follow_the_law}
 use Rattle.node_law.specs.declared.faults.NodeFault.TheVariants.{Shard}
 use Rattle.node_law.specs.Race.{race_of}
 use Rattle.node_law.specs.State.{ShardWithJobs, Node}
-use Rattle.node_law.specs.Events.{ConnEvent, Subscribe, Unsubscribe, Reply, Shut, Detach, Take, ShardWork, Attach, Begin, Claim, End, DropJob, DrainShard}
+use Rattle.node_law.specs.Events.{ConnEvent, Subscribe, Unsubscribe, Reply, Shut, SetHeaders, Detach, Take, ShardWork, Attach, Begin, Claim, End, DropJob, DrainShard}
 use Rattle.node_law.specs.Steps.{conn_place, conn_line, shard_line, conn_event, begin_of, drop_of, work_event, conn_refusal, event_refusal, work_refusal, ClaimRace, WorkRace, line_after, line_after_if, set_line}
 use Rattle.node_law.specs.Sound.{SoundNode}
 use Rattle.node_law.specs.AsLaw.{law_at, part_if, part_at, given_at, placements_at, conn_lives}
@@ -53,6 +53,7 @@ conn_ready conn (Unsubscribe sid max) line race = record { has = tt; moves = sam
 conn_ready conn (Reply frame) line race = record { has = tt; moves = same_race race; issued = refl }
 conn_ready conn (Shut text) line race = record { has = tt; moves = same_race race; issued = refl }
 conn_ready conn Detach line race = record { has = tt; moves = same_race race; issued = refl }
+conn_ready conn (SetHeaders on) line race = record { has = tt; moves = same_race race; issued = refl }
 conn_ready conn (Take count) line race = record { has = tt; moves = same_race race; issued = refl }
 
 -- a look-up that may be refused beforehand

@@ -12,7 +12,7 @@ use Rattle.subj.specs.declared.jobs.Job.{Job}
 use Rattle.shard_core.specs.Shards.{State}
 use Rattle.shard_core.specs.Closings.{serials_of}
 use Rattle.shard_core.specs.Owed.{candidate_of, after_claim, after_put, after_try}
-use Rattle.shard_core.specs.ShardEvents.{Event, Attach, Subscribe, Unsubscribe, Reply, Shut, Detach, Take, Begin, Claim, End, DropJob, Drain, Collect}
+use Rattle.shard_core.specs.ShardEvents.{Event, Attach, Subscribe, Unsubscribe, Reply, Shut, SetHeaders, Detach, Take, Begin, Claim, End, DropJob, Drain, Collect}
 use Rattle.shard_core.specs.ShardSteps.{sub_called, new_sub, after_subscribe, ended_now, after_unsubscribe, answer_fits, done_with, shard_after}
 use Rattle.shard_core.specs.AsLaw.{is_open_serial, opened_by, lives_by}
 
@@ -39,6 +39,7 @@ keeps_number s (Unsubscribe conn sid max) = go (sub_called conn sid s.subs)
 keeps_number s (Reply conn frame) = either s _ _ (answer_fits s conn _) (record { shard = refl; shards = refl }) (record { shard = refl; shards = refl })
 keeps_number s (Shut conn text) = record { shard = refl; shards = refl }
 keeps_number s (Detach conn) = record { shard = refl; shards = refl }
+keeps_number s (SetHeaders conn on) = record { shard = refl; shards = refl }
 keeps_number s (Take conn count) = record { shard = refl; shards = refl }
 keeps_number s (Begin job) = record { shard = refl; shards = refl }
 keeps_number s (Claim index won) = go s.hand (candidate_of s s.hand index)
@@ -83,6 +84,7 @@ lives_open n inc now place s (Unsubscribe conn sid max) = λ life i. absurd i
 lives_open n inc now place s (Reply conn frame) = λ life i. absurd i
 lives_open n inc now place s (Shut conn text) = λ life i. absurd i
 lives_open n inc now place s (Detach conn) = λ life i. absurd i
+lives_open n inc now place s (SetHeaders conn on) = λ life i. absurd i
 lives_open n inc now place s (Take conn count) = λ life i. absurd i
 lives_open n inc now place s (Begin job) = λ life i. absurd i
 lives_open n inc now place s (Claim index won) = λ life i. absurd i

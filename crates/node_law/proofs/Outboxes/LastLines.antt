@@ -11,13 +11,14 @@ use Rattle.client_frames.specs.Frames.{reply_line}
 use Rattle.outbox.specs.Views.{Written, Backlog, with_entry, with_last, without_first, reply_entry}
 use Rattle.subj.specs.declared.jobs.Job.{Job}
 use Rattle.sub_table.specs.declared.Subscription.{Subscription}
-use Rattle.shard_core.specs.Shards.{State, Client, client_at, is_open, takes_events, with_outbox, clients_with_change, without_client, fits, entries_of, waits_for}
-use Rattle.shard_core.specs.Owed.{Walk, walk, whole_walk, is_due, first_step, walk_after_put, walk_with_entry, walk_with_shut, due_entry, placed_for, slow_consumer, candidate_of, candidate_named, after_claim}
+use Rattle.shard_core.specs.Shards.{State, Client, client_at, is_open, takes_events, with_outbox, clients_with_change, clients_with_headers, without_client, fits, entries_of, waits_for}
+use Rattle.shard_core.specs.Owed.{Walk, walk, whole_walk, is_due, first_step, walk_after_put, walk_with_entry, walk_with_shut, owed_entry, owed_placed, slow_consumer, candidate_of, candidate_named, after_claim}
+use Rattle.shard_core.specs.declared.calls.Placed.{Placed}
 use Rattle.shard_core.specs.Puts.{put_line, put_by, put_by_claim, entries_for, kept_of}
-use Rattle.shard_core.specs.ShardEvents.{Event, Attach, Subscribe, Unsubscribe, Reply, Shut, Detach, Take, Begin, Claim, End, DropJob, Drain, Collect}
+use Rattle.shard_core.specs.ShardEvents.{Event, Attach, Subscribe, Unsubscribe, Reply, Shut, SetHeaders, Detach, Take, Begin, Claim, End, DropJob, Drain, Collect}
 use Rattle.shard_core.specs.ShardSteps.{sub_called, new_client, new_sub, after_subscribe, ended_now, after_unsubscribe, answer_fits, was_shut, done_with, shard_refusal, shard_after}
 use Rattle.shard_core.proofs.Steps.LawEvents.{candidate_is}
-use Rattle.shard_core.proofs.Clients.Outboxes.{changed_here, changed_there, gone, stays, entries_append, entries_here, entries_there, are_put}
+use Rattle.shard_core.proofs.Clients.Outboxes.{changed_here, changed_there, chosen_same, gone, stays, entries_append, entries_here, entries_there, are_put}
 use Rattle.node_law.specs.Outboxes.{due_by, last_by, taken_by, is_detach, History, no_history, after_event, is_shut_client, is_shut, IsKnown}
 
 -- ---- whether a connection is shut, after a change
@@ -60,6 +61,10 @@ attached_shut k j (x ∷ xs) = go (attached_shut k j xs) (nat_eq x.number k)
     go below true = refl
     go below false = below
 
+-- whether a connection takes headers does not shut it
+headers_shut : (on : Bool) (k j : ℕ) (xs : List Client) → is_shut k (clients_with_headers on j xs) ≡ is_shut k xs
+headers_shut on k j xs = chosen_same is_shut_client (λ on x. refl) on k j xs
+
 -- ---- what an event gives to a connection
 
 -- it was shut or not before and is so now, and got these replies and messages, and these last lines
@@ -89,50 +94,56 @@ both was mid now due last due' last' g h = record {
 apart : (k j : ℕ) (xs : List Client) → is_open j xs ≡ true → is_shut k xs ≡ true → k ≢ j
 apart k j xs e f g = true≢false (sym f ∙ ap (λ m. is_shut m xs) g ∙ open_not_shut j xs e)
 
--- an entry for connection j, which is open
-one_entry : (entry : Written) (j : ℕ) (xs : List Client) → is_open j xs ≡ true → (k : ℕ) → Gets (is_shut k xs) (is_shut k (clients_with_change (with_entry entry) j xs)) (entries_for k (record { conn = j; entry = entry } ∷ [])) []
-one_entry entry j xs e k = record {
-  shut = λ f. (entries_there k j entry (apart k j xs e f), refl, shut_kept (with_entry entry) (λ backlog. refl) k j xs ∙ f);
-  other = λ f. sym (ap (λ b. cond b 1 0) (shut_kept (with_entry entry) (λ backlog. refl) k j xs ∙ f));
+put_here : (put : Placed) → entries_for put.conn (put ∷ []) ≡ put.entry ∷ []
+put_here put = entries_here put.conn put.headers put.entry
+
+put_there : (k : ℕ) (put : Placed) → k ≢ put.conn → entries_for k (put ∷ []) ≡ []
+put_there k put far = entries_there k put.conn put.headers put.entry far
+
+-- an entry for a connection, which is open
+one_entry : (put : Placed) (xs : List Client) → is_open put.conn xs ≡ true → (k : ℕ) → Gets (is_shut k xs) (is_shut k (clients_with_change (with_entry put.entry) put.conn xs)) (entries_for k (put ∷ [])) []
+one_entry put xs e k = record {
+  shut = λ f. (put_there k put (apart k put.conn xs e f), refl, shut_kept (with_entry put.entry) (λ backlog. refl) k put.conn xs ∙ f);
+  other = λ f. sym (ap (λ b. cond b 1 0) (shut_kept (with_entry put.entry) (λ backlog. refl) k put.conn xs ∙ f));
 }
 
--- a last line for it
+-- a last line for connection j, which is open
 one_line : (line : List ℕ) (j : ℕ) (xs : List Client) → is_open j xs ≡ true → (k : ℕ) → Gets (is_shut k xs) (is_shut k (clients_with_change (with_last line) j xs)) [] (entries_for k (put_line line j ∷ []))
 one_line line j xs e k = record {
-  shut = λ f. let far = apart k j xs e f in (refl, entries_there k j (reply_entry line) far, ap is_shut_client (changed_there (with_last line) k j xs far) ∙ f);
+  shut = λ f. let far = apart k j xs e f in (refl, put_there k (put_line line j) far, ap is_shut_client (changed_there (with_last line) k j xs far) ∙ f);
   other = λ f. go f (nat_eq k j) refl;
 }
   where
     go : is_shut k xs ≡ false → (b : Bool) → nat_eq k j ≡ b → length (entries_for k (put_line line j ∷ [])) ≡ cond (is_shut k (clients_with_change (with_last line) j xs)) 1 0
-    go f true g = subst (λ m. length (entries_for m (put_line line j ∷ [])) ≡ cond (is_shut m (clients_with_change (with_last line) j xs)) 1 0) (sym (eq_true k j g)) (ap length (entries_here j (reply_entry line)) ∙ sym (ap (λ b. cond b 1 0) (shut_now line j xs e)))
-    go f false g = let far = eq_false k j g in ap length (entries_there k j (reply_entry line) far) ∙ sym (ap (λ b. cond b 1 0) (ap is_shut_client (changed_there (with_last line) k j xs far) ∙ f))
+    go f true g = subst (λ m. length (entries_for m (put_line line j ∷ [])) ≡ cond (is_shut m (clients_with_change (with_last line) j xs)) 1 0) (sym (eq_true k j g)) (ap length (put_here (put_line line j)) ∙ sym (ap (λ b. cond b 1 0) (shut_now line j xs e)))
+    go f false g = let far = eq_false k j g in ap length (put_there k (put_line line j) far) ∙ sym (ap (λ b. cond b 1 0) (ap is_shut_client (changed_there (with_last line) k j xs far) ∙ f))
 
 -- ---- the walk of Begin
 
 abbrev WalkGets : State → Job → ℕ → Walk → Type 0
-WalkGets s job k w = Gets (is_shut k s.clients) (is_shut k w.clients) (entries_for k (map (placed_for s.shard job None) w.given)) (entries_for k (map (put_line slow_consumer) w.shut))
+WalkGets s job k w = Gets (is_shut k s.clients) (is_shut k w.clients) (entries_for k (map (owed_placed s.shard s.clients job None) w.given)) (entries_for k (map (put_line slow_consumer) w.shut))
 
 put_gets : (s : State) (job : Job) (k : ℕ) (w : Walk) (u : Subscription) → WalkGets s job k w → WalkGets s job k (walk_after_put s job w u)
-put_gets s job k w u g = go (is_open u.conn w.clients) (fits (client_at u.conn w.clients) (due_entry s.shard job None u)) refl
+put_gets s job k w u g = go (is_open u.conn w.clients) (fits (client_at u.conn w.clients) (owed_entry s.shard s.clients job None u)) refl
   where
     given : List Written
-    given = entries_for k (map (placed_for s.shard job None) w.given)
+    given = entries_for k (map (owed_placed s.shard s.clients job None) w.given)
 
     lines : List Written
     lines = entries_for k (map (put_line slow_consumer) w.shut)
 
-    more : entries_for k (map (placed_for s.shard job None) (w.given ++ u ∷ [])) ≡ given ++ entries_for k (placed_for s.shard job None u ∷ [])
-    more = ap (entries_for k) (map_append (placed_for s.shard job None) w.given (u ∷ [])) ∙ entries_append k (map (placed_for s.shard job None) w.given) (placed_for s.shard job None u ∷ [])
+    more : entries_for k (map (owed_placed s.shard s.clients job None) (w.given ++ u ∷ [])) ≡ given ++ entries_for k (owed_placed s.shard s.clients job None u ∷ [])
+    more = ap (entries_for k) (map_append (owed_placed s.shard s.clients job None) w.given (u ∷ [])) ∙ entries_append k (map (owed_placed s.shard s.clients job None) w.given) (owed_placed s.shard s.clients job None u ∷ [])
 
     one_more : entries_for k (map (put_line slow_consumer) (w.shut ++ u.conn ∷ [])) ≡ lines ++ entries_for k (put_line slow_consumer u.conn ∷ [])
     one_more = ap (entries_for k) (map_append (put_line slow_consumer) w.shut (u.conn ∷ [])) ∙ entries_append k (map (put_line slow_consumer) w.shut) (put_line slow_consumer u.conn ∷ [])
 
-    go : (o r : Bool) → is_open u.conn w.clients ≡ o → WalkGets s job k (cond o (cond r (walk_with_entry (due_entry s.shard job None u) u w) (walk_with_shut s.subs u.conn w)) w)
+    go : (o r : Bool) → is_open u.conn w.clients ≡ o → WalkGets s job k (cond o (cond r (walk_with_entry (owed_entry s.shard s.clients job None u) u w) (walk_with_shut s.subs u.conn w)) w)
     go false r e = g
     go true true e =
-        let h = both (is_shut k s.clients) (is_shut k w.clients) (is_shut k (clients_with_change (with_entry (due_entry s.shard job None u)) u.conn w.clients)) given lines (entries_for k (placed_for s.shard job None u ∷ [])) [] g (one_entry (due_entry s.shard job None u) u.conn w.clients e k) in
-        subst (λ t. Gets (is_shut k s.clients) (is_shut k (clients_with_change (with_entry (due_entry s.shard job None u)) u.conn w.clients)) t lines) (sym more)
-        (subst (λ t. Gets (is_shut k s.clients) (is_shut k (clients_with_change (with_entry (due_entry s.shard job None u)) u.conn w.clients)) (given ++ entries_for k (placed_for s.shard job None u ∷ [])) t) (append_nil lines) h)
+        let h = both (is_shut k s.clients) (is_shut k w.clients) (is_shut k (clients_with_change (with_entry (owed_entry s.shard s.clients job None u)) u.conn w.clients)) given lines (entries_for k (owed_placed s.shard s.clients job None u ∷ [])) [] g (one_entry (owed_placed s.shard s.clients job None u) w.clients e k) in
+        subst (λ t. Gets (is_shut k s.clients) (is_shut k (clients_with_change (with_entry (owed_entry s.shard s.clients job None u)) u.conn w.clients)) t lines) (sym more)
+        (subst (λ t. Gets (is_shut k s.clients) (is_shut k (clients_with_change (with_entry (owed_entry s.shard s.clients job None u)) u.conn w.clients)) (given ++ entries_for k (owed_placed s.shard s.clients job None u ∷ [])) t) (append_nil lines) h)
     go true false e =
         let h = both (is_shut k s.clients) (is_shut k w.clients) (is_shut k (clients_with_change (with_last slow_consumer) u.conn w.clients)) given lines [] (entries_for k (put_line slow_consumer u.conn ∷ [])) g (one_line slow_consumer u.conn w.clients e k) in
         subst (λ t. Gets (is_shut k s.clients) (is_shut k (clients_with_change (with_last slow_consumer) u.conn w.clients)) given t) (sym one_more)
@@ -173,10 +184,11 @@ event_gets s (Reply conn frame) cause k here = go (answer_fits s conn (reply_lin
     open_now = no_end (is_open conn s.clients) _ cause
 
     go : (b : Bool) → Gets (is_shut k s.clients) (is_shut k (cond b (record s { clients = clients_with_change (with_entry (reply_entry (reply_line frame))) conn s.clients }) (was_shut s conn slow_consumer)).clients) (entries_for k (cond b (put_line (reply_line frame) conn ∷ []) [])) (entries_for k (cond b [] (put_line slow_consumer conn ∷ [])))
-    go true = one_entry (reply_entry (reply_line frame)) conn s.clients open_now k
+    go true = one_entry (put_line (reply_line frame) conn) s.clients open_now k
     go false = one_line slow_consumer conn s.clients open_now k
 event_gets s (Shut conn text) cause k here = one_line (err_line text) conn s.clients (no_end (is_open conn s.clients) _ cause) k
 event_gets s (Detach conn) cause k here = nothing _ _ (ap is_shut_client (stays k conn (λ e. eq_false conn k here (sym e)) s.clients))
+event_gets s (SetHeaders conn on) cause k here = nothing _ _ (headers_shut on k conn s.clients)
 event_gets s (Take conn count) cause k here = nothing _ _ (shut_kept (without_first count) (λ backlog. refl) k conn s.clients)
 event_gets s (Begin job) cause k here = walk_gets s job k (filter (is_due job) s.subs) (first_step s.clients) (nothing _ _ refl)
 event_gets s (Claim index won) cause k here = go s.hand (candidate_of s s.hand index) refl
@@ -192,9 +204,9 @@ event_gets s (Claim index won) cause k here = go s.hand (candidate_of s s.hand i
     by job u is false = nothing _ _ refl
     by job u is true = named (slice_get job.queues index) is
       where
-        named : (name : Option (List ℕ)) → candidate_named s job name ≡ Some u → Gets (is_shut k s.clients) (is_shut k (clients_with_change (with_entry (due_entry s.shard job u.key.queue u)) u.conn s.clients)) (entries_for k (placed_for s.shard job u.key.queue u ∷ [])) []
+        named : (name : Option (List ℕ)) → candidate_named s job name ≡ Some u → Gets (is_shut k s.clients) (is_shut k (clients_with_change (with_entry (owed_entry s.shard s.clients job u.key.queue u)) u.conn s.clients)) (entries_for k (owed_placed s.shard s.clients job u.key.queue u ∷ [])) []
         named None e = absurd (none-some u e)
-        named (Some name) e = one_entry (due_entry s.shard job u.key.queue u) u.conn s.clients (fits_open u (due_entry s.shard job (Some name) u) (candidate_is s job name u e).3) k
+        named (Some name) e = one_entry (owed_placed s.shard s.clients job u.key.queue u) s.clients (fits_open u (owed_entry s.shard s.clients job (Some name) u) (candidate_is s job name u e).3) k
 
     go : (hand : Option Job) (u : Option Subscription) → candidate_of s hand index ≡ u → Gets (is_shut k s.clients) (is_shut k (after_claim s hand u won).clients) (entries_for k (put_by_claim s hand u won)) []
     go None u is = nothing _ _ refl
@@ -217,8 +229,9 @@ puts_are s (Reply conn frame) k = go (answer_fits s conn (reply_line frame))
     go false = refl
 puts_are s (Shut conn text) k = refl
 puts_are s (Detach conn) k = refl
+puts_are s (SetHeaders conn on) k = refl
 puts_are s (Take conn count) k = refl
-puts_are s (Begin job) k = entries_append k (map (placed_for s.shard job None) (whole_walk s job).given) (map (put_line slow_consumer) (whole_walk s job).shut)
+puts_are s (Begin job) k = entries_append k (map (owed_placed s.shard s.clients job None) (whole_walk s job).given) (map (put_line slow_consumer) (whole_walk s job).shut)
 puts_are s (Claim index won) k = sym (append_nil _)
 puts_are s End k = refl
 puts_are s (DropJob waiting) k = refl
@@ -233,6 +246,7 @@ takes (Unsubscribe conn sid max) k waits here = refl
 takes (Reply conn frame) k waits here = refl
 takes (Shut conn text) k waits here = refl
 takes (Detach conn) k waits here = ap (λ b. cond b [] waits) here
+takes (SetHeaders conn on) k waits here = refl
 takes (Take conn count) k waits here = go (nat_eq conn k)
   where
     go : (b : Bool) → cond b (take count waits) [] ++ cond b (drop count waits) waits ≡ waits
@@ -290,6 +304,7 @@ event_known s e cause k x known = go (is_detach k e) refl
     gone_now (Unsubscribe conn sid max) f = absurd (true≢false (sym f))
     gone_now (Reply conn frame) f = absurd (true≢false (sym f))
     gone_now (Shut conn text) f = absurd (true≢false (sym f))
+    gone_now (SetHeaders conn on) f = absurd (true≢false (sym f))
     gone_now (Take conn count) f = absurd (true≢false (sym f))
     gone_now (Begin job) f = absurd (true≢false (sym f))
     gone_now (Claim index won) f = absurd (true≢false (sym f))

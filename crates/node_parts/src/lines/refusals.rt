@@ -26,9 +26,10 @@ impl<T: SubTable> ShardWithJobs<T> {
     {
         let fault = match event {
             ConnEvent::Subscribe { key, sid } => self.shard.subscribe_fault(conn, key, sid),
-            ConnEvent::Unsubscribe { .. } | ConnEvent::Reply { .. } | ConnEvent::Shut { .. } => {
-                self.shard.open_fault(conn)
-            }
+            ConnEvent::Unsubscribe { .. }
+            | ConnEvent::Reply { .. }
+            | ConnEvent::SetHeaders { .. }
+            | ConnEvent::Shut { .. } => self.shard.open_fault(conn),
             ConnEvent::Detach | ConnEvent::Take { .. } => self.shard.known_fault(conn),
         };
         Some(NodeFault::Shard(fault?))

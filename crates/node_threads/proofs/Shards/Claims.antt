@@ -109,17 +109,17 @@ claim_at_work shards next_index w index won s part i m c =
 
 -- ---- the three outcomes
 
-chooses_none : (s : State) (index : ℕ) (job : Job) → s.hand ≡ Some job → None ≡ told_of false s.shard s.hand (candidate_of s s.hand index) → candidate_of s s.hand index ≡ None
-chooses_none s index job hand e = go (candidate_of s s.hand index) refl (e ∙ ap (λ h. told_of false s.shard h (candidate_of s s.hand index)) hand)
+chooses_none : (s : State) (index : ℕ) (job : Job) → s.hand ≡ Some job → None ≡ told_of false s.shard s.clients s.hand (candidate_of s s.hand index) → candidate_of s s.hand index ≡ None
+chooses_none s index job hand e = go (candidate_of s s.hand index) refl (e ∙ ap (λ h. told_of false s.shard s.clients h (candidate_of s s.hand index)) hand)
   where
-    go : (c : Option Subscription) → candidate_of s s.hand index ≡ c → None ≡ told_of false s.shard (Some job) c → candidate_of s s.hand index ≡ None
+    go : (c : Option Subscription) → candidate_of s s.hand index ≡ c → None ≡ told_of false s.shard s.clients (Some job) c → candidate_of s s.hand index ≡ None
     go None is e = is
     go (Some sub) is e = absurd (none-some _ e)
 
-chooses_some : (s : State) (index : ℕ) (job : Job) (told : Candidate) → s.hand ≡ Some job → Some told ≡ told_of false s.shard s.hand (candidate_of s s.hand index) → (sub : Subscription) × (candidate_of s s.hand index ≡ Some sub)
-chooses_some s index job told hand e = go (candidate_of s s.hand index) refl (e ∙ ap (λ h. told_of false s.shard h (candidate_of s s.hand index)) hand)
+chooses_some : (s : State) (index : ℕ) (job : Job) (told : Candidate) → s.hand ≡ Some job → Some told ≡ told_of false s.shard s.clients s.hand (candidate_of s s.hand index) → (sub : Subscription) × (candidate_of s s.hand index ≡ Some sub)
+chooses_some s index job told hand e = go (candidate_of s s.hand index) refl (e ∙ ap (λ h. told_of false s.shard s.clients h (candidate_of s s.hand index)) hand)
   where
-    go : (c : Option Subscription) → candidate_of s s.hand index ≡ c → Some told ≡ told_of false s.shard (Some job) c → (sub : Subscription) × (candidate_of s s.hand index ≡ Some sub)
+    go : (c : Option Subscription) → candidate_of s s.hand index ≡ c → Some told ≡ told_of false s.shard s.clients (Some job) c → (sub : Subscription) × (candidate_of s s.hand index ≡ Some sub)
     go None is e = absurd (none-some told (sym e))
     go (Some sub) is e = (sub, is)
 
@@ -134,7 +134,7 @@ pub claims_nobody : ClaimsAreWhole → (w : AtWork) (old mid : Held) (index : �
 claims_nobody law w old mid index found is m low c none =
     let free = may_claim w.state index m in
     let whole = law false old mid index found (subst (λ s. shard_refusal s (Claim index false) ≡ None) is free) c in
-    let nobody : candidate_of w.state w.state.hand index ≡ None = chooses_none w.state index m.job m.hand (subst (λ (s : State). None ≡ told_of false s.shard s.hand (candidate_of s s.hand index)) (sym is) (sym none ∙ c.told)) in
+    let nobody : candidate_of w.state w.state.hand index ≡ None = chooses_none w.state index m.job m.hand (subst (λ (s : State). None ≡ told_of false s.shard s.clients s.hand (candidate_of s s.hand index)) (sym is) (sym none ∙ c.told)) in
     record {
       free = free;
       after = whole.not_won ∙ ap (λ s. shard_after s (Claim index false)) (sym is);
@@ -152,7 +152,7 @@ pub claims_lost : ClaimsAreWhole → (w : AtWork) (old mid : Held) (index : ℕ)
 claims_lost law w old mid index found told part is finished m c some lost =
     let free = may_claim w.state index m in
     let whole = law false old mid index found (subst (λ s. shard_refusal s (Claim index false) ≡ None) is free) c in
-    let chosen = chooses_some w.state index m.job told m.hand (subst (λ (s : State). Some told ≡ told_of false s.shard s.hand (candidate_of s s.hand index)) (sym is) (sym some ∙ c.told)) in
+    let chosen = chooses_some w.state index m.job told m.hand (subst (λ (s : State). Some told ≡ told_of false s.shard s.clients s.hand (candidate_of s s.hand index)) (sym is) (sym some ∙ c.told)) in
     record {
       free = free;
       after = whole.not_won ∙ ap (λ s. shard_after s (Claim index false)) (sym is);
@@ -174,7 +174,7 @@ pub claims_won : ClaimsAreWhole → (w : AtWork) (old mid new : Held) (index : �
 claims_won law w old mid new index found told part is finished m c some won placed =
     let free = may_claim w.state index m in
     let whole = law false old mid index found (subst (λ s. shard_refusal s (Claim index false) ≡ None) is free) c in
-    let chosen = chooses_some w.state index m.job told m.hand (subst (λ (s : State). Some told ≡ told_of false s.shard s.hand (candidate_of s s.hand index)) (sym is) (sym some ∙ c.told)) in
+    let chosen = chooses_some w.state index m.job told m.hand (subst (λ (s : State). Some told ≡ told_of false s.shard s.clients s.hand (candidate_of s s.hand index)) (sym is) (sym some ∙ c.told)) in
     let stands : is_some mid.chosen ≡ true = ap (λ (h : Held). is_some h.chosen) c.after ∙ ap (λ (s : State). is_some (candidate_of s s.hand index)) (sym is) ∙ ap is_some chosen.1 in
     let after : new.state ≡ shard_after w.state (Claim index true) = ap (λ (h : Held). h.state) placed ∙ whole.won stands ∙ ap (λ s. shard_after s (Claim index true)) (sym is) in
     record {

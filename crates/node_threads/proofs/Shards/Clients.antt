@@ -8,7 +8,7 @@ use Rattle.subj.specs.declared.failures.Failure.{Failure}
 use Rattle.subj.specs.declared.failures.Failure.TheVariants.{Refused, OutOfMemory}
 use Rattle.shard_core.specs.Answers as of_shard
 use Rattle.shard_core.specs.Held.{Held, DoesStep, IsLeft}
-use Rattle.shard_core.specs.ShardEvents.{Event, Attach, Subscribe, Unsubscribe, Reply, Shut, Detach, Take, Begin, Claim, End, DropJob, Drain, Collect, Answer, Taken}
+use Rattle.shard_core.specs.ShardEvents.{Event, Attach, Subscribe, Unsubscribe, Reply, SetHeaders, Shut, Detach, Take, Begin, Claim, End, DropJob, Drain, Collect, Answer, Taken}
 use Rattle.shard_core.specs.ShardSteps.{IsAsked, sub_called, new_sub, after_subscribe, ended_now, after_unsubscribe, answer_fits, shard_refusal, shard_answer, shard_after}
 use Rattle.shard_core.specs.Shards.{State, waits_for}
 use Rattle.shard_core.specs.declared.faults.ShardFault.{ShardFault}
@@ -23,6 +23,7 @@ is_client Attach = true
 is_client (Subscribe conn key sid) = true
 is_client (Unsubscribe conn sid max) = true
 is_client (Reply conn frame) = true
+is_client (SetHeaders conn on) = true
 is_client (Shut conn text) = true
 is_client (Detach conn) = true
 is_client (Take conn count) = true
@@ -43,6 +44,7 @@ quiet s Attach c = record { jobs = refl; claims = λ b. refl; asked = tt }
 quiet s (Subscribe conn key sid) c = record { jobs = refl; claims = λ b. refl; asked = tt }
 quiet s (Unsubscribe conn sid max) c = record { jobs = refl; claims = λ b. refl; asked = tt }
 quiet s (Reply conn frame) c = record { jobs = refl; claims = λ b. refl; asked = tt }
+quiet s (SetHeaders conn on) c = record { jobs = refl; claims = λ b. refl; asked = tt }
 quiet s (Shut conn text) c = record { jobs = refl; claims = λ b. refl; asked = tt }
 quiet s (Detach conn) c = record { jobs = refl; claims = λ b. refl; asked = tt }
 quiet s (Take conn count) c = record { jobs = refl; claims = λ b. refl; asked = tt }
@@ -79,6 +81,7 @@ rests s (Unsubscribe conn sid max) c = go (sub_called conn sid s.subs)
     go None = still s _ refl refl refl
     go (Some u) = either s _ _ (ended_now max u) (still s _ refl refl refl) (still s _ refl refl refl)
 rests s (Reply conn frame) c = either s _ _ (answer_fits s conn _) (still s _ refl refl refl) (still s _ refl refl refl)
+rests s (SetHeaders conn on) c = still s _ refl refl refl
 rests s (Shut conn text) c = still s _ refl refl refl
 rests s (Detach conn) c = still s _ refl refl refl
 rests s (Take conn count) c = still s _ refl refl refl

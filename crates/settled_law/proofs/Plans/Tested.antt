@@ -273,7 +273,7 @@ module _ (w : World) (message : Content) where
   takes : (subs : List Subscription) (client : Client) → takes_all message subs client ≡ true → TakesAll message subs client
   takes [] client e = record { entries = λ lt. absurd (omega arith); bytes = λ lt. absurd (omega arith) }
   takes (sub ∷ subs) client e =
-      let h = and_true (nat_le (length client.outbox.entries + length (sub ∷ subs)) client.max_entries) (nat_le (size_of client.outbox.entries + sum_by (due_length message) (sub ∷ subs)) client.max_bytes) e in
+      let h = and_true (nat_le (length client.outbox.entries + length (sub ∷ subs)) client.max_entries) (nat_le (size_of client.outbox.entries + sum_by (due_length message client.headers) (sub ∷ subs)) client.max_bytes) e in
       record { entries = λ lt. le_true _ _ h.0; bytes = λ lt. le_true _ _ h.1 }
 
   roomy_at : (nodes : List (Option Running)) → are_roomy message nodes ≡ true → (n : ℕ) (a : Running) → slice_get nodes n ≡ Some (Some a) → list_all (has_room_in message) a.node.lines ≡ true

@@ -17,7 +17,7 @@ use Rattle.shard_core.specs.declared.calls.Placed.{Placed}
 use Rattle.shard_core.specs.Causes.{AreHeld}
 use Rattle.shard_core.specs.Closings.{id_of}
 use Rattle.shard_core.specs.Lines.{first_of}
-use Rattle.shard_core.specs.Owed.{candidate_of, placed_for, whole_walk, slow_consumer, is_due, mode_of, after_begin}
+use Rattle.shard_core.specs.Owed.{candidate_of, owed_placed, whole_walk, slow_consumer, is_due, mode_of, after_begin}
 use Rattle.shard_core.specs.Puts.{put_by, put_by_claim, put_line}
 use Rattle.shard_core.specs.Shards as shards
 use Rattle.shard_core.specs.ShardEvents as of_shard
@@ -109,11 +109,11 @@ module _ (w w' : World) (gained : List Placement) (more : w'.placements ≡ w.pl
       (λ (x : Over w m inc place job start line left). inr (inr (record { left_is = x.left_is; goals = goals_more m inc job start (length job.queues) x.goals }))) s) s
 
 -- a put message is placed
-pub put_is_placed : (server : ServerIdentity) (now : ℕ) (put : Placed) (puts : List Placed) (x : Placement) → In put puts → In x (placement_of server now put.conn put.entry.bytes put.entry.tag) → In x (placements_put server now puts)
+pub put_is_placed : (server : ServerIdentity) (now : ℕ) (put : Placed) (puts : List Placed) (x : Placement) → In put puts → In x (placement_of server now put.conn put.headers put.entry.bytes put.entry.tag) → In x (placements_put server now puts)
 put_is_placed server now put [] x i j = absurd i
 put_is_placed server now put (other ∷ puts) x i j = ⊎_elim
-    (λ (e : put ≡ other). in_left x (placement_of server now other.conn other.entry.bytes other.entry.tag) (placements_put server now puts) (subst (λ (p : Placed). In x (placement_of server now p.conn p.entry.bytes p.entry.tag)) e j))
-    (λ (k : In put puts). in_right x (placement_of server now other.conn other.entry.bytes other.entry.tag) (placements_put server now puts) (put_is_placed server now put puts x k j)) i
+    (λ (e : put ≡ other). in_left x (placement_of server now other.conn other.headers other.entry.bytes other.entry.tag) (placements_put server now puts) (subst (λ (p : Placed). In x (placement_of server now p.conn p.headers p.entry.bytes p.entry.tag)) e j))
+    (λ (k : In put puts). in_right x (placement_of server now other.conn other.headers other.entry.bytes other.entry.tag) (placements_put server now puts) (put_is_placed server now put puts x k j)) i
 
 -- ---- the first event that is left of a line
 
@@ -223,13 +223,13 @@ module _ (one : PlacementsAreOne) (placed : PutsArePlaced) (c : Cluster) (w : Wo
         plain_placed : (w' : World) → w'.placements ≡ w.placements ++ placements_put (server_at c m a.inc) (suc w.step) (put_by start.shard (of_shard.Begin job)) → (u : Subscription) → In u start.shard.subs → is_due job u ≡ true → IsPlaced w' job.id (record { node = m; inc = inc; sub = id_of start.shard.shard u.serial })
         plain_placed w' placements u there due =
             let given : In u (whole_walk start.shard job).given = subst (In u) (sym (walks start.shard job rest.held errand.echo rest.room).given) (filter_in (is_due job) start.shard.subs u there due) in
-            let put : In (placed_for start.shard.shard job None u) (put_by start.shard (of_shard.Begin job)) =
-            in_left (placed_for start.shard.shard job None u) (map (placed_for start.shard.shard job None) (whole_walk start.shard job).given) (map (put_line slow_consumer) (whole_walk start.shard job).shut) (in_mapped (placed_for start.shard.shard job None) (whole_walk start.shard job).given u given) in
-            let p : Placement = record { step = suc w.step; life = record { node = m; inc = a.inc; sub = id_of start.shard.shard u.serial }; conn = u.conn; id = job.id; mode = Plain; bytes = (placed_for start.shard.shard job None u).entry.bytes } in
+            let put : In (owed_placed start.shard.shard start.shard.clients job None u) (put_by start.shard (of_shard.Begin job)) =
+            in_left (owed_placed start.shard.shard start.shard.clients job None u) (map (owed_placed start.shard.shard start.shard.clients job None) (whole_walk start.shard job).given) (map (put_line slow_consumer) (whole_walk start.shard job).shut) (in_mapped (owed_placed start.shard.shard start.shard.clients job None) (whole_walk start.shard job).given u given) in
+            let p : Placement = record { step = suc w.step; life = record { node = m; inc = a.inc; sub = id_of start.shard.shard u.serial }; conn = u.conn; id = job.id; mode = Plain; bytes = (owed_placed start.shard.shard start.shard.clients job None u).entry.bytes; headers = (owed_placed start.shard.shard start.shard.clients job None u).headers } in
             record {
-              placement = record { step = suc w.step; life = record { node = m; inc = a.inc; sub = id_of start.shard.shard u.serial }; conn = u.conn; id = job.id; mode = Plain; bytes = (placed_for start.shard.shard job None u).entry.bytes };
+              placement = record { step = suc w.step; life = record { node = m; inc = a.inc; sub = id_of start.shard.shard u.serial }; conn = u.conn; id = job.id; mode = Plain; bytes = (owed_placed start.shard.shard start.shard.clients job None u).entry.bytes; headers = (owed_placed start.shard.shard start.shard.clients job None u).headers };
               there = subst (In p) (sym placements) (in_right p w.placements (placements_put (server_at c m a.inc) (suc w.step) (put_by start.shard (of_shard.Begin job)))
-                  (put_is_placed (server_at c m a.inc) (suc w.step) (placed_for start.shard.shard job None u) (put_by start.shard (of_shard.Begin job)) p put (inl refl)));
+                  (put_is_placed (server_at c m a.inc) (suc w.step) (owed_placed start.shard.shard start.shard.clients job None u) (put_by start.shard (of_shard.Begin job)) p put (inl refl)));
               is = refl;
               life_is = ap (λ n. record { node = m; inc = n; sub = id_of start.shard.shard u.serial }) inc_is;
               plain = refl;
@@ -306,12 +306,12 @@ module _ (one : PlacementsAreOne) (placed : PutsArePlaced) (c : Cluster) (w : Wo
         raced name at_i works true w' y (Some v) e moves =
             let is : IsClaimed a.node.race (suc place) job.turn i true y.race = moves in
             let who = candidate_is start.shard job i line.shard name held errand.echo errand.names at_i works v e in
-            let put : put_if line (work_event (Claim i) true line) ≡ placed_for line.shard.shard job v.key.queue v ∷ [] = ap (λ h. put_by_claim line.shard h (candidate_of line.shard line.shard.hand i) true) works.hand ∙ ap (λ o. put_by_claim line.shard (Some job) o true) e in
-            let p : Placement = record { step = suc w.step; life = record { node = m; inc = a.inc; sub = id_of line.shard.shard v.serial }; conn = v.conn; id = job.id; mode = mode_of v.key.queue; bytes = (placed_for line.shard.shard job v.key.queue v).entry.bytes } in
+            let put : put_if line (work_event (Claim i) true line) ≡ owed_placed line.shard.shard line.shard.clients job v.key.queue v ∷ [] = ap (λ h. put_by_claim line.shard h (candidate_of line.shard line.shard.hand i) true) works.hand ∙ ap (λ o. put_by_claim line.shard (Some job) o true) e in
+            let p : Placement = record { step = suc w.step; life = record { node = m; inc = a.inc; sub = id_of line.shard.shard v.serial }; conn = v.conn; id = job.id; mode = mode_of v.key.queue; bytes = (owed_placed line.shard.shard line.shard.clients job v.key.queue v).entry.bytes; headers = (owed_placed line.shard.shard line.shard.clients job v.key.queue v).headers } in
             let here : IsServed w' job.id name = record {
               placement = p;
               there = subst (In p) (sym y.placements) (in_right p w.placements (placements_put (server_at c m a.inc) (suc w.step) (put_if line (work_event (Claim i) true line)))
-                  (subst (λ l. In p (placements_put (server_at c m a.inc) (suc w.step) l)) (sym put) (put_is_placed (server_at c m a.inc) (suc w.step) (placed_for line.shard.shard job v.key.queue v) (placed_for line.shard.shard job v.key.queue v ∷ []) p (inl refl) (inl refl))));
+                  (subst (λ l. In p (placements_put (server_at c m a.inc) (suc w.step) l)) (sym put) (put_is_placed (server_at c m a.inc) (suc w.step) (owed_placed line.shard.shard line.shard.clients job v.key.queue v) (owed_placed line.shard.shard line.shard.clients job v.key.queue v ∷ []) p (inl refl) (inl refl))));
               is = refl;
               mode = ap mode_of who.1;
             } in (

@@ -7,14 +7,15 @@ use Rattle.std.proofs.lemmas.Bool.Decides.{nat_tests}
 use Rattle.std.proofs.lemmas.List.{length-map}
 use Rattle.outbox.specs.Views.{Waiting, Backlog, Written, has_room, size_of}
 use Rattle.shard_core.specs.declared.connections.Conn.{Conn}
-use Rattle.shard_core.specs.Shards.{Client, client_at, clients_with_change, has_number, with_outbox, without_client, fits, fits_len, is_open, room_of, takes_events, entries_of, waits_for}
+use Rattle.shard_core.specs.Shards.{Client, client_at, clients_with_change, clients_with_headers, has_number, with_outbox, with_headers, option_of, takes_headers, without_client, fits, fits_len, is_open, room_of, takes_events, entries_of, waits_for}
 use Rattle.shard_core.specs.declared.connections.Seat.{Seat}
 use Rattle.shard_core.specs.declared.connections.Standing.{Standing}
-use Rattle.shard_core.specs.Boxes.{IsSeated, IsSeatOf, IsStanding, client_in_view, shown_backlog, next_backlog, number_of, standing_of}
+use Rattle.shard_core.specs.declared.connections.FormLengths.{FormLengths}
+use Rattle.shard_core.specs.Boxes.{IsSeated, IsSeatOf, IsStanding, form_length, client_in_view, shown_backlog, next_backlog, number_of, standing_of}
 
 -- an outbox that changes leaves the numbers
-pub numbers_stay : (conns : List Conn) (i : ℕ) (r : Conn) (box : Waiting) → map number_of (slice_set conns i (record { number = (slice_index_or conns i r).number; outbox = box })) ≡ map number_of conns
-numbers_stay conns i r box = map-set_same number_of conns i (record { number = (slice_index_or conns i r).number; outbox = box }) r refl
+pub numbers_stay : (conns : List Conn) (i : ℕ) (r : Conn) (box : Waiting) → map number_of (slice_set conns i (record { number = (slice_index_or conns i r).number; outbox = box; headers = (slice_index_or conns i r).headers })) ≡ map number_of conns
+numbers_stay conns i r box = map-set_same number_of conns i (record { number = (slice_index_or conns i r).number; outbox = box; headers = (slice_index_or conns i r).headers }) r refl
 
 abbrev has_conn : ℕ → Conn → Bool
 has_conn n conn = conn.number == n
@@ -72,6 +73,22 @@ module _ (backlog : Waiting → Backlog) (n : ℕ) where
         | false ↦ λ le is. ap (map (client_in_view backlog)) (set_next c cs (position_or_len (has_conn n) cs) y) ∙ ap (λ l. client_in_view backlog c ∷ l) (changed_there change cs d y (omega arith) (is ∙ ap (λ (x : Conn). with_outbox change (client_in_view backlog x)) (get_next c cs (position_or_len (has_conn n) cs) d)))
       ] lt made
 
+  same_unchosen : (on : Bool) (conns : List Conn) → length conns ≤ position_or_len (has_conn n) conns → clients_with_headers on n (map (client_in_view backlog) conns) ≡ map (client_in_view backlog) conns
+  same_unchosen on [] over = refl
+  same_unchosen on (c ∷ cs) over =
+      elim (c.number == n) as (λ b. length (c ∷ cs) ≤ cond (not b) (1 + position_or_len (has_conn n) cs) 0 → cond b (with_headers on (client_in_view backlog c) ∷ map (client_in_view backlog) cs) (client_in_view backlog c ∷ clients_with_headers on n (map (client_in_view backlog) cs)) ≡ client_in_view backlog c ∷ map (client_in_view backlog) cs) [
+        | true ↦ λ le. absurd (omega arith)
+        | false ↦ λ le. ap (λ l. client_in_view backlog c ∷ l) (same_unchosen on cs (omega arith))
+      ] over
+
+  chosen_there : (on : Bool) (conns : List Conn) (d y : Conn) → position_or_len (has_conn n) conns < length conns → client_in_view backlog y ≡ with_headers on (client_in_view backlog (get_or conns (position_or_len (has_conn n) conns) d)) → map (client_in_view backlog) (slice_set conns (position_or_len (has_conn n) conns) y) ≡ clients_with_headers on n (map (client_in_view backlog) conns)
+  chosen_there on [] d y lt made = absurd (omega arith)
+  chosen_there on (c ∷ cs) d y lt made =
+      elim (c.number == n) as (λ b. cond (not b) (1 + position_or_len (has_conn n) cs) 0 < length (c ∷ cs) → client_in_view backlog y ≡ with_headers on (client_in_view backlog (get_or (c ∷ cs) (cond (not b) (1 + position_or_len (has_conn n) cs) 0) d)) → map (client_in_view backlog) (slice_set (c ∷ cs) (cond (not b) (1 + position_or_len (has_conn n) cs) 0) y) ≡ cond b (with_headers on (client_in_view backlog c) ∷ map (client_in_view backlog) cs) (client_in_view backlog c ∷ clients_with_headers on n (map (client_in_view backlog) cs))) [
+        | true ↦ λ le is. ap (λ v. v ∷ map (client_in_view backlog) cs) is
+        | false ↦ λ le is. ap (map (client_in_view backlog)) (set_next c cs (position_or_len (has_conn n) cs) y) ∙ ap (λ l. client_in_view backlog c ∷ l) (chosen_there on cs d y (omega arith) (is ∙ ap (λ (x : Conn). with_headers on (client_in_view backlog x)) (get_next c cs (position_or_len (has_conn n) cs) d)))
+      ] lt made
+
   -- ---- by the place that was found
 
   pub client_none : (conns : List Conn) → position (λ (x : Conn). x.number == n) conns ≡ None → client_at n (map (client_in_view backlog) conns) ≡ None
@@ -89,6 +106,14 @@ module _ (backlog : Waiting → Backlog) (n : ℕ) where
   changed_some change conns i d y at made =
       let is = within (position_or_len (has_conn n) conns) (length conns) i at in
       ap (λ k. map (client_in_view backlog) (slice_set conns k y)) (sym is.1) ∙ changed_there change conns d y is.0 (made ∙ ap (λ k. with_outbox change (client_in_view backlog (get_or conns k d))) (sym is.1))
+
+  pub chosen_none : (on : Bool) (conns : List Conn) → position (λ (x : Conn). x.number == n) conns ≡ None → clients_with_headers on n (map (client_in_view backlog) conns) ≡ map (client_in_view backlog) conns
+  chosen_none on conns none = same_unchosen on conns (past (position_or_len (has_conn n) conns) (length conns) none)
+
+  pub chosen_some : (on : Bool) (conns : List Conn) (i : ℕ) (d y : Conn) → position (λ (x : Conn). x.number == n) conns ≡ Some i → client_in_view backlog y ≡ with_headers on (client_in_view backlog (slice_index_or conns i d)) → map (client_in_view backlog) (slice_set conns i y) ≡ clients_with_headers on n (map (client_in_view backlog) conns)
+  chosen_some on conns i d y at made =
+      let is = within (position_or_len (has_conn n) conns) (length conns) i at in
+      ap (λ k. map (client_in_view backlog) (slice_set conns k y)) (sym is.1) ∙ chosen_there on conns d y is.0 (made ∙ ap (λ k. with_headers on (client_in_view backlog (get_or conns k d))) (sym is.1))
 
   -- a connection goes
   pub detached_is : (conns : List Conn) → map (client_in_view backlog) (filter (λ (x : Conn). not (x.number == n)) conns) ≡ without_client n (map (client_in_view backlog) conns)
@@ -117,11 +142,14 @@ module _ (backlog : Waiting → Backlog) (n : ℕ) (conns : List Conn) (i : ℕ)
   pub waits_is : waits_for n (map (client_in_view backlog) conns) ≡ (backlog x.outbox).entries
   waits_is = ap entries_of client_is
 
-  pub changed_is : (change : Backlog → Backlog) (box : Waiting) → client_in_view backlog (record { number = x.number; outbox = box }) ≡ with_outbox change (client_in_view backlog x) → map (client_in_view backlog) (slice_set conns i (record { number = x.number; outbox = box })) ≡ clients_with_change change n (map (client_in_view backlog) conns)
-  changed_is change box made = changed_some backlog n change conns i x (record { number = x.number; outbox = box }) at (made ∙ ap (λ (y : Conn). with_outbox change (client_in_view backlog y)) is)
+  pub changed_is : (change : Backlog → Backlog) (box : Waiting) → client_in_view backlog (record { number = x.number; outbox = box; headers = x.headers }) ≡ with_outbox change (client_in_view backlog x) → map (client_in_view backlog) (slice_set conns i (record { number = x.number; outbox = box; headers = x.headers })) ≡ clients_with_change change n (map (client_in_view backlog) conns)
+  changed_is change box made = changed_some backlog n change conns i x (record { number = x.number; outbox = box; headers = x.headers }) at (made ∙ ap (λ (y : Conn). with_outbox change (client_in_view backlog y)) is)
 
-  pub same_is : (box : Waiting) → client_in_view backlog (record { number = x.number; outbox = box }) ≡ client_in_view backlog x → map (client_in_view backlog) (slice_set conns i (record { number = x.number; outbox = box })) ≡ map (client_in_view backlog) conns
-  same_is box same = same_seen backlog conns i x (record { number = x.number; outbox = box }) (same ∙ ap (client_in_view backlog) is)
+  pub chosen_is : (on : Bool) → map (client_in_view backlog) (slice_set conns i (record { number = x.number; outbox = x.outbox; headers = on })) ≡ clients_with_headers on n (map (client_in_view backlog) conns)
+  chosen_is on = chosen_some backlog n on conns i x (record { number = x.number; outbox = x.outbox; headers = on }) at (ap (λ (y : Conn). with_headers on (client_in_view backlog y)) is)
+
+  pub same_is : (box : Waiting) → client_in_view backlog (record { number = x.number; outbox = box; headers = x.headers }) ≡ client_in_view backlog x → map (client_in_view backlog) (slice_set conns i (record { number = x.number; outbox = box; headers = x.headers })) ≡ map (client_in_view backlog) conns
+  same_is box same = same_seen backlog conns i x (record { number = x.number; outbox = box; headers = x.headers }) (same ∙ ap (client_in_view backlog) is)
 
 pub not_shut : (b : Bool) → not b ≡ true → b ≡ false
 not_shut true e = cc
@@ -147,26 +175,24 @@ same_place backlog n conns =
 
 -- ---- how a connection stands
 
-seated_at : (seat : Seat) (n : ℕ) (conns : List Conn) → seat.conn ≡ n → position (λ (c : Conn). c.number == n) conns ≡ Some seat.place → IsSeatOf n seat (map (client_in_view next_backlog) conns)
-seated_at seat n conns conn at = record {
-  conn_is = conn;
-  seated = ap (λ m. position (has_number m) (map (client_in_view next_backlog) conns)) conn ∙ same_place next_backlog n conns ∙ at;
+pub seat_found : (n place : ℕ) (conns : List Conn) (x : Conn) → position (λ (c : Conn). c.number == n) conns ≡ Some place → x ≡ slice_index_or conns place x → IsSeatOf n (record { conn = n; place = place; takes_headers = x.headers }) (map (client_in_view next_backlog) conns)
+seat_found n place conns x at is = record {
+  conn_is = refl;
+  seated = same_place next_backlog n conns ∙ at;
+  option = sym (ap option_of (client_is next_backlog n conns place x at is));
 }
 
-pub seat_found : (n place : ℕ) (conns : List Conn) → position (λ (c : Conn). c.number == n) conns ≡ Some place → IsSeatOf n (record { conn = n; place = place }) (map (client_in_view next_backlog) conns)
-seat_found n place conns at = seated_at (record { conn = n; place = place }) n conns refl at
+stands : (seat : Seat) (n : ℕ) (lengths : FormLengths) (clients : List Client) (client : Client) (room shut : Bool) → IsSeatOf n seat clients → client_at n clients ≡ Some client → room_of client (form_length lengths client.headers) ≡ room → client.outbox.shut ≡ shut → IsStanding (standing_of seat room shut) n lengths clients
+stands seat n lengths clients client true true is at room shut = absurd (true≢false (sym room ∙ ap (λ b. not b && (nat_lt (length client.outbox.entries) client.max_entries && nat_le (size_of client.outbox.entries + form_length lengths client.headers) client.max_bytes)) shut))
+stands seat n lengths clients client true false is at room shut = record { seat_is = is; opened = ap takes_events at ∙ ap not shut; fits = ap (λ o. fits_len o (form_length lengths (option_of o))) at ∙ room }
+stands seat n lengths clients client false true is at room shut = ap takes_events at ∙ ap not shut
+stands seat n lengths clients client false false is at room shut = record { seat_is = is; opened = ap takes_events at ∙ ap not shut; fits = ap (λ o. fits_len o (form_length lengths (option_of o))) at ∙ room }
 
-stands : (seat : Seat) (n len : ℕ) (clients : List Client) (client : Client) (room shut : Bool) → IsSeatOf n seat clients → client_at n clients ≡ Some client → room_of client len ≡ room → client.outbox.shut ≡ shut → IsStanding (standing_of seat room shut) n len clients
-stands seat n len clients client true true is at room shut = absurd (true≢false (sym room ∙ ap (λ b. not b && (nat_lt (length client.outbox.entries) client.max_entries && nat_le (size_of client.outbox.entries + len) client.max_bytes)) shut))
-stands seat n len clients client true false is at room shut = record { seat_is = is; opened = ap takes_events at ∙ ap not shut; fits = ap (λ o. fits_len o len) at ∙ room }
-stands seat n len clients client false true is at room shut = ap takes_events at ∙ ap not shut
-stands seat n len clients client false false is at room shut = record { seat_is = is; opened = ap takes_events at ∙ ap not shut; fits = ap (λ o. fits_len o len) at ∙ room }
-
-pub standing_is : (told : Standing) (n place len : ℕ) (conns : List Conn) (x : Conn) → position (λ (c : Conn). c.number == n) conns ≡ Some place → x ≡ slice_index_or conns place x
-    → told ≡ standing_of (record { conn = n; place = place }) (has_room x.outbox.max_entries x.outbox.max_bytes len x.outbox.next) x.outbox.next.shut → IsStanding told n len (map (client_in_view next_backlog) conns)
-standing_is told n place len conns x at is told_is =
-    subst (λ s. IsStanding s n len (map (client_in_view next_backlog) conns)) (sym told_is)
-    (stands (record { conn = n; place = place }) n len (map (client_in_view next_backlog) conns) (client_in_view next_backlog x) _ _ (seat_found n place conns at) (client_is next_backlog n conns place x at is) refl refl)
+pub standing_is : (told : Standing) (n place : ℕ) (lengths : FormLengths) (conns : List Conn) (x : Conn) → position (λ (c : Conn). c.number == n) conns ≡ Some place → x ≡ slice_index_or conns place x
+    → told ≡ standing_of (record { conn = n; place = place; takes_headers = x.headers }) (has_room x.outbox.max_entries x.outbox.max_bytes (form_length lengths x.headers) x.outbox.next) x.outbox.next.shut → IsStanding told n lengths (map (client_in_view next_backlog) conns)
+standing_is told n place lengths conns x at is told_is =
+    subst (λ s. IsStanding s n lengths (map (client_in_view next_backlog) conns)) (sym told_is)
+    (stands (record { conn = n; place = place; takes_headers = x.headers }) n lengths (map (client_in_view next_backlog) conns) (client_in_view next_backlog x) _ _ (seat_found n place conns x at is) (client_is next_backlog n conns place x at is) refl refl)
 
 -- a seat is the place in the code's own list
 pub seat_place : (seat : Seat) (conns : List Conn) → IsSeated seat (map (client_in_view next_backlog) conns) → position (λ (c : Conn). c.number == seat.conn) conns ≡ Some seat.place

@@ -5,9 +5,10 @@ use Rattle.std.specs.List.{list_any}
 use Rattle.std.proofs.lemmas.Bool.Decides.{nat_tests}
 use Rattle.std.proofs.Common.{cond}
 use Rattle.std.proofs.lemmas.List.{nil_from_length, map-append, ext_get_or, get_or-map, length-map, length-set, get_or-set_other}
+use Rattle.std.proofs.Math.Seq.{map-set_same}
 use Rattle.std.proofs.lemmas.Grind.{common_steps}
 use Rattle.shard_core.specs.declared.connections.Conn.{Conn}
-use Rattle.shard_core.specs.Shards.{Client, client_at, clients_with_change, fits, fits_len, is_open, takes_events}
+use Rattle.shard_core.specs.Shards.{Client, client_at, clients_with_change, with_headers, fits, fits_len, is_open, takes_events}
 use Rattle.std.proofs.Common.{subst, filter, not, suc}
 use Rattle.std.specs.List.{AllPairs}
 use Rattle.std.specs.Prelude.{◌==◌, All, OnErr, Result, Ok, Err, slice_index_or, slice_get, position, is_some}
@@ -82,8 +83,8 @@ no_such_place places conns p past within i d inside out =
 rising_still : (old new : List Conn) → map number_of new ≡ map number_of old → AreRising old → AreRising new
 rising_still old new same rising = subst (AllPairs (λ (a b : ℕ). a < b)) (sym same) rising
 
-written : (conns : List Conn) (i : ℕ) (x : Conn) (box : Waiting) → x ≡ slice_index_or conns i x → map number_of (slice_set conns i (record { number = x.number; outbox = box })) ≡ map number_of conns
-written conns i x box is = ap (λ (y : Conn). map number_of (slice_set conns i (record { number = y.number; outbox = box }))) is ∙ numbers_stay conns i x box
+written : (conns : List Conn) (i : ℕ) (x : Conn) (box : Waiting) → x ≡ slice_index_or conns i x → map number_of (slice_set conns i (record { number = x.number; outbox = box; headers = x.headers })) ≡ map number_of conns
+written conns i x box is = ap (λ (y : Conn). map number_of (slice_set conns i (record { number = y.number; outbox = box; headers = y.headers }))) is ∙ numbers_stay conns i x box
 
 more_places : (places : List ℕ) (p : ℕ) (conns : List Conn) → IsStagedWithin places conns → IsStagedWithin (p ∷ places) conns
 more_places places p conns within i d inside out = within i d inside (by (nat_eq i p) out) where
@@ -91,26 +92,52 @@ more_places places p conns within i d inside out = within i d inside (by (nat_eq
   by true e = cc
   by false e = e
 
-pub conns_staged : (places : List ℕ) (conns : List Conn) (i : ℕ) (x : Conn) (box : Waiting) → x ≡ slice_index_or conns i x → AreConns places conns → AreConns (places ++ i ∷ []) (slice_set conns i (record { number = x.number; outbox = box }))
+pub conns_staged : (places : List ℕ) (conns : List Conn) (i : ℕ) (x : Conn) (box : Waiting) → x ≡ slice_index_or conns i x → AreConns places conns → AreConns (places ++ i ∷ []) (slice_set conns i (record { number = x.number; outbox = box; headers = x.headers }))
 conns_staged places conns i x box is was = record {
-  rising = rising_still conns (slice_set conns i (record { number = x.number; outbox = box })) (written conns i x box is) was.rising;
-  staged = staged_at places conns i (record { number = x.number; outbox = box }) was.staged;
+  rising = rising_still conns (slice_set conns i (record { number = x.number; outbox = box; headers = x.headers })) (written conns i x box is) was.rising;
+  staged = staged_at places conns i (record { number = x.number; outbox = box; headers = x.headers }) was.staged;
 }
 
 pub conns_noted : (places : List ℕ) (conns : List Conn) (i : ℕ) → AreConns places conns → AreConns (places ++ i ∷ []) conns
 conns_noted places conns i was = record { rising = was.rising; staged = place_added places conns i was.staged }
 
-pub conns_settled : (places : List ℕ) (conns : List Conn) (i : ℕ) (x : Conn) (box : Waiting) → x ≡ slice_index_or conns i x → i < length conns → box.next ≡ box.shown → AreConns places conns → AreConns places (slice_set conns i (record { number = x.number; outbox = box }))
+pub conns_settled : (places : List ℕ) (conns : List Conn) (i : ℕ) (x : Conn) (box : Waiting) → x ≡ slice_index_or conns i x → i < length conns → box.next ≡ box.shown → AreConns places conns → AreConns places (slice_set conns i (record { number = x.number; outbox = box; headers = x.headers }))
 conns_settled places conns i x box is there alike was = record {
-  rising = rising_still conns (slice_set conns i (record { number = x.number; outbox = box })) (written conns i x box is) was.rising;
-  staged = settled_at_place places conns i (record { number = x.number; outbox = box }) (ap (λ backlog. record { number = x.number; outbox = backlog; max_entries = box.max_entries; max_bytes = box.max_bytes }) alike) there (more_places places i conns was.staged);
+  rising = rising_still conns (slice_set conns i (record { number = x.number; outbox = box; headers = x.headers })) (written conns i x box is) was.rising;
+  staged = settled_at_place places conns i (record { number = x.number; outbox = box; headers = x.headers }) (ap (λ backlog. record { number = x.number; outbox = backlog; max_entries = box.max_entries; max_bytes = box.max_bytes; headers = x.headers }) alike) there (more_places places i conns was.staged);
 }
 
+-- another option of a connection leaves what is staged
+pub conns_chosen : (on : Bool) (places : List ℕ) (conns : List Conn) (i : ℕ) (x : Conn) → x ≡ slice_index_or conns i x → AreConns places conns → AreConns places (slice_set conns i (record { number = x.number; outbox = x.outbox; headers = on }))
+conns_chosen on places conns i x is was = record {
+  rising = rising_still conns (slice_set conns i y) (map-set_same number_of conns i y x (ap number_of is)) was.rising;
+  staged = within;
+}
+  where
+    y : Conn
+    y = record { number = x.number; outbox = x.outbox; headers = on }
+
+    within : IsStagedWithin places (slice_set conns i y)
+    within j d inside out = by (nat_eq j i) refl where
+      lt : j < length conns
+      lt = omega (arith, length-set conns i y)
+
+      by : (b : Bool) → nat_eq j i ≡ b → client_in_view next_backlog (get_or (slice_set conns i y) j d) ≡ client_in_view shown_backlog (get_or (slice_set conns i y) j d)
+      by true e =
+          let at : get_or (slice_set conns i y) j d ≡ y = grind (arith, nat_tests, common_steps, lt) in
+          let there : j ≡ i = grind (arith, nat_tests) in
+          let here : x ≡ get_or conns j x = is ∙ ap (λ k. get_or conns k x) (sym there) in
+          let seen : client_in_view next_backlog x ≡ client_in_view shown_backlog x = ap (client_in_view next_backlog) here ∙ was.staged j x lt out ∙ sym (ap (client_in_view shown_backlog) here) in
+          ap (client_in_view next_backlog) at ∙ ap (with_headers on) seen ∙ sym (ap (client_in_view shown_backlog) at)
+      by false e =
+          let same : get_or (slice_set conns i y) j d ≡ get_or conns j d = get_or-set_other conns i j y d (grind (arith, nat_tests)) in
+          ap (client_in_view next_backlog) same ∙ was.staged j d lt out ∙ sym (ap (client_in_view shown_backlog) same)
+
 -- one place less
-pub conns_less : (places : List ℕ) (conns : List Conn) (i : ℕ) (x : Conn) (box : Waiting) → x ≡ slice_index_or conns i x → i < length conns → box.next ≡ box.shown → AreConns (i ∷ places) conns → AreConns places (slice_set conns i (record { number = x.number; outbox = box }))
+pub conns_less : (places : List ℕ) (conns : List Conn) (i : ℕ) (x : Conn) (box : Waiting) → x ≡ slice_index_or conns i x → i < length conns → box.next ≡ box.shown → AreConns (i ∷ places) conns → AreConns places (slice_set conns i (record { number = x.number; outbox = box; headers = x.headers }))
 conns_less places conns i x box is there alike was = record {
-  rising = rising_still conns (slice_set conns i (record { number = x.number; outbox = box })) (written conns i x box is) was.rising;
-  staged = settled_at_place places conns i (record { number = x.number; outbox = box }) (ap (λ backlog. record { number = x.number; outbox = backlog; max_entries = box.max_entries; max_bytes = box.max_bytes }) alike) there was.staged;
+  rising = rising_still conns (slice_set conns i (record { number = x.number; outbox = box; headers = x.headers })) (written conns i x box is) was.rising;
+  staged = settled_at_place places conns i (record { number = x.number; outbox = box; headers = x.headers }) (ap (λ backlog. record { number = x.number; outbox = backlog; max_entries = box.max_entries; max_bytes = box.max_bytes; headers = x.headers }) alike) there was.staged;
 }
 
 -- connections go, where nothing is staged
@@ -144,14 +171,14 @@ conns_without places conns left n settled is was = subst (AreConns []) (sym is) 
 pub conns_attached : (places : List ℕ) (conns : List Conn) (x : Conn) → x.outbox.next ≡ x.outbox.shown → All (λ m. m < x.number) (map number_of conns) → map (client_in_view next_backlog) conns ≡ map (client_in_view shown_backlog) conns → AreConns places conns → AreConns places (conns ++ x ∷ [])
 conns_attached places conns x alike above settled was = record {
   rising = subst (AllPairs (λ (a b : ℕ). a < b)) (sym (map-append number_of conns (x ∷ []))) (all_pairs_push (λ (a b : ℕ). a < b) (map number_of conns) x.number was.rising (λ k d within. above k d within));
-  staged = none_staged places (conns ++ x ∷ []) (map-append (client_in_view next_backlog) conns (x ∷ []) ∙ ap (λ l. l ++ client_in_view next_backlog x ∷ []) settled ∙ ap (λ backlog. map (client_in_view shown_backlog) conns ++ record { number = x.number; outbox = backlog; max_entries = x.outbox.max_entries; max_bytes = x.outbox.max_bytes } ∷ []) alike ∙ sym (map-append (client_in_view shown_backlog) conns (x ∷ [])));
+  staged = none_staged places (conns ++ x ∷ []) (map-append (client_in_view next_backlog) conns (x ∷ []) ∙ ap (λ l. l ++ client_in_view next_backlog x ∷ []) settled ∙ ap (λ backlog. map (client_in_view shown_backlog) conns ++ record { number = x.number; outbox = backlog; max_entries = x.outbox.max_entries; max_bytes = x.outbox.max_bytes; headers = x.headers } ∷ []) alike ∙ sym (map-append (client_in_view shown_backlog) conns (x ∷ [])));
 }
 
 -- by the place alone
-pub conns_less_at : (places : List ℕ) (conns : List Conn) (i : ℕ) (r : Conn) (box : Waiting) → i < length conns → box.next ≡ box.shown → AreConns (i ∷ places) conns → AreConns places (slice_set conns i (record { number = (slice_index_or conns i r).number; outbox = box }))
+pub conns_less_at : (places : List ℕ) (conns : List Conn) (i : ℕ) (r : Conn) (box : Waiting) → i < length conns → box.next ≡ box.shown → AreConns (i ∷ places) conns → AreConns places (slice_set conns i (record { number = (slice_index_or conns i r).number; outbox = box; headers = (slice_index_or conns i r).headers }))
 conns_less_at places conns i r box there alike was = record {
-  rising = rising_still conns (slice_set conns i (record { number = (slice_index_or conns i r).number; outbox = box })) (numbers_stay conns i r box) was.rising;
-  staged = settled_at_place places conns i (record { number = (slice_index_or conns i r).number; outbox = box }) (ap (λ backlog. record { number = (slice_index_or conns i r).number; outbox = backlog; max_entries = box.max_entries; max_bytes = box.max_bytes }) alike) there was.staged;
+  rising = rising_still conns (slice_set conns i (record { number = (slice_index_or conns i r).number; outbox = box; headers = (slice_index_or conns i r).headers })) (numbers_stay conns i r box) was.rising;
+  staged = settled_at_place places conns i (record { number = (slice_index_or conns i r).number; outbox = box; headers = (slice_index_or conns i r).headers }) (ap (λ backlog. record { number = (slice_index_or conns i r).number; outbox = backlog; max_entries = box.max_entries; max_bytes = box.max_bytes; headers = (slice_index_or conns i r).headers }) alike) there was.staged;
 }
 
 pub no_such_conn : (places : List ℕ) (conns : List Conn) (i : ℕ) → length conns ≤ i → AreConns (i ∷ places) conns → AreConns places conns
@@ -185,12 +212,12 @@ room_at conns i len x within is room = room x (read_is conns i x within is)
 pub open_at : (conns : List Conn) (i : ℕ) (x : Conn) → i < length conns → x ≡ slice_index_or conns i x → IsOpenAt i conns → x.outbox.next.shut ≡ false
 open_at conns i x within is once = once x (read_is conns i x within is)
 
-pub box_staged : (change : Backlog → Backlog) (conns : List Conn) (i : ℕ) (x : Conn) (box : Waiting) → i < length conns → x ≡ slice_index_or conns i x → box ≡ record x.outbox { next = change x.outbox.next } → IsBoxStaged i change conns (slice_set conns i (record { number = x.number; outbox = box }))
+pub box_staged : (change : Backlog → Backlog) (conns : List Conn) (i : ℕ) (x : Conn) (box : Waiting) → i < length conns → x ≡ slice_index_or conns i x → box ≡ record x.outbox { next = change x.outbox.next } → IsBoxStaged i change conns (slice_set conns i (record { number = x.number; outbox = box; headers = x.headers }))
 box_staged change conns i x box within is made y at =
-    ap (λ (b : Waiting). slice_set conns i (record { number = x.number; outbox = b })) made
-    ∙ ap (λ (z : Conn). slice_set conns i (record { number = z.number; outbox = record z.outbox { next = change z.outbox.next } })) (same_Some x y (sym (read_is conns i x within is) ∙ at))
+    ap (λ (b : Waiting). slice_set conns i (record { number = x.number; outbox = b; headers = x.headers })) made
+    ∙ ap (λ (z : Conn). slice_set conns i (record { number = z.number; outbox = record z.outbox { next = change z.outbox.next }; headers = z.headers })) (same_Some x y (sym (read_is conns i x within is) ∙ at))
 
-pub none_staged_at : (conns : List Conn) (i : ℕ) (x : Conn) (box : Waiting) → i < length conns → x ≡ slice_index_or conns i x → box ≡ x.outbox → IsBoxStaged i (λ backlog. backlog) conns (slice_set conns i (record { number = x.number; outbox = box }))
+pub none_staged_at : (conns : List Conn) (i : ℕ) (x : Conn) (box : Waiting) → i < length conns → x ≡ slice_index_or conns i x → box ≡ x.outbox → IsBoxStaged i (λ backlog. backlog) conns (slice_set conns i (record { number = x.number; outbox = box; headers = x.headers }))
 none_staged_at conns i x box within is same = box_staged (λ backlog. backlog) conns i x box within is same
 
 -- a failure leaves it so

@@ -23,14 +23,15 @@ use Rattle.shard_core.specs.declared.faults.ShardFault.{ShardFault}
 use Rattle.shard_core.specs.declared.faults.ShardFault.TheVariants as fault
 use Rattle.shard_core.specs.Shards.{State, Client, takes_events, is_open, clients_with_change}
 use Rattle.shard_core.specs.Closings.{id_of, serials_of, is_left, left_of, without_subs, ended_ids}
-use Rattle.shard_core.specs.Owed.{Walk, walk, whole_walk, first_step, walk_after_put, walk_with_entry, walk_with_shut, slow_consumer, due_entry, reaches, ended_by, is_due, sub_with_count, candidate_of, candidate_named, is_candidate, after_claim}
+use Rattle.shard_core.specs.Owed.{Walk, walk, whole_walk, first_step, walk_after_put, walk_with_entry, walk_with_shut, slow_consumer, owed_entry, reaches, ended_by, is_due, sub_with_count, candidate_of, candidate_named, is_candidate, after_claim}
 use Rattle.shard_core.specs.Opened.{AreRising, AreApart}
-use Rattle.shard_core.specs.ShardEvents.{Event, Attach, Subscribe, Unsubscribe, Reply, Shut, Detach, Take, Begin, Claim, End, DropJob, Drain, Collect, Answer}
+use Rattle.shard_core.specs.ShardEvents.{Event, Attach, Subscribe, Unsubscribe, Reply, SetHeaders, Shut, Detach, Take, Begin, Claim, End, DropJob, Drain, Collect, Answer}
 use Rattle.shard_core.specs.ShardSteps.{sub_called, new_sub, after_subscribe, subscribe_answer, ended_now, after_unsubscribe, answer_fits, was_shut, done_with, ended_by_unsubscribe, ended_by_reply, claim_answer, shard_refusal, shard_after, shard_answer, shut_by, ended_of, IsStep}
 use Rattle.shard_core.specs.AsLaw.{given_by, given_by_claim, is_open_serial}
 use Rattle.shard_core.specs.Causes.{AreHeld, SubsStayHeld, given_to, max_after, sub_after, IsOpening, SubsGoOn, Closes, ClosingsAreTold, Leaves, IsSpent, HasEnough, IsUnsubscribed, HasCause, ClosesByCause, IsDetached}
 use Rattle.shard_core.proofs.Closings.Closed.{serials_left, counted_serials, max_serials}
 use Rattle.shard_core.proofs.Closings.Ended.{distinct, ended_apart, given_apart}
+use Rattle.shard_core.proofs.Closings.Fixed.{fixed}
 use Rattle.shard_core.proofs.Closings.Serials.{apart_among}
 use Rattle.shard_core.proofs.Clients.Outboxes.{stays_open, stays_shut, shuts, gone}
 use Rattle.shard_core.proofs.Closings.Leaving.{open_there, each_way, stays_after}
@@ -130,7 +131,7 @@ shut_told s u w rising h = record {
 
 walk_told : (s : State) (job : Job) (due : List Subscription) (w : Walk) → AreRising s.subs → Each (λ u. In u s.subs) due → Told s w → Told s (walk s job due w)
 walk_told s job [] w rising among h = h
-walk_told s job (u ∷ due) w rising among h = walk_told s job due (walk_after_put s job w u) rising (λ v i. among v (inr i)) (each_way (Told s) s job w u h (λ e f. give_told s (due_entry s.shard job None u) u w rising (among u (inl refl)) h) (λ e f. shut_told s u w rising h))
+walk_told s job (u ∷ due) w rising among h = walk_told s job due (walk_after_put s job w u) rising (λ v i. among v (inr i)) (each_way (Told s) s job w u h (λ e f. give_told s (owed_entry s.shard s.clients job None u) u w rising (among u (inl refl)) h) (λ e f. shut_told s u w rising h))
 
 walked_told : (s : State) (job : Job) → AreRising s.subs → Told s (whole_walk s job)
 walked_told s job rising = walk_told s job (filter (is_due job) s.subs) (first_step s.clients) rising (λ u i. (in_filter (is_due job) s.subs u i).0) (first_told s)
@@ -345,8 +346,8 @@ claims s index won rising hand o b at is w = go hand o b at is (λ (e : s.hand �
     go (Some job) None c e f g x = quiet s (Claim index won) (subs_is (Some job) None c e (g e) x) (ended_is (Some job) None c e (g e) x) (given_is (Some job) None c e (g e) x) (λ v i. refl)
     go (Some job) (Some u) false e f g x = quiet s (Claim index won) (subs_is (Some job) (Some u) false e (g e) x) (ended_is (Some job) (Some u) false e (g e) x) (given_is (Some job) (Some u) false e (g e) x) (λ v i. refl)
     go (Some job) (Some u) true e f g x =
-        giving s (Claim index won) (walk_with_entry (due_entry s.shard job u.key.queue u) u (first_step s.clients)) (subs_is (Some job) (Some u) true e (g e) x) (ended_is (Some job) (Some u) true e (g e) x) (given_is (Some job) (Some u) true e (g e) x) (λ v. refl) ((λ k i. absurd i), tt)
-        (give_told s (due_entry s.shard job u.key.queue u) u (first_step s.clients) rising (candidate_open s (Some job) index u f) (first_told s))
+        giving s (Claim index won) (walk_with_entry (owed_entry s.shard s.clients job u.key.queue u) u (first_step s.clients)) (subs_is (Some job) (Some u) true e (g e) x) (ended_is (Some job) (Some u) true e (g e) x) (given_is (Some job) (Some u) true e (g e) x) (λ v. refl) ((λ k i. absurd i), tt)
+        (give_told s (owed_entry s.shard s.clients job u.key.queue u) u (first_step s.clients) rising (candidate_open s (Some job) index u f) (first_told s))
 
 either_subs : (s x y : State) (ended : List ℕ) → x.subs ≡ s.subs → y.subs ≡ filter (is_left ended) s.subs → (b : Bool) → (cond b x y).subs ≡ filter (is_left (cond b [] ended)) s.subs
 either_subs s x y ended e f true = e ∙ none_left s.subs
@@ -365,6 +366,7 @@ becomes s (Reply conn frame) held = inl (closing s (Reply conn frame) (either_su
     either_some : (c : Bool) (k : ℕ) → In k (cond c [] (left_of conn [] s.subs)) → In k (serials_of s.subs)
     either_some true k i = absurd i
     either_some false k i = all_left conn s.subs k i
+becomes s (SetHeaders conn on) held = inl (quiet s (SetHeaders conn on) refl refl refl (λ u i. refl))
 becomes s (Shut conn text) held = inl (closing s (Shut conn text) refl (all_left conn s.subs) refl (λ u i l. refl))
 becomes s (Detach conn) held = inl (closing s (Detach conn) refl (all_left conn s.subs) refl (λ u i l. refl))
 becomes s (Take conn count) held = inl (quiet s (Take conn count) refl refl refl (λ u i. refl))
@@ -426,6 +428,7 @@ told_is s (Subscribe conn key sid) = go (sub_called conn sid s.subs)
     go (Some u) = refl
 told_is s (Unsubscribe conn sid max) = refl
 told_is s (Reply conn frame) = refl
+told_is s (SetHeaders conn on) = refl
 told_is s (Shut conn text) = refl
 told_is s (Detach conn) = refl
 told_is s (Take conn count) = refl
@@ -459,6 +462,7 @@ ended_once s (Reply conn frame) rising = go (answer_fits s conn (reply_line fram
     go : (b : Bool) → AreApart (cond b [] (left_of conn [] s.subs))
     go true = tt
     go false = apart_among (λ (sub : Subscription). is_of conn sub && is_left [] sub) s.subs rising
+ended_once s (SetHeaders conn on) rising = tt
 ended_once s (Shut conn text) rising = apart_among (λ (sub : Subscription). is_of conn sub && is_left [] sub) s.subs rising
 ended_once s (Detach conn) rising = apart_among (λ (sub : Subscription). is_of conn sub && is_left [] sub) s.subs rising
 ended_once s (Take conn count) rising = tt
@@ -600,8 +604,8 @@ claim_why s index won held sub there hand o b at is at_hand w = go hand o b at i
     go (Some job) None c e f g x = lost (λ i. given_by_claim (e i) (f i) (x i))
     go (Some job) (Some u) false e f g x = lost (λ i. given_by_claim (e i) (f i) (x i))
     go (Some job) (Some u) true e f g x =
-        with_walk s (Claim index won) held sub there (walk_with_entry (due_entry s.shard job u.key.queue u) u (first_step s.clients)) (λ i. (after_claim s (e i) (f i) (x i)).clients) (λ i. given_by_claim (e i) (f i) (x i)) ((λ k i. absurd i), tt)
-        (give_told s (due_entry s.shard job u.key.queue u) u (first_step s.clients) held.rising (candidate_open s (Some job) index u g) (first_told s)) (λ un. un)
+        with_walk s (Claim index won) held sub there (walk_with_entry (owed_entry s.shard s.clients job u.key.queue u) u (first_step s.clients)) (λ i. (after_claim s (e i) (f i) (x i)).clients) (λ i. given_by_claim (e i) (f i) (x i)) ((λ k i. absurd i), tt)
+        (give_told s (owed_entry s.shard s.clients job u.key.queue u) u (first_step s.clients) held.rising (candidate_open s (Some job) index u g) (first_told s)) (λ un. un)
 
 why : (s : State) (e : Event) → AreHeld s → shard_refusal s e ≡ None → (sub : Subscription) → In sub s.subs → In sub.serial (serials_ended s e) ↔ HasCause s e sub
 why s Attach held cause sub i = (λ j. absurd j, λ x. absurd (nothing s Attach held sub i (λ k d. d) (λ k j. j) refl (λ un. un) x))
@@ -614,6 +618,7 @@ why s (Reply conn frame) held cause sub i = go (answer_fits s conn (reply_line f
     go false e = subst (λ b. In sub.serial (cond b [] (left_of conn [] s.subs)) ↔ HasCause s (Reply conn frame) sub) (sym e)
         (with_conn s (Reply conn frame) held sub i conn (ap (λ b. is_open conn (cond b (record s { clients = clients_with_change (λ backlog. record { entries = backlog.entries ++ reply_entry (reply_line frame) ∷ []; shut = backlog.shut }) conn s.clients }) (was_shut s conn slow_consumer)).clients) e ∙ shuts slow_consumer conn s.clients)
         (λ k apart o. stays_after s (Reply conn frame) k o (λ d. d) (λ j. ⊎_elim (λ f. apart f) (λ f. f) (subst (λ b. In k (cond b [] (conn ∷ []))) e j))) refl (λ un. un))
+why s (SetHeaders conn on) held cause sub i = (λ j. absurd j, λ x. absurd (nothing s (SetHeaders conn on) held sub i (λ k d. d) (λ k j. j) refl (λ un. un) x))
 why s (Shut conn text) held cause sub i = with_conn s (Shut conn text) held sub i conn (shuts (err_line text) conn s.clients) (λ k apart o. stays_after s (Shut conn text) k o (λ d. d) (λ j. ⊎_elim (λ f. apart f) (λ f. f) j)) refl (λ un. un)
 why s (Detach conn) held cause sub i = with_conn s (Detach conn) held sub i conn (ap takes_events (gone conn s.clients)) (λ k apart o. stays_after s (Detach conn) k o apart (λ j. j)) refl (λ un. un)
 why s (Take conn count) held cause sub i = (λ j. absurd j, λ x. absurd (nothing s (Take conn count) held sub i (λ k d. d) (λ k j. j) refl (λ un. un) x))
@@ -631,57 +636,6 @@ closes_by_cause s e held cause sub i =
     (λ x. y.0 (c.0 x), λ x. c.1 (y.1 x))
 
 -- ---- what every shard keeps
-
--- the shard's number stays, and numbers go on
-pub record Fixed (s t : State) : Type 0 where
-  pub shard : t.shard ≡ s.shard
-  pub shards : t.shards ≡ s.shards
-  pub next : (t.next_conn ≡ s.next_conn) ⊎ (t.next_conn ≡ s.next_conn + s.shards)
-  pub opened : s.opened ≤ t.opened
-
-same_fixed : (s : State) (clients : List Client) (subs : List Subscription) → Fixed s (record s { clients = clients; subs = subs })
-same_fixed s clients subs = record { shard = refl; shards = refl; next = inl refl; opened = omega arith }
-
-either_fixed : (s x y : State) → Fixed s x → Fixed s y → (b : Bool) → Fixed s (cond b x y)
-either_fixed s x y f g true = f
-either_fixed s x y f g false = g
-
-pub fixed : (s : State) (e : Event) → Fixed s (shard_after s e)
-fixed s Attach = record { shard = refl; shards = refl; next = inr refl; opened = omega arith }
-fixed s (Subscribe conn key sid) = go (sub_called conn sid s.subs)
-  where
-    go : (o : Option Subscription) → Fixed s (after_subscribe s (new_sub s conn key sid) o)
-    go None = record { shard = refl; shards = refl; next = inl refl; opened = omega arith }
-    go (Some u) = same_fixed s s.clients s.subs
-fixed s (Unsubscribe conn sid max) = go (sub_called conn sid s.subs)
-  where
-    go : (o : Option Subscription) → Fixed s (after_unsubscribe s max o)
-    go None = same_fixed s s.clients s.subs
-    go (Some u) = either_fixed s _ _ (record { shard = refl; shards = refl; next = inl refl; opened = omega arith }) (record { shard = refl; shards = refl; next = inl refl; opened = omega arith }) (ended_now max u)
-fixed s (Reply conn frame) = either_fixed s _ _ (record { shard = refl; shards = refl; next = inl refl; opened = omega arith }) (record { shard = refl; shards = refl; next = inl refl; opened = omega arith }) (answer_fits s conn (reply_line frame))
-fixed s (Shut conn text) = record { shard = refl; shards = refl; next = inl refl; opened = omega arith }
-fixed s (Detach conn) = record { shard = refl; shards = refl; next = inl refl; opened = omega arith }
-fixed s (Take conn count) = record { shard = refl; shards = refl; next = inl refl; opened = omega arith }
-fixed s (Begin job) = record { shard = refl; shards = refl; next = inl refl; opened = omega arith }
-fixed s (Claim index won) = go s.hand (candidate_of s s.hand index) won
-  where
-    go : (hand : Option Job) (o : Option Subscription) (b : Bool) → Fixed s (after_claim s hand o b)
-    go None o b = same_fixed s s.clients s.subs
-    go (Some job) None b = record { shard = refl; shards = refl; next = inl refl; opened = omega arith }
-    go (Some job) (Some u) true = record { shard = refl; shards = refl; next = inl refl; opened = omega arith }
-    go (Some job) (Some u) false = record { shard = refl; shards = refl; next = inl refl; opened = omega arith }
-fixed s End = go s.hand
-  where
-    go : (o : Option Job) → Fixed s (done_with s o)
-    go None = same_fixed s s.clients s.subs
-    go (Some job) = record { shard = refl; shards = refl; next = inl refl; opened = omega arith }
-fixed s (DropJob waiting) = go (option_or s.hand waiting)
-  where
-    go : (o : Option Job) → Fixed s (done_with s o)
-    go None = same_fixed s s.clients s.subs
-    go (Some job) = record { shard = refl; shards = refl; next = inl refl; opened = omega arith }
-fixed s Drain = record { shard = refl; shards = refl; next = inl refl; opened = omega arith }
-fixed s Collect = record { shard = refl; shards = refl; next = inl refl; opened = omega arith }
 
 module _ (s : State) (e : Event) (held : AreHeld s) (cause : shard_refusal s e ≡ None) where
   after_rising : AreRising (shard_after s e).subs
@@ -717,6 +671,7 @@ module _ (s : State) (e : Event) (held : AreHeld s) (cause : shard_refusal s e �
           go true f g = let c = call conn sid old f in inr (c.0, c.1, subst (λ o. HasEnough o old.delivered) (sym g) (omega arith))
           go false f g = inl (m, g, le)
       by (Reply conn frame) is le = inl (m, is, le)
+      by (SetHeaders conn on) is le = inl (m, is, le)
       by (Shut conn text) is le = inl (m, is, le)
       by (Detach conn) is le = inl (m, is, le)
       by (Take conn count) is le = inl (m, is, le)

@@ -13,7 +13,7 @@ use Rattle.subj.specs.declared.jobs.Job.{Job}
 use Rattle.shard_core.specs.Shards.{State, client_at, is_open, clients_with_change, fits}
 use Rattle.shard_core.specs.Closings.{serials_of, is_left, left_of}
 use Rattle.shard_core.specs.Opened.{AreRising, AreApart}
-use Rattle.shard_core.specs.Owed.{Walk, walk, whole_walk, first_step, walk_with_entry, walk_with_shut, slow_consumer, due_entry, reaches, ended_by, is_due}
+use Rattle.shard_core.specs.Owed.{Walk, walk, whole_walk, first_step, walk_with_entry, walk_with_shut, slow_consumer, owed_entry, reaches, ended_by, is_due}
 use Rattle.shard_core.proofs.Steps.LawEvents.{walk_gives}
 use Rattle.shard_core.proofs.Clients.Outboxes.{stays_open, stays_shut, shuts}
 use Rattle.shard_core.proofs.Closings.Serials.{apart_among}
@@ -53,10 +53,10 @@ in_left_of conn ended subs k there =
       unless true e = absurd (true≢false (sym e))
       unless false e = refl
 
-given_fresh : (s : State) (job : Job) (u : Subscription) (rest : List Subscription) (w : Walk) → Each (λ v. u.serial ≢ v.serial) rest → is_open u.conn w.clients ≡ true → IsFresh (u ∷ rest) w → IsFresh rest (walk_with_entry (due_entry s.shard job None u) u w)
+given_fresh : (s : State) (job : Job) (u : Subscription) (rest : List Subscription) (w : Walk) → Each (λ v. u.serial ≢ v.serial) rest → is_open u.conn w.clients ≡ true → IsFresh (u ∷ rest) w → IsFresh rest (walk_with_entry (owed_entry s.shard s.clients job None u) u w)
 given_fresh s job u rest w apart opened h = record {
   apart = pairs_append (λ (j k : ℕ). j ≢ k) w.ended (ended_by u) h.apart (one_apart u) (λ j k i l e. h.fresh u (inl refl) opened (subst (λ n. In n w.ended) (e ∙ in_ended_by u k l) i));
-  fresh = λ v i o there. by v i (sym (stays_open (due_entry s.shard job None u) v.conn u.conn w.clients) ∙ o) (in_append v.serial w.ended (ended_by u) there);
+  fresh = λ v i o there. by v i (sym (stays_open (owed_entry s.shard s.clients job None u) v.conn u.conn w.clients) ∙ o) (in_append v.serial w.ended (ended_by u) there);
 } where
   by : (v : Subscription) → In v rest → is_open v.conn w.clients ≡ true → In v.serial w.ended ⊎ In v.serial (ended_by u) → ⊥
   by v i o (inl there) = h.fresh v (inr i) o there
@@ -93,10 +93,10 @@ less_fresh u rest w h = record { apart = h.apart; fresh = λ v i o there. h.fres
 
 walk_fresh : (s : State) (job : Job) (due : List Subscription) (w : Walk) → AreRising s.subs → Each (λ v. In v s.subs) due → AreDistinct due → IsFresh due w → IsFresh [] (walk s job due w)
 walk_fresh s job [] w rising among apart h = h
-walk_fresh s job (u ∷ due) w rising among apart h = by (is_open u.conn w.clients) (fits (client_at u.conn w.clients) (due_entry s.shard job None u)) refl (λ v g. walk_fresh s job due v rising (λ x i. among x (inr i)) apart.1 g) where
-  by : (o r : Bool) → is_open u.conn w.clients ≡ o → ((v : Walk) → IsFresh due v → IsFresh [] (walk s job due v)) → IsFresh [] (walk s job due (cond o (cond r (walk_with_entry (due_entry s.shard job None u) u w) (walk_with_shut s.subs u.conn w)) w))
+walk_fresh s job (u ∷ due) w rising among apart h = by (is_open u.conn w.clients) (fits (client_at u.conn w.clients) (owed_entry s.shard s.clients job None u)) refl (λ v g. walk_fresh s job due v rising (λ x i. among x (inr i)) apart.1 g) where
+  by : (o r : Bool) → is_open u.conn w.clients ≡ o → ((v : Walk) → IsFresh due v → IsFresh [] (walk s job due v)) → IsFresh [] (walk s job due (cond o (cond r (walk_with_entry (owed_entry s.shard s.clients job None u) u w) (walk_with_shut s.subs u.conn w)) w))
   by false r e more = more w (less_fresh u due w h)
-  by true true e more = more (walk_with_entry (due_entry s.shard job None u) u w) (given_fresh s job u due w apart.0 e h)
+  by true true e more = more (walk_with_entry (owed_entry s.shard s.clients job None u) u w) (given_fresh s job u due w apart.0 e h)
   by true false e more = more (walk_with_shut s.subs u.conn w) (shut_fresh s u due w rising (λ x i. among x (inr i)) h)
 
 due_among : (job : Job) (subs : List Subscription) → Each (λ v. In v subs) (filter (is_due job) subs)

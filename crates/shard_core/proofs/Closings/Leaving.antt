@@ -11,14 +11,14 @@ use Rattle.client_frames.specs.Frames.{reply_line}
 use Rattle.outbox.specs.Views.{Written, with_entry, with_last, without_first, reply_entry}
 use Rattle.sub_table.specs.declared.Subscription.{Subscription}
 use Rattle.subj.specs.declared.jobs.Job.{Job}
-use Rattle.shard_core.specs.Shards.{State, Client, client_at, takes_events, is_open, with_outbox, clients_with_change, fits}
-use Rattle.shard_core.specs.Owed.{Walk, walk, whole_walk, first_step, walk_after_put, walk_with_entry, walk_with_shut, slow_consumer, due_entry, placed_for, is_due, candidate_of, after_claim}
+use Rattle.shard_core.specs.Shards.{State, Client, client_at, takes_events, is_open, takes_headers, with_outbox, clients_with_change, fits}
+use Rattle.shard_core.specs.Owed.{Walk, walk, whole_walk, first_step, walk_after_put, walk_with_entry, walk_with_shut, slow_consumer, owed_entry, owed_placed, is_due, candidate_of, after_claim}
 use Rattle.shard_core.specs.Puts.{entries_for}
-use Rattle.shard_core.specs.ShardEvents.{Event, Attach, Subscribe, Unsubscribe, Reply, Shut, Detach, Take, Begin, Claim, End, DropJob, Drain, Collect}
+use Rattle.shard_core.specs.ShardEvents.{Event, Attach, Subscribe, Unsubscribe, Reply, SetHeaders, Shut, Detach, Take, Begin, Claim, End, DropJob, Drain, Collect}
 use Rattle.shard_core.specs.ShardSteps.{sub_called, new_client, new_sub, after_subscribe, ended_now, after_unsubscribe, answer_fits, was_shut, done_with, shard_refusal, shard_after, shut_by}
 use Rattle.shard_core.specs.Causes.{Leaves, with_entries, with_given, IsDetached, ConnectionsLeave, GivesAll, RoomDecides}
 use Rattle.shard_core.proofs.Steps.LawEvents.{walk_gives}
-use Rattle.shard_core.proofs.Clients.Outboxes.{changed_here, changed_there, gone, stays, entries_append, entries_here, entries_there, stays_open, stays_shut, shuts}
+use Rattle.shard_core.proofs.Clients.Outboxes.{changed_here, changed_there, chosen_same, gone, stays, entries_append, entries_here, entries_there, stays_open, stays_shut, shuts}
 
 -- ---- whether a connection takes events
 
@@ -82,19 +82,19 @@ shut_shows s u w opened h = record {
 -- what holds of a walk after each of its ways holds after a step of it
 pub each_way : (P : Walk → Type 0) (s : State) (job : Job) (w : Walk) (u : Subscription)
     → P w
-    → (is_open u.conn w.clients ≡ true → fits (client_at u.conn w.clients) (due_entry s.shard job None u) ≡ true → P (walk_with_entry (due_entry s.shard job None u) u w))
-    → (is_open u.conn w.clients ≡ true → fits (client_at u.conn w.clients) (due_entry s.shard job None u) ≡ false → P (walk_with_shut s.subs u.conn w))
+    → (is_open u.conn w.clients ≡ true → fits (client_at u.conn w.clients) (owed_entry s.shard s.clients job None u) ≡ true → P (walk_with_entry (owed_entry s.shard s.clients job None u) u w))
+    → (is_open u.conn w.clients ≡ true → fits (client_at u.conn w.clients) (owed_entry s.shard s.clients job None u) ≡ false → P (walk_with_shut s.subs u.conn w))
     → P (walk_after_put s job w u)
-each_way P s job w u same gives shuts = go (is_open u.conn w.clients) (fits (client_at u.conn w.clients) (due_entry s.shard job None u)) refl refl
+each_way P s job w u same gives shuts = go (is_open u.conn w.clients) (fits (client_at u.conn w.clients) (owed_entry s.shard s.clients job None u)) refl refl
   where
-    go : (o r : Bool) → is_open u.conn w.clients ≡ o → fits (client_at u.conn w.clients) (due_entry s.shard job None u) ≡ r → P (cond o (cond r (walk_with_entry (due_entry s.shard job None u) u w) (walk_with_shut s.subs u.conn w)) w)
+    go : (o r : Bool) → is_open u.conn w.clients ≡ o → fits (client_at u.conn w.clients) (owed_entry s.shard s.clients job None u) ≡ r → P (cond o (cond r (walk_with_entry (owed_entry s.shard s.clients job None u) u w) (walk_with_shut s.subs u.conn w)) w)
     go false r e f = same
     go true true e f = gives e f
     go true false e f = shuts e f
 
 pub walk_shows : (s : State) (job : Job) (due : List Subscription) (w : Walk) → Shows s w → Shows s (walk s job due w)
 walk_shows s job [] w h = h
-walk_shows s job (u ∷ due) w h = walk_shows s job due (walk_after_put s job w u) (each_way (Shows s) s job w u h (λ e f. give_shows s (due_entry s.shard job None u) u w h) (λ e f. shut_shows s u w e h))
+walk_shows s job (u ∷ due) w h = walk_shows s job due (walk_after_put s job w u) (each_way (Shows s) s job w u h (λ e f. give_shows s (owed_entry s.shard s.clients job None u) u w h) (λ e f. shut_shows s u w e h))
 
 pub walked_shows : (s : State) (job : Job) → Shows s (whole_walk s job)
 walked_shows s job = walk_shows s job (filter (is_due job) s.subs) (first_step s.clients) (first_shows s)
@@ -102,7 +102,7 @@ walked_shows s job = walk_shows s job (filter (is_due job) s.subs) (first_step s
 -- ---- for want of room
 
 abbrev Lacks : State → Job → List Subscription → List Subscription → ℕ → Type 0
-Lacks s job due given k = (u : Subscription) × In u due × (u.conn ≡ k) × (fits (with_given s job given k) (due_entry s.shard job None u) ≡ false)
+Lacks s job due given k = (u : Subscription) × In u due × (u.conn ≡ k) × (fits (with_given s job given k) (owed_entry s.shard s.clients job None u) ≡ false)
 
 record Fills (s : State) (job : Job) (due : List Subscription) (w : Walk) : Type 0 where
   same : (k : ℕ) → is_open k w.clients ≡ true → client_at k w.clients ≡ with_given s job w.given k
@@ -116,34 +116,34 @@ one_behind : (entries : List Written) (entry : Written) (x : Option Client) → 
 one_behind entries entry None = refl
 one_behind entries entry (Some x) = λ i. Some (record x { outbox = record x.outbox { entries = append_assoc x.outbox.entries entries (entry ∷ []) i } })
 
-entries_more : (s : State) (job : Job) (k : ℕ) (given : List Subscription) (u : Subscription) → entries_for k (map (placed_for s.shard job None) (given ++ u ∷ [])) ≡ entries_for k (map (placed_for s.shard job None) given) ++ entries_for k (placed_for s.shard job None u ∷ [])
-entries_more s job k given u = ap (entries_for k) (map_append (placed_for s.shard job None) given (u ∷ [])) ∙ entries_append k (map (placed_for s.shard job None) given) (placed_for s.shard job None u ∷ [])
+entries_more : (s : State) (job : Job) (k : ℕ) (given : List Subscription) (u : Subscription) → entries_for k (map (owed_placed s.shard s.clients job None) (given ++ u ∷ [])) ≡ entries_for k (map (owed_placed s.shard s.clients job None) given) ++ entries_for k (owed_placed s.shard s.clients job None u ∷ [])
+entries_more s job k given u = ap (entries_for k) (map_append (owed_placed s.shard s.clients job None) given (u ∷ [])) ∙ entries_append k (map (owed_placed s.shard s.clients job None) given) (owed_placed s.shard s.clients job None u ∷ [])
 
-given_here : (s : State) (job : Job) (given : List Subscription) (u : Subscription) → option_map (with_outbox (with_entry (due_entry s.shard job None u))) (with_given s job given u.conn) ≡ with_given s job (given ++ u ∷ []) u.conn
+given_here : (s : State) (job : Job) (given : List Subscription) (u : Subscription) → option_map (with_outbox (with_entry (owed_entry s.shard s.clients job None u))) (with_given s job given u.conn) ≡ with_given s job (given ++ u ∷ []) u.conn
 given_here s job given u =
-    one_behind (entries_for u.conn (map (placed_for s.shard job None) given)) (due_entry s.shard job None u) (client_at u.conn s.clients)
-    ∙ ap (λ t. option_map (with_outbox (with_entries t)) (client_at u.conn s.clients)) (sym (entries_more s job u.conn given u ∙ ap (λ t. entries_for u.conn (map (placed_for s.shard job None) given) ++ t) (entries_here u.conn (due_entry s.shard job None u))))
+    one_behind (entries_for u.conn (map (owed_placed s.shard s.clients job None) given)) (owed_entry s.shard s.clients job None u) (client_at u.conn s.clients)
+    ∙ ap (λ t. option_map (with_outbox (with_entries t)) (client_at u.conn s.clients)) (sym (entries_more s job u.conn given u ∙ ap (λ t. entries_for u.conn (map (owed_placed s.shard s.clients job None) given) ++ t) (entries_here u.conn (takes_headers u.conn s.clients) (owed_entry s.shard s.clients job None u))))
 
 given_there : (s : State) (job : Job) (given : List Subscription) (u : Subscription) (k : ℕ) → k ≢ u.conn → with_given s job given k ≡ with_given s job (given ++ u ∷ []) k
-given_there s job given u k apart = ap (λ t. option_map (with_outbox (with_entries t)) (client_at k s.clients)) (sym (entries_more s job k given u ∙ ap (λ t. entries_for k (map (placed_for s.shard job None) given) ++ t) (entries_there k u.conn (due_entry s.shard job None u) apart) ∙ append_nil (entries_for k (map (placed_for s.shard job None) given))))
+given_there s job given u k apart = ap (λ t. option_map (with_outbox (with_entries t)) (client_at k s.clients)) (sym (entries_more s job k given u ∙ ap (λ t. entries_for k (map (owed_placed s.shard s.clients job None) given) ++ t) (entries_there k u.conn (takes_headers u.conn s.clients) (owed_entry s.shard s.clients job None u) apart) ∙ append_nil (entries_for k (map (owed_placed s.shard s.clients job None) given))))
 
-give_fills : (s : State) (job : Job) (due : List Subscription) (u : Subscription) (w : Walk) → is_open u.conn w.clients ≡ true → Fills s job due w → Fills s job due (walk_with_entry (due_entry s.shard job None u) u w)
+give_fills : (s : State) (job : Job) (due : List Subscription) (u : Subscription) (w : Walk) → is_open u.conn w.clients ≡ true → Fills s job due w → Fills s job due (walk_with_entry (owed_entry s.shard s.clients job None u) u w)
 give_fills s job due u w opened h = record {
-  same = λ k o. here k (sym (stays_open (due_entry s.shard job None u) k u.conn w.clients) ∙ o) (nat_eq k u.conn) refl;
-  lack = λ k i. let x = h.lack k i in (stays_open (due_entry s.shard job None u) k u.conn w.clients ∙ x.0, (x.1.0, x.1.1, x.1.2, ap (λ t. fits t (due_entry s.shard job None x.1.0)) (sym (given_there s job w.given u k (apart k x.0))) ∙ x.1.3));
+  same = λ k o. here k (sym (stays_open (owed_entry s.shard s.clients job None u) k u.conn w.clients) ∙ o) (nat_eq k u.conn) refl;
+  lack = λ k i. let x = h.lack k i in (stays_open (owed_entry s.shard s.clients job None u) k u.conn w.clients ∙ x.0, (x.1.0, x.1.1, x.1.2, ap (λ t. fits t (owed_entry s.shard s.clients job None x.1.0)) (sym (given_there s job w.given u k (apart k x.0))) ∙ x.1.3));
 }
   where
     apart : (k : ℕ) → is_open k w.clients ≡ false → k ≢ u.conn
     apart k c e = true≢false (sym opened ∙ sym (ap (λ m. is_open m w.clients) e) ∙ c)
 
-    here : (k : ℕ) → is_open k w.clients ≡ true → (b : Bool) → nat_eq k u.conn ≡ b → client_at k (clients_with_change (with_entry (due_entry s.shard job None u)) u.conn w.clients) ≡ with_given s job (w.given ++ u ∷ []) k
-    here k o true e = subst (λ m. client_at m (clients_with_change (with_entry (due_entry s.shard job None u)) u.conn w.clients) ≡ with_given s job (w.given ++ u ∷ []) m) (sym (eq_true k u.conn e)) (changed_here (with_entry (due_entry s.shard job None u)) u.conn w.clients ∙ ap (option_map (with_outbox (with_entry (due_entry s.shard job None u)))) (h.same u.conn opened) ∙ given_here s job w.given u)
-    here k o false e = changed_there (with_entry (due_entry s.shard job None u)) k u.conn w.clients (eq_false k u.conn e) ∙ h.same k o ∙ given_there s job w.given u k (eq_false k u.conn e)
+    here : (k : ℕ) → is_open k w.clients ≡ true → (b : Bool) → nat_eq k u.conn ≡ b → client_at k (clients_with_change (with_entry (owed_entry s.shard s.clients job None u)) u.conn w.clients) ≡ with_given s job (w.given ++ u ∷ []) k
+    here k o true e = subst (λ m. client_at m (clients_with_change (with_entry (owed_entry s.shard s.clients job None u)) u.conn w.clients) ≡ with_given s job (w.given ++ u ∷ []) m) (sym (eq_true k u.conn e)) (changed_here (with_entry (owed_entry s.shard s.clients job None u)) u.conn w.clients ∙ ap (option_map (with_outbox (with_entry (owed_entry s.shard s.clients job None u)))) (h.same u.conn opened) ∙ given_here s job w.given u)
+    here k o false e = changed_there (with_entry (owed_entry s.shard s.clients job None u)) k u.conn w.clients (eq_false k u.conn e) ∙ h.same k o ∙ given_there s job w.given u k (eq_false k u.conn e)
 
-shut_fills : (s : State) (job : Job) (due : List Subscription) (u : Subscription) (w : Walk) → In u due → is_open u.conn w.clients ≡ true → fits (client_at u.conn w.clients) (due_entry s.shard job None u) ≡ false → Fills s job due w → Fills s job due (walk_with_shut s.subs u.conn w)
+shut_fills : (s : State) (job : Job) (due : List Subscription) (u : Subscription) (w : Walk) → In u due → is_open u.conn w.clients ≡ true → fits (client_at u.conn w.clients) (owed_entry s.shard s.clients job None u) ≡ false → Fills s job due w → Fills s job due (walk_with_shut s.subs u.conn w)
 shut_fills s job due u w here opened full h = record {
   same = λ k o. let x = still_open slow_consumer u.conn k w.clients o in changed_there (with_last slow_consumer) k u.conn w.clients x.1 ∙ h.same k x.0;
-  lack = λ k i. ⊎_elim (λ j. let x = h.lack k j in (stays_shut slow_consumer k u.conn w.clients x.0, x.1)) (λ j. ⊎_elim (λ (e : k ≡ u.conn). subst (λ m. (is_open m (clients_with_change (with_last slow_consumer) u.conn w.clients) ≡ false) × Lacks s job due w.given m) (sym e) (shuts slow_consumer u.conn w.clients, (u, here, refl, ap (λ t. fits t (due_entry s.shard job None u)) (sym (h.same u.conn opened)) ∙ full))) (λ f. absurd f) j) (in_append k w.shut (u.conn ∷ []) i);
+  lack = λ k i. ⊎_elim (λ j. let x = h.lack k j in (stays_shut slow_consumer k u.conn w.clients x.0, x.1)) (λ j. ⊎_elim (λ (e : k ≡ u.conn). subst (λ m. (is_open m (clients_with_change (with_last slow_consumer) u.conn w.clients) ≡ false) × Lacks s job due w.given m) (sym e) (shuts slow_consumer u.conn w.clients, (u, here, refl, ap (λ t. fits t (owed_entry s.shard s.clients job None u)) (sym (h.same u.conn opened)) ∙ full))) (λ f. absurd f) j) (in_append k w.shut (u.conn ∷ []) i);
 }
 
 walk_fills : (s : State) (job : Job) (all due : List Subscription) (w : Walk) → Each (λ u. In u all) due → Fills s job all w → Fills s job all (walk s job due w)
@@ -157,7 +157,7 @@ walked_fills s job = walk_fills s job (filter (is_due job) s.subs) (filter (is_d
 
 walk_shut : (s : State) (job : Job) (k : ℕ) (due : List Subscription) (w : Walk) → is_open k w.clients ≡ false → is_open k (walk s job due w).clients ≡ false
 walk_shut s job k [] w c = c
-walk_shut s job k (u ∷ due) w c = walk_shut s job k due (walk_after_put s job w u) (each_way (λ (v : Walk). is_open k v.clients ≡ false) s job w u c (λ e f. stays_open (due_entry s.shard job None u) k u.conn w.clients ∙ c) (λ e f. stays_shut slow_consumer k u.conn w.clients c))
+walk_shut s job k (u ∷ due) w c = walk_shut s job k due (walk_after_put s job w u) (each_way (λ (v : Walk). is_open k v.clients ≡ false) s job w u c (λ e f. stays_open (owed_entry s.shard s.clients job None u) k u.conn w.clients ∙ c) (λ e f. stays_shut slow_consumer k u.conn w.clients c))
 
 walk_all : (s : State) (job : Job) (due : List Subscription) (w : Walk) (u : Subscription) → In u due → In u (walk s job due w).given ⊎ (is_open u.conn (walk s job due w).clients ≡ false)
 walk_all s job [] w u i = absurd i
@@ -167,9 +167,9 @@ walk_all s job (v ∷ due) w u i = ⊎_elim
     i
   where
     here : In v (walk_after_put s job w v).given ⊎ (is_open v.conn (walk_after_put s job w v).clients ≡ false)
-    here = go (is_open v.conn w.clients) (fits (client_at v.conn w.clients) (due_entry s.shard job None v)) refl
+    here = go (is_open v.conn w.clients) (fits (client_at v.conn w.clients) (owed_entry s.shard s.clients job None v)) refl
       where
-        go : (o r : Bool) → is_open v.conn w.clients ≡ o → In v (cond o (cond r (walk_with_entry (due_entry s.shard job None v) v w) (walk_with_shut s.subs v.conn w)) w).given ⊎ (is_open v.conn (cond o (cond r (walk_with_entry (due_entry s.shard job None v) v w) (walk_with_shut s.subs v.conn w)) w).clients ≡ false)
+        go : (o r : Bool) → is_open v.conn w.clients ≡ o → In v (cond o (cond r (walk_with_entry (owed_entry s.shard s.clients job None v) v w) (walk_with_shut s.subs v.conn w)) w).given ⊎ (is_open v.conn (cond o (cond r (walk_with_entry (owed_entry s.shard s.clients job None v) v w) (walk_with_shut s.subs v.conn w)) w).clients ≡ false)
         go false r e = inr e
         go true true e = inl (in_right v w.given (v ∷ []) (inl refl))
         go true false e = inr (shuts slow_consumer v.conn w.clients)
@@ -211,7 +211,7 @@ done_clients s (Some job) = refl
 claimed_open : (s : State) (hand : Option Job) (o : Option Subscription) (won : Bool) (k : ℕ) → is_open k s.clients ≡ true → is_open k (after_claim s hand o won).clients ≡ true
 claimed_open s None o won k e = e
 claimed_open s (Some job) None won k e = e
-claimed_open s (Some job) (Some u) true k e = stays_open (due_entry s.shard job u.key.queue u) k u.conn s.clients ∙ e
+claimed_open s (Some job) (Some u) true k e = stays_open (owed_entry s.shard s.clients job u.key.queue u) k u.conn s.clients ∙ e
 claimed_open s (Some job) (Some u) false k e = e
 
 -- which connections take events after an event that takes or gives but shuts none
@@ -224,6 +224,7 @@ stays_after s (Reply conn frame) k o not none = go (answer_fits s conn (reply_li
     go : (b : Bool) → (In k (cond b [] (conn ∷ [])) → ⊥) → is_open k (cond b (record s { clients = clients_with_change (with_entry (reply_entry (reply_line frame))) conn s.clients }) (was_shut s conn slow_consumer)).clients ≡ true
     go true out = stays_open (reply_entry (reply_line frame)) k conn s.clients ∙ o
     go false out = open_there slow_consumer conn k s.clients (λ e. out (inl e)) ∙ o
+stays_after s (SetHeaders conn on) k o not none = chosen_same takes_events (λ on client. refl) on k conn s.clients ∙ o
 stays_after s (Shut conn text) k o not none = open_there (err_line text) conn k s.clients (λ e. none (inl e)) ∙ o
 stays_after s (Detach conn) k o not none = ap takes_events (stays k conn not s.clients) ∙ o
 stays_after s (Take conn count) k o not none = takes_open count k conn s.clients ∙ o
@@ -261,6 +262,7 @@ leave s (Reply conn frame) cause = go (answer_fits s conn (reply_line frame)) re
         by : (k : ℕ) → Leaves s (shard_after s (Reply conn frame)) k → (b : Bool) → nat_eq k conn ≡ b → IsDetached (Reply conn frame) k ⊎ In k (shut_by s (Reply conn frame))
         by k l true f = inr (subst (λ b. In k (cond b [] (conn ∷ []))) (sym e) (inl (eq_true k conn f)))
         by k l false f = absurd (true≢false (sym (stays_after s (Reply conn frame) k l.0 (λ x. x) (λ i. ⊎_elim (λ g. eq_false k conn f g) (λ g. g) (subst (λ b. In k (cond b [] (conn ∷ []))) e i))) ∙ l.1))
+leave s (SetHeaders conn on) cause = quiet s (SetHeaders conn on) (λ k o. stays_after s (SetHeaders conn on) k o (λ x. x) (λ x. x)) (λ k x. x) refl
 leave s (Shut conn text) cause = record {
   left = λ k. (λ l. (l.0, by k l (nat_eq k conn) refl), λ x. (x.0, ⊎_elim (λ d. absurd d) (λ i. ⊎_elim (λ (f : k ≡ conn). subst (λ m. is_open m (clients_with_change (with_last (err_line text)) conn s.clients) ≡ false) (sym f) (shuts (err_line text) conn s.clients)) (λ f. absurd f) i) x.1));
   shut = λ k i. inl (⊎_elim (λ f. f) (λ f. absurd f) i);

@@ -1,7 +1,7 @@
 -- The examples, computed.
 use Rattle.std.proofs.Common.{refl}
 use Rattle.std.specs.Fmt.{digits}
-use Rattle.shard_core.specs.Examples.{ClosesTheSlow, FillsTheRoom, TellsOnce, ChoosesByTurn, ClaimsOnce, KeepsTheMaximum, FillsAnOutbox}
+use Rattle.shard_core.specs.Examples.{ClosesTheSlow, FillsTheRoom, TellsOnce, ChoosesByTurn, ClaimsOnce, KeepsTheMaximum, SendsHeaders, FillsAnOutbox}
 
 pub closes_the_slow : ClosesTheSlow
 unfolding digits
@@ -26,6 +26,10 @@ claims_once = record { won = (refl, refl); placed = refl; lost = (refl, refl); n
 pub keeps_the_maximum : KeepsTheMaximum
 unfolding digits
 keeps_the_maximum = record { last = (refl, refl); one_more = (refl, refl); reached = (refl, refl); not_reached = (refl, refl); greater = refl; smaller = refl }
+
+pub sends_headers : SendsHeaders
+unfolding digits
+sends_headers = record { set = (refl, refl); without = refl; with_block = refl; claimed = refl; plain_one = refl; chosen_again = refl; no_room = refl; not_there = refl; new_one = refl }
 
 pub fills_an_outbox : FillsAnOutbox
 unfolding digits

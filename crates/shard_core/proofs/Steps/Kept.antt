@@ -8,9 +8,9 @@ use Rattle.sub_table.specs.Subscriptions.{has_serial, with_max}
 use Rattle.sub_table.specs.declared.Subscription.{Subscription}
 use Rattle.subj.specs.declared.jobs.Job.{Job}
 use Rattle.subj.specs.declared.limits.TheConstants.{MAX_COUNTER, MAX_QUEUE_NAMES}
-use Rattle.shard_core.specs.Shards.{State, Client, has_number, with_outbox, clients_with_change, without_client, client_at, is_open, fits}
+use Rattle.shard_core.specs.Shards.{State, Client, has_number, with_outbox, with_headers, clients_with_headers, clients_with_change, without_client, client_at, is_open, fits}
 use Rattle.shard_core.specs.Closings.{is_left, serials_of}
-use Rattle.shard_core.specs.Owed.{Walk, walk, whole_walk, first_step, walk_with_entry, walk_with_shut, slow_consumer, due_entry, is_due, sub_with_count}
+use Rattle.shard_core.specs.Owed.{Walk, walk, whole_walk, first_step, walk_with_entry, walk_with_shut, slow_consumer, owed_entry, is_due, sub_with_count}
 use Rattle.shard_core.specs.declared.calls.Begun.{Begun}
 use Rattle.shard_core.specs.Tallies.{HasPlaced}
 use Rattle.shard_core.specs.ShardSteps.{new_client}
@@ -32,6 +32,18 @@ below_changed n change conn (client ∷ clients) below =
 
 pub numbered_changed : (shards n : ℕ) (change : Backlog → Backlog) (conn : ℕ) (clients : List Client) → AreNumbered shards n clients → AreNumbered shards n (clients_with_change change conn clients)
 numbered_changed shards n change conn clients was = record { some = was.some; few = was.few; numbers = was.numbers; below = below_changed n change conn clients was.below }
+
+below_chosen : (n : ℕ) (on : Bool) (conn : ℕ) (clients : List Client) → All (λ (client : Client). client.number < n) clients → All (λ (client : Client). client.number < n) (clients_with_headers on conn clients)
+below_chosen n on conn [] below = below
+below_chosen n on conn (client ∷ clients) below =
+    let P = λ (client : Client). client.number < n in
+    by (has_number conn client) (All-head P client clients below) (All-tail P client clients below) (below_chosen n on conn clients (All-tail P client clients below)) where
+      by : (b : Bool) → client.number < n → All (λ (client : Client). client.number < n) clients → All (λ (client : Client). client.number < n) (clients_with_headers on conn clients) → All (λ (client : Client). client.number < n) (cond b (with_headers on client ∷ clients) (client ∷ clients_with_headers on conn clients))
+      by true here rest more = All-cons (λ (client : Client). client.number < n) (with_headers on client) clients here rest
+      by false here rest more = All-cons (λ (client : Client). client.number < n) client (clients_with_headers on conn clients) here more
+
+pub numbered_chosen : (shards n : ℕ) (on : Bool) (conn : ℕ) (clients : List Client) → AreNumbered shards n clients → AreNumbered shards n (clients_with_headers on conn clients)
+numbered_chosen shards n on conn clients was = record { some = was.some; few = was.few; numbers = was.numbers; below = below_chosen n on conn clients was.below }
 
 pub numbered_detached : (shards n : ℕ) (conn : ℕ) (clients : List Client) → AreNumbered shards n clients → AreNumbered shards n (without_client conn clients)
 numbered_detached shards n conn clients was = record { some = was.some; few = was.few; numbers = was.numbers; below = All-filter _ (λ (client : Client). client.number < n) clients was.below }
@@ -188,10 +200,10 @@ sound_left s chosen next serial conns openings ended was none is closes =
 -- a job is begun
 walk_numbered : (shards n : ℕ) (s : State) (job : Job) (due : List Subscription) (w : Walk) → AreNumbered shards n w.clients → AreNumbered shards n (walk s job due w).clients
 walk_numbered shards n s job [] w was = was
-walk_numbered shards n s job (u ∷ due) w was = by (is_open u.conn w.clients) (fits (client_at u.conn w.clients) (due_entry s.shard job None u)) (walk_numbered shards n s job due) where
-  by : (o r : Bool) → ((v : Walk) → AreNumbered shards n v.clients → AreNumbered shards n (walk s job due v).clients) → AreNumbered shards n (walk s job due (cond o (cond r (walk_with_entry (due_entry s.shard job None u) u w) (walk_with_shut s.subs u.conn w)) w)).clients
+walk_numbered shards n s job (u ∷ due) w was = by (is_open u.conn w.clients) (fits (client_at u.conn w.clients) (owed_entry s.shard s.clients job None u)) (walk_numbered shards n s job due) where
+  by : (o r : Bool) → ((v : Walk) → AreNumbered shards n v.clients → AreNumbered shards n (walk s job due v).clients) → AreNumbered shards n (walk s job due (cond o (cond r (walk_with_entry (owed_entry s.shard s.clients job None u) u w) (walk_with_shut s.subs u.conn w)) w)).clients
   by false r more = more w was
-  by true true more = more (walk_with_entry (due_entry s.shard job None u) u w) (numbered_changed shards n (with_entry (due_entry s.shard job None u)) u.conn w.clients was)
+  by true true more = more (walk_with_entry (owed_entry s.shard s.clients job None u) u w) (numbered_changed shards n (with_entry (owed_entry s.shard s.clients job None u)) u.conn w.clients was)
   by true false more = more (walk_with_shut s.subs u.conn w) (numbered_changed shards n (with_last slow_consumer) u.conn w.clients was)
 
 none_is : {A : Type 0} (o : Option A) → is_some o ≡ false → o ≡ None

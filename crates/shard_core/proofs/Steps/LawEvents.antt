@@ -23,8 +23,8 @@ use Rattle.client_frames.specs.Frames.{reply_line}
 use Rattle.outbox.specs.Views.{with_entry, reply_entry}
 use Rattle.shard_core.specs.Shards.{State, Client, client_at, is_open, fits, clients_with_change}
 use Rattle.shard_core.specs.Closings.{serials_of, is_left, left_of, without_subs}
-use Rattle.shard_core.specs.Owed.{Walk, walk, whole_walk, walk_with_entry, walk_with_shut, first_step, is_due, is_plain, is_wanted, is_permitted, due_entry, after_walk, sub_with_count, after_try, after_claim, candidate_of, candidate_named, is_candidate, slow_consumer}
-use Rattle.shard_core.specs.ShardEvents.{Attach, Subscribe, Unsubscribe, Reply, Shut, Detach, Take, Begin, Claim, End, DropJob, Drain, Collect}
+use Rattle.shard_core.specs.Owed.{Walk, walk, whole_walk, walk_with_entry, walk_with_shut, first_step, is_due, is_plain, is_wanted, is_permitted, owed_entry, after_walk, sub_with_count, after_try, after_claim, candidate_of, candidate_named, is_candidate, slow_consumer}
+use Rattle.shard_core.specs.ShardEvents.{Attach, Subscribe, Unsubscribe, Reply, SetHeaders, Shut, Detach, Take, Begin, Claim, End, DropJob, Drain, Collect}
 use Rattle.shard_core.specs.ShardSteps.{sub_called, new_sub, after_subscribe, ended_now, after_unsubscribe, was_shut, answer_fits, done_with, begin_refusal, claim_refusal, end_refusal}
 use Rattle.shard_core.specs.Lines.{Turns, SoundLine, HasJob, waiting_after, first_of, rest_of}
 use Rattle.shard_core.specs.AsLaw.{Naming, job_of, hand_of, sub_of, shard_of, matching, ClaimMoves, given_by_claim, AreThese, opened_by, placements_for, LawStep, ShardFollows}
@@ -121,7 +121,7 @@ pub record Gave (due : List Subscription) (w after : Walk) : Type 0 where
 
 pub walk_gives : (s : State) (job : Job) (due : List Subscription) (w : Walk) → Gave due w (walk s job due w)
 walk_gives s job [] w = record { new = []; given = sym (append_nil w.given); some = tt }
-walk_gives s job (u ∷ due) w = go (is_open u.conn w.clients) (fits (client_at u.conn w.clients) (due_entry s.shard job None u)) (walk_gives s job due)
+walk_gives s job (u ∷ due) w = go (is_open u.conn w.clients) (fits (client_at u.conn w.clients) (owed_entry s.shard s.clients job None u)) (walk_gives s job due)
   where
     later : (v : Walk) → v.given ≡ w.given → (r : Gave due v (walk s job due v)) → Gave (u ∷ due) w (walk s job due v)
     later v same r = record { new = r.new; given = r.given ∙ ap (λ t. t ++ r.new) same; some = sub_later r.new u due r.some }
@@ -129,9 +129,9 @@ walk_gives s job (u ∷ due) w = go (is_open u.conn w.clients) (fits (client_at 
     here : (v : Walk) → v.given ≡ w.given ++ u ∷ [] → (r : Gave due v (walk s job due v)) → Gave (u ∷ due) w (walk s job due v)
     here v same r = record { new = u ∷ r.new; given = r.given ∙ ap (λ t. t ++ r.new) same ∙ append_assoc w.given (u ∷ []) r.new; some = inl (refl, r.some) }
 
-    go : (o r : Bool) → ((v : Walk) → Gave due v (walk s job due v)) → Gave (u ∷ due) w (walk s job due (cond o (cond r (walk_with_entry (due_entry s.shard job None u) u w) (walk_with_shut s.subs u.conn w)) w))
+    go : (o r : Bool) → ((v : Walk) → Gave due v (walk s job due v)) → Gave (u ∷ due) w (walk s job due (cond o (cond r (walk_with_entry (owed_entry s.shard s.clients job None u) u w) (walk_with_shut s.subs u.conn w)) w))
     go false r below = later w refl (below w)
-    go true true below = here (walk_with_entry (due_entry s.shard job None u) u w) refl (below (walk_with_entry (due_entry s.shard job None u) u w))
+    go true true below = here (walk_with_entry (owed_entry s.shard s.clients job None u) u w) refl (below (walk_with_entry (owed_entry s.shard s.clients job None u) u w))
     go true false below = later (walk_with_shut s.subs u.conn w) refl (below (walk_with_shut s.subs u.conn w))
 
 serials_apart : (us : List Subscription) → Pairs (λ j k. j ≢ k) (serials_of us) → Pairs (λ u v. u.serial ≢ v.serial) us
@@ -293,11 +293,11 @@ named name None e = absurd (true≢false (sym e))
 named name (Some other) e = ap Some (same_bytes other name e)
 
 -- a candidate is open, of the queue name, and matches
-pub candidate_is : (s : State) (job : Job) (name : List ℕ) (u : Subscription) → candidate_named s job (Some name) ≡ Some u → In u s.subs × (u.key.queue ≡ Some name) × (subject_matches u.key.pattern job.message.subject ≡ true) × (fits (client_at u.conn s.clients) (due_entry s.shard job (Some name) u) ≡ true)
+pub candidate_is : (s : State) (job : Job) (name : List ℕ) (u : Subscription) → candidate_named s job (Some name) ≡ Some u → In u s.subs × (u.key.queue ≡ Some name) × (subject_matches u.key.pattern job.message.subject ≡ true) × (fits (client_at u.conn s.clients) (owed_entry s.shard s.clients job (Some name) u) ≡ true)
 candidate_is s job name u is =
     let f = in_filter (is_candidate s job name) s.subs u (in_read _ _ u is) in
-    let d = and_true (is_named name u.key.queue) (is_wanted job u && fits (client_at u.conn s.clients) (due_entry s.shard job (Some name) u)) f.1 in
-    let g = and_true (is_wanted job u) (fits (client_at u.conn s.clients) (due_entry s.shard job (Some name) u)) d.1 in
+    let d = and_true (is_named name u.key.queue) (is_wanted job u && fits (client_at u.conn s.clients) (owed_entry s.shard s.clients job (Some name) u)) f.1 in
+    let g = and_true (is_wanted job u) (fits (client_at u.conn s.clients) (owed_entry s.shard s.clients job (Some name) u)) d.1 in
     (f.0, named name u.key.queue d.0, (and_true (gets job.message.subject u) (is_permitted job u) g.0).0, g.1)
 
 claims : (c : Config) (names : Naming) (n inc now place issued index : ℕ) (won : Bool) (race after_race : Race) (sh : State) (hand : Option Job) (waiting : List Job) (subs : List Subscription)
@@ -325,8 +325,8 @@ claims c names n inc now place issued index won race after_race sh (Some job) wa
     by (Some u) is false name here at keeps t = passed name here at keeps t
     by (Some u) is true name here at pair t =
         let k = candidate_is s0 job name u (sym (ap (candidate_named s0 job) here) ∙ is) in
-        subst (λ us. LawStep c names n inc now place issued race after_race (record sh { hand = Some job }) waiting (after_walk (after_try (record sh { hand = Some job })) (walk_with_entry (due_entry sh.shard job u.key.queue u) u (first_step sh.clients))) waiting [] (placements_for names n inc now place (Some job) us)) (sym (just_one u subs (t.all u (inl refl)) t.some t.once))
-        (wins c names n inc now place issued race after_race sh job waiting name u (walk_with_entry (due_entry sh.shard job u.key.queue u) u (first_step sh.clients)) so (subst (λ m. WinsPair every_rule c.window race job.turn m after_race) at pair) (ap (slice_get job.queues) (sym at) ∙ here) k.0 k.1 k.2)
+        subst (λ us. LawStep c names n inc now place issued race after_race (record sh { hand = Some job }) waiting (after_walk (after_try (record sh { hand = Some job })) (walk_with_entry (owed_entry sh.shard sh.clients job u.key.queue u) u (first_step sh.clients))) waiting [] (placements_for names n inc now place (Some job) us)) (sym (just_one u subs (t.all u (inl refl)) t.some t.once))
+        (wins c names n inc now place issued race after_race sh job waiting name u (walk_with_entry (owed_entry sh.shard sh.clients job u.key.queue u) u (first_step sh.clients)) so (subst (λ m. WinsPair every_rule c.window race job.turn m after_race) at pair) (ap (slice_get job.queues) (sym at) ∙ here) k.0 k.1 k.2)
 
 -- ---- each event
 
@@ -354,6 +354,7 @@ shards_follow_the_law c names n inc now place issued race after_race s waiting (
     go : (b : Bool) → LawStep c names n inc now place issued race after_race s waiting (cond b (record s { clients = clients_with_change (with_entry (reply_entry (reply_line frame))) conn s.clients }) (was_shut s conn slow_consumer)) waiting [] []
     go true = quiet c names n inc now place issued race after_race s waiting s.draining s.next_conn _ s.deltas s.subs keeps sound refl refl
     go false = closing c names n inc now place issued race after_race s waiting _ _ (left_of conn [] s.subs) keeps sound
+shards_follow_the_law c names n inc now place issued race after_race s waiting (SetHeaders conn on) subs sound cause job keeps these = quiet c names n inc now place issued race after_race s waiting s.draining s.next_conn _ s.deltas s.subs keeps sound refl refl
 shards_follow_the_law c names n inc now place issued race after_race s waiting (Shut conn text) subs sound cause job keeps these = closing c names n inc now place issued race after_race s waiting _ _ (left_of conn [] s.subs) keeps sound
 shards_follow_the_law c names n inc now place issued race after_race s waiting (Detach conn) subs sound cause job keeps these = closing c names n inc now place issued race after_race s waiting _ _ (left_of conn [] s.subs) keeps sound
 shards_follow_the_law c names n inc now place issued race after_race s waiting (Take conn count) subs sound cause job keeps these = quiet c names n inc now place issued race after_race s waiting s.draining s.next_conn _ s.deltas s.subs keeps sound refl refl

@@ -20,7 +20,7 @@ use Rattle.subj.specs.declared.jobs.Job.{Job}
 use Rattle.shard_core.specs.Shards.{State, Client, client_at, clients_with_change, fits}
 use Rattle.shard_core.specs.Closings.{ended_ids}
 use Rattle.subj.specs.QueueNames.{is_named}
-use Rattle.shard_core.specs.Owed.{ended_by, after_try, after_claim, reaches, candidate_of, due_entry, is_permitted, is_candidate, candidate_named, member_for_turn}
+use Rattle.shard_core.specs.Owed.{ended_by, after_try, after_claim, reaches, candidate_of, owed_entry, is_permitted, is_candidate, candidate_named, member_for_turn}
 use Rattle.shard_core.specs.Opened.{Opened, AreRising, part_of, with_counts, with_closings}
 use Rattle.shard_core.specs.Boxes.{Clients}
 use Rattle.shard_core.specs.declared.calls.Candidate.{Candidate}
@@ -42,11 +42,11 @@ members_are shard clients job name all (sub ∷ subs) = by (gets job.message.sub
   kept = filter (is_member shard clients job name) (filter (gets job.message.subject) subs)
 
   room : Option (List ℕ) → Bool
-  room queue = fits (client_at sub.conn clients) (due_entry shard job queue sub)
+  room queue = fits (client_at sub.conn clients) (owed_entry shard clients job queue sub)
 
   by : (g n : Bool) → is_named name sub.key.queue ≡ n → filter (is_member shard clients job name) (filter (gets job.message.subject) subs) ≡ filter (is_candidate (shard_with shard clients all) job name) subs
       → filter (is_member shard clients job name) (cond g (sub ∷ filter (gets job.message.subject) subs) (filter (gets job.message.subject) subs))
-      ≡ cond (n && ((g && is_permitted job sub) && fits (client_at sub.conn clients) (due_entry shard job (Some name) sub))) (sub ∷ filter (is_candidate (shard_with shard clients all) job name) subs) (filter (is_candidate (shard_with shard clients all) job name) subs)
+      ≡ cond (n && ((g && is_permitted job sub) && fits (client_at sub.conn clients) (owed_entry shard clients job (Some name) sub))) (sub ∷ filter (is_candidate (shard_with shard clients all) job name) subs) (filter (is_candidate (shard_with shard clients all) job name) subs)
   by false true e rest = rest
   by false false e rest = rest
   by true false e rest = ap (λ b. cond (b && (is_permitted job sub && room sub.key.queue)) (sub ∷ kept) kept) e ∙ rest
@@ -75,28 +75,28 @@ module _ (copies : Bool) (shard : ℕ) (shown next : List Client) (job : Job) (n
   pub nobody_chosen : length items ≡ 0 → HasChosen copies (shard_with shard shown subs) job name None next
   nobody_chosen none =
       let e : candidate_named (shard_with shard shown subs) job (Some name) ≡ None = ap (member_for_turn job.turn) (sym candidates ∙ ap lent_subs (empty_of items none)) in
-      record { told = sym (ap (option_map (candidate_told copies shard job)) e); chosen = sym e; staged = settled ∙ sym (ap (λ o. staged_for o (Some job) shard shown) e) }
+      record { told = sym (ap (option_map (candidate_told copies shard shown job)) e); chosen = sym e; staged = settled ∙ sym (ap (λ o. staged_for o (Some job) shard shown) e) }
 
   -- the one at the place of the turn
   module _ (i : ℕ) (b : Bor Subscription) (at : slice_get items i ≡ Some b) where
     there : In b.now (filter (is_member shard next job name) (filter (gets job.message.subject) subs))
     there = subst (In b.now) members (in_mapped (λ (x : Bor Subscription). x.now) items b (in_read items i b at))
 
-    pub chosen_fits : (entry : Written) → entry ≡ due_entry shard job b.now.key.queue b.now → fits (client_at b.now.conn next) entry ≡ true
+    pub chosen_fits : (entry : Written) → entry ≡ owed_entry shard next job b.now.key.queue b.now → fits (client_at b.now.conn next) entry ≡ true
     chosen_fits entry due =
         let both = and_true (is_named name b.now.key.queue) _ (in_filter (is_member shard next job name) (filter (gets job.message.subject) subs) b.now there).1 in
-        ap (fits (client_at b.now.conn next)) due ∙ (and_true (is_permitted job b.now) (fits (client_at b.now.conn next) (due_entry shard job b.now.key.queue b.now)) both.1).1
+        ap (fits (client_at b.now.conn next)) due ∙ (and_true (is_permitted job b.now) (fits (client_at b.now.conn next) (owed_entry shard next job b.now.key.queue b.now)) both.1).1
 
-    pub one_chosen : (entry : Written) (candidate : Candidate) (after : List Client) → candidate ≡ candidate_told copies shard job b.now → AreRising subs → i ≡ job.turn % length items → entry ≡ due_entry shard job b.now.key.queue b.now → after ≡ clients_with_change (with_entry entry) b.now.conn next → HasChosen copies (shard_with shard shown subs) job name (Some candidate) after
+    pub one_chosen : (entry : Written) (candidate : Candidate) (after : List Client) → candidate ≡ candidate_told copies shard next job b.now → AreRising subs → i ≡ job.turn % length items → entry ≡ owed_entry shard next job b.now.key.queue b.now → after ≡ clients_with_change (with_entry entry) b.now.conn next → HasChosen copies (shard_with shard shown subs) job name (Some candidate) after
     one_chosen entry candidate after is rising place due put =
         let size : length (lent_subs items) ≡ length items = length-map items (λ (x : Bor Subscription). x.now) in
         let here : slice_get (lent_subs items) (job.turn % length (lent_subs items)) ≡ Some b.now = ap (λ n. slice_get (lent_subs items) (job.turn % n)) size ∙ ap (slice_get (lent_subs items)) (sym place) ∙ slice_get-map (λ (x : Bor Subscription). x.now) items i ∙ ap (option_map (λ (x : Bor Subscription). x.now)) at in
         let e : candidate_named (shard_with shard shown subs) job (Some name) ≡ Some b.now = ap (member_for_turn job.turn) (sym candidates) ∙ here in
         let is_open : In b.now subs = (in_filter (is_candidate (shard_with shard shown subs) job name) subs b.now (subst (In b.now) candidates (in_mapped (λ (x : Bor Subscription). x.now) items b (in_read items i b at)))).0 in
         record {
-          told = ap Some is ∙ sym (ap (option_map (candidate_told copies shard job)) e);
+          told = ap Some is ∙ ap (λ (l : List Client). Some (candidate_told copies shard l job b.now)) settled ∙ sym (ap (option_map (candidate_told copies shard shown job)) e);
           chosen = ap (λ (c : Candidate). with_serial (Some c.sub.serial) subs) is ∙ found_by_serial subs b.now rising is_open ∙ sym e;
-          staged = put ∙ ap (λ x. clients_with_change (with_entry x) b.now.conn next) due ∙ ap (clients_with_change (with_entry (due_entry shard job b.now.key.queue b.now)) b.now.conn) settled ∙ sym (ap (λ o. staged_for o (Some job) shard shown) e);
+          staged = put ∙ ap (λ x. clients_with_change (with_entry x) b.now.conn next) due ∙ ap (λ (l : List Client). clients_with_change (with_entry (owed_entry shard l job b.now.key.queue b.now)) b.now.conn l) settled ∙ sym (ap (λ o. staged_for o (Some job) shard shown) e);
         }
 
 -- ---- the candidate that stands
@@ -117,7 +117,7 @@ module _ (copies : Bool) (s : State) (job : Job) (index : ℕ) (name : List ℕ)
 
   pub chooses : (c0 : Option Subscription) → Chooses copies (record { state = s; chosen = c0 }) index candidate (record { state = record s { next_index = s.next_index + 1; clients = conns.shown }; chosen = with_serial serial s.subs })
   chooses c0 = record {
-    told = chose.told ∙ sym (ap (option_map (candidate_told copies s.shard job)) candidate_is) ∙ sym (ap (λ h. told_of copies s.shard h (candidate_of s s.hand index)) hand);
+    told = chose.told ∙ sym (ap (option_map (candidate_told copies s.shard s.clients job)) candidate_is) ∙ sym (ap (λ h. told_of copies s.shard s.clients h (candidate_of s s.hand index)) hand);
     after = λ k. record { state = record s { next_index = s.next_index + 1; clients = clients k }; chosen = (standing ∙ sym candidate_is) k };
   }
 
@@ -171,7 +171,7 @@ module _ (s : State) (job : Job) (next : List Client) (serial : ℕ) (sub : Subs
   same = (found_serial serial s.subs sub found).0
 
   abbrev entry : Written
-  entry = due_entry s.shard job sub.key.queue sub
+  entry = owed_entry s.shard s.clients job sub.key.queue sub
 
   stands : next ≡ clients_with_change (with_entry entry) sub.conn s.clients
   stands = was.staged ∙ ap (λ o. staged_for o s.hand s.shard s.clients) found ∙ ap (λ h. staged_in h sub s.shard s.clients) hand

@@ -17,7 +17,7 @@ use Rattle.shard_core.specs.declared.members.Member.{Member}
 use Rattle.shard_core.specs.declared.members.Members.{Members}
 use Rattle.shard_core.specs.Shards.{Client, client_at, fits}
 use Rattle.shard_core.specs.Claims.{is_member}
-use Rattle.shard_core.specs.Owed.{sub_with_count, due_entry, is_permitted}
+use Rattle.shard_core.specs.Owed.{sub_with_count, owed_entry, is_permitted}
 use Rattle.shard_core.specs.Opened.{AreRising, IsOpened}
 use Rattle.shard_core.specs.Members.{mark_of, mark_of_queue, is_in_group, is_in_group_of, member_of, members_of, AreNoted, found_at, found_of}
 use Rattle.shard_core.proofs.Turns.Claims.{found_by_serial}
@@ -146,7 +146,7 @@ module _ (shard : ℕ) (clients : List Client) (job : Job) (name : List ℕ) whe
   member_named (u ∷ us) = by (is_in_group_of name u) refl (member_named us)
     where
       more : Bool
-      more = is_permitted job u && fits (client_at u.conn clients) (due_entry shard job u.key.queue u)
+      more = is_permitted job u && fits (client_at u.conn clients) (owed_entry shard clients job u.key.queue u)
 
       kept : List Subscription
       kept = filter (is_member shard clients job name) us

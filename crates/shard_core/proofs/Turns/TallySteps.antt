@@ -8,17 +8,18 @@ use Rattle.outbox.specs.Views.{Written, with_entry, with_last}
 use Rattle.sub_table.specs.Subscriptions.{gets}
 use Rattle.sub_table.specs.declared.Subscription.{Subscription}
 use Rattle.subj.specs.declared.jobs.Job.{Job}
-use Rattle.shard_core.specs.Shards.{State, Client, client_at, is_open, clients_with_change, fits}
+use Rattle.shard_core.specs.Shards.{State, Client, client_at, is_open, takes_headers, clients_with_change, fits}
 use Rattle.shard_core.specs.Opened.{Opened, AreRising, AreApart, with_counts, with_closings}
 use Rattle.shard_core.specs.Boxes.{Clients}
 use Rattle.shard_core.specs.declared.calls.Begun.{Begun}
 use Rattle.shard_core.specs.declared.calls.Placed.{Placed}
 use Rattle.shard_core.specs.Puts.{put_line}
+use Rattle.shard_core.proofs.Clients.Options.{option_kept}
 use Rattle.shard_core.proofs.Closings.Ended.{given_apart, ended_apart}
 use Rattle.shard_core.specs.Answers.{copies_of}
 use Rattle.shard_core.specs.Closings.{serials_of, ended_ids}
 use Rattle.sub_table.specs.Subscriptions.{serial_of}
-use Rattle.shard_core.specs.Owed.{Walk, walk, whole_walk, first_step, walk_after_put, walk_with_entry, walk_with_shut, slow_consumer, due_entry, placed_for, is_plain, is_permitted, is_due}
+use Rattle.shard_core.specs.Owed.{Walk, walk, whole_walk, first_step, walk_after_put, walk_with_entry, walk_with_shut, slow_consumer, due_entry, placed_for, owed_entry, owed_placed, is_plain, is_permitted, is_due}
 use Rattle.shard_core.specs.Held.{shard_with}
 use Rattle.shard_core.specs.Tallies.{Tallied, none_tallied, with_given, with_shut, tally_of, IsTallied, IsStaged, with_lines, HasPlaced, Follows, is_placed, put_if_due, walk_matching, lent_subs}
 
@@ -39,37 +40,45 @@ pub put_nothing : (subs : List Subscription) (job : Job) (sub : Subscription) (n
 put_nothing subs job sub next t shut copies s w of is =
     subst (λ v. IsTallied copies s job v next t) (sym (if_false (is_open sub.conn w.clients) _ _ (sym (ap (is_open sub.conn) is.clients_are) ∙ shut))) is
 
-copies_more : (copies : Bool) (shard : ℕ) (job : Job) (given : List Subscription) (sub : Subscription) → copies_of copies (map (placed_for shard job None) given) ++ copies_of copies (placed_for shard job None sub ∷ []) ≡ copies_of copies (map (placed_for shard job None) (given ++ sub ∷ []))
-copies_more true shard job given sub = sym (map-append (placed_for shard job None) given (sub ∷ []))
-copies_more false shard job given sub = refl
+copies_more : (copies : Bool) (shard : ℕ) (clients : List Client) (job : Job) (given : List Subscription) (sub : Subscription) → copies_of copies (map (owed_placed shard clients job None) given) ++ copies_of copies (owed_placed shard clients job None sub ∷ []) ≡ copies_of copies (map (owed_placed shard clients job None) (given ++ sub ∷ []))
+copies_more true shard clients job given sub = sym (map-append (owed_placed shard clients job None) given (sub ∷ []))
+copies_more false shard clients job given sub = refl
 
-given_tally : (shard : ℕ) (copies : Bool) (job : Job) (w : Walk) (sub : Subscription) → with_given (due_entry shard job None sub) sub (tally_of shard copies job w) ≡ tally_of shard copies job (walk_with_entry (due_entry shard job None sub) sub w)
-given_tally shard copies job w sub =
-    let more = copies_more copies shard job w.given sub in
+given_tally : (shard : ℕ) (clients : List Client) (copies : Bool) (job : Job) (w : Walk) (sub : Subscription) → with_given (owed_placed shard clients job None sub) sub (tally_of shard clients copies job w) ≡ tally_of shard clients copies job (walk_with_entry (owed_entry shard clients job None sub) sub w)
+given_tally shard clients copies job w sub =
+    let more = copies_more copies shard clients job w.given sub in
     let serials : serials_of w.given ++ sub.serial ∷ [] ≡ serials_of (w.given ++ sub ∷ []) = sym (map-append serial_of w.given (sub ∷ [])) in
-    λ i. record (tally_of shard copies job (walk_with_entry (due_entry shard job None sub) sub w)) { put = more i; given = serials i }
+    λ i. record (tally_of shard clients copies job (walk_with_entry (owed_entry shard clients job None sub) sub w)) { put = more i; given = serials i }
 
-pub put_given : (subs : List Subscription) (job : Job) (sub : Subscription) (next after : List Client) (t t2 : Tallied) (entry : Written) → is_open sub.conn next ≡ true → sub.key.queue ≡ None → entry ≡ due_entry t.shard job sub.key.queue sub → fits (client_at sub.conn next) entry ≡ true
-    → after ≡ clients_with_change (with_entry entry) sub.conn next → t2 ≡ with_given entry sub t → Follows subs job (λ s w. walk_after_put s job w sub) next t after t2
-put_given subs job sub next after t t2 entry opened plain due room put noted copies s w of is =
+-- a connection's option is that from before the walk
+option_is : (copies : Bool) (s : State) (job : Job) (w : Walk) (next : List Client) (t : Tallied) (conn : ℕ) → IsTallied copies s job w next t → takes_headers conn next ≡ takes_headers conn s.clients
+option_is copies s job w next t conn is = ap (takes_headers conn) is.clients_are ∙ is.options conn
+
+pub put_given : (subs : List Subscription) (job : Job) (sub : Subscription) (next after : List Client) (t t2 : Tallied) (option : Bool) → is_open sub.conn next ≡ true → option ≡ takes_headers sub.conn next → fits (client_at sub.conn next) (due_entry t.shard option job None sub) ≡ true
+    → after ≡ clients_with_change (with_entry (due_entry t.shard option job None sub)) sub.conn next → t2 ≡ with_given (placed_for t.shard option job None sub) sub t → Follows subs job (λ s w. walk_after_put s job w sub) next t after t2
+put_given subs job sub next after t t2 option opened chosen room put noted copies s w of is =
     let shard : t.shard ≡ s.shard = ap (λ (x : Tallied). x.shard) is.tally_is in
-    let y : Written = due_entry s.shard job None sub in
-    let owed : entry ≡ y = due ∙ ap (λ q. due_entry t.shard job q sub) plain ∙ ap (λ n. due_entry n job None sub) shard in
+    let same : option ≡ takes_headers sub.conn s.clients = chosen ∙ option_is copies s job w next t sub.conn is in
+    let y : Written = owed_entry s.shard s.clients job None sub in
+    let owed : due_entry t.shard option job None sub ≡ y = λ i. due_entry (shard i) (same i) job None sub in
+    let placed : placed_for t.shard option job None sub ≡ owed_placed s.shard s.clients job None sub = λ i. placed_for (shard i) (same i) job None sub in
     let opens : is_open sub.conn w.clients ≡ true = sym (ap (is_open sub.conn) is.clients_are) ∙ opened in
     let has_room : fits (client_at sub.conn w.clients) y ≡ true = sym (ap (λ cs. fits (client_at sub.conn cs) y) is.clients_are) ∙ sym (ap (fits (client_at sub.conn next)) owed) ∙ room in
     let step : walk_after_put s job w sub ≡ walk_with_entry y sub w = if_true (is_open sub.conn w.clients) _ _ opens ∙ if_true (fits (client_at sub.conn w.clients) y) _ _ has_room in
     subst (λ v. IsTallied copies s job v after t2) (sym step)
     (record {
       clients_are = put ∙ ap (λ e. clients_with_change (with_entry e) sub.conn next) owed ∙ ap (clients_with_change (with_entry y) sub.conn) is.clients_are;
-      tally_is = noted ∙ ap (λ e. with_given e sub t) owed ∙ ap (with_given y sub) is.tally_is ∙ given_tally s.shard copies job w sub;
+      tally_is = noted ∙ ap (λ p. with_given p sub t) placed ∙ ap (with_given (owed_placed s.shard s.clients job None sub) sub) is.tally_is ∙ given_tally s.shard s.clients copies job w sub;
+      options = λ conn. option_kept (with_entry y) conn sub.conn w.clients ∙ is.options conn;
     })
 
-pub put_shut : (subs : List Subscription) (job : Job) (sub : Subscription) (next after : List Client) (t t2 : Tallied) (entry : Written) → is_open sub.conn next ≡ true → sub.key.queue ≡ None → entry ≡ due_entry t.shard job sub.key.queue sub → fits (client_at sub.conn next) entry ≡ false
+pub put_shut : (subs : List Subscription) (job : Job) (sub : Subscription) (next after : List Client) (t t2 : Tallied) → is_open sub.conn next ≡ true → fits (client_at sub.conn next) (due_entry t.shard (takes_headers sub.conn next) job None sub) ≡ false
     → after ≡ clients_with_change (with_last slow_consumer) sub.conn next → t2 ≡ with_shut subs sub.conn t → Follows subs job (λ s w. walk_after_put s job w sub) next t after t2
-put_shut subs job sub next after t t2 entry opened plain due room put noted copies s w of is =
+put_shut subs job sub next after t t2 opened room put noted copies s w of is =
     let shard : t.shard ≡ s.shard = ap (λ (x : Tallied). x.shard) is.tally_is in
-    let y : Written = due_entry s.shard job None sub in
-    let owed : entry ≡ y = due ∙ ap (λ q. due_entry t.shard job q sub) plain ∙ ap (λ n. due_entry n job None sub) shard in
+    let same = option_is copies s job w next t sub.conn is in
+    let y : Written = owed_entry s.shard s.clients job None sub in
+    let owed : due_entry t.shard (takes_headers sub.conn next) job None sub ≡ y = λ i. due_entry (shard i) (same i) job None sub in
     let opens : is_open sub.conn w.clients ≡ true = sym (ap (is_open sub.conn) is.clients_are) ∙ opened in
     let no_room : fits (client_at sub.conn w.clients) y ≡ false = sym (ap (λ cs. fits (client_at sub.conn cs) y) is.clients_are) ∙ sym (ap (fits (client_at sub.conn next)) owed) ∙ room in
     let step : walk_after_put s job w sub ≡ walk_with_shut s.subs sub.conn w = if_true (is_open sub.conn w.clients) _ _ opens ∙ if_false (fits (client_at sub.conn w.clients) y) _ _ no_room in
@@ -77,6 +86,7 @@ put_shut subs job sub next after t t2 entry opened plain due room put noted copi
     (record {
       clients_are = put ∙ ap (clients_with_change (with_last slow_consumer) sub.conn) is.clients_are;
       tally_is = noted ∙ ap (λ l. with_shut l sub.conn t) (sym of) ∙ ap (with_shut s.subs sub.conn) is.tally_is;
+      options = λ conn. option_kept (with_last slow_consumer) conn sub.conn w.clients ∙ is.options conn;
     })
 
 pub plain_is : (sub : Subscription) → is_plain sub ≡ true → sub.key.queue ≡ None
@@ -158,6 +168,7 @@ walk_staged subs job next shown after t t2 follows settled none s shard of clien
     (record {
       clients_are = settled ∙ sym clients;
       tally_is = none ∙ ap (λ n. none_tallied n t.copies) (sym shard) ∙ (λ i. record (none_tallied s.shard t.copies) { put = sym (no_copies t.copies) i });
+      options = λ conn. refl;
     })
 
 pub staged_shard : (subs : List Subscription) (job : Job) (next shown after : List Client) (t t2 : Tallied) → Follows subs job (λ s w. walk s job (filter (is_due job) s.subs) w) next t after t2 → next ≡ shown → t ≡ none_tallied t.shard t.copies → t2.shard ≡ t.shard
@@ -193,7 +204,7 @@ has_placed job copies s t next conns openings mid last begun is shown counts clo
       openings_are = closes ∙ ap (λ (x : Tallied). with_closings x.ended mid) is.tally_is ∙ ap (with_closings w.ended) (counts ∙ ap (λ (x : Tallied). with_counts x.given openings) is.tally_is);
       told = record {
         given = count ∙ ap (λ (x : Tallied). length x.given) is.tally_is ∙ length-map w.given serial_of;
-        put = put ∙ ap (λ (x : Tallied). x.put) is.tally_is ∙ copies_behind copies (map (placed_for s.shard job None) w.given) (map (put_line slow_consumer) w.shut);
+        put = put ∙ ap (λ (x : Tallied). x.put) is.tally_is ∙ copies_behind copies (map (owed_placed s.shard s.clients job None) w.given) (map (put_line slow_consumer) w.shut);
         closed = shut ∙ ap (λ (x : Tallied). x.shut) is.tally_is;
         ended = ended ∙ ap (λ (x : Tallied). ended_ids s.shard x.ended) is.tally_is;
       };

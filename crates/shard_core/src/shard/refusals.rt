@@ -66,7 +66,7 @@ impl<T: SubTable> Shard<T> {
     }
 
     /// Why a call for a connection is refused that must be there and not shut: [`Shard::unsubscribe`],
-    /// [`Shard::reply`] and [`Shard::shut`].
+    /// [`Shard::reply`], [`Shard::set_headers`] and [`Shard::shut`].
     pub fn open_fault(&self, conn: ConnId) -> Option<ShardFault>
         ensures { result ≡ open_refusal self.now.state conn }
     {

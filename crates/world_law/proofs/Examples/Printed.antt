@@ -13,7 +13,7 @@ use Rattle.world_law.specs.State.{Cluster, new_world}
 use Rattle.world_law.specs.Events.{Event}
 use Rattle.world_law.specs.Steps.{Answers}
 use Rattle.world_law.specs.Play.{outcomes_of_events, world_after_events}
-use Rattle.world_law.specs.Scripts.{pair, alone, a_restart, two_shards, a_full_window, a_lower_incarnation}
+use Rattle.world_law.specs.Scripts.{pair, alone, a_restart, two_shards, a_full_window, a_lower_incarnation, two_forms}
 use Rattle.world_law.specs.Printed.{WritesARestart, WritesStartsAndStops, WritesCrossedDials, WritesClaims, WritesOwnMessages, WritesConnections, WritesTwoWords, WritesAStaleMessage, WritesACut, ScriptsAreRuns, starts_and_stops, crossed_dials, claims_of_a_turn, own_messages, connections, two_words, a_stale_message, a_cut}
 
 pub writes_a_restart : WritesARestart
@@ -67,6 +67,7 @@ all_runs run = record {
   restart = run pair pair_apart a_restart;
   shards = run alone alone_apart two_shards;
   window = run alone alone_apart a_full_window;
+  forms = run alone alone_apart two_forms;
   lower = run pair pair_apart a_lower_incarnation;
   starts = run pair pair_apart starts_and_stops;
   dials = run pair pair_apart crossed_dials;

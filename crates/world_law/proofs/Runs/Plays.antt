@@ -1,9 +1,10 @@
 -- Each event has a step: the one that the program on lists makes.
-use Rattle.std.proofs.Common.{◌≡◌, ℕ, zero, suc, ◌<◌, ◌+◌, ◌-◌, arith, Bool, true, false, true≢false, cond, nat_eq, ◌&&◌, ◌||◌, List, [], ◌∷◌, ◌++◌, Option, Some, None, refl, sym, ap, ◌∙◌, subst}
+use Rattle.std.proofs.Common.{◌≡◌, ℕ, zero, suc, ◌<◌, ◌+◌, ◌-◌, arith, Bool, true, false, true≢false, cond, nat_eq, ◌&&◌, ◌||◌, List, [], ◌∷◌, ◌++◌, Option, Some, None, refl, sym, ap, ◌∙◌, subst, inl, inr, ⊎_elim}
 use Rattle.std.specs.Prelude.{filter, find, map, slice_get, if◌then◌else◌}
 use Rattle.std.specs.Option.{option_map}
 use Rattle.std.proofs.lemmas.Option.{none-some}
-use Rattle.list_laws.specs.Lists.{SubList}
+use Rattle.list_laws.specs.Lists.{In, Each, SubList}
+use Rattle.list_laws.proofs.Lists.{in_append, in_map}
 use Rattle.list_laws.proofs.Tests.{eq_true, eq_false, true_eq, false_eq, or_false, no_cause}
 use Rattle.claim_race.specs.Race.{RaceState, Win, winner, is_of_pair, winner_after, IsIssued, IsClaimed, IsFinished}
 use Rattle.outbox.specs.declared.entries.Tag.{Tag}
@@ -17,12 +18,15 @@ use Rattle.subj.specs.Servers.{ServerIdentity}
 use Rattle.route_values.specs.declared.bodies.Body.{Body}
 use Rattle.route_values.specs.declared.bodies.Body.TheVariants.{Plus, Minus, Snapshot, Msg}
 use Rattle.shard_core.specs.declared.calls.Placed.{Placed}
-use Rattle.shard_core.specs.Owed.{candidate_of}
-use Rattle.shard_core.specs.Puts.{put_by, entries_for, ArePut}
+use Rattle.client_frames.specs.ErrTexts.{err_line}
+use Rattle.client_frames.specs.Frames.{reply_line}
+use Rattle.shard_core.specs.Owed.{candidate_of, owed_placed, slow_consumer, whole_walk}
+use Rattle.shard_core.specs.Puts.{put_by, put_by_claim, put_line, entries_for, ArePut}
 use Rattle.shard_core.specs.ShardEvents as of_shard
-use Rattle.shard_core.specs.Shards.{State}
+use Rattle.shard_core.specs.ShardSteps.{answer_fits}
+use Rattle.shard_core.specs.Shards.{State, Client, takes_headers}
 use Rattle.node_law.specs.declared.faults.NodeFault.{NodeFault}
-use Rattle.node_law.specs.AsLaw.{Part, part_at, part_if, part_of}
+use Rattle.node_law.specs.AsLaw.{Part, part_at, part_if, part_of, is_message_tag, is_message}
 use Rattle.node_law.specs.Answers.{Nothing}
 use Rattle.node_law.specs.declared.events.ShardWork.{ShardWork}
 use Rattle.node_law.specs.declared.events.ShardWork.TheVariants.{Attach, Begin, Claim, End, DropJob, DrainShard}
@@ -36,11 +40,11 @@ use Rattle.world_law.specs.Events.{Event, Start, Stop, At, event_for}
 use Rattle.world_law.specs.Events as of_world
 use Rattle.world_law.specs.Outcomes.{Done}
 use Rattle.world_law.specs.Refusals.{world_refusal, is_used, start_refusal, stop_refusal, refusal_at}
-use Rattle.world_law.specs.Changes.{placement_of, placements_of, is_on, new_entries, entries_at, open_subs}
+use Rattle.world_law.specs.Changes.{placement_of, placements_of, new_placements, is_on, entries_at, open_subs}
 use Rattle.world_law.specs.Steps.{Acts, Starts, Stops, Happens, Decided, WorldStep}
 use Rattle.world_law.specs.Headline.{EachUp}
 use Rattle.world_law.specs.Play.{NoneAhead, issued_next, claimed_next, finished_next, with_win, is_free, wins, race_after_claim, work_wins, race_after_work, node_wins, race_after_body, node_race, put_if, put_at, puts, placements_put, PutsArePlaced, next_node, next_act, world_after_event, next_of, next, slot_answer, answer_of, outcome_of, outcome}
-use Rattle.world_law.proofs.Seen.Gained.{news, nothing_new, new_at, part_line}
+use Rattle.world_law.proofs.Seen.Gained.{news, takes_in, nothing_new, new_at, part_line}
 use Rattle.world_law.proofs.Seen.Given.{entries_of_step}
 use Rattle.world_law.proofs.Seen.Order.{in_lines, event_order}
 
@@ -126,20 +130,66 @@ node_moves a (OnConnect session connect) ahead = refl
 
 -- ---- what the step puts is what the outboxes gain
 
--- of what is put, the entries of one connection are its placements
-placed_for_conn : (server : ServerIdentity) (now conn : ℕ) (ps : List Placed) → filter (is_on conn) (placements_put server now ps) ≡ placements_of server now conn (entries_for conn ps)
-placed_for_conn server now conn [] = refl
-placed_for_conn server now conn (p ∷ ps) = go p.entry.tag (nat_eq p.conn conn) refl (placed_for_conn server now conn ps)
-  where
-    of_conn : ℕ → PubId → SubId → Mode → Placement
-    of_conn k id sub mode = record { step = now; life = record { node = server.me; inc = server.inc; sub = sub }; conn = k; id = id; mode = mode; bytes = p.entry.bytes }
+-- a message that is put tells whether its connection takes headers
+abbrev Marked : List Client → Placed → Type 0
+Marked clients put = is_message put.entry ≡ true → put.headers ≡ takes_headers put.conn clients
 
-    go : (t : Tag) (b : Bool) → nat_eq p.conn conn ≡ b → filter (is_on conn) (placements_put server now ps) ≡ placements_of server now conn (entries_for conn ps)
-        → filter (is_on conn) (placement_of server now p.conn p.entry.bytes t ++ placements_put server now ps) ≡ placements_of server now conn (map (λ (put : Placed). put.entry) (cond b (record { conn = p.conn; entry = record { tag = t; bytes = p.entry.bytes } } ∷ filter (λ (put : Placed). nat_eq put.conn conn) ps) (filter (λ (put : Placed). nat_eq put.conn conn) ps)))
-    go tag.Reply true e below = below
-    go tag.Reply false e below = below
-    go (tag.Msg id sub mode) false e below = ap (λ b. cond b (of_conn p.conn id sub mode ∷ filter (is_on conn) (placements_put server now ps)) (filter (is_on conn) (placements_put server now ps))) e ∙ below
-    go (tag.Msg id sub mode) true e below = ap (λ b. cond b (of_conn p.conn id sub mode ∷ filter (is_on conn) (placements_put server now ps)) (filter (is_on conn) (placements_put server now ps))) e ∙ (λ j. of_conn (eq_true p.conn conn e j) id sub mode ∷ below j)
+lines_marked : (clients : List Client) (line : List ℕ) (conns : List ℕ) → Each (Marked clients) (map (put_line line) conns)
+lines_marked clients line conns p i = let m = in_map (put_line line) conns p i in subst (Marked clients) (sym m.2) (λ f. absurd (true≢false (sym f)))
+
+given_marked : (shard : ℕ) (clients : List Client) (job : Job) (queue : Option (List ℕ)) (subs : List Subscription) → Each (Marked clients) (map (owed_placed shard clients job queue) subs)
+given_marked shard clients job queue subs p i = let m = in_map (owed_placed shard clients job queue) subs p i in subst (Marked clients) (sym m.2) (λ f. refl)
+
+claim_marked : (s : State) (hand : Option Job) (u : Option Subscription) (won : Bool) → Each (Marked s.clients) (put_by_claim s hand u won)
+claim_marked s None u won = λ p i. absurd i
+claim_marked s (Some job) None won = λ p i. absurd i
+claim_marked s (Some job) (Some u) true = given_marked s.shard s.clients job u.key.queue (u ∷ [])
+claim_marked s (Some job) (Some u) false = λ p i. absurd i
+
+puts_marked : (s : State) (e : of_shard.Event) → Each (Marked s.clients) (put_by s e)
+puts_marked s of_shard.Attach = λ p i. absurd i
+puts_marked s (of_shard.Subscribe conn key sid) = λ p i. absurd i
+puts_marked s (of_shard.Unsubscribe conn sid max) = λ p i. absurd i
+puts_marked s (of_shard.Reply conn frame) = go (answer_fits s conn (reply_line frame))
+  where
+    go : (b : Bool) → Each (Marked s.clients) (cond b (put_line (reply_line frame) conn ∷ []) (put_line slow_consumer conn ∷ []))
+    go true = lines_marked s.clients (reply_line frame) (conn ∷ [])
+    go false = lines_marked s.clients slow_consumer (conn ∷ [])
+puts_marked s (of_shard.SetHeaders conn on) = λ p i. absurd i
+puts_marked s (of_shard.Shut conn text) = lines_marked s.clients (err_line text) (conn ∷ [])
+puts_marked s (of_shard.Detach conn) = λ p i. absurd i
+puts_marked s (of_shard.Take conn count) = λ p i. absurd i
+puts_marked s (of_shard.Begin job) = λ p i. ⊎_elim
+    (λ (j : In p (map (owed_placed s.shard s.clients job None) (whole_walk s job).given)). given_marked s.shard s.clients job None (whole_walk s job).given p j)
+    (λ (j : In p (map (put_line slow_consumer) (whole_walk s job).shut)). lines_marked s.clients slow_consumer (whole_walk s job).shut p j)
+    (in_append p (map (owed_placed s.shard s.clients job None) (whole_walk s job).given) (map (put_line slow_consumer) (whole_walk s job).shut) i)
+puts_marked s (of_shard.Claim index won) = claim_marked s s.hand (candidate_of s s.hand index) won
+puts_marked s of_shard.End = λ p i. absurd i
+puts_marked s (of_shard.DropJob waiting) = λ p i. absurd i
+puts_marked s of_shard.Drain = λ p i. absurd i
+puts_marked s of_shard.Collect = λ p i. absurd i
+
+-- of what is put, the entries of one connection are its placements
+placed_for_conn : (server : ServerIdentity) (now conn : ℕ) (clients : List Client) (ps : List Placed) → Each (Marked clients) ps → filter (is_on conn) (placements_put server now ps) ≡ placements_of server now conn (takes_headers conn clients) (entries_for conn ps)
+placed_for_conn server now conn clients [] marked = refl
+placed_for_conn server now conn clients (p ∷ ps) marked = go p.entry.tag (nat_eq p.conn conn) refl (marked p (inl refl)) (placed_for_conn server now conn clients ps (λ q i. marked q (inr i)))
+  where
+    of_conn : ℕ → Bool → PubId → SubId → Mode → Placement
+    of_conn k headers id sub mode = record { step = now; life = record { node = server.me; inc = server.inc; sub = sub }; conn = k; id = id; mode = mode; bytes = p.entry.bytes; headers = headers }
+
+    others : List Placement
+    others = filter (is_on conn) (placements_put server now ps)
+
+    go : (t : Tag) (b : Bool) → nat_eq p.conn conn ≡ b → (is_message_tag t ≡ true → p.headers ≡ takes_headers p.conn clients)
+        → filter (is_on conn) (placements_put server now ps) ≡ placements_of server now conn (takes_headers conn clients) (entries_for conn ps)
+        → filter (is_on conn) (placement_of server now p.conn p.headers p.entry.bytes t ++ placements_put server now ps) ≡ placements_of server now conn (takes_headers conn clients) (map (λ (put : Placed). put.entry) (cond b (record { conn = p.conn; entry = record { tag = t; bytes = p.entry.bytes }; headers = p.headers } ∷ filter (λ (put : Placed). nat_eq put.conn conn) ps) (filter (λ (put : Placed). nat_eq put.conn conn) ps)))
+    go tag.Reply true e told below = below
+    go tag.Reply false e told below = below
+    go (tag.Msg id sub mode) false e told below = ap (λ b. cond b (of_conn p.conn p.headers id sub mode ∷ others) others) e ∙ below
+    go (tag.Msg id sub mode) true e told below =
+        let here = eq_true p.conn conn e in
+        let option : p.headers ≡ takes_headers conn clients = told refl ∙ ap (λ k. takes_headers k clients) here in
+        ap (λ b. cond b (of_conn p.conn p.headers id sub mode ∷ others) others) e ∙ (λ j. of_conn (here j) (option j) id sub mode ∷ below j)
 
 abbrev pub put_of : Option Part → List Placed
 put_of None = []
@@ -170,18 +220,19 @@ puts_are server a (OnConnect session connect) won = refl
 abbrev pub Puts : Type 0
 Puts = (s : State) (e : of_shard.Event) (conn : ℕ) → ArePut s e conn
 
-puts_gained : Puts → (server : ServerIdentity) (now : ℕ) (a b : Node) (e : NodeEvent) (won : Bool) (race : RaceState) (conn : ℕ) → NodeStep server a e won race b → filter (is_on conn) (placements_put server now (puts server a e won)) ≡ placements_of server now conn (new_entries a.lines b.lines conn)
-puts_gained h server now a b e won race conn step = placed_for_conn server now conn (puts server a e won) ∙ ap (λ t. placements_of server now conn (entries_for conn t)) (puts_are server a e won) ∙ sym (go (part_of server a e won) refl)
+puts_gained : Puts → (server : ServerIdentity) (now : ℕ) (a b : Node) (e : NodeEvent) (won : Bool) (race : RaceState) (conn : ℕ) → NodeStep server a e won race b → filter (is_on conn) (placements_put server now (puts server a e won)) ≡ new_placements server now a.lines b.lines conn
+puts_gained h server now a b e won race conn step = ap (λ t. filter (is_on conn) (placements_put server now t)) (puts_are server a e won) ∙ sym (go (part_of server a e won) refl)
   where
     news_are : (q : ℕ) → news a.lines b.lines q conn ≡ entries_at (part_of server a e won) q conn
     news_are q = entries_of_step h server a e won race b q conn step
 
-    go : (o : Option Part) → part_of server a e won ≡ o → placements_of server now conn (new_entries a.lines b.lines conn) ≡ placements_of server now conn (entries_for conn (put_of o))
-    go None is = nothing_new server now conn a.lines b.lines (λ q. ap (placements_of server now conn) (news_are q ∙ ap (λ o. entries_at o q conn) is))
+    go : (o : Option Part) → part_of server a e won ≡ o → new_placements server now a.lines b.lines conn ≡ filter (is_on conn) (placements_put server now (put_of o))
+    go None is = nothing_new server now conn a.lines b.lines (λ q. ap (placements_of server now conn (takes_in conn (slice_get a.lines q))) (news_are q ∙ ap (λ o. entries_at o q conn) is))
     go (Some p) is =
         new_at server now conn p.place a.lines b.lines p.line (part_line server a e won p is)
-        (λ q apart. ap (placements_of server now conn) (news_are q ∙ ap (λ o. entries_at o q conn) is ∙ ap (λ t. cond t (entries_for conn (put_by p.line.shard p.event)) []) (false_eq p.place q (λ f. apart (sym f)))))
-        ∙ ap (placements_of server now conn) (news_are p.place ∙ ap (λ o. entries_at o p.place conn) is ∙ ap (λ t. cond t (entries_for conn (put_by p.line.shard p.event)) []) (true_eq p.place p.place refl))
+        (λ q apart. ap (placements_of server now conn (takes_in conn (slice_get a.lines q))) (news_are q ∙ ap (λ o. entries_at o q conn) is ∙ ap (λ t. cond t (entries_for conn (put_by p.line.shard p.event)) []) (false_eq p.place q (λ f. apart (sym f)))))
+        ∙ ap (placements_of server now conn (takes_headers conn p.line.shard.clients)) (news_are p.place ∙ ap (λ o. entries_at o p.place conn) is ∙ ap (λ t. cond t (entries_for conn (put_by p.line.shard p.event)) []) (true_eq p.place p.place refl))
+        ∙ sym (placed_for_conn server now conn p.line.shard.clients (put_by p.line.shard p.event) (puts_marked p.line.shard p.event))
 
 pub puts_placed : Puts → PutsArePlaced
 puts_placed h server now a e won race b step = record { outboxes = λ conn. puts_gained h server now a b e won race conn step; order = subst (λ t. SubList (map (λ (p : Placement). p.life.sub) (placements_put server now t)) (open_subs a.lines)) (sym (puts_are server a e won)) (go (part_of server a e won) refl) }

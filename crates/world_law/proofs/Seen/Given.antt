@@ -18,11 +18,11 @@ use Rattle.route_values.specs.declared.bodies.Body.{Body}
 use Rattle.route_values.specs.declared.bodies.Body.TheVariants.{Plus, Minus, Snapshot, Msg}
 use Rattle.shard_core.specs.declared.calls.Placed.{Placed}
 use Rattle.shard_core.specs.AsLaw.{given_by, job_by, given_by_claim}
-use Rattle.shard_core.specs.Owed.{due_entry, placed_for, whole_walk, first_step, is_due, is_plain, is_wanted, candidate_of, slow_consumer}
+use Rattle.shard_core.specs.Owed.{owed_entry, owed_placed, whole_walk, first_step, is_due, is_plain, is_wanted, candidate_of, slow_consumer}
 use Rattle.shard_core.specs.Puts.{put_by, put_by_claim, put_line, entries_for, kept_of, ArePut}
 use Rattle.shard_core.specs.ShardEvents as of_shard
 use Rattle.shard_core.specs.ShardSteps.{shard_refusal, shard_after, answer_fits}
-use Rattle.shard_core.specs.Shards.{State, waits_for}
+use Rattle.shard_core.specs.Shards.{State, Client, waits_for}
 use Rattle.shard_core.proofs.Steps.LawEvents.{walk_gives}
 use Rattle.shard_core.proofs.Clients.Outboxes.{entries_append}
 use Rattle.node_law.specs.declared.faults.NodeFault.TheVariants.{NoShard, Shard}
@@ -70,13 +70,13 @@ no_messages conn line (j ∷ js) = go (nat_eq j conn) (no_messages conn line js)
     go false below = below
 
 -- the messages of a begin are for plain subscriptions
-plain_messages : (shard conn : ℕ) (job : Job) (us : List Subscription) → Each (λ u. u.key.queue ≡ None) us → filter is_message (entries_for conn (map (placed_for shard job None) us)) ≡ entries_for_job shard (Some job) (filter (is_of conn) us)
-plain_messages shard conn job [] h = refl
-plain_messages shard conn job (u ∷ us) h = go (nat_eq u.conn conn) (plain_messages shard conn job us (λ v i. h v (inr i)))
+plain_messages : (shard conn : ℕ) (clients : List Client) (job : Job) (us : List Subscription) → Each (λ u. u.key.queue ≡ None) us → filter is_message (entries_for conn (map (owed_placed shard clients job None) us)) ≡ entries_for_job shard clients (Some job) (filter (is_of conn) us)
+plain_messages shard conn clients job [] h = refl
+plain_messages shard conn clients job (u ∷ us) h = go (nat_eq u.conn conn) (plain_messages shard conn clients job us (λ v i. h v (inr i)))
   where
-    go : (b : Bool) → filter is_message (entries_for conn (map (placed_for shard job None) us)) ≡ entries_for_job shard (Some job) (filter (is_of conn) us)
-        → filter is_message (map (λ (put : Placed). put.entry) (cond b (placed_for shard job None u ∷ filter (λ (put : Placed). nat_eq put.conn conn) (map (placed_for shard job None) us)) (filter (λ (put : Placed). nat_eq put.conn conn) (map (placed_for shard job None) us)))) ≡ entries_for_job shard (Some job) (cond b (u ∷ filter (is_of conn) us) (filter (is_of conn) us))
-    go true below = λ i. due_entry shard job (sym (h u (inl refl)) i) u ∷ below i
+    go : (b : Bool) → filter is_message (entries_for conn (map (owed_placed shard clients job None) us)) ≡ entries_for_job shard clients (Some job) (filter (is_of conn) us)
+        → filter is_message (map (λ (put : Placed). put.entry) (cond b (owed_placed shard clients job None u ∷ filter (λ (put : Placed). nat_eq put.conn conn) (map (owed_placed shard clients job None) us)) (filter (λ (put : Placed). nat_eq put.conn conn) (map (owed_placed shard clients job None) us)))) ≡ entries_for_job shard clients (Some job) (cond b (u ∷ filter (is_of conn) us) (filter (is_of conn) us))
+    go true below = λ i. owed_entry shard clients job (sym (h u (inl refl)) i) u ∷ below i
     go false below = below
 
 none_plain : (q : Option (List ℕ)) → is_none q ≡ true → q ≡ None
@@ -89,19 +89,19 @@ given_plain s job u i =
     let at = in_filter (is_due job) s.subs u (in_sub g.new (filter (is_due job) s.subs) g.some u (subst (In u) g.given i)) in
     none_plain u.key.queue (and_true (is_plain u) (is_wanted job u) at.1).0
 
-claim_messages : (s : State) (conn : ℕ) (hand : Option Job) (u : Option Subscription) (won : Bool) → filter is_message (entries_for conn (put_by_claim s hand u won)) ≡ entries_for_job s.shard hand (filter (is_of conn) (given_by_claim hand u won))
+claim_messages : (s : State) (conn : ℕ) (hand : Option Job) (u : Option Subscription) (won : Bool) → filter is_message (entries_for conn (put_by_claim s hand u won)) ≡ entries_for_job s.shard s.clients hand (filter (is_of conn) (given_by_claim hand u won))
 claim_messages s conn None u won = refl
 claim_messages s conn (Some job) None won = refl
 claim_messages s conn (Some job) (Some u) false = refl
 claim_messages s conn (Some job) (Some u) true = go (nat_eq u.conn conn)
   where
-    go : (b : Bool) → filter is_message (map (λ (put : Placed). put.entry) (cond b (placed_for s.shard job u.key.queue u ∷ []) [])) ≡ entries_for_job s.shard (Some job) (cond b (u ∷ []) [])
+    go : (b : Bool) → filter is_message (map (λ (put : Placed). put.entry) (cond b (owed_placed s.shard s.clients job u.key.queue u ∷ []) [])) ≡ entries_for_job s.shard s.clients (Some job) (cond b (u ∷ []) [])
     go true = refl
     go false = refl
 
 -- ---- of what an event puts, the messages are those given
 
-shard_messages : (s : State) (e : of_shard.Event) (conn : ℕ) → filter is_message (entries_for conn (put_by s e)) ≡ entries_for_job s.shard (job_by s e) (filter (is_of conn) (given_by s e))
+shard_messages : (s : State) (e : of_shard.Event) (conn : ℕ) → filter is_message (entries_for conn (put_by s e)) ≡ entries_for_job s.shard s.clients (job_by s e) (filter (is_of conn) (given_by s e))
 shard_messages s of_shard.Attach conn = refl
 shard_messages s (of_shard.Subscribe j key sid) conn = refl
 shard_messages s (of_shard.Unsubscribe j sid max) conn = refl
@@ -112,13 +112,14 @@ shard_messages s (of_shard.Reply j frame) conn = go (answer_fits s j (reply_line
     go false = no_messages conn slow_consumer (j ∷ [])
 shard_messages s (of_shard.Shut j text) conn = no_messages conn (err_line text) (j ∷ [])
 shard_messages s (of_shard.Detach j) conn = refl
+shard_messages s (of_shard.SetHeaders j on) conn = refl
 shard_messages s (of_shard.Take j count) conn = refl
 shard_messages s (of_shard.Begin job) conn =
-    ap (filter is_message) (entries_append conn (map (placed_for s.shard job None) (whole_walk s job).given) (map (put_line slow_consumer) (whole_walk s job).shut))
-    ∙ filter_append is_message (entries_for conn (map (placed_for s.shard job None) (whole_walk s job).given)) (entries_for conn (map (put_line slow_consumer) (whole_walk s job).shut))
-    ∙ ap (λ t. filter is_message (entries_for conn (map (placed_for s.shard job None) (whole_walk s job).given)) ++ t) (no_messages conn slow_consumer (whole_walk s job).shut)
-    ∙ append_nil (filter is_message (entries_for conn (map (placed_for s.shard job None) (whole_walk s job).given)))
-    ∙ plain_messages s.shard conn job (whole_walk s job).given (given_plain s job)
+    ap (filter is_message) (entries_append conn (map (owed_placed s.shard s.clients job None) (whole_walk s job).given) (map (put_line slow_consumer) (whole_walk s job).shut))
+    ∙ filter_append is_message (entries_for conn (map (owed_placed s.shard s.clients job None) (whole_walk s job).given)) (entries_for conn (map (put_line slow_consumer) (whole_walk s job).shut))
+    ∙ ap (λ t. filter is_message (entries_for conn (map (owed_placed s.shard s.clients job None) (whole_walk s job).given)) ++ t) (no_messages conn slow_consumer (whole_walk s job).shut)
+    ∙ append_nil (filter is_message (entries_for conn (map (owed_placed s.shard s.clients job None) (whole_walk s job).given)))
+    ∙ plain_messages s.shard conn s.clients job (whole_walk s job).given (given_plain s job)
 shard_messages s (of_shard.Claim index won) conn = claim_messages s conn s.hand (candidate_of s s.hand index) won
 shard_messages s of_shard.End conn = refl
 shard_messages s (of_shard.DropJob waiting) conn = refl
@@ -129,7 +130,7 @@ part_messages : (part : Option Part) (place conn : ℕ) → filter is_message (e
 part_messages None place conn = refl
 part_messages (Some part) place conn = go (nat_eq part.place place)
   where
-    go : (b : Bool) → filter is_message (cond b (entries_for conn (put_by part.line.shard part.event)) []) ≡ cond b (entries_for_job part.line.shard.shard (job_by part.line.shard part.event) (filter (is_of conn) (given_by part.line.shard part.event))) []
+    go : (b : Bool) → filter is_message (cond b (entries_for conn (put_by part.line.shard part.event)) []) ≡ cond b (entries_for_job part.line.shard.shard part.line.shard.clients (job_by part.line.shard part.event) (filter (is_of conn) (given_by part.line.shard part.event))) []
     go true = shard_messages part.line.shard part.event conn
     go false = refl
 
@@ -158,6 +159,7 @@ module _ (puts : (s : State) (e : of_shard.Event) (conn : ℕ) → ArePut s e co
           drop_none zero = refl
           drop_none (suc n) = refl
       go false = drop_all (waits_for conn s.clients)
+  shard_entries s (of_shard.SetHeaders j on) conn cause = more s (of_shard.SetHeaders j on) conn cause refl
   shard_entries s (of_shard.Take j count) conn cause = less s (of_shard.Take j count) conn cause refl (go (nat_eq j conn))
     where
       go : (b : Bool) → drop (length (waits_for conn s.clients)) (cond b (drop count (waits_for conn s.clients)) (waits_for conn s.clients)) ≡ []

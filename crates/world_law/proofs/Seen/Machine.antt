@@ -8,7 +8,7 @@ use Rattle.cluster_law.specs.Interest as interest
 use Rattle.cluster_law.specs.Messages as messages
 use Rattle.cluster_law.specs.Names as names
 use Rattle.cluster_law.specs.Node as law
-use Rattle.client_frames.specs.Messages.{due_bytes, no_headers}
+use Rattle.client_frames.specs.Messages.{due_bytes}
 use Rattle.subj.specs.Messages.{Content}
 use Rattle.subj.specs.Servers.{place_in}
 use Rattle.subj.specs.declared.identities.PubId.{PubId}
@@ -50,14 +50,14 @@ life_of l = record { id = law_id l.id; connection = l.conn; sid = l.sid; pattern
 abbrev pub own_content : messages.Content → Content
 own_content content = record { subject = content.subject; reply = content.reply; headers = content.headers; payload = content.payload }
 
--- its bytes are those of the content and the sid
+-- its bytes are those of the content and the sid, in the form that its connection took
 pub record SeesPlacement (c : Cluster) (p : Placement) (q : history.Placement) : Type 0 where
   pub id : q.id ≡ pub_of c p.id
   pub life : p.life ≡ own_id q.life
   pub conn : q.connection ≡ p.conn
   pub mode : p.mode ≡ mode_of q.mode
   pub step : q.step ≡ p.step
-  pub bytes : p.bytes ≡ due_bytes (own_content q.content) q.sid no_headers
+  pub bytes : p.bytes ≡ due_bytes (own_content q.content) q.sid p.headers
 
 -- ---- servers
 

@@ -15,11 +15,11 @@ use Rattle.subj.specs.declared.jobs.Job.{Job}
 use Rattle.subj.specs.Servers.{ServerIdentity}
 use Rattle.shard_core.specs.declared.calls.Placed.{Placed}
 use Rattle.shard_core.specs.Closings.{id_of, serials_of}
-use Rattle.shard_core.specs.Owed.{placed_for, whole_walk, first_step, is_due, candidate_of, candidate_named, is_candidate, slow_consumer}
+use Rattle.shard_core.specs.Owed.{owed_placed, whole_walk, first_step, is_due, candidate_of, candidate_named, is_candidate, slow_consumer}
 use Rattle.shard_core.specs.Puts.{put_by, put_by_claim, put_line}
 use Rattle.shard_core.specs.ShardEvents as of_shard
 use Rattle.shard_core.specs.ShardSteps.{answer_fits}
-use Rattle.shard_core.specs.Shards.{State}
+use Rattle.shard_core.specs.Shards.{State, Client}
 use Rattle.shard_core.proofs.Steps.LawEvents.{walk_gives}
 use Rattle.node_law.specs.State.{ShardWithJobs}
 use Rattle.world_law.specs.Changes.{placement_of, is_on, open_subs, AreGained, PlacementsAreOne}
@@ -75,15 +75,15 @@ module _ (server : ServerIdentity) (now : ℕ) where
 
   ids_append : (xs ys : List Placed) → ids (xs ++ ys) ≡ ids xs ++ ids ys
   ids_append [] ys = refl
-  ids_append (x ∷ xs) ys = map_append sub_of_placement (placement_of server now x.conn x.entry.bytes x.entry.tag) (placements_put server now (xs ++ ys)) ∙ ap (λ t. map sub_of_placement (placement_of server now x.conn x.entry.bytes x.entry.tag) ++ t) (ids_append xs ys) ∙ sym (append_assoc (map sub_of_placement (placement_of server now x.conn x.entry.bytes x.entry.tag)) (ids xs) (ids ys)) ∙ ap (λ t. t ++ ids ys) (sym (map_append sub_of_placement (placement_of server now x.conn x.entry.bytes x.entry.tag) (placements_put server now xs)))
+  ids_append (x ∷ xs) ys = map_append sub_of_placement (placement_of server now x.conn x.headers x.entry.bytes x.entry.tag) (placements_put server now (xs ++ ys)) ∙ ap (λ t. map sub_of_placement (placement_of server now x.conn x.headers x.entry.bytes x.entry.tag) ++ t) (ids_append xs ys) ∙ sym (append_assoc (map sub_of_placement (placement_of server now x.conn x.headers x.entry.bytes x.entry.tag)) (ids xs) (ids ys)) ∙ ap (λ t. t ++ ids ys) (sym (map_append sub_of_placement (placement_of server now x.conn x.headers x.entry.bytes x.entry.tag) (placements_put server now xs)))
 
   ids_of_lines : (line : List ℕ) (conns : List ℕ) → ids (map (put_line line) conns) ≡ []
   ids_of_lines line [] = refl
   ids_of_lines line (conn ∷ conns) = ids_of_lines line conns
 
-  ids_of_given : (shard : ℕ) (job : Job) (queue : Option (List ℕ)) (us : List Subscription) → ids (map (placed_for shard job queue) us) ≡ map (id_of shard) (serials_of us)
-  ids_of_given shard job queue [] = refl
-  ids_of_given shard job queue (u ∷ us) = ap (λ t. id_of shard u.serial ∷ t) (ids_of_given shard job queue us)
+  ids_of_given : (shard : ℕ) (clients : List Client) (job : Job) (queue : Option (List ℕ)) (us : List Subscription) → ids (map (owed_placed shard clients job queue) us) ≡ map (id_of shard) (serials_of us)
+  ids_of_given shard clients job queue [] = refl
+  ids_of_given shard clients job queue (u ∷ us) = ap (λ t. id_of shard u.serial ∷ t) (ids_of_given shard clients job queue us)
 
   abbrev InOrder : State → List Placed → Type 0
   InOrder s puts = SubList (ids puts) (map (id_of s.shard) (serials_of s.subs))
@@ -115,12 +115,13 @@ module _ (server : ServerIdentity) (now : ℕ) where
       go false = lines_in_order s slow_consumer (conn ∷ [])
   event_order s (of_shard.Shut conn text) = lines_in_order s (err_line text) (conn ∷ [])
   event_order s (of_shard.Detach conn) = tt
+  event_order s (of_shard.SetHeaders conn on) = tt
   event_order s (of_shard.Take conn count) = tt
   event_order s (of_shard.Begin job) =
       let g = walk_gives s job (filter (is_due job) s.subs) (first_step s.clients) in
       let due : SubList (whole_walk s job).given s.subs = subst (λ t. SubList t s.subs) (sym g.given) (sub_then g.new (filter (is_due job) s.subs) s.subs g.some (sub_filter (is_due job) s.subs)) in
       subst (λ t. SubList t (map (id_of s.shard) (serials_of s.subs)))
-      (sym (ids_append (map (placed_for s.shard job None) (whole_walk s job).given) (map (put_line slow_consumer) (whole_walk s job).shut) ∙ (λ i. ids_of_given s.shard job None (whole_walk s job).given i ++ ids_of_lines slow_consumer (whole_walk s job).shut i) ∙ append_nil (map (id_of s.shard) (serials_of (whole_walk s job).given))))
+      (sym (ids_append (map (owed_placed s.shard s.clients job None) (whole_walk s job).given) (map (put_line slow_consumer) (whole_walk s job).shut) ∙ (λ i. ids_of_given s.shard s.clients job None (whole_walk s job).given i ++ ids_of_lines slow_consumer (whole_walk s job).shut i) ∙ append_nil (map (id_of s.shard) (serials_of (whole_walk s job).given))))
       (given_in_order s (whole_walk s job).given due)
   event_order s (of_shard.Claim index won) = claim_in_order s s.hand (candidate_of s s.hand index) won (go s.hand)
     where

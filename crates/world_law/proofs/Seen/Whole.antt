@@ -16,7 +16,7 @@ use Rattle.cluster_law.specs.Messages as messages
 use Rattle.cluster_law.specs.Names as names
 use Rattle.cluster_law.specs.Shard as law_shard
 use Rattle.cluster_law.specs.Shard.{life_id, closings_of}
-use Rattle.client_frames.specs.Messages.{due_bytes, no_headers}
+use Rattle.client_frames.specs.Messages.{due_bytes}
 use Rattle.outbox.specs.declared.entries.Mode.{Mode}
 use Rattle.outbox.specs.declared.entries.Mode.TheVariants.{Plain, Queue}
 use Rattle.sub_table.specs.declared.Subscription.{Subscription}
@@ -320,7 +320,7 @@ headline_of c w v s h = record {
           matches = (λ j. subject_matches (sym (ap (λ (x : history.Life). x.pattern) life.2) j) (content j).subject) ∙ due.matches;
           opened = let lt = due.opened in let is = ap (λ (x : history.Life). x.opened) life.2 in omega arith;
           still = λ k is. let le = due.still (record { life = law_id life.0.id; step = k }) (s.closed_lives life.0 life.1 k is) (sym (ap (λ (x : history.Life). x.id) life.2) ∙ due.id) in omega arith;
-          bytes = a.bytes ∙ (λ j. due_bytes (own_content (sym content j)) ((sym due.sid ∙ ap (λ (x : history.Life). x.sid) life.2) j) no_headers);
+          bytes = a.bytes ∙ (λ j. due_bytes (own_content (sym content j)) ((sym due.sid ∙ ap (λ (x : history.Life). x.sid) life.2) j) p.headers);
         }
 
 pub sound_of : (c : Cluster) (w : World) (v : cluster.World) → Sees c w v → EachUp (λ n a. SoundNode (server_at c n a.inc) a.node) w

@@ -25,7 +25,7 @@ use Rattle.shard_core.specs.ShardSteps.{sub_called}
 use Rattle.node_law.specs.AsLaw.{Shown, IsOpenAt, NodeFollows, StaysSound, IsStarted, MessagesAreGiven, node_of, jobs_by, changes_by}
 use Rattle.node_law.specs.AsLaw as node
 use Rattle.node_law.specs.declared.events.ConnEvent.{ConnEvent}
-use Rattle.node_law.specs.declared.events.ConnEvent.TheVariants.{Subscribe, Unsubscribe, Reply, Shut, Detach, Take}
+use Rattle.node_law.specs.declared.events.ConnEvent.TheVariants.{Subscribe, Unsubscribe, Reply, Shut, SetHeaders, Detach, Take}
 use Rattle.node_law.specs.Events.{OfConn, AtShard, Publish, Collect, Drain, Dial, Accept, CutSession, TakeFrames, NodeEvent, Own, Receive, OnInfo, OnConnect}
 use Rattle.node_law.specs.Sound.{SoundNode}
 use Rattle.node_law.specs.State.{ShardWithJobs, Node}
@@ -212,6 +212,7 @@ new_at c n inc now conn (Unsubscribe sid max) a place (Some line) h l i = absurd
 new_at c n inc now conn (Reply frame) a place (Some line) h l i = absurd i
 new_at c n inc now conn (Shut text) a place (Some line) h l i = absurd i
 new_at c n inc now conn Detach a place (Some line) h l i = absurd i
+new_at c n inc now conn (SetHeaders on) a place (Some line) h l i = absurd i
 new_at c n inc now conn (Take count) a place (Some line) h l i = absurd i
 
 pub conn_line_at : (server : ServerIdentity) (a : Node) (conn : ℕ) (line : ShardWithJobs) → conn_line server a conn ≡ Some line → slice_get a.lines (conn_place server conn) ≡ Some line
@@ -259,6 +260,7 @@ lives_are_at c n inc now conn (Unsubscribe sid max) place (Some line) same h = r
 lives_are_at c n inc now conn (Reply frame) place (Some line) same h = refl
 lives_are_at c n inc now conn (Shut text) place (Some line) same h = refl
 lives_are_at c n inc now conn Detach place (Some line) same h = refl
+lives_are_at c n inc now conn (SetHeaders on) place (Some line) same h = refl
 lives_are_at c n inc now conn (Take count) place (Some line) same h = refl
 
 lives_are : (c : Cluster) (n inc now : ℕ) (a : Node) (e : NodeEvent) → SoundNode (server_at c n inc) a → node.lives_at (server_at c n inc) now a e ≡ map life_of (lives_of (server_at c n inc) now a e)

@@ -13,14 +13,14 @@ use Rattle.subj.specs.Servers.{ServerIdentity, IsListed}
 use Rattle.subj.specs.declared.jobs.Job.{Job}
 use Rattle.shard_core.specs.declared.calls.Placed.{Placed}
 use Rattle.shard_core.specs.Lines.{first_of}
-use Rattle.shard_core.specs.Owed.{placed_for, is_due, is_plain, is_wanted, is_permitted, is_publisher, is_candidate, candidate_of, candidate_named, whole_walk, first_step, slow_consumer, due_entry}
+use Rattle.shard_core.specs.Owed.{owed_placed, is_due, is_plain, is_wanted, is_permitted, is_publisher, is_candidate, candidate_of, candidate_named, whole_walk, first_step, slow_consumer, owed_entry}
 use Rattle.shard_core.specs.Puts.{put_by, put_by_walk, put_by_claim, put_line}
 use Rattle.shard_core.specs.ShardSteps.{answer_fits}
-use Rattle.shard_core.specs.Shards.{State, client_at, fits}
+use Rattle.shard_core.specs.Shards.{State, Client, client_at, fits}
 use Rattle.shard_core.proofs.Steps.LawEvents.{walk_gives}
 use Rattle.client_frames.specs.Frames.{reply_line}
 use Rattle.node_law.specs.declared.events.ConnEvent.{ConnEvent}
-use Rattle.node_law.specs.declared.events.ConnEvent.TheVariants.{Subscribe, Unsubscribe, Reply, Shut, Detach, Take}
+use Rattle.node_law.specs.declared.events.ConnEvent.TheVariants.{Subscribe, Unsubscribe, Reply, Shut, SetHeaders, Detach, Take}
 use Rattle.node_law.specs.declared.events.ShardWork.{ShardWork}
 use Rattle.node_law.specs.declared.events.ShardWork.TheVariants.{Attach, Begin, Claim, End, DropJob, DrainShard}
 use Rattle.node_law.specs.Events as of_node
@@ -53,10 +53,10 @@ record IsOf (server : ServerIdentity) (job : Job) (p : Placement) : Type 0 where
   here : p.life.node ≡ server.me
   permitted : (job.echo || not (is_publisher job.publisher p.conn)) ≡ true
 
-placed_of : (server : ServerIdentity) (now shard : ℕ) (job : Job) (queue : Option (List ℕ)) (us : List Subscription) → Each (λ u. is_permitted job u ≡ true) us → Each (IsOf server job) (placements_put server now (map (placed_for shard job queue) us))
-placed_of server now shard job queue [] h p i = absurd i
-placed_of server now shard job queue (u ∷ us) h p (inl e) = subst (IsOf server job) (sym e) (record { id = refl; here = refl; permitted = h u (inl refl) })
-placed_of server now shard job queue (u ∷ us) h p (inr i) = placed_of server now shard job queue us (λ v j. h v (inr j)) p i
+placed_of : (server : ServerIdentity) (now shard : ℕ) (clients : List Client) (job : Job) (queue : Option (List ℕ)) (us : List Subscription) → Each (λ u. is_permitted job u ≡ true) us → Each (IsOf server job) (placements_put server now (map (owed_placed shard clients job queue) us))
+placed_of server now shard clients job queue [] h p i = absurd i
+placed_of server now shard clients job queue (u ∷ us) h p (inl e) = subst (IsOf server job) (sym e) (record { id = refl; here = refl; permitted = h u (inl refl) })
+placed_of server now shard clients job queue (u ∷ us) h p (inr i) = placed_of server now shard clients job queue us (λ v j. h v (inr j)) p i
 
 no_lines : (server : ServerIdentity) (now : ℕ) (line conns : List ℕ) → placements_put server now (map (put_line line) conns) ≡ []
 no_lines server now line [] = refl
@@ -64,7 +64,7 @@ no_lines server now line (conn ∷ conns) = no_lines server now line conns
 
 put_more : (server : ServerIdentity) (now : ℕ) (xs ys : List Placed) → placements_put server now (xs ++ ys) ≡ placements_put server now xs ++ placements_put server now ys
 put_more server now [] ys = refl
-put_more server now (x ∷ xs) ys = ap (λ t. placement_of server now x.conn x.entry.bytes x.entry.tag ++ t) (put_more server now xs ys) ∙ sym (append_assoc (placement_of server now x.conn x.entry.bytes x.entry.tag) (placements_put server now xs) (placements_put server now ys))
+put_more server now (x ∷ xs) ys = ap (λ t. placement_of server now x.conn x.headers x.entry.bytes x.entry.tag ++ t) (put_more server now xs ys) ∙ sym (append_assoc (placement_of server now x.conn x.headers x.entry.bytes x.entry.tag) (placements_put server now xs) (placements_put server now ys))
 
 given_permitted : (s : State) (job : Job) → Each (λ u. is_permitted job u ≡ true) (whole_walk s job).given
 given_permitted s job u i =
@@ -74,20 +74,20 @@ given_permitted s job u i =
 
 begin_gives : (server : ServerIdentity) (now : ℕ) (s : State) (job : Job) → Each (IsOf server job) (placements_put server now (put_by_walk s job (whole_walk s job)))
 begin_gives server now s job p i =
-    ⊎_elim (λ j. placed_of server now s.shard job None (whole_walk s job).given (given_permitted s job) p j) (λ j. absurd (subst (In p) (no_lines server now slow_consumer (whole_walk s job).shut) j))
-    (in_append p (placements_put server now (map (placed_for s.shard job None) (whole_walk s job).given)) (placements_put server now (map (put_line slow_consumer) (whole_walk s job).shut)) (subst (In p) (put_more server now (map (placed_for s.shard job None) (whole_walk s job).given) (map (put_line slow_consumer) (whole_walk s job).shut)) i))
+    ⊎_elim (λ j. placed_of server now s.shard s.clients job None (whole_walk s job).given (given_permitted s job) p j) (λ j. absurd (subst (In p) (no_lines server now slow_consumer (whole_walk s job).shut) j))
+    (in_append p (placements_put server now (map (owed_placed s.shard s.clients job None) (whole_walk s job).given)) (placements_put server now (map (put_line slow_consumer) (whole_walk s job).shut)) (subst (In p) (put_more server now (map (owed_placed s.shard s.clients job None) (whole_walk s job).given) (map (put_line slow_consumer) (whole_walk s job).shut)) i))
 
 candidate_permitted : (s : State) (job : Job) (name : Option (List ℕ)) (u : Subscription) → candidate_named s job name ≡ Some u → is_permitted job u ≡ true
 candidate_permitted s job None u e = absurd (none-some u e)
 candidate_permitted s job (Some name) u e =
     let f = in_filter (is_candidate s job name) s.subs u (in_read _ _ u e) in
-    let wanted = and_true (is_wanted job u) (fits (client_at u.conn s.clients) (due_entry s.shard job (Some name) u)) (and_true (is_named name u.key.queue) (is_wanted job u && fits (client_at u.conn s.clients) (due_entry s.shard job (Some name) u)) f.1).1 in
+    let wanted = and_true (is_wanted job u) (fits (client_at u.conn s.clients) (owed_entry s.shard s.clients job (Some name) u)) (and_true (is_named name u.key.queue) (is_wanted job u && fits (client_at u.conn s.clients) (owed_entry s.shard s.clients job (Some name) u)) f.1).1 in
     (and_true (gets job.message.subject u) (is_permitted job u) wanted.0).1
 
 claim_gives : (server : ServerIdentity) (now : ℕ) (s : State) (job : Job) (u : Option Subscription) (won : Bool) → ((v : Subscription) → u ≡ Some v → is_permitted job v ≡ true) → Each (IsOf server job) (placements_put server now (put_by_claim s (Some job) u won))
 claim_gives server now s job None won h p i = absurd i
 claim_gives server now s job (Some v) false h p i = absurd i
-claim_gives server now s job (Some v) true h p i = placed_of server now s.shard job v.key.queue (v ∷ []) (λ x j. ⊎_elim (λ (e : x ≡ v). subst (λ (y : Subscription). is_permitted job y ≡ true) (sym e) (h v refl)) (λ (z : ⊥). absurd z) j) p i
+claim_gives server now s job (Some v) true h p i = placed_of server now s.shard s.clients job v.key.queue (v ∷ []) (λ x j. ⊎_elim (λ (e : x ≡ v). subst (λ (y : Subscription). is_permitted job y ≡ true) (sym e) (h v refl)) (λ (z : ⊥). absurd z) j) p i
 
 conn_gives : (server : ServerIdentity) (now : ℕ) (s : State) (conn : ℕ) (event : ConnEvent) → placements_put server now (put_by s (conn_event conn event)) ≡ []
 conn_gives server now s conn (Subscribe key sid) = refl
@@ -99,6 +99,7 @@ conn_gives server now s conn (Reply frame) = go (answer_fits s conn (reply_line 
     go false = refl
 conn_gives server now s conn (Shut text) = refl
 conn_gives server now s conn Detach = refl
+conn_gives server now s conn (SetHeaders on) = refl
 conn_gives server now s conn (Take count) = refl
 
 -- ---- each message that a step puts is of a job of its line

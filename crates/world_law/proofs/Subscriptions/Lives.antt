@@ -16,11 +16,12 @@ use Rattle.shard_core.specs.Closings.{id_of, serials_of}
 use Rattle.shard_core.specs.Shards.{State}
 use Rattle.shard_core.specs.ShardEvents as of_shard
 use Rattle.shard_core.specs.ShardSteps.{sub_called, new_sub, after_subscribe, shard_refusal, shard_after}
-use Rattle.shard_core.proofs.Closings.Causes.{one, subs_go_on, closes_by_cause, fixed}
+use Rattle.shard_core.proofs.Closings.Causes.{one, subs_go_on, closes_by_cause}
+use Rattle.shard_core.proofs.Closings.Fixed.{fixed}
 use Rattle.node_law.specs.AsLaw.{Part, part_at, part_of}
 use Rattle.node_law.specs.EachShard.{ShardsStayHeld}
 use Rattle.node_law.specs.declared.events.ConnEvent.{ConnEvent}
-use Rattle.node_law.specs.declared.events.ConnEvent.TheVariants.{Subscribe, Unsubscribe, Reply, Shut, Detach, Take}
+use Rattle.node_law.specs.declared.events.ConnEvent.TheVariants.{Subscribe, Unsubscribe, Reply, Shut, SetHeaders, Detach, Take}
 use Rattle.node_law.specs.Events as of_node
 use Rattle.node_law.specs.Events.{NodeEvent}
 use Rattle.node_law.specs.Sound.{SoundNode}
@@ -176,6 +177,7 @@ is_subscribe (Unsubscribe sid max) = false
 is_subscribe (Reply frame) = false
 is_subscribe (Shut text) = false
 is_subscribe Detach = false
+is_subscribe (SetHeaders on) = false
 is_subscribe (Take count) = false
 
 -- the shard's part of a subscribe
@@ -202,6 +204,7 @@ module _ (c : Cluster) (w : World) (n : ℕ) (event : Option NodeEvent) (told : 
       fresh (of_shard.Reply conn frame) f = f
       fresh (of_shard.Shut conn text) f = f
       fresh (of_shard.Detach conn) f = f
+      fresh (of_shard.SetHeaders conn on) f = f
       fresh (of_shard.Take conn count) f = f
       fresh (of_shard.Begin job) f = f
       fresh (of_shard.Claim index won) f = f
@@ -310,6 +313,7 @@ module _ (c : Cluster) (w : World) (n : ℕ) (event : Option NodeEvent) (told : 
   quiet_event conn (Reply frame) (Some line) not = refl
   quiet_event conn (Shut text) (Some line) not = refl
   quiet_event conn Detach (Some line) not = refl
+  quiet_event conn (SetHeaders on) (Some line) not = refl
   quiet_event conn (Take count) (Some line) not = refl
 
   new_open : (e : NodeEvent) → s.e ≡ e → (l : Life) → In l (lives_of (server_at c n s.a.inc) (suc w.step) s.a.node e) → IsOpenLife w' l
@@ -318,6 +322,7 @@ module _ (c : Cluster) (w : World) (n : ℕ) (event : Option NodeEvent) (told : 
   new_open (of_node.Own (of_node.OfConn conn (Reply frame))) is l i = absurd (subst (In l) (quiet_event conn (Reply frame) (conn_line (server_at c n s.a.inc) s.a.node conn) refl) i)
   new_open (of_node.Own (of_node.OfConn conn (Shut text))) is l i = absurd (subst (In l) (quiet_event conn (Shut text) (conn_line (server_at c n s.a.inc) s.a.node conn) refl) i)
   new_open (of_node.Own (of_node.OfConn conn Detach)) is l i = absurd (subst (In l) (quiet_event conn Detach (conn_line (server_at c n s.a.inc) s.a.node conn) refl) i)
+  new_open (of_node.Own (of_node.OfConn conn (SetHeaders on))) is l i = absurd (subst (In l) (quiet_event conn (SetHeaders on) (conn_line (server_at c n s.a.inc) s.a.node conn) refl) i)
   new_open (of_node.Own (of_node.OfConn conn (Take count))) is l i = absurd (subst (In l) (quiet_event conn (Take count) (conn_line (server_at c n s.a.inc) s.a.node conn) refl) i)
   new_open (of_node.Own (of_node.AtShard shard work)) is l i = absurd i
   new_open (of_node.Own (of_node.Publish p)) is l i = absurd i

@@ -11,7 +11,7 @@ returns-then-place-conns-clause-next c =
     let conns = c.args.conns.now in
     let r = c.index-conns-place.result in
     let x = slice_index_or conns c.args.place r in
-    same_seen next_backlog conns c.args.place r (record { number = x.number; outbox = c.commit.new.self }) (ap (λ (b : Waiting). client_in_view next_backlog (record { number = x.number; outbox = b })) c.commit.ensures)
+    same_seen next_backlog conns c.args.place r (record { number = x.number; outbox = c.commit.new.self; headers = x.headers }) (ap (λ (b : Waiting). client_in_view next_backlog (record { number = x.number; outbox = b; headers = x.headers })) c.commit.ensures)
 
 pub returns-then-place-conns-clause-settled : goal.returns-then-place-conns-clause-settled
 returns-then-place-conns-clause-settled c =

@@ -11,7 +11,7 @@ returns-then-place-conns-clause-shown c =
     let conns = c.args.conns.now in
     let r = c.index-conns-place.result in
     let x = slice_index_or conns c.args.place r in
-    same_seen shown_backlog conns c.args.place r (record { number = x.number; outbox = c.rollback.new.self }) (ap (λ (b : Waiting). client_in_view shown_backlog (record { number = x.number; outbox = b })) c.rollback.ensures)
+    same_seen shown_backlog conns c.args.place r (record { number = x.number; outbox = c.rollback.new.self; headers = x.headers }) (ap (λ (b : Waiting). client_in_view shown_backlog (record { number = x.number; outbox = b; headers = x.headers })) c.rollback.ensures)
 
 pub returns-then-place-conns-clause-settled : goal.returns-then-place-conns-clause-settled
 returns-then-place-conns-clause-settled c =

@@ -1,5 +1,6 @@
-use Rattle.std.proofs.Common.{sym, ◌∙◌}
-use Rattle.shard_core.specs.Boxes.{next_backlog}
+use Rattle.std.proofs.Common.{map, sym, subst, ◌∙◌}
+use Rattle.shard_core.specs.declared.connections.Seat.{Seat}
+use Rattle.shard_core.specs.Boxes.{IsSeatOf, client_in_view, next_backlog}
 use Rattle.shard_core.proofs.Clients.Lookups.{client_none, seat_found}
 use Rattle.shard_core.proofs.connections.seat_in.Goals as goal
 
@@ -7,4 +8,4 @@ pub returns-in-None-clause-none : goal.returns-in-None-clause-none
 returns-in-None-clause-none c = λ none. client_none next_backlog c.args.conn c.args.conns.now.items (sym c.place_near.ensures ∙ c.in-None.is)
 
 pub returns-in-Some-clause-some : goal.returns-in-Some-clause-some
-returns-in-Some-clause-some c = seat_found c.args.conn c.in-Some.place c.args.conns.now.items (sym c.place_near.ensures ∙ c.in-Some.is)
+returns-in-Some-clause-some c = subst (λ (s : Seat). IsSeatOf c.args.conn s (map (client_in_view next_backlog) c.args.conns.now.items)) (sym c.seat_at.ensures) (seat_found c.args.conn c.in-Some.place c.args.conns.now.items c.index.result.now (sym c.place_near.ensures ∙ c.in-Some.is) c.index.ensures)

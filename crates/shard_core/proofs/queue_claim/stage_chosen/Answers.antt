@@ -1,5 +1,5 @@
 use Rattle.std.proofs.Common.{true≢false, sym, ap, ◌∙◌}
-use Rattle.shard_core.specs.Owed.{due_entry}
+use Rattle.shard_core.specs.Owed.{owed_entry}
 use Rattle.shard_core.specs.Shards.{fits}
 use Rattle.shard_core.proofs.queue_claim.stage_chosen.Goals as goal
 
@@ -7,4 +7,4 @@ pub unreachable-requires : goal.unreachable-requires
 unreachable-requires c =
     let claim = c.args.claim.now in
     let sub = c.args.sub.now in
-    true≢false (sym c.requires.room ∙ ap (λ o. fits o (due_entry claim.shard claim.job.now sub.key.queue sub)) (c.seat.ensures.none c.in_default.is))
+    true≢false (sym c.requires.room ∙ ap (λ o. fits o (owed_entry claim.shard c.args.conns.now.next claim.job.now sub.key.queue sub)) (c.seat.ensures.none c.in_default.is))

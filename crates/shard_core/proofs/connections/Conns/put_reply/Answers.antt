@@ -77,8 +77,8 @@ returns-clause-put c =
     let settled : map (client_in_view next_backlog) conns ≡ map (client_in_view shown_backlog) conns = ap (λ (l : Clients). l.next) c.self.view_is ∙ c.requires ∙ sym (ap (λ (l : Clients). l.shown) c.self.view_is) in
     let alone = settled_box n conns i x at is settled in
     let box : c.commit.new.self ≡ record { shown = change x.outbox.shown; next = change x.outbox.next; max_entries = x.outbox.max_entries; max_bytes = x.outbox.max_bytes } = put_and_shown change x.outbox c.stage_reply.new.self c.commit.new.self c.in_ok-stage_reply.ensures.ok c.commit.ensures alone in
-    let shown : map (client_in_view shown_backlog) (slice_set conns i (record { number = x.number; outbox = c.commit.new.self })) ≡ clients_with_change change n c.args.self.now.shown = changed_is shown_backlog n conns i x at is change c.commit.new.self (ap (λ (b : Waiting). client_in_view shown_backlog (record { number = x.number; outbox = b })) box) ∙ ap (λ (l : Clients). clients_with_change change n l.shown) c.self.view_is in
-    let next : map (client_in_view next_backlog) (slice_set conns i (record { number = x.number; outbox = c.commit.new.self })) ≡ clients_with_change change n c.args.self.now.next = changed_is next_backlog n conns i x at is change c.commit.new.self (ap (λ (b : Waiting). client_in_view next_backlog (record { number = x.number; outbox = b })) box) ∙ ap (λ (l : Clients). clients_with_change change n l.next) c.self.view_is in
+    let shown : map (client_in_view shown_backlog) (slice_set conns i (record { number = x.number; outbox = c.commit.new.self; headers = x.headers })) ≡ clients_with_change change n c.args.self.now.shown = changed_is shown_backlog n conns i x at is change c.commit.new.self (ap (λ (b : Waiting). client_in_view shown_backlog (record { number = x.number; outbox = b; headers = x.headers })) box) ∙ ap (λ (l : Clients). clients_with_change change n l.shown) c.self.view_is in
+    let next : map (client_in_view next_backlog) (slice_set conns i (record { number = x.number; outbox = c.commit.new.self; headers = x.headers })) ≡ clients_with_change change n c.args.self.now.next = changed_is next_backlog n conns i x at is change c.commit.new.self (ap (λ (b : Waiting). client_in_view next_backlog (record { number = x.number; outbox = b; headers = x.headers })) box) ∙ ap (λ (l : Clients). clients_with_change change n l.next) c.self.view_is in
     λ _ k. record { shown = shown k; next = next k }
 
 pub returns-clause-told : goal.returns-clause-told
@@ -94,7 +94,7 @@ returns-clause-told c =
     let alone = settled_box n conns i x at is settled in
     let box : c.commit.new.self ≡ record { shown = change x.outbox.shown; next = change x.outbox.next; max_entries = x.outbox.max_entries; max_bytes = x.outbox.max_bytes } = put_and_shown change x.outbox c.stage_reply.new.self c.commit.new.self c.in_ok-stage_reply.ensures.ok c.commit.ensures alone in
     let there : i < length conns = (position-Some (λ (y : Conn). y.number == n) conns i x at).0 in
-    let new : Conn = record { number = x.number; outbox = c.commit.new.self } in
+    let new : Conn = record { number = x.number; outbox = c.commit.new.self; headers = x.headers } in
     let before = c.args.dirty_conns.now in
     let after = c.note_at.new.dirty_conns in
     subst (λ (l : Clients). AreTold l.shown (map (client_in_view shown_backlog) (slice_set conns i new)) before after) c.self.view_is
@@ -114,4 +114,4 @@ returns-in_err-stage_reply-clause-told c =
     let at : position (λ (y : Conn). y.number == n) conns ≡ Some i = sym c.place_in.ensures ∙ c.in-Some.is in
     let x = c.index_mut-conn.result.now in
     let is = c.index_mut-conn.ensures.value in
-    nothing_put _ _ c.args.dirty_conns.now (same_is shown_backlog n conns i x at is c.stage_reply.new.self (ap (λ (b : Waiting). client_in_view shown_backlog (record { number = x.number; outbox = b })) c.in_err-stage_reply.ensures.err) ∙ ap (λ (l : Clients). l.shown) c.self.view_is)
+    nothing_put _ _ c.args.dirty_conns.now (same_is shown_backlog n conns i x at is c.stage_reply.new.self (ap (λ (b : Waiting). client_in_view shown_backlog (record { number = x.number; outbox = b; headers = x.headers })) c.in_err-stage_reply.ensures.err) ∙ ap (λ (l : Clients). l.shown) c.self.view_is)

@@ -52,7 +52,7 @@ returns-clause-put c =
     let is = c.index_mut-conn.ensures.value in
     let at : position (λ (y : Conn). y.number == n) conns ≡ Some i = sym c.place_in.ensures ∙ c.in-Some.is in
     let change = with_last c.args.line.now in
-    λ put. changed_is shown_backlog n conns i x at is change c.shut-put.new.self (ap (λ (b : Waiting). client_in_view shown_backlog (record { number = x.number; outbox = b })) (c.shut-put.ensures.put put)) ∙ ap (λ (l : Clients). clients_with_change change n l.shown) c.self.view_is
+    λ put. changed_is shown_backlog n conns i x at is change c.shut-put.new.self (ap (λ (b : Waiting). client_in_view shown_backlog (record { number = x.number; outbox = b; headers = x.headers })) (c.shut-put.ensures.put put)) ∙ ap (λ (l : Clients). clients_with_change change n l.shown) c.self.view_is
 
 pub returns-clause-left : goal.returns-clause-left
 returns-clause-left c =
@@ -62,7 +62,7 @@ returns-clause-left c =
     let x = c.index_mut-conn.result.now in
     let is = c.index_mut-conn.ensures.value in
     let at : position (λ (y : Conn). y.number == n) conns ≡ Some i = sym c.place_in.ensures ∙ c.in-Some.is in
-    λ left. same_is shown_backlog n conns i x at is c.shut-put.new.self (ap (λ (b : Waiting). client_in_view shown_backlog (record { number = x.number; outbox = b })) (c.shut-put.ensures.left left)) ∙ ap (λ (l : Clients). l.shown) c.self.view_is
+    λ left. same_is shown_backlog n conns i x at is c.shut-put.new.self (ap (λ (b : Waiting). client_in_view shown_backlog (record { number = x.number; outbox = b; headers = x.headers })) (c.shut-put.ensures.left left)) ∙ ap (λ (l : Clients). l.shown) c.self.view_is
 
 pub returns-clause-told : goal.returns-clause-told
 returns-clause-told c =
@@ -73,7 +73,7 @@ returns-clause-told c =
     let is = c.index_mut-conn.ensures.value in
     let at : position (λ (y : Conn). y.number == n) conns ≡ Some i = sym c.place_in.ensures ∙ c.in-Some.is in
     let there : i < length conns = (position-Some (λ (y : Conn). y.number == n) conns i x at).0 in
-    let new : Conn = record { number = x.number; outbox = c.shut-put.new.self } in
+    let new : Conn = record { number = x.number; outbox = c.shut-put.new.self; headers = x.headers } in
     let before = c.args.dirty_conns.now in
     let after = c.note_at.new.dirty_conns in
     subst (λ (l : Clients). AreTold l.shown (map (client_in_view shown_backlog) (slice_set conns i new)) before after) c.self.view_is

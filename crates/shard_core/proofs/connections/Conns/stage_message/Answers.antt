@@ -19,7 +19,7 @@ stage_message_at-requires-clause-room c =
     let n = c.args.seat.conn in
     let i = c.args.seat.place in
     let at = seat_place c.args.seat conns (ap (λ (l : Clients). position (has_number n) l.next) c.self.view_is ∙ c.requires.seat) in
-    has_room_at n conns i at (message_entry c.args.id c.args.sub c.args.mode c.args.line.now c.args.payload.now) (ap (λ (l : Clients). fits (client_at n l.next) (message_entry c.args.id c.args.sub c.args.mode c.args.line.now c.args.payload.now)) c.self.view_is ∙ c.requires.room)
+    has_room_at n conns i at (message_entry c.args.id c.args.sub c.args.mode c.args.line.now c.args.body.now) (ap (λ (l : Clients). fits (client_at n l.next) (message_entry c.args.id c.args.sub c.args.mode c.args.line.now c.args.body.now)) c.self.view_is ∙ c.requires.room)
 
 pub invariant_of-self-in_err-stage_message_at : goal.invariant_of-self-in_err-stage_message_at
 invariant_of-self-in_err-stage_message_at c =
@@ -51,7 +51,7 @@ invariant_of-self-2 c =
     let n = c.args.seat.conn in
     let i = c.args.seat.place in
     let at = seat_place c.args.seat conns (ap (λ (l : Clients). position (has_number n) l.next) c.self.view_is ∙ c.requires.seat) in
-    subst (λ places. AreConns places c.stage_message_at.new.conns.items) (sym c.in_ok-note_staged.ensures.ok) (staged_is n conns i at (with_entry (message_entry c.args.id c.args.sub c.args.mode c.args.line.now c.args.payload.now)) c.self.inside.places.items c.stage_message_at.new.conns.items c.self.invariant c.in_ok-stage_message_at.ensures.ok).keeps
+    subst (λ places. AreConns places c.stage_message_at.new.conns.items) (sym c.in_ok-note_staged.ensures.ok) (staged_is n conns i at (with_entry (message_entry c.args.id c.args.sub c.args.mode c.args.line.now c.args.body.now)) c.self.inside.places.items c.stage_message_at.new.conns.items c.self.invariant c.in_ok-stage_message_at.ensures.ok).keeps
 
 pub returns-clause-shown : goal.returns-clause-shown
 returns-clause-shown c =
@@ -59,7 +59,7 @@ returns-clause-shown c =
     let n = c.args.seat.conn in
     let i = c.args.seat.place in
     let at = seat_place c.args.seat conns (ap (λ (l : Clients). position (has_number n) l.next) c.self.view_is ∙ c.requires.seat) in
-    (staged_is n conns i at (with_entry (message_entry c.args.id c.args.sub c.args.mode c.args.line.now c.args.payload.now)) c.self.inside.places.items c.stage_message_at.new.conns.items c.self.invariant c.in_ok-stage_message_at.ensures.ok).shown ∙ ap (λ (l : Clients). l.shown) c.self.view_is
+    (staged_is n conns i at (with_entry (message_entry c.args.id c.args.sub c.args.mode c.args.line.now c.args.body.now)) c.self.inside.places.items c.stage_message_at.new.conns.items c.self.invariant c.in_ok-stage_message_at.ensures.ok).shown ∙ ap (λ (l : Clients). l.shown) c.self.view_is
 
 pub returns-clause-ok : goal.returns-clause-ok
 returns-clause-ok c =
@@ -67,4 +67,4 @@ returns-clause-ok c =
     let n = c.args.seat.conn in
     let i = c.args.seat.place in
     let at = seat_place c.args.seat conns (ap (λ (l : Clients). position (has_number n) l.next) c.self.view_is ∙ c.requires.seat) in
-    (staged_is n conns i at (with_entry (message_entry c.args.id c.args.sub c.args.mode c.args.line.now c.args.payload.now)) c.self.inside.places.items c.stage_message_at.new.conns.items c.self.invariant c.in_ok-stage_message_at.ensures.ok).next ∙ ap (λ (l : Clients). clients_with_change (with_entry (message_entry c.args.id c.args.sub c.args.mode c.args.line.now c.args.payload.now)) n l.next) c.self.view_is
+    (staged_is n conns i at (with_entry (message_entry c.args.id c.args.sub c.args.mode c.args.line.now c.args.body.now)) c.self.inside.places.items c.stage_message_at.new.conns.items c.self.invariant c.in_ok-stage_message_at.ensures.ok).next ∙ ap (λ (l : Clients). clients_with_change (with_entry (message_entry c.args.id c.args.sub c.args.mode c.args.line.now c.args.body.now)) n l.next) c.self.view_is

@@ -62,7 +62,7 @@ returns-in_ok-taken-in-Some-clause-ok c =
     let is = c.index_mut-conn.ensures.value in
     let at : position (λ (y : Conn). y.number == n) conns ≡ Some i = sym c.place_in.ensures ∙ c.in-Some.is in
     let change = without_first c.args.count in
-    changed_is shown_backlog n conns i x at is change c.take_bytes.new.self (ap (λ (b : Waiting). client_in_view shown_backlog (record { number = x.number; outbox = b })) c.in_ok-taken-in-Some.ensures.ok) ∙ ap (λ (l : Clients). clients_with_change change n l.shown) c.self.view_is
+    changed_is shown_backlog n conns i x at is change c.take_bytes.new.self (ap (λ (b : Waiting). client_in_view shown_backlog (record { number = x.number; outbox = b; headers = x.headers })) c.in_ok-taken-in-Some.ensures.ok) ∙ ap (λ (l : Clients). clients_with_change change n l.shown) c.self.view_is
 
 pub returns-in-None-clause-ok : goal.returns-in-None-clause-ok
 returns-in-None-clause-ok c =
