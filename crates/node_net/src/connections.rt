@@ -6,7 +6,7 @@ ghost use Rattle.std.specs.Prelude.{◌≡◌};
 
 use crate::connection::{Cause, Connection, Ending};
 use crate::handshake::Proving;
-use crate::limits::{IDLE, IDLE_STEP, LAST_BYTES, RETRY, ROUTE_STALL};
+use crate::limits::{GREETING, IDLE, IDLE_STEP, LAST_BYTES, RETRY, ROUTE_STALL, STRANGER_STAY};
 use crate::route_link::Stepped;
 use crate::taken::Taken;
 use net_streams::Stream;
@@ -461,6 +461,15 @@ impl<S: Stream> Connections<S> {
             self.await_deadline(key);
         }
         is_any_idle
+    }
+
+    /// Whether a route that has [`GREETING`] to tell who it is came [`STRANGER_STAY`] ago, or earlier.
+    pub fn has_stayed(&self, key: usize) -> bool {
+        let latest = self.now.saturating_add(GREETING - STRANGER_STAY);
+        match self.table.get(key) {
+            None => false,
+            Some(connection) => connection.deadline() <= latest,
+        }
     }
 
     /// Whether the deadline of a connection has come.

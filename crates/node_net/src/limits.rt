@@ -29,6 +29,10 @@ pub(crate) const GREETING: u64 = 5_000;
 /// The most connections that others have dialed and whose other ends are to prove still which servers they are, where the mesh has a secret.
 pub(crate) const STRANGERS: usize = 16;
 
+/// How long each of these keeps its place, in milliseconds, where all places are taken and one more dials: a server that is far away needs one
+/// round trip to prove itself. Whoever floods the port can take as many places in that time as there are, and no more.
+pub(crate) const STRANGER_STAY: u64 = 100;
+
 /// The first pause between two dials of one server, in milliseconds.
 pub(crate) const FIRST_PAUSE: u64 = 25;
 

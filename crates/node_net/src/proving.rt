@@ -1,11 +1,14 @@
 //! How a server comes to know which server is at the other end of a route, where the mesh has a secret: by that alone.
 
+ghost use Rattle.std.specs.Prelude.{◌≡◌, ◌∷◌, ◌++◌, [], IfNone, IfSome};
+
 use crate::connection::{Cause, Link};
 use crate::faults::AddFault;
 use crate::handshake::{Handshake, Proving, Said};
 use crate::limits::STRANGERS;
 use crate::route_link::{RouteLink, Stage};
 use crate::server::{Server, accept, encode_info};
+use arrayvec::ArrayVec;
 use net_streams::Stream;
 use peer_proof::{Acceptor, Dialer, FreshWord, Secret, WORD};
 use route_session::SessionFault;
@@ -21,8 +24,9 @@ pub(crate) struct Guard {
     secret: Option<Secret>,
     /// The word for the next connection, which nobody was told.
     word: Option<FreshWord>,
-    /// How many connections others have dialed whose other ends are to prove still which servers they are.
-    strangers: usize,
+    /// The connections that others have dialed and whose other ends are to prove still which servers they are, in the order of their coming. One that
+    /// is turned out, and is to be closed, is none of them.
+    strangers: ArrayVec<usize, STRANGERS>,
 }
 
 impl Guard {
@@ -31,13 +35,36 @@ impl Guard {
         Guard {
             secret: None,
             word: None,
-            strangers: 0,
+            strangers: ArrayVec::new(),
         }
     }
 
-    /// One stranger fewer.
-    pub fn lose_stranger(&mut self) {
-        self.strangers = self.strangers.saturating_sub(1);
+    /// The stranger that came first, where all places are taken.
+    fn first_of_all(&self) -> Option<usize> {
+        if self.strangers.is_full() {
+            self.strangers.as_slice().first().copied()
+        } else {
+            None
+        }
+    }
+
+    /// The other end of a connection is a stranger, which came last. Where all places were taken, the first one loses its own: gives its connection.
+    fn take_stranger(&mut self, key: usize) -> Option<usize>
+        ensures room { IfNone result (self.new.strangers.items ≡ self.old.strangers.items ++ key ∷ []) }
+        ensures full { IfSome result (λ first. first ∷ self.new.strangers.items ≡ self.old.strangers.items ++ key ∷ []) }
+    {
+        let first = if self.strangers.is_full() {
+            Some(self.strangers.remove(0))
+        } else {
+            None
+        };
+        self.strangers.push(key);
+        first
+    }
+
+    /// The other end of a connection is no stranger any more, where it was one.
+    pub fn lose_stranger(&mut self, key: usize) {
+        self.strangers.retain(|stranger| *stranger != key);
     }
 
     /// The word for a connection. No other one gets it.
@@ -46,15 +73,6 @@ impl Guard {
             Some(word) => Ok(word),
             None => Err(AddFault::NoWord),
         }
-    }
-
-    /// This end of the handshake with somebody who has dialed, where there is a place for one.
-    fn knocked(&mut self) -> Result<Handshake, AddFault> {
-        if self.strangers >= STRANGERS {
-            return Err(AddFault::TooManyStrangers);
-        }
-        let word = self.take_word()?;
-        Ok(Handshake::Acceptor(Acceptor::AwaitsHello(word)))
     }
 }
 
@@ -96,9 +114,14 @@ impl<S: Stream, C: ServerCalls> Server<S, C> {
         self.has_secret() && self.guard.word.is_none()
     }
 
-    /// A route of which nothing was read, to somebody who has dialed and is to prove which server it is.
+    /// A route of which nothing was read, to somebody who has dialed and is to prove which server it is, where there is a place for one.
     pub(crate) fn stranger(&mut self) -> Result<Link, AddFault> {
-        let proof = boxed(self.alloc, self.guard.knocked()?)?;
+        if !self.has_place() {
+            return Err(AddFault::TooManyStrangers);
+        }
+        let word = self.guard.take_word()?;
+        let handshake = Handshake::Acceptor(Acceptor::AwaitsHello(word));
+        let proof = boxed(self.alloc, handshake)?;
         let link = RouteLink::new(self.alloc, None, Stage::Accepted(None), Some(proof));
         Ok(Link::Route(link))
     }
@@ -117,10 +140,21 @@ impl<S: Stream, C: ServerCalls> Server<S, C> {
         boxed(self.alloc, Handshake::Dialer(dialer))
     }
 
-    /// A connection was taken: a stranger's is counted.
+    /// Whether there is a place for one stranger more: a free one, or that of the one that came first, where it has stayed long enough.
+    fn has_place(&self) -> bool {
+        match self.guard.first_of_all() {
+            None => true,
+            Some(first) => self.connections.has_stayed(first),
+        }
+    }
+
+    /// A connection was taken: a stranger gets a place, where there is one for it. Whoever had that place is refused.
     pub(crate) fn note_stranger(&mut self, key: usize) {
-        if self.is_of_stranger(key) {
-            self.guard.strangers = self.guard.strangers.saturating_add(1);
+        if !self.is_of_stranger(key) {
+            return;
+        }
+        if let Some(first) = self.guard.take_stranger(key) {
+            self.refuse(first, RefusalCause::TooManyStrangers);
         }
     }
 
@@ -155,7 +189,7 @@ impl<S: Stream, C: ServerCalls> Server<S, C> {
 
     /// The server at this place has dialed and has proved itself: a session with it stands from now on, and it is told who this server is.
     fn admit<R: Wait>(&mut self, rt: &R, key: usize, place: usize) {
-        self.guard.lose_stranger();
+        self.guard.lose_stranger(key);
         match accept(rt, self.node) {
             Ok((session, info)) => {
                 self.connections.admit(key, place, session);

@@ -320,7 +320,7 @@ impl<S: Stream, C: ServerCalls> Server<S, C> {
         match connection.client() {
             Some(client) => self.forget_client(client, connection),
             None => {
-                self.forget_stranger(connection);
+                self.forget_stranger(key, connection);
                 self.forget_route(key, connection.cause);
             }
         }
@@ -348,13 +348,13 @@ impl<S: Stream, C: ServerCalls> Server<S, C> {
     }
 
     /// The same of somebody who has not proved which server it is, where it is one. That it went of its own accord is told.
-    fn forget_stranger(&mut self, connection: &Connection<S>)
+    fn forget_stranger(&mut self, key: usize, connection: &Connection<S>)
         ensures { self.new.connections.table ≡ self.old.connections.table }
     {
         if !connection.is_of_stranger() {
             return;
         }
-        self.guard.lose_stranger();
+        self.guard.lose_stranger(key);
         if connection.cause.is_none() {
             self.connections.tell(Event::ConnectionRefused {
                 caller: Caller::Server,
