@@ -1,0 +1,2 @@
+-- what becomes of bytes that are sent to a connection
+pub mod Sending

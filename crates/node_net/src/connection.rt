@@ -1,6 +1,9 @@
 //! A connection of a server: its stream, and what is read of it and written to it.
 
-ghost use Rattle.std.specs.Prelude.{◌≡◌, ◌-◌, ◌^◌, min};
+ghost use Rattle.std.specs.Prelude.{◌≡◌, ◌↔◌, ◌-◌, ◌^◌, min, if◌then◌else◌, false, ◌||◌, nat_lt, [], length, IsTrue};
+ghost use Rattle.std.specs.Bool.{OnTrue, OnFalse};
+ghost use Rattle.net_streams.specs.Writes.{HasWritten};
+ghost use Rattle.node_net.specs.Sending.{Sends, out_of_memory, closed_if_written};
 
 use crate::client_link::ClientLink;
 use crate::handshake::Proving;
@@ -124,7 +127,14 @@ pub(crate) struct Connection<S: Stream> {
 
 impl<S: Stream> Connection<S> {
     /// A connection of which nothing was read.
-    pub fn new(alloc: Global, stream: S, link: Link) -> Connection<S> {
+    pub fn new(alloc: Global, stream: S, link: Link) -> Connection<S>
+        ensures stream { result.wire.stream ≡ stream }
+        ensures failed { result.wire.has_failed ≡ false }
+        ensures ended { result.wire.has_ended ≡ false }
+        ensures link { result.link ≡ link }
+        ensures out { result.out ≡ [] }
+        ensures ending { result.ending ≡ Ending.Open }
+    {
         Connection {
             wire: Wire::new(stream),
             link,
@@ -147,7 +157,9 @@ impl<S: Stream> Connection<S> {
     }
 
     /// Its stream.
-    pub fn stream(&self) -> &S {
+    pub fn stream(&self) -> &S
+        ensures { result.now ≡ self.now.wire.stream }
+    {
         self.wire.stream()
     }
 
@@ -157,7 +169,9 @@ impl<S: Stream> Connection<S> {
     }
 
     /// Its stream, of which nothing more is asked.
-    pub fn into_stream(self) -> S {
+    pub fn into_stream(self) -> S
+        ensures { result ≡ self.wire.stream }
+    {
         let Connection {
             wire,
             link,
@@ -323,7 +337,9 @@ impl<S: Stream> Connection<S> {
     }
 
     /// Whether it goes on.
-    pub fn ending(&self) -> Ending {
+    pub fn ending(&self) -> Ending
+        ensures { result ≡ (if self.now.wire.has_failed then Ending.Gone else self.now.ending) }
+    {
         if self.wire.has_failed() {
             return Ending::Gone;
         }
@@ -331,12 +347,16 @@ impl<S: Stream> Connection<S> {
     }
 
     /// Whether its stream has failed.
-    pub fn has_failed(&self) -> bool {
+    pub fn has_failed(&self) -> bool
+        ensures { result ≡ self.now.wire.has_failed }
+    {
         self.wire.has_failed()
     }
 
     /// Whether the other end sends nothing any more.
-    pub fn has_ended(&self) -> bool {
+    pub fn has_ended(&self) -> bool
+        ensures { result ≡ self.now.wire.has_ended }
+    {
         self.wire.has_ended()
     }
 
@@ -429,12 +449,16 @@ impl<S: Stream> Connection<S> {
     }
 
     /// It is closed at the end of the turn.
-    pub fn give_up(&mut self) {
+    pub fn give_up(&mut self)
+        ensures { self.new ≡ record self.old { ending = Ending.Gone } }
+    {
         self.ending = Ending::Gone;
     }
 
     /// There is no memory for what it is owed: it is closed at the end of the turn.
-    pub fn want_memory(&mut self) {
+    pub fn want_memory(&mut self)
+        ensures { self.new ≡ out_of_memory self.old }
+    {
         self.cause = self.cause.or(Some(Cause::OutOfMemory));
         self.give_up();
     }
@@ -544,18 +568,24 @@ impl<S: Stream> Connection<S> {
     }
 
     /// Whether all bytes that were sent are written.
-    pub fn is_flushed(&self) -> bool {
+    pub fn is_flushed(&self) -> bool
+        ensures { IsTrue result ↔ (self.now.out ≡ []) }
+    {
         self.out.is_empty()
     }
 
     /// How many bytes that were sent are not written.
-    pub fn backlog(&self) -> usize {
+    pub fn backlog(&self) -> usize
+        ensures { result ≡ length self.now.out }
+    {
         self.out.len()
     }
 
     /// Sends bytes: those that the stream does not take now are kept. For want of memory to keep them the
     /// connection is given up, since it would miss them.
-    pub fn send(&mut self, bytes: &[u8]) {
+    pub fn send(&mut self, bytes: &[u8])
+        ensures { Sends S.gave S.wrote self.old bytes.now self.new }
+    {
         self.moved = self.moved.saturating_add(bytes.len());
         let rest = if self.out.is_empty() {
             self.wire.write(bytes)
@@ -568,20 +598,27 @@ impl<S: Stream> Connection<S> {
     }
 
     /// Sends what was taken for it. It is given up once it is to be closed and all is written.
-    pub fn send_taken(&mut self, bytes: &[u8]) {
+    pub fn send_taken(&mut self, bytes: &[u8])
+        ensures { (sent : Connection S) × Sends S.gave S.wrote self.old bytes.now sent × (self.new ≡ closed_if_written sent) }
+    {
         self.send(bytes);
         self.close_if_written();
     }
 
     /// It is given up where it is to be closed and all is written.
-    pub fn close_if_written(&mut self) {
+    pub fn close_if_written(&mut self)
+        ensures { self.new ≡ closed_if_written self.old }
+    {
         if self.ending == Ending::Shut && self.is_flushed() {
             self.give_up();
         }
     }
 
     /// Sends what was encoded, where there was memory for it.
-    pub fn send_encoded(&mut self, encoded: &[u8], is_whole: bool) {
+    pub fn send_encoded(&mut self, encoded: &[u8], is_whole: bool)
+        ensures whole { OnTrue is_whole (Sends S.gave S.wrote self.old encoded.now self.new) }
+        ensures part { OnFalse is_whole (self.new ≡ out_of_memory self.old) }
+    {
         if is_whole {
             self.send(encoded);
         } else {
@@ -590,7 +627,11 @@ impl<S: Stream> Connection<S> {
     }
 
     /// Writes what was kept, as far as the stream takes it.
-    pub fn resume(&mut self) {
+    pub fn resume(&mut self)
+        ensures written { HasWritten S.wrote self.old.out self.old.wire.has_failed self.old.wire.stream self.new.out self.new.wire.has_failed self.new.wire.stream }
+        ensures moved { self.new.has_moved ≡ (self.old.has_moved || nat_lt (length self.new.out) (length self.old.out)) }
+        ensures others { self.new ≡ record self.old { wire = record self.old.wire { stream = self.new.wire.stream; has_failed = self.new.wire.has_failed }; out = self.new.out; has_moved = self.new.has_moved } }
+    {
         let before = self.out.len();
         self.out.write_to(&mut self.wire);
         self.has_moved |= self.out.len() < before;

@@ -11,10 +11,10 @@
 //! The server is whatever makes the calls of `server_calls`.
 //!
 //! In reading order: `client_link` and `route_link` make calls of what was read, and tell what they have come to (`runs`); a `handshake` is what a
-//! route begins with where the mesh has a secret, and `proving` is what the server does of it;
-//! `connection` has one of them with its stream; `connections` has all of them, and what is noted of each until it is done; `server` takes them
-//! and lets them go, and finds those of clients (`clients`) and of other servers (`peers`); `turning` and `flushing` are a turn of its loop, by
-//! what was `taken` for clients, `draining` is what a server that drains does, and `running` is the loop, which reaches other servers at their
+//! route begins with where the mesh has a secret, and `proving` is what the server does of it; `connection` has one of them with its stream, and
+//! `laws` says that what is sent to it keeps its order; `connections` has all of them, and what is noted of each until it is done; `server` takes
+//! them and lets them go, and finds those of clients (`clients`) and of other servers (`peers`); `turning` and `flushing` are a turn of its loop,
+//! by what was `taken` for clients, `draining` is what a server that drains does, and `running` is the loop, which reaches other servers at their
 //! `addresses`, and is told by operators over a `control` socket. `shutdown` says when the loop ends, and which server drains, the `limits`
 //! when and how much of everything, and `faults` why no stream is taken.
 #![tactic(auto)]
@@ -29,6 +29,7 @@ mod draining;
 mod faults;
 mod flushing;
 mod handshake;
+mod laws;
 mod limits;
 mod peers;
 mod placing;
@@ -44,6 +45,7 @@ mod turning;
 pub use addresses::PeerAddresses;
 pub use control::{Control, DRAIN, DRAINS, NO_SERVER};
 pub use faults::AddFault;
+pub use laws::sent_bytes_keep_their_order;
 pub use net_streams::{MemStream, Stream, StreamFault};
 pub use running::{Sockets, WAKER};
 pub use server::{Server, Side, shard_of_client};

@@ -1,0 +1,2 @@
+-- bytes that are sent, step by step
+pub mod SendingLemmas
