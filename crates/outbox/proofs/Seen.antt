@@ -8,7 +8,7 @@ use Rattle.outbox.specs.declared.entries.Tag.{Tag}
 use Rattle.outbox.specs.declared.kept.Kept.{Kept}
 use Rattle.outbox.specs.declared.kept.Kept.TheVariants.{Copied, Whole}
 use Rattle.std.specs.Prelude.{filter}
-use Rattle.outbox.specs.Kept.{Queued, copied_len, written_at, written_in, copied_of, is_whole}
+use Rattle.outbox.specs.Kept.{copied_len, written_at, written_in, copied_of, is_whole}
 
 pub length_seen : (ks : List Kept) (bytes : List ℕ) → length (written_in ks bytes) ≡ length ks
 length_seen [] bytes = refl
@@ -133,6 +133,11 @@ bytes_next ks bytes i at k lt here = ap bytes_of_all (take_next ks bytes i at k 
 pub copied_next : (ks : List Kept) (i : ℕ) (k : Kept) → i < length ks → copied_of (take (i + 1) ks) ≡ copied_of (take i ks) + copied_len (get_or ks i k)
 copied_next ks i k lt = ap copied_of (take_more ks i k lt) ∙ copied_behind (take i ks) (get_or ks i k ∷ []) ∙ omega arith
 
+pub get_same : (ks : List Kept) (i : ℕ) (k l : Kept) → i < length ks → get_or ks i k ≡ get_or ks i l
+get_same [] i k l lt = absurd (omega arith)
+get_same (j ∷ ks) zero k l lt = refl
+get_same (j ∷ ks) (suc i) k l lt = get_same ks i k l (omega arith)
+
 -- the bytes of the first ones, and those of the one that comes next
 pub size_next : (ks : List Kept) (bytes : List ℕ) (i n : ℕ) (k : Kept) → i < length ks → copied_of ks ≤ length bytes → k ≡ get_or ks i k → ((text : List ℕ) → copied_len k ≤ length text → n ≡ length (written_at k text).bytes)
     → size_of (take (i + 1) (written_in ks bytes)) ≡ size_of (take i (written_in ks bytes)) + n
@@ -144,9 +149,6 @@ size_next ks bytes i n k lt fits is size =
     let next : size_of (take (i + 1) (written_in ks bytes)) ≡ size_of (take i (written_in ks bytes)) + size_of (one ∷ []) = ap size_of (take_next ks bytes i at k lt refl) ∙ sum_by-append (λ (entry : Written). length entry.bytes) (take i (written_in ks bytes)) (one ∷ []) in
     let alone : size_of (one ∷ []) ≡ length one.bytes = omega arith in
     omega (arith, bytes_of_one, next, alone)
-
-pub queued_same : (es fs : List Written) (n m : ℕ) → es ≡ fs → n ≡ m → ◌≡◌ {A = Queued} (record { entries = es; places = n }) (record { entries = fs; places = m })
-queued_same es fs n m same places = ap (λ l. record { entries = l; places = n }) same ∙ ap (λ k. record { entries = fs; places = k }) places
 
 -- where all entries were copied, the bytes are theirs alone
 pub copied_alone : (ks : List Kept) (bytes : List ℕ) → filter is_whole ks ≡ [] → copied_of ks ≡ length bytes → bytes_of_all (written_in ks bytes) ≡ bytes

@@ -1,8 +1,12 @@
 -- How entries are kept: small ones as bytes one behind another, larger ones and last lines as they came.
-use Rattle.std.specs.Prelude.{ℕ, ◌+◌, Bool, true, false, List, [], ◌∷◌, take, drop}
+use Rattle.std.specs.Prelude.{ℕ, ◌+◌, Bool, true, false, List, [], ◌∷◌, take, drop, slice_index_or}
 use Rattle.outbox.specs.Views.{Written}
 use Rattle.outbox.specs.declared.kept.Kept.{Kept}
 use Rattle.outbox.specs.declared.kept.Kept.TheVariants.{Copied, Whole}
+use Rattle.outbox.specs.declared.kept.Mark.{Mark}
+use Rattle.outbox.specs.declared.kept.Mark.TheVariants.{Answer, Message}
+use Rattle.outbox.specs.declared.entries.Tag.TheVariants.{Reply, Msg}
+use Rattle.outbox.specs.declared.entries.Mode.TheVariants.{Plain}
 
 -- how many of the bytes are the entry's
 abbrev pub copied_len : Kept → ℕ
@@ -25,6 +29,22 @@ written_in (kept ∷ others) bytes = written_at kept bytes ∷ written_in others
 abbrev pub copied_of : List Kept → ℕ
 copied_of [] = 0
 copied_of (kept ∷ others) = copied_len kept + copied_of others
+
+-- how an entry is kept that has a mark
+abbrev pub kept_of : Mark → Kept
+kept_of (Answer len) = Copied Reply len
+kept_of (Message id sub len) = Copied (Msg id sub Plain) len
+
+-- how the entry at a place is kept
+abbrev pub kept_at : List Kept → ℕ → Kept
+kept_at entries place = slice_index_or entries place (Copied Reply 0)
+
+-- what is kept, in order, how many there can be without more memory where the last one owns anything, and for how many marks more there is
+-- room
+pub record KeptItems : Type 0 where
+  pub items : List Kept
+  pub places : ℕ
+  pub spare : ℕ
 
 -- entries in order, and how many there can be without more memory
 pub record Queued : Type 0 where

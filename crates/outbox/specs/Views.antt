@@ -18,8 +18,12 @@ pub record Written : Type 0 where
 abbrev pub reply_entry : List ℕ → Written
 reply_entry line = record { tag = Reply; bytes = bytes_of line None }
 
+-- a message of these bytes, which are all it has
+abbrev pub spelt_entry : PubId → SubId → Mode → List ℕ → Written
+spelt_entry id sub mode bytes = record { tag = Msg id sub mode; bytes = bytes }
+
 abbrev pub message_entry : PubId → SubId → Mode → List ℕ → List ℕ → Written
-message_entry id sub mode line payload = record { tag = Msg id sub mode; bytes = bytes_of line (Some payload) }
+message_entry id sub mode line payload = spelt_entry id sub mode (bytes_of line (Some payload))
 
 -- the entries that wait, in order, and whether the last line was put (profile)
 pub record Backlog : Type 0 where

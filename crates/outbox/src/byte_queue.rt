@@ -19,7 +19,20 @@ const KEPT_BYTES: usize = 1_024;
 /// The most bytes of room that stay where all bytes were moved, for those that come next.
 const MOVED_BYTES: usize = 65_536;
 
+/// Puts these bytes behind those that are there, where there is room for them.
+#[inline(always)]
+fn append_reserved(bytes: &[u8], out: &mut Vec<u8>)
+    requires { vec_len out.old + length bytes.now ≤ vec_capacity out.old }
+    ensures items { out.new.items ≡ out.old.items ++ bytes.now }
+    ensures len { vec_len out.new ≡ vec_len out.old + length bytes.now }
+    ensures capacity { vec_capacity out.old ≤ vec_capacity out.new }
+{
+    let appended = out.extend_from_slice(bytes);
+    prove!(appended.is_ok());
+}
+
 /// Puts a line or a payload with its CR LF behind the bytes that are there, where there is room for it.
+#[inline(always)]
 fn append_ended(bytes: &[u8], out: &mut Vec<u8>)
     requires { vec_len out.old + length bytes.now + 2 ≤ vec_capacity out.old }
     ensures items { out.new.items ≡ out.old.items ++ bytes_of bytes.now None }
@@ -104,6 +117,7 @@ impl ByteQueue {
 
     /// Puts a message behind: its line and its payload, given without their CR LF. Gives how many bytes it
     /// has. Want of memory leaves all as it was.
+    #[inline(always)]
     pub(crate) fn push_message(&mut self, line: &[u8], payload: &[u8]) -> Result<usize, AllocError>
         requires { length line.now + length payload.now + 4 < 2 ^ 64 }
         ensures len { IfOk result (λ len. len ≡ length (bytes_of line.now (Some payload.now))) }
@@ -114,6 +128,22 @@ impl ByteQueue {
         self.bytes.reserve(len)?;
         append_ended(line, &mut self.bytes);
         append_ended(payload, &mut self.bytes);
+        Ok(len)
+    }
+
+    /// Puts these bytes behind, given in two parts. Gives how many they are together. Want of memory leaves all as it
+    /// was.
+    #[inline(always)]
+    pub(crate) fn push_parts(&mut self, head: &[u8], tail: &[u8]) -> Result<usize, AllocError>
+        requires { length head.now + length tail.now < 2 ^ 64 }
+        ensures len { IfOk result (λ len. len ≡ length (head.now ++ tail.now)) }
+        ensures ok { OnOk result (self.new ≡ self.old ++ (head.now ++ tail.now)) }
+        ensures err { OnErr result (self.new ≡ self.old) }
+    {
+        let len = head.len() + tail.len();
+        self.bytes.reserve(len)?;
+        append_reserved(head, &mut self.bytes);
+        append_reserved(tail, &mut self.bytes);
         Ok(len)
     }
 

@@ -1,6 +1,11 @@
 //! How an entry is kept.
 
-use crate::entries::{Entry, Tag};
+ghost use Rattle.std.specs.Prelude.{◌≡◌, IfSome};
+ghost use Rattle.outbox.specs.declared.kept.Kept.TheVariants.{Copied};
+ghost use Rattle.outbox.specs.Kept.{copied_len, kept_of};
+
+use crate::entries::{Entry, Mode, Tag};
+use subj::{PubId, SubId};
 
 /// An entry that is kept.
 #[derive(Drop)]
@@ -13,4 +18,57 @@ pub(crate) enum Kept {
     },
     /// As it came: it is large, or the last line.
     Whole(Entry),
+}
+
+/// What is kept of an entry that was copied and has no queue name: it owns nothing, so that many are dropped at once.
+#[derive(Clone, Copy)]
+pub(crate) enum Mark {
+    /// An answer of so many bytes.
+    Answer { len: usize },
+    /// A message of so many bytes, by a subscription without a queue name.
+    Message { id: PubId, sub: SubId, len: usize },
+}
+
+impl Mark {
+    /// The mark of an entry that was copied and has so many bytes; none where it has a queue name.
+    #[inline(always)]
+    pub(crate) fn of(tag: &Tag, len: usize) -> Option<Mark>
+        ensures { IfSome result (λ mark. kept_of mark ≡ Copied tag.now len) }
+    {
+        match tag {
+            Tag::Reply => Some(Mark::Answer { len }),
+            Tag::Msg { id, sub, mode } => match mode {
+                Mode::Plain => Some(Mark::Message {
+                    id: *id,
+                    sub: *sub,
+                    len,
+                }),
+                Mode::Queue(_) => None,
+            },
+        }
+    }
+
+    /// How many bytes the entry has.
+    pub(crate) fn len(&self) -> usize
+        ensures { result ≡ copied_len (kept_of self.now) }
+    {
+        match self {
+            Mark::Answer { len } => *len,
+            Mark::Message { len, .. } => *len,
+        }
+    }
+
+    /// What the entry is.
+    pub(crate) fn tag(&self) -> Tag
+        ensures { Copied result (copied_len (kept_of self.now)) ≡ kept_of self.now }
+    {
+        match self {
+            Mark::Answer { .. } => Tag::Reply,
+            Mark::Message { id, sub, .. } => Tag::Msg {
+                id: *id,
+                sub: *sub,
+                mode: Mode::Plain,
+            },
+        }
+    }
 }

@@ -8,15 +8,17 @@
 //! }
 //! ```
 //!
-//! In reading order: `entries` is what waits, `kept` how one entry is kept, `byte_queue` and `entry_queue` how all are, and `outbox` is
-//! the outbox.
+//! In reading order: `entries` is what waits, `kept` how one entry is kept, `byte_queue`, `kept_queue` and `entry_queue` how all are,
+//! and `outbox` is the outbox.
 #![tactic(auto)]
 
 mod byte_queue;
 mod entries;
 mod entry_queue;
 mod kept;
+mod kept_queue;
 mod outbox;
 
 pub use entries::{Entry, Mode, Tag};
+pub use entry_queue::COPIED_BYTES;
 pub use outbox::{LAST_LINE_TEXT, Outbox};

@@ -2,7 +2,7 @@
 
 ghost use Rattle.std.specs.Prelude.{◌≡◌, ◌+◌, ◌-◌, ◌≤◌, ◌<◌, ◌++◌, ◌==◌, vec_capacity, length, take, [], true, false, IfOk, OnOk, OnErr, IsTrue, Some, None, ◌^◌};
 ghost use Rattle.outbox.specs.Bytes.{bytes_of};
-ghost use Rattle.outbox.specs.Views.{Waiting, empty_outbox, bytes_of_all, size_of, has_room, is_half_full, reply_entry, message_entry, with_entry, with_last, without_first, on_both, on_shown, takes_last};
+ghost use Rattle.outbox.specs.Views.{Waiting, empty_outbox, bytes_of_all, size_of, has_room, is_half_full, reply_entry, message_entry, spelt_entry, with_entry, with_last, without_first, on_both, on_shown, takes_last};
 
 use crate::entries::{Entry, Mode, Tag};
 use crate::entry_queue::EntryQueue;
@@ -244,6 +244,30 @@ impl Outbox {
         let len = line.len() + payload.len() + 2 * CR_LF.len();
         let tag = Tag::Msg { id, sub, mode };
         self.entries.push_message(self.alloc, tag, line, payload)?;
+        self.bytes += len;
+        Ok(())
+    }
+
+    /// Puts a message behind all that was put or staged, unseen: what [`Outbox::stage_message`] does, for a caller that has
+    /// all bytes of the message in two parts. The head is its line up to the id of the subscription and with it; the tail is the rest of
+    /// the line with its CR LF, and the payload with its own. Both parts are copied, however long they are: a message of more than
+    /// [`COPIED_BYTES`] bytes belongs to [`Outbox::stage_message`], which shares its payload. Want of memory leaves all as it was.
+    pub fn stage_parts(
+        &mut self,
+        id: PubId,
+        sub: SubId,
+        mode: Mode,
+        head: &[u8],
+        tail: &[u8],
+    ) -> Result<(), AllocError>
+        requires fits { length head.now + length tail.now < 2 ^ 64 }
+        requires room { IsTrue (has_room self.old.max_entries self.old.max_bytes (length (head.now ++ tail.now)) self.old.next) }
+        ensures ok { OnOk result (self.new ≡ record self.old { next = with_entry (spelt_entry id sub mode (head.now ++ tail.now)) self.old.next }) }
+        ensures err { OnErr result (self.new ≡ self.old) }
+    {
+        let len = head.len() + tail.len();
+        let tag = Tag::Msg { id, sub, mode };
+        self.entries.push_parts(tag, head, tail)?;
         self.bytes += len;
         Ok(())
     }

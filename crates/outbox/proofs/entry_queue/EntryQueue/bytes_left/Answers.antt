@@ -1,7 +1,9 @@
 use Rattle.std.proofs.Common.{◌≡◌, ◌-◌, ◌<◌, ◌≤◌, length, take, ap, ◌∙◌, arith}
 use Rattle.outbox.specs.Views.{size_of}
-use Rattle.outbox.specs.Kept.{Queued, copied_of, written_in}
-use Rattle.outbox.proofs.Seen.{length_seen, size_next}
+use Rattle.outbox.specs.Kept.{Queued, kept_at, copied_of, written_in}
+use Rattle.outbox.proofs.Seen.{get_same, length_seen, size_next}
+use Rattle.outbox.specs.declared.kept.Kept.TheVariants.{Copied}
+use Rattle.outbox.specs.declared.entries.Tag.TheVariants.{Reply}
 use Rattle.outbox.proofs.entry_queue.EntryQueue.bytes_left.Goals as goal
 
 pub loop-place-preserved : goal.loop-place-preserved
@@ -13,7 +15,7 @@ loop-place-preserved c =
     let lt : c.loop-place.place < length ks = omega (arith, c.loop-place-test.true, c.requires, seen, count) in
     let kept = c.self.invariant in
     let fits : copied_of ks ≤ length text = omega (arith, kept) in
-    let next = size_next ks text c.loop-place.place c.sizes_of-all.result.0 c.index.result.now lt fits c.index.ensures c.sizes_of-all.ensures.all in
+    let next = size_next ks text c.loop-place.place c.sizes-all.result.0 (kept_at ks c.loop-place.place) lt fits (get_same ks c.loop-place.place (Copied Reply 0) (kept_at ks c.loop-place.place) lt) c.sizes-all.ensures.all in
     omega (arith, c.saturating_sub-left.ensures, c.loop-place.invariant, next)
 
 pub returns : goal.returns

@@ -1,4 +1,4 @@
-use Rattle.std.proofs.Common.{◌≡◌, ◌≤◌, List, ◌++◌, ◌∷◌, [], length, take, sym, ap, ◌∙◌, arith}
+use Rattle.std.proofs.Common.{◌≡◌, ◌++◌, ◌∷◌, [], take, sym, ap, ◌∙◌, arith}
 use Rattle.outbox.specs.Kept.{Queued}
 use Rattle.outbox.specs.Views.{Waiting, Written, reply_entry, on_both, with_last}
 use Rattle.outbox.proofs.Staged.{sound_shut, last_line_used, seen_last}

@@ -1,7 +1,6 @@
 use Rattle.std.proofs.Common.{◌≡◌, ◌-◌, false, length, take, drop, sym, ap, ◌∙◌, arith, length-drop}
 use Rattle.std.proofs.lemmas.List.{take_all}
 use Rattle.std.proofs.lemmas.List.Sums.{sum_by-take-drop}
-use Rattle.outbox.specs.Kept.{Queued}
 use Rattle.outbox.specs.Views.{Waiting, Written, size_of}
 use Rattle.outbox.proofs.outbox.Outbox.remove_first.Goals as goal
 
@@ -10,8 +9,7 @@ invariant_of-self c =
     let entries = c.self.inside.entries.entries in
     let n = c.args.count in
     let left = c.drop_front.new.self.entries in
-    let gone = ap (λ (q : Queued). q.entries) c.drop_front.ensures.rest in
-    let places : c.drop_front.new.self.places ≡ c.self.inside.entries.places = ap (λ (q : Queued). q.places) c.drop_front.ensures.rest in
+    let gone = c.drop_front.ensures.rest in
     let sound = c.self.invariant.0 in
     let alike : c.self.inside.closing ≡ c.self.inside.shut = ap (λ (box : Waiting). box.next.shut) c.self.view_is ∙ ap (λ backlog. backlog.shut) c.requires ∙ sym (ap (λ (box : Waiting). box.shown.shut) c.self.view_is) in
     let rest = sum_by-take-drop (λ (entry : Written). length entry.bytes) entries n in
@@ -27,8 +25,8 @@ invariant_of-self c =
         still_shut = sound.still_shut;
         bytes_fit = let was = sound.bytes_fit in omega (arith, c.drop_front.ensures.bytes);
         shown_fit = let was = sound.bytes_fit in omega (arith, c.drop_front.ensures.bytes);
-        places = λ e. let was = sound.places e in omega arith;
-        shown_places = λ e. let was = sound.places (alike ∙ e) in omega arith;
+        places = λ e. c.drop_front.ensures.place (sound.places e);
+        shown_places = λ e. let place = c.drop_front.ensures.place (sound.places (alike ∙ e)) in omega (arith, whole, place);
       },
       c.self.invariant.1,
     )

@@ -1,4 +1,4 @@
-use Rattle.std.proofs.Common.{◌+◌, arith, length, ap, ◌∙◌}
+use Rattle.std.proofs.Common.{arith, length, ap, ◌∙◌}
 use Rattle.outbox.specs.Views.{Waiting, has_room, with_entry, reply_entry}
 use Rattle.outbox.proofs.Staged.{reply_size, room_left, sound_with, sound_still, seen_still, seen_with, left_after}
 use Rattle.outbox.proofs.outbox.Outbox.stage_reply.Goals as goal

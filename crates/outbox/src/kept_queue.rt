@@ -1,0 +1,322 @@
+//! How entries are kept, in order.
+
+ghost use Rattle.std.specs.Prelude.{◌≡◌, ℕ, ◌+◌, ◌≤◌, ◌<◌, List, ◌++◌, ◌∷◌, [], false, filter, length, take, drop, IfOk, OnOk, OnErr};
+ghost use Rattle.std.specs.VecDeque.{deque_capacity};
+ghost use Rattle.outbox.specs.Views.{size_of};
+ghost use Rattle.outbox.specs.declared.kept.Kept.{Kept as KeptEntry};
+ghost use Rattle.outbox.specs.declared.kept.Kept.TheVariants.{Copied, Whole};
+ghost use Rattle.outbox.specs.Kept.{copied_len, copied_of, kept_at, kept_of, is_whole as is_kept_whole, written_at, written_in};
+
+use crate::entries::{Entry, Tag};
+use crate::kept::{Kept, Mark};
+use std::alloc::{AllocError, Global};
+use std::collections::VecDeque;
+use std::marker::Model;
+
+/// How many places stay at most while nothing waits.
+const KEPT_PLACES: usize = 8;
+
+/// How many bytes an entry has, and how many of them were copied.
+fn sizes_of(kept: &Kept) -> (usize, usize)
+    ensures all { (text : List ℕ) → copied_len kept.now ≤ length text → result.0 ≡ length (written_at kept.now text).bytes }
+    ensures copied { result.1 ≡ copied_len kept.now }
+{
+    match kept {
+        Kept::Copied { len, .. } => (*len, *len),
+        Kept::Whole(entry) => (entry.len(), 0),
+    }
+}
+
+/// Whether the entry is kept as it came.
+fn is_whole(kept: &Kept) -> bool
+    ensures { result ≡ is_kept_whole kept.now }
+{
+    matches!(kept, Kept::Whole(_))
+}
+
+/// Whether any entry is kept as it came.
+fn any_whole(kept: &VecDeque<Kept>) -> bool
+    ensures { result ≡ false → filter is_kept_whole kept.now.items ≡ [] }
+{
+    for place in 0..kept.len() {
+        if is_whole(&kept[place]) {
+            return true;
+        }
+    }
+    false
+}
+
+/// Puts the bytes of an entry behind those that are there, and tells how many of `text`, which begins
+/// with the entry's own, it has. Want of memory leaves all as it was.
+fn append_kept(kept: &Kept, text: &[u8], out: &mut Vec<u8>) -> Result<usize, AllocError>
+    requires { copied_len kept.now ≤ length text.now }
+    ensures len { IfOk result (λ len. len ≡ copied_len kept.now) }
+    ensures ok { OnOk result (out.new.items ≡ out.old.items ++ (written_at kept.now text.now).bytes) }
+    ensures err { OnErr result (out.new.items ≡ out.old.items) }
+{
+    match kept {
+        Kept::Copied { len, .. } => {
+            out.extend_from_slice(&text[..*len])?;
+            Ok(*len)
+        }
+        Kept::Whole(entry) => {
+            entry.append_to(out)?;
+            Ok(0)
+        }
+    }
+}
+
+/// The same for an entry that has a mark.
+fn append_marked(mark: Mark, text: &[u8], out: &mut Vec<u8>) -> Result<usize, AllocError>
+    requires { copied_len (kept_of mark) ≤ length text.now }
+    ensures len { IfOk result (λ len. len ≡ copied_len (kept_of mark)) }
+    ensures ok { OnOk result (out.new.items ≡ out.old.items ++ take (copied_len (kept_of mark)) text.now) }
+    ensures err { OnErr result (out.new.items ≡ out.old.items) }
+{
+    let len = mark.len();
+    out.extend_from_slice(&text[..len])?;
+    Ok(len)
+}
+
+/// A copy of an entry, and how many of `text`, which begins with the entry's own, it has.
+fn copy_of(alloc: Global, kept: &Kept, text: &[u8]) -> Result<(Entry, usize), AllocError>
+    requires { copied_len kept.now ≤ length text.now }
+    ensures { IfOk result (λ copy. (copy.0 ≡ written_at kept.now text.now) × (copy.1 ≡ copied_len kept.now)) }
+{
+    match kept {
+        Kept::Copied { tag, len } => {
+            let bytes = Vec::from_slice(alloc, &text[..*len])?;
+            let tag = tag.try_clone(alloc)?;
+            Ok((Entry::of_bytes(tag, bytes), *len))
+        }
+        Kept::Whole(entry) => Ok((entry.try_clone(alloc)?, 0)),
+    }
+}
+
+/// The same for an entry that has a mark.
+fn copy_marked(alloc: Global, mark: Mark, text: &[u8]) -> Result<(Entry, usize), AllocError>
+    requires { copied_len (kept_of mark) ≤ length text.now }
+    ensures { IfOk result (λ copy. (copy.0 ≡ written_at (kept_of mark) text.now) × (copy.1 ≡ copied_len (kept_of mark))) }
+{
+    let len = mark.len();
+    let bytes = Vec::from_slice(alloc, &text[..len])?;
+    Ok((Entry::of_bytes(mark.tag(), bytes), len))
+}
+
+/// Drops the first entry. Gives how many bytes it had, and how many of them were copied.
+fn pop_first(kept: &mut VecDeque<Kept>) -> (usize, usize)
+    ensures rest { kept.new.items ≡ drop 1 kept.old.items }
+    ensures capacity { deque_capacity kept.new ≡ deque_capacity kept.old }
+    ensures all { (text : List ℕ) → copied_of kept.old.items ≤ length text → result.0 ≡ size_of (take 1 (written_in kept.old.items text)) }
+    ensures copied { result.1 ≡ copied_of (take 1 kept.old.items) }
+{
+    match kept.pop_front() {
+        None => (0, 0),
+        Some(first) => sizes_of(&first),
+    }
+}
+
+/// How entries are kept, in order: the first ones by their marks, up to the first that owns anything. While all own nothing, all
+/// are dropped at once.
+///
+/// Seen as the list of what is kept, how many there can be without more memory where the last one owns anything, and for how many
+/// marks more there is room.
+#[derive(Drop)]
+pub(crate) struct KeptQueue {
+    marks: VecDeque<Mark>,
+    /// Those behind.
+    others: VecDeque<Kept>,
+}
+
+impl Model for KeptQueue {
+    ghost use Rattle.outbox.specs.Kept.{KeptItems};
+
+    ghost Value = { KeptItems };
+
+    ghost use Rattle.std.specs.Prelude.{◌+◌, ◌-◌, ◌≤◌, ◌++◌, length, map};
+    ghost use Rattle.std.specs.VecDeque.{deque_capacity};
+    ghost use Rattle.outbox.specs.Kept.{kept_of};
+
+    ghost view = { λ q. record {
+      items = map kept_of q.marks.items ++ q.others.items;
+      places = length q.marks.items + deque_capacity q.others;
+      spare = deque_capacity q.marks - length q.marks.items;
+    } };
+
+    ghost invariant = { λ q. 1 ≤ deque_capacity q.others };
+}
+
+impl KeptQueue {
+    /// No entries, and a place for one.
+    pub(crate) fn new(alloc: Global) -> Result<KeptQueue, AllocError>
+        ensures { IfOk result (λ queue. (queue.items ≡ []) × (1 ≤ queue.places)) }
+    {
+        Ok(KeptQueue {
+            marks: VecDeque::new(alloc),
+            others: VecDeque::with_capacity(alloc, 1)?,
+        })
+    }
+
+    /// How many entries there are.
+    pub(crate) fn len(&self) -> usize
+        ensures { result ≡ length self.now.items }
+    {
+        self.marks.len() + self.others.len()
+    }
+
+    /// Takes the memory for the places of two entries more.
+    #[inline(always)]
+    pub(crate) fn reserve_two(&mut self) -> Result<(), AllocError>
+        ensures items { self.new.items ≡ self.old.items }
+        ensures places { OnOk result (length self.new.items + 2 ≤ self.new.places) }
+        ensures spare { OnOk result (1 ≤ self.new.spare) }
+        ensures kept { self.old.places ≤ self.new.places }
+    {
+        self.marks.reserve(1)?;
+        self.others.reserve(2)?;
+        Ok(())
+    }
+
+    /// Puts an entry behind that was copied and has so many bytes, for which there is a place. Takes no memory.
+    #[inline(always)]
+    pub(crate) fn push_copied(&mut self, tag: Tag, len: usize)
+        requires place { length self.old.items + 1 ≤ self.old.places }
+        requires spare { 1 ≤ self.old.spare }
+        ensures items { self.new.items ≡ self.old.items ++ Copied tag len ∷ [] }
+        ensures kept { self.old.places ≤ self.new.places }
+        ensures place { length self.old.items + 2 ≤ self.old.places → length self.new.items + 1 ≤ self.new.places }
+    {
+        if self.others.is_empty() {
+            if let Some(mark) = Mark::of(&tag, len) {
+                self.marks.push_back_reserved(mark);
+                return;
+            }
+        }
+        self.others.push_back_reserved(Kept::Copied { tag, len });
+    }
+
+    /// Puts an entry behind, whole, for which there is a place. Takes no memory.
+    pub(crate) fn push_whole_reserved(&mut self, entry: Entry)
+        requires { length self.old.items + 1 ≤ self.old.places }
+        ensures items { self.new.items ≡ self.old.items ++ Whole entry ∷ [] }
+        ensures places { self.new.places ≡ self.old.places }
+    {
+        self.others.push_back_reserved(Kept::Whole(entry));
+    }
+
+    /// Puts an entry behind, whole. Want of memory leaves all as it was.
+    pub(crate) fn push_whole(&mut self, entry: Entry) -> Result<(), AllocError>
+        ensures ok { OnOk result (self.new.items ≡ self.old.items ++ Whole entry ∷ []) }
+        ensures err { OnErr result (self.new.items ≡ self.old.items) }
+        ensures kept { self.old.places ≤ self.new.places }
+    {
+        self.others.push_back(Kept::Whole(entry))?;
+        Ok(())
+    }
+
+    /// Drops the first entry. Gives how many bytes it had, and how many of them were copied.
+    pub(crate) fn pop_first(&mut self) -> (usize, usize)
+        ensures rest { self.new.items ≡ drop 1 self.old.items }
+        ensures place { length self.old.items + 1 ≤ self.old.places → length self.new.items + 1 ≤ self.new.places }
+        ensures all { (text : List ℕ) → copied_of self.old.items ≤ length text → result.0 ≡ size_of (take 1 (written_in self.old.items text)) }
+        ensures copied { result.1 ≡ copied_of (take 1 self.old.items) }
+    {
+        match self.marks.pop_front() {
+            Some(mark) => (mark.len(), mark.len()),
+            None => pop_first(&mut self.others),
+        }
+    }
+
+    /// Drops the last entry. Gives how many of its bytes were copied.
+    pub(crate) fn pop_last(&mut self) -> usize
+        requires { 0 < length self.old.items }
+        ensures rest { (last : KeptEntry) × (self.old.items ≡ self.new.items ++ last ∷ []) × (copied_len last ≡ result) }
+        ensures places { (count : ℕ) → count ≤ length self.new.items → count + 1 ≤ self.old.places → count + 1 ≤ self.new.places }
+    {
+        if let Some(last) = self.others.pop_back() {
+            return sizes_of(&last).1;
+        }
+        match self.marks.pop_back() {
+            // required: there is an entry
+            None => unreachable!(),
+            Some(mark) => mark.len(),
+        }
+    }
+
+    /// How many bytes the entry at a place has, and how many of them were copied.
+    pub(crate) fn sizes(&self, place: usize) -> (usize, usize)
+        requires { place < length self.now.items }
+        ensures all { (text : List ℕ) → copied_len (kept_at self.now.items place) ≤ length text → result.0 ≡ length (written_at (kept_at self.now.items place) text).bytes }
+        ensures copied { result.1 ≡ copied_len (kept_at self.now.items place) }
+    {
+        if place < self.marks.len() {
+            let len = self.marks[place].len();
+            return (len, len);
+        }
+        sizes_of(&self.others[place - self.marks.len()])
+    }
+
+    /// Puts the bytes of the entry at a place behind those that are there, and tells how many of `text`, which begins with the
+    /// entry's own, it has. Want of memory leaves all as it was.
+    pub(crate) fn append_to(
+        &self,
+        place: usize,
+        text: &[u8],
+        out: &mut Vec<u8>,
+    ) -> Result<usize, AllocError>
+        requires place { place < length self.now.items }
+        requires text { copied_len (kept_at self.now.items place) ≤ length text.now }
+        ensures len { IfOk result (λ len. len ≡ copied_len (kept_at self.now.items place)) }
+        ensures ok { OnOk result (out.new.items ≡ out.old.items ++ (written_at (kept_at self.now.items place) text.now).bytes) }
+        ensures err { OnErr result (out.new.items ≡ out.old.items) }
+    {
+        if place < self.marks.len() {
+            return append_marked(self.marks[place], text, out);
+        }
+        append_kept(&self.others[place - self.marks.len()], text, out)
+    }
+
+    /// A copy of the entry at a place, and how many of `text`, which begins with the entry's own, it has.
+    pub(crate) fn copy_of(
+        &self,
+        place: usize,
+        alloc: Global,
+        text: &[u8],
+    ) -> Result<(Entry, usize), AllocError>
+        requires place { place < length self.now.items }
+        requires text { copied_len (kept_at self.now.items place) ≤ length text.now }
+        ensures { IfOk result (λ copy. (copy.0 ≡ written_at (kept_at self.now.items place) text.now) × (copy.1 ≡ copied_len (kept_at self.now.items place))) }
+    {
+        if place < self.marks.len() {
+            return copy_marked(alloc, self.marks[place], text);
+        }
+        copy_of(alloc, &self.others[place - self.marks.len()], text)
+    }
+
+    /// Whether any entry is kept as it came.
+    pub(crate) fn any_whole(&self) -> bool
+        ensures { result ≡ false → filter is_kept_whole self.now.items ≡ [] }
+    {
+        any_whole(&self.others)
+    }
+
+    /// Drops all entries.
+    pub(crate) fn clear(&mut self)
+        ensures items { self.new.items ≡ [] }
+        ensures places { 1 ≤ self.new.places }
+    {
+        self.marks.clear();
+        if !self.others.is_empty() {
+            self.others.clear();
+        }
+    }
+
+    /// Gives back the memory that many entries took and these do not need.
+    pub(crate) fn rest(&mut self)
+        ensures items { self.new.items ≡ self.old.items }
+        ensures places { length self.old.items ≡ 0 → 1 ≤ self.new.places }
+    {
+        self.marks.shrink_to(KEPT_PLACES);
+        self.others.shrink_to(KEPT_PLACES);
+    }
+}
